@@ -1,0 +1,10 @@
+//! Lists and texts that contracts see as lists: what a tree, a file value or a history keeps its parts in.
+//!
+//! A clause sees neither pointer nor capacity, so a copy is equal to what it copies.
+#![tactic(auto)]
+
+mod items;
+mod text;
+
+pub use items::{Items, at};
+pub use text::Text;
