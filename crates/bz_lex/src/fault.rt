@@ -1,0 +1,58 @@
+use std::alloc::AllocError;
+use thiserror::Error;
+
+/// Why a text is not accepted. Lines and columns count from 1, columns in characters.
+#[derive(Debug, Drop, Error)]
+pub enum ReadFault {
+    /// The bytes are not UTF-8; `at` is the length of the longest beginning that is.
+    #[error("NotUtf8 at {at}")]
+    NotUtf8 { at: usize },
+    /// The text is longer than 4,194,304 bytes.
+    #[error("TooLarge")]
+    TooLarge,
+    /// No lexeme, blank or comment begins here.
+    #[error("{line}:{column}: BadCharacter")]
+    BadCharacter { line: u32, column: u32 },
+    /// A string that begins here is not closed.
+    #[error("{line}:{column}: OpenString")]
+    OpenString { line: u32, column: u32 },
+    /// A space or tab stands right before the first token of a line.
+    #[error("{line}:{column}: Indented")]
+    Indented { line: u32, column: u32 },
+    /// No file goes on with this token here.
+    #[error("{line}:{column}: Unexpected")]
+    Unexpected { line: u32, column: u32 },
+    /// The tree of the text is deeper than 200.
+    #[error("{line}:{column}: TooDeep")]
+    TooDeep { line: u32, column: u32 },
+    /// A growth was refused.
+    #[error("Memory")]
+    Memory,
+}
+
+impl ReadFault {
+    /// The number of the refusal.
+    pub fn number(&self) -> u8 {
+        match self {
+            ReadFault::NotUtf8 { .. } => 1,
+            ReadFault::TooLarge => 2,
+            ReadFault::BadCharacter { .. } => 3,
+            ReadFault::OpenString { .. } => 4,
+            ReadFault::Indented { .. } => 5,
+            ReadFault::Unexpected { .. } => 6,
+            ReadFault::TooDeep { .. } => 7,
+            ReadFault::Memory => 8,
+        }
+    }
+}
+
+impl From<AllocError> for ReadFault {
+    ghost use Rattle.std.specs.Prelude.{◌≡◌};
+    ghost use Rattle.bz_lex.specs.declared.fault.ReadFault.TheVariants as f;
+
+    ghost from_gives = { λ _ fault. fault ≡ f.Memory };
+
+    fn from(_refused: AllocError) -> ReadFault {
+        ReadFault::Memory
+    }
+}

@@ -1,0 +1,10 @@
+//! Trees of BUILD files: kinds, shapes, legal trees, and the one legal tree that spells a text.
+#![tactic(auto)]
+
+mod kind;
+mod same;
+mod tree;
+
+pub use bz_lex::{Class, Leaf, ReadFault};
+pub use kind::Kind;
+pub use tree::{Memory, Node, Part, Tree};
