@@ -8,3 +8,6 @@ mod text;
 
 pub use items::{Items, at};
 pub use text::Text;
+
+/// Why a growth did not happen: memory was refused.
+pub type Memory = std::alloc::AllocError;

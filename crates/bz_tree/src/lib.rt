@@ -7,4 +7,4 @@ mod tree;
 
 pub use bz_lex::{Class, Leaf, ReadFault};
 pub use kind::Kind;
-pub use tree::{Memory, Node, Part, Tree};
+pub use tree::{Node, Part, Tree};

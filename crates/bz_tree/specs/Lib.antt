@@ -1,0 +1,3 @@
+pub mod Fronts
+pub mod Kinds
+pub mod Spell

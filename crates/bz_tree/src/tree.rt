@@ -1,0 +1,168 @@
+ghost use Rattle.std.specs.Prelude.{◌≡◌, ◌++◌, ◌+◌, ◌<◌, ◌≤◌, ◌^◌, length, take, OnOk, OnErr, IfOk};
+ghost use Rattle.std.specs.List.{flat_map};
+ghost use Rattle.bz_tree.specs.Spell.{spell_leaf, spell_node, spell_part, IsFine};
+
+use crate::kind::Kind;
+use bz_items::{Items, Memory};
+use bz_lex::Leaf;
+use std::alloc::Global;
+
+#[cycle(tree)]
+#[derive(Drop)]
+pub enum Part {
+    Leaf(Leaf),
+    Node(Node),
+}
+
+#[cycle(tree)]
+#[derive(Drop)]
+pub struct Node {
+    pub kind: Kind,
+    pub parts: Items<Part>,
+}
+
+fn append_leaf(leaf: &Leaf, out: &mut Vec<u8>) -> Result<(), Memory>
+    ensures ok { OnOk result (out.new.items ≡ out.old.items ++ spell_leaf leaf.now) }
+    ensures err { OnErr result (take (length out.old.items) out.new.items ≡ out.old.items) }
+{
+    out.extend_from_slice(leaf.gap.as_slice())?;
+    out.extend_from_slice(leaf.token.as_slice())?;
+    Ok(())
+}
+
+impl Part {
+    #[cycle(append)]
+    #[tactic(auto, using(crate::proofs::Spells::spell_Node))]
+    fn append_to(&self, out: &mut Vec<u8>) -> Result<(), Memory>
+        ensures ok { OnOk result (out.new.items ≡ out.old.items ++ spell_part self.now) }
+        ensures err { OnErr result (take (length out.old.items) out.new.items ≡ out.old.items) }
+    {
+        match self {
+            Part::Leaf(leaf) => append_leaf(leaf, out),
+            Part::Node(node) => append_all(node.parts.as_slice(), out),
+        }
+    }
+}
+
+#[cycle(append)]
+#[tactic(auto, using(crate::proofs::Spells::front_of_front))]
+fn append_all(parts: &[Part], out: &mut Vec<u8>) -> Result<(), Memory>
+    ensures ok { OnOk result (out.new.items ≡ out.old.items ++ flat_map spell_part parts.now) }
+    ensures err { OnErr result (take (length out.old.items) out.new.items ≡ out.old.items) }
+{
+    for part in parts {
+        part.append_to(out)?;
+    }
+    Ok(())
+}
+
+impl Node {
+    pub fn spell_into(&self, out: &mut Vec<u8>) -> Result<(), Memory>
+        ensures ok { OnOk result (out.new.items ≡ out.old.items ++ spell_node self.now) }
+        ensures err { OnErr result (out.new.items ≡ out.old.items) }
+    {
+        let was = out.len();
+        let answer = append_all(self.parts.as_slice(), out);
+        if answer.is_err() {
+            out.truncate(was);
+        }
+        answer
+    }
+}
+
+fn leaf_len(leaf: &Leaf) -> usize
+    requires { length (spell_leaf leaf.now) < 2 ^ 64 }
+    ensures { result ≡ length (spell_leaf leaf.now) }
+{
+    leaf.gap.len() + leaf.token.len()
+}
+
+impl Part {
+    #[cycle(len)]
+    #[tactic(auto, using(crate::proofs::Spells::spell_Node))]
+    fn len(&self) -> usize
+        requires { length (spell_part self.now) < 2 ^ 64 }
+        ensures { result ≡ length (spell_part self.now) }
+    {
+        match self {
+            Part::Leaf(leaf) => leaf_len(leaf),
+            Part::Node(node) => len_of(node.parts.as_slice()),
+        }
+    }
+
+    #[cycle(copy)]
+    fn copy(&self) -> Result<Part, Memory>
+        ensures { IfOk result (λ part. part ≡ self.now) }
+    {
+        match self {
+            Part::Leaf(leaf) => Ok(Part::Leaf(leaf.copy()?)),
+            Part::Node(node) => Ok(Part::Node(node.copy()?)),
+        }
+    }
+}
+
+#[cycle(len)]
+#[tactic(auto, using(crate::proofs::Spells::spelled_so_far))]
+fn len_of(parts: &[Part]) -> usize
+    requires { length (flat_map spell_part parts.now) < 2 ^ 64 }
+    ensures { result ≡ length (flat_map spell_part parts.now) }
+{
+    let mut sum = 0;
+    for part in parts {
+        sum += part.len();
+    }
+    sum
+}
+
+impl Node {
+    #[cycle(copy)]
+    pub fn copy(&self) -> Result<Node, Memory>
+        ensures { IfOk result (λ node. node ≡ self.now) }
+    {
+        Ok(Node {
+            kind: self.kind,
+            parts: copy_all(self.parts.alloc(), self.parts.as_slice())?,
+        })
+    }
+}
+
+#[cycle(copy)]
+pub fn copy_all(alloc: Global, parts: &[Part]) -> Result<Items<Part>, Memory>
+    ensures { IfOk result (λ copied. copied ≡ parts.now) }
+{
+    let mut copied = Items::new(alloc);
+    for part in parts {
+        copied.push(part.copy()?)?;
+    }
+    Ok(copied)
+}
+
+/// A legal tree whose spelling is within the limit.
+#[derive(Drop)]
+pub struct Tree {
+    pub root: Node,
+    ghost fine: { IsFine root },
+}
+
+impl Tree {
+    pub fn len(&self) -> usize
+        ensures { result ≡ length (spell_node self.now.root) }
+    {
+        len_of(self.root.parts.as_slice())
+    }
+
+    pub fn copy(&self) -> Result<Tree, Memory>
+        ensures { IfOk result (λ tree. tree.root ≡ self.now.root) }
+    {
+        Ok(Tree {
+            root: self.root.copy()?,
+        })
+    }
+
+    pub fn spell_into(&self, out: &mut Vec<u8>) -> Result<(), Memory>
+        ensures ok { OnOk result (out.new.items ≡ out.old.items ++ spell_node self.now.root) }
+        ensures err { OnErr result (out.new.items ≡ out.old.items) }
+    {
+        self.root.spell_into(out)
+    }
+}
