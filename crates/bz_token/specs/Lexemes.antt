@@ -34,7 +34,8 @@ pub data IsLetters : List ℕ → Type 0 where
 
 -- a letter or `_`, then letters, digits and `_`: a Name, where it is no keyword
 abbrev pub IsWord : List ℕ → Type 0
-IsWord s = (b : ℕ) × (u : List ℕ) × (s ≡ b ∷ u) × (is_digit b ≡ false) × IsLetters s
+IsWord [] = ⊥
+IsWord (b ∷ s) = (is_digit b ≡ false) × IsLetters (b ∷ s)
 
 -- none or more of these
 abbrev pub Each : (ℕ → Bool) → List ℕ → Type 0

@@ -2,5 +2,8 @@
 #![tactic(auto)]
 
 mod class;
+mod state;
+mod theorems;
 
 pub use class::Class;
+pub use theorems::{begins, one_token, separated, single};
