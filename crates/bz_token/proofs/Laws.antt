@@ -1,20 +1,17 @@
 -- The laws of tokens.
-use Rattle.std.proofs.Common.{◌≡◌, ℕ, ◌+◌, ◌≤◌, ◌<◌, Bool, true, false, List, [], ◌∷◌, ◌++◌, ◌&&◌, ◌||◌, not, is_none, eqb, length, ◌⊎◌, inl, inr, Option, Some, None, refl, sym, ap, ◌∙◌, subst, arith, length-append}
-use Rattle.std.proofs.lemmas.Bool.{both_ways, cases_Bool, eqb-true, or_cases, not-true}
+use Rattle.std.proofs.Common.{◌≡◌, ℕ, ◌≤◌, Bool, true, false, List, [], ◌∷◌, ◌++◌, ◌||◌, not, is_none, length, ◌⊎◌, inl, inr, Option, Some, None, refl, sym, ap, ◌∙◌, subst, arith, length-append}
+use Rattle.std.proofs.lemmas.Bool.{both_ways, cases_Bool, or_cases, not-true}
 use Rattle.std.proofs.lemmas.Bool.Decides.{nat_tests}
 use Rattle.std.proofs.lemmas.Option.{same_Some, none-some}
 use Rattle.bz_token.specs.declared.class.Class.{Class}
-use Rattle.bz_token.specs.declared.class.Class.TheVariants as v
 use Rattle.bz_token.specs.declared.state.State.{State}
-use Rattle.bz_token.specs.declared.state.State.TheVariants.{Start, Word, PrefixR, PrefixB, PrefixBoth, High, HighMark, HighOther, Zero, Whole, HexMark, Hex, OctMark, Oct, Point, Fraction, ExponentMark, ExponentSign, Exponent, Opened, Empty, Short, ShortTaken, ShortReturn, Long, LongOne, LongTwo, LongTaken, Closed, Star, Slash, Less, Greater, Bang, Operator, Ended}
-use Rattle.bz_token.specs.declared.state.Quote.{Quote}
+use Rattle.bz_token.specs.declared.state.State.TheVariants.{Start, Opened, Empty, Ended}
 use Rattle.bz_token.specs.declared.state.Quote.TheVariants.{Single, Double}
-use Rattle.bz_token.specs.Bytes.{among, is_blank, is_solid, separators, is_separator, brackets_and_comma, is_bracket_or_comma, is_quote}
-use Rattle.bz_token.specs.Lexemes.{IsLexeme, is_prefix, is_mark}
-use Rattle.bz_token.specs.Tokens.{IsToken}
+use Rattle.bz_token.specs.Bytes.{among, is_solid, separators, is_separator, brackets_and_comma, is_quote}
+use Rattle.bz_token.specs.Lexemes.{IsLexeme, is_mark}
 use Rattle.bz_token.specs.Laws.{OneToken, Begins, Separated, Single as SingleLaw}
-use Rattle.bz_token.specs.Machine.{after, and_next}
-use Rattle.bz_token.specs.Scanner.{move, ends, reads, named}
+use Rattle.bz_token.specs.Machine.{after}
+use Rattle.bz_token.specs.Scanner.{move, ends, named}
 use Rattle.bz_token.proofs.Fronts.{longer, same_front, some_next, after_append}
 use Rattle.bz_token.proofs.Tables.{every, one_of, is_none_at}
 use Rattle.bz_token.proofs.Complete.{complete}

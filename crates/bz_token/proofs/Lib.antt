@@ -1,4 +1,5 @@
 pub mod Fronts
 pub mod Tables
+pub mod Strings
 pub mod Complete
 pub mod Laws

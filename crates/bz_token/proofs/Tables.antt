@@ -1,5 +1,5 @@
 -- What holds of each row of a table holds of what is found in it.
-use Rattle.std.proofs.Common.{◌≡◌, ℕ, Bool, true, false, cond, not, List, [], ◌∷◌, ◌++◌, ◌&&◌, ◌||◌, eqb, ◌⊎◌, inl, inr, Option, Some, None, is_none, refl, sym, ap, ◌∙◌}
+use Rattle.std.proofs.Common.{◌≡◌, ℕ, Bool, true, false, not, List, [], ◌∷◌, ◌&&◌, eqb, inl, inr, Option, Some, None, is_none, refl, subst}
 use Rattle.std.proofs.lemmas.Bool.{both_ways, cases_Bool, eqb-true, or_cases, and_parts, not-true}
 use Rattle.std.proofs.lemmas.Slice.Eq.{bytes_eq-Decides}
 use Rattle.std.specs.Str.{bytes_eq}
@@ -26,6 +26,13 @@ none_of p s h b k =
     elim (cases_Bool (among b s)) [
       | inl l ↦ absurd (both_ways (p b) (not-true (p b) (one_of (λ c. not (p c)) s h b l)) k)
       | inr l ↦ l
+    ]
+
+pub is_not : (p : ℕ → Bool) (n : ℕ) → p n ≡ false → (b : ℕ) → p b ≡ true → eqb b n ≡ false
+is_not p n f b h =
+    elim (cases_Bool (eqb b n)) [
+      | inl e ↦ absurd (both_ways (p n) f (subst (λ (x : ℕ). p x ≡ true) (eqb-true b n e) h))
+      | inr e ↦ e
     ]
 
 pub one_text : (p : List ℕ → Bool) (ts : List (List ℕ)) → every p ts ≡ true → (s : List ℕ) → in_table s ts ≡ true → p s ≡ true

@@ -1,5 +1,5 @@
 -- The longest front of a text that a machine takes.
-use Rattle.std.specs.Prelude.{◌≡◌, ◌+◌, ℕ, zero, suc, Bool, true, false, List, [], ◌∷◌, ◌++◌, length, Option, Some, None}
+use Rattle.std.specs.Prelude.{◌+◌, ℕ, suc, Bool, true, false, List, [], ◌∷◌, Option, Some, None}
 
 abbrev pub and_next : {A B : Type 0} → Option A → (A → Option B) → Option B
 and_next None f = None
