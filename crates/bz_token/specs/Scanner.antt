@@ -1,5 +1,6 @@
 -- One machine for the lexemes of all classes: what the reader of tokens goes by. Its proofs say that it takes the texts of each class and no others.
 use Rattle.std.specs.Prelude.{ℕ, Bool, List, [], ◌∷◌, ◌||◌, nat_eq, Option, Some, None, is_some, if◌then◌else◌}
+use Rattle.std.specs.Option.{option_or}
 use Rattle.bz_token.specs.declared.class.Class.{Class}
 use Rattle.bz_token.specs.declared.class.Class.TheVariants as v
 use Rattle.bz_token.specs.declared.state.State.{State}
@@ -39,6 +40,26 @@ word_move b = if nat_eq b 239 then Some High else (if is_letter b || is_digit b 
 abbrev pub quote_or_word : ℕ → Option State
 quote_or_word b = if nat_eq b 34 then Some (Opened Double) else (if nat_eq b 39 then Some (Opened Single) else word_move b)
 
+-- behind EF: BB is like U+FEFF so far
+abbrev pub high_move : ℕ → Option State
+high_move b = if nat_eq b 187 then Some HighMark else (if is_high b then Some HighOther else None)
+
+abbrev pub zero_move : ℕ → Option State
+zero_move b = if is_digit b then Some Whole else (if nat_eq b 46 then Some Fraction else (if is_e b then Some ExponentMark else (if is_x b then Some HexMark else (if is_o b then Some OctMark else None))))
+
+abbrev pub whole_move : ℕ → Option State
+whole_move b = if is_digit b then Some Whole else (if nat_eq b 46 then Some Fraction else (if is_e b then Some ExponentMark else None))
+
+abbrev pub fraction_move : ℕ → Option State
+fraction_move b = if is_digit b then Some Fraction else (if is_e b then Some ExponentMark else None)
+
+abbrev pub exponent_move : ℕ → Option State
+exponent_move b = if is_digit b then Some Exponent else (if is_sign b then Some ExponentSign else None)
+
+-- behind a mark that may stand twice, or before `=`
+abbrev pub doubled_move : ℕ → ℕ → Option State
+doubled_move mark b = if nat_eq b mark then Some Operator else (if nat_eq b 61 then Some Ended else None)
+
 abbrev pub short_move : Quote → ℕ → Option State
 short_move m b = if nat_eq b (quote_byte m) then Some Closed else (if nat_eq b 92 then Some (ShortTaken m) else (if nat_eq b 10 then None else Some (Short m)))
 
@@ -46,28 +67,24 @@ short_move m b = if nat_eq b (quote_byte m) then Some Closed else (if nat_eq b 9
 abbrev pub long_move : State → Quote → ℕ → Option State
 long_move r m b = if nat_eq b (quote_byte m) then Some r else (if nat_eq b 92 then Some (LongTaken m) else Some (Long m))
 
-abbrev pub or_else : Option State → Option State → Option State
-or_else None o = o
-or_else (Some q) o = Some q
-
 abbrev pub move : State → ℕ → Option State
-move Start b = or_else (mark_start b) (or_else (number_start b) (text_start b))
+move Start b = option_or (option_or (mark_start b) (number_start b)) (text_start b)
 move Word b = word_move b
 move PrefixR b = if nat_eq b 98 then Some PrefixBoth else quote_or_word b
 move PrefixB b = if nat_eq b 114 then Some PrefixBoth else quote_or_word b
 move PrefixBoth b = quote_or_word b
-move High b = if nat_eq b 187 then Some HighMark else (if is_high b then Some HighOther else None)
+move High b = high_move b
 move HighMark b = if nat_eq b 191 then None else (if is_high b then Some Word else None)
 move HighOther b = if is_high b then Some Word else None
-move Zero b = if is_digit b then Some Whole else (if nat_eq b 46 then Some Fraction else (if is_e b then Some ExponentMark else (if is_x b then Some HexMark else (if is_o b then Some OctMark else None))))
-move Whole b = if is_digit b then Some Whole else (if nat_eq b 46 then Some Fraction else (if is_e b then Some ExponentMark else None))
+move Zero b = zero_move b
+move Whole b = whole_move b
 move HexMark b = if is_hexadecimal b then Some Hex else None
 move Hex b = if is_hexadecimal b then Some Hex else None
 move OctMark b = if is_octal b then Some Oct else None
 move Oct b = if is_octal b then Some Oct else None
 move Point b = if is_digit b then Some Fraction else None
-move Fraction b = if is_digit b then Some Fraction else (if is_e b then Some ExponentMark else None)
-move ExponentMark b = if is_digit b then Some Exponent else (if is_sign b then Some ExponentSign else None)
+move Fraction b = fraction_move b
+move ExponentMark b = exponent_move b
 move ExponentSign b = if is_digit b then Some Exponent else None
 move Exponent b = if is_digit b then Some Exponent else None
 move (Opened m) b = if nat_eq b (quote_byte m) then Some (Empty m) else short_move m b
@@ -81,9 +98,9 @@ move (LongTwo m) b = long_move Closed m b
 move (LongTaken m) b = Some (Long m)
 move Closed b = None
 move Star b = if nat_eq b 42 || nat_eq b 61 then Some Ended else None
-move Slash b = if nat_eq b 47 then Some Operator else (if nat_eq b 61 then Some Ended else None)
-move Less b = if nat_eq b 60 then Some Operator else (if nat_eq b 61 then Some Ended else None)
-move Greater b = if nat_eq b 62 then Some Operator else (if nat_eq b 61 then Some Ended else None)
+move Slash b = doubled_move 47 b
+move Less b = doubled_move 60 b
+move Greater b = doubled_move 62 b
 move Bang b = if nat_eq b 61 then Some Ended else None
 move Operator b = if nat_eq b 61 then Some Ended else None
 move Ended b = None
