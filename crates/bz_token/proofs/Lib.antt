@@ -3,3 +3,4 @@ pub mod Tables
 pub mod Strings
 pub mod Complete
 pub mod Laws
+pub mod Longest
