@@ -4,3 +4,4 @@ pub mod Strings
 pub mod Complete
 pub mod Laws
 pub mod Longest
+pub mod Taken
