@@ -259,11 +259,11 @@ short_reads (suc n) q k (b ∷ s) l h =
         ]
     ]
 
-abbrev three_of : Quote → List ℕ
+abbrev pub three_of : Quote → List ℕ
 three_of q = quote_byte q ∷ quote_byte q ∷ quote_byte q ∷ []
 
 -- what stands behind j marks in a row in a text of three
-abbrev EndsLong : Quote → ℕ → List ℕ → Type 0
+abbrev pub EndsLong : Quote → ℕ → List ℕ → Type 0
 EndsLong q j s = (x : List ℕ) × (replicate j (quote_byte q) ++ s ≡ x ++ three_of q) × IsLong (quote_byte q) x
 
 shift : (j m : ℕ) (s : List ℕ) → replicate j m ++ (m ∷ s) ≡ replicate (suc j) m ++ s
