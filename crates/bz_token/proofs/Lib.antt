@@ -6,3 +6,4 @@ pub mod Laws
 pub mod Longest
 pub mod Taken
 pub mod Sound
+pub mod Tokens

@@ -13,6 +13,7 @@ use Rattle.bz_token.specs.Bytes.{among, is_digit, is_letter, is_quote}
 use Rattle.bz_token.specs.Lexemes.{in_table, none, is_keyword, is_mark, IsLetters, one, three, IsDigits, IsNumber, whole, hexadecimal, octal, pointed, point_first, scaled, IsQuoted, single, triple, is_prefix, IsString, IsWord, short_end, IsLexeme}
 use Rattle.bz_token.specs.Machine.{after, and_next}
 use Rattle.bz_token.specs.Scanner.{lone_marks, operator_marks, mark_start, number_start, text_start, word_move, quote_or_word, doubled_move, quote_byte, move, ends, reads, named}
+use Rattle.bz_token.proofs.Strings.{quote_is}
 use Rattle.bz_token.proofs.Tables.{one_of}
 use Rattle.bz_token.proofs.Taken.{ended_reads, operator_reads, star_reads, bang_reads, doubled_reads, IsFraction, fraction_reads, BehindDigit, whole_reads, BehindZero, zero_reads, point_reads, EndsShort, short_reads, EndsLong, long_reads, high_reads, three_letters, word_reads}
 
@@ -122,10 +123,6 @@ number_sound k b s h =
     ]
 
 -- ---- names and strings
-
-quote_is : (q : Quote) → is_quote (quote_byte q) ≡ true
-quote_is Single = refl
-quote_is Double = refl
 
 quoted_at : (b c : ℕ) (s : List ℕ) → b ≡ c → IsQuoted (c ∷ s) → IsQuoted (b ∷ s)
 quoted_at b c s i h = rw i h
