@@ -1,21 +1,21 @@
 -- What the machine takes is a text of the class that it gives.
-use Rattle.std.proofs.Common.{◌≡◌, ◌<◌, ◌≤◌, ℕ, zero, suc, Bool, true, false, cond, not, List, [], ◌∷◌, ◌++◌, ◌&&◌, ◌||◌, eqb, length, ◌⊎◌, inl, inr, Option, Some, None, refl, sym, ap, ◌∙◌, subst, arith, append-nil}
-use Rattle.std.proofs.lemmas.Bool.{both_ways, cases_Bool, eqb-true, or_cases, or_left}
+use Rattle.std.proofs.Common.{◌≡◌, ℕ, true, false, List, [], ◌∷◌, ◌++◌, ◌||◌, eqb, length, ◌⊎◌, inl, inr, Option, Some, None, refl, sym, ◌∙◌, subst, arith, append-nil}
+use Rattle.std.proofs.lemmas.Bool.{cases_Bool, eqb-true, or_left}
 use Rattle.std.proofs.lemmas.Option.{none-some, same_Some}
 use Rattle.std.specs.Option.{option_or}
 use Rattle.bz_token.specs.declared.class.Class.{Class}
 use Rattle.bz_token.specs.declared.class.Class.TheVariants as v
 use Rattle.bz_token.specs.declared.state.State.{State}
-use Rattle.bz_token.specs.declared.state.State.TheVariants.{Start, Word, PrefixR, PrefixB, PrefixBoth, Opened, Empty, Short, Zero, Whole, Slash, Less, Greater}
+use Rattle.bz_token.specs.declared.state.State.TheVariants.{Start, PrefixR, PrefixB, PrefixBoth, Opened, Zero, Whole, Slash, Less, Greater}
 use Rattle.bz_token.specs.declared.state.Quote.{Quote}
 use Rattle.bz_token.specs.declared.state.Quote.TheVariants.{Single, Double}
-use Rattle.bz_token.specs.Bytes.{among, is_digit, is_letter, is_quote}
-use Rattle.bz_token.specs.Lexemes.{in_table, none, is_keyword, is_mark, IsLetters, one, three, IsDigits, IsNumber, whole, hexadecimal, octal, pointed, point_first, scaled, IsQuoted, single, triple, is_prefix, IsString, IsWord, short_end, IsLexeme}
+use Rattle.bz_token.specs.Bytes.{among, is_digit, is_letter}
+use Rattle.bz_token.specs.Lexemes.{none, is_keyword, is_mark, IsLetters, one, IsNumber, whole, hexadecimal, octal, pointed, point_first, scaled, IsQuoted, single, triple, is_prefix, IsString, IsWord, short_end, IsLexeme}
 use Rattle.bz_token.specs.Machine.{after, and_next}
-use Rattle.bz_token.specs.Scanner.{lone_marks, operator_marks, mark_start, number_start, text_start, word_move, quote_or_word, doubled_move, quote_byte, move, ends, reads, named}
+use Rattle.bz_token.specs.Scanner.{lone_marks, operator_marks, mark_start, number_start, text_start, quote_or_word, doubled_move, quote_byte, move, ends, reads, named}
 use Rattle.bz_token.proofs.Strings.{quote_is}
 use Rattle.bz_token.proofs.Tables.{one_of}
-use Rattle.bz_token.proofs.Taken.{ended_reads, operator_reads, star_reads, bang_reads, doubled_reads, IsFraction, fraction_reads, BehindDigit, whole_reads, BehindZero, zero_reads, point_reads, EndsShort, short_reads, EndsLong, long_reads, high_reads, three_letters, word_reads}
+use Rattle.bz_token.proofs.Taken.{ended_reads, operator_reads, star_reads, bang_reads, doubled_reads, IsFraction, BehindDigit, whole_reads, BehindZero, zero_reads, point_reads, EndsShort, short_reads, EndsLong, long_reads, high_reads, three_letters, word_reads}
 
 -- the class of a text behind a state, if there is one
 abbrev from : Option State → List ℕ → Option Class

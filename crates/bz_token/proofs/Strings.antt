@@ -1,8 +1,7 @@
 -- The machine takes the strings.
-use Rattle.std.proofs.Common.{◌≡◌, ◌<◌, ℕ, zero, suc, Bool, true, false, List, [], ◌∷◌, ◌++◌, ◌&&◌, ◌||◌, eqb, ◌⊎◌, inl, inr, Option, Some, None, refl, sym, ap, ◌∙◌, subst, arith, append_assoc, replicate}
+use Rattle.std.proofs.Common.{◌≡◌, ◌<◌, ℕ, zero, suc, Bool, true, false, List, [], ◌∷◌, ◌++◌, ◌||◌, eqb, ◌⊎◌, inl, inr, Option, Some, None, refl, ◌∙◌, subst, arith, append_assoc, replicate}
 use Rattle.std.proofs.lemmas.Bool.{both_ways, cases_Bool, eqb-true, or_cases, or_parts}
 use Rattle.std.proofs.lemmas.Option.{none-some}
-use Rattle.bz_token.specs.declared.class.Class.{Class}
 use Rattle.bz_token.specs.declared.class.Class.TheVariants as v
 use Rattle.bz_token.specs.declared.state.State.{State}
 use Rattle.bz_token.specs.declared.state.State.TheVariants.{Start, Opened, Empty, Short, ShortTaken, ShortReturn, Long, LongOne, LongTwo, Closed}

@@ -1,8 +1,9 @@
 -- The longest front that the machine takes is the token, or there is none.
-use Rattle.std.proofs.Common.{◌≡◌, ◌<◌, ◌≤◌, ℕ, zero, suc, Bool, true, false, cond, List, [], ◌∷◌, ◌++◌, eqb, length, take, drop, ◌⊎◌, inl, inr, Option, Some, None, refl, sym, ap, ◌∙◌, subst, arith, is_some}
+use Rattle.std.proofs.Common.{◌-◌, length-drop, ◌≡◌, ◌≤◌, ℕ, true, false, List, [], ◌∷◌, ◌++◌, length, take, drop, inl, inr, Some, None, refl, sym, ap, ◌∙◌, subst, arith, is_some}
 use Rattle.std.proofs.lemmas.Bool.{both_ways, eqb-true, eq-eqb}
 use Rattle.std.proofs.lemmas.List.{take-append-drop, length-take-le}
-use Rattle.std.proofs.lemmas.Option.{none-some, same_Some}
+use Rattle.std.proofs.Math.Seq.{take-length}
+use Rattle.std.proofs.lemmas.Option.{same_Some}
 use Rattle.bz_token.specs.declared.class.Class.{Class}
 use Rattle.bz_token.specs.declared.class.Class.TheVariants as v
 use Rattle.bz_token.specs.declared.state.State.{State}
@@ -10,9 +11,9 @@ use Rattle.bz_token.specs.declared.state.State.TheVariants.{Start, Empty, Closed
 use Rattle.bz_token.specs.declared.state.Quote.{Quote}
 use Rattle.bz_token.specs.Bytes.{is_quote}
 use Rattle.bz_token.specs.Lexemes.{IsLexeme, IsString, is_prefix}
-use Rattle.bz_token.specs.Tokens.{IsToken, NoToken, TokenAt}
-use Rattle.bz_token.specs.Machine.{after, and_next, takes}
-use Rattle.bz_token.specs.Scanner.{quote_byte, move, ends, may_end, reads, named, before_third, longest_front}
+use Rattle.bz_token.specs.Tokens.{NoToken, TokenAt}
+use Rattle.bz_token.specs.Machine.{after, takes}
+use Rattle.bz_token.specs.Scanner.{quote_byte, move, ends, may_end, named, before_third, longest_front}
 use Rattle.bz_token.proofs.Fronts.{same_front, rest_same}
 use Rattle.bz_token.proofs.Laws.{state_of}
 use Rattle.bz_token.proofs.Longest.{IsLongest, Found, found}
@@ -46,6 +47,9 @@ lexeme_at s x k f e = sound k (take (x.1) s) (rw f.taken (sym e))
 
 front_length : (s : List ℕ) (n : ℕ) → n ≤ length s → length (take n s) ≡ n
 front_length s n h = length-take-le n s h
+
+pub whole_rest : (s : List ℕ) (n : ℕ) → n ≤ length s → take (length s - n) (drop n s) ≡ drop n s
+whole_rest s n h = rw (← length-drop n s) (take-length (drop n s))
 
 -- two marks and a third
 third_of : (q : State) (p : List ℕ) (m : Quote) (b : ℕ) (t u : List ℕ) → after move Start t ≡ Some q → is_prefix p ≡ true → b ≡ quote_byte m → t ≡ p ++ (quote_byte m ∷ quote_byte m ∷ []) → before_third q (b ∷ u) ≡ true
