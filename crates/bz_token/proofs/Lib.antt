@@ -7,3 +7,4 @@ pub mod Longest
 pub mod Taken
 pub mod Sound
 pub mod Tokens
+pub mod Boundaries
