@@ -8,3 +8,4 @@ pub mod Taken
 pub mod Sound
 pub mod Tokens
 pub mod Boundaries
+pub mod Rows

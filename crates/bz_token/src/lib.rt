@@ -8,4 +8,6 @@ mod theorems;
 
 pub use class::Class;
 pub use scan::{Found, token};
-pub use theorems::{begins, one_token, separated, single};
+pub use theorems::{
+    begins, cuts, each_keyword, each_mark, each_number, one_token, separated, single,
+};
