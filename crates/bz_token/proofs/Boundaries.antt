@@ -169,11 +169,13 @@ not_inside c (a ∷ t) r b h u l m =
 pub boundary : (c : Class) (t r : List ℕ) → IsToken c t r → IsUtf8 (t ++ r) → IsCharBoundary (t ++ r) (length t)
 boundary c t [] h u = (omega (arith, length-append t []), λ l. absurd (omega (arith, l, length-append t [])))
 boundary c t (b ∷ r) h u =
-    let e : get_or (t ++ (b ∷ r)) (length t) 0 ≡ b = get_or-append_seam t b r 0 in
-    (omega (arith, length-append t (b ∷ r)), λ l m. elim (cases_lt (get_or (t ++ (b ∷ r)) (length t) 0) 192) [
-      | inl n ↦ absurd (not_inside c t r b h u (omega (arith, e, m)) (omega (arith, e, n)))
-      | inr n ↦ n
-    ])
+    let e : get_or (t ++ (b ∷ r)) (length t) 0 ≡ b = get_or-append_seam t b r 0 in (
+      omega (arith, length-append t (b ∷ r)),
+      λ l m. elim (cases_lt (get_or (t ++ (b ∷ r)) (length t) 0) 192) [
+        | inl n ↦ absurd (not_inside c t r b h u (omega (arith, e, m)) (omega (arith, e, n)))
+        | inr n ↦ n
+      ],
+    )
 
 pub boundary_at : (c : Class) (n : ℕ) (s : List ℕ) → TokenAt c n s → IsUtf8 s → IsCharBoundary s n
 boundary_at c n s h u =

@@ -4,6 +4,8 @@
 mod class;
 mod scan;
 mod state;
+#[cfg(test)]
+mod tests;
 mod theorems;
 
 pub use class::Class;

@@ -23,7 +23,7 @@ returns-then-before_third-clause-exact c =
     let x : State × ℕ = (c.in_ok-state.state, c.in_ok-state.len) in
     let w = (front_of c.args.text.now x c.in_ok-state.ensures).within in
     let e : before_third c.in_ok-state.state (drop c.in_ok-state.len c.args.text.now) ≡ true =
-        sym (ap (before_third c.in_ok-state.state) (whole_rest c.args.text.now c.in_ok-state.len w)) ∙ (sym c.before_third.ensures ∙ c.if-before_third.true) in
+    sym (ap (before_third c.in_ok-state.state) (whole_rest c.args.text.now c.in_ok-state.len w)) ∙ (sym c.before_third.ensures ∙ c.if-before_third.true) in
     third_token c.args.text.now x c.in_ok-state.ensures e
 
 pub returns-in_err-class-clause-exact : goal.returns-in_err-class-clause-exact
@@ -40,7 +40,7 @@ token_at c =
     let x : State × ℕ = (c.in_ok-state.state, c.in_ok-state.len) in
     let w = (front_of c.args.text.now x c.in_ok-state.ensures).within in
     let e : before_third c.in_ok-state.state (drop c.in_ok-state.len c.args.text.now) ≡ false =
-        sym (ap (before_third c.in_ok-state.state) (whole_rest c.args.text.now c.in_ok-state.len w)) ∙ (sym c.before_third.ensures ∙ c.if-before_third.false) in
+    sym (ap (before_third c.in_ok-state.state) (whole_rest c.args.text.now c.in_ok-state.len w)) ∙ (sym c.before_third.ensures ∙ c.if-before_third.false) in
     let t = some_token c.args.text.now x c.in_ok-class.field-0 c.in_ok-state.ensures e c.in_ok-class.ensures in
     (t.0, rw c.named-class.ensures t.1)
 
