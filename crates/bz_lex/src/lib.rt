@@ -3,6 +3,7 @@
 
 mod fault;
 mod leaf;
+mod place;
 
 pub use bz_token::Class;
 pub use fault::ReadFault;
