@@ -5,7 +5,8 @@ use Rattle.std.proofs.lemmas.List.{append-nil}
 use Rattle.std.proofs.lemmas.Option.{same_Some}
 use Rattle.bz_lex.specs.declared.gap.GapState.{GapState}
 use Rattle.bz_lex.specs.declared.gap.GapState.TheVariants.{Open, Escape, EscapeReturn, Comment}
-use Rattle.bz_lex.specs.Gaps.{is_blank, IsOneLine, IsGap, nothing, blank, escaped, escaped_return, unescaped, comment, last_comment}
+use Rattle.bz_token.specs.Bytes.{is_blank}
+use Rattle.bz_lex.specs.Gaps.{IsOneLine, IsGap, nothing, blank, escaped, escaped_return, unescaped, comment, last_comment}
 use Rattle.bz_lex.specs.GapStates.{gap_move, and_then, after, Stops, is_end}
 
 abbrev holds : Bool → Option GapState → Bool

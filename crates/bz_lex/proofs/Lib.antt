@@ -1,1 +1,4 @@
 pub mod Gaps
+pub mod Tokens
+pub mod Forms
+pub mod Unique

@@ -2,3 +2,4 @@ pub mod Gaps
 pub mod Places
 pub mod Leaves
 pub mod GapStates
+pub mod Laws

@@ -3,6 +3,7 @@
 
 mod fault;
 mod gap;
+pub mod laws;
 mod leaf;
 mod place;
 
