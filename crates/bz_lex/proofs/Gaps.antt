@@ -1,5 +1,6 @@
 -- The states of a gap take just the gaps, and a gap ends at one place.
-use Rattle.std.proofs.Common.{◌≡◌, ◌≢◌, ℕ, zero, suc, Bool, true, false, cond, eqb, List, [], ◌∷◌, ◌++◌, ◌&&◌, ◌||◌, ◌⊎◌, inl, inr, Option, Some, None, refl, sym, ap, ◌∙◌, subst, append_assoc}
+use Rattle.std.proofs.Common.{◌≡◌, ◌≢◌, ℕ, zero, suc, Bool, true, false, cond, eqb, List, [], ◌∷◌, ◌++◌, ◌&&◌, ◌||◌, ◌⊎◌, inl, inr, Option, Some, None, refl, sym, ap, ◌∙◌, subst, append_assoc, ◌<◌, ◌+◌, length, take, get_or, add-one}
+use Rattle.std.proofs.Math.Seq.{take-suc}
 use Rattle.std.proofs.lemmas.Bool.{both_ways, cases_Bool, eqb-true, eqb-false, ne_eqb, and_parts, and_left}
 use Rattle.std.proofs.lemmas.List.{append-nil}
 use Rattle.std.proofs.lemmas.Option.{same_Some}
@@ -124,3 +125,7 @@ through (Some q) f g h e = e q
 pub after-append : (n : Bool) (p : GapState) (a b : List ℕ) → after n p (a ++ b) ≡ and_then (after n p a) (λ q. after n q b)
 after-append n p [] b = refl
 after-append n p (c ∷ a) b = through (gap_move n p c) (λ q. after n q (a ++ b)) (λ q. after n q a) (λ q. after n q b) (λ q. after-append n q a b)
+
+-- one byte more
+pub after_more : (n : Bool) (p q r : GapState) (i : ℕ) (s : List ℕ) → i < length s → after n p (take i s) ≡ Some q → gap_move n q (get_or s i 0) ≡ Some r → after n p (take (i + 1) s) ≡ Some r
+after_more n p q r i s lt e f = rw (add-one, take-suc s i 0 lt, after-append n p (take i s) (get_or s i 0 ∷ []), e, f) refl

@@ -7,6 +7,11 @@ use Rattle.bz_lex.specs.Gaps.{IsGap, is_flush}
 pub use Rattle.bz_lex.specs.declared.place.Place.{Place}
 pub use Rattle.bz_lex.specs.declared.place.Place.TheVariants.{Fresh, Behind, Inside, Last, Over}
 
+-- how many brackets are open
+abbrev pub open_brackets : Place → ℕ
+open_brackets (Inside depth) = suc depth
+open_brackets _ = 0
+
 -- ( [ {
 abbrev pub is_opening : List ℕ → Bool
 is_opening (byte ∷ []) = nat_eq byte 40 || (nat_eq byte 91 || nat_eq byte 123)
