@@ -10,14 +10,9 @@ use Rattle.bz_lex.specs.declared.gap.GapState.{GapState}
 use Rattle.bz_lex.specs.declared.gap.GapState.TheVariants.{Open, Escape, EscapeReturn, Comment}
 use Rattle.bz_lex.specs.Gaps.{IsGap, is_flush}
 use Rattle.bz_lex.specs.GapStates.{gap_move, after, Stops, is_end}
-use Rattle.bz_lex.specs.Places.{Place, Fresh, Behind, Inside, Last, Over, May, first, later, inner, newline, no_newline, end, end_at_once}
+use Rattle.bz_lex.specs.Places.{Place, Fresh, Behind, Inside, Last, Over, newlines_at, May, first, later, inner, newline, no_newline, end, end_at_once}
 use Rattle.bz_lex.proofs.Gaps.{gap_after, gap_from, one_stop}
 use Rattle.bz_lex.proofs.Tokens.{one_token, token_stops, token_holds, token_no_newline}
-
--- whether newlines may stand in the gap of a leaf
-abbrev pub newlines_at : Place → Bool
-newlines_at Behind = false
-newlines_at _ = true
 
 -- a token behind a gap that ends between two pieces
 pub record ByToken (q : GapState) (l : Leaf) (s : List ℕ) : Type 0 where

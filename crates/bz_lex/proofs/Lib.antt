@@ -2,3 +2,4 @@ pub mod Gaps
 pub mod Tokens
 pub mod Forms
 pub mod Unique
+pub mod Fronts

@@ -7,12 +7,12 @@ use Rattle.bz_token.specs.Tokens.{IsToken}
 use Rattle.bz_lex.specs.declared.leaf.Leaf.{Leaf}
 use Rattle.bz_lex.specs.declared.gap.GapState.{GapState}
 use Rattle.bz_lex.specs.declared.gap.GapState.TheVariants.{Open}
-use Rattle.bz_lex.specs.Places.{Place, Fresh, Behind, Inside, Last, Over, next, May}
+use Rattle.bz_lex.specs.Places.{Place, Fresh, Behind, Inside, Last, Over, next, newlines_at, May}
 use Rattle.bz_lex.specs.Leaves.{spell_leaves, Stand}
 use Rattle.bz_lex.specs.Laws.{OneLexing}
 use Rattle.bz_lex.proofs.Gaps.{one_stop}
 use Rattle.bz_lex.proofs.Tokens.{one_token, token_holds, token_no_newline}
-use Rattle.bz_lex.proofs.Forms.{newlines_at, ByToken, ByNewline, Empty, Form, form, same_leaf}
+use Rattle.bz_lex.proofs.Forms.{ByToken, ByNewline, Empty, Form, form, same_leaf}
 
 empty_text : (k : Class) (q : GapState) (l : Leaf) (s : List ℕ) → Empty k q l s → l.token ++ s ≡ []
 empty_text k q l s h = rw (h.token, h.rest) refl

@@ -3,3 +3,4 @@ pub mod Places
 pub mod Leaves
 pub mod GapStates
 pub mod Laws
+pub mod Fronts

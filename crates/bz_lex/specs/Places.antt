@@ -50,6 +50,11 @@ behind _ token place = same_depth place
 abbrev pub next : Place → Leaf → Place
 next place leaf = behind leaf.class leaf.token place
 
+-- whether unescaped newlines may stand in the gap of a leaf
+abbrev pub newlines_at : Place → Bool
+newlines_at Behind = false
+newlines_at _ = true
+
 -- Which leaf may stand at a place, before a text; IsToken says of a class, a token and the text behind it that the
 -- token, which is neither a newline nor the end, is the longest lexeme there.
 -- An unescaped newline stands in a gap only inside brackets, before the first token of a line, or before the end; a

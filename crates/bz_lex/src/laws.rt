@@ -4,5 +4,4 @@ ghost use Rattle.bz_lex.specs.Laws.{OneLexing};
 /// No text has two lists of leaves.
 pub fn one_lexing()
     ensures { OneLexing }
-{
-}
+{}

@@ -2,6 +2,7 @@
 #![tactic(auto)]
 
 mod fault;
+mod front;
 mod gap;
 pub mod laws;
 mod leaf;

@@ -1,5 +1,5 @@
 ghost use Rattle.std.specs.Prelude.{◌≡◌, ◌<◌, ◌^◌};
-ghost use Rattle.bz_lex.specs.Places.{behind, is_closing, is_opening, deeper, same_depth, shallower, open_brackets};
+ghost use Rattle.bz_lex.specs.Places.{behind, is_closing, is_opening, deeper, same_depth, shallower, open_brackets, newlines_at};
 
 use bz_token::Class;
 
@@ -44,6 +44,13 @@ impl Place {
             }
             _ => self.same_depth(),
         }
+    }
+
+    /// Whether unescaped newlines may stand in the gap of a leaf here.
+    pub fn newlines(self) -> bool
+        ensures { result ≡ newlines_at self }
+    {
+        !matches!(self, Place::Behind)
     }
 
     fn same_depth(self) -> Place
