@@ -3,3 +3,4 @@ pub mod Tokens
 pub mod Forms
 pub mod Unique
 pub mod Fronts
+pub mod Lists

@@ -4,3 +4,4 @@ pub mod Leaves
 pub mod GapStates
 pub mod Laws
 pub mod Fronts
+pub mod Positions

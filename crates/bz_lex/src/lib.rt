@@ -7,6 +7,7 @@ mod gap;
 pub mod laws;
 mod leaf;
 mod place;
+mod position;
 
 pub use bz_token::Class;
 pub use fault::ReadFault;
