@@ -1,6 +1,6 @@
 -- Reading leaves one after the other.
-use Rattle.std.proofs.Common.{◌≡◌, ◌≢◌, ℕ, zero, suc, ◌+◌, ◌*◌, ◌≤◌, ◌<◌, Bool, true, false, cond, if◌then◌else◌, List, [], ◌∷◌, ◌++◌, ◌&&◌, ◌||◌, ◌⊎◌, inl, inr, length, refl, sym, ap, ◌∙◌, subst, arith, length-append, append_assoc}
-use Rattle.std.proofs.lemmas.List.{append-nil, append_cancel_left}
+use Rattle.std.proofs.Common.{◌≡◌, ◌≢◌, ℕ, zero, suc, ◌+◌, ◌*◌, ◌≤◌, ◌<◌, Bool, true, false, cond, if◌then◌else◌, List, [], ◌∷◌, ◌++◌, ◌&&◌, ◌||◌, ◌⊎◌, inl, inr, length, take, drop, Option, Some, None, IsSome, MatchOption, refl, sym, ap, ◌∙◌, subst, arith, length-append, append_assoc}
+use Rattle.std.proofs.lemmas.List.{append-nil, take-append-drop}
 use Rattle.std.proofs.lemmas.Bool.{cases_Bool, both_ways}
 use Rattle.bz_token.specs.declared.class.Class.{Class}
 use Rattle.bz_token.specs.declared.class.Class.TheVariants.{Name, Keyword, Number, String, Mark, Newline, End}
@@ -8,7 +8,9 @@ use Rattle.bz_token.specs.Tokens.{IsToken}
 use Rattle.bz_lex.specs.declared.leaf.Leaf.{Leaf}
 use Rattle.bz_lex.specs.Places.{Place, Fresh, Behind, Inside, Last, Over, open_brackets, is_opening, is_closing, same_depth, deeper, shallower, behind, next, May, first, later, inner, newline, no_newline, end, end_at_once}
 use Rattle.bz_lex.specs.Leaves.{spell_leaves, Stand, AreLeaves, NoLeaves}
-use Rattle.bz_lex.specs.Fronts.{NoLeaf}
+use Rattle.bz_lex.specs.declared.fault.ReadFault.{ReadFault}
+use Rattle.bz_lex.specs.declared.front.Front.{Front}
+use Rattle.bz_lex.specs.Fronts.{NoLeaf, IsFront, front_leaf, behind_front}
 use Rattle.bz_lex.proofs.Tokens.{begins}
 use Rattle.bz_lex.proofs.Unique.{one_leaf, not_over}
 
@@ -167,3 +169,24 @@ refused text ls p rest h n o xs k e = none (h.complete xs k e).0 (h.complete xs 
     none : (ms : List Leaf) → Stand (May IsToken) p ms → spell_leaves ms ≡ rest → ⊥
     none [] k e = o k
     none (m ∷ ms) k e = n m (spell_leaves ms) k.0 e
+
+-- the leaf that was read, and what is behind it
+pub front_text : (front : Front) (s : List ℕ) → front.gap + front.token ≤ length s → (front_leaf front s).gap ++ ((front_leaf front s).token ++ behind_front front s) ≡ s
+front_text front s w = rw (take-append-drop front.token (drop front.gap s)) (take-append-drop front.gap s)
+
+-- one turn of the loop
+pub more : (text : List ℕ) (ls ms : List Leaf) (p q : Place) (rest behind : List ℕ) (front : Front) (l : Leaf) → IsReadTo text ls p rest → IsFront p front rest
+    → l ≡ front_leaf front rest → q ≡ next p l → ms ≡ ls ++ (l ∷ []) → behind ≡ behind_front front rest → IsReadTo text ms q behind
+more text ls ms p q rest behind front l h f e g i j =
+    rw (i, g, j, e) (stepped text ls p rest (front_leaf front rest) (behind_front front rest) h f.may (front_text front rest f.within))
+
+pub less : (p q : Place) (rest behind : List ℕ) (front : Front) (l : Leaf) → IsFront p front rest → l ≡ front_leaf front rest → q ≡ next p l → behind ≡ behind_front front rest → left q behind < left p rest
+less p q rest behind front l f e g j =
+    let k = smaller p (front_leaf front rest) (behind_front front rest) f.may in
+    let x : left q behind ≡ left (next p (front_leaf front rest)) (behind_front front rest) = rw (g, j, e) refl in
+    let y : left p ((front_leaf front rest).gap ++ ((front_leaf front rest).token ++ behind_front front rest)) ≡ left p rest = ap (left p) (front_text front rest f.within) in
+    omega (arith, k, x, y)
+
+pub told_refused : (text : List ℕ) (ls ms : List Leaf) (p : Place) (rest : List ℕ) (o : Option ReadFault) → IsReadTo text ls p rest → NoLeaf p rest → p ≢ Over → IsSome o → MatchOption o (AreLeaves ms × (spell_leaves ms ≡ text)) (λ (_ : ReadFault). NoLeaves text)
+told_refused text ls ms p rest None h n e i = absurd (both_ways false refl i)
+told_refused text ls ms p rest (Some x) h n e i = refused text ls p rest h n e

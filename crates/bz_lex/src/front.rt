@@ -1,4 +1,4 @@
-ghost use Rattle.std.specs.Prelude.{◌≡◌, ◌≤◌, length, drop, MatchResult, true, false, nat_eq, ◌||◌};
+ghost use Rattle.std.specs.Prelude.{◌≡◌, ◌≤◌, length, drop, MatchResult, nat_eq, ◌||◌, IfErr, true, false};
 ghost use Rattle.bz_token.specs.Tokens.{NoToken, TokenAt};
 ghost use Rattle.bz_lex.specs.Fronts.{IsGapFront, TellsFront};
 ghost use Rattle.bz_lex.specs.Gaps.{is_flush};
@@ -32,7 +32,9 @@ pub struct Stop {
 }
 
 impl Stop {
-    fn new(reason: Reason, at: usize) -> Stop {
+    fn new(reason: Reason, at: usize) -> Stop
+        ensures { result ≡ record { reason = reason; at = at } }
+    {
         Stop { reason, at }
     }
 }
@@ -47,7 +49,8 @@ pub enum Reason {
 
 /// The leaf at the front of a text that begins at this place.
 pub fn leaf_front(text: &[u8], place: Place) -> Result<Front, Stop>
-    ensures { TellsFront place text.now result }
+    ensures told { TellsFront place text.now result }
+    ensures within { IfErr result (λ stop. stop.at ≤ length text.now) }
 {
     let gap = gap_front(text, place.newlines());
     match gap.state {
@@ -73,7 +76,8 @@ pub fn leaf_front(text: &[u8], place: Place) -> Result<Front, Stop>
 /// Before the first token of a line, or the end.
 fn fresh(text: &[u8], gap: GapFront) -> Result<Front, Stop>
     requires { IsGapFront true gap text.now }
-    ensures { TellsFront Place.Fresh text.now result }
+    ensures told { TellsFront Place.Fresh text.now result }
+    ensures within { IfErr result (λ stop. stop.at ≤ length text.now) }
 {
     if gap.length == text.len() {
         return Ok(Front::new(Class::End, gap.length, 0));
@@ -89,7 +93,8 @@ fn fresh(text: &[u8], gap: GapFront) -> Result<Front, Stop>
 /// Behind a token of a line: a token, a newline, or the newline that is no byte.
 fn behind(text: &[u8], gap: GapFront) -> Result<Front, Stop>
     requires { IsGapFront false gap text.now }
-    ensures { TellsFront Place.Behind text.now result }
+    ensures told { TellsFront Place.Behind text.now result }
+    ensures within { IfErr result (λ stop. stop.at ≤ length text.now) }
 {
     match at(text, gap.length).copied() {
         None => Ok(Front::new(Class::Newline, gap.length, 0)),
@@ -101,7 +106,8 @@ fn behind(text: &[u8], gap: GapFront) -> Result<Front, Stop>
 /// Inside brackets: a token.
 fn inside(text: &[u8], gap: GapFront, depth: usize) -> Result<Front, Stop>
     requires { IsGapFront true gap text.now }
-    ensures { TellsFront (Place.Inside depth) text.now result }
+    ensures told { TellsFront (Place.Inside depth) text.now result }
+    ensures within { IfErr result (λ stop. stop.at ≤ length text.now) }
 {
     if gap.length == text.len() {
         return Err(Stop::new(Reason::Unexpected, gap.length));
@@ -111,7 +117,8 @@ fn inside(text: &[u8], gap: GapFront, depth: usize) -> Result<Front, Stop>
 
 /// Behind the newline that is no byte: the end.
 fn last(text: &[u8]) -> Result<Front, Stop>
-    ensures { TellsFront Place.Last text.now result }
+    ensures told { TellsFront Place.Last text.now result }
+    ensures within { IfErr result (λ stop. stop.at ≤ length text.now) }
 {
     if text.is_empty() {
         Ok(Front::new(Class::End, 0, 0))
@@ -123,7 +130,8 @@ fn last(text: &[u8]) -> Result<Front, Stop>
 /// The token behind a gap.
 fn token_front(text: &[u8], gap: usize) -> Result<Front, Stop>
     requires { gap ≤ length text.now }
-    ensures { MatchResult result (λ front. (front.gap ≡ gap) × TokenAt front.class front.token (drop gap text.now)) (λ _. NoToken (drop gap text.now)) }
+    ensures told { MatchResult result (λ front. (front.gap ≡ gap) × TokenAt front.class front.token (drop gap text.now)) (λ _. NoToken (drop gap text.now)) }
+    ensures within { IfErr result (λ stop. stop.at ≤ length text.now) }
 {
     let behind = &text[gap..];
     match token(behind) {

@@ -1,4 +1,4 @@
-ghost use Rattle.std.specs.Prelude.{◌≡◌, ◌<◌, ◌^◌};
+ghost use Rattle.std.specs.Prelude.{◌≡◌, ◌<◌, ◌^◌, ◌↔◌, IsTrue};
 ghost use Rattle.bz_lex.specs.Places.{behind, is_closing, is_opening, deeper, same_depth, shallower, open_brackets, newlines_at};
 
 use bz_token::Class;
@@ -19,6 +19,13 @@ pub enum Place {
 }
 
 impl Place {
+    /// Whether the end was read.
+    pub fn is_over(self) -> bool
+        ensures { IsTrue result ↔ (self ≡ Place.Over) }
+    {
+        matches!(self, Place::Over)
+    }
+
     /// The place behind a token of this class.
     pub fn behind(self, class: Class, token: &[u8]) -> Place
         requires { open_brackets self < 2 ^ 64 }

@@ -10,7 +10,10 @@ pub fn place_of(text: &[u8], offset: usize) -> (u32, u32)
 {
     let before = &text[..offset];
     let newlines = before.iter().filter(|byte| **byte == b'\n').count();
-    (one_more(newlines), one_more(characters_behind_newline(before)))
+    (
+        one_more(newlines),
+        one_more(characters_behind_newline(before)),
+    )
 }
 
 /// How many characters stand behind the last newline.
