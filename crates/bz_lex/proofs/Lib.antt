@@ -3,4 +3,5 @@ pub mod Tokens
 pub mod Forms
 pub mod Unique
 pub mod Fronts
+pub mod Characters
 pub mod Lists
