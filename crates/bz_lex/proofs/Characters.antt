@@ -179,8 +179,8 @@ token_cut s g t r k u e h = by_end (token_end k t r h)
   where
     by_end : EndsInAscii t ⊎ ((b : ℕ) (u : List ℕ) → r ≡ b ∷ u → 128 ≤ b → 192 ≤ b) → IsCharBoundary s (length g + length t)
     by_end (inl a) = subst (IsCharBoundary s) (length-append g t) (cut s (g ++ t) r u (e ∙ sym (append_assoc g t r)) (inr (behind_text g t a)))
-    by_end (inr f) =
-        (let n : length s ≡ length g + (length t + length r) = simp length-append at (ap length e) in omega arith,
-        λ lt high. let i : get_or s (length g + length t) 0 ≡ get_or r 0 0 = rw (e, sym (append_assoc g t r), sym (length-append g t)) (seam (g ++ t) r) in
-        rw i (starts r f (let n : length s ≡ length g + (length t + length r) = simp length-append at (ap length e) in omega arith) (rw i at high)))
-
+    by_end (inr f) = (
+      let n : length s ≡ length g + (length t + length r) = simp length-append at (ap length e) in omega arith,
+      λ lt high. let i : get_or s (length g + length t) 0 ≡ get_or r 0 0 = rw (e, sym (append_assoc g t r), sym (length-append g t)) (seam (g ++ t) r) in
+          rw i (starts r f (let n : length s ≡ length g + (length t + length r) = simp length-append at (ap length e) in omega arith) (rw i at high)),
+    )

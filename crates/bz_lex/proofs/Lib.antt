@@ -5,3 +5,4 @@ pub mod Unique
 pub mod Fronts
 pub mod Characters
 pub mod Lists
+pub mod Lexing

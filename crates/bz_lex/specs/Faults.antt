@@ -13,3 +13,10 @@ fault_number (v.Indented line column) = 5
 fault_number (v.Unexpected line column) = 6
 fault_number (v.TooDeep line column) = 7
 fault_number v.Memory = 8
+
+-- the faults of lexemes alone, and of memory
+abbrev pub is_lexical : ReadFault → Bool
+is_lexical (v.BadCharacter line column) = true
+is_lexical (v.OpenString line column) = true
+is_lexical v.Memory = true
+is_lexical _ = false
