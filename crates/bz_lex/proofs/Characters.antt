@@ -138,14 +138,17 @@ letters_more s b h i (three p q e l) = three p q e (letters_more _ b h i l)
 high_byte : (b : ℕ) → 128 ≤ b → is_high b ≡ true
 high_byte b h = le-leb 128 b h
 
+word_more : (t : List ℕ) (b : ℕ) → is_high b ≡ true → eqb b 239 ≡ false → IsWord t → IsWord (t ++ (b ∷ []))
+word_more [] b h i w = absurd w
+word_more (c ∷ t) b h i w = (w.0, letters_more (c ∷ t) b h i w.1)
+
 -- a name goes on with a byte that goes on with a character
 name_end : (t r : List ℕ) (b : ℕ) → IsToken Name t (b ∷ r) → 128 ≤ b → 192 ≤ b
 name_end t r b h k = elim (cases_lt b 192) [
   | inr le ↦ le
   | inl lt ↦
       let off : eqb b 239 ≡ false = ne_eqb b 239 (λ e. omega arith) in
-      let w = h.lexeme.0 in
-      let word : IsWord (t ++ (b ∷ [])) = (w.0, w.1 ++ (b ∷ []), ap (λ (u : List ℕ). u ++ (b ∷ [])) w.2, w.3, letters_more t b (high_byte b k) off w.4) in
+      let word : IsWord (t ++ (b ∷ [])) = word_more t b (high_byte b k) off h.lexeme.0 in
       let low : is_keyword (t ++ (b ∷ [])) ≡ true → b < 128 = λ e. ltb-true b 128 (and_parts (ltb b 128) true (and_parts (is_ascii t) (ltb b 128 && true) (sym (list_all-append (λ c. ltb c 128) t (b ∷ [])) ∙ table_ascii (t ++ (b ∷ [])) keywords refl e)).1).0 in
       let plain : is_keyword (t ++ (b ∷ [])) ≡ false = false_from_ne_true (is_keyword (t ++ (b ∷ []))) (λ e. let l = low e in omega arith) in
       let m : length (t ++ (b ∷ [])) ≤ length t = h.longest Name (t ++ (b ∷ [])) r (append_assoc t (b ∷ []) r) (word, plain) in
