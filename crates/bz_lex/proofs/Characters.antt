@@ -1,18 +1,18 @@
 -- A text of characters may be cut behind each gap and each token.
-use Rattle.std.proofs.Common.{◌≡◌, ◌≢◌, ℕ, zero, suc, ◌+◌, ◌≤◌, ◌<◌, Bool, true, false, cond, eqb, leb, ltb, List, [], ◌∷◌, ◌++◌, ◌&&◌, ◌||◌, ◌⊎◌, inl, inr, bytes_eq, length, get_or, take, drop, refl, sym, ap, ◌∙◌, subst, arith, length-append, append_assoc, add-zero}
+use Rattle.std.proofs.Common.{◌≡◌, ℕ, ◌+◌, ◌≤◌, ◌<◌, Bool, true, false, eqb, leb, ltb, List, [], ◌∷◌, ◌++◌, ◌&&◌, ◌||◌, ◌⊎◌, inl, inr, bytes_eq, length, get_or, refl, sym, ap, ◌∙◌, subst, arith, length-append, append_assoc, add-zero}
 use Rattle.std.specs.List.{list_all}
 use Rattle.std.proofs.lemmas.List.{get_or-append-add}
 use Rattle.std.proofs.lemmas.List.Folds.{list_all-append}
 use Rattle.std.proofs.lemmas.Slice.Eq.{bytes_eq-Decides}
 use Rattle.std.proofs.Math.Seq.{get_or-append_seam}
-use Rattle.std.proofs.lemmas.Bool.{both_ways, cases_Bool, and_parts, or_cases, ltb-true, lt-ltb, le-leb, ne_eqb, cases_lt, or_left, or_right, false_from_ne_true}
+use Rattle.std.proofs.lemmas.Bool.{both_ways, and_parts, or_cases, ltb-true, lt-ltb, le-leb, ne_eqb, cases_lt, or_left, or_right, false_from_ne_true}
 use Rattle.std.proofs.lemmas.Bool.Decides.{nat_tests}
 use Rattle.std.proofs.lemmas.Str.{IsCharBoundary-start, IsCharBoundary-after_ascii}
 use Rattle.std.specs.Str.{IsUtf8, IsCharBoundary}
 use Rattle.bz_token.specs.declared.class.Class.{Class}
 use Rattle.bz_token.specs.declared.class.Class.TheVariants.{Name, Keyword, Number, String, Mark, Newline, End}
 use Rattle.bz_token.specs.Bytes.{is_blank, is_digit, is_octal, is_hexadecimal, is_x, is_o, is_e, is_sign, is_quote, is_high, is_letter}
-use Rattle.bz_token.specs.Lexemes.{IsLexeme, in_table, is_keyword, keywords, is_mark, marks, IsLetters, none, one, three, IsWord, Each, SomeOf, IsDigits, IsSigned, IsExponent, MayBeExponent, IsNumber, whole, hexadecimal, octal, pointed, point_first, scaled, IsQuoted, single, triple, IsString}
+use Rattle.bz_token.specs.Lexemes.{in_table, is_keyword, keywords, marks, IsLetters, none, one, three, IsWord, Each, SomeOf, IsExponent, MayBeExponent, IsNumber, whole, hexadecimal, octal, pointed, point_first, scaled, IsQuoted, single, triple}
 use Rattle.bz_token.specs.Tokens.{IsToken}
 use Rattle.bz_lex.proofs.Tokens.{begins}
 use Rattle.bz_lex.specs.Gaps.{IsGap, nothing, blank, escaped, escaped_return, unescaped, comment, last_comment}

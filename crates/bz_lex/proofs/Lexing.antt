@@ -1,5 +1,5 @@
 -- The tokens of a text without lines.
-use Rattle.std.proofs.Common.{◌≡◌, ◌≢◌, ℕ, zero, suc, ◌+◌, ◌-◌, ◌≤◌, ◌<◌, Bool, true, false, List, [], ◌∷◌, ◌++◌, ◌⊎◌, inl, inr, Option, Some, None, Result, Ok, Err, length, take, drop, slice_get, refl, sym, ap, ◌∙◌, subst, arith, append_assoc, length-append, length-drop}
+use Rattle.std.proofs.Common.{◌≡◌, ℕ, suc, ◌+◌, ◌-◌, ◌≤◌, ◌<◌, true, false, List, [], ◌∷◌, ◌++◌, ◌⊎◌, inl, inr, Some, length, take, drop, slice_get, refl, sym, ap, ◌∙◌, subst, arith, append_assoc, length-append, length-drop}
 use Rattle.std.proofs.lemmas.Bool.{both_ways}
 use Rattle.std.specs.Str.{IsUtf8, IsCharBoundary}
 use Rattle.std.proofs.Math.Seq.{take-length}
@@ -8,7 +8,7 @@ use Rattle.bz_token.specs.declared.class.Class.{Class}
 use Rattle.bz_token.specs.Tokens.{IsToken, NoToken, TokenAt}
 use Rattle.bz_lex.specs.declared.gap.GapFront.{GapFront}
 use Rattle.bz_lex.specs.declared.gap.GapState.{GapState}
-use Rattle.bz_lex.specs.declared.gap.GapState.TheVariants.{Open, Escape, EscapeReturn, Comment}
+use Rattle.bz_lex.specs.declared.gap.GapState.TheVariants.{Open}
 use Rattle.bz_lex.specs.declared.front.Front.{Front}
 use Rattle.bz_lex.specs.Gaps.{IsGap}
 use Rattle.bz_lex.specs.GapStates.{after, Stops, is_end}
@@ -19,7 +19,7 @@ use Rattle.bz_lex.proofs.Tokens.{one_token, token_stops, token_holds}
 use Rattle.bz_lex.proofs.Characters.{cut, gap_sealed, token_cut}
 use Rattle.bz_lex.proofs.Lists.{token_length}
 use Rattle.bz_lex.proofs.Forms.{closed_is}
-use Rattle.bz_lex.proofs.Fronts.{open_true, rest_some, TellsToken, token_within}
+use Rattle.bz_lex.proofs.Fronts.{open_true, rest_some, token_within}
 
 -- what stands behind the first gap of a text that has tokens: nothing, or a token
 abbrev Begun : GapState → List ℕ → Type 0

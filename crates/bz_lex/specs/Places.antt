@@ -1,7 +1,7 @@
 -- Where leaves stand, and which leaf may stand where.
-use Rattle.std.specs.Prelude.{◌≡◌, ℕ, zero, suc, Bool, true, false, List, [], ◌∷◌, ◌||◌, nat_eq, if◌then◌else◌}
+use Rattle.std.specs.Prelude.{◌≡◌, ℕ, suc, Bool, true, false, List, [], ◌∷◌, ◌||◌, nat_eq, if◌then◌else◌}
 use Rattle.bz_token.specs.declared.class.Class.{Class}
-use Rattle.bz_token.specs.declared.class.Class.TheVariants.{Name, Keyword, Number, String, Mark, Newline, End}
+use Rattle.bz_token.specs.declared.class.Class.TheVariants.{Mark, Newline, End}
 use Rattle.bz_lex.specs.declared.leaf.Leaf.{Leaf}
 use Rattle.bz_lex.specs.Gaps.{IsGap, is_flush}
 pub use Rattle.bz_lex.specs.declared.place.Place.{Place}

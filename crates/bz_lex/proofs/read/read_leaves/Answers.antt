@@ -1,4 +1,4 @@
-use Rattle.std.proofs.Common.{refl, sym, ◌∙◌, ap, subst}
+use Rattle.std.proofs.Common.{refl, ◌∙◌, ap}
 use Rattle.std.proofs.lemmas.Bool.{both_ways}
 use Rattle.bz_lex.specs.Places.{behind}
 use Rattle.bz_lex.proofs.Lists.{told_refused, more, less, finished}
