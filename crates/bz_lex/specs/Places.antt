@@ -22,20 +22,22 @@ abbrev pub is_closing : List ℕ → Bool
 is_closing (byte ∷ []) = nat_eq byte 41 || (nat_eq byte 93 || nat_eq byte 125)
 is_closing _ = false
 
--- behind a token that is neither bracket nor end of a line
+-- behind a token of a line that is no bracket
 abbrev pub same_depth : Place → Place
 same_depth (Inside depth) = Inside depth
 same_depth _ = Behind
 
+-- behind an opening bracket
 abbrev pub deeper : Place → Place
 deeper (Inside depth) = Inside (suc depth)
 deeper _ = Inside 0
 
--- (a closing bracket outside brackets leaves the depth as it is: which bracket may stand where is the grammar's matter)
+-- behind a closing bracket; outside brackets none is legal, which the grammar says
 abbrev pub shallower : Place → Place
 shallower (Inside (suc depth)) = Inside depth
 shallower _ = Behind
 
+-- behind a newline, or behind the one that is no byte
 abbrev pub behind_newline : List ℕ → Place
 behind_newline [] = Last
 behind_newline _ = Fresh
@@ -47,6 +49,7 @@ behind Newline token place = behind_newline token
 behind End token place = Over
 behind _ token place = same_depth place
 
+-- the place behind a leaf
 abbrev pub next : Place → Leaf → Place
 next place leaf = behind leaf.class leaf.token place
 
