@@ -1,0 +1,60 @@
+-- A text of characters may be cut behind each gap and each token.
+use Rattle.std.proofs.Common.{◌≡◌, ℕ, ◌+◌, ◌≤◌, ◌<◌, Bool, true, false, List, [], ◌∷◌, ◌++◌, ◌⊎◌, inl, inr, length, get_or, take, drop, refl, sym, ap, ◌∙◌, subst, arith, length-append, length-drop, append_assoc}
+use Rattle.std.proofs.Math.Seq.{get_or-append_seam}
+use Rattle.std.proofs.lemmas.Bool.{both_ways}
+use Rattle.std.proofs.lemmas.Bool.Decides.{nat_tests}
+use Rattle.std.proofs.lemmas.List.{take-append-drop, length-take-le}
+use Rattle.std.proofs.lemmas.Str.{IsCharBoundary-start, IsCharBoundary-after_ascii, IsCharBoundary-from_rest, IsUtf8-drop}
+use Rattle.std.specs.Str.{IsUtf8, IsCharBoundary}
+use Rattle.bz_token.specs.Bytes.{is_blank}
+use Rattle.bz_token.proofs.Boundaries.{boundary_at}
+use Rattle.bz_lex.specs.declared.front.Front.{Front}
+use Rattle.bz_lex.specs.Gaps.{IsGap, nothing, blank, escaped, escaped_return, unescaped, comment, last_comment}
+use Rattle.bz_lex.specs.Fronts.{IsLexemeFront}
+
+-- the text's last byte is ASCII
+abbrev EndsInAscii : List ℕ → Type 0
+EndsInAscii s = (f : List ℕ) × (b : ℕ) × (s ≡ f ++ (b ∷ [])) × (b < 128)
+
+abbrev IsSealed : List ℕ → Type 0
+IsSealed s = (s ≡ []) ⊎ EndsInAscii s
+
+behind_text : (w r : List ℕ) → EndsInAscii r → EndsInAscii (w ++ r)
+behind_text w r (f, b, e, h) = (w ++ f, b, ap (λ (t : List ℕ). w ++ t) e ∙ sym (append_assoc w f (b ∷ [])), h)
+
+behind_byte : (b : ℕ) (r : List ℕ) → b < 128 → IsSealed r → EndsInAscii (b ∷ r)
+behind_byte b r h (inl e) = ([], b, ap (λ (t : List ℕ). b ∷ t) e, h)
+behind_byte b r h (inr k) = behind_text (b ∷ []) r k
+
+blank_ascii : (b : ℕ) → is_blank b ≡ true → b < 128
+blank_ascii b h = grind (arith, nat_tests)
+
+gap_sealed : (s : List ℕ) → IsGap true false s → IsSealed s
+gap_sealed s (nothing e) = inl e
+gap_sealed s (blank b r e i g) = inr (rw e (behind_byte b r (blank_ascii b i) (gap_sealed r g)))
+gap_sealed s (escaped r e g) = inr (rw e (behind_text (92 ∷ []) (10 ∷ r) (behind_byte 10 r (omega arith) (gap_sealed r g))))
+gap_sealed s (escaped_return r e g) = inr (rw e (behind_text (92 ∷ 13 ∷ []) (10 ∷ r) (behind_byte 10 r (omega arith) (gap_sealed r g))))
+gap_sealed s (unescaped r e i g) = inr (rw e (behind_byte 10 r (omega arith) (gap_sealed r g)))
+gap_sealed s (comment w r e o i g) = inr (rw e (behind_text (35 ∷ w) (10 ∷ r) (behind_byte 10 r (omega arith) (gap_sealed r g))))
+gap_sealed s (last_comment w e o i) = absurd (both_ways false refl i)
+
+-- where a text whose front is sealed may be cut
+cut : (s a b : List ℕ) → IsUtf8 s → s ≡ a ++ b → IsSealed a → IsCharBoundary s (length a)
+cut s a b u e (inl i) = rw i (IsCharBoundary-start s u)
+cut s a b u e (inr (f, c, i, h)) =
+    let n : length a ≡ length f + 1 = rw i (length-append f (c ∷ [])) in
+    let k : length f < length s = let m : length s ≡ length a + length b = ap length e ∙ length-append a b in omega arith in
+    let l : get_or s (length f) 0 ≡ c = rw (e, i, append_assoc f (c ∷ []) b) (get_or-append_seam f c b 0) in
+    subst (IsCharBoundary s) (sym n) (IsCharBoundary-after_ascii s (length f) u k (rw l h))
+
+-- a text of characters may be cut behind the gap of a token, and behind the token
+pub gap_cut : (s : List ℕ) (front : Front) → IsUtf8 s → IsLexemeFront front s → IsCharBoundary s front.gap
+gap_cut s front u f =
+    subst (IsCharBoundary s) (length-take-le front.gap s (let w = f.within in omega arith))
+    (cut s (take front.gap s) (drop front.gap s) u (sym (take-append-drop front.gap s)) (gap_sealed (take front.gap s) f.gap))
+
+pub end_cut : (s : List ℕ) (front : Front) → IsUtf8 s → IsLexemeFront front s → IsCharBoundary s (front.gap + front.token)
+end_cut s front u f =
+    let w = f.within in
+    let n : front.token ≤ length (drop front.gap s) = simp length-drop (omega arith) in
+    IsCharBoundary-from_rest s front.gap front.token (omega arith) (boundary_at front.class front.token (drop front.gap s) (n, f.token) (IsUtf8-drop s front.gap u (gap_cut s front u f)))
