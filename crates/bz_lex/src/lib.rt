@@ -2,6 +2,7 @@
 #![tactic(auto)]
 
 mod fault;
+mod gap;
 mod leaf;
 mod place;
 
