@@ -1,2 +1,6 @@
 pub mod Nested
 pub mod Spells
+pub mod Terminals
+pub mod Exact
+pub mod Shapes
+pub mod Trees

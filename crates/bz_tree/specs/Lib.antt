@@ -3,3 +3,5 @@ pub mod Kinds
 pub mod Spell
 pub mod Shapes
 pub mod Legal
+pub mod Reading
+pub mod Words

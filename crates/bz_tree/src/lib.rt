@@ -2,9 +2,12 @@
 #![tactic(auto)]
 
 mod kind;
+mod parse;
 mod same;
+mod token;
 mod tree;
 
 pub use bz_lex::{Class, Leaf, ReadFault};
 pub use kind::Kind;
+pub use token::{Halt, Leaves, Token};
 pub use tree::{Node, Part, Tree};
