@@ -1,5 +1,5 @@
 -- A part as if `Node` held a plain list of parts: induction, and how a function by rows goes at `Node`.
-use Rattle.std.proofs.Common.{ℕ, List, [], ◌∷◌, ◌≡◌, refl, map, subst, sym, ap, ◌∙◌}
+use Rattle.std.proofs.Common.{ℕ, List, [], ◌∷◌, ◌≡◌, refl, map, subst, sym, ap, ◌∙◌, ◌⊎◌, inl, inr}
 use Rattle.std.specs.List.{AllByRecursion}
 use mathlib.Core.Former.{Count}
 use Rattle.bz_tree.specs.declared.tree.Node.{Node}
@@ -35,3 +35,7 @@ module _ (P : Part → Type 0) (leaf : (l : Leaf) → P (p.Leaf l)) (node : (n :
 
   pub part_ind : (x : Part) → P x
   part_ind = ind-Part P Q (λ x y is. subst (λ z. P (v.roll-Part z)) is (at_open y)) (λ x y is. subst (λ z. AllByRecursion P z.parts) is (each_such y.parts))
+
+-- a part is a leaf or a node
+pub leaf_or_node : (x : Part) → ((l : Leaf) × (x ≡ p.Leaf l)) ⊎ ((n : Node) × (x ≡ p.Node n))
+leaf_or_node = part_ind (λ x. ((l : Leaf) × (x ≡ p.Leaf l)) ⊎ ((n : Node) × (x ≡ p.Node n))) (λ l. inl (l, refl)) (λ n h. inr (n, refl))
