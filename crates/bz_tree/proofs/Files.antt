@@ -12,7 +12,7 @@ use Rattle.bz_tree.specs.declared.tree.Part.{Part}
 use Rattle.bz_tree.specs.declared.tree.Part.TheVariants as v
 use Rattle.bz_tree.specs.Spell.{leaves_part, leaves_of, depth_part, depth_of}
 use Rattle.bz_tree.specs.Shapes.{Terminal, is_one_of, has_sort, has_kind, Sort, line, statement, expression, argument, value, element, leaves_at, kinds_at, Shape, done, tok, each, Fits, shape, end}
-use Rattle.bz_tree.specs.Reading.{◌>>=◌, Read, starts_with, starts, first, run, wrap, token, node_or, reading, if_all, read_file}
+use Rattle.bz_tree.specs.Reading.{◌>>=◌, Read, starts_with, starts, first, run, wrap, token, node_or, reading, file_of, read_file}
 use Rattle.bz_tree.specs.Legal.{IsSort, LegalPart, LegalShapes}
 use Rattle.bz_tree.proofs.Nested.{leaf_or_node}
 use Rattle.bz_tree.proofs.Numbers.{same_kind}
@@ -262,21 +262,18 @@ reading_exact (suc d) q =
 abbrev pub FileOf : Node → Type 0
 FileOf n = (n.kind ≡ k.File) × LegalShapes n × (depth_of n ≤ 200)
 
-if_all_some : (x : List Part × List Leaf) (n : Node) → if_all x ≡ Some n → (n ≡ record { kind = k.File; parts = x.0 }) × (x.1 ≡ [])
-if_all_some x n e = go_on x.1 refl
-  where
-    go_on : (ts : List Leaf) → x.1 ≡ ts → (n ≡ record { kind = k.File; parts = x.0 }) × (x.1 ≡ [])
-    go_on [] r = (sym (same_Some (record { kind = k.File; parts = x.0 }) n (rw r at e)), r)
-    go_on (t ∷ ts) r = let w : None ≡ Some n = rw r at e in absurd cc
+file_of_some : (parts : List Part) (ts : List Leaf) (n : Node) → file_of parts ts ≡ Some n → (n ≡ record { kind = k.File; parts = parts }) × (ts ≡ [])
+file_of_some parts [] n e = (sym (same_Some (record { kind = k.File; parts = parts }) n e), refl)
+file_of_some parts (t ∷ ts) n e = absurd cc
 
 file_shape : Exact (List Part) all_leaves (Fits (At 199) (shape k.File)) (go goes (shape k.File)) (run (reading 199) (shape k.File))
 file_shape = run_exact (At 199) (begins 199) goes (reading 199) (reading_exact 199) (shape k.File) refl
 
 pub read_sound : (ts : List Leaf) (n : Node) → read_file ts ≡ Some n → FileOf n × (ts ≡ leaves_of n)
 read_sound ts n e =
-    let a = bind_some (run (reading 199) (shape k.File) ts) if_all n e in
+    let a = bind_some (run (reading 199) (shape k.File) ts) (λ x. file_of x.0 x.1) n e in
     let f = file_shape.sound ts a.0 a.1 in
-    let i = if_all_some a.0 n a.2 in
+    let i = file_of_some a.0.0 a.0.1 n a.2 in
     let w = split 199 (shape k.File) a.0.0 f.0 in
     rw i.0 ((refl, (w.0, w.1), omega (arith, w.2)), f.1 ∙ rw i.1 (append-nil (all_leaves a.0.0)))
 

@@ -6,3 +6,5 @@ pub mod Exact
 pub mod Shapes
 pub mod Trees
 pub mod Files
+pub mod Steps
+pub mod Parses

@@ -89,9 +89,11 @@ abbrev pub reading : ℕ → Sort → Read Part
 reading zero q ts = token (leaves_at q) ts
 reading (suc depth) q ts = node_or (kinds_at q) (reading depth) (token (leaves_at q)) ts
 
--- all leaves, as the parts of a file of a depth of at most 200
-abbrev pub if_all : List Part × List Leaf → Option Node
-if_all x = elim (x.1) [ [] ↦ Some (record { kind = k.File; parts = x.0 }) | t ∷ ts ↦ None ]
+-- a file of these parts, where no leaf is left
+abbrev pub file_of : List Part → List Leaf → Option Node
+file_of parts [] = Some (record { kind = k.File; parts = parts })
+file_of parts (t ∷ ts) = None
 
+-- all leaves, as a file of a depth of at most 200
 abbrev pub read_file : List Leaf → Option Node
-read_file ts = run (reading 199) (shape k.File) ts >>= if_all
+read_file ts = run (reading 199) (shape k.File) ts >>= λ x. file_of x.0 x.1

@@ -11,7 +11,7 @@ use Rattle.bz_tree.specs.declared.token.Token.TheVariants as t
 use Rattle.bz_tree.specs.declared.token.Halt.{Halt}
 use Rattle.bz_tree.specs.declared.token.Halt.TheVariants as h
 use Rattle.bz_tree.specs.Shapes.{Terminal, is_one_of, Sort, line, statement, expression, argument, value, element, Shape, items, shape, name, string, newline, end, open_round, close_round, comma, equals, open_square, close_square}
-use Rattle.bz_tree.specs.Reading.{◌>>=◌, Read, starts_with, put, token, run, reading}
+use Rattle.bz_tree.specs.Reading.{◌>>=◌, Read, starts_with, put, token, run, reading, file_of}
 
 abbrev pub terminals_of : Token → List Terminal
 terminals_of t.Name = name
@@ -45,8 +45,11 @@ token_at terminals ts = token terminals ts
 unfoldable pub items_at : ℕ → Sort → List Terminal → Read (List Part)
 items_at depth sort close ts = run (reading depth) (items sort close) ts
 
-unfoldable pub element_at : Read Part
-element_at ts = token_at string ts
+-- the one closing token
+unfoldable pub closed_at : List Terminal → Read (List Part)
+closed_at terminals ts = do
+  close ← token_at terminals ts
+  Some (close.0 ∷ [], close.1)
 
 unfoldable pub list_at : Read Part
 list_at ts = do
@@ -76,6 +79,15 @@ line_at ts = do
   call ← call_at ts
   close ← token_at newline call.1
   Some (node k.Line (node k.Bare (call.0 ∷ []) ∷ close.0 ∷ []), close.1)
+
+-- lines, and the end
+unfoldable pub lines_at : Read (List Part)
+lines_at ts = run (reading 199) (shape k.File) ts
+
+unfoldable pub file_at : List Leaf → Option Node
+file_at ts = do
+  parts ← lines_at ts
+  file_of parts.0 parts.1
 
 -- what was read before, and what is still read
 abbrev pub with_front : List Part → Option (List Part × List Leaf) → Option (List Part × List Leaf)

@@ -1,4 +1,4 @@
-ghost use Rattle.std.specs.Prelude.{◌≡◌, ◌∷◌, [], Some, None, IfOk};
+ghost use Rattle.std.specs.Prelude.{◌≡◌, ◌↔◌, ◌∷◌, [], Some, None, IfOk, IsTrue};
 ghost use Rattle.bz_token.specs.declared.class.Class.TheVariants as c;
 ghost use Rattle.bz_tree.specs.Shapes.{this, is_class, is_terminal, is_one_of};
 ghost use Rattle.bz_tree.specs.Reading.{starts_with};
@@ -115,6 +115,12 @@ impl Leaves {
         Leaves {
             rest: VecDeque::from_vec(leaves),
         }
+    }
+
+    pub fn is_empty(&self) -> bool
+        ensures { IsTrue result ↔ (self.now ≡ []) }
+    {
+        self.rest.is_empty()
     }
 
     /// Whether the next leaf is this token.
