@@ -1,1 +1,6 @@
 pub mod Gaps
+pub mod Tokens
+pub mod Forms
+pub mod Unique
+pub mod Fronts
+pub mod Lists
