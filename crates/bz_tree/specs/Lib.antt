@@ -5,3 +5,4 @@ pub mod Shapes
 pub mod Legal
 pub mod Reading
 pub mod Words
+pub mod Plain

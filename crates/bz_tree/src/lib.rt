@@ -1,13 +1,13 @@
 //! Trees of BUILD files: kinds, shapes, legal trees, and the one legal tree that spells a text.
 #![tactic(auto)]
 
+mod grammar;
 mod kind;
-mod parse;
+mod plain;
 mod same;
 mod token;
 mod tree;
 
 pub use bz_lex::{Class, Leaf, ReadFault};
 pub use kind::Kind;
-pub use token::{Halt, Leaves, Token};
 pub use tree::{Node, Part, Tree};

@@ -91,10 +91,11 @@ impl Token {
     }
 }
 
-/// The leaves that are not in the tree yet.
+/// The leaves that are not in the tree yet, and how many bytes those in front of them spell.
 #[derive(Drop)]
 pub struct Leaves {
     rest: VecDeque<Leaf>,
+    offset: usize,
 }
 
 impl Model for Leaves {
@@ -114,6 +115,7 @@ impl Leaves {
     {
         Leaves {
             rest: VecDeque::from_vec(leaves),
+            offset: 0,
         }
     }
 
@@ -133,6 +135,11 @@ impl Leaves {
         }
     }
 
+    /// The byte at which the token of the next leaf begins.
+    pub fn next_at(&self) -> Option<usize> {
+        self.rest.front().map(|leaf| self.offset.saturating_add(leaf.gap.len()))
+    }
+
     /// The next leaf, where it is this token.
     #[tactic(auto, unfolding(crate::specs::Words::token_at))]
     pub fn take(&mut self, token: Token) -> Result<Part, Halt>
@@ -143,7 +150,11 @@ impl Leaves {
             return Err(Halt::Unexpected);
         }
         match self.rest.pop_front() {
-            Some(leaf) => Ok(Part::Leaf(leaf)),
+            Some(leaf) => {
+                let length = leaf.gap.len().saturating_add(leaf.token.len());
+                self.offset = self.offset.saturating_add(length);
+                Ok(Part::Leaf(leaf))
+            }
             None => Err(Halt::Unexpected),
         }
     }

@@ -3,7 +3,7 @@ use Rattle.std.proofs.lemmas.Result.{err_from_is_err_and}
 use Rattle.bz_tree.specs.Words.{lines_at, closed_at}
 use Rattle.bz_tree.proofs.Steps.{halts, fails}
 use Rattle.bz_tree.proofs.Parses.{no_line, more_lines, lines_end, line_shorter, front_none_all}
-use Rattle.bz_tree.proofs.parse.lines.Goals as goal
+use Rattle.bz_tree.proofs.grammar.lines.Goals as goal
 
 pub returns-in_err-line-clause-err : goal.returns-in_err-line-clause-err
 returns-in_err-line-clause-err c =

@@ -4,7 +4,7 @@ use Rattle.bz_tree.specs.Shapes.{element, close_square, comma}
 use Rattle.bz_tree.specs.Words.{token_at, items_at, closed_at}
 use Rattle.bz_tree.proofs.Steps.{halts, fails, front_none_at, loop_no_item, loop_closes, loop_ends, loop_goes_on, shorter, starts_token}
 use Rattle.bz_tree.proofs.Parses.{element_is}
-use Rattle.bz_tree.proofs.parse.elements.Goals as goal
+use Rattle.bz_tree.proofs.grammar.elements.Goals as goal
 
 pub returns-in_err-take-clause-err : goal.returns-in_err-take-clause-err
 returns-in_err-take-clause-err c =
