@@ -8,3 +8,4 @@ pub mod Trees
 pub mod Files
 pub mod Steps
 pub mod Parses
+pub mod Accepts

@@ -6,3 +6,4 @@ pub mod Legal
 pub mod Reading
 pub mod Words
 pub mod Plain
+pub mod Faults

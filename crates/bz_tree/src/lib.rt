@@ -3,6 +3,7 @@
 
 mod grammar;
 mod kind;
+mod parsing;
 mod plain;
 mod same;
 mod token;
@@ -10,4 +11,5 @@ mod tree;
 
 pub use bz_lex::{Class, Leaf, ReadFault};
 pub use kind::Kind;
+pub use parsing::parse;
 pub use tree::{Node, Part, Tree};
