@@ -7,3 +7,4 @@ pub mod Reading
 pub mod Words
 pub mod Plain
 pub mod Faults
+pub mod Laws

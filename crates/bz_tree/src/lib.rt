@@ -3,6 +3,7 @@
 
 mod grammar;
 mod kind;
+pub mod laws;
 mod parsing;
 mod plain;
 mod same;
