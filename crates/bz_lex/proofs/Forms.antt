@@ -43,7 +43,7 @@ pub record Ended (n : Bool) (q : GapState) (g b : List ℕ) : Type 0 where
   pub taken : after n Open g ≡ Some q
   pub stops : Stops n q b
 
-closed_is : (q : GapState) → is_end false q ≡ true → q ≡ Open
+pub closed_is : (q : GapState) → is_end false q ≡ true → q ≡ Open
 closed_is Open h = refl
 closed_is Escape h = absurd (both_ways false refl h)
 closed_is EscapeReturn h = absurd (both_ways false refl h)

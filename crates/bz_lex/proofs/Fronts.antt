@@ -36,7 +36,7 @@ two_ways true q r e = cc
 two_ways false q r e = cc
 
 -- before a byte that no gap goes on with, a gap that may end ends between two pieces
-open_true : (q : GapState) (c : ℕ) (r : List ℕ) → Stops true q (c ∷ r) → is_end true q ≡ true → q ≡ Open
+pub open_true : (q : GapState) (c : ℕ) (r : List ℕ) → Stops true q (c ∷ r) → is_end true q ≡ true → q ≡ Open
 open_true Open c r h e = refl
 open_true Escape c r h e = absurd (both_ways false refl e)
 open_true EscapeReturn c r h e = absurd (both_ways false refl e)
@@ -67,7 +67,7 @@ form_ends Last q l t h = h.1.ends
 form_ends Over q l t h = absurd h
 
 -- no leaf behind a gap that breaks off
-pub broken_gap : (p : Place) (q : GapState) (n : ℕ) (s : List ℕ) → after (newlines_at p) Open (take n s) ≡ Some q → Stops (newlines_at p) q (drop n s) → is_end true q ≡ false → NoLeaf p s
+broken_gap : (p : Place) (q : GapState) (n : ℕ) (s : List ℕ) → after (newlines_at p) Open (take n s) ≡ Some q → Stops (newlines_at p) q (drop n s) → is_end true q ≡ false → NoLeaf p s
 broken_gap p q n s e h b = no_leaf p q n s e h (λ l t f g i. both_ways (is_end true q) b (form_ends p q l t f))
 
 -- a leaf of the form at hand
@@ -80,7 +80,7 @@ TellsToken n s r = MatchResult r (λ (front : Front). (front.gap ≡ n) × Token
 token_of : (n : ℕ) (front : Front) (s : List ℕ) → front.gap ≡ n → TokenAt front.class front.token (drop n s) → IsToken front.class (front_leaf front s).token (behind_front front s)
 token_of n front s e t = rw e t.1
 
-token_within : (n : ℕ) (front : Front) (s : List ℕ) → n ≤ length s → front.gap ≡ n → TokenAt front.class front.token (drop n s) → front.gap + front.token ≤ length s
+pub token_within : (n : ℕ) (front : Front) (s : List ℕ) → n ≤ length s → front.gap ≡ n → TokenAt front.class front.token (drop n s) → front.gap + front.token ≤ length s
 token_within n front s w e t = let k : front.token ≤ length s - n = rw length-drop at t.0 in omega arith
 
 no_token : (p : Place) (gap : GapFront) (s : List ℕ) → IsGapFront (newlines_at p) gap s → ((l : Leaf) (t : List ℕ) → Form p gap.state l t → l.token ++ t ≡ drop gap.length s → IsToken l.class l.token t) → NoToken (drop gap.length s) → NoLeaf p s
@@ -176,8 +176,8 @@ pub refused : (p : Place) (s : List ℕ) (r : Result Front Stop) → IsErr r →
 refused p s (Ok x) i h = absurd (both_ways false refl i)
 refused p s (Err x) i h = h
 
-pub broken_escape : (p : Place) (m : Bool) (q r : GapState) (n : ℕ) (s : List ℕ) → m ≡ newlines_at p → q ≡ r → is_end true r ≡ false → after m Open (take n s) ≡ Some q → Stops m q (drop n s) → NoLeaf p s
-broken_escape p m q r n s i e b h k = broken_gap p q n s (rw i at h) (rw i at k) (rw e b)
+pub broken_front : (p : Place) (m : Bool) (gap : GapFront) (s : List ℕ) → m ≡ newlines_at p → is_end true gap.state ≡ false → after m Open (take gap.length s) ≡ Some gap.state → Stops m gap.state (drop gap.length s) → NoLeaf p s
+broken_front p m gap s i b h k = broken_gap p gap.state gap.length s (rw i at h) (rw i at k) b
 
 -- the byte right before what follows
 abbrev pub flush_at : Option ℕ → Bool

@@ -3,4 +3,6 @@ pub mod Tokens
 pub mod Forms
 pub mod Unique
 pub mod Fronts
+pub mod Characters
 pub mod Lists
+pub mod Lexing

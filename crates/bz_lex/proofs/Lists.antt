@@ -69,7 +69,7 @@ rank_below Over = omega arith
 abbrev pub left : Place → List ℕ → ℕ
 left p s = 2 * length s + rank p
 
-token_length : (k : Class) (t s : List ℕ) → IsToken k t s → 1 ≤ length t
+pub token_length : (k : Class) (t s : List ℕ) → IsToken k t s → 1 ≤ length t
 token_length k t s h = let w = begins k t s h in rw w.2 (omega arith)
 
 by_token : (p q : Place) (l : Leaf) (s : List ℕ) → rank p ≡ 2 → IsToken l.class l.token s → left q s < left p (l.gap ++ (l.token ++ s))

@@ -1,11 +1,12 @@
 -- The leaf at the front of a text.
-use Rattle.std.specs.Prelude.{◌≡◌, ◌≤◌, ◌+◌, ℕ, Bool, true, List, ◌++◌, length, take, drop, Result, Some, MatchResult}
+use Rattle.std.specs.Prelude.{◌≡◌, ◌≤◌, ◌+◌, ℕ, Bool, true, false, List, ◌++◌, length, take, drop, Result, Some, MatchResult}
 use Rattle.bz_lex.specs.declared.leaf.Leaf.{Leaf}
 use Rattle.bz_lex.specs.declared.gap.GapFront.{GapFront}
 use Rattle.bz_lex.specs.declared.gap.GapState.TheVariants.{Open}
 use Rattle.bz_lex.specs.declared.front.Front.{Front}
 use Rattle.bz_lex.specs.declared.front.Stop.{Stop}
 use Rattle.bz_token.specs.Tokens.{IsToken}
+use Rattle.bz_lex.specs.Gaps.{IsGap}
 use Rattle.bz_lex.specs.GapStates.{after, Stops, is_end}
 use Rattle.bz_lex.specs.Places.{Place, May}
 
@@ -17,8 +18,11 @@ pub record IsGapFront (newlines : Bool) (gap : GapFront) (text : List ℕ) : Typ
   pub ends : is_end true gap.state ≡ true
 
 -- the leaf of a class and two lengths, and the text behind it
+abbrev pub front_token : Front → List ℕ → List ℕ
+front_token front text = take front.token (drop front.gap text)
+
 abbrev pub front_leaf : Front → List ℕ → Leaf
-front_leaf front text = record { class = front.class; gap = take front.gap text; token = take front.token (drop front.gap text) }
+front_leaf front text = record { class = front.class; gap = take front.gap text; token = front_token front text }
 
 abbrev pub behind_front : Front → List ℕ → List ℕ
 behind_front front text = drop front.token (drop front.gap text)
@@ -34,3 +38,9 @@ NoLeaf place text = (leaf : Leaf) (rest : List ℕ) → May IsToken place leaf r
 
 abbrev pub TellsFront : Place → List ℕ → Result Front Stop → Type 0
 TellsFront place text result = MatchResult result (λ front. IsFront place front text) (λ _. NoLeaf place text)
+
+-- a token stands there behind a gap
+pub record IsLexemeFront (front : Front) (text : List ℕ) : Type 0 where
+  pub within : front.gap + front.token ≤ length text
+  pub gap : IsGap true false (take front.gap text)
+  pub token : IsToken front.class (front_token front text) (behind_front front text)

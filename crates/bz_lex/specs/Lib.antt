@@ -5,3 +5,5 @@ pub mod GapStates
 pub mod Laws
 pub mod Fronts
 pub mod Positions
+pub mod Faults
+pub mod Lexing

@@ -1,9 +1,10 @@
-ghost use Rattle.std.specs.Prelude.{◌≡◌, ◌≤◌, length, drop, MatchResult, nat_eq, ◌||◌, IfErr, true, false};
+ghost use Rattle.std.specs.Prelude.{◌≡◌, ◌≤◌, length, drop, MatchOption, MatchResult, nat_eq, ◌||◌, IfErr, true, false};
 ghost use Rattle.bz_token.specs.Tokens.{NoToken, TokenAt};
-ghost use Rattle.bz_lex.specs.Fronts.{IsGapFront, TellsFront};
-ghost use Rattle.bz_lex.specs.Gaps.{is_flush};
+ghost use Rattle.bz_lex.specs.Fronts.{IsGapFront, IsLexemeFront, TellsFront};
+ghost use Rattle.bz_lex.specs.Gaps.{IsGap, is_flush};
+ghost use Rattle.bz_lex.specs.Lexing.{NoLexemes};
 
-use crate::gap::{GapFront, GapState, gap_front};
+use crate::gap::{GapFront, gap_front};
 use crate::place::Place;
 use bz_items::at;
 use bz_token::{Class, token};
@@ -53,16 +54,8 @@ pub fn leaf_front(text: &[u8], place: Place) -> Result<Front, Stop>
     ensures within { IfErr result (λ stop. stop.at ≤ length text.now) }
 {
     let gap = gap_front(text, place.newlines());
-    match gap.state {
-        GapState::Escape => return Err(Stop::new(
-            Reason::BadCharacter,
-            gap.length.saturating_sub(1),
-        )),
-        GapState::EscapeReturn => return Err(Stop::new(
-            Reason::BadCharacter,
-            gap.length.saturating_sub(2),
-        )),
-        GapState::Open | GapState::Comment => (),
+    if let Some(at) = gap.broken_at() {
+        return Err(Stop::new(Reason::BadCharacter, at));
     }
     match place {
         Place::Fresh => fresh(text, gap),
@@ -127,6 +120,24 @@ fn last(text: &[u8]) -> Result<Front, Stop>
     }
 }
 
+/// The token at the front of a text without lines, behind its gap; `None` where a gap is all that is left.
+pub fn lexeme_front(text: &[u8]) -> Result<Option<Front>, Stop>
+    ensures told { MatchResult result (λ found. MatchOption found (IsGap true true text.now) (λ front. IsLexemeFront front text.now)) (λ _. NoLexemes text.now) }
+    ensures within { IfErr result (λ stop. stop.at ≤ length text.now) }
+{
+    let gap = gap_front(text, true);
+    if let Some(at) = gap.broken_at() {
+        return Err(Stop::new(Reason::BadCharacter, at));
+    }
+    if gap.length == text.len() {
+        return Ok(None);
+    }
+    match token_front(text, gap.length) {
+        Ok(front) => Ok(Some(front)),
+        Err(stop) => Err(stop),
+    }
+}
+
 /// The token behind a gap.
 fn token_front(text: &[u8], gap: usize) -> Result<Front, Stop>
     requires { gap ≤ length text.now }
@@ -148,6 +159,11 @@ fn begins_string(text: &[u8]) -> bool {
         _ => text,
     };
     matches!(quoted, [b'"' | b'\'', ..])
+}
+
+/// Whether a token is a string's prefix, read as a name.
+pub fn is_prefix(token: &[u8]) -> bool {
+    matches!(token, [b'r' | b'b'] | [b'r', b'b'] | [b'b', b'r'])
 }
 
 /// Whether the byte right before what follows is neither a space nor a tab.

@@ -1,6 +1,6 @@
-ghost use Rattle.std.specs.Prelude.{◌≡◌, ◌≤◌, length, take, drop};
+ghost use Rattle.std.specs.Prelude.{◌≡◌, ◌≤◌, length, take, drop, MatchOption, true, false};
 ghost use Rattle.bz_lex.specs.declared.gap.GapState.TheVariants.{Open};
-ghost use Rattle.bz_lex.specs.GapStates.{gap_move, after, Stops};
+ghost use Rattle.bz_lex.specs.GapStates.{gap_move, after, Stops, is_end};
 
 /// How far a gap has been read.
 #[derive(Clone, Copy)]
@@ -47,6 +47,19 @@ impl GapState {
 pub struct GapFront {
     pub length: usize,
     pub state: GapState,
+}
+
+impl GapFront {
+    /// Where the gap breaks off, if it does: at a backslash that is not right before a newline.
+    pub fn broken_at(self) -> Option<usize>
+        ensures { MatchOption result (is_end true self.state ≡ true) (λ at. (is_end true self.state ≡ false) × (at ≤ self.length)) }
+    {
+        match self.state {
+            GapState::Open | GapState::Comment => None,
+            GapState::Escape => Some(self.length.saturating_sub(1)),
+            GapState::EscapeReturn => Some(self.length.saturating_sub(2)),
+        }
+    }
 }
 
 /// Reads as much as a gap can go on with; `newlines` says whether unescaped newlines may stand in it.

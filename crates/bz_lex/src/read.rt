@@ -3,12 +3,11 @@ ghost use Rattle.bz_lex.specs.Fronts.{behind_front, front_leaf};
 ghost use Rattle.bz_lex.specs.Leaves.{AreLeaves, NoLeaves, spell_leaves};
 
 use crate::fault::ReadFault;
-use crate::front::{Front, Reason, Stop, leaf_front};
+use crate::front::{Front, Reason, Stop, is_prefix, leaf_front};
 use crate::leaf::Leaf;
 use crate::place::Place;
 use crate::position::place_of;
 use bz_items::{Items, Text};
-use bz_token::Class;
 use std::alloc::{AllocError, Global};
 
 /// The leaves of a text, up to the first fault where it has one.
@@ -91,17 +90,9 @@ fn refused(text: &[u8], from: usize, stop: Stop, mut leaves: Items<Leaf>) -> Rea
 /// prefix was read as a name, since the string is not closed; the fault stands at the prefix.
 fn take_prefix(leaves: &mut Items<Leaf>) -> usize {
     let length = match leaves.as_slice().last() {
-        Some(leaf) if is_prefix(leaf) => leaf.token.len(),
+        Some(leaf) if is_prefix(leaf.token.as_slice()) => leaf.token.len(),
         _ => return 0,
     };
     let _ = leaves.pop();
     length
-}
-
-fn is_prefix(leaf: &Leaf) -> bool {
-    matches!(leaf.class, Class::Name)
-        && matches!(
-            leaf.token.as_slice(),
-            [b'r' | b'b'] | [b'r', b'b'] | [b'b', b'r']
-        )
 }
