@@ -71,7 +71,10 @@ fn accepted_texts_are_spelled_back(rt: HostRuntime) -> Result<(), Fail> {
         let again = tree.copy()?;
         laws::one_tree(&tree, &again);
         let parts = again.root.parts.len();
-        assert_eq!(rt; common_front(tree.root.parts.as_slice(), again.root.parts.as_slice()), parts);
+        assert_eq!(rt;
+            common_front(tree.root.parts.as_slice(), again.root.parts.as_slice()),
+            parts
+        );
     }
     Ok(())
 }
@@ -92,10 +95,20 @@ fn bytes_that_are_no_text(rt: HostRuntime) -> Result<(), Fail> {
     for _ in 0..4194305 {
         large.push(b'\n')?;
     }
-    assert!(rt; matches!(parse(rt.alloc(), large.as_slice()), Err(ReadFault::TooLarge)));
+    assert!(rt;
+        matches!(
+            parse(rt.alloc(), large.as_slice()),
+            Err(ReadFault::TooLarge)
+        )
+    );
     let _last = large.pop();
     assert!(rt; parse(rt.alloc(), large.as_slice()).is_ok());
-    assert!(rt; matches!(parse(rt.alloc(), b"f(\xff)"), Err(ReadFault::NotUtf8 { at: 2 })));
+    assert!(rt;
+        matches!(
+            parse(rt.alloc(), b"f(\xff)"),
+            Err(ReadFault::NotUtf8 { at: 2 })
+        )
+    );
     Ok(())
 }
 

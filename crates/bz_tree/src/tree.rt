@@ -154,8 +154,11 @@ impl Model for Tree {
     ghost use Rattle.bz_tree.specs.Legal.{Legal};
 
     ghost Value = { Node };
+
     ghost coded = { Prim.hlevel (codes, e.the_row.coded, n.the_row.coded) };
+
     ghost view = { λ tree. tree.root };
+
     ghost invariant = { λ tree. Legal tree.root × (length (spell_node tree.root) ≤ limit) };
 }
 
