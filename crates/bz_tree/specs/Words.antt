@@ -1,4 +1,6 @@
 -- Reading as words that do not unfold by themselves: one for each function of the parser.
+-- Depths: a file has at most 200, so its lines have at most 199, their statements 198, the call 197, its arguments 196,
+-- their values 195, the elements of a list 194.
 use Rattle.std.specs.Prelude.{◌≡◌, ℕ, List, [], ◌∷◌, ◌++◌, Option, Some, None, Result, Ok, Err, if◌then◌else◌}
 use Rattle.bz_lex.specs.declared.leaf.Leaf.{Leaf}
 use Rattle.bz_tree.specs.declared.kind.Kind.{Kind}
