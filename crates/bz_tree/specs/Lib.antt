@@ -1,3 +1,10 @@
 pub mod Fronts
 pub mod Kinds
 pub mod Spell
+pub mod Shapes
+pub mod Legal
+pub mod Reading
+pub mod Words
+pub mod Plain
+pub mod Faults
+pub mod Laws
