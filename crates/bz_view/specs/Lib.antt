@@ -1,0 +1,4 @@
+pub mod Frames
+pub mod Gaps
+pub mod Proper
+pub mod View

@@ -1,0 +1,7 @@
+//! File values: what a BUILD file says, without its gaps, each comment at its host; and the view of a tree as one.
+#![tactic(auto)]
+
+mod copy;
+mod value;
+
+pub use value::{Comments, Expr, File, Form, Item, Token};
