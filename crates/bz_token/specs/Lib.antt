@@ -1,1 +1,5 @@
+pub mod Bytes
 pub mod Classes
+pub mod Lexemes
+pub mod Tokens
+pub mod Laws

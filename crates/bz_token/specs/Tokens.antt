@@ -1,0 +1,19 @@
+-- Which lexeme is the token where it begins.
+use Rattle.std.specs.Prelude.{◌≡◌, ◌≤◌, ℕ, true, List, [], ◌∷◌, ◌++◌, length, take, drop}
+use Rattle.bz_token.specs.declared.class.Class.{Class}
+use Rattle.bz_token.specs.Bytes.{is_quote}
+use Rattle.bz_token.specs.Lexemes.{IsLexeme, is_prefix}
+
+-- A token and the text behind it: it is the longest lexeme that begins at its place, and `""` or `''`, with or without a prefix, is no token right before a third such mark.
+pub record IsToken (class : Class) (token rest : List ℕ) : Type 0 where
+  pub lexeme : IsLexeme class token
+  pub longest : (other : Class) (front back : List ℕ) → front ++ back ≡ token ++ rest → IsLexeme other front → length front ≤ length token
+  pub no_third : (prefix : List ℕ) (mark : ℕ) (back : List ℕ) → is_prefix prefix ≡ true → is_quote mark ≡ true → token ≡ prefix ++ (mark ∷ mark ∷ []) → rest ≡ mark ∷ back → ⊥
+
+-- the text begins with no token
+abbrev pub NoToken : List ℕ → Type 0
+NoToken text = (class : Class) (token rest : List ℕ) → token ++ rest ≡ text → IsToken class token rest → ⊥
+
+-- the first n bytes of the text are a token of this class
+abbrev pub TokenAt : Class → ℕ → List ℕ → Type 0
+TokenAt class n text = (n ≤ length text) × IsToken class (take n text) (drop n text)
