@@ -1,0 +1,4 @@
+pub mod Gaps
+pub mod Places
+pub mod Leaves
+pub mod GapStates

@@ -2,7 +2,9 @@
 #![tactic(auto)]
 
 mod fault;
+mod gap;
 mod leaf;
+mod place;
 
 pub use bz_token::Class;
 pub use fault::ReadFault;

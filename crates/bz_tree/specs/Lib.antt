@@ -1,3 +1,5 @@
 pub mod Fronts
 pub mod Kinds
 pub mod Spell
+pub mod Shapes
+pub mod Legal

@@ -1,11 +1,12 @@
 ghost use Rattle.std.specs.Prelude.{◌≡◌, ◌++◌, ◌+◌, ◌<◌, ◌≤◌, ◌^◌, length, take, OnOk, OnErr, IfOk};
 ghost use Rattle.std.specs.List.{flat_map};
-ghost use Rattle.bz_tree.specs.Spell.{spell_leaf, spell_node, spell_part, IsFine};
+ghost use Rattle.bz_tree.specs.Spell.{spell_leaf, spell_node, spell_part, limit};
 
 use crate::kind::Kind;
 use bz_items::{Items, Memory};
 use bz_lex::Leaf;
 use std::alloc::Global;
+use std::marker::Model;
 
 #[cycle(tree)]
 #[derive(Drop)]
@@ -137,30 +138,47 @@ pub fn copy_all(alloc: Global, parts: &[Part]) -> Result<Items<Part>, Memory>
     Ok(copied)
 }
 
-/// A legal tree whose spelling is within the limit.
+/// A legal tree whose spelling is within the limit. Contracts see it as its root.
 #[derive(Drop)]
 pub struct Tree {
     pub root: Node,
-    ghost fine: { IsFine root },
+}
+
+impl Model for Tree {
+    ghost use Rattle.bz_tree.specs.contracts.tree.Part as e;
+    ghost use Rattle.bz_tree.specs.contracts.tree.Node as n;
+    ghost use Rattle.std.specs.Coded.{codes};
+    ghost use Rattle.bz_tree.specs.declared.tree.Node.{Node};
+    ghost use Rattle.std.specs.Prelude.{◌≤◌, length};
+    ghost use Rattle.bz_tree.specs.Spell.{spell_node, limit};
+    ghost use Rattle.bz_tree.specs.Legal.{Legal};
+
+    ghost Value = { Node };
+    ghost coded = { Prim.hlevel (codes, e.the_row.coded, n.the_row.coded) };
+    ghost view = { λ tree. tree.root };
+    ghost invariant = { λ tree. Legal tree.root × (length (spell_node tree.root) ≤ limit) };
 }
 
 impl Tree {
+    /// How many bytes the tree spells.
     pub fn len(&self) -> usize
-        ensures { result ≡ length (spell_node self.now.root) }
+        ensures { result ≡ length (spell_node self.now) }
     {
         len_of(self.root.parts.as_slice())
     }
 
+    /// An equal tree. The error: a growth was refused.
     pub fn copy(&self) -> Result<Tree, Memory>
-        ensures { IfOk result (λ tree. tree.root ≡ self.now.root) }
+        ensures { IfOk result (λ tree. tree ≡ self.now) }
     {
         Ok(Tree {
             root: self.root.copy()?,
         })
     }
 
+    /// Appends the spelling of the tree to `out`. The error: a growth was refused; `out` is then as before.
     pub fn spell_into(&self, out: &mut Vec<u8>) -> Result<(), Memory>
-        ensures ok { OnOk result (out.new.items ≡ out.old.items ++ spell_node self.now.root) }
+        ensures ok { OnOk result (out.new.items ≡ out.old.items ++ spell_node self.now) }
         ensures err { OnErr result (out.new.items ≡ out.old.items) }
     {
         self.root.spell_into(out)

@@ -1,0 +1,125 @@
+-- The states of a gap take just the gaps, and a gap ends at one place.
+use Rattle.std.proofs.Common.{◌≡◌, ◌≢◌, ℕ, zero, suc, Bool, true, false, cond, eqb, List, [], ◌∷◌, ◌++◌, ◌&&◌, ◌||◌, ◌⊎◌, inl, inr, Option, Some, None, refl, sym, ap, ◌∙◌, subst, append_assoc}
+use Rattle.std.proofs.lemmas.Bool.{both_ways, cases_Bool, eqb-true, eqb-false, ne_eqb, and_parts, and_left}
+use Rattle.std.proofs.lemmas.List.{append-nil}
+use Rattle.std.proofs.lemmas.Option.{same_Some}
+use Rattle.bz_lex.specs.declared.gap.GapState.{GapState}
+use Rattle.bz_lex.specs.declared.gap.GapState.TheVariants.{Open, Escape, EscapeReturn, Comment}
+use Rattle.bz_lex.specs.Gaps.{is_blank, IsOneLine, IsGap, nothing, blank, escaped, escaped_return, unescaped, comment, last_comment}
+use Rattle.bz_lex.specs.GapStates.{gap_move, and_then, after, Stops, is_end}
+
+abbrev holds : Bool → Option GapState → Bool
+holds u None = false
+holds u (Some q) = is_end u q
+
+one_line_end : (w : List ℕ) (c : ℕ) → IsOneLine w → c ≢ 10 → IsOneLine (w ++ (c ∷ []))
+one_line_end [] c h i = (i, tt)
+one_line_end (b ∷ w) c h i = (h.0, one_line_end w c h.1 i)
+
+module _ (n u : Bool) where
+
+  -- what stands behind a state that ends as a gap may
+  abbrev Rest : GapState → List ℕ → Type 0
+  Rest Open s = IsGap n u s
+  Rest Escape s = IsGap n u (92 ∷ s)
+  Rest EscapeReturn s = IsGap n u (92 ∷ 13 ∷ s)
+  Rest Comment s = (w : List ℕ) → IsOneLine w → IsGap n u (35 ∷ (w ++ s))
+
+  rest : (q : GapState) (s : List ℕ) → holds u (after n q s) ≡ true → Rest q s
+  rest Open [] h = nothing refl
+  rest Open (c ∷ s) h =
+      elim (cases_Bool (is_blank c)) [
+        | inl b ↦ blank c s refl b (rest Open s (rw b at h))
+        | inr b ↦ elim (cases_Bool (eqb c 92)) [
+            | inl e ↦ let i : c ≡ 92 = eqb-true c 92 e in subst (λ (x : ℕ). IsGap n u (x ∷ s)) (sym i) (rest Escape s (rw (b, e) at h))
+            | inr e ↦ elim (cases_Bool (eqb c 35)) [
+                | inl f ↦ let i : c ≡ 35 = eqb-true c 35 f in subst (λ (x : ℕ). IsGap n u (x ∷ s)) (sym i) (rest Comment s (rw (b, e, f) at h) [] tt)
+                | inr f ↦ elim (cases_Bool (n && eqb c 10)) [
+                    | inl g ↦ let k = and_parts n (eqb c 10) g in unescaped s (ap (λ (x : ℕ). x ∷ s) (eqb-true c 10 k.1)) k.0 (rest Open s (rw (b, e, f, g) at h))
+                    | inr g ↦ absurd (both_ways false refl (rw (b, e, f, g) at h))
+                  ]
+              ]
+          ]
+      ]
+  rest Escape [] h = absurd (both_ways false refl h)
+  rest Escape (c ∷ s) h =
+      elim (cases_Bool (eqb c 10)) [
+        | inl b ↦ let i : c ≡ 10 = eqb-true c 10 b in escaped s (ap (λ (x : ℕ). 92 ∷ x ∷ s) i) (rest Open s (rw b at h))
+        | inr b ↦ elim (cases_Bool (eqb c 13)) [
+            | inl e ↦ let i : c ≡ 13 = eqb-true c 13 e in subst (λ (x : ℕ). IsGap n u (92 ∷ x ∷ s)) (sym i) (rest EscapeReturn s (rw (b, e) at h))
+            | inr e ↦ absurd (both_ways false refl (rw (b, e) at h))
+          ]
+      ]
+  rest EscapeReturn [] h = absurd (both_ways false refl h)
+  rest EscapeReturn (c ∷ s) h =
+      elim (cases_Bool (eqb c 10)) [
+        | inl b ↦ let i : c ≡ 10 = eqb-true c 10 b in escaped_return s (ap (λ (x : ℕ). 92 ∷ 13 ∷ x ∷ s) i) (rest Open s (rw b at h))
+        | inr b ↦ absurd (both_ways false refl (rw b at h))
+      ]
+  rest Comment [] h = λ w o. last_comment w (ap (λ (t : List ℕ). 35 ∷ t) (append-nil w)) o h
+  rest Comment (c ∷ s) h =
+      elim (cases_Bool (eqb c 10)) [
+        | inl b ↦ let i : c ≡ 10 = eqb-true c 10 b in elim (cases_Bool n) [
+            | inl m ↦ λ w o. comment w s (ap (λ (x : ℕ). 35 ∷ (w ++ (x ∷ s))) i) o m (rest Open s (rw (b, m) at h))
+            | inr m ↦ absurd (both_ways false refl (rw (b, m) at h))
+          ]
+        | inr b ↦ λ w o. subst (λ (t : List ℕ). IsGap n u (35 ∷ t)) (append_assoc w (c ∷ []) s) (rest Comment s (rw b at h) (w ++ (c ∷ [])) (one_line_end w c o (eqb-false c 10 b)))
+      ]
+
+  in_comment : (w r : List ℕ) → IsOneLine w → after n Comment (w ++ r) ≡ after n Comment r
+  in_comment [] r h = refl
+  in_comment (c ∷ w) r h = rw (ne_eqb c 10 h.0) (in_comment w r h.1)
+
+  taken : (s : List ℕ) → IsGap n u s → holds u (after n Open s) ≡ true
+  taken s (nothing e) = rw e refl
+  taken s (blank c r e b g) = rw (e, b) (taken r g)
+  taken s (escaped r e g) = rw e (taken r g)
+  taken s (escaped_return r e g) = rw e (taken r g)
+  taken s (unescaped r e i g) = rw (e, i) (taken r g)
+  taken s (comment w r e o i g) = rw (e, in_comment w (10 ∷ r) o, i) (taken r g)
+  taken s (last_comment w e o i) = rw (e, sym (append-nil w), in_comment w [] o) i
+
+some_end : (u : Bool) (o : Option GapState) → holds u o ≡ true → (q : GapState) × (o ≡ Some q) × (is_end u q ≡ true)
+some_end u None h = absurd (both_ways false refl h)
+some_end u (Some q) h = (q, refl, h)
+
+-- a gap ends in a state where it may end
+pub gap_after : (n u : Bool) (s : List ℕ) → IsGap n u s → (q : GapState) × (after n Open s ≡ Some q) × (is_end u q ≡ true)
+gap_after n u s g = some_end u (after n Open s) (taken n u s g)
+
+-- what ends in such a state is a gap
+pub gap_from : (n u : Bool) (q : GapState) (s : List ℕ) → after n Open s ≡ Some q → is_end u q ≡ true → IsGap n u s
+gap_from n u q s e h = rest n u Open s (rw e h)
+
+some_next : (o : Option GapState) (f : GapState → Option GapState) (r : GapState) → and_then o f ≡ Some r → (q : GapState) × (o ≡ Some q) × (f q ≡ Some r)
+some_next None f r e = absurd cc
+some_next (Some q) f r e = (q, refl, e)
+
+-- Two fronts of one text with which no gap goes on are one.
+pub one_stop : (n : Bool) (p q r : GapState) (a b c d : List ℕ) → after n p a ≡ Some q → Stops n q b → after n p c ≡ Some r → Stops n r d → a ++ b ≡ c ++ d → (a ≡ c) × (b ≡ d) × (q ≡ r)
+one_stop n p q r [] b [] d e h f k i = (refl, i, same_Some q r (sym e ∙ f))
+one_stop n p q r [] b (x ∷ c) d e h f k i =
+    let w = some_next (gap_move n p x) (λ s. after n s c) r f in
+    let j : p ≡ q = same_Some p q e in
+    let stuck : gap_move n p x ≡ None = rw j (subst (Stops n q) i h) in
+    absurd (let z : None ≡ Some w.0 = sym stuck ∙ w.1 in cc)
+one_stop n p q r (x ∷ a) b [] d e h f k i =
+    let w = some_next (gap_move n p x) (λ s. after n s a) q e in
+    let j : p ≡ r = same_Some p r f in
+    let stuck : gap_move n p x ≡ None = rw j (subst (Stops n r) (sym i) k) in
+    absurd (let z : None ≡ Some w.0 = sym stuck ∙ w.1 in cc)
+one_stop n p q r (x ∷ a) b (y ∷ c) d e h f k i =
+    let w = some_next (gap_move n p x) (λ s. after n s a) q e in
+    let same : x ≡ y = cc in
+    let v = some_next (gap_move n p y) (λ s. after n s c) r f in
+    let to : w.0 ≡ v.0 = same_Some w.0 v.0 (sym w.1 ∙ ap (gap_move n p) same ∙ v.1) in
+    let o = one_stop n w.0 q r a b c d w.2 h (subst (λ s. after n s c ≡ Some r) (sym to) v.2) k cc in
+    (rw (same, o.0) refl, o.1, o.2)
+
+through : (o : Option GapState) (f g h : GapState → Option GapState) → ((q : GapState) → f q ≡ and_then (g q) h) → and_then o f ≡ and_then (and_then o g) h
+through None f g h e = refl
+through (Some q) f g h e = e q
+
+pub after-append : (n : Bool) (p : GapState) (a b : List ℕ) → after n p (a ++ b) ≡ and_then (after n p a) (λ q. after n q b)
+after-append n p [] b = refl
+after-append n p (c ∷ a) b = through (gap_move n p c) (λ q. after n q (a ++ b)) (λ q. after n q a) (λ q. after n q b) (λ q. after-append n q a b)

@@ -1,0 +1,19 @@
+-- The leaves of a text: gaps and tokens that cover it, each standing where it may.
+use Rattle.std.specs.Prelude.{◌≡◌, ℕ, List, [], ◌∷◌, ◌++◌}
+use Rattle.bz_token.specs.Tokens.{IsToken}
+use Rattle.bz_lex.specs.declared.leaf.Leaf.{Leaf}
+use Rattle.bz_lex.specs.Places.{Place, Fresh, Over, next, May}
+
+-- the text of the leaves: the gap and the token of each in turn
+abbrev pub spell_leaves : List Leaf → List ℕ
+spell_leaves [] = []
+spell_leaves (leaf ∷ leaves) = leaf.gap ++ (leaf.token ++ spell_leaves leaves)
+
+-- Each leaf stands as it may, by what may says of its place, itself and the text behind it, up to the end.
+abbrev pub Stand : (Place → Leaf → List ℕ → Type 0) → Place → List Leaf → Type 0
+Stand may place [] = place ≡ Over
+Stand may place (leaf ∷ leaves) = may place leaf (spell_leaves leaves) × Stand may (next place leaf) leaves
+
+-- the leaves of a whole text, from the start of its first line to the end
+abbrev pub AreLeaves : List Leaf → Type 0
+AreLeaves leaves = Stand (May IsToken) Fresh leaves

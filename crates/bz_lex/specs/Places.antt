@@ -1,0 +1,61 @@
+-- Where leaves stand, and which leaf may stand where.
+use Rattle.std.specs.Prelude.{◌≡◌, ℕ, zero, suc, Bool, true, false, List, [], ◌∷◌, ◌||◌, nat_eq, if◌then◌else◌}
+use Rattle.bz_token.specs.declared.class.Class.{Class}
+use Rattle.bz_token.specs.declared.class.Class.TheVariants.{Name, Keyword, Number, String, Mark, Newline, End}
+use Rattle.bz_lex.specs.declared.leaf.Leaf.{Leaf}
+use Rattle.bz_lex.specs.Gaps.{IsGap, is_flush}
+pub use Rattle.bz_lex.specs.declared.place.Place.{Place}
+pub use Rattle.bz_lex.specs.declared.place.Place.TheVariants.{Fresh, Behind, Inside, Last, Over}
+
+-- ( [ {
+abbrev pub is_opening : List ℕ → Bool
+is_opening (byte ∷ []) = nat_eq byte 40 || (nat_eq byte 91 || nat_eq byte 123)
+is_opening _ = false
+
+-- ) ] }
+abbrev pub is_closing : List ℕ → Bool
+is_closing (byte ∷ []) = nat_eq byte 41 || (nat_eq byte 93 || nat_eq byte 125)
+is_closing _ = false
+
+-- behind a token that is neither bracket nor end of a line
+abbrev pub same_depth : Place → Place
+same_depth (Inside depth) = Inside depth
+same_depth _ = Behind
+
+abbrev pub deeper : Place → Place
+deeper (Inside depth) = Inside (suc depth)
+deeper _ = Inside 0
+
+-- (a closing bracket outside brackets leaves the depth as it is: which bracket may stand where is the grammar's matter)
+abbrev pub shallower : Place → Place
+shallower (Inside (suc depth)) = Inside depth
+shallower _ = Behind
+
+abbrev pub behind_newline : List ℕ → Place
+behind_newline [] = Last
+behind_newline _ = Fresh
+
+-- the place behind a token of this class
+abbrev pub behind : Class → List ℕ → Place → Place
+behind Mark token place = if is_opening token then deeper place else (if is_closing token then shallower place else same_depth place)
+behind Newline token place = behind_newline token
+behind End token place = Over
+behind _ token place = same_depth place
+
+abbrev pub next : Place → Leaf → Place
+next place leaf = behind leaf.class leaf.token place
+
+-- Which leaf may stand at a place, before a text; IsToken says of a class, a token and the text behind it that the
+-- token, which is neither a newline nor the end, is the longest lexeme there.
+-- An unescaped newline stands in a gap only inside brackets, before the first token of a line, or before the end; a
+-- comment stands there too and in the gap of a newline, and its newline stands in the same gap, but for the last
+-- comment in the gap of a newline or of the end. The byte right before the first token of a line is no space and no
+-- tab. The newline that is no byte stands only last, and then the end's gap is empty.
+pub data May (IsToken : Class → List ℕ → List ℕ → Type 0) : Place → Leaf → List ℕ → Type 0 where
+  first : {leaf : Leaf} {rest : List ℕ} → IsGap true false leaf.gap → is_flush leaf.gap ≡ true → IsToken leaf.class leaf.token rest → May IsToken Fresh leaf rest
+  later : {leaf : Leaf} {rest : List ℕ} → IsGap false false leaf.gap → IsToken leaf.class leaf.token rest → May IsToken Behind leaf rest
+  inner : {depth : ℕ} {leaf : Leaf} {rest : List ℕ} → IsGap true false leaf.gap → IsToken leaf.class leaf.token rest → May IsToken (Inside depth) leaf rest
+  newline : {gap rest : List ℕ} (unclosed : Bool) → IsGap false unclosed gap → May IsToken Behind (record { class = Newline; gap = gap; token = 10 ∷ [] }) rest
+  no_newline : {gap : List ℕ} (unclosed : Bool) → IsGap false unclosed gap → May IsToken Behind (record { class = Newline; gap = gap; token = [] }) []
+  end : {gap : List ℕ} (unclosed : Bool) → IsGap true unclosed gap → May IsToken Fresh (record { class = End; gap = gap; token = [] }) []
+  end_at_once : May IsToken Last (record { class = End; gap = []; token = [] }) []
