@@ -1,12 +1,9 @@
 -- What a gap says: its lines, each with a comment or without one.
+use Rattle.bz_lex.specs.Gaps.{is_blank}
 use Rattle.std.specs.Prelude.{ℕ, Bool, true, false, not, ◌||◌, List, [], ◌∷◌, ◌++◌, Option, Some, None, if◌then◌else◌, nat_eq}
 
 abbrev pub Bytes : Type 0
 Bytes = List ℕ
-
--- a space, tab or carriage return
-abbrev pub is_blank : ℕ → Bool
-is_blank c = nat_eq c 32 || (nat_eq c 9 || nat_eq c 13)
 
 -- A comment's text is kept without spaces, tabs and carriage returns at its end.
 abbrev pub with_first : ℕ → Bytes → Bytes

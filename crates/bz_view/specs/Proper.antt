@@ -5,6 +5,7 @@ use Rattle.bz_token.specs.declared.class.Class.TheVariants as c
 use Rattle.bz_token.specs.Lexemes.{IsLexeme}
 use Rattle.bz_tree.specs.declared.kind.Kind.{Kind}
 use Rattle.bz_tree.specs.declared.kind.Kind.TheVariants as k
+use Rattle.bz_tree.specs.Legal.{is_quoted}
 use Rattle.bz_view.specs.declared.value.Comments.{Comments}
 use Rattle.bz_view.specs.declared.value.Token.{Token}
 use Rattle.bz_view.specs.declared.value.Form.{Form}
@@ -28,18 +29,13 @@ pub record IsPlainToken (class : Class) (t : Token) : Type 0 where
   pub no_break : t.break_ ≡ false
   pub bare : t.comments ≡ no_comments
 
--- a string without prefix: it begins with a quote mark
-abbrev pub BeginsWithQuote : Bytes → Type 0
-BeginsWithQuote [] = ⊥
-BeginsWithQuote (b ∷ s) = (b ≡ 34) ⊎ (b ≡ 39)
-
 -- ---- the shapes of this stage's grammar: Call = Name "(" [Named ..] ")", Named = Name "=" (String | List), List = "[" [String ..] "]"
 
 pub record IsString (x : Expr) : Type 0 where
   pub token : Token
   pub is : x ≡ e.Token token
   pub plain : IsPlainToken c.String token
-  pub no_prefix : BeginsWithQuote token.text
+  pub no_prefix : is_quoted token.text ≡ true
 
 -- a form of a kind, with what stands before its bracket and in its row or sequence; no host but a statement has comments
 pub record IsForm (x : Expr) (kind : Kind) (Head Items : List Expr → Type 0) (Split : Bool → Type 0) : Type 0 where

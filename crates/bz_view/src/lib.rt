@@ -3,5 +3,7 @@
 
 mod copy;
 mod value;
+mod viewing;
 
 pub use value::{Comments, Expr, File, Form, Item, Token};
+pub use viewing::view;
