@@ -1,6 +1,6 @@
 ghost use Rattle.std.specs.Prelude.{◌≡◌, take, IfOk};
 
-use crate::value::{Comments, Expr, Form, Item, Token};
+use crate::value::{Comments, Expr, File, Form, Item, Token};
 use bz_items::{Items, Memory, Text};
 use std::alloc::Global;
 
@@ -94,5 +94,26 @@ impl Item {
             Item::Block(lines) => Ok(Item::Block(copy_texts(lines.alloc(), lines.as_slice())?)),
             Item::Stmt(expr) => Ok(Item::Stmt(expr.copy()?)),
         }
+    }
+}
+
+fn copy_items(alloc: Global, items: &[Item]) -> Result<Items<Item>, Memory>
+    ensures { IfOk result (λ copied. copied ≡ items.now) }
+{
+    let mut copied = Items::new(alloc);
+    for item in items {
+        copied.push(item.copy()?)?;
+    }
+    Ok(copied)
+}
+
+impl File {
+    /// An equal file value. The error: a growth was refused.
+    pub fn copy(&self) -> Result<File, Memory>
+        ensures { IfOk result (λ file. file ≡ self.now) }
+    {
+        Ok(File {
+            items: copy_items(self.items.alloc(), self.items.as_slice())?,
+        })
     }
 }

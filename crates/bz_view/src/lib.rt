@@ -2,6 +2,9 @@
 #![tactic(auto)]
 
 mod copy;
+mod expr;
+mod frame;
+mod gap;
 mod value;
 mod viewing;
 
