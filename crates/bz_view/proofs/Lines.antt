@@ -1,7 +1,7 @@
 -- Lines of a gap, read from the left.
-use Rattle.std.proofs.Common.{ℕ, zero, suc, Bool, true, false, cond, eqb, ◌≡◌, ◌≢◌, ◌<◌, ◌≤◌, ◌+◌, ◌-◌, add-one, List, [], ◌∷◌, ◌++◌, ◌&&◌, ◌||◌, ◌⊎◌, inl, inr, Option, Some, None, refl, sym, ap, ◌∙◌, subst, append_assoc, append-nil, length, take, drop, get_or, arith}
+use Rattle.std.proofs.Common.{ℕ, zero, suc, true, false, eqb, ◌≡◌, ◌≢◌, ◌<◌, ◌≤◌, ◌+◌, ◌-◌, add-one, List, [], ◌∷◌, ◌++◌, Option, Some, None, refl, sym, ap, ◌∙◌, subst, append_assoc, append-nil, length, take, drop, get_or, arith}
 use Rattle.std.proofs.Math.Seq.{take-length}
-use Rattle.std.proofs.lemmas.Bool.{both_ways, cases_Bool, eqb-true, eqb-false, ne_eqb}
+use Rattle.std.proofs.lemmas.Bool.{ne_eqb}
 use Rattle.std.proofs.lemmas.List.{take_more}
 use Rattle.bz_lex.specs.Gaps.{is_blank}
 use Rattle.bz_view.specs.declared.value.Item.{Item}
@@ -141,4 +141,4 @@ pub all_pushed : (old mid new : List Item) (group : List Bytes) (ls : List (Opti
     new ≡ mid ++ blocks (group ∷ []) → new ≡ old ++ blocks (groups_of ls)
 all_pushed old mid new group ls m g n =
     n ∙ (ap (λ t. mid ++ blocks (t ∷ [])) g ∙ (ap (λ t. t ++ blocks (last_group (groups_of ls) ∷ [])) m ∙
-      (append_assoc old (blocks (all_but_last (groups_of ls))) (blocks (last_group (groups_of ls) ∷ [])) ∙ ap (λ t. old ++ t) (sym (last_block ls)))))
+    (append_assoc old (blocks (all_but_last (groups_of ls))) (blocks (last_group (groups_of ls) ∷ [])) ∙ ap (λ t. old ++ t) (sym (last_block ls)))))

@@ -1,6 +1,5 @@
 -- The file value of a tree: its statements without gaps, each comment at its host.
-use Rattle.std.specs.Prelude.{ℕ, zero, suc, Bool, true, false, not, ◌&&◌, ◌||◌, List, [], ◌∷◌, ◌++◌, Option, Some, None, map, take, drop}
-use Rattle.bz_token.specs.declared.class.Class.{Class}
+use Rattle.std.specs.Prelude.{suc, Bool, false, not, ◌&&◌, ◌||◌, List, [], ◌∷◌, ◌++◌, None, map, take, drop}
 use Rattle.bz_lex.specs.declared.leaf.Leaf.{Leaf}
 use Rattle.bz_tree.specs.declared.kind.Kind.{Kind}
 use Rattle.bz_tree.specs.declared.tree.Node.{Node}

@@ -133,8 +133,9 @@ fn items_of(alloc: Global, parts: &[Part], kind: Kind) -> Result<Items<Expr>, Me
     ensures { IfOk result (λ exprs. exprs ≡ items_in (map seen (drop (suc (lead kind)) parts.now))) }
 {
     let mut exprs = Items::new(alloc);
+    let count = parts.len();
     let mut at = lead_of(kind) + 1;
-    while at + 1 < parts.len() {
+    while at + 1 < count {
         exprs.push(expr_of(alloc, &parts[at], Comments::none(alloc), false)?)?;
         at += 2;
     }

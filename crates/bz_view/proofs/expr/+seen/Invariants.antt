@@ -9,7 +9,7 @@ invariant-head_of-loop-at l = l.exprs ≡ map plain (take l.at (map seen l.parts
 abbrev pub invariant-items_of-loop-at : goal.invariant-items_of-loop-at
 invariant-items_of-loop-at l = record {
   within : l.at ≤ length l.parts + 2;
-  rest : l.exprs ++ items_in (map seen (drop l.at l.parts)) ≡ items_in (map seen (drop (suc (lead l.kind)) l.parts))
+  rest : l.exprs ++ items_in (map seen (drop l.at l.parts)) ≡ items_in (map seen (drop (suc (lead l.fn.kind)) l.parts));
 }
 
 abbrev pub decreases-items_of-loop-at : goal.decreases-items_of-loop-at

@@ -1,5 +1,4 @@
-use Rattle.std.proofs.Common.{ℕ, ◌≡◌, ◌≢◌, ◌<◌, ◌≤◌, ◌+◌, suc, List, length, take, drop, get_or, ap, sym, ◌∙◌, arith, add-one, refl}
-use Rattle.bz_view.specs.Gaps.{in_comment, lines_of}
+use Rattle.std.proofs.Common.{length, arith}
 use Rattle.bz_view.proofs.Lines.{line_end}
 use Rattle.bz_view.proofs.gap.line_len.Goals as goal
 

@@ -1,4 +1,4 @@
-use Rattle.std.proofs.Common.{ℕ, ◌≡◌, ◌≢◌, ◌<◌, get_or}
+use Rattle.std.proofs.Common.{ℕ, ◌≢◌, ◌<◌, get_or}
 use Rattle.bz_view.proofs.gap.line_len.Given as goal
 
 abbrev pub invariant-loop-at : goal.invariant-loop-at

@@ -1,4 +1,4 @@
-use Rattle.std.proofs.Common.{ℕ, ◌≡◌, ◌<◌, ◌≤◌, ◌-◌, length, take, sym, ap, ◌∙◌, arith, get_or, refl, zero}
+use Rattle.std.proofs.Common.{◌≡◌, take, sym, ap, ◌∙◌, arith}
 use Rattle.bz_view.specs.Gaps.{trimmed}
 use Rattle.bz_view.proofs.Lines.{blank_last, solid_last}
 use Rattle.bz_view.proofs.gap.trim_end.Goals as goal
@@ -7,7 +7,7 @@ use Rattle.bz_view.proofs.gap.trim_end.Goals.{then-loop-end-test+else-is_blank_b
 pub loop-end-preserved : goal.loop-end-preserved
 loop-end-preserved c = record {
   within = omega arith;
-  same = blank_last c.args.text.now c.loop-end.end c.loop-end-test.true c.loop-end.invariant.within (sym c.is_blank_byte.ensures ∙ c.if-is_blank_byte.true) ∙ c.loop-end.invariant.same
+  same = blank_last c.args.text.now c.loop-end.end c.loop-end-test.true c.loop-end.invariant.within (sym c.is_blank_byte.ensures ∙ c.if-is_blank_byte.true) ∙ c.loop-end.invariant.same;
 }
 
 pub returns : goal.returns
