@@ -117,3 +117,60 @@ impl File {
         })
     }
 }
+
+#[cfg(test)]
+mod tests {
+    use super::*;
+    use bz_tree::{Class, Kind};
+    use std::test::Fail;
+
+    fn text(alloc: Global, bytes: &[u8]) -> Result<Items<Text>, Memory> {
+        let mut texts = Items::new(alloc);
+        texts.push(Text::from_slice(alloc, bytes)?)?;
+        Ok(texts)
+    }
+
+    fn comments(alloc: Global) -> Result<Comments, Memory> {
+        Ok(Comments {
+            before: text(alloc, b"# above")?,
+            suffix: Some(Text::from_slice(alloc, b"# behind")?),
+        })
+    }
+
+    // each type is copied with all its parts, where memory is ample
+    #[test]
+    fn copies(rt: HostRuntime) -> Result<(), Fail> {
+        let alloc = rt.alloc();
+        let token = Token {
+            class: Class::Name,
+            text: Text::from_slice(alloc, b"f")?,
+            break_: true,
+            comments: comments(alloc)?,
+        };
+        let mut items = Items::new(alloc);
+        items.push(Expr::Token(token))?;
+        let form = Form {
+            kind: Kind::Bare,
+            split: true,
+            head: Items::new(alloc),
+            items,
+            end_: text(alloc, b"# end")?,
+            comments: comments(alloc)?,
+        };
+        let item = Item::Stmt(Expr::Form(form)).copy()?;
+        let Item::Stmt(Expr::Form(form)) = item else {
+            return Err(Fail::from("no form"));
+        };
+        assert_eq!(rt; form.kind, Kind::Bare);
+        assert!(rt; form.split);
+        assert_eq!(rt; form.end_.len(), 1);
+        assert!(rt; form.comments.suffix.is_some());
+        assert!(rt; form.head.is_empty());
+        let Some(Expr::Token(token)) = form.items.get(0) else {
+            return Err(Fail::from("no token"));
+        };
+        assert_eq!(rt; token.text.as_slice(), b"f".as_slice());
+        assert_eq!(rt; token.comments.before.len(), 1);
+        Ok(())
+    }
+}
