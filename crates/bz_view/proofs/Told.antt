@@ -3,7 +3,7 @@ use Rattle.std.proofs.Common.{ℕ, eqb, ◌≡◌, ◌≢◌, List, [], ◌∷�
 use Rattle.std.specs.List.{AllByRecursion}
 use Rattle.std.proofs.lemmas.List.Elements.{All-from_recursion}
 use Rattle.std.proofs.lemmas.Bool.{cases_Bool, eqb-false}
-use Rattle.bz_lex.specs.Gaps.{is_blank}
+use Rattle.bz_token.specs.Bytes.{is_blank}
 use Rattle.bz_view.specs.Gaps.{Bytes, with_first, trimmed, in_comment, lines_of, on_first, groups_of, all_but_last, last_group}
 use Rattle.bz_view.specs.View.{blocks}
 use Rattle.bz_view.specs.Proper.{IsComment, IsProperItem}

@@ -1,5 +1,5 @@
 ghost use Rattle.std.specs.Prelude.{◌≡◌, ◌+◌, [], ◌∷◌, ◌++◌, ◌≤◌, take, drop, length, OnOk, IfOk};
-ghost use Rattle.bz_lex.specs.Gaps.{is_blank};
+ghost use Rattle.bz_token.specs.Bytes.{is_blank};
 ghost use Rattle.bz_view.specs.Gaps.{all_but_last, groups_of, has_newline, in_comment, last_group, lines_of, trimmed};
 ghost use Rattle.bz_view.specs.View.{blocks};
 

@@ -48,3 +48,39 @@ fn push_line(line: &Part, items: &mut Items<Item>) -> Result<(), Memory>
         },
     }
 }
+
+#[cfg(test)]
+mod tests {
+    use super::*;
+    use crate::value::Expr;
+    use bz_tree::{Kind, parse};
+    use std::test::Fail;
+
+    // a Block, a statement with a comment above it and split brackets, and a comment at the end, where memory is ample
+    #[test]
+    fn views(rt: HostRuntime) -> Result<(), Fail> {
+        let alloc = rt.alloc();
+        let text = b"# a \n\n# b\ncc_library(\n name = \"x\",)\n# c";
+        let file = view(alloc, &parse(alloc, text)?)?;
+        let [Item::Block(first), Item::Stmt(Expr::Form(statement)), Item::Block(last)] =
+            file.items.as_slice()
+        else {
+            return Err(Fail::from("other items"));
+        };
+        assert_eq!(rt; first.len(), 1);
+        let Some(line) = first.get(0) else {
+            return Err(Fail::from("no comment"));
+        };
+        assert_eq!(rt; line.as_slice(), b"# a".as_slice());
+        assert_eq!(rt; statement.kind, Kind::Bare);
+        assert_eq!(rt; statement.comments.before.len(), 1);
+        let Some(Expr::Form(call)) = statement.items.get(0) else {
+            return Err(Fail::from("no call"));
+        };
+        assert!(rt; call.split);
+        assert_eq!(rt; call.head.len(), 1);
+        assert_eq!(rt; call.items.len(), 1);
+        assert_eq!(rt; last.len(), 1);
+        Ok(())
+    }
+}
