@@ -1,0 +1,5 @@
+pub mod Frames
+pub mod Gaps
+pub mod Proper
+pub mod View
+pub mod Worked

@@ -1,0 +1,50 @@
+-- The layout as a tree: what the writer makes of a file value.
+use Rattle.std.specs.Prelude.{ℕ, List, [], ◌∷◌, ◌++◌, map}
+use Rattle.bz_token.specs.declared.class.Class.TheVariants as c
+use Rattle.bz_tree.specs.declared.kind.Kind.TheVariants as k
+use Rattle.bz_tree.specs.declared.tree.Node.{Node}
+use Rattle.bz_tree.specs.declared.tree.Part.{Part}
+use Rattle.bz_tree.specs.declared.tree.Part.TheVariants as p
+use Rattle.bz_view.specs.declared.value.Expr.{Expr, Token, Form', Row_of-Expr, end_of-Expr, more_of-Expr}
+use Rattle.bz_view.specs.declared.value.Item.{Item}
+use Rattle.bz_view.specs.declared.value.Item.TheVariants as i
+use Rattle.bz_view.specs.Gaps.{Bytes}
+use Rattle.bz_view.specs.Proper.{comments_of}
+use Rattle.bz_write.specs.Layout.{Piece, mark, part, laid, behind}
+use Rattle.bz_write.specs.Written.{comment_lines, between}
+
+abbrev pub piece_part : Piece (Bytes → ℕ → Part) → Part
+piece_part (mark gap token) = p.Leaf (record { class = c.Mark; gap = gap; token = token })
+piece_part (part gap m x) = x gap m
+
+abbrev mutual
+  pub part_of : Expr → Bytes → ℕ → Part
+  part_of (Token t) gap m = p.Leaf (record { class = t.class; gap = gap; token = t.text })
+  part_of (Form' kind split _ head _ items end_ comments) gap m =
+      p.Node (record { kind = kind; parts = map piece_part (laid kind split gap m (parts_of head) (parts_of items) end_) })
+
+  pub parts_of : {n : _} → Row_of-Expr n → List (Expr × (Bytes → ℕ → Part))
+  parts_of end_of-Expr = []
+  parts_of (more_of-Expr x rest) = (x, part_of x) ∷ parts_of rest
+
+-- the line of a statement: its suffix stands in the gap of the Newline
+abbrev pub line_of : Bytes → Expr → Part
+line_of gap x = p.Node (record {
+  kind = k.Line;
+  parts = part_of x (gap ++ comment_lines (comments_of x).before) 0 ∷ p.Leaf (record { class = c.Newline; gap = behind (comments_of x).suffix; token = 10 ∷ [] }) ∷ [];
+})
+
+-- the blank line before the next item
+abbrev pub before_next : Item → List Item → Bytes
+before_next item [] = []
+before_next item (next ∷ items) = between item next
+
+-- the lines of the items, the first behind this gap: a Block's lines stand in the gap of what follows
+abbrev pub lines_from : Bytes → List Item → List Part
+lines_from gap [] = p.Leaf (record { class = c.End; gap = gap; token = [] }) ∷ []
+lines_from gap (i.Block texts ∷ items) = lines_from ((gap ++ comment_lines texts) ++ before_next (i.Block texts) items) items
+lines_from gap (i.Stmt x ∷ items) = line_of gap x ∷ lines_from (before_next (i.Stmt x) items) items
+
+-- the tree of the layout
+abbrev pub drawn : List Item → Node
+drawn items = record { kind = k.File; parts = lines_from [] items }

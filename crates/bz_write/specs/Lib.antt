@@ -1,0 +1,4 @@
+pub mod Drawn
+pub mod Flags
+pub mod Layout
+pub mod Written

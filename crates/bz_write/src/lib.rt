@@ -1,0 +1,6 @@
+//! The layout of a file value, as text and as the legal tree that spells it.
+#![tactic(auto)]
+
+mod setting;
+
+pub use setting::{SetFault, set};
