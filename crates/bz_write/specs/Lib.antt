@@ -1,4 +1,5 @@
 pub mod Drawn
 pub mod Flags
+pub mod Laws
 pub mod Layout
 pub mod Written

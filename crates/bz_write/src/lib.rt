@@ -1,6 +1,8 @@
 //! The layout of a file value, as text and as the legal tree that spells it.
 #![tactic(auto)]
 
+mod laws;
 mod setting;
 
+pub use laws::{flags_keep_layout, layout_is_accepted};
 pub use setting::{SetFault, set};
