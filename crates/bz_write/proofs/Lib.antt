@@ -1,7 +1,9 @@
 pub mod Constructs
+pub mod Files
 pub mod Forms
 pub mod Gapped
 pub mod Parts
 pub mod Runs
 pub mod Sequences
+pub mod Spelled
 pub mod Standing
