@@ -1,5 +1,6 @@
 pub mod Constructs
 pub mod Files
+pub mod Flagged
 pub mod Forms
 pub mod Gapped
 pub mod Parts
