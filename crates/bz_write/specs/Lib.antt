@@ -2,4 +2,5 @@ pub mod Drawn
 pub mod Flags
 pub mod Laws
 pub mod Layout
+pub mod Rows
 pub mod Written

@@ -4,5 +4,5 @@
 mod laws;
 mod setting;
 
-pub use laws::{flags_keep_layout, layout_is_accepted};
+pub use laws::{flags_keep_layout, layout_is_accepted, worked_rows};
 pub use setting::{SetFault, set};
