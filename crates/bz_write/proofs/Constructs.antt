@@ -22,8 +22,8 @@ use Rattle.bz_view.specs.declared.value.Expr.TheVariants as e
 use Rattle.bz_view.specs.Gaps.{Bytes}
 use Rattle.bz_view.specs.Proper.{IsString, IsForm, IsPlainToken, IsList, IsValue, IsNamed, IsNamedRow, IsCall, IsOneName, IsOneCall, IsStatement, NotSplit, AnySplit, Nothing, comments_of}
 use Rattle.bz_write.specs.Layout.{laid, is_broken, joined, stacked}
-use Rattle.bz_write.specs.Drawn.{piece_part, part_of}
-use Rattle.bz_write.proofs.Forms.{two, part_Form, drawings}
+use Rattle.bz_write.specs.Drawn.{piece_part, part_of, drawings}
+use Rattle.bz_write.proofs.Forms.{two, part_Form}
 use Rattle.bz_write.proofs.Gapped.{FitsGap, nothing_behind, space_inside}
 use Rattle.bz_write.proofs.Parts.{leaves_Node}
 use Rattle.bz_write.proofs.Standing.{Separates, PartStands, RowStands, row_end, row_cons, node_stands, mark_stands, word_stands, text_behind}

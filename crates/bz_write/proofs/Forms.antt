@@ -12,7 +12,7 @@ use Rattle.bz_view.specs.declared.value.Expr.TheVariants as e
 use Rattle.bz_view.specs.Gaps.{Bytes}
 use Rattle.bz_write.specs.Layout.{laid}
 use Rattle.bz_write.specs.Written.{text_of, texts_of, piece_text}
-use Rattle.bz_write.specs.Drawn.{part_of, parts_of, piece_part}
+use Rattle.bz_write.specs.Drawn.{part_of, parts_of, parts_in, drawings, piece_part}
 
 abbrev head_in : Expr → (m : Count) × Row_of-Expr m
 head_in (Form' kind split s head s' items end_ comments) = (_, head)
@@ -38,15 +38,11 @@ items_of_row f = items_hidden-the_row-Expr-0 f.items
 pub two : {X Y Z : Type 0} (f : X → Y → Z) {h h' : X} {i i' : Y} → h ≡ h' → i ≡ i' → f h i ≡ f h' i'
 two f {h} {h'} {i} {i'} d e = ap (λ z. f z i) d ∙ ap (λ z. f h' z) e
 
--- each expression with its reading as a part
-abbrev pub drawings : List Expr → List (Expr × (Bytes → ℕ → Part))
-drawings xs = map (λ x. (x, part_of x)) xs
-
 drawn_row : (m : _) (r : Row_of-Expr m) → parts_of r ≡ drawings (items-the_row-Expr m r)
 drawn_row m end_of-Expr = refl
 drawn_row m (more_of-Expr x rest) = ap (λ t. (x, part_of x) ∷ t) (drawn_row _ rest)
 
-pub part_Form : (f : Form) (gap : Bytes) (m : ℕ) → part_of (e.Form f) gap m ≡ p.Node (record { kind = f.kind; parts = map piece_part (laid f.kind f.split gap m (drawings f.head) (drawings f.items) f.end_) })
+pub part_Form : (f : Form) (gap : Bytes) (m : ℕ) → part_of (e.Form f) gap m ≡ p.Node (record { kind = f.kind; parts = parts_in f gap m })
 part_Form f gap m =
     two
     (λ h i. p.Node (record { kind = f.kind; parts = map piece_part (laid f.kind f.split gap m h i f.end_) }))

@@ -6,6 +6,7 @@ use Rattle.bz_tree.specs.declared.tree.Node.{Node}
 use Rattle.bz_tree.specs.declared.tree.Part.{Part}
 use Rattle.bz_tree.specs.declared.tree.Part.TheVariants as p
 use Rattle.bz_view.specs.declared.value.Expr.{Expr, Token, Form', Row_of-Expr, end_of-Expr, more_of-Expr}
+use Rattle.bz_view.specs.declared.value.Form.{Form}
 use Rattle.bz_view.specs.declared.value.Item.{Item}
 use Rattle.bz_view.specs.declared.value.Item.TheVariants as i
 use Rattle.bz_view.specs.Gaps.{Bytes}
@@ -26,6 +27,14 @@ abbrev mutual
   pub parts_of : {n : _} → Row_of-Expr n → List (Expr × (Bytes → ℕ → Part))
   parts_of end_of-Expr = []
   parts_of (more_of-Expr x rest) = (x, part_of x) ∷ parts_of rest
+
+-- each expression with what is drawn of it
+abbrev pub drawings : List Expr → List (Expr × (Bytes → ℕ → Part))
+drawings xs = map (λ x. (x, part_of x)) xs
+
+-- the parts of a form behind a gap, at a margin
+abbrev pub parts_in : Form → Bytes → ℕ → List Part
+parts_in f gap m = map piece_part (laid f.kind f.split gap m (drawings f.head) (drawings f.items) f.end_)
 
 -- the line of a statement: its suffix stands in the gap of the Newline
 abbrev pub line_of : Bytes → Expr → Part

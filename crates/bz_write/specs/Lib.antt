@@ -1,3 +1,4 @@
+pub mod Brackets
 pub mod Drawn
 pub mod Flags
 pub mod Laws

@@ -1,6 +1,8 @@
 //! The layout of a file value, as text and as the legal tree that spells it.
 #![tactic(auto)]
 
+mod drawing;
+mod gaps;
 mod laws;
 mod setting;
 
