@@ -3,6 +3,7 @@ pub mod Files
 pub mod Flagged
 pub mod Forms
 pub mod Gapped
+pub mod Loops
 pub mod Parts
 pub mod Runs
 pub mod Sequences
