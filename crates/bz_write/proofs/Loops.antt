@@ -7,6 +7,8 @@ use Rattle.bz_tree.specs.declared.kind.Kind.{Kind}
 use Rattle.bz_tree.specs.declared.tree.Part.{Part}
 use Rattle.bz_view.specs.declared.value.Form.{Form}
 use Rattle.bz_view.specs.declared.value.Expr.{Expr}
+use Rattle.bz_view.specs.declared.value.Item.{Item}
+use Rattle.bz_view.specs.declared.value.Item.TheVariants as i
 use Rattle.bz_view.specs.Frames.{Frame, row, sequence, frame}
 use Rattle.bz_view.specs.Gaps.{Bytes}
 use Rattle.bz_view.specs.View.{no_comments}
@@ -14,7 +16,7 @@ use Rattle.bz_view.specs.Proper.{comments_of}
 use Rattle.bz_write.specs.declared.drawing.Brackets.{Brackets}
 use Rattle.bz_write.specs.Brackets.{brackets_of}
 use Rattle.bz_write.specs.Layout.{Piece, mark, part, line, above, ended, behind, stacked, joined, rowed, headed, laid_in, is_broken, is_tuple, is_empty}
-use Rattle.bz_write.specs.Drawn.{piece_part, part_of, parts_in, drawings, body, comma_behind}
+use Rattle.bz_write.specs.Drawn.{piece_part, part_of, parts_in, drawings, body, comma_behind, own_lines, left_gap, before_next, lines_from}
 
 module _ {X : Type 0} where
   -- a broken sequence, where what is to stand behind the item before it is written already
@@ -90,3 +92,16 @@ sequence_laid (sequence opener closer) b kind split gap m hs xs end_ h =
 pub sequence_parts : (f : Form) (b : Brackets) (gap : Bytes) (m : ℕ) → brackets_of (frame f.kind) ≡ Some b → parts_in f gap m ≡ map piece_part (headed m gap b.opener (drawings f.head) []) ++ map piece_part (body f m b.closer)
 sequence_parts f b gap m h =
     ap (λ ps. map piece_part ps) (sequence_laid (frame f.kind) b f.kind f.split gap m f.head f.items f.end_ h) ∙ headed_first m gap b.opener (drawings f.head) (body f m b.closer)
+
+-- ---- lines
+
+lines_first : (gap : Bytes) (x : Item) (xs : List Item) → lines_from gap (x ∷ xs) ≡ own_lines gap x ++ lines_from (left_gap gap x ++ before_next x xs) xs
+lines_first gap (i.Block texts) xs = refl
+lines_first gap (i.Stmt x) xs = refl
+
+pub lines_next : (parts : List Part) (gap : Bytes) (xs : List Item) (k : ℕ) (d : Item) → k < length xs →
+    parts ++ lines_from gap (drop k xs) ≡ (parts ++ own_lines gap (get_or xs k d)) ++ lines_from (left_gap gap (get_or xs k d) ++ before_next (get_or xs k d) (drop (k + 1) xs)) (drop (k + 1) xs)
+lines_next parts gap xs k d h =
+    let x : Item = get_or xs k d in
+    let rest : List Item = drop (k + 1) xs in
+    ap (λ ys. parts ++ lines_from gap ys) (drop_more xs k d h) ∙ (ap (λ ps. parts ++ ps) (lines_first gap x rest) ∙ sym (append_assoc parts (own_lines gap x) (lines_from (left_gap gap x ++ before_next x rest) rest)))

@@ -58,6 +58,15 @@ abbrev pub before_next : Item → List Item → Bytes
 before_next item [] = []
 before_next item (next ∷ items) = between item next
 
+-- an item's own line, and the gap that it leaves to what follows
+abbrev pub own_lines : Bytes → Item → List Part
+own_lines gap (i.Block texts) = []
+own_lines gap (i.Stmt x) = line_of gap x ∷ []
+
+abbrev pub left_gap : Bytes → Item → Bytes
+left_gap gap (i.Block texts) = gap ++ comment_lines texts
+left_gap gap (i.Stmt x) = []
+
 -- the lines of the items, the first behind this gap: a Block's lines stand in the gap of what follows
 abbrev pub lines_from : Bytes → List Item → List Part
 lines_from gap [] = p.Leaf (record { class = c.End; gap = gap; token = [] }) ∷ []

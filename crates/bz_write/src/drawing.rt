@@ -39,7 +39,7 @@ fn brackets_of_kind(kind: Kind) -> Option<Brackets>
     }
 }
 
-fn nothing(alloc: Global) -> Text
+pub fn nothing(alloc: Global) -> Text
     ensures { result ≡ [] }
 {
     Text::from_vec(Vec::new(alloc))

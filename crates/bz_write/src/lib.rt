@@ -4,6 +4,7 @@
 mod drawing;
 mod gaps;
 mod laws;
+mod lines;
 mod setting;
 
 pub use laws::{flags_keep_layout, layout_is_accepted, worked_rows};
