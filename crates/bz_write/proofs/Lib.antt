@@ -4,6 +4,7 @@ pub mod Flagged
 pub mod Forms
 pub mod Gapped
 pub mod Loops
+pub mod Measures
 pub mod Parts
 pub mod Runs
 pub mod Sequences

@@ -5,6 +5,7 @@ mod drawing;
 mod gaps;
 mod laws;
 mod lines;
+mod measure;
 mod setting;
 
 pub use laws::{flags_keep_layout, layout_is_accepted, worked_rows};
