@@ -8,5 +8,6 @@ pub mod Measures
 pub mod Parts
 pub mod Runs
 pub mod Sequences
+pub mod Settings
 pub mod Spelled
 pub mod Standing

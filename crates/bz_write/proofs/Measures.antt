@@ -19,5 +19,8 @@ deepest_suc [] k d h = absurd (omega arith)
 deepest_suc (x ∷ xs) zero d h = omega arith
 deepest_suc (x ∷ xs) (suc k) d h = let more : deepest (take (suc k) xs) ≡ max (deepest (take k xs)) (depth_part (get_or xs k d)) = deepest_suc xs k d (omega arith) in omega (arith, more)
 
-pub deepest_more : (xs : List Part) (k : ℕ) (d : Part) → k < length xs → deepest (take (k + 1) xs) ≡ max (deepest (take k xs)) (depth_part (get_or xs k d))
+deepest_more : (xs : List Part) (k : ℕ) (d : Part) → k < length xs → deepest (take (k + 1) xs) ≡ max (deepest (take k xs)) (depth_part (get_or xs k d))
 deepest_more xs k d h = ap (λ n. deepest (take n xs)) (add-one k) ∙ deepest_suc xs k d h
+
+pub within_more : (xs : List Part) (k : ℕ) (d : Part) (n : ℕ) → k < length xs → deepest (take k xs) ≤ n → depth_part (get_or xs k d) ≤ n → deepest (take (k + 1) xs) ≤ n
+within_more xs k d n h a b = let more : deepest (take (k + 1) xs) ≡ max (deepest (take k xs)) (depth_part (get_or xs k d)) = deepest_more xs k d h in omega (arith, more)

@@ -21,7 +21,7 @@ fn left_behind(part: &Part, room: usize) -> Option<usize>
 /// What is left of so many bytes behind the spelling of the parts; `None` where it is longer.
 #[cycle(room)]
 #[tactic(auto, using(crate::proofs::Measures::spelled_so_far))]
-pub fn left_behind_all(parts: &[Part], room: usize) -> Option<usize>
+fn left_behind_all(parts: &[Part], room: usize) -> Option<usize>
     ensures { MatchOption result (room < length (flat_map spell_part parts.now)) (λ left. length (flat_map spell_part parts.now) + left ≡ room) }
 {
     let mut left = room;
@@ -29,6 +29,13 @@ pub fn left_behind_all(parts: &[Part], room: usize) -> Option<usize>
         left = left_behind(part, left)?;
     }
     Some(left)
+}
+
+/// Whether the spelling of the parts has at most so many bytes.
+pub fn are_spelled_within(parts: &[Part], limit: usize) -> bool
+    ensures { IsTrue result ↔ (length (flat_map spell_part parts.now) ≤ limit) }
+{
+    left_behind_all(parts, limit).is_some()
 }
 
 /// Whether the part has at most this depth.
@@ -45,7 +52,7 @@ fn is_within(part: &Part, depth: usize) -> bool
 
 /// Whether each of the parts has at most this depth.
 #[cycle(depth)]
-#[tactic(auto, using(crate::proofs::Measures::deepest_more, crate::proofs::Measures::within_deepest))]
+#[tactic(auto, using(crate::proofs::Measures::within_more, crate::proofs::Measures::within_deepest))]
 pub fn are_within(parts: &[Part], depth: usize) -> bool
     ensures { IsTrue result ↔ (deepest parts.now ≤ depth) }
 {

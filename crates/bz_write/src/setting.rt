@@ -4,7 +4,7 @@ ghost use Rattle.bz_write.specs.Drawn.{drawn};
 ghost use Rattle.bz_write.specs.Written.{layout};
 
 use crate::lines::draw_lines;
-use crate::measure::{are_within, left_behind_all};
+use crate::measure::{are_spelled_within, are_within};
 use bz_tree::{Kind, Node, Tree};
 use bz_view::File;
 use std::alloc::{AllocError, Global};
@@ -50,7 +50,7 @@ pub fn set(alloc: Global, file: &File) -> Result<Tree, SetFault>
     ensures too_deep { result ≡ Err SetFault.TooDeep → (length (layout file.now) ≤ limit) × (200 < depth_of (drawn file.now)) }
 {
     let parts = draw_lines(alloc, file.items.as_slice())?;
-    if left_behind_all(parts.as_slice(), LIMIT).is_none() {
+    if !are_spelled_within(parts.as_slice(), LIMIT) {
         return Err(SetFault::TooLarge);
     }
     if !are_within(parts.as_slice(), DEEPEST - 1) {
