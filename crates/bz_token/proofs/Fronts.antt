@@ -1,5 +1,6 @@
 -- Fronts of a text, and machines on them.
-use Rattle.std.proofs.Common.{◌≡◌, ℕ, ◌≤◌, List, [], ◌∷◌, ◌++◌, length, ◌⊎◌, inl, inr, Option, Some, None, refl, sym, ap, arith}
+use Rattle.std.proofs.Common.{◌≡◌, ℕ, ◌≤◌, List, [], ◌∷◌, ◌++◌, length, ◌⊎◌, inl, inr, Option, Some, None, refl, sym, ap, subst, arith}
+use Rattle.std.proofs.lemmas.List.{append_cancel_left}
 use Rattle.bz_token.specs.Machine.{after, and_next}
 
 -- of two fronts the first is no longer, or it is the second and more
@@ -32,3 +33,6 @@ after_append step q r [] b e = let i : q ≡ r = cc in rw i refl
 after_append step q r (c ∷ a) b e =
     let w = some_next (step q c) (λ p. after step p a) r e in
     rw w.1 (after_append step (w.0) r a b w.2)
+
+pub rest_same : (t r u s : List ℕ) → t ++ r ≡ u ++ s → t ≡ u → r ≡ s
+rest_same t r u s e i = append_cancel_left u r s (subst (λ (x : List ℕ). x ++ r ≡ u ++ s) i e)

@@ -5,3 +5,5 @@ pub mod Complete
 pub mod Laws
 pub mod Longest
 pub mod Taken
+pub mod Sound
+pub mod Tokens

@@ -1,17 +1,16 @@
 -- What the machine takes from each state but the first.
-use Rattle.std.proofs.Common.{◌≡◌, ◌<◌, ◌≤◌, ℕ, zero, suc, Bool, true, false, cond, not, List, [], ◌∷◌, ◌++◌, ◌&&◌, ◌||◌, eqb, length, ◌⊎◌, inl, inr, Option, Some, None, refl, sym, ap, ◌∙◌, subst, arith, append_assoc, replicate}
-use Rattle.std.proofs.lemmas.Bool.{both_ways, cases_Bool, eqb-true, or_cases, or_from, and_left, and_right}
+use Rattle.std.proofs.Common.{◌≡◌, ◌<◌, ◌≤◌, ℕ, zero, suc, true, false, List, [], ◌∷◌, ◌++◌, ◌&&◌, ◌||◌, eqb, length, ◌⊎◌, inl, inr, Some, refl, sym, ap, ◌∙◌, arith, append_assoc, replicate}
+use Rattle.std.proofs.lemmas.Bool.{cases_Bool, eqb-true, and_left, and_right}
 use Rattle.std.proofs.lemmas.Option.{none-some, same_Some}
 use Rattle.bz_token.specs.declared.class.Class.{Class}
 use Rattle.bz_token.specs.declared.class.Class.TheVariants as v
 use Rattle.bz_token.specs.declared.state.State.{State}
-use Rattle.bz_token.specs.declared.state.State.TheVariants.{Start, Word, PrefixR, PrefixB, PrefixBoth, High, HighMark, HighOther, Zero, Whole, HexMark, Hex, OctMark, Oct, Point, Fraction, ExponentMark, ExponentSign, Exponent, Opened, Empty, Short, ShortTaken, ShortReturn, Long, LongOne, LongTwo, LongTaken, Closed, Star, Slash, Less, Greater, Bang, Operator, Ended}
+use Rattle.bz_token.specs.declared.state.State.TheVariants.{Word, High, Zero, Whole, HexMark, Hex, OctMark, Oct, Point, Fraction, ExponentMark, ExponentSign, Exponent, Short, ShortTaken, Long, LongOne, LongTwo, LongTaken, Closed, Star, Bang, Operator, Ended}
 use Rattle.bz_token.specs.declared.state.Quote.{Quote}
-use Rattle.bz_token.specs.declared.state.Quote.TheVariants.{Single, Double}
-use Rattle.bz_token.specs.Bytes.{among, is_digit, is_octal, is_hexadecimal, is_x, is_o, is_e, is_sign, is_high, is_letter, is_quote}
-use Rattle.bz_token.specs.Lexemes.{in_table, IsLetters, none, one, three, Each, SomeOf, IsDigits, IsSigned, IsExponent, MayBeExponent, IsShort, short_end, short_plain, short_taken, short_line, IsLong, long_end, long_plain, long_taken, IsQuoted, single, triple, is_prefix}
+use Rattle.bz_token.specs.Bytes.{among, is_digit, is_octal, is_hexadecimal, is_x, is_o, is_e, is_sign, is_high, is_letter}
+use Rattle.bz_token.specs.Lexemes.{IsLetters, none, one, three, Each, SomeOf, IsDigits, IsSigned, MayBeExponent, IsShort, short_end, short_plain, short_taken, short_line, IsLong, long_end, long_plain, long_taken}
 use Rattle.bz_token.specs.Machine.{after, and_next}
-use Rattle.bz_token.specs.Scanner.{word_move, quote_or_word, high_move, doubled_move, quote_byte, short_move, long_move, move, ends, reads}
+use Rattle.bz_token.specs.Scanner.{doubled_move, quote_byte, long_move, move, ends, reads}
 
 -- ---- marks
 
@@ -259,11 +258,11 @@ short_reads (suc n) q k (b ∷ s) l h =
         ]
     ]
 
-abbrev three_of : Quote → List ℕ
+abbrev pub three_of : Quote → List ℕ
 three_of q = quote_byte q ∷ quote_byte q ∷ quote_byte q ∷ []
 
 -- what stands behind j marks in a row in a text of three
-abbrev EndsLong : Quote → ℕ → List ℕ → Type 0
+abbrev pub EndsLong : Quote → ℕ → List ℕ → Type 0
 EndsLong q j s = (x : List ℕ) × (replicate j (quote_byte q) ++ s ≡ x ++ three_of q) × IsLong (quote_byte q) x
 
 shift : (j m : ℕ) (s : List ℕ) → replicate j m ++ (m ∷ s) ≡ replicate (suc j) m ++ s

@@ -1,5 +1,5 @@
 -- One machine for the lexemes of all classes: what the reader of tokens goes by. Its proofs say that it takes the texts of each class and no others.
-use Rattle.std.specs.Prelude.{ℕ, Bool, List, [], ◌∷◌, ◌||◌, nat_eq, Option, Some, None, is_some, if◌then◌else◌}
+use Rattle.std.specs.Prelude.{false, ℕ, Bool, List, [], ◌∷◌, ◌||◌, nat_eq, Option, Some, None, is_some, if◌then◌else◌}
 use Rattle.std.specs.Option.{option_or}
 use Rattle.bz_token.specs.declared.class.Class.{Class}
 use Rattle.bz_token.specs.declared.class.Class.TheVariants as v
@@ -139,6 +139,11 @@ reads q s = and_next (after move q s) ends
 abbrev pub named : Class → List ℕ → Class
 named v.Name s = if is_keyword s then v.Keyword else v.Name
 named c s = c
+
+-- an empty string, with or without a prefix, right before a third mark
+abbrev pub before_third : State → List ℕ → Bool
+before_third (Empty m) (b ∷ s) = nat_eq b (quote_byte m)
+before_third q s = false
 
 -- the state after the longest front, and its length
 unfoldable pub longest_front : List ℕ → Option (State × ℕ)

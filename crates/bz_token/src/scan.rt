@@ -1,6 +1,6 @@
 ghost use Rattle.std.specs.Prelude.{◌≡◌, Some, None, take, drop, length, MatchOption};
 ghost use Rattle.bz_token.specs.Lexemes.{is_keyword};
-ghost use Rattle.bz_token.specs.Scanner.{longest_front};
+ghost use Rattle.bz_token.specs.Scanner.{longest_front, before_third, named};
 ghost use Rattle.bz_token.specs.Tokens.{NoToken, TokenAt};
 
 use crate::Class;
@@ -19,17 +19,31 @@ pub fn token(text: &[u8]) -> Option<Found>
     ensures { MatchOption result (NoToken text.now) (λ found. TokenAt found.class found.len text.now) }
 {
     let (state, len) = longest_front(text)?;
-    if let State::Empty(quote) = state
-        && let Some(byte) = text.get(len)
-        && *byte == quote.byte()
-    {
+    if before_third(state, &text[len..]) {
         return None;
     }
-    let class = match state.class()? {
-        Class::Name if is_keyword(&text[..len]) => Class::Keyword,
-        class => class,
-    };
+    let class = named(state.class()?, &text[..len]);
     Some(Found { class, len })
+}
+
+/// Whether an empty string ends in this state and a third mark is next.
+fn before_third(state: State, rest: &[u8]) -> bool
+    ensures { result ≡ before_third state rest.now }
+{
+    match (state, rest) {
+        (State::Empty(quote), [byte, ..]) => *byte == quote.byte(),
+        _ => false,
+    }
+}
+
+/// A Name of the table of keywords is a Keyword.
+fn named(class: Class, text: &[u8]) -> Class
+    ensures { result ≡ named class text.now }
+{
+    match class {
+        Class::Name if is_keyword(text) => Class::Keyword,
+        _ => class,
+    }
 }
 
 /// The state after the longest lexeme at the front, and its length.

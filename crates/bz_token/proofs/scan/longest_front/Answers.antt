@@ -1,6 +1,5 @@
-use Rattle.std.proofs.Common.{◌≡◌, ◌<◌, ◌≤◌, ℕ, length, Some, None, get_or, drop, refl, sym, ◌∙◌, ap, arith}
-use Rattle.bz_token.specs.declared.state.State.TheVariants.{Start}
-use Rattle.bz_token.specs.Machine.{longest, or_found, or_best}
+use Rattle.std.proofs.Common.{◌≡◌, length, refl, sym, ◌∙◌, arith}
+use Rattle.bz_token.specs.Machine.{or_best}
 use Rattle.bz_token.specs.Scanner.{move, may_end, longest_front}
 use Rattle.bz_token.proofs.Longest.{goes_on, sticks, ends_here}
 use Rattle.bz_token.proofs.scan.longest_front.Goals as goal
