@@ -1,5 +1,5 @@
 -- A run that goes on.
-use Rattle.std.proofs.Common.{◌≡◌, ◌++◌, ◌∷◌, [], List, refl, subst}
+use Rattle.std.proofs.Common.{◌++◌, ◌∷◌, [], List, refl, subst}
 use Rattle.bz_journal.specs.History.{History, Answer, Acts, Runs}
 use Rattle.bz_journal.specs.declared.action.Action.{Action}
 

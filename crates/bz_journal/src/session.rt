@@ -58,7 +58,7 @@ impl Session {
     pub fn cursor(&self) -> u32
         ensures { result ≡ self.now.cursor }
     {
-        self.cursor
+        self.cursor // from 0
     }
 
     /// How many steps there are between the first text and the last.

@@ -1,4 +1,3 @@
-use Rattle.std.proofs.Common.{List}
 use Rattle.bz_journal.proofs.Acting.{acts_refused, acts_same, acts_given}
 use Rattle.bz_journal.proofs.session.Session.edit.Goals as goal
 

@@ -1,4 +1,4 @@
-use Rattle.std.proofs.Common.{subst, sym, ◌∙◌}
+use Rattle.std.proofs.Common.{◌∙◌}
 use Rattle.bz_journal.proofs.Kept.{accepted_at}
 use Rattle.bz_journal.proofs.session.Session.present.Goals as goal
 
