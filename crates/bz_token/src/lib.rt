@@ -2,5 +2,10 @@
 #![tactic(auto)]
 
 mod class;
+mod scan;
+mod state;
+mod theorems;
 
 pub use class::Class;
+pub use scan::{Found, token};
+pub use theorems::{begins, one_token, separated, single};
