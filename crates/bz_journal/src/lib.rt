@@ -1,0 +1,9 @@
+//! Editing a BUILD file with exact undo: a history of whole texts, and the session that keeps it.
+#![tactic(auto)]
+
+mod action;
+mod meaning;
+mod session;
+
+pub use action::{Action, Reply};
+pub use session::Session;

@@ -1,0 +1,206 @@
+ghost use Rattle.std.specs.Prelude.{◌≡◌, ◌≢◌, ◌≤◌, ◌<◌, ◌+◌, ◌++◌, ◌↔◌, ◌⊎◌, [], ◌∷◌, take, vec_len, Err, List, IfOk, IfErr, OnOk, OnErr, length, Result};
+ghost use Rattle.bz_tree.specs.declared.tree.Node.{Node};
+ghost use Rattle.bz_tree.specs.Spell.{limit};
+ghost use Rattle.bz_tree.specs.Legal.{Reads, Accepted};
+ghost use Rattle.bz_command.specs.declared.refusal.Refusal.{Refusal};
+ghost use Rattle.bz_journal.specs.declared.action.Reply.{Reply};
+ghost use Rattle.bz_journal.specs.declared.action.Action.{Action};
+ghost use Rattle.bz_journal.specs.History.{History, present, opened, after_text, undone, redone, IsMove, Leads, Acts, Runs};
+
+use crate::action::{Action, Reply};
+use crate::meaning::changed;
+use bz_command::{Command, Refusal, Target};
+use bz_items::{Memory, Text};
+use bz_tree::{ReadFault, parse};
+use std::alloc::Global;
+use std::marker::Model;
+
+const MOST_STEPS: u32 = 100_000;
+
+/// The texts of a BUILD file, one after another, and the place in them. Contracts see it as its history.
+#[derive(Drop)]
+pub struct Session {
+    texts: Vec<Text>,
+    cursor: u32,
+    before: u32,
+}
+
+impl Model for Session {
+    ghost use Rattle.bz_journal.specs.History.{History, IsKept};
+
+    ghost Value = { History };
+
+    ghost view = { λ session. record { texts = session.texts.items; cursor = session.cursor; before = session.before } };
+
+    ghost invariant = { λ session. IsKept (record { texts = session.texts.items; cursor = session.cursor; before = session.before }) };
+}
+
+impl Session {
+    /// A session at the first text of a file of this package. Refused exactly where the text is not accepted, with the
+    /// fault of reading it; `Memory`: a growth was refused.
+    pub fn open(alloc: Global, package: &str, text: &[u8]) -> Result<Session, ReadFault>
+        requires { length «package».now ≤ 65536 }
+        ensures ok { IfOk result (λ session. session ≡ opened text.now) }
+        ensures accepted { OnOk result (Accepted text.now) }
+        ensures too_large { (result ≡ Err ReadFault.TooLarge) ↔ limit < length text.now }
+        ensures refused { IfErr result (λ fault. fault ≢ ReadFault.TooLarge → fault ≢ ReadFault.Memory → (n : Node) → Reads text.now n → ⊥) }
+    {
+        let _ = package;
+        let _tree = parse(alloc, text)?;
+        Ok(Session {
+            texts: one(alloc, text)?,
+            cursor: 0,
+            before: 0,
+        })
+    }
+
+    /// The number of the present text; the first is 0.
+    pub fn cursor(&self) -> u32
+        ensures { result ≡ self.now.cursor }
+    {
+        self.cursor // from 0
+    }
+
+    /// How many steps there are between the first text and the last.
+    pub fn steps(&self) -> u32
+        ensures { result + 1 ≡ length self.now.texts }
+    {
+        (self.texts.len() - 1) as u32
+    }
+
+    /// Appends the present text to `out`. The error: a growth was refused; `out` is then as before.
+    pub fn text_into(&self, out: &mut Vec<u8>) -> Result<(), Memory>
+        ensures ok { OnOk result (out.new.items ≡ out.old.items ++ present self.now) }
+        ensures err { OnErr result (out.new.items ≡ out.old.items) }
+    {
+        out.extend_from_slice(self.present())
+    }
+
+    /// Does an action. At an error the history is as before. Errors: those of the command; `TooLarge` and `TooDeep`
+    /// where the new text would be past a limit; `TooFar` where there aren't so many steps; `Full` where a command
+    /// changes the text behind which there are 100,000 steps; `Memory`: a growth was refused, never at undo and redo.
+    pub fn act(&mut self, action: &Action) -> Result<Reply, Refusal>
+        ensures acts { Acts action.now self.old result self.new }
+        ensures moves { IsMove action.now → Leads action.now self.old result self.new }
+        ensures err { OnErr result (self.new ≡ self.old) }
+    {
+        match action {
+            Action::Do(command, target) => self.edit(command, target),
+            Action::Undo(n) => self.undo(*n),
+            Action::Redo(n) => self.redo(*n),
+        }
+    }
+
+    /// The present text.
+    fn present(&self) -> &[u8]
+        ensures text { result.now ≡ present self.now }
+        ensures accepted { Accepted result.now }
+    {
+        self.texts[self.cursor as usize].as_slice()
+    }
+
+    /// Puts a text behind the present one.
+    fn push(&mut self, text: Text) -> Result<Reply, Refusal>
+        requires { Accepted text }
+        ensures acts { ((result, self.new) ≡ after_text self.old text) ⊎ ((result ≡ Err Refusal.Memory) × (self.new ≡ self.old)) }
+    {
+        if text.as_slice() == self.present() {
+            return Ok(Reply::Same);
+        }
+        let cursor = self.cursor;
+        if cursor >= MOST_STEPS {
+            return Err(Refusal::Full);
+        }
+        put_after(&mut self.texts, cursor as usize + 1, text)?;
+        self.before = cursor;
+        self.cursor = cursor + 1;
+        Ok(Reply::Changed)
+    }
+
+    /// Does a command on the present text.
+    fn edit(&mut self, command: &Command, target: &Target) -> Result<Reply, Refusal>
+        ensures acts { Acts (Action.Do command.now target.now) self.old result self.new }
+        ensures err { OnErr result (self.new ≡ self.old) }
+    {
+        let alloc = *self.texts.allocator();
+        match changed(alloc, command, target, self.present()) {
+            Ok(Some(text)) => self.push(text),
+            Ok(None) => Ok(Reply::Same),
+            Err(refusal) => Err(refusal),
+        }
+    }
+
+    /// Goes back by n steps.
+    fn undo(&mut self, n: u32) -> Result<Reply, Refusal>
+        ensures { (result, self.new) ≡ undone n self.old }
+    {
+        let cursor = self.cursor;
+        if n > cursor {
+            return Err(Refusal::TooFar);
+        }
+        if n > 0 {
+            self.before = cursor;
+            self.cursor = cursor - n;
+        }
+        Ok(Reply::Moved)
+    }
+
+    /// Goes forward by n steps.
+    fn redo(&mut self, n: u32) -> Result<Reply, Refusal>
+        ensures { (result, self.new) ≡ redone n self.old }
+    {
+        let cursor = self.cursor;
+        let last = self.texts.len() - 1;
+        if n as usize > last - cursor as usize {
+            return Err(Refusal::TooFar);
+        }
+        if n > 0 {
+            self.before = cursor;
+            self.cursor = cursor + n;
+        }
+        Ok(Reply::Moved)
+    }
+
+    /// Does actions in order, and appends a reply for each to `replies`; a refused action doesn't stop the run.
+    /// Room for all replies is taken first. The error: it was refused; no action has then run.
+    pub fn run(
+        &mut self,
+        actions: &[Action],
+        replies: &mut Vec<Result<Reply, Refusal>>,
+    ) -> Result<(), Memory>
+        ensures ok { OnOk result ((added : List (Result Reply Refusal)) × (replies.new.items ≡ replies.old.items ++ added)
+            × Runs self.old actions.now added self.new) }
+        ensures err { OnErr result ((replies.new.items ≡ replies.old.items) × (self.new ≡ self.old)) }
+    {
+        replies.reserve(actions.len())?;
+        for action in actions {
+            let reply = self.act(action);
+            replies.push(reply).unwrap();
+        }
+        Ok(())
+    }
+}
+
+/// A list of one text.
+fn one(alloc: Global, text: &[u8]) -> Result<Vec<Text>, Memory>
+    ensures { IfOk result (λ texts. texts.items ≡ text.now ∷ []) }
+{
+    let mut texts = Vec::new(alloc);
+    texts.push(Text::from_slice(alloc, text)?)?;
+    Ok(texts)
+}
+
+/// Puts a text behind the first n, in the place of those that are there.
+fn put_after(texts: &mut Vec<Text>, n: usize, text: Text) -> Result<(), Memory>
+    requires { n ≤ vec_len texts.old }
+    ensures ok { OnOk result (texts.new.items ≡ take n texts.old.items ++ text ∷ []) }
+    ensures err { OnErr result (texts.new.items ≡ texts.old.items) }
+{
+    if n < texts.len() {
+        texts[n] = text;
+        texts.truncate(n + 1);
+    } else {
+        texts.push(text)?;
+    }
+    Ok(())
+}
