@@ -1,0 +1,37 @@
+//! What labels and targets are cut into.
+ghost use Rattle.std.specs.Prelude.{◌≡◌, ◌++◌, ◌∷◌, ◌==◌, false, MatchOption, position, Bool};
+ghost use Rattle.std.specs.List.{list_any};
+ghost use Rattle.bz_label.specs.Pieces.{is_joined, last_piece};
+
+fn place(text: &[u8], byte: u8) -> Option<usize>
+    ensures { result ≡ position (λ b. b == byte) text.now }
+{
+    text.iter().position(|b| *b == byte)
+}
+
+/// What stands before the first such byte, and what stands after it.
+pub(crate) fn cut(text: &[u8], byte: u8) -> Option<(&[u8], &[u8])>
+    ensures { MatchOption result (list_any (λ b. b == byte) text.now ≡ false)
+        (λ parts. (text.now ≡ parts.0.now ++ byte ∷ parts.1.now) × (list_any (λ b. b == byte) parts.0.now ≡ false)) }
+{
+    let at = place(text, byte)?;
+    Some((&text[..at], &text[at + 1..]))
+}
+
+/// Whether the text is non-empty pieces joined by slashes.
+pub(crate) fn joined(text: &[u8]) -> bool
+    ensures { result ≡ is_joined text.now }
+{
+    text.split(|b| *b == b'/').all(|piece| !piece.is_empty())
+}
+
+/// What stands after the last slash, or the whole text.
+pub(crate) fn last(text: &[u8]) -> &[u8]
+    ensures { result.now ≡ last_piece text.now }
+{
+    let mut start = text.len();
+    while start > 0 && text[start - 1] != b'/' {
+        start -= 1;
+    }
+    &text[start..]
+}

@@ -1,0 +1,46 @@
+//! Shorter forms of labels.
+ghost use Rattle.std.specs.Prelude.{IfOk};
+ghost use Rattle.bz_label.specs.Labels.{IsShortened, IsUnrepeated};
+
+use crate::form::whole;
+use crate::piece::last;
+use bz_items::Text;
+use std::alloc::{AllocError, Global};
+
+fn unrepeated(text: &[u8]) -> &[u8]
+    ensures { IsUnrepeated text.now result.now }
+{
+    match whole(text) {
+        Some(parts) if last(parts.package) == parts.name => {
+            &text[..text.len() - parts.name.len() - 1]
+        }
+        _ => text,
+    }
+}
+
+fn shortened<'a>(current: &[u8], text: &'a [u8]) -> &'a [u8]
+    ensures { IsShortened current.now text.now result.now }
+{
+    match whole(text) {
+        Some(parts) if parts.repository.is_empty() && parts.package == current => {
+            &text[text.len() - parts.name.len() - 1..]
+        }
+        _ => unrepeated(text),
+    }
+}
+
+/// The text as a label is written in the current package `p`: `//p:x` becomes `:x`; else `..//p/x:x` becomes
+/// `..//p/x`, and `..//x:x` becomes `..//x`; any other text stays. `AllocError` where memory was refused.
+pub fn shorten(alloc: Global, current: &str, text: &str) -> Result<Text, AllocError>
+    ensures { IfOk result (IsShortened current.now text.now) }
+{
+    Text::from_slice(alloc, shortened(current.as_bytes(), text.as_bytes()))
+}
+
+/// The part of `shorten` that looks at no package: `..//p/x:x` becomes `..//p/x`, and `..//x:x` becomes `..//x`; any
+/// other text stays. `AllocError` where memory was refused.
+pub fn shorten_repeat(alloc: Global, text: &str) -> Result<Text, AllocError>
+    ensures { IfOk result (IsUnrepeated text.now) }
+{
+    Text::from_slice(alloc, unrepeated(text.as_bytes()))
+}
