@@ -77,13 +77,13 @@ IsSame current first second = (first ≡ second) ⊎ ((label : Label) × IsLabel
 
 -- the text is //p:x with p the current package
 pub record IsOwn (current text : Bytes) (label : Label) : Type 0 where
-  pub whole : IsWhole text label
+  pub written : IsWhole text label
   pub repository : label.repository ≡ []
   pub «package» : label.package ≡ current
 
 -- the text is ..//p/x:x or ..//x:x
 pub record IsRepeat (text : Bytes) (label : Label) : Type 0 where
-  pub whole : IsWhole text label
+  pub written : IsWhole text label
   pub name : last_piece label.package ≡ label.name
 
 -- ..//p/x:x becomes ..//p/x, and ..//x:x becomes ..//x; any other text stays

@@ -1,11 +1,11 @@
 //! The forms of labels, read without memory.
-ghost use Rattle.std.specs.Prelude.{◌≡◌, ◌++◌, ◌↔◌, ℕ, List, codes, not, false, MatchOption, IsTrue};
+ghost use Rattle.std.specs.Prelude.{◌≡◌, ◌++◌, ℕ, List, codes, not, false, MatchOption, IsTrue};
 ghost use Rattle.bz_label.specs.Pieces.{has_slash};
-ghost use Rattle.bz_label.specs.Labels.{is_barred, is_plain, is_path, is_repository_name, IsRepository, IsWhole, IsPackageAlone, IsRepositoryAlone, IsColonName, IsBareName, IsLabel};
+ghost use Rattle.bz_label.specs.Labels.{is_barred, is_plain, is_path, is_repository_name, IsWhole, IsPackageAlone, IsRepositoryAlone, IsColonName, IsBareName, IsLabel};
 ghost use Rattle.bz_label.specs.declared.label.Label.{Label};
-ghost use Rattle.bz_label.specs.Forms.{label_of};
+ghost use Rattle.bz_label.specs.Forms.{label_of, is_repository, are_whole, are_alone};
 
-use crate::piece::{cut, joined, last};
+use crate::piece::{after, cut, holds, joined, last};
 
 /// The three parts of a label, as slices of the texts that they stand in.
 #[derive(Clone, Copy)]
@@ -33,20 +33,21 @@ fn path(text: &[u8]) -> bool
     joined(text) && plain(text)
 }
 
+#[tactic(auto, using(crate::proofs::Empty::empty_by_length))]
 fn repository_name(text: &[u8]) -> bool
     ensures { result ≡ is_repository_name text.now }
 {
-    !text.is_empty() && !text.iter().any(|byte| *byte == b'/') && plain(text)
+    !text.is_empty() && !holds(text, b'/') && plain(text)
 }
 
 /// Whether the text may stand before `//`.
+#[tactic(auto, using(crate::proofs::Empty::empty_by_length))]
 fn repository(text: &[u8]) -> bool
-    ensures { IsTrue result ↔ IsRepository text.now }
+    ensures { result ≡ is_repository text.now }
 {
-    match text {
-        [] | [b'@'] | [b'@', b'@'] => true,
-        [b'@', name @ ..] => repository_name(name),
-        _ => false,
+    match after(text, b'@') {
+        Some(name) => name.is_empty() || repository_name(name),
+        None => text.is_empty(),
     }
 }
 
@@ -57,10 +58,14 @@ fn cut_slashes(text: &[u8]) -> Option<(&[u8], &[u8])>
         (λ parts. (has_slash parts.0.now ≡ false) × (text.now ≡ parts.0.now ++ codes "//" ++ parts.1.now)) }
 {
     let (front, rest) = cut(text, b'/')?;
-    match rest {
-        [b'/', rest @ ..] => Some((front, rest)),
-        _ => None,
-    }
+    Some((front, after(rest, b'/')?))
+}
+
+#[tactic(auto, using(crate::proofs::Empty::empty_by_length))]
+fn fits(front: &[u8], package: &[u8], name: &[u8]) -> bool
+    ensures { result ≡ are_whole front.now «package».now name.now }
+{
+    repository(front) && (package.is_empty() || path(package)) && path(name)
 }
 
 /// `[REPOSITORY]//PACKAGE:NAME`.
@@ -69,15 +74,20 @@ pub(crate) fn whole(text: &[u8]) -> Option<Parts<'_>>
 {
     let (front, rest) = cut_slashes(text)?;
     let (package, name) = cut(rest, b':')?;
-    if repository(front) && (package.is_empty() || path(package)) && path(name) {
-        Some(Parts {
-            repository: front,
-            package,
-            name,
-        })
-    } else {
-        None
+    if !fits(front, package, name) {
+        return None;
     }
+    Some(Parts {
+        repository: front,
+        package,
+        name,
+    })
+}
+
+fn fits_alone(front: &[u8], package: &[u8]) -> bool
+    ensures { result ≡ are_alone front.now «package».now }
+{
+    repository(front) && path(package)
 }
 
 /// `[REPOSITORY]//PACKAGE`.
@@ -85,15 +95,14 @@ fn package_alone(text: &[u8]) -> Option<Parts<'_>>
     ensures { MatchOption result ((label : Label) → IsPackageAlone text.now label → ⊥) (λ parts. IsPackageAlone text.now (label_of parts)) }
 {
     let (front, package) = cut_slashes(text)?;
-    if repository(front) && path(package) {
-        Some(Parts {
-            repository: front,
-            package,
-            name: last(package),
-        })
-    } else {
-        None
+    if !fits_alone(front, package) {
+        return None;
     }
+    Some(Parts {
+        repository: front,
+        package,
+        name: last(package),
+    })
 }
 
 /// `@REPO`.
@@ -155,5 +164,8 @@ pub(crate) fn parts_of<'a>(current: &'a [u8], text: &'a [u8]) -> Option<Parts<'a
     if let Some(parts) = colon_name(current, text) {
         return Some(parts);
     }
-    bare_name(current, text)
+    if let Some(parts) = bare_name(current, text) {
+        return Some(parts);
+    }
+    None
 }

@@ -1,7 +1,24 @@
 //! What labels and targets are cut into.
-ghost use Rattle.std.specs.Prelude.{◌≡◌, ◌++◌, ◌∷◌, ◌==◌, false, MatchOption, position, Bool};
+ghost use Rattle.std.specs.Prelude.{◌≡◌, ◌++◌, ◌∷◌, ◌==◌, false, MatchOption, position, Bool, List, ℕ};
 ghost use Rattle.std.specs.List.{list_any};
 ghost use Rattle.bz_label.specs.Pieces.{is_joined, last_piece};
+
+/// Whether such a byte stands in the text.
+pub(crate) fn holds(text: &[u8], byte: u8) -> bool
+    ensures { result ≡ list_any (λ b. b == byte) text.now }
+{
+    text.iter().any(|b| *b == byte)
+}
+
+/// What follows the first byte, where it is this one.
+pub(crate) fn after(text: &[u8], byte: u8) -> Option<&[u8]>
+    ensures { MatchOption result ((rest : List ℕ) → text.now ≡ byte ∷ rest → ⊥) (λ rest. text.now ≡ byte ∷ rest.now) }
+{
+    match text {
+        [first, rest @ ..] if *first == byte => Some(rest),
+        _ => None,
+    }
+}
 
 fn place(text: &[u8], byte: u8) -> Option<usize>
     ensures { result ≡ position (λ b. b == byte) text.now }

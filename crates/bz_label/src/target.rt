@@ -7,7 +7,7 @@ ghost use Rattle.bz_label.specs.Targets.{decimal, which_of, after_percent, is_pa
 ghost use Rattle.bz_label.specs.Faults.{target_fault_number};
 ghost use Rattle.bz_label.specs.declared.target.Target.{Target};
 
-use crate::piece::{cut, joined, last};
+use crate::piece::{cut, holds, joined, last};
 use bz_items::Text;
 use std::alloc::{AllocError, Global};
 use thiserror::Error;
@@ -94,10 +94,11 @@ fn which_rules(alloc: Global, word: &[u8]) -> Result<Which, AllocError>
     }
 }
 
+#[tactic(auto, using(crate::proofs::Empty::empty_by_length))]
 fn package(text: &[u8]) -> bool
     ensures { result ≡ is_package text.now }
 {
-    (text.is_empty() || joined(text)) && !text.iter().any(|byte| *byte == b':')
+    (text.is_empty() || joined(text)) && !holds(text, b':')
 }
 
 /// The package and what follows it.

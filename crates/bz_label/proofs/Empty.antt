@@ -1,0 +1,12 @@
+-- The test for an empty text, as the length says it.
+use Rattle.std.proofs.Common.{◌≡◌, ℕ, ◌+◌, List, [], ◌∷◌, length, Bool, true, false, ◌<◌, refl, arith, ◌==◌, not, ap}
+use Rattle.std.proofs.lemmas.Bool.Decides.{nat_tests}
+use Rattle.bz_label.specs.Pieces.{is_empty, is_present}
+
+pub empty_by_length : (text : List ℕ) → (length text == 0) ≡ is_empty text
+empty_by_length [] = refl
+empty_by_length (x ∷ xs) = grind (arith, nat_tests)
+
+pub present_by_length : (text : List ℕ) → not (length text == 0) ≡ is_present text
+present_by_length text = ap not (empty_by_length text)
+

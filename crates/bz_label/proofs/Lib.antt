@@ -1,0 +1,4 @@
+pub mod Cuts
+pub mod Empty
+pub mod Shapes
+pub mod Readings
