@@ -42,3 +42,7 @@ pub record IsTarget (text : Bytes) (target : Target) : Type 0 where
   pub room : length target.package ≤ 65536
   pub present : IsTrue (is_present word)
   pub which : target.which ≡ which_of word
+
+-- the target of a package and what follows it
+abbrev pub target_of : Bytes → Bytes → Target
+target_of path word = record { «package» = path; which = which_of word }

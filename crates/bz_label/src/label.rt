@@ -1,12 +1,13 @@
 //! Labels.
 ghost use Rattle.std.specs.Prelude.{◌≡◌, ◌↔◌, IsTrue, IfOk, Err};
 ghost use Rattle.bz_label.specs.Labels.{IsLabel, IsSame};
+ghost use Rattle.bz_label.specs.Forms.{label_of};
 ghost use Rattle.bz_label.specs.Faults.{label_fault_number};
 ghost use Rattle.bz_label.specs.declared.label.Label.{Label};
 
-use crate::form::parts_of;
+use crate::form::{Parts, parts_of};
 use bz_items::Text;
-use std::alloc::Global;
+use std::alloc::{AllocError, Global};
 use thiserror::Error;
 
 /// A label: the repository's part as written, the package and the name.
@@ -41,6 +42,16 @@ impl LabelFault {
     }
 }
 
+fn copied(alloc: Global, parts: Parts) -> Result<Label, AllocError>
+    ensures { IfOk result (λ label. label ≡ label_of parts.entry) }
+{
+    Ok(Label {
+        repository: Text::from_slice(alloc, parts.repository)?,
+        package: Text::from_slice(alloc, parts.package)?,
+        name: Text::from_slice(alloc, parts.name)?,
+    })
+}
+
 impl Label {
     /// The label that the text is, read in the current package, which `:NAME` and `NAME`
     /// stand in. `BadLabel` exactly where it is
@@ -49,15 +60,17 @@ impl Label {
         ensures ok { IfOk result (IsLabel current.now text.now) }
         ensures bad { (result ≡ Err LabelFault.BadLabel) ↔ ((label : Label) → IsLabel current.now text.now label → ⊥) }
     {
-        let parts =
-            parts_of(current.as_bytes(), text.as_bytes()).ok_or(LabelFault::BadLabel)?;
-        let copied = |part: &[u8]| Text::from_slice(alloc, part).map_err(|_| LabelFault::Memory);
-        Ok(Label {
-            repository: copied(parts.repository)?,
-            package: copied(parts.package)?,
-            name: copied(parts.name)?,
-        })
+        match parts_of(current.as_bytes(), text.as_bytes()) {
+            Some(parts) => copied(alloc, parts).map_err(|_| LabelFault::Memory),
+            None => Err(LabelFault::BadLabel),
+        }
     }
+}
+
+fn equal_parts(one: Parts, other: Parts) -> bool
+    ensures { IsTrue result ↔ (label_of one.entry ≡ label_of other.entry) }
+{
+    one.repository == other.repository && one.package == other.package && one.name == other.name
 }
 
 /// Whether two texts mean the same in the current package: both are labels with equal three parts, or the texts are equal. It
@@ -69,12 +82,11 @@ pub fn same(current: &str, first: &str, second: &str) -> bool
         return true;
     }
     let current = current.as_bytes();
-    match (parts_of(current, first.as_bytes()), parts_of(current, second.as_bytes())) {
-        (Some(first), Some(second)) => {
-            first.repository == second.repository
-                && first.package == second.package
-                && first.name == second.name
-        }
-        _ => false,
-    }
+    let Some(one) = parts_of(current, first.as_bytes()) else {
+        return false;
+    };
+    let Some(other) = parts_of(current, second.as_bytes()) else {
+        return false;
+    };
+    equal_parts(one, other)
 }

@@ -10,23 +10,25 @@ use std::alloc::{AllocError, Global};
 fn unrepeated(text: &[u8]) -> &[u8]
     ensures { IsUnrepeated text.now result.now }
 {
-    match whole(text) {
-        Some(parts) if last(parts.package) == parts.name => {
-            &text[..text.len() - parts.name.len() - 1]
-        }
-        _ => text,
+    let Some(parts) = whole(text) else {
+        return text;
+    };
+    if last(parts.package) != parts.name {
+        return text;
     }
+    &text[..text.len() - parts.name.len() - 1]
 }
 
 fn shortened<'a>(current: &[u8], text: &'a [u8]) -> &'a [u8]
     ensures { IsShortened current.now text.now result.now }
 {
-    match whole(text) {
-        Some(parts) if parts.repository.is_empty() && parts.package == current => {
-            &text[text.len() - parts.name.len() - 1..]
-        }
-        _ => unrepeated(text),
+    let Some(parts) = whole(text) else {
+        return unrepeated(text);
+    };
+    if !parts.repository.is_empty() || parts.package != current {
+        return unrepeated(text);
     }
+    &text[text.len() - parts.name.len() - 1..]
 }
 
 /// The text as a label is written in the current package `p`: `//p:x` becomes `:x`; else `..//p/x:x` becomes
@@ -34,7 +36,8 @@ fn shortened<'a>(current: &[u8], text: &'a [u8]) -> &'a [u8]
 pub fn shorten(alloc: Global, current: &str, text: &str) -> Result<Text, AllocError>
     ensures { IfOk result (IsShortened current.now text.now) }
 {
-    Text::from_slice(alloc, shortened(current.as_bytes(), text.as_bytes()))
+    let short = shortened(current.as_bytes(), text.as_bytes());
+    Ok(Text::from_slice(alloc, short)?)
 }
 
 /// The part of `shorten` that looks at no package: `..//p/x:x` becomes `..//p/x`, and `..//x:x` becomes `..//x`; any
@@ -42,5 +45,6 @@ pub fn shorten(alloc: Global, current: &str, text: &str) -> Result<Text, AllocEr
 pub fn shorten_repeat(alloc: Global, text: &str) -> Result<Text, AllocError>
     ensures { IfOk result (IsUnrepeated text.now) }
 {
-    Text::from_slice(alloc, unrepeated(text.as_bytes()))
+    let short = unrepeated(text.as_bytes());
+    Ok(Text::from_slice(alloc, short)?)
 }

@@ -1,13 +1,13 @@
 //! Targets.
-ghost use Rattle.std.specs.Prelude.{◌≡◌, ◌↔◌, ◌++◌, ◌⊎◌, codes, ℕ, List, Err, IfOk, MatchOption, IsTrue, true, ◌^◌, ◌-◌, min};
+ghost use Rattle.std.specs.Prelude.{◌≡◌, ◌↔◌, ◌++◌, ◌&&◌, codes, ℕ, List, Err, IfOk, IfSome, IsSomeAnd, MatchOption, IsTrue, true, ◌^◌, ◌-◌, min, nat_le, length};
 ghost use Rattle.std.specs.List.{list_all};
 ghost use Rattle.std.specs.Char.{is_ascii_digit};
-ghost use Rattle.bz_label.specs.Pieces.{has_colon, last_piece};
-ghost use Rattle.bz_label.specs.Targets.{decimal, which_of, after_percent, is_package, IsSpelled, IsTarget};
+ghost use Rattle.bz_label.specs.Pieces.{is_present};
+ghost use Rattle.bz_label.specs.Targets.{decimal, which_of, target_of, after_percent, is_package, IsSpelled, IsTarget};
 ghost use Rattle.bz_label.specs.Faults.{target_fault_number};
 ghost use Rattle.bz_label.specs.declared.target.Target.{Target};
 
-use crate::piece::{cut, holds, joined, last};
+use crate::piece::{after, cut, holds, joined, last};
 use bz_items::Text;
 use std::alloc::{AllocError, Global};
 use thiserror::Error;
@@ -73,10 +73,17 @@ fn line(digits: &[u8]) -> u32
     line
 }
 
+fn digits(word: &[u8]) -> bool
+    ensures { result ≡ list_all is_ascii_digit word.now }
+{
+    word.iter().all(u8::is_ascii_digit)
+}
+
+#[tactic(auto, using(crate::proofs::Empty::present_by_length))]
 fn percent(alloc: Global, word: &[u8]) -> Result<Which, AllocError>
     ensures { IfOk result (λ which. which ≡ after_percent word.now) }
 {
-    if !word.is_empty() && word.iter().all(|byte| byte.is_ascii_digit()) {
+    if !word.is_empty() && digits(word) {
         Ok(Which::Line(line(word)))
     } else {
         Ok(Which::Kind(Text::from_slice(alloc, word)?))
@@ -94,22 +101,70 @@ fn which_rules(alloc: Global, word: &[u8]) -> Result<Which, AllocError>
     }
 }
 
-#[tactic(auto, using(crate::proofs::Empty::empty_by_length))]
-fn package(text: &[u8]) -> bool
-    ensures { result ≡ is_package text.now }
+/// Whether the text may be a package, and what follows it is there.
+#[tactic(auto, using(crate::proofs::Empty::empty_by_length, crate::proofs::Empty::present_by_length))]
+fn fits(path: &[u8], word: &[u8]) -> bool
+    ensures { result ≡ (is_package path.now && nat_le (length path.now) 65536 && is_present word.now) }
 {
-    (text.is_empty() || joined(text)) && !holds(text, b':')
+    (path.is_empty() || joined(path))
+        && !holds(path, b':')
+        && path.len() <= PACKAGE_LIMIT
+        && !word.is_empty()
 }
 
-/// The package and what follows it.
-fn halves(text: &[u8]) -> Option<(&[u8], &[u8])> {
-    let (absolute, rest) = match text {
-        [b'/', b'/', rest @ ..] => (true, rest),
-        _ => (false, text),
+/// What follows `//`.
+fn after_slashes(text: &[u8]) -> Option<&[u8]>
+    ensures { MatchOption result ((rest : List ℕ) → text.now ≡ codes "//" ++ rest → ⊥) (λ rest. text.now ≡ codes "//" ++ rest.now) }
+{
+    after(after(text, b'/')?, b'/')
+}
+
+/// The package and what follows it, before either is tested.
+fn halves(text: &[u8]) -> Option<(&[u8], &[u8])>
+    ensures spelled { IfSome result (λ halves. IsSpelled text.now halves.0.now halves.1.now) }
+    ensures only { (path word : List ℕ) → IsTrue (is_package path) → IsSpelled text.now path word
+        → IsSomeAnd result (λ halves. (halves.0.now ≡ path) × (halves.1.now ≡ word)) }
+{
+    let Some(rest) = after_slashes(text) else {
+        return cut(text, b':');
     };
     match cut(rest, b':') {
         Some(halves) => Some(halves),
-        None if absolute => Some((rest, last(rest))),
-        None => None,
+        None => Some((rest, last(rest))),
+    }
+}
+
+/// The package and what follows it, of a text that is a target.
+fn target_halves(text: &[u8]) -> Option<(&[u8], &[u8])>
+    ensures { MatchOption result ((target : Target) → IsTarget text.now target → ⊥)
+        (λ halves. IsTarget text.now (target_of halves.0.now halves.1.now)) }
+{
+    let (path, word) = halves(text)?;
+    if !fits(path, word) {
+        return None;
+    }
+    Some((path, word))
+}
+
+fn copied(alloc: Global, path: &[u8], word: &[u8]) -> Result<Target, AllocError>
+    ensures { IfOk result (λ target. target ≡ target_of path.now word.now) }
+{
+    Ok(Target {
+        package: Text::from_slice(alloc, path)?,
+        which: which_rules(alloc, word)?,
+    })
+}
+
+impl Target {
+    /// The target that the text is. `BadTarget` exactly where it is none, or where its package's name is longer than
+    /// 65,536 bytes; `Memory` where room for the package or the word was refused.
+    pub fn read(alloc: Global, text: &str) -> Result<Target, TargetFault>
+        ensures ok { IfOk result (IsTarget text.now) }
+        ensures bad { (result ≡ Err TargetFault.BadTarget) ↔ ((target : Target) → IsTarget text.now target → ⊥) }
+    {
+        match target_halves(text.as_bytes()) {
+            Some((path, word)) => copied(alloc, path, word).map_err(|_| TargetFault::Memory),
+            None => Err(TargetFault::BadTarget),
+        }
     }
 }
