@@ -13,7 +13,7 @@ use Rattle.bz_label.proofs.Cuts.{cut_once}
 unbarred : (byte : ℕ) → not (is_barred byte) ≡ true → is_colon byte ≡ false
 unbarred byte free = grind (arith, nat_tests)
 
-or_none : (x y : Bool) → x ≡ false → y ≡ false → (x || y) ≡ false
+pub or_none : (x y : Bool) → x ≡ false → y ≡ false → (x || y) ≡ false
 or_none x y hx hy = cc
 
 pub plain_colonless : (text : Bytes) → is_plain text ≡ true → has_colon text ≡ false
@@ -76,16 +76,16 @@ both_slashes front rest before behind hf hb e =
   (cut.0, cc)
 
 -- the text of a whole label, cut at its two slashes
-whole_behind : (label : Label) (text : Bytes) → IsWhole text label → text ≡ label.repository ++ codes "//" ++ (label.package ++ 58 ∷ label.name)
+pub whole_behind : (label : Label) (text : Bytes) → IsWhole text label → text ≡ label.repository ++ codes "//" ++ (label.package ++ 58 ∷ label.name)
 whole_behind label text whole = whole.spelled ∙ append_assoc (label.repository ++ codes "//" ++ label.package) (codes ":") label.name ∙ append_assoc (label.repository ++ codes "//") label.package (codes ":" ++ label.name)
 
 whole_cut : (text front rest : Bytes) (label : Label) → has_slash front ≡ false → text ≡ front ++ codes "//" ++ rest → IsWhole text label → (front ≡ label.repository) × (rest ≡ label.package ++ 58 ∷ label.name)
 whole_cut text front rest label hf e whole = both_slashes front rest label.repository (label.package ++ 58 ∷ label.name) hf (repository_slashless _ whole.repository) (sym e ∙ whole_behind label text whole)
 
-alone_cut : (text front rest : Bytes) (label : Label) → has_slash front ≡ false → text ≡ front ++ codes "//" ++ rest → IsPackageAlone text label → (front ≡ label.repository) × (rest ≡ label.package)
+pub alone_cut : (text front rest : Bytes) (label : Label) → has_slash front ≡ false → text ≡ front ++ codes "//" ++ rest → IsPackageAlone text label → (front ≡ label.repository) × (rest ≡ label.package)
 alone_cut text front rest label hf e alone = both_slashes front rest label.repository label.package hf (repository_slashless _ alone.repository) (sym e ∙ alone.spelled)
 
-any_at : (p : ℕ → Bool) (xs : Bytes) (x : ℕ) (ys : Bytes) → p x ≡ true → list_any p (xs ++ x ∷ ys) ≡ true
+pub any_at : (p : ℕ → Bool) (xs : Bytes) (x : ℕ) (ys : Bytes) → p x ≡ true → list_any p (xs ++ x ∷ ys) ≡ true
 any_at p [] x ys h = ap (λ b. b || list_any p ys) h
 any_at p (a ∷ xs) x ys h = or_right _ _ (any_at p xs x ys h)
 

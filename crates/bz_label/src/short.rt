@@ -1,8 +1,8 @@
 //! Shorter forms of labels.
-ghost use Rattle.std.specs.Prelude.{IfOk};
+ghost use Rattle.std.specs.Prelude.{◌≡◌, ◌↔◌, [], IfOk, IsTrue};
 ghost use Rattle.bz_label.specs.Labels.{IsShortened, IsUnrepeated};
 
-use crate::form::whole;
+use crate::form::{Parts, whole};
 use crate::piece::last;
 use bz_items::Text;
 use std::alloc::{AllocError, Global};
@@ -19,13 +19,19 @@ fn unrepeated(text: &[u8]) -> &[u8]
     &text[..text.len() - parts.name.len() - 1]
 }
 
+fn stands_in(parts: Parts, current: &[u8]) -> bool
+    ensures { IsTrue result ↔ ((parts.entry.repository.now ≡ []) × (parts.entry.package.now ≡ current.now)) }
+{
+    parts.repository.is_empty() && parts.package == current
+}
+
 fn shortened<'a>(current: &[u8], text: &'a [u8]) -> &'a [u8]
     ensures { IsShortened current.now text.now result.now }
 {
     let Some(parts) = whole(text) else {
         return unrepeated(text);
     };
-    if !parts.repository.is_empty() || parts.package != current {
+    if !stands_in(parts, current) {
         return unrepeated(text);
     }
     &text[text.len() - parts.name.len() - 1..]

@@ -1,0 +1,11 @@
+use Rattle.std.proofs.Common.{rules}
+use Rattle.bz_label.proofs.short.unrepeated.Goals as goal
+
+pub returns-in_default : goal.returns-in_default
+returns-in_default c = ?
+
+pub returns-then-ne : goal.returns-then-ne
+returns-then-ne c = ?
+
+pub returns : goal.returns
+returns c = ?
