@@ -1,5 +1,7 @@
 pub mod Cuts
 pub mod Empty
+pub mod Equal
 pub mod Shapes
 pub mod Readings
 pub mod Shorter
+pub mod Spellings

@@ -1,5 +1,5 @@
 -- The forms of labels, taken together: a text is one label at most.
-use Rattle.std.proofs.Common.{◌≡◌, ℕ, ◌+◌, Bool, true, false, List, [], ◌∷◌, ◌++◌, refl, sym, ◌∙◌, ap, not, ◌&&◌, ◌||◌, ◌==◌, append_assoc, arith, codes, ◌↔◌, ◌⊎◌, inl, inr, IsTrue, if◌then◌else◌}
+use Rattle.std.proofs.Common.{◌≡◌, ℕ, ◌+◌, Bool, true, false, List, [], ◌∷◌, ◌++◌, refl, sym, ◌∙◌, ap, not, ◌&&◌, ◌||◌, ◌==◌, append_assoc, arith, codes, ◌↔◌, ◌⊎◌, inl, inr, IsTrue, if◌then◌else◌, subst}
 use Rattle.std.specs.List.{list_any, list_all, slice_split}
 use Rattle.std.proofs.lemmas.Bool.{and_parts, and_from, not-true, or_cases, eqb-true, both_ways, cases_Bool}
 use Rattle.std.proofs.lemmas.Bool.Decides.{nat_tests}
@@ -19,12 +19,12 @@ no_form current text a b c d e label (colon_name h) = d label h
 no_form current text a b c d e label (bare_name h) = e label h
 
 -- ---- which form a text can have, by its first byte, its slashes and its colons
-abbrev absolute_form : Bool → Bool → ℕ
+abbrev pub absolute_form : Bool → Bool → ℕ
 absolute_form false _ = 2
 absolute_form true false = 1
 absolute_form true true = 0
 
-abbrev form_of : Bytes → ℕ
+abbrev pub form_of : Bytes → ℕ
 form_of [] = 4
 form_of (first ∷ rest) = if is_colon first then 3 else (if is_at first || is_slash first then absolute_form (has_slash (first ∷ rest)) (has_colon (first ∷ rest)) else 4)
 
@@ -47,7 +47,7 @@ repository_begins (first ∷ name) rest good = ap (λ b. b || is_slash first) (a
 slashes_there : (front rest : Bytes) → has_slash (front ++ codes "//" ++ rest) ≡ true
 slashes_there front rest = ap has_slash (append_assoc front (codes "//") rest) ∙ any_at is_slash front 47 (47 ∷ rest) refl
 
-whole_form : (text : Bytes) (label : Label) → IsWhole text label → form_of text ≡ 0
+pub whole_form : (text : Bytes) (label : Label) → IsWhole text label → form_of text ≡ 0
 whole_form text label h =
   let e : text ≡ label.repository ++ codes "//" ++ (label.package ++ 58 ∷ label.name) = whole_behind label text h in
   let begins : begins_absolute text ≡ true = ap begins_absolute e ∙ repository_begins label.repository _ (repository_holds _ h.repository) in
@@ -65,7 +65,7 @@ repository_colonless (first ∷ name) good =
   let begins : is_colon first ≡ false = not_colon first (ap (λ b. b || is_slash first) (and_parts _ _ good).0) in
   or_none _ _ begins (name_colonless name (and_parts _ _ good).1)
 
-alone_form : (text : Bytes) (label : Label) → IsPackageAlone text label → form_of text ≡ 1
+pub alone_form : (text : Bytes) (label : Label) → IsPackageAlone text label → form_of text ≡ 1
 alone_form text label h =
   let begins : begins_absolute text ≡ true = ap begins_absolute h.spelled ∙ repository_begins label.repository _ (repository_holds _ h.repository) in
   let slash : has_slash text ≡ true = ap has_slash h.spelled ∙ slashes_there label.repository _ in
@@ -79,7 +79,7 @@ repository_form text label h =
   let slash : has_slash text ≡ false = ap has_slash h.spelled ∙ not-true _ (and_parts _ _ (and_parts _ _ h.name).0).1 in
   form_absolute text begins ∙ rw slash refl
 
-colon_form : (current text : Bytes) (label : Label) → IsColonName current text label → form_of text ≡ 3
+pub colon_form : (current text : Bytes) (label : Label) → IsColonName current text label → form_of text ≡ 3
 colon_form current text label h = ap form_of h.spelled
 
 or_parts : (x y : Bool) → (x || y) ≡ false → (x ≡ false) × (y ≡ false)
@@ -161,3 +161,17 @@ together current text one other h k e = absurd (omega arith)
 -- a text is one label at most
 pub label_once : (current text : Bytes) (one other : Label) → IsLabel current text one → IsLabel current text other → one ≡ other
 label_once current text one other h k = together current text one other h k (sym (number_form current text one h) ∙ number_form current text other k)
+
+-- ---- `same`: what it answers where one text is no label, and where both are
+pub no_first : (current first second : Bytes) → (first ≡ second → ⊥) → ((label : Label) → IsLabel current first label → ⊥) → IsTrue false ↔ IsSame current first second
+no_first current first second differ none = (λ e. absurd (both_ways false refl e), λ s. elim s [ inl e ↦ absurd (differ e) | inr l ↦ absurd (none l.0 l.1) ])
+
+pub no_second : (current first second : Bytes) → (first ≡ second → ⊥) → ((label : Label) → IsLabel current second label → ⊥) → IsTrue false ↔ IsSame current first second
+no_second current first second differ none = (λ e. absurd (both_ways false refl e), λ s. elim s [ inl e ↦ absurd (differ e) | inr l ↦ absurd (none l.0 l.2) ])
+
+pub same_exact : (current first second : Bytes) (answer : Bool) (one other : Label) → (first ≡ second → ⊥) → IsLabel current first one → IsLabel current second other → IsTrue answer ↔ (one ≡ other) → IsTrue answer ↔ IsSame current first second
+same_exact current first second answer one other differ h k exact = (
+  λ e. inr (one, h, subst (λ (l : Label). IsLabel current second l) (sym (exact.0 e)) k),
+  λ s. elim s [
+      inl e ↦ absurd (differ e)
+    | inr l ↦ exact.1 (label_once current first one l.0 h l.1 ∙ label_once current second l.0 other l.2 k) ])

@@ -61,7 +61,10 @@ impl Label {
         ensures bad { (result ≡ Err LabelFault.BadLabel) ↔ ((label : Label) → IsLabel current.now text.now label → ⊥) }
     {
         match parts_of(current.as_bytes(), text.as_bytes()) {
-            Some(parts) => copied(alloc, parts).map_err(|_| LabelFault::Memory),
+            Some(parts) => match copied(alloc, parts) {
+                Ok(label) => Ok(label),
+                Err(_) => Err(LabelFault::Memory),
+            },
             None => Err(LabelFault::BadLabel),
         }
     }

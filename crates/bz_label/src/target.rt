@@ -129,7 +129,7 @@ fn halves(text: &[u8]) -> Option<(&[u8], &[u8])>
         return cut(text, b':');
     };
     match cut(rest, b':') {
-        Some(halves) => Some(halves),
+        Some((path, word)) => Some((path, word)),
         None => Some((rest, last(rest))),
     }
 }
@@ -163,7 +163,10 @@ impl Target {
         ensures bad { (result ≡ Err TargetFault.BadTarget) ↔ ((target : Target) → IsTarget text.now target → ⊥) }
     {
         match target_halves(text.as_bytes()) {
-            Some((path, word)) => copied(alloc, path, word).map_err(|_| TargetFault::Memory),
+            Some((path, word)) => match copied(alloc, path, word) {
+                Ok(target) => Ok(target),
+                Err(_) => Err(TargetFault::Memory),
+            },
             None => Err(TargetFault::BadTarget),
         }
     }
