@@ -3,5 +3,7 @@ pub mod Empty
 pub mod Equal
 pub mod Shapes
 pub mod Readings
+pub mod Orders
+pub mod Rows
 pub mod Shorter
 pub mod Spellings

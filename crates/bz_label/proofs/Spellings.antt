@@ -6,6 +6,7 @@ use Rattle.std.proofs.lemmas.Bool.{and_parts, and_from, not-true, both_ways, leb
 use Rattle.bz_label.specs.Pieces.{Bytes, is_empty, is_present, is_slash, is_colon, has_slash, has_colon, is_joined, last_piece}
 use Rattle.bz_label.specs.Targets.{is_package, IsSpelled, IsTarget, which_of, target_of}
 use Rattle.bz_label.specs.declared.target.Target.{Target}
+use Rattle.bz_label.specs.declared.target.Which.{Which}
 use Rattle.bz_label.proofs.Cuts.{cut_once}
 use Rattle.bz_label.proofs.Shapes.{any_at}
 use Rattle.bz_label.proofs.Readings.{joined_first}
@@ -72,3 +73,23 @@ target_from text path word spelled fit =
     present = (and_parts _ _ fit).1;
     which = refl
   }
+
+-- ---- a text is one target at most
+spelled_once : (text one word other rest : Bytes) → is_package one ≡ true → is_package other ≡ true → IsSpelled text one word → IsSpelled text other rest → (one ≡ other) × (word ≡ rest)
+spelled_once text one word other rest good fine (inl e) (inl f) = cut_agrees text one word other rest (e ∙ append_assoc one (codes ":") word) (package_colonless one good) fine f
+spelled_once text one word other rest good fine (inl e) (inr (inl f)) = absurd (package_unslashed one (other ++ codes ":" ++ rest) word good (sym f ∙ e))
+spelled_once text one word other rest good fine (inl e) (inr (inr f)) = absurd (package_unslashed one other word good (sym f.0 ∙ e))
+spelled_once text one word other rest good fine (inr (inl e)) s =
+  halves_cut (one ++ codes ":" ++ word) one word other rest (append_assoc one (codes ":") word) (package_colonless one good) fine (spelled_behind text (one ++ codes ":" ++ word) other rest e fine s)
+spelled_once text one word other rest good fine (inr (inr e)) s =
+  let both : (one ≡ other) × (last_piece one ≡ rest) = halves_alone one other rest (package_colonless one good) (spelled_behind text one other rest e.0 fine s) in
+  (both.0, e.1 ∙ both.1)
+
+abbrev target_with : Bytes → Which → Target
+target_with path which = record { «package» = path; which = which }
+
+pub target_once : (text : Bytes) (one other : Target) → IsTarget text one → IsTarget text other → one ≡ other
+target_once text one other h k =
+  let both : (one.package ≡ other.package) × (h.word ≡ k.word) = spelled_once text one.package h.word other.package k.word h.package k.package h.spelled k.spelled in
+  let whiches : one.which ≡ other.which = h.which ∙ ap which_of both.1 ∙ sym k.which in
+  ap (λ path. target_with path one.which) both.0 ∙ ap (λ which. target_with other.package which) whiches

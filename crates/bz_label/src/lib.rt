@@ -7,6 +7,7 @@
 mod form;
 mod key;
 mod label;
+pub mod laws;
 mod piece;
 mod short;
 mod table;
