@@ -1,5 +1,5 @@
 -- The test for an empty text, as the length says it.
-use Rattle.std.proofs.Common.{◌≡◌, ℕ, ◌+◌, List, [], ◌∷◌, length, Bool, true, false, ◌<◌, refl, arith, ◌==◌, not, ap, sym, ◌∙◌}
+use Rattle.std.proofs.Common.{◌≡◌, ℕ, List, [], ◌∷◌, length, true, refl, arith, ◌==◌, not, ap, sym, ◌∙◌}
 use Rattle.std.proofs.lemmas.Bool.Decides.{nat_tests}
 use Rattle.bz_label.specs.Pieces.{is_empty, is_present}
 

@@ -1,14 +1,12 @@
 -- Rows worked out by hand, that the definitions answer as the rules say.
-use Rattle.std.proofs.Common.{◌≡◌, ℕ, List, [], ◌∷◌, codes, refl, Bool, true, false}
-use Rattle.std.specs.declared.cmp.Ordering.{Ordering}
+use Rattle.std.proofs.Common.{◌≡◌, [], ◌∷◌, codes, refl, true, false}
 use Rattle.std.specs.declared.cmp.Ordering.TheVariants.{Less, Equal, Greater}
 use Rattle.bz_label.specs.Pieces.{last_piece, is_joined}
 use Rattle.bz_label.specs.Keys.{key_order, key_pieces}
-use Rattle.bz_label.specs.Labels.{is_path, is_repository_name, IsLabel, whole, package_alone, repository_alone, colon_name, bare_name, absent, main, main_twice, named, named_twice}
+use Rattle.bz_label.specs.Labels.{is_path, is_repository_name, IsLabel, whole, package_alone, repository_alone, colon_name, bare_name, absent, main, named_twice}
 use Rattle.bz_label.specs.Tables.{is_sorted, is_label_attribute, is_list_attribute, priority_of}
 use Rattle.bz_label.specs.Targets.{which_of, is_package}
 use Rattle.bz_label.specs.declared.target.Which.TheVariants.{All, Kind, Line, Package, Name}
-use Rattle.bz_label.specs.declared.label.Label.{Label}
 
 -- the seven keys, each below the next
 pub seven_keys : (key_order (codes "a") (codes "a.c") ≡ Less) × (key_order (codes "a.c") (codes "a-b") ≡ Less) × (key_order (codes "a-b") (codes "b.c") ≡ Less)
@@ -43,7 +41,10 @@ label_rows = (
   repository_alone (record { repository = refl; «package» = refl; name = refl; spelled = refl }),
   colon_name (record { repository = refl; «package» = refl; name = refl; spelled = refl }),
   bare_name (record { repository = refl; «package» = refl; name = refl; begins = refl; spelled = refl }),
-  refl, refl, refl)
+  refl,
+  refl,
+  refl,
+)
 
 -- what follows a target's colon
 pub word_rows : (which_of (codes "all") ≡ All) × (which_of (codes "*") ≡ All) × (which_of (codes "__pkg__") ≡ Package) × (which_of (codes "%cc_library") ≡ Kind (codes "cc_library"))

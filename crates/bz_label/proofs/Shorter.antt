@@ -1,25 +1,25 @@
 -- Shorter forms of labels: what they are, that they mean the same, and that they are shortened no further.
-use Rattle.std.proofs.Common.{◌≡◌, ℕ, ◌+◌, ◌-◌, Bool, true, false, List, [], ◌∷◌, ◌++◌, length, take, drop, refl, sym, ◌∙◌, ap, not, ◌&&◌, ◌||◌, append_assoc, arith, codes, ◌⊎◌, inl, inr, IsTrue, length-append, ◌<◌}
+use Rattle.std.proofs.Common.{◌≡◌, ℕ, ◌+◌, ◌-◌, true, [], ◌∷◌, ◌++◌, length, take, drop, refl, sym, ◌∙◌, ap, ◌||◌, append_assoc, arith, codes, inl, inr, length-append, ◌<◌}
 use Rattle.std.proofs.Math.Seq.{take-append_seam, drop-append_seam}
 use Rattle.std.proofs.lemmas.Bool.{both_ways}
 use Rattle.bz_label.specs.Pieces.{Bytes, is_empty, last_piece}
-use Rattle.bz_label.specs.Labels.{is_path, IsWhole, IsPackageAlone, IsColonName, IsLabel, IsSame, IsOwn, IsRepeat, IsUnrepeated, IsShortened, repeat, stays, own, other, whole, package_alone, colon_name}
+use Rattle.bz_label.specs.Labels.{is_path, IsWhole, IsPackageAlone, IsColonName, IsSame, IsOwn, IsRepeat, IsUnrepeated, IsShortened, repeat, stays, own, other, whole, package_alone, colon_name}
 use Rattle.bz_label.specs.declared.label.Label.{Label}
 use Rattle.bz_label.proofs.Readings.{form_of, whole_once, whole_form, alone_form, colon_form}
 
 -- all but the last part and the byte before it
 pub front_of : (text kept name : Bytes) (byte : ℕ) → text ≡ kept ++ byte ∷ name → take (length text - length name - 1) text ≡ kept
 front_of text kept name byte e =
-  let size : length text ≡ length kept + (length name + 1) = ap length e ∙ length-append kept (byte ∷ name) ∙ omega arith in
-  let at : length text - length name - 1 ≡ length kept = omega arith in
-  rw (at, e) (take-append_seam kept (byte ∷ name))
+    let size : length text ≡ length kept + (length name + 1) = ap length e ∙ length-append kept (byte ∷ name) ∙ omega arith in
+    let at : length text - length name - 1 ≡ length kept = omega arith in
+    rw (at, e) (take-append_seam kept (byte ∷ name))
 
 -- the last part and the byte before it
 pub back_of : (text kept name : Bytes) (byte : ℕ) → text ≡ kept ++ byte ∷ name → drop (length text - length name - 1) text ≡ byte ∷ name
 back_of text kept name byte e =
-  let size : length text ≡ length kept + (length name + 1) = ap length e ∙ length-append kept (byte ∷ name) ∙ omega arith in
-  let at : length text - length name - 1 ≡ length kept = omega arith in
-  rw (at, e) (drop-append_seam kept (byte ∷ name))
+    let size : length text ≡ length kept + (length name + 1) = ap length e ∙ length-append kept (byte ∷ name) ∙ omega arith in
+    let at : length text - length name - 1 ≡ length kept = omega arith in
+    rw (at, e) (drop-append_seam kept (byte ∷ name))
 
 -- a whole label, cut before its name
 pub whole_kept : (text : Bytes) (label : Label) → IsWhole text label → text ≡ (label.repository ++ codes "//" ++ label.package) ++ 58 ∷ label.name
@@ -28,13 +28,13 @@ whole_kept text label h = h.spelled ∙ append_assoc (label.repository ++ codes 
 -- only the whole label that the text is can be a repeat, or stand in the current package
 pub no_repeat : (text : Bytes) (label : Label) → IsWhole text label → (last_piece label.package ≡ label.name → ⊥) → (another : Label) → IsRepeat text another → ⊥
 no_repeat text label h differs another r =
-  let one : another ≡ label = whole_once text another label r.written h in
-  differs (sym (ap (λ (l : Label). last_piece l.package) one) ∙ r.name ∙ ap (λ (l : Label). l.name) one)
+    let one : another ≡ label = whole_once text another label r.written h in
+    differs (sym (ap (λ (l : Label). last_piece l.package) one) ∙ r.name ∙ ap (λ (l : Label). l.name) one)
 
 pub no_own : (current text : Bytes) (label : Label) → IsWhole text label → ((label.repository ≡ []) × (label.package ≡ current) → ⊥) → (another : Label) → IsOwn current text another → ⊥
 no_own current text label h differs another o =
-  let one : another ≡ label = whole_once text another label o.written h in
-  differs (sym (ap (λ (l : Label). l.repository) one) ∙ o.repository, sym (ap (λ (l : Label). l.package) one) ∙ o.package)
+    let one : another ≡ label = whole_once text another label o.written h in
+    differs (sym (ap (λ (l : Label). l.repository) one) ∙ o.repository, sym (ap (λ (l : Label). l.package) one) ∙ o.package)
 
 -- ---- a shorter form means the same
 repeat_package : (path name : Bytes) → (is_empty path || is_path path) ≡ true → is_path name ≡ true → last_piece path ≡ name → is_path path ≡ true
@@ -46,8 +46,8 @@ repeat_alone text short label r e = record {
   repository = r.written.repository;
   «package» = repeat_package label.package label.name r.written.package r.written.name r.name;
   name = sym r.name;
-  spelled = e
-  }
+  spelled = e;
+}
 
 own_colon : (current text short : Bytes) (label : Label) → IsOwn current text label → short ≡ codes ":" ++ label.name → IsColonName current short label
 own_colon current text short label o e = record { repository = o.repository; «package» = o.package; name = o.written.name; spelled = e }

@@ -1,9 +1,7 @@
 -- How a target's text falls into the package and what follows it.
-use Rattle.std.proofs.Common.{◌≡◌, ℕ, ◌+◌, ◌≤◌, Bool, true, false, List, [], ◌∷◌, ◌++◌, length, refl, sym, ◌∙◌, ap, not, ◌&&◌, ◌||◌, arith, codes, ◌⊎◌, inl, inr, IsTrue, append_assoc, Option, Some, None, MatchOption, IsSomeAnd, nat_le, Bor}
-use Rattle.std.specs.List.{list_any}
+use Rattle.std.proofs.Common.{◌≡◌, ℕ, Bool, true, false, List, [], ◌∷◌, ◌++◌, length, refl, sym, ◌∙◌, ap, ◌&&◌, codes, ◌⊎◌, inl, inr, append_assoc, Option, Some, None, MatchOption, IsSomeAnd, nat_le, Bor}
 use Rattle.std.proofs.lemmas.Bool.{and_parts, and_from, not-true, both_ways, leb-true, le-leb}
-
-use Rattle.bz_label.specs.Pieces.{Bytes, is_empty, is_present, is_slash, is_colon, has_slash, has_colon, is_joined, last_piece}
+use Rattle.bz_label.specs.Pieces.{Bytes, is_present, is_slash, is_colon, has_colon, last_piece}
 use Rattle.bz_label.specs.Targets.{is_package, IsSpelled, IsTarget, which_of, target_of}
 use Rattle.bz_label.specs.declared.target.Target.{Target}
 use Rattle.bz_label.specs.declared.target.Which.{Which}
@@ -33,11 +31,11 @@ spelled_plain text path word none (inr (inr e)) = absurd (none path e.0)
 pub spelled_behind : (text rest path word : Bytes) → text ≡ codes "//" ++ rest → is_package path ≡ true → IsSpelled text path word → (rest ≡ path ++ codes ":" ++ word) ⊎ ((rest ≡ path) × (word ≡ last_piece path))
 spelled_behind text rest path word s good (inl e) = absurd (package_unslashed path rest word good (sym s ∙ e))
 spelled_behind text rest path word s good (inr (inl e)) =
-  let both : 47 ∷ 47 ∷ rest ≡ 47 ∷ 47 ∷ (path ++ codes ":" ++ word) = sym s ∙ e in
-  inl cc
+    let both : 47 ∷ 47 ∷ rest ≡ 47 ∷ 47 ∷ (path ++ codes ":" ++ word) = sym s ∙ e in
+    inl cc
 spelled_behind text rest path word s good (inr (inr e)) =
-  let both : 47 ∷ 47 ∷ rest ≡ 47 ∷ 47 ∷ path = sym s ∙ e.0 in
-  inr (cc, e.1)
+    let both : 47 ∷ 47 ∷ rest ≡ 47 ∷ 47 ∷ path = sym s ∙ e.0 in
+    inr (cc, e.1)
 
 -- ---- a text that is cut at its first colon gives the package and the word
 cut_agrees : (rest before after path word : Bytes) → rest ≡ before ++ 58 ∷ after → has_colon before ≡ false → is_package path ≡ true → rest ≡ path ++ codes ":" ++ word → (before ≡ path) × (after ≡ word)
@@ -64,15 +62,15 @@ target_fits text path word target h e = rw (e.0, e.1) (and_from _ _ (and_from _ 
 
 pub target_from : (text path word : Bytes) → IsSpelled text path word → (is_package path && nat_le (length path) 65536 && is_present word) ≡ true → IsTarget text (target_of path word)
 target_from text path word spelled fit =
-  let both : (is_package path && nat_le (length path) 65536) ≡ true = (and_parts _ _ fit).0 in
-  record {
-    word = word;
-    spelled = spelled;
-    «package» = (and_parts _ _ both).0;
-    room = leb-true _ _ (and_parts _ _ both).1;
-    present = (and_parts _ _ fit).1;
-    which = refl
-  }
+    let both : (is_package path && nat_le (length path) 65536) ≡ true = (and_parts _ _ fit).0 in
+    record {
+      word = word;
+      spelled = spelled;
+      «package» = (and_parts _ _ both).0;
+      room = leb-true _ _ (and_parts _ _ both).1;
+      present = (and_parts _ _ fit).1;
+      which = refl;
+    }
 
 -- ---- a text is one target at most
 spelled_once : (text one word other rest : Bytes) → is_package one ≡ true → is_package other ≡ true → IsSpelled text one word → IsSpelled text other rest → (one ≡ other) × (word ≡ rest)
@@ -80,16 +78,16 @@ spelled_once text one word other rest good fine (inl e) (inl f) = cut_agrees tex
 spelled_once text one word other rest good fine (inl e) (inr (inl f)) = absurd (package_unslashed one (other ++ codes ":" ++ rest) word good (sym f ∙ e))
 spelled_once text one word other rest good fine (inl e) (inr (inr f)) = absurd (package_unslashed one other word good (sym f.0 ∙ e))
 spelled_once text one word other rest good fine (inr (inl e)) s =
-  halves_cut (one ++ codes ":" ++ word) one word other rest (append_assoc one (codes ":") word) (package_colonless one good) fine (spelled_behind text (one ++ codes ":" ++ word) other rest e fine s)
+    halves_cut (one ++ codes ":" ++ word) one word other rest (append_assoc one (codes ":") word) (package_colonless one good) fine (spelled_behind text (one ++ codes ":" ++ word) other rest e fine s)
 spelled_once text one word other rest good fine (inr (inr e)) s =
-  let both : (one ≡ other) × (last_piece one ≡ rest) = halves_alone one other rest (package_colonless one good) (spelled_behind text one other rest e.0 fine s) in
-  (both.0, e.1 ∙ both.1)
+    let both : (one ≡ other) × (last_piece one ≡ rest) = halves_alone one other rest (package_colonless one good) (spelled_behind text one other rest e.0 fine s) in
+    (both.0, e.1 ∙ both.1)
 
 abbrev target_with : Bytes → Which → Target
 target_with path which = record { «package» = path; which = which }
 
 pub target_once : (text : Bytes) (one other : Target) → IsTarget text one → IsTarget text other → one ≡ other
 target_once text one other h k =
-  let both : (one.package ≡ other.package) × (h.word ≡ k.word) = spelled_once text one.package h.word other.package k.word h.package k.package h.spelled k.spelled in
-  let whiches : one.which ≡ other.which = h.which ∙ ap which_of both.1 ∙ sym k.which in
-  ap (λ path. target_with path one.which) both.0 ∙ ap (λ which. target_with other.package which) whiches
+    let both : (one.package ≡ other.package) × (h.word ≡ k.word) = spelled_once text one.package h.word other.package k.word h.package k.package h.spelled k.spelled in
+    let whiches : one.which ≡ other.which = h.which ∙ ap which_of both.1 ∙ sym k.which in
+    ap (λ path. target_with path one.which) both.0 ∙ ap (λ which. target_with other.package which) whiches

@@ -1,5 +1,5 @@
 -- Labels: [@REPO | @@REPO | @ | @@]//PACKAGE[:NAME], @REPO, :NAME or NAME.
-use Rattle.std.specs.Prelude.{◌≡◌, ℕ, Bool, not, ◌&&◌, ◌||◌, ◌==◌, nat_lt, [], ◌∷◌, ◌++◌, codes, IsTrue, ◌⊎◌}
+use Rattle.std.specs.Prelude.{◌≡◌, ℕ, Bool, not, ◌&&◌, ◌||◌, ◌==◌, nat_lt, [], ◌++◌, codes, IsTrue, ◌⊎◌}
 use Rattle.std.specs.List.{list_all}
 use Rattle.bz_label.specs.declared.label.Label.{Label}
 use Rattle.bz_label.specs.Pieces.{Bytes, is_empty, is_present, has_slash, is_joined, last_piece, begins_with_at}

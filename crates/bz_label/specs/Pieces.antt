@@ -1,5 +1,5 @@
 -- The parts of labels and targets. Texts are lists of bytes, so a character from U+0080 on is bytes from 128 on.
-use Rattle.std.specs.Prelude.{ℕ, Bool, true, false, not, ◌&&◌, ◌||◌, ◌==◌, nat_lt, List, [], ◌∷◌}
+use Rattle.std.specs.Prelude.{ℕ, Bool, true, false, not, ◌==◌, List, [], ◌∷◌}
 use Rattle.std.specs.List.{slice_split, list_all, list_any, after_last}
 
 -- the bytes of a text

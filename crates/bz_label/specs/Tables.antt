@@ -1,5 +1,5 @@
 -- The tables of attributes. Each is said once; `is_in` is the test for all of them.
-use Rattle.std.specs.Prelude.{ℕ, Bool, not, ◌&&◌, ◌||◌, ◌+◌, List, [], ◌∷◌, ◌++◌, codes, filter, length, MatchOption, Option, Some, None, position}
+use Rattle.std.specs.Prelude.{ℕ, Bool, not, ◌&&◌, ◌||◌, ◌+◌, List, [], ◌∷◌, codes, length, Option, Some, None, position}
 use Rattle.std.specs.List.{list_any}
 use Rattle.std.specs.Str.{bytes_eq}
 use Rattle.bz_label.specs.Pieces.{Bytes}

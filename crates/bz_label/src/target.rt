@@ -68,7 +68,9 @@ fn line(digits: &[u8]) -> u32
 {
     let mut line: u32 = 0;
     for digit in digits {
-        line = line.saturating_mul(10).saturating_add(u32::from(*digit - b'0'));
+        line = line
+            .saturating_mul(10)
+            .saturating_add(u32::from(*digit - b'0'));
     }
     line
 }

@@ -65,12 +65,64 @@ static LABELS: [[&str; 5]; 52] = [
 ];
 
 static NOT_LABELS: [&str; 58] = [
-    "", "@", "@r//", "@//", "@@//", "@@r//", "//", "///", "/", "/a", "a/", "//a/", "//a//b",
-    "a//b", ":", "::", "//a:", "//:", "a:b", "a:", ":a:", "@:x", "@r:x", "@@:x", "@/x", "@r/x",
-    "@r/x//a", "@@r/x", "//a:b:c", "//a:b/", "//a:/b", "//a:b//c", ":/x", ":x/", ":x//y",
-    "@r//a/", "@r//a:", "@@r//a:b:c", "///a", "////a", "@r///a", "\t", "a\nb", "\u{1f}", "\u{0}",
-    "//a\t:b", "@\n//a", "a\"b", "//a\"", "//a:\"", "a'b", "@r'//a", ":'", "\\", "a\\b", "@\\r",
-    "//a:\\", "//\\:a",
+    "",
+    "@",
+    "@r//",
+    "@//",
+    "@@//",
+    "@@r//",
+    "//",
+    "///",
+    "/",
+    "/a",
+    "a/",
+    "//a/",
+    "//a//b",
+    "a//b",
+    ":",
+    "::",
+    "//a:",
+    "//:",
+    "a:b",
+    "a:",
+    ":a:",
+    "@:x",
+    "@r:x",
+    "@@:x",
+    "@/x",
+    "@r/x",
+    "@r/x//a",
+    "@@r/x",
+    "//a:b:c",
+    "//a:b/",
+    "//a:/b",
+    "//a:b//c",
+    ":/x",
+    ":x/",
+    ":x//y",
+    "@r//a/",
+    "@r//a:",
+    "@@r//a:b:c",
+    "///a",
+    "////a",
+    "@r///a",
+    "\t",
+    "a\nb",
+    "\u{1f}",
+    "\u{0}",
+    "//a\t:b",
+    "@\n//a",
+    "a\"b",
+    "//a\"",
+    "//a:\"",
+    "a'b",
+    "@r'//a",
+    ":'",
+    "\\",
+    "a\\b",
+    "@\\r",
+    "//a:\\",
+    "//\\:a",
 ];
 
 /// Whether the text is this label.
@@ -192,15 +244,30 @@ static KEYS: [&str; 20] = [
 fn keys_are_ordered(rt: HostRuntime) {
     for (place, one) in KEYS.iter().enumerate() {
         for (later, other) in KEYS.iter().enumerate() {
-            assert!(rt; key_cmp(one, other) == place.cmp(&later), "{one:?} {other:?}");
+            assert!(rt;
+                key_cmp(one, other) == place.cmp(&later),
+                "{one:?} {other:?}"
+            );
         }
     }
     assert!(rt; key_cmp("a", "a.c") == Ordering::Less);
 }
 
 static ORDER: [&str; 14] = [
-    "name", "size", "timeout", "testonly", "src", "srcs", "out", "outs", "hdrs", "visibility",
-    "exports", "runtime_deps", "deps", "alwayslink",
+    "name",
+    "size",
+    "timeout",
+    "testonly",
+    "src",
+    "srcs",
+    "out",
+    "outs",
+    "hdrs",
+    "visibility",
+    "exports",
+    "runtime_deps",
+    "deps",
+    "alwayslink",
 ];
 
 #[test]
@@ -286,10 +353,12 @@ fn means(alloc: Global, row: [&str; 4]) -> bool {
 /// The line of the target, or none.
 fn line(alloc: Global, text: &str) -> Option<u32> {
     match Target::read(alloc, text) {
-        Ok(Target {
-            which: Which::Line(line),
-            ..
-        }) => Some(line),
+        Ok(
+            Target {
+                which: Which::Line(line),
+                ..
+            },
+        ) => Some(line),
         _ => None,
     }
 }

@@ -1,4 +1,3 @@
-use Rattle.std.proofs.Common.{sym}
 use Rattle.bz_label.specs.Labels.{IsShortened}
 use Rattle.bz_label.proofs.Shorter.{shortened_same, shortened_stays}
 use Rattle.bz_label.proofs.short.shorten.Goals as goal

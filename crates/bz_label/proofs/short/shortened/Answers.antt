@@ -1,4 +1,4 @@
-use Rattle.std.proofs.Common.{refl, sym, ◌∙◌}
+use Rattle.std.proofs.Common.{refl, ◌∙◌}
 use Rattle.std.proofs.lemmas.Bool.{both_ways}
 use Rattle.std.proofs.lemmas.List.{take_rest}
 use Rattle.bz_label.specs.Labels.{own, other}
@@ -11,10 +11,10 @@ returns-in_default c = other (λ label o. c.in_default.ensures label o.written) 
 
 pub returns-then-not-stands_in : goal.returns-then-not-stands_in
 returns-then-not-stands_in c = other
-  (no_own c.args.current.now c.args.text.now (label_of c.in-Some.parts) c.in-Some.ensures (λ e. both_ways _ refl (c.if-not-stands_in.ensures.1 e)))
-  c.unrepeated-then-not-stands_in.ensures
+    (no_own c.args.current.now c.args.text.now (label_of c.in-Some.parts) c.in-Some.ensures (λ e. both_ways _ refl (c.if-not-stands_in.ensures.1 e)))
+    c.unrepeated-then-not-stands_in.ensures
 
 pub returns : goal.returns
 returns c = own (label_of c.in-Some.parts)
-  (record { written = c.in-Some.ensures; repository = (c.if-not-stands_in.ensures.0 refl).0; «package» = (c.if-not-stands_in.ensures.0 refl).1 })
-  (take_rest c.args.text.now _ ∙ back_of c.args.text.now _ c.in-Some.parts.name.now 58 (whole_kept c.args.text.now (label_of c.in-Some.parts) c.in-Some.ensures))
+    (record { written = c.in-Some.ensures; repository = (c.if-not-stands_in.ensures.0 refl).0; «package» = (c.if-not-stands_in.ensures.0 refl).1 })
+    (take_rest c.args.text.now _ ∙ back_of c.args.text.now _ c.in-Some.parts.name.now 58 (whole_kept c.args.text.now (label_of c.in-Some.parts) c.in-Some.ensures))

@@ -11,9 +11,9 @@ returns-in_default c = stays (λ label r. c.in_default.ensures label r.written) 
 
 pub returns-then-ne : goal.returns-then-ne
 returns-then-ne c = stays (no_repeat c.args.text.now (label_of c.in-Some.parts) c.in-Some.ensures
-  (λ e. other_texts c.last.result.now c.in-Some.parts.name.now (not-true _ (sym c.if-ne.ensures)) (c.last.ensures ∙ e))) refl
+    (λ e. other_texts c.last.result.now c.in-Some.parts.name.now (not-true _ (sym c.if-ne.ensures)) (c.last.ensures ∙ e))) refl
 
 pub returns : goal.returns
 returns c = repeat (label_of c.in-Some.parts)
-  (record { written = c.in-Some.ensures; name = sym c.last.ensures ∙ equal_texts c.last.result.now c.in-Some.parts.name.now (not-false _ (sym c.if-ne.ensures)) })
-  (front_of c.args.text.now _ c.in-Some.parts.name.now 58 (whole_kept c.args.text.now (label_of c.in-Some.parts) c.in-Some.ensures))
+    (record { written = c.in-Some.ensures; name = sym c.last.ensures ∙ equal_texts c.last.result.now c.in-Some.parts.name.now (not-false _ (sym c.if-ne.ensures)) })
+    (front_of c.args.text.now _ c.in-Some.parts.name.now 58 (whole_kept c.args.text.now (label_of c.in-Some.parts) c.in-Some.ensures))

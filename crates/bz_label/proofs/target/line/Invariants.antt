@@ -1,6 +1,4 @@
-use Rattle.std.proofs.Common.{◌≡◌, ◌^◌, ◌-◌, min, take, true}
-use Rattle.std.specs.List.{list_all}
-use Rattle.std.specs.Char.{is_ascii_digit}
+use Rattle.std.proofs.Common.{◌≡◌, ◌^◌, ◌-◌, min, take}
 use Rattle.bz_label.specs.Targets.{decimal}
 use Rattle.bz_label.proofs.target.line.Given as goal
 
