@@ -5,6 +5,7 @@ ghost use Rattle.bz_label.specs.Forms.{label_of};
 ghost use Rattle.bz_label.specs.Faults.{label_fault_number};
 ghost use Rattle.bz_label.specs.declared.label.Label.{Label};
 
+use crate::bytes;
 use crate::form::{Parts, parts_of};
 use bz_items::Text;
 use std::alloc::{AllocError, Global};
@@ -70,26 +71,10 @@ impl Label {
     }
 }
 
-fn equal_parts(one: Parts, other: Parts) -> bool
-    ensures { IsTrue result ↔ (label_of one.entry ≡ label_of other.entry) }
-{
-    one.repository == other.repository && one.package == other.package && one.name == other.name
-}
-
-/// Whether two texts mean the same in the current package: both are labels with equal three parts, or the texts are equal. It
-/// takes no memory.
+/// Whether two texts mean the same in the current package: both are labels with equal three parts, or the texts are
+/// equal. It takes no memory.
 pub fn same(current: &str, first: &str, second: &str) -> bool
     ensures { IsTrue result ↔ IsSame current.now first.now second.now }
 {
-    if first == second {
-        return true;
-    }
-    let current = current.as_bytes();
-    let Some(one) = parts_of(current, first.as_bytes()) else {
-        return false;
-    };
-    let Some(other) = parts_of(current, second.as_bytes()) else {
-        return false;
-    };
-    equal_parts(one, other)
+    bytes::same(current.as_bytes(), first.as_bytes(), second.as_bytes())
 }

@@ -4,6 +4,7 @@
 //! package by the empty text.
 #![tactic(auto)]
 
+pub mod bytes;
 mod form;
 mod key;
 mod label;

@@ -273,7 +273,7 @@ static ORDER: [&str; 14] = [
 #[test]
 fn attributes_are_known(rt: HostRuntime) {
     for (place, attribute) in ORDER.iter().enumerate() {
-        assert!(rt; usize::from(priority(attribute)) == place, "{attribute}");
+        assert!(rt; priority(attribute) == place, "{attribute}");
     }
     assert_eq!(rt; priority("tests"), 9);
     assert!(rt; is_sorted("cc_library", "srcs") && is_sorted("t", "visibility"));

@@ -4,7 +4,7 @@ use Rattle.bz_label.specs.Labels.{repeat, stays}
 use Rattle.bz_label.specs.Forms.{label_of}
 use Rattle.bz_label.proofs.Equal.{equal_texts, other_texts}
 use Rattle.bz_label.proofs.Shorter.{front_of, whole_kept, no_repeat}
-use Rattle.bz_label.proofs.short.unrepeated.Goals as goal
+use Rattle.bz_label.proofs.bytes.unrepeated.Goals as goal
 
 pub returns-in_default : goal.returns-in_default
 returns-in_default c = stays (λ label r. c.in_default.ensures label r.written) refl

@@ -2,7 +2,7 @@ use Rattle.std.proofs.Common.{sym, ◌∙◌}
 use Rattle.std.proofs.lemmas.Slice.Eq.{bytes_eq-Decides}
 use Rattle.bz_label.proofs.Empty.{empty_text}
 use Rattle.bz_label.proofs.Equal.{equal_texts}
-use Rattle.bz_label.proofs.short.stands_in.Goals as goal
+use Rattle.bz_label.proofs.bytes.stands_in.Goals as goal
 
 pub returns-then-is_empty : goal.returns-then-is_empty
 returns-then-is_empty c = (

@@ -4,7 +4,7 @@ use Rattle.std.proofs.lemmas.List.{take_rest}
 use Rattle.bz_label.specs.Labels.{own, other}
 use Rattle.bz_label.specs.Forms.{label_of}
 use Rattle.bz_label.proofs.Shorter.{back_of, whole_kept, no_own}
-use Rattle.bz_label.proofs.short.shortened.Goals as goal
+use Rattle.bz_label.proofs.bytes.shortened.Goals as goal
 
 pub returns-in_default : goal.returns-in_default
 returns-in_default c = other (λ label o. c.in_default.ensures label o.written) c.unrepeated.ensures

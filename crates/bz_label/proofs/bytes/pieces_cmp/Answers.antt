@@ -3,7 +3,7 @@ use Rattle.std.proofs.lemmas.Iterator.Search.{cmp_from_yields_List}
 use Rattle.std.proofs.lemmas.Iterator.Splits.{YieldsList-from_slice_split}
 use borrow.Author.Tests.{tests}
 use Rattle.bz_label.specs.Keys.{is_cut, bytes_order}
-use Rattle.bz_label.proofs.key.pieces_cmp.Goals as goal
+use Rattle.bz_label.proofs.bytes.pieces_cmp.Goals as goal
 
 pub returns : goal.returns
 returns c = cmp_from_yields_List (λ x y. y ≡ x) _ bytes_order _ c.cmp.ensures.ran
