@@ -96,8 +96,8 @@ pub fn key_cmp(first: &[u8], second: &[u8]) -> Ordering
 {
     group(first)
         .cmp(&group(second))
-        .then(pieces_cmp(first, second))
-        .then(first.cmp(second))
+        .then_with(|| pieces_cmp(first, second))
+        .then_with(|| first.cmp(second))
 }
 
 fn is_any(attribute: &[u8], names: &[&str]) -> bool
@@ -165,11 +165,11 @@ pub fn priority(attribute: &[u8]) -> usize
     let first = [
         "name", "size", "timeout", "testonly", "src", "srcs", "out", "outs", "hdrs",
     ];
-    let last = ["exports", "runtime_deps", "deps", "alwayslink"];
+    let later = ["exports", "runtime_deps", "deps", "alwayslink"];
     if let Some(at) = place(attribute, &first) {
         return at;
     }
-    match place(attribute, &last) {
+    match place(attribute, &later) {
         Some(at) => first.len() + 1 + at,
         None => first.len(),
     }

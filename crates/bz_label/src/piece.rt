@@ -5,9 +5,9 @@ ghost use Rattle.bz_label.specs.Pieces.{is_joined, last_piece};
 
 /// Whether such a byte stands in the text.
 pub(crate) fn holds(text: &[u8], byte: u8) -> bool
-    ensures { result ≡ list_any (λ b. b == byte) text.now }
+    ensures { result ≡ list_any (λ each. each == byte) text.now }
 {
-    text.iter().any(|b| *b == byte)
+    text.iter().any(|each| *each == byte)
 }
 
 /// What follows the first byte, where it is this one.
@@ -21,15 +21,15 @@ pub(crate) fn after(text: &[u8], byte: u8) -> Option<&[u8]>
 }
 
 fn place(text: &[u8], byte: u8) -> Option<usize>
-    ensures { result ≡ position (λ b. b == byte) text.now }
+    ensures { result ≡ position (λ each. each == byte) text.now }
 {
-    text.iter().position(|b| *b == byte)
+    text.iter().position(|each| *each == byte)
 }
 
 /// What stands before the first such byte, and what stands after it.
 pub(crate) fn cut(text: &[u8], byte: u8) -> Option<(&[u8], &[u8])>
-    ensures { MatchOption result (list_any (λ b. b == byte) text.now ≡ false)
-        (λ parts. (text.now ≡ parts.0.now ++ byte ∷ parts.1.now) × (list_any (λ b. b == byte) parts.0.now ≡ false)) }
+    ensures { MatchOption result (list_any (λ each. each == byte) text.now ≡ false)
+        (λ parts. (text.now ≡ parts.0.now ++ byte ∷ parts.1.now) × (list_any (λ each. each == byte) parts.0.now ≡ false)) }
 {
     let at = place(text, byte)?;
     Some((&text[..at], &text[at + 1..]))
@@ -39,7 +39,7 @@ pub(crate) fn cut(text: &[u8], byte: u8) -> Option<(&[u8], &[u8])>
 pub(crate) fn joined(text: &[u8]) -> bool
     ensures { result ≡ is_joined text.now }
 {
-    text.split(|b| *b == b'/').all(|piece| !piece.is_empty())
+    text.split(|byte| *byte == b'/').all(|piece| !piece.is_empty())
 }
 
 /// What stands after the last slash, or the whole text.
