@@ -1,0 +1,9 @@
+pub mod Cuts
+pub mod Empty
+pub mod Equal
+pub mod Shapes
+pub mod Readings
+pub mod Orders
+pub mod Rows
+pub mod Shorter
+pub mod Spellings

@@ -1,0 +1,126 @@
+-- What the parts of labels hold, and how a text falls into them.
+use Rattle.std.proofs.Common.{◌≡◌, ℕ, Bool, true, false, [], ◌∷◌, ◌++◌, refl, sym, ◌∙◌, ap, not, ◌&&◌, ◌||◌, append_assoc, arith, codes}
+use Rattle.std.specs.List.{list_any}
+use Rattle.std.proofs.lemmas.Bool.{and_parts, and_from, not-true, eqb-true, both_ways}
+use Rattle.std.proofs.lemmas.Bool.Decides.{nat_tests}
+use Rattle.bz_label.specs.Pieces.{Bytes, is_empty, is_slash, is_colon, has_slash, has_colon, last_piece}
+use Rattle.bz_label.specs.Labels.{is_barred, is_plain, is_path, is_repository_name, IsRepository, absent, main, main_twice, named, named_twice, IsWhole, IsPackageAlone}
+use Rattle.bz_label.specs.declared.label.Label.{Label}
+use Rattle.bz_label.specs.Forms.{is_repository, are_whole, are_alone}
+use Rattle.bz_label.proofs.Cuts.{cut_once}
+
+-- a plain text holds no colon
+unbarred : (byte : ℕ) → not (is_barred byte) ≡ true → is_colon byte ≡ false
+unbarred byte free = grind (arith, nat_tests)
+
+pub or_none : (x y : Bool) → x ≡ false → y ≡ false → (x || y) ≡ false
+or_none x y hx hy = cc
+
+pub plain_colonless : (text : Bytes) → is_plain text ≡ true → has_colon text ≡ false
+plain_colonless [] free = refl
+plain_colonless (x ∷ xs) free =
+    let parts = and_parts (not (is_barred x)) (is_plain xs) free in
+    or_none _ _ (unbarred x parts.0) (plain_colonless xs parts.1)
+
+pub path_colonless : (text : Bytes) → is_path text ≡ true → has_colon text ≡ false
+path_colonless text path = plain_colonless text (and_parts _ _ path).1
+
+pub package_colonless : (text : Bytes) → (is_empty text || is_path text) ≡ true → has_colon text ≡ false
+package_colonless [] path = refl
+package_colonless (x ∷ xs) path = path_colonless (x ∷ xs) path
+
+name_slashless : (name : Bytes) → is_repository_name name ≡ true → has_slash name ≡ false
+name_slashless name good = not-true _ (and_parts _ _ (and_parts _ _ good).0).1
+
+pub repository_slashless : (text : Bytes) → IsRepository text → has_slash text ≡ false
+repository_slashless text (absent e) = ap has_slash e
+repository_slashless text (main e) = ap has_slash e
+repository_slashless text (main_twice e) = ap has_slash e
+repository_slashless text (named name good e) = ap has_slash e ∙ name_slashless name good
+repository_slashless text (named_twice name good e) = ap has_slash e ∙ name_slashless name good
+
+-- a name may begin with @, so that @@REPO is @ and a name
+named_at : (name : Bytes) → is_repository_name name ≡ true → is_repository_name (64 ∷ name) ≡ true
+named_at name good =
+    let slashless : not (has_slash name) ≡ true = (and_parts _ _ (and_parts _ _ good).0).1 in
+    and_from _ _ slashless (and_parts _ _ good).1
+
+or_right : (x y : Bool) → y ≡ true → (x || y) ≡ true
+or_right x y h = grind (arith, nat_tests)
+
+pub repository_holds : (text : Bytes) → IsRepository text → is_repository text ≡ true
+repository_holds text (absent e) = ap is_repository e
+repository_holds text (main e) = ap is_repository e
+repository_holds text (main_twice e) = ap is_repository e
+repository_holds text (named name good e) = ap is_repository e ∙ or_right _ _ good
+repository_holds text (named_twice name good e) = ap is_repository e ∙ named_at name good
+
+named_from : (name : Bytes) → (is_empty name || is_repository_name name) ≡ true → IsRepository (64 ∷ name)
+named_from [] good = main refl
+named_from (first ∷ rest) good = named (first ∷ rest) good refl
+
+pub repository_from : (text : Bytes) → is_repository text ≡ true → IsRepository text
+repository_from [] good = absent refl
+repository_from (first ∷ name) good =
+    let begins : first ≡ 64 = eqb-true _ _ (and_parts _ _ good).0 in
+    rw begins (named_from name (and_parts _ _ good).1)
+
+-- two slashes are cut out in one way
+pub slashes_once : (front rest before behind : Bytes) → has_slash front ≡ false → has_slash before ≡ false → front ++ 47 ∷ rest ≡ before ++ codes "//" ++ behind → (front ≡ before) × (rest ≡ 47 ∷ behind)
+slashes_once front rest before behind hf hb e = cut_once is_slash 47 47 front rest before (47 ∷ behind) refl refl hf hb (e ∙ append_assoc before (codes "//") behind)
+
+-- what stands before and after two slashes, read off the text in two ways
+both_slashes : (front rest before behind : Bytes) → has_slash front ≡ false → has_slash before ≡ false → front ++ codes "//" ++ rest ≡ before ++ codes "//" ++ behind → (front ≡ before) × (rest ≡ behind)
+both_slashes front rest before behind hf hb e =
+    let cut : (front ≡ before) × (47 ∷ rest ≡ 47 ∷ behind) = slashes_once front (47 ∷ rest) before behind hf hb (sym (append_assoc front (codes "//") rest) ∙ e) in
+    (cut.0, cc)
+
+-- the text of a whole label, cut at its two slashes
+pub whole_behind : (label : Label) (text : Bytes) → IsWhole text label → text ≡ label.repository ++ codes "//" ++ (label.package ++ 58 ∷ label.name)
+whole_behind label text whole = whole.spelled ∙ append_assoc (label.repository ++ codes "//" ++ label.package) (codes ":") label.name ∙ append_assoc (label.repository ++ codes "//") label.package (codes ":" ++ label.name)
+
+whole_cut : (text front rest : Bytes) (label : Label) → has_slash front ≡ false → text ≡ front ++ codes "//" ++ rest → IsWhole text label → (front ≡ label.repository) × (rest ≡ label.package ++ 58 ∷ label.name)
+whole_cut text front rest label hf e whole = both_slashes front rest label.repository (label.package ++ 58 ∷ label.name) hf (repository_slashless _ whole.repository) (sym e ∙ whole_behind label text whole)
+
+pub alone_cut : (text front rest : Bytes) (label : Label) → has_slash front ≡ false → text ≡ front ++ codes "//" ++ rest → IsPackageAlone text label → (front ≡ label.repository) × (rest ≡ label.package)
+alone_cut text front rest label hf e alone = both_slashes front rest label.repository label.package hf (repository_slashless _ alone.repository) (sym e ∙ alone.spelled)
+
+pub any_at : (p : ℕ → Bool) (xs : Bytes) (x : ℕ) (ys : Bytes) → p x ≡ true → list_any p (xs ++ x ∷ ys) ≡ true
+any_at p [] x ys h = ap (λ b. b || list_any p ys) h
+any_at p (a ∷ xs) x ys h = or_right _ _ (any_at p xs x ys h)
+
+-- a text with no colon behind its slashes is no whole label
+pub whole_colon : (text front rest : Bytes) (label : Label) → has_slash front ≡ false → text ≡ front ++ codes "//" ++ rest → has_colon rest ≡ false → IsWhole text label → ⊥
+whole_colon text front rest label hf e none whole =
+    let behind : rest ≡ label.package ++ 58 ∷ label.name = (whole_cut text front rest label hf e whole).1 in
+    both_ways (has_colon rest) none (ap has_colon behind ∙ any_at is_colon label.package 58 label.name refl)
+
+-- the parts of a whole label
+pub whole_parts : (text front rest path name : Bytes) (label : Label) → has_slash front ≡ false → text ≡ front ++ codes "//" ++ rest → has_colon path ≡ false → rest ≡ path ++ 58 ∷ name → IsWhole text label → (front ≡ label.repository) × (path ≡ label.package) × (name ≡ label.name)
+whole_parts text front rest path name label hf e hp r whole =
+    let cut : (front ≡ label.repository) × (rest ≡ label.package ++ 58 ∷ label.name) = whole_cut text front rest label hf e whole in
+    let colon : (path ≡ label.package) × (name ≡ label.name) = cut_once is_colon 58 58 path name label.package label.name refl refl hp (package_colonless label.package whole.package) (sym r ∙ cut.1) in
+    (cut.0, colon.0, colon.1)
+
+pub whole_fits : (text front rest path name : Bytes) (label : Label) → has_slash front ≡ false → text ≡ front ++ codes "//" ++ rest → has_colon path ≡ false → rest ≡ path ++ 58 ∷ name → IsWhole text label → are_whole front path name ≡ true
+whole_fits text front rest path name label hf e hp r whole =
+    let parts : (front ≡ label.repository) × (path ≡ label.package) × (name ≡ label.name) = whole_parts text front rest path name label hf e hp r whole in
+    rw (parts.0, parts.1, parts.2) (and_from _ _ (and_from _ _ (repository_holds _ whole.repository) whole.package) whole.name)
+
+pub whole_from : (text front rest path name : Bytes) → text ≡ front ++ codes "//" ++ rest → rest ≡ path ++ 58 ∷ name → are_whole front path name ≡ true → IsWhole text (record { repository = front; «package» = path; name = name })
+whole_from text front rest path name e r fit =
+    let both : (is_repository front && (is_empty path || is_path path)) ≡ true = (and_parts _ _ fit).0 in
+    record {
+      repository = repository_from front (and_parts _ _ both).0;
+      «package» = (and_parts _ _ both).1;
+      name = (and_parts _ _ fit).1;
+      spelled = e ∙ ap (λ tail. front ++ codes "//" ++ tail) r ∙ sym (append_assoc (front ++ codes "//") path (58 ∷ name)) ∙ sym (append_assoc (front ++ codes "//" ++ path) (codes ":") name);
+    }
+
+pub alone_fits : (text front rest : Bytes) (label : Label) → has_slash front ≡ false → text ≡ front ++ codes "//" ++ rest → IsPackageAlone text label → are_alone front rest ≡ true
+alone_fits text front rest label hf e alone =
+    let cut : (front ≡ label.repository) × (rest ≡ label.package) = alone_cut text front rest label hf e alone in
+    rw (cut.0, cut.1) (and_from _ _ (repository_holds _ alone.repository) alone.package)
+
+pub alone_from : (text front path name : Bytes) → text ≡ front ++ codes "//" ++ path → name ≡ last_piece path → are_alone front path ≡ true → IsPackageAlone text (record { repository = front; «package» = path; name = name })
+alone_from text front path name e n fit = record { repository = repository_from front (and_parts _ _ fit).0; «package» = (and_parts _ _ fit).1; name = n; spelled = e }

@@ -1,0 +1,9 @@
+use Rattle.bz_label.proofs.Orders.{key_total, key_ties}
+use Rattle.bz_label.proofs.Rows.{seven_keys, piece_rows, table_rows}
+use Rattle.bz_label.proofs.laws.key_laws.Goals as goal
+
+pub returns-clause-total : goal.returns-clause-total
+returns-clause-total c = let keys = seven_keys in let pieces = piece_rows in let tables = table_rows in key_total
+
+pub returns-clause-ties : goal.returns-clause-ties
+returns-clause-ties c = key_ties

@@ -1,0 +1,176 @@
+//! The calls that take no memory, over bytes.
+//!
+//! The crate's calls of the same names take `&str`; these serve who holds the bytes of a text.
+ghost use Rattle.std.specs.Prelude.{◌≡◌, ◌↔◌, ◌<◌, [], IsTrue, IfSome, position, length};
+ghost use Rattle.std.specs.Str.{bytes_eq};
+ghost use Rattle.std.specs.List.{list_any};
+ghost use Rattle.std.specs.Cmp.Lexicographic.{slice_cmp};
+ghost use Rattle.bz_label.specs.Forms.{label_of};
+ghost use Rattle.bz_label.specs.Keys.{group_of, key_pieces, bytes_order, key_order};
+ghost use Rattle.bz_label.specs.Labels.{IsSame, IsShortened, IsUnrepeated};
+ghost use Rattle.bz_label.specs.Tables.{is_in, sorted_attributes, further_lists, first_arguments, last_arguments, is_sorted as is_sorted_in, is_label_attribute as is_label, is_list_attribute as is_list, priority_of};
+
+use crate::form::{Parts, parts_of, whole};
+use crate::piece::last;
+use std::cmp::Ordering;
+
+fn equal_parts(one: Parts, other: Parts) -> bool
+    ensures { IsTrue result ↔ (label_of one.entry ≡ label_of other.entry) }
+{
+    one.repository == other.repository && one.package == other.package && one.name == other.name
+}
+
+/// Whether two texts mean the same in the current package: both are labels with equal three parts, or the texts are
+/// equal.
+pub fn same(current: &[u8], first: &[u8], second: &[u8]) -> bool
+    ensures { IsTrue result ↔ IsSame current.now first.now second.now }
+{
+    if first == second {
+        return true;
+    }
+    let Some(one) = parts_of(current, first) else {
+        return false;
+    };
+    let Some(other) = parts_of(current, second) else {
+        return false;
+    };
+    equal_parts(one, other)
+}
+
+/// The text without a name that repeats the last piece of its package: `..//p/x:x` becomes `..//p/x`, and `..//x:x`
+/// becomes `..//x`; any other text stays.
+pub fn unrepeated(text: &[u8]) -> &[u8]
+    ensures { IsUnrepeated text.now result.now }
+{
+    let Some(parts) = whole(text) else {
+        return text;
+    };
+    if last(parts.package) != parts.name {
+        return text;
+    }
+    &text[..text.len() - parts.name.len() - 1]
+}
+
+fn stands_in(parts: Parts, current: &[u8]) -> bool
+    ensures { IsTrue result ↔ ((parts.entry.repository.now ≡ []) × (parts.entry.package.now ≡ current.now)) }
+{
+    parts.repository.is_empty() && parts.package == current
+}
+
+/// The text as a label is written in the current package `p`: `//p:x` becomes `:x`; any other text is `unrepeated`.
+pub fn shortened<'a>(current: &[u8], text: &'a [u8]) -> &'a [u8]
+    ensures { IsShortened current.now text.now result.now }
+{
+    let Some(parts) = whole(text) else {
+        return unrepeated(text);
+    };
+    if !stands_in(parts, current) {
+        return unrepeated(text);
+    }
+    &text[text.len() - parts.name.len() - 1..]
+}
+
+fn group(text: &[u8]) -> u8
+    ensures { result ≡ group_of text.now }
+{
+    match text {
+        [b':', ..] => 1,
+        [b'/', b'/', ..] => 2,
+        [b'@', ..] => 3,
+        _ => 0,
+    }
+}
+
+fn pieces_cmp(first: &[u8], second: &[u8]) -> Ordering
+    ensures { result ≡ slice_cmp bytes_order (key_pieces first.now) (key_pieces second.now) }
+{
+    first
+        .split(|byte| *byte == b'.' || *byte == b':')
+        .cmp(second.split(|byte| *byte == b'.' || *byte == b':'))
+}
+
+/// How two keys are ordered in a sorted list: by group (others, then `:`, then `//`, then `@` as first characters),
+/// then piece by piece between dots and colons, by bytes, then by the bytes of the whole.
+pub fn key_cmp(first: &[u8], second: &[u8]) -> Ordering
+    ensures { result ≡ key_order first.now second.now }
+{
+    group(first)
+        .cmp(&group(second))
+        .then_with(|| pieces_cmp(first, second))
+        .then_with(|| first.cmp(second))
+}
+
+fn is_any(attribute: &[u8], names: &[&str]) -> bool
+    ensures { result ≡ list_any (λ name. bytes_eq attribute.now name.now) names.now }
+{
+    names.iter().any(|name| attribute == name.as_bytes())
+}
+
+fn place(attribute: &[u8], names: &[&str]) -> Option<usize>
+    ensures place { result ≡ position (λ name. bytes_eq attribute.now name.now) names.now }
+    ensures within { IfSome result (λ at. at < length names.now) }
+{
+    names.iter().position(|name| attribute == name.as_bytes())
+}
+
+fn is_sorted_attribute(attribute: &[u8]) -> bool
+    ensures { result ≡ is_in sorted_attributes attribute.now }
+{
+    let names = [
+        "compatible_with",
+        "data",
+        "deps",
+        "exports",
+        "hdrs",
+        "implementation_deps",
+        "runtime_deps",
+        "srcs",
+        "tags",
+        "textual_hdrs",
+        "visibility",
+    ];
+    is_any(attribute, &names)
+}
+
+/// Whether the lists of this attribute are sorted in a rule of this kind: the sorted attributes are, but not `srcs` of
+/// `genrule`.
+pub fn is_sorted(kind: &[u8], attribute: &[u8]) -> bool
+    ensures { result ≡ is_sorted_in kind.now attribute.now }
+{
+    is_sorted_attribute(attribute)
+        && !(kind == b"genrule".as_slice() && attribute == b"srcs".as_slice())
+}
+
+/// Whether the texts in this attribute are labels, in a rule of any kind: the sorted attributes but `tags`.
+pub fn is_label_attribute(attribute: &[u8]) -> bool
+    ensures { result ≡ is_label attribute.now }
+{
+    is_sorted_attribute(attribute) && attribute != b"tags".as_slice()
+}
+
+/// Whether one value that is set in this attribute becomes a list, in a rule of any kind.
+pub fn is_list_attribute(attribute: &[u8]) -> bool
+    ensures { result ≡ is_list attribute.now }
+{
+    let names = [
+        "copts", "defines", "features", "includes", "linkopts", "outs",
+    ];
+    is_sorted_attribute(attribute) || is_any(attribute, &names)
+}
+
+/// Where an argument of this name stands in a rule: lower numbers come first, and equal ones go by name.
+pub fn priority(attribute: &[u8]) -> usize
+    ensures { result ≡ priority_of attribute.now }
+{
+    let first = [
+        "name", "size", "timeout", "testonly", "src", "srcs", "out", "outs", "hdrs",
+    ];
+    let later = ["exports", "runtime_deps", "deps", "alwayslink"];
+    if let Some(at) = place(attribute, &first) {
+        return at;
+    }
+    match place(attribute, &later) {
+        Some(at) => first.len() + 1 + at,
+        None => first.len(),
+    }
+}

@@ -1,0 +1,80 @@
+//! Labels.
+ghost use Rattle.std.specs.Prelude.{◌≡◌, ◌↔◌, IsTrue, IfOk, Err};
+ghost use Rattle.bz_label.specs.Labels.{IsLabel, IsSame};
+ghost use Rattle.bz_label.specs.Forms.{label_of};
+ghost use Rattle.bz_label.specs.Faults.{label_fault_number};
+ghost use Rattle.bz_label.specs.declared.label.Label.{Label};
+
+use crate::bytes;
+use crate::form::{Parts, parts_of};
+use bz_items::Text;
+use std::alloc::{AllocError, Global};
+use thiserror::Error;
+
+/// A label: the repository's part as written, the package and the name.
+#[derive(Debug, Drop)]
+pub struct Label {
+    /// Nothing, `@`, `@@`, `@REPO` or `@@REPO`.
+    pub repository: Text,
+    pub package: Text,
+    pub name: Text,
+}
+
+/// Why a text gave no label.
+#[derive(Debug, Drop, Error)]
+pub enum LabelFault {
+    /// The text is not a label.
+    #[error("BadLabel")]
+    BadLabel,
+    /// Memory was refused.
+    #[error("Memory")]
+    Memory,
+}
+
+impl LabelFault {
+    /// The fault's number in messages: 11 or 8.
+    pub fn number(&self) -> u8
+        ensures { result ≡ label_fault_number self.now }
+    {
+        match self {
+            LabelFault::BadLabel => 11,
+            LabelFault::Memory => 8,
+        }
+    }
+}
+
+fn copied(alloc: Global, parts: Parts) -> Result<Label, AllocError>
+    ensures { IfOk result (λ label. label ≡ label_of parts.entry) }
+{
+    Ok(Label {
+        repository: Text::from_slice(alloc, parts.repository)?,
+        package: Text::from_slice(alloc, parts.package)?,
+        name: Text::from_slice(alloc, parts.name)?,
+    })
+}
+
+impl Label {
+    /// The label that the text is, read in the current package, which `:NAME` and `NAME`
+    /// stand in. `BadLabel` exactly where it is
+    /// none; `Memory` where room for the three parts was refused.
+    pub fn read(alloc: Global, current: &str, text: &str) -> Result<Label, LabelFault>
+        ensures ok { IfOk result (IsLabel current.now text.now) }
+        ensures bad { (result ≡ Err LabelFault.BadLabel) ↔ ((label : Label) → IsLabel current.now text.now label → ⊥) }
+    {
+        match parts_of(current.as_bytes(), text.as_bytes()) {
+            Some(parts) => match copied(alloc, parts) {
+                Ok(label) => Ok(label),
+                Err(_) => Err(LabelFault::Memory),
+            },
+            None => Err(LabelFault::BadLabel),
+        }
+    }
+}
+
+/// Whether two texts mean the same in the current package: both are labels with equal three parts, or the texts are
+/// equal. It takes no memory.
+pub fn same(current: &str, first: &str, second: &str) -> bool
+    ensures { IsTrue result ↔ IsSame current.now first.now second.now }
+{
+    bytes::same(current.as_bytes(), first.as_bytes(), second.as_bytes())
+}

@@ -1,0 +1,175 @@
+//! Targets.
+ghost use Rattle.std.specs.Prelude.{◌≡◌, ◌↔◌, ◌++◌, ◌&&◌, codes, ℕ, List, Err, IfOk, IfSome, IsSomeAnd, MatchOption, IsTrue, true, ◌^◌, ◌-◌, min, nat_le, length};
+ghost use Rattle.std.specs.List.{list_all};
+ghost use Rattle.std.specs.Char.{is_ascii_digit};
+ghost use Rattle.bz_label.specs.Pieces.{is_present};
+ghost use Rattle.bz_label.specs.Targets.{decimal, which_of, target_of, after_percent, is_package, IsSpelled, IsTarget};
+ghost use Rattle.bz_label.specs.Faults.{target_fault_number};
+ghost use Rattle.bz_label.specs.declared.target.Target.{Target};
+
+use crate::piece::{after, cut, holds, joined, last};
+use bz_items::Text;
+use std::alloc::{AllocError, Global};
+use thiserror::Error;
+
+/// Which rules of a package's file are meant.
+#[derive(Debug, Drop)]
+pub enum Which {
+    /// All rules: `all` or `*`.
+    All,
+    /// The rules of this kind: `%kind`.
+    Kind(Text),
+    /// The rules that begin on this line, from 1: `%N`. A number past the greatest `u32` is that one, a line that no
+    /// text within the limit has.
+    Line(u32),
+    /// The first rule of kind `package`: `__pkg__`.
+    Package,
+    /// The rules of this name.
+    Name(Text),
+}
+
+/// What a command is meant for: a package, and rules of its file.
+#[derive(Debug, Drop)]
+pub struct Target {
+    /// The package's path, empty for the root package and `-` for standard input.
+    pub package: Text,
+    pub which: Which,
+}
+
+/// Why a text gave no target.
+#[derive(Debug, Drop, Error)]
+pub enum TargetFault {
+    /// The text is not a target, or its package's name is too long.
+    #[error("BadTarget")]
+    BadTarget,
+    /// Memory was refused.
+    #[error("Memory")]
+    Memory,
+}
+
+impl TargetFault {
+    /// The fault's number in messages: 12 or 8.
+    pub fn number(&self) -> u8
+        ensures { result ≡ target_fault_number self.now }
+    {
+        match self {
+            TargetFault::BadTarget => 12,
+            TargetFault::Memory => 8,
+        }
+    }
+}
+
+/// The most bytes of a package's name.
+const PACKAGE_LIMIT: usize = 65_536;
+
+fn line(digits: &[u8]) -> u32
+    requires { list_all is_ascii_digit digits.now ≡ true }
+    ensures { result ≡ min (decimal digits.now) (2 ^ 32 - 1) }
+{
+    let mut line: u32 = 0;
+    for digit in digits {
+        line = line
+            .saturating_mul(10)
+            .saturating_add(u32::from(*digit - b'0'));
+    }
+    line
+}
+
+fn digits(word: &[u8]) -> bool
+    ensures { result ≡ list_all is_ascii_digit word.now }
+{
+    word.iter().all(u8::is_ascii_digit)
+}
+
+#[tactic(auto, using(crate::proofs::Empty::present_by_length))]
+fn percent(alloc: Global, word: &[u8]) -> Result<Which, AllocError>
+    ensures { IfOk result (λ which. which ≡ after_percent word.now) }
+{
+    if !word.is_empty() && digits(word) {
+        Ok(Which::Line(line(word)))
+    } else {
+        Ok(Which::Kind(Text::from_slice(alloc, word)?))
+    }
+}
+
+fn which_rules(alloc: Global, word: &[u8]) -> Result<Which, AllocError>
+    ensures { IfOk result (λ which. which ≡ which_of word.now) }
+{
+    match word {
+        b"all" | b"*" => Ok(Which::All),
+        b"__pkg__" => Ok(Which::Package),
+        [b'%', rest @ ..] => percent(alloc, rest),
+        _ => Ok(Which::Name(Text::from_slice(alloc, word)?)),
+    }
+}
+
+/// Whether the text may be a package, and what follows it is there.
+#[tactic(auto, using(crate::proofs::Empty::empty_by_length, crate::proofs::Empty::present_by_length))]
+fn fits(path: &[u8], word: &[u8]) -> bool
+    ensures { result ≡ (is_package path.now && nat_le (length path.now) 65536 && is_present word.now) }
+{
+    (path.is_empty() || joined(path))
+        && !holds(path, b':')
+        && path.len() <= PACKAGE_LIMIT
+        && !word.is_empty()
+}
+
+/// What follows `//`.
+fn after_slashes(text: &[u8]) -> Option<&[u8]>
+    ensures { MatchOption result ((rest : List ℕ) → text.now ≡ codes "//" ++ rest → ⊥) (λ rest. text.now ≡ codes "//" ++ rest.now) }
+{
+    after(after(text, b'/')?, b'/')
+}
+
+/// The package and what follows it, before either is tested.
+fn halves(text: &[u8]) -> Option<(&[u8], &[u8])>
+    ensures spelled { IfSome result (λ halves. IsSpelled text.now halves.0.now halves.1.now) }
+    ensures only { (path word : List ℕ) → IsTrue (is_package path) → IsSpelled text.now path word
+        → IsSomeAnd result (λ halves. (halves.0.now ≡ path) × (halves.1.now ≡ word)) }
+{
+    let Some(rest) = after_slashes(text) else {
+        return cut(text, b':');
+    };
+    match cut(rest, b':') {
+        Some((path, word)) => Some((path, word)),
+        None => Some((rest, last(rest))),
+    }
+}
+
+/// The package and what follows it, of a text that is a target.
+fn target_halves(text: &[u8]) -> Option<(&[u8], &[u8])>
+    ensures { MatchOption result ((target : Target) → IsTarget text.now target → ⊥)
+        (λ halves. IsTarget text.now (target_of halves.0.now halves.1.now)) }
+{
+    let (path, word) = halves(text)?;
+    if !fits(path, word) {
+        return None;
+    }
+    Some((path, word))
+}
+
+fn copied(alloc: Global, path: &[u8], word: &[u8]) -> Result<Target, AllocError>
+    ensures { IfOk result (λ target. target ≡ target_of path.now word.now) }
+{
+    Ok(Target {
+        package: Text::from_slice(alloc, path)?,
+        which: which_rules(alloc, word)?,
+    })
+}
+
+impl Target {
+    /// The target that the text is. `BadTarget` exactly where it is none, or where its package's name is longer than
+    /// 65,536 bytes; `Memory` where room for the package or the word was refused.
+    pub fn read(alloc: Global, text: &str) -> Result<Target, TargetFault>
+        ensures ok { IfOk result (IsTarget text.now) }
+        ensures bad { (result ≡ Err TargetFault.BadTarget) ↔ ((target : Target) → IsTarget text.now target → ⊥) }
+    {
+        match target_halves(text.as_bytes()) {
+            Some((path, word)) => match copied(alloc, path, word) {
+                Ok(target) => Ok(target),
+                Err(_) => Err(TargetFault::Memory),
+            },
+            None => Err(TargetFault::BadTarget),
+        }
+    }
+}
