@@ -1,0 +1,5 @@
+pub mod Faults
+pub mod Memory
+pub mod App
+pub mod Line
+pub mod Words

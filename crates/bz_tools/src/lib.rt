@@ -1,0 +1,14 @@
+//! The programs as engines over readers and writers: what the words of a command line and the bytes of standard
+//! input mean, and what a run of them writes.
+#![tactic(auto)]
+
+mod device;
+mod line;
+mod memory;
+mod sink;
+mod source;
+
+pub use device::Device;
+pub use memory::{MemorySink, MemorySource};
+pub use sink::Sink;
+pub use source::{PortFault, Source};
