@@ -1,6 +1,6 @@
 -- The words of a command's text: separated by runs of spaces; a space after a backslash belongs to the word and the
 -- backslash goes; other backslashes stay.
-use Rattle.std.specs.Prelude.{◌==◌, ℕ, List, [], ◌∷◌, length, map, filter, Bool, true, false, if◌then◌else◌, ◌&&◌, not}
+use Rattle.std.specs.Prelude.{◌==◌, ℕ, List, [], ◌∷◌, map, filter, Bool, true, false, if◌then◌else◌, ◌&&◌, not}
 
 -- a piece that begins with one byte more
 abbrev pub onto : ℕ → List (List ℕ) → List (List ℕ)
@@ -23,5 +23,9 @@ unescaped [] = []
 unescaped (byte ∷ rest) = if byte == 92 && begins_with_space rest then unescaped rest else byte ∷ unescaped rest
 
 -- runs of spaces separate: there is no empty word
+abbrev pub is_word : List ℕ → Bool
+is_word [] = false
+is_word (byte ∷ rest) = true
+
 abbrev pub words_of : List ℕ → List (List ℕ)
-words_of text = map unescaped (filter (λ piece. not (length piece == 0)) (pieces false text))
+words_of text = map unescaped (filter is_word (pieces false text))
