@@ -1,0 +1,3 @@
+pub mod Effect
+pub mod Refusals
+pub mod Rules

@@ -1,0 +1,10 @@
+//! Commands: which rules of a BUILD file a target means, and what each command makes of a file value.
+#![tactic(auto)]
+
+mod command;
+mod refusal;
+mod running;
+
+pub use command::{Command, Outcome, Target, Which};
+pub use refusal::Refusal;
+pub use running::run;

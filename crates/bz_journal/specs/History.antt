@@ -1,0 +1,88 @@
+-- A history of whole texts, and what actions make of it.
+use Rattle.std.specs.Prelude.{◌≡◌, ◌⊎◌, ◌+◌, ◌-◌, ◌<◌, ◌≤◌, ◌==◌, ℕ, List, [], ◌∷◌, ◌++◌, length, take, slice_index_or, nat_lt, bytes_eq, if◌then◌else◌, Result, Ok, Err}
+use Rattle.std.specs.List.{All}
+use Rattle.bz_tree.specs.Legal.{Accepted}
+use Rattle.bz_view.specs.Gaps.{Bytes}
+use Rattle.bz_command.specs.declared.refusal.Refusal.{Refusal}
+use Rattle.bz_command.specs.declared.refusal.Refusal.TheVariants.{TooFar, Full, Memory}
+use Rattle.bz_journal.specs.declared.action.Action.{Action}
+use Rattle.bz_journal.specs.declared.action.Action.TheVariants.{Do, Undo, Redo}
+use Rattle.bz_journal.specs.declared.action.Reply.{Reply}
+use Rattle.bz_journal.specs.declared.action.Reply.TheVariants.{Changed, Same, Moved}
+use Rattle.bz_journal.specs.Meaning.{Meaning, gives, refuses, Means}
+
+-- texts in the order in which they came, the number of the present one, and the one that was present before it
+pub record History : Type 0 where
+  pub texts : List Bytes
+  pub cursor : ℕ
+  pub before : ℕ
+
+abbrev pub present : History → Bytes
+present h = slice_index_or h.texts h.cursor []
+
+-- the history of one text
+abbrev pub opened : Bytes → History
+opened text = record { texts = text ∷ []; cursor = 0; before = 0 }
+
+abbrev pub most_steps : ℕ
+most_steps = 100000
+
+-- Every text is accepted, one is the present one, and there are no more steps than may be.
+pub record IsKept (h : History) : Type 0 where
+  pub accepted : All Accepted h.texts
+  pub within : h.cursor < length h.texts
+  pub bounded : length h.texts ≤ most_steps + 1
+
+-- ---- one action: what is answered, and the history after it
+
+abbrev pub Answer : Type 0
+Answer = Result Reply Refusal
+
+-- The texts after the present one are cut, and the new one is appended and is the present one.
+abbrev pub changed : History → Bytes → History
+changed h text = record { texts = take (h.cursor + 1) h.texts ++ text ∷ []; cursor = h.cursor + 1; before = h.cursor }
+
+-- A text equal to the present one changes nothing; a history of the most steps takes no other.
+abbrev pub after_text : History → Bytes → Answer × History
+after_text h text =
+    if bytes_eq text (present h) then (Ok Same, h)
+    else (if nat_lt h.cursor most_steps then (Ok Changed, changed h text) else (Err Full, h))
+
+abbrev pub after_meaning : History → Meaning → Answer × History
+after_meaning h (gives text) = after_text h text
+after_meaning h (refuses refusal) = (Err refusal, h)
+
+-- the present text is another one, or the same
+abbrev pub moved : History → ℕ → History
+moved h cursor = if cursor == h.cursor then h else record h { cursor = cursor; before = h.cursor }
+
+abbrev pub undone : ℕ → History → Answer × History
+undone n h = if nat_lt h.cursor n then (Err TooFar, h) else (Ok Moved, moved h (h.cursor - n))
+
+abbrev pub redone : ℕ → History → Answer × History
+redone n h = if nat_lt (h.cursor + n) (length h.texts) then (Ok Moved, moved h (h.cursor + n)) else (Err TooFar, h)
+
+-- what an action answers and leaves, with ample memory
+abbrev pub Leads : Action → History → Answer → History → Type 0
+Leads (Do command target) h answer after = (m : Meaning) × Means command target (present h) m × ((answer, after) ≡ after_meaning h m)
+Leads (Undo n) h answer after = (answer, after) ≡ undone n h
+Leads (Redo n) h answer after = (answer, after) ≡ redone n h
+
+-- Memory may be refused, and then nothing changes.
+abbrev pub Acts : Action → History → Answer → History → Type 0
+Acts action h answer after = Leads action h answer after ⊎ ((answer ≡ Err Memory) × (after ≡ h))
+
+-- An action that only moves the cursor takes no memory.
+abbrev pub IsMove : Action → Type 0
+IsMove (Do command target) = ⊥
+IsMove (Undo n) = Unit {0}
+IsMove (Redo n) = Unit {0}
+
+-- ---- many actions
+
+-- Actions one after the other, each with its answer.
+abbrev pub Runs : History → List Action → List Answer → History → Type 0
+Runs h [] [] after = after ≡ h
+Runs h (action ∷ actions) (answer ∷ answers) after = (mid : History) × Acts action h answer mid × Runs mid actions answers after
+Runs h [] (answer ∷ answers) after = ⊥
+Runs h (action ∷ actions) [] after = ⊥

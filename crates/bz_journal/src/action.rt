@@ -1,0 +1,26 @@
+use bz_command::{Command, Target};
+use bz_items::Text;
+
+/// What a session is asked to do.
+#[derive(Debug, Drop)]
+pub enum Action {
+    /// The command, on the rules of the present text that the target means.
+    Do(Command, Target),
+    /// Back by so many steps.
+    Undo(u32),
+    /// Forward by so many steps.
+    Redo(u32),
+}
+
+/// What a session answers.
+#[derive(Debug, Drop)]
+pub enum Reply {
+    /// There is a new text, and it is the present one.
+    Changed,
+    /// The text is as it was.
+    Same,
+    /// The text is as it was, and this is printed.
+    Printed(Text),
+    /// Another text of the history is the present one; at 0 steps the same.
+    Moved,
+}

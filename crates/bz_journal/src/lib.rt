@@ -1,0 +1,8 @@
+//! Editing a BUILD file with exact undo: a history of whole texts, and the session that keeps it.
+#![tactic(auto)]
+
+mod action;
+mod session;
+
+pub use action::{Action, Reply};
+pub use session::Session;

