@@ -3,3 +3,5 @@ pub mod Memory
 pub mod App
 pub mod Line
 pub mod Words
+pub mod Operands
+pub mod Verbs

@@ -1,4 +1,4 @@
-use Rattle.std.proofs.Common.{arith, rules}
+use Rattle.std.proofs.Common.{arith}
 use Rattle.bz_tools.proofs.Written.{begins, goes_on}
 use Rattle.bz_tools.proofs.sink.write_whole.Goals as goal
 
