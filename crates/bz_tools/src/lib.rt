@@ -7,6 +7,7 @@ mod line;
 mod memory;
 mod sink;
 mod source;
+mod target;
 mod verb;
 mod words;
 
