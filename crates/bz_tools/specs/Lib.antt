@@ -5,3 +5,5 @@ pub mod Line
 pub mod Words
 pub mod Operands
 pub mod Verbs
+pub mod Asked
+pub mod Shown

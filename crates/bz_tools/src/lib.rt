@@ -2,6 +2,7 @@
 //! input mean, and what a run of them writes.
 #![tactic(auto)]
 
+mod asked;
 mod device;
 mod line;
 mod memory;
