@@ -1,0 +1,33 @@
+-- Operands one after the other.
+use Rattle.std.proofs.Common.{◌≡◌, ℕ, List, [], ◌∷◌, ◌++◌, ◌<◌, ◌+◌, length, drop, get_or, add-one, map, append_assoc, Result, Ok, Err, refl, ap, sym, ◌∙◌}
+use Rattle.std.proofs.Math.Seq.{drop-cons}
+use Rattle.std.proofs.lemmas.List.{append-nil}
+use Rattle.bz_command.specs.declared.command.Target.{Target}
+use Rattle.bz_tools.specs.declared.verb.Verb.{Verb}
+use Rattle.bz_tools.specs.declared.verb.OperandFault.{OperandFault}
+use Rattle.bz_tools.specs.Asked.{Asked, nothing, both, aimed, wanted, joined, asked_by, asked_of}
+
+pub joined-target : (verbs : List Verb) (targets more : List Target) (target : Target) → more ≡ targets ++ target ∷ []
+    → joined (Ok (record { verbs = verbs; targets = targets })) (aimed (Ok target)) ≡ Ok (record { verbs = verbs; targets = more })
+joined-target verbs targets more target e = rw (append-nil verbs, e) refl
+
+pub joined-verb : (verbs more : List Verb) (targets : List Target) (verb : Verb) → more ≡ verbs ++ verb ∷ []
+    → joined (Ok (record { verbs = verbs; targets = targets })) (wanted (Ok verb)) ≡ Ok (record { verbs = more; targets = targets })
+joined-verb verbs more targets verb e = rw (append-nil targets, e) refl
+
+joined-assoc : (a b c : Result Asked OperandFault) → joined (joined a b) c ≡ joined a (joined b c)
+joined-assoc (Err fault) b c = refl
+joined-assoc (Ok first) (Err fault) c = refl
+joined-assoc (Ok first) (Ok more) (Err fault) = refl
+joined-assoc (Ok first) (Ok more) (Ok last) = rw (append_assoc first.verbs more.verbs last.verbs, append_assoc first.targets more.targets last.targets) refl
+
+-- one operand more is read
+pub asked_turn : (asked more : Asked) (operand : List ℕ) (left rest : List (List ℕ)) (full : Result Asked OperandFault) → left ≡ operand ∷ rest
+    → joined (Ok asked) (asked_of left) ≡ full → joined (Ok asked) (asked_by operand) ≡ Ok more → joined (Ok more) (asked_of rest) ≡ full
+asked_turn asked more operand left rest full split so_far one =
+    ap (λ first. joined first (asked_of rest)) (sym one) ∙ joined-assoc (Ok asked) (asked_by operand) (asked_of rest)
+    ∙ ap (λ texts. joined (Ok asked) (asked_of texts)) (sym split) ∙ so_far
+
+-- what is left at a place is the item there and what is left behind it
+pub left-cons : {A : Type 0} (items : List A) (at : ℕ) (default : A) → at < length items → drop at items ≡ get_or items at default ∷ drop (at + 1) items
+left-cons items at default within = rw (add-one) (drop-cons items at default within)

@@ -1,0 +1,4 @@
+pub mod Written
+pub mod Pieces
+pub mod Counts
+pub mod AskedLemmas

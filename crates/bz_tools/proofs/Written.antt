@@ -1,0 +1,38 @@
+-- A loop that writes the rest of some bytes.
+use Rattle.std.proofs.Common.{◌≡◌, ◌≤◌, ◌+◌, ◌-◌, ◌++◌, ℕ, List, length, take, drop, Option, Some, None, arith, refl, ap, ◌∙◌, append_assoc, length-drop}
+use Rattle.std.specs.Io.KnownBytes.{Appends}
+use Rattle.std.proofs.lemmas.Grind.{common_steps}
+use Rattle.std.proofs.Math.Seq.{take-add}
+use Rattle.std.proofs.lemmas.List.{drop-drop}
+use Rattle.bz_tools.specs.Faults.{AppendsSome}
+
+pub record SoFar (old now : Option (List ℕ)) (bytes rest : List ℕ) : Type 0 where
+  pub some : AppendsSome old now bytes
+  pub rest_is : rest ≡ drop some.count bytes
+
+pub begins : (known : Option (List ℕ)) (bytes : List ℕ) → SoFar known known bytes bytes
+begins known bytes = record { some = record { count = 0; within = omega arith; appends = none known }; rest_is = refl }
+  where
+    none : (k : Option (List ℕ)) → Appends k k (take 0 bytes)
+    none None = tt
+    none (Some xs) = grind (arith, common_steps)
+
+pub goes_on : (old mid now : Option (List ℕ)) (bytes rest : List ℕ) (n : ℕ) → SoFar old mid bytes rest → n ≤ length rest
+    → Appends mid now (take n rest) → SoFar old now bytes (drop n rest)
+goes_on old mid now bytes rest n so le a = record {
+  some = record { count = so.some.count + n; within = fits; appends = go old mid now so.some.appends a };
+  rest_is = rw (so.rest_is) (drop-drop n so.some.count bytes);
+}
+  where
+    fits : so.some.count + n ≤ length bytes
+    fits =
+        let len : length rest ≡ length bytes - so.some.count = rw (so.rest_is) (length-drop so.some.count bytes) in
+        let within = so.some.within in omega arith
+
+    go : (o m w : Option (List ℕ)) → Appends o m (take so.some.count bytes) → Appends m w (take n rest)
+        → Appends o w (take (so.some.count + n) bytes)
+    go None m w x y = tt
+    go (Some xs) None w x y = absurd x
+    go (Some xs) (Some ys) None x y = absurd y
+    go (Some xs) (Some ys) (Some zs) x y =
+        y ∙ ap (λ ws. ws ++ take n rest) x ∙ rw (so.rest_is, take-add so.some.count n bytes) (append_assoc xs _ _)

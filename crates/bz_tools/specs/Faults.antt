@@ -1,0 +1,13 @@
+-- Readers and writers that count their faults.
+use Rattle.std.specs.Prelude.{◌≡◌, ◌⊎◌, ◌<◌, ◌≤◌, ◌-◌, ◌^◌, ℕ, List, length, take, Option}
+use Rattle.std.specs.Io.KnownBytes.{Appends}
+
+-- the count of faults rose, or is at its greatest
+abbrev pub Rises : ℕ → ℕ → Type 0
+Rises old new = (old < new) ⊎ (new ≡ 2 ^ 64 - 1)
+
+-- a beginning of these bytes was written
+pub record AppendsSome (old new : Option (List ℕ)) (bytes : List ℕ) : Type 0 where
+  pub count : ℕ
+  pub within : count ≤ length bytes
+  pub appends : Appends old new (take count bytes)

@@ -1,0 +1,96 @@
+//! What the operands of a line ask for.
+ghost use Rattle.std.specs.Prelude.{◌≡◌, ◌≢◌, ◌⊎◌, [], ◌∷◌, ◌++◌, List, Result, Ok, Err, IfOk, IfErr, OnOk, map};
+ghost use Rattle.bz_tools.specs.Asked as a;
+ghost use Rattle.bz_tools.specs.Operands.{target_of, verb_of};
+ghost use Rattle.bz_tools.specs.Shown.{asked_in, actions_in};
+ghost use Rattle.bz_tools.specs.declared.verb.OperandFault.{OperandFault};
+
+use crate::target::{is_target, read_target};
+use crate::verb::{OperandFault, Verb, read_verb};
+use bz_command::{Command, Target, Which};
+use bz_journal::Action;
+use std::alloc::{AllocError, Global};
+
+/// A command, and its text.
+#[derive(Clone, Copy)]
+pub(crate) struct Asking<'a> {
+    pub(crate) verb: Verb,
+    pub(crate) text: &'a str,
+}
+
+/// The commands and the targets of a line, each in order.
+#[derive(Drop)]
+pub(crate) struct Asked<'a> {
+    pub(crate) commands: Vec<Asking<'a>>,
+    pub(crate) targets: Vec<Target>,
+}
+
+/// An operand that is refused.
+#[derive(Drop)]
+pub(crate) struct Refused<'a> {
+    pub(crate) operand: &'a str,
+    pub(crate) fault: OperandFault,
+}
+
+/// An action, and the text of its command.
+#[derive(Drop)]
+pub(crate) struct Step<'a> {
+    pub(crate) action: Action,
+    pub(crate) command: &'a str,
+}
+
+fn add_target(alloc: Global, asked: &mut Asked<'_>, operand: &str) -> Result<(), OperandFault>
+    ensures ok { OnOk result (a.joined (Ok (asked_in asked.old)) (a.aimed (target_of operand.now)) ≡ Ok (asked_in asked.new)) }
+    ensures err { IfErr result (λ fault. (a.aimed (target_of operand.now) ≡ Err fault) ⊎ (fault ≡ OperandFault.Memory)) }
+{
+    let target = read_target(alloc, operand.as_bytes())?;
+    if asked.targets.push(target).is_err() {
+        return Err(OperandFault::Memory);
+    }
+    Ok(())
+}
+
+fn add_command<'a>(alloc: Global, asked: &mut Asked<'a>, operand: &'a str) -> Result<(), OperandFault>
+    ensures ok { OnOk result (a.joined (Ok (asked_in asked.old)) (a.wanted (verb_of operand.entry.now)) ≡ Ok (asked_in asked.new)) }
+    ensures err { IfErr result (λ fault. (a.wanted (verb_of operand.entry.now) ≡ Err fault) ⊎ (fault ≡ OperandFault.Memory)) }
+{
+    let verb = read_verb(alloc, operand.as_bytes())?;
+    if asked
+        .commands
+        .push(Asking { verb, text: operand })
+        .is_err()
+    {
+        return Err(OperandFault::Memory);
+    }
+    Ok(())
+}
+
+fn add<'a>(alloc: Global, asked: &mut Asked<'a>, operand: &'a str) -> Result<(), OperandFault>
+    ensures ok { OnOk result (a.joined (Ok (asked_in asked.old)) (a.asked_by operand.entry.now) ≡ Ok (asked_in asked.new)) }
+    ensures err { IfErr result (λ fault. (a.asked_by operand.entry.now ≡ Err fault) ⊎ (fault ≡ OperandFault.Memory)) }
+{
+    if is_target(operand.as_bytes()) {
+        add_target(alloc, asked, operand)
+    } else {
+        add_command(alloc, asked, operand)
+    }
+}
+
+/// What the operands ask for. The error is the first operand that is refused, in order, or memory.
+pub(crate) fn read_asked<'a>(alloc: Global, operands: &[&'a str]) -> Result<Asked<'a>, Refused<'a>>
+    ensures ok { IfOk result (λ asked. a.asked_of (map (λ s. s.now) operands.now) ≡ Ok (asked_in asked)) }
+    ensures err { IfErr result (λ refused. (a.asked_of (map (λ s. s.now) operands.now) ≡ Err refused.fault)
+        ⊎ (refused.fault ≡ OperandFault.Memory)) }
+{
+    let mut asked = Asked {
+        commands: Vec::new(alloc),
+        targets: Vec::new(alloc),
+    };
+    for &operand in operands {
+        match add(alloc, &mut asked, operand) {
+            Ok(()) => {}
+            Err(fault) => return Err(Refused { operand, fault }),
+        }
+    }
+    Ok(asked)
+}

@@ -1,0 +1,18 @@
+//! The programs as engines over readers and writers: what the words of a command line and the bytes of standard
+//! input mean, and what a run of them writes.
+#![tactic(auto)]
+
+mod asked;
+mod device;
+mod line;
+mod memory;
+mod sink;
+mod source;
+mod target;
+mod verb;
+mod words;
+
+pub use device::Device;
+pub use memory::{MemorySink, MemorySource};
+pub use sink::Sink;
+pub use source::{PortFault, Source};

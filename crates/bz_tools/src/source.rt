@@ -1,0 +1,82 @@
+//! Readers that count their faults.
+ghost use Rattle.std.specs.Prelude.{◌≡◌, ◌≤◌, ◌+◌, ◌<◌, ◌++◌, ℕ, List, Option, IfOk, IfSome, IsErr, IsErrOf, take, length, vec_len};
+ghost use Rattle.std.specs.Io.{ReadsAtMost};
+ghost use Rattle.std.specs.Io.KnownBytes.{ReadConsumes, Consumes, IsAtEnd};
+ghost use Rattle.bz_tools.specs.Faults.{Rises};
+
+use std::alloc::Global;
+
+/// A read or a write failed.
+#[derive(Clone, Copy, Debug, PartialEq, Eq)]
+pub struct PortFault;
+
+/// A reader that counts its faults.
+pub trait Source {
+    // The bytes that are left, where they are known.
+    ghost remaining: { Self → Option (List ℕ) };
+
+    // How often a read has failed, up to the greatest number.
+    ghost faults: { Self → ℕ };
+
+    /// Reads some bytes and answers how many; none only at the end, or where there is no room.
+    fn read(&mut self, into: &mut [u8]) -> Result<usize, PortFault>
+        ensures bound { ReadsAtMost result into.new }
+        ensures bytes { ReadConsumes (remaining self.old) (remaining self.new) result into.new }
+        ensures cause { IsErr result → Rises (faults self.old) (faults self.new) }
+        ensures count { faults self.old ≤ faults self.new };
+}
+
+/// Why no bytes came.
+#[derive(Clone, Copy, Debug, PartialEq, Eq)]
+pub(crate) enum InputFault {
+    /// Memory was refused.
+    Memory,
+    /// The reader failed.
+    Read,
+}
+
+const CHUNK: usize = 16_384;
+
+// One read, of at most as much as there is room for in `most`.
+fn read_part<S: Source>(
+    source: &mut S,
+    bytes: &mut Vec<u8>,
+    most: usize,
+) -> Result<usize, InputFault>
+    requires room { vec_len bytes.old ≤ most }
+    ensures within { IfOk result (λ n. vec_len bytes.new ≡ vec_len bytes.old + n) }
+    ensures most { vec_len bytes.new ≤ most }
+    ensures read { IfOk result (λ n. (got : List ℕ) × (bytes.new.items ≡ bytes.old.items ++ got)
+        × (length got ≡ n) × Consumes (S.remaining source.old) (S.remaining source.new) got) }
+    ensures end { IfOk result (λ n. n ≡ 0 → vec_len bytes.old < most → IsAtEnd (S.remaining source.new)) }
+    ensures fault { IsErrOf result InputFault.Read → Rises (S.faults source.old) (S.faults source.new) }
+    ensures count { S.faults source.old ≤ S.faults source.new }
+{
+    let mut chunk = [0u8; CHUNK];
+    let room = (most - bytes.len()).min(CHUNK);
+    match source.read(&mut chunk[..room]) {
+        Err(_) => Err(InputFault::Read),
+        Ok(n) => match bytes.extend_from_slice(&chunk[..n]) {
+            Ok(()) => Ok(n),
+            Err(_) => Err(InputFault::Memory),
+        },
+    }
+}
+
+/// The first bytes that are left, at most so many.
+pub(crate) fn read_most<S: Source>(
+    alloc: Global,
+    source: &mut S,
+    most: usize,
+) -> Result<Vec<u8>, InputFault>
+    ensures ok { IfOk result (λ bytes. IfSome (S.remaining source.old) (λ all. bytes.items ≡ take most all)) }
+    ensures fault { IsErrOf result InputFault.Read → Rises (S.faults source.old) (S.faults source.new) }
+{
+    let mut bytes = Vec::new(alloc);
+    while bytes.len() < most {
+        if read_part(source, &mut bytes, most)? == 0 {
+            break;
+        }
+    }
+    Ok(bytes)
+}
