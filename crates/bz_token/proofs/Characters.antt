@@ -1,11 +1,11 @@
 -- The bytes of names are the bytes of letters, digits and `_`.
-use Rattle.std.proofs.Common.{◌≡◌, ◌≢◌, ◌<◌, ◌≤◌, ◌+◌, ◌/◌, ℕ, Bool, true, false, not, List, [], ◌∷◌, ◌++◌, ◌&&◌, ◌||◌, eqb, ltb, inl, inr, refl, sym, ◌∙◌, subst, arith}
+use Rattle.std.proofs.Common.{◌≡◌, ◌≢◌, ◌<◌, ◌≤◌, ◌+◌, ◌/◌, ℕ, Bool, true, false, not, List, [], ◌∷◌, ◌++◌, ◌&&◌, ◌||◌, eqb, ltb, ◌⊎◌, inl, inr, refl, sym, ap, ◌∙◌, subst, arith}
 use Rattle.std.proofs.lemmas.Bool.{both_ways, cases_Bool, cases_eq, cases_lt, and_parts, and_from, or_cases, or_left, or_right, eqb-true, ne_eqb, eq-eqb, lt-ltb, le-ltb, le-leb, not_from_false}
 use Rattle.std.proofs.lemmas.Bool.Decides.{nat_tests}
 use Rattle.std.proofs.lemmas.Str.{encode_ascii}
 use lib.Utf8.{encode, encodes, next}
-use Rattle.bz_token.specs.Bytes.{is_digit, is_letter}
-use Rattle.bz_token.specs.Characters.{is_letter_character, IsWordOfCharacters, ByCharacters}
+use Rattle.bz_token.specs.Bytes.{is_digit, is_letter, is_high}
+use Rattle.bz_token.specs.Characters.{is_letter_character, IsWordOfCharacters}
 use Rattle.bz_token.specs.Lexemes.{IsLetters, none, one, three, IsWord, Each}
 use Rattle.bz_token.proofs.Taken.{three_letters}
 use Rattle.bz_token.proofs.Boundaries.{letter_high, no_digit}
@@ -75,9 +75,9 @@ more_letters c s l i =
     elim (cases_lt c 128) [
       | inl a ↦ rw (encode_ascii c a) (one (as_byte c l) (ne_eqb c 239 (λ e. absurd (omega arith))) i)
       | inr a ↦ elim (cases_lt c 2048) [
-          | inl b ↦ more_two c s a b i
-          | inr b ↦ elim (cases_lt c 65536) [ inl d ↦ more_three c s b d (no_mark_character c l) i | inr d ↦ more_four c s d i ]
-        ]
+        | inl b ↦ more_two c s a b i
+        | inr b ↦ elim (cases_lt c 65536) [ inl d ↦ more_three c s b d (no_mark_character c l) i | inr d ↦ more_four c s d i ]
+      ]
     ]
 
 -- ---- the other way
@@ -109,10 +109,10 @@ less_high c s a i =
     elim (cases_lt c 2048) [
       | inl b ↦ (λ e. absurd (omega arith), peel (next c) s (low_next c) (peel (192 + c / 64) (next c ∷ s) (λ e. absurd (omega arith)) (rw (two_bytes c a b) at i)))
       | inr b ↦ elim (cases_lt c 65536) [
-          | inl d ↦ peel_three c s b d i
-          | inr d ↦
-              (λ e. absurd (omega arith), peel (next c) s (low_next c) (peel (next (c / 64)) (next c ∷ s) (low_next (c / 64)) (peel (next (c / 4096)) (next (c / 64) ∷ next c ∷ s) (low_next (c / 4096)) (peel (240 + c / 262144) (next (c / 4096) ∷ next (c / 64) ∷ next c ∷ s) (λ e. absurd (omega arith)) (rw (four_bytes c d) at i)))))
-        ]
+        | inl d ↦ peel_three c s b d i
+        | inr d ↦
+            (λ e. absurd (omega arith), peel (next c) s (low_next c) (peel (next (c / 64)) (next c ∷ s) (low_next (c / 64)) (peel (next (c / 4096)) (next (c / 64) ∷ next c ∷ s) (low_next (c / 4096)) (peel (240 + c / 262144) (next (c / 4096) ∷ next (c / 64) ∷ next c ∷ s) (λ e. absurd (omega arith)) (rw (four_bytes c d) at i)))))
+      ]
     ]
 
 letter_character : (c : ℕ) → c ≢ 65279 → (is_letter c || is_digit c) ≡ true → (is_letter_character c || is_digit c) ≡ true
@@ -144,21 +144,32 @@ each_less : (cs : List ℕ) → IsLetters (encodes cs) → Each goes_on cs
 each_less [] i = tt
 each_less (c ∷ cs) i = let w = less_letters c (encodes cs) i in (w.0, each_less cs w.1)
 
+-- the bytes of a character: itself, or bytes from 128 on
+abbrev pub BytesOf : ℕ → ℕ → List ℕ → Type 0
+BytesOf c b t = (encode c ≡ b ∷ t) × Each is_high t × (((c < 128) × (b ≡ c) × (t ≡ [])) ⊎ ((is_high c ≡ true) × (is_high b ≡ true)))
+
+is_next_high : (n : ℕ) → is_high (next n) ≡ true
+is_next_high n = le-leb 128 (next n) (is_next n)
+
+pub bytes_of : (c : ℕ) → (b : ℕ) × (t : List ℕ) × BytesOf c b t
+bytes_of c =
+    elim (cases_lt c 128) [
+      | inl a ↦ (c, [], (encode_ascii c a, tt, inl (a, refl, refl)))
+      | inr a ↦ elim (cases_lt c 2048) [
+        | inl b ↦ (192 + c / 64, next c ∷ [], (two_bytes c a b, (is_next_high c, tt), inr (le-leb 128 c a, le-leb 128 (192 + c / 64) (omega arith))))
+        | inr b ↦ elim (cases_lt c 65536) [
+          | inl d ↦ (224 + c / 4096, next (c / 64) ∷ next c ∷ [], (three_bytes c b d, (is_next_high (c / 64), (is_next_high c, tt)), inr (le-leb 128 c a, le-leb 128 (224 + c / 4096) (omega arith))))
+          | inr d ↦ (240 + c / 262144, next (c / 4096) ∷ next (c / 64) ∷ next c ∷ [], (four_bytes c d, (is_next_high (c / 4096), (is_next_high (c / 64), (is_next_high c, tt))), inr (le-leb 128 c a, le-leb 128 (240 + c / 262144) (omega arith))))
+        ]
+      ]
+    ]
+
 -- the first byte is a digit just where the character is
 first_byte : (c : ℕ) (s : List ℕ) → (b : ℕ) × (t : List ℕ) × (encode c ++ s ≡ b ∷ t) × (is_digit b ≡ is_digit c)
 first_byte c s =
-    elim (cases_lt c 128) [
-      | inl a ↦ (c, s, rw (encode_ascii c a) refl, refl)
-      | inr a ↦
-          let n : is_digit c ≡ false = no_digit c (le-leb 128 c a) in
-          elim (cases_lt c 2048) [
-            | inl b ↦ (192 + c / 64, next c ∷ s, rw (two_bytes c a b) refl, no_digit (192 + c / 64) (le-leb 128 (192 + c / 64) (omega arith)) ∙ sym n)
-            | inr b ↦ elim (cases_lt c 65536) [
-                | inl d ↦ (224 + c / 4096, next (c / 64) ∷ next c ∷ s, rw (three_bytes c b d) refl, no_digit (224 + c / 4096) (le-leb 128 (224 + c / 4096) (omega arith)) ∙ sym n)
-                | inr d ↦ (240 + c / 262144, next (c / 4096) ∷ next (c / 64) ∷ next c ∷ s, rw (four_bytes c d) refl, no_digit (240 + c / 262144) (le-leb 128 (240 + c / 262144) (omega arith)) ∙ sym n)
-              ]
-          ]
-    ]
+    let w = bytes_of c in
+    let x = w.2 in
+    (w.0, w.1 ++ s, ap (λ (u : List ℕ). u ++ s) x.0, elim x.2 [ inl y ↦ ap is_digit y.1 | inr y ↦ no_digit (w.0) y.1 ∙ sym (no_digit c y.0) ])
 
 letter_no_digit : (c : ℕ) → is_letter c ≡ true → is_digit c ≡ false
 letter_no_digit c h = grind (arith, nat_tests)
@@ -176,8 +187,14 @@ from_characters c cs s b t e i d h =
     let n = letter_no_digit c (and_parts (is_letter c) (not (eqb c 65279)) h.0).0 in
     subst IsWord (sym i) (d ∙ n, subst IsLetters (sym e ∙ i) l)
 
-pub by_characters : ByCharacters
-by_characters [] = (λ h. h, λ h. h)
-by_characters (c ∷ cs) =
+pub words_to : (cs : List ℕ) → IsWord (encodes cs) → IsWordOfCharacters cs
+words_to [] h = h
+words_to (c ∷ cs) h =
     let w = first_byte c (encodes cs) in
-    (to_characters c cs (encode c ++ encodes cs) (w.0) (w.1) refl w.2 w.3, from_characters c cs (encode c ++ encodes cs) (w.0) (w.1) refl w.2 w.3)
+    to_characters c cs (encode c ++ encodes cs) (w.0) (w.1) refl w.2 w.3 h
+
+pub words_from : (cs : List ℕ) → IsWordOfCharacters cs → IsWord (encodes cs)
+words_from [] h = h
+words_from (c ∷ cs) h =
+    let w = first_byte c (encodes cs) in
+    from_characters c cs (encode c ++ encodes cs) (w.0) (w.1) refl w.2 w.3 h

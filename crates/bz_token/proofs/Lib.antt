@@ -10,3 +10,5 @@ pub mod Tokens
 pub mod Boundaries
 pub mod Rows
 pub mod Characters
+pub mod Pieces
+pub mod Texts

@@ -225,6 +225,9 @@ EndsShort q s = (x : List ℕ) × (s ≡ x ++ (quote_byte q ∷ [])) × IsShort 
 taken_piece : (q : Quote) (b c : ℕ) (s t x : List ℕ) → b ≡ 92 → s ≡ c ∷ t → t ≡ x ++ (quote_byte q ∷ []) → IsShort (quote_byte q) x → EndsShort q (b ∷ s)
 taken_piece q b c s t x i j e h = (92 ∷ c ∷ x, rw (i, j, e) refl, short_taken h)
 
+plain_short : (q : Quote) (b : ℕ) (s x : List ℕ) → among b (quote_byte q ∷ 10 ∷ 92 ∷ []) ≡ false → s ≡ x ++ (quote_byte q ∷ []) → IsShort (quote_byte q) x → EndsShort q (b ∷ s)
+plain_short q b s x n e h = (b ∷ x, rw e refl, short_plain n h)
+
 line_piece : (q : Quote) (b : ℕ) (s t x : List ℕ) → b ≡ 92 → s ≡ 13 ∷ 10 ∷ t → t ≡ x ++ (quote_byte q ∷ []) → IsShort (quote_byte q) x → EndsShort q (b ∷ s)
 line_piece q b s t x i j e h = (92 ∷ 13 ∷ 10 ∷ x, rw (i, j, e) refl, short_line h)
 
@@ -253,7 +256,7 @@ short_reads (suc n) q k (b ∷ s) l h =
           | inr g ↦
               let x = short_reads n q k s (omega arith) (rw (e, f, g) at h) in
               let y = x.1 in
-              (x.0, (b ∷ y.0, ap (λ (t : List ℕ). b ∷ t) y.1, short_plain (rw (e, g, f) refl) y.2))
+              (x.0, plain_short q b s (y.0) (rw (e, g, f) refl) y.1 y.2)
         ]
       ]
     ]

@@ -41,8 +41,7 @@ pub fn cuts()
     ensures { Cuts }
 {}
 
-/// The bytes of a text are a word just where its characters are a letter or `_` and then letters, digits and `_`.
+/// The bytes of a text are a lexeme of a class just where its characters are.
 pub fn by_characters()
     ensures { ByCharacters }
-{
-}
+{}
