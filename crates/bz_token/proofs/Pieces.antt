@@ -255,8 +255,8 @@ quoted_to cs (triple m s q h) =
     let k = quote_low m q in
     rw (append_encodes s (m ∷ m ∷ m ∷ []), encode_ascii m k) (triple m (encodes s) q (long_to m s q h))
 
-single_of : (m : ℕ) (cs ds es : List ℕ) → cs ≡ m ∷ ds → ds ≡ es ++ (m ∷ []) → cs ≡ m ∷ (es ++ (m ∷ []))
-single_of m cs ds es e f = rw (e, f) refl
+single_of : (m : ℕ) (cs ds es x : List ℕ) → cs ≡ m ∷ ds → ds ≡ es ++ (m ∷ x) → x ≡ [] → cs ≡ m ∷ (es ++ (m ∷ []))
+single_of m cs ds es x e f g = rw (e, f, g) refl
 
 triple_of : (m : ℕ) (cs a b c d x y z : List ℕ) → cs ≡ m ∷ a → a ≡ m ∷ b → b ≡ m ∷ c → c ≡ d ++ (m ∷ x) → x ≡ m ∷ y → y ≡ m ∷ z → z ≡ [] → cs ≡ m ∷ m ∷ m ∷ (d ++ (m ∷ m ∷ m ∷ []))
 triple_of m cs a b c d x y z e f g h i j k = rw (e, f, g, h, i, j, k) refl
@@ -266,8 +266,7 @@ quoted_from cs u e (single m s q h) =
     let k = quote_low m q in
     let x = ascii_head m (s ++ (m ∷ [])) cs k e in
     let y = mark_cut m (x.0) s [] k x.2 in
-    let z = nothing_of (y.1) y.4 in
-    let i = single_of m cs (x.0) (y.0) x.1 (y.2 ∙ ap (λ (v : List ℕ). y.0 ++ (m ∷ v)) z) in
+    let i = single_of m cs (x.0) (y.0) (y.1) x.1 y.2 (nothing_of (y.1) y.4) in
     subst IsQuoted (sym i) (single m (y.0) q (short_from (length y.0) m (y.0) s (omega arith) q y.3 h))
 quoted_from cs u e (triple m s q h) =
     let k = quote_low m q in
