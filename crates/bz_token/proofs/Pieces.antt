@@ -227,6 +227,9 @@ past_high (b ∷ t) (c ∷ s) v m u h k e =
     let w = past_high t s v m u h.1 k j in
     (w.0, rw i (ap (λ (x : List ℕ). c ∷ x) w.1), w.2)
 
+one_more : (c m : ℕ) (cs ds es : List ℕ) → cs ≡ ds ++ (m ∷ es) → c ∷ cs ≡ (c ∷ ds) ++ (m ∷ es)
+one_more c m cs ds es e = rw e refl
+
 joined : (b a : ℕ) (f t g r s : List ℕ) → f ≡ b ∷ t → g ≡ r → s ≡ t ++ r → b ≡ a → f ++ g ≡ a ∷ s
 joined b a f t g r s e i j k = rw (e, i, j, k) refl
 
@@ -243,7 +246,7 @@ mark_cut m (c ∷ cs) (a ∷ s) u k e =
     let j : w.1 ++ encodes cs ≡ s ++ (m ∷ u) = cc in
     let y = past_high (w.1) s (encodes cs) m u x.1 k j in
     let z = mark_cut m cs (y.0) u k y.2 in
-    (c ∷ z.0, z.1, ap (λ (v : List ℕ). c ∷ v) z.2, joined (w.0) a (encode c) (w.1) (encodes z.0) (y.0) s x.0 z.3 y.1 i, z.4)
+    (c ∷ z.0, z.1, one_more c m cs (z.0) (z.1) z.2, joined (w.0) a (encode c) (w.1) (encodes z.0) (y.0) s x.0 z.3 y.1 i, z.4)
 
 append_encodes : (a b : List ℕ) → encodes (a ++ b) ≡ encodes a ++ encodes b
 append_encodes [] b = refl
