@@ -9,3 +9,6 @@ pub mod Sound
 pub mod Tokens
 pub mod Boundaries
 pub mod Rows
+pub mod Characters
+pub mod Pieces
+pub mod Texts

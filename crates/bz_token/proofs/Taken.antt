@@ -222,8 +222,17 @@ taken_reads q k (b ∷ c ∷ s) h =
 abbrev pub EndsShort : Quote → List ℕ → Type 0
 EndsShort q s = (x : List ℕ) × (s ≡ x ++ (quote_byte q ∷ [])) × IsShort (quote_byte q) x
 
+shorter : (n b c : ℕ) (s t : List ℕ) → length (b ∷ s) ≤ suc n → s ≡ c ∷ t → length t ≤ n
+shorter n b c s t l e = let j : length s ≡ length (c ∷ t) = ap length e in omega arith
+
+shorter_line : (n b : ℕ) (s t : List ℕ) → length (b ∷ s) ≤ suc n → s ≡ 13 ∷ 10 ∷ t → length t ≤ n
+shorter_line n b s t l e = let j : length s ≡ length (13 ∷ 10 ∷ t) = ap length e in omega arith
+
 taken_piece : (q : Quote) (b c : ℕ) (s t x : List ℕ) → b ≡ 92 → s ≡ c ∷ t → t ≡ x ++ (quote_byte q ∷ []) → IsShort (quote_byte q) x → EndsShort q (b ∷ s)
 taken_piece q b c s t x i j e h = (92 ∷ c ∷ x, rw (i, j, e) refl, short_taken h)
+
+plain_short : (q : Quote) (b : ℕ) (s x : List ℕ) → among b (quote_byte q ∷ 10 ∷ 92 ∷ []) ≡ false → s ≡ x ++ (quote_byte q ∷ []) → IsShort (quote_byte q) x → EndsShort q (b ∷ s)
+plain_short q b s x n e h = (b ∷ x, rw e refl, short_plain n h)
 
 line_piece : (q : Quote) (b : ℕ) (s t x : List ℕ) → b ≡ 92 → s ≡ 13 ∷ 10 ∷ t → t ≡ x ++ (quote_byte q ∷ []) → IsShort (quote_byte q) x → EndsShort q (b ∷ s)
 line_piece q b s t x i j e h = (92 ∷ 13 ∷ 10 ∷ x, rw (i, j, e) refl, short_line h)
@@ -240,11 +249,11 @@ short_reads (suc n) q k (b ∷ s) l h =
             let w = taken_reads q k s (rw (e, f) at h) in
             elim w.3 [
               | inl r ↦
-                  let x = short_reads n q k (w.1) (let j : length s ≡ length (w.0 ∷ w.1) = ap length w.2 in omega arith) r in
+                  let x = short_reads n q k (w.1) (shorter n b (w.0) s (w.1) l w.2) r in
                   let y = x.1 in
                   (x.0, taken_piece q b (w.0) s (w.1) (y.0) i w.2 y.1 y.2)
               | inr r ↦
-                  let x = short_reads n q k (r.0) (let j : length s ≡ length (13 ∷ 10 ∷ r.0) = ap length r.1 in omega arith) r.2 in
+                  let x = short_reads n q k (r.0) (shorter_line n b s (r.0) l r.1) r.2 in
                   let y = x.1 in
                   (x.0, line_piece q b s (r.0) (y.0) i r.1 y.1 y.2)
             ]
@@ -253,7 +262,7 @@ short_reads (suc n) q k (b ∷ s) l h =
           | inr g ↦
               let x = short_reads n q k s (omega arith) (rw (e, f, g) at h) in
               let y = x.1 in
-              (x.0, (b ∷ y.0, ap (λ (t : List ℕ). b ∷ t) y.1, short_plain (rw (e, g, f) refl) y.2))
+              (x.0, plain_short q b s (y.0) (rw (e, g, f) refl) y.1 y.2)
         ]
       ]
     ]

@@ -1,3 +1,4 @@
+ghost use Rattle.bz_token.specs.Characters.{ByCharacters};
 ghost use Rattle.bz_token.specs.Laws.{OneToken, Begins, Separated, Single, EachMark, EachKeyword, EachNumber, Cuts};
 
 /// No text begins with two tokens: neither of two classes nor of two lengths.
@@ -38,4 +39,9 @@ pub fn each_number()
 /// `1..real` is cut as `1.` `.` `real`, and `1.real` as `1.` `real`.
 pub fn cuts()
     ensures { Cuts }
+{}
+
+/// The bytes of a text are a lexeme of a class just where its characters are.
+pub fn by_characters()
+    ensures { ByCharacters }
 {}
