@@ -25,7 +25,7 @@ use Rattle.bz_tree.specs.Words.{file_at, lines_at}
 use Rattle.bz_tree.specs.Plain.{begins_line, is_plain_leaf, are_plain}
 use Rattle.bz_tree.specs.Legal.{is_fresh, is_plain, ArePlain, Legal, Reads}
 use Rattle.bz_lex.specs.declared.fault.ReadFault.TheVariants as f
-use Rattle.bz_tree.specs.Faults.{NoFile, Refuses, IsPlace, IsOfLeaves}
+use Rattle.bz_tree.specs.Faults.{NoFile, Refuses, IsPlace, IsOther}
 use Rattle.bz_tree.proofs.Spells.{node_spelled}
 use Rattle.bz_tree.proofs.Files.{read_sound, read_complete}
 
@@ -177,11 +177,11 @@ pub told_not_utf8 : {X : Type 0} (text : List ℕ) (n at : ℕ) → length text 
 told_not_utf8 {X} text n at le v =
     (λ e. (le, subst (IsValidUpTo text) (same_at X n at (Err (f.NotUtf8 n)) (Err (f.NotUtf8 at)) refl refl e) v), λ w. ap (λ (z : ℕ). Err (f.NotUtf8 z)) (one_valid text n at v w.1))
 
-of_leaves_not : (fault : ReadFault) (at : ℕ) → IsOfLeaves fault → fault ≡ f.NotUtf8 at → ⊥
-of_leaves_not fault at h e = subst IsOfLeaves e h
+other_not : (fault : ReadFault) (at : ℕ) → IsOther fault → fault ≡ f.NotUtf8 at → ⊥
+other_not fault at h e = subst IsOther e h
 
-of_result : {X : Type 0} (result : Result X ReadFault) (at : ℕ) → IfErr result IsOfLeaves → result ≡ Err (f.NotUtf8 at) → ⊥
-of_result result at h e = let w = subst (λ (z : Result _ ReadFault). IfErr z IsOfLeaves) e h in w
+of_result : {X : Type 0} (result : Result X ReadFault) (at : ℕ) → IfErr result IsOther → result ≡ Err (f.NotUtf8 at) → ⊥
+of_result result at h e = let w = subst (λ (z : Result _ ReadFault). IfErr z IsOther) e h in w
 
-pub not_told : {X : Type 0} (result : Result X ReadFault) (text : List ℕ) (at : ℕ) → IsUtf8 text → IfErr result IsOfLeaves → NotUtf8Exactly result text at
+pub not_told : {X : Type 0} (result : Result X ReadFault) (text : List ℕ) (at : ℕ) → IsUtf8 text → IfErr result IsOther → NotUtf8Exactly result text at
 not_told result text at u h = (λ e. absurd (of_result result at h e), λ w. absurd (valid_text text at u w.1))

@@ -16,10 +16,10 @@ IsInText f.Memory = ⊥
 IsInText _ = Unit {0}
 
 -- a fault that neither the length of the text nor its coding gives
-abbrev pub IsOfLeaves : ReadFault → Type 0
-IsOfLeaves (f.NotUtf8 at) = ⊥
-IsOfLeaves f.TooLarge = ⊥
-IsOfLeaves _ = Unit {0}
+abbrev pub IsOther : ReadFault → Type 0
+IsOther (f.NotUtf8 at) = ⊥
+IsOther f.TooLarge = ⊥
+IsOther _ = Unit {0}
 
 -- the leaves are no file of this grammar
 abbrev pub NoFile : List Leaf → Type 0

@@ -1,12 +1,13 @@
-ghost use Rattle.std.specs.Prelude.{◌≡◌, ◌↔◌, ◌≤◌, ◌<◌, ℕ, length, true, Some, None, IfOk, IfErr, MatchOption, IsUtf8};
+ghost use Rattle.std.specs.Prelude.{◌≡◌, ◌↔◌, ◌≤◌, ◌<◌, ℕ, length, true, Some, None, IfOk, IfErr, IfSome, MatchOption};
 ghost use Rattle.std.specs.Str.{IsValidUpTo};
+ghost use Rattle.bz_lex.specs.Faults.{is_of_leaves};
 ghost use Rattle.bz_lex.specs.Leaves.{AreLeaves, NoLeaves, spell_leaves};
 ghost use Rattle.bz_tree.specs.declared.tree.Node.{Node};
 ghost use Rattle.bz_tree.specs.Legal.{Reads};
 ghost use Rattle.bz_tree.specs.Spell.{limit};
 ghost use Rattle.bz_tree.specs.Plain.{are_plain};
 ghost use Rattle.bz_tree.specs.Words.{file_at};
-ghost use Rattle.bz_tree.specs.Faults.{IsInText, IsOfLeaves, Refuses, IsPlace};
+ghost use Rattle.bz_tree.specs.Faults.{IsInText, IsOther, Refuses, IsPlace};
 
 use crate::grammar::file;
 use crate::plain::odd_leaf;
@@ -56,15 +57,16 @@ pub fn parse(alloc: Global, text: &[u8]) -> Result<Tree, ReadFault>
 /// The tree of the leaves of a text, or the fault that stands first in the text.
 fn tree_of(alloc: Global, text: &[u8], reading: Reading) -> Result<Tree, ReadFault>
     requires within { length text.now ≤ limit }
-    requires reading { MatchOption reading.fault (AreLeaves reading.leaves × (spell_leaves reading.leaves ≡ text.now)) (λ _. NoLeaves text.now) }
+    requires told { MatchOption reading.fault (AreLeaves reading.leaves × (spell_leaves reading.leaves ≡ text.now)) (λ _. NoLeaves text.now) }
+    requires kind { IfSome reading.fault (λ fault. is_of_leaves fault ≡ true) }
     ensures ok { IfOk result (λ tree. Reads text.now tree) }
-    ensures of_leaves { IfErr result (λ fault. IsOfLeaves fault) }
+    ensures other { IfErr result (λ fault. IsOther fault) }
     ensures refused { IfErr result (λ fault. IsInText fault → (tree : Node) → Reads text.now tree → ⊥) }
 {
     match file_of(alloc, reading.leaves) {
         Ok(root) => match reading.fault {
             None => Ok(Tree { root }),
-            Some(fault) => Err(in_text(text, fault)),
+            Some(fault) => Err(fault),
         },
         Err(refusal) => Err(told(text, refusal, reading.fault)),
     }
@@ -72,13 +74,14 @@ fn tree_of(alloc: Global, text: &[u8], reading: Reading) -> Result<Tree, ReadFau
 
 /// The fault of leaves that are no file, in front of the fault behind them.
 fn told(text: &[u8], refusal: Refusal, fault: Option<ReadFault>) -> ReadFault
-    ensures of_leaves { IsOfLeaves result }
+    requires { IfSome fault (λ fault. is_of_leaves fault ≡ true) }
+    ensures other { IsOther result }
     ensures place { IsInText result → IsPlace refusal }
 {
     match (refusal, fault) {
         (Refusal::Memory, _) => ReadFault::Memory,
         (Refusal::At(at), _) => unexpected(text, at),
-        (Refusal::Over, Some(fault)) => in_text(text, fault),
+        (Refusal::Over, Some(fault)) => fault,
         (Refusal::Over, None) => unexpected(text, text.len()),
     }
 }
@@ -108,18 +111,6 @@ fn first(one: Option<usize>, other: Option<usize>) -> Refusal
         (Some(a), Some(b)) => Refusal::At(a.min(b)),
         (Some(at), None) | (None, Some(at)) => Refusal::At(at),
         (None, None) => Refusal::Over,
-    }
-}
-
-/// A fault of reading leaves.
-fn in_text(text: &[u8], fault: ReadFault) -> ReadFault
-    ensures { IsInText result }
-{
-    match fault {
-        ReadFault::NotUtf8 { .. } | ReadFault::TooLarge | ReadFault::Memory => {
-            unexpected(text, text.len())
-        }
-        other => other,
     }
 }
 

@@ -15,4 +15,4 @@ returns-in_err-read_leaves-clause-not_utf8 c at =
     not_told c.from_residual.result c.args.text.now at c.in_default.ensures.cases.1 (rw (p.1, p.2) tt)
 
 pub returns-clause-not_utf8 : goal.returns-clause-not_utf8
-returns-clause-not_utf8 c at = not_told c.tree_of.result c.args.text.now at c.in_default.ensures.cases.1 c.tree_of.ensures.of_leaves
+returns-clause-not_utf8 c at = not_told c.tree_of.result c.args.text.now at c.in_default.ensures.cases.1 c.tree_of.ensures.other
