@@ -39,7 +39,8 @@ pub(crate) fn cut(text: &[u8], byte: u8) -> Option<(&[u8], &[u8])>
 pub(crate) fn joined(text: &[u8]) -> bool
     ensures { result ≡ is_joined text.now }
 {
-    text.split(|byte| *byte == b'/').all(|piece| !piece.is_empty())
+    text.split(|byte| *byte == b'/')
+        .all(|piece| !piece.is_empty())
 }
 
 /// What stands after the last slash, or the whole text.
