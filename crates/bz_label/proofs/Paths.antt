@@ -2,7 +2,7 @@
 use Rattle.std.proofs.Common.{◌≡◌, ℕ, Bool, true, false, List, [], ◌∷◌, ◌++◌, refl, sym, ◌∙◌, ap, ◌&&◌, codes, ◌↔◌, ◌⊎◌, inl, inr, IsTrue, append_assoc, cond}
 use Rattle.std.specs.List.{list_all, onto_first}
 use Rattle.std.proofs.lemmas.Bool.{both_ways, cases_Bool, eqb-true}
-use Rattle.bz_label.specs.Pieces.{Bytes, is_present, is_slash, pieces_of, is_joined, IsSlashed}
+use Rattle.bz_label.specs.Pieces.{Bytes, is_present, is_slash, pieces_of, is_joined, IsSlashSeparated}
 
 -- whether the pieces that follow are there, where a piece may have begun
 abbrev goes_on : Bool → Bytes → Bool
@@ -46,7 +46,7 @@ stops_at_two begun (byte ∷ front) rest = elim (cases_Bool (is_slash byte)) [
   | inr other ↦ rw other (stops_at_two true front rest)
 ]
 
-slashed_from : (path : Bytes) → goes_on false path ≡ true → IsSlashed path
+slashed_from : (path : Bytes) → goes_on false path ≡ true → IsSlashSeparated path
 slashed_from path goes = record {
   present = λ e. both_ways _ (ap (goes_on false) e) goes;
   begins = λ rest e. both_ways _ (ap (goes_on false) e) goes;
@@ -91,13 +91,13 @@ goes_or_stops begun (byte ∷ rest) = elim (cases_Bool (is_slash byte)) [
   | inr other ↦ rw other (with_other begun byte rest (goes_or_stops true rest))
 ]
 
-never_stops : (path : Bytes) → IsSlashed path → Stops false path → ⊥
+never_stops : (path : Bytes) → IsSlashSeparated path → Stops false path → ⊥
 never_stops path h (empty b e) = h.present e
 never_stops path h (slash_first b rest e) = h.begins rest e
 never_stops path h (slash_last front e) = h.ends front e
 never_stops path h (two_slashes front rest e) = h.single front rest (e ∙ sym (append_assoc front (codes "//") rest))
 
-pub joined_exact : (path : Bytes) → IsTrue (is_joined path) ↔ IsSlashed path
+pub joined_exact : (path : Bytes) → IsTrue (is_joined path) ↔ IsSlashSeparated path
 joined_exact path = (
   λ joined. slashed_from path (sym (joined_goes path) ∙ joined),
   λ h. elim (goes_or_stops false path) [ inl goes ↦ joined_goes path ∙ goes | inr stops ↦ absurd (never_stops path h stops) ],

@@ -45,7 +45,7 @@ abbrev pub is_joined : Bytes → Bool
 is_joined path = list_all is_present (pieces_of path)
 
 -- the same, said without pieces; a law shows that it is the same
-pub record IsSlashed (path : Bytes) : Type 0 where
+pub record IsSlashSeparated (path : Bytes) : Type 0 where
   pub present : path ≡ [] → ⊥
   pub begins : (rest : Bytes) → path ≡ codes "/" ++ rest → ⊥
   pub ends : (front : Bytes) → path ≡ front ++ codes "/" → ⊥

@@ -70,7 +70,8 @@ impl Label {
     /// where it is none; `Memory` where room for the three parts was refused.
     pub fn read(alloc: Global, current: &str, text: &str) -> Result<Label, LabelFault>
         ensures ok { IfOk result (IsLabel current.now text.now) }
-        ensures bad { (result ≡ Err LabelFault.BadLabel) ↔ ((label : Label) → IsLabel current.now text.now label → ⊥) }
+        ensures bad { (result ≡ Err LabelFault.BadLabel)
+            ↔ ((label : Label) → IsLabel current.now text.now label → ⊥) }
     {
         let Some(parts) = parts_of(current.as_bytes(), text.as_bytes()) else {
             return Err(LabelFault::BadLabel);

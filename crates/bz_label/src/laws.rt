@@ -4,7 +4,7 @@ ghost use Rattle.std.specs.Cmp.{IsTotalOrder};
 ghost use Rattle.std.specs.declared.cmp.Ordering.TheVariants.{Equal};
 ghost use Rattle.bz_label.specs.Keys.{key_order};
 ghost use Rattle.bz_label.specs.Labels.{IsLabel, IsShortened, IsUnrepeated};
-ghost use Rattle.bz_label.specs.Pieces.{is_joined, IsSlashed};
+ghost use Rattle.bz_label.specs.Pieces.{is_joined, IsSlashSeparated};
 ghost use Rattle.bz_label.specs.Targets.{IsTarget};
 
 use crate::label::Label;
@@ -13,7 +13,7 @@ use crate::target::Target;
 /// Packages and names are non-empty pieces joined by slashes: texts that are not empty, neither begin nor end with a
 /// slash and hold no two in a row.
 pub fn path_law()
-    ensures { (path : List ℕ) → IsTrue (is_joined path) ↔ IsSlashed path }
+    ensures { (path : List ℕ) → IsTrue (is_joined path) ↔ IsSlashSeparated path }
 {}
 
 /// A text is one label at most.

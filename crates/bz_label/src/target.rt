@@ -126,7 +126,8 @@ fn fits(path: &[u8], word: &[u8]) -> bool
 
 /// What follows `//`.
 fn after_slashes(text: &[u8]) -> Option<&[u8]>
-    ensures { MatchOption result ((rest : List ℕ) → text.now ≡ codes "//" ++ rest → ⊥) (λ rest. text.now ≡ codes "//" ++ rest.now) }
+    ensures { MatchOption result ((rest : List ℕ) → text.now ≡ codes "//" ++ rest → ⊥)
+        (λ rest. text.now ≡ codes "//" ++ rest.now) }
 {
     after(after(text, b'/')?, b'/')
 }
@@ -172,7 +173,8 @@ impl Target {
     /// 65,536 bytes; `Memory` where room for the package or the word was refused.
     pub fn read(alloc: Global, text: &str) -> Result<Target, TargetFault>
         ensures ok { IfOk result (IsTarget text.now) }
-        ensures bad { (result ≡ Err TargetFault.BadTarget) ↔ ((target : Target) → IsTarget text.now target → ⊥) }
+        ensures bad { (result ≡ Err TargetFault.BadTarget)
+            ↔ ((target : Target) → IsTarget text.now target → ⊥) }
     {
         let Some((path, word)) = target_halves(text.as_bytes()) else {
             return Err(TargetFault::BadTarget);
