@@ -1,18 +1,17 @@
 -- Which leaf stands at a place, by the state in which its gap ends.
-use Rattle.std.proofs.Common.{◌≡◌, ◌≢◌, ℕ, zero, suc, Bool, true, false, List, [], ◌∷◌, ◌++◌, ◌⊎◌, inl, inr, Option, Some, None, refl, sym, ap, ◌∙◌, subst}
+use Rattle.std.proofs.Common.{◌≡◌, ℕ, Bool, true, false, List, [], ◌∷◌, ◌++◌, ◌⊎◌, inl, inr, Some, None, refl, ap, ◌∙◌}
 use Rattle.std.proofs.lemmas.Bool.{both_ways}
-use Rattle.std.proofs.lemmas.List.{append_cancel_left}
 use Rattle.bz_token.specs.declared.class.Class.{Class}
 use Rattle.bz_token.specs.declared.class.Class.TheVariants.{Newline, End}
 use Rattle.bz_token.specs.Tokens.{IsToken}
 use Rattle.bz_lex.specs.declared.leaf.Leaf.{Leaf}
 use Rattle.bz_lex.specs.declared.gap.GapState.{GapState}
 use Rattle.bz_lex.specs.declared.gap.GapState.TheVariants.{Open, Escape, EscapeReturn, Comment}
-use Rattle.bz_lex.specs.Gaps.{IsGap, is_flush}
+use Rattle.bz_lex.specs.Gaps.{is_flush}
 use Rattle.bz_lex.specs.GapStates.{gap_move, after, Stops, is_end}
 use Rattle.bz_lex.specs.Places.{Place, Fresh, Behind, Inside, Last, Over, newlines_at, May, first, later, inner, newline, no_newline, end, end_at_once}
-use Rattle.bz_lex.proofs.Gaps.{gap_after, gap_from, one_stop}
-use Rattle.bz_lex.proofs.Tokens.{one_token, token_stops, token_holds, token_no_newline}
+use Rattle.bz_lex.proofs.Gaps.{gap_after, gap_from}
+use Rattle.bz_lex.proofs.Tokens.{token_stops}
 
 -- a token behind a gap that ends between two pieces
 pub record ByToken (q : GapState) (l : Leaf) (s : List ℕ) : Type 0 where

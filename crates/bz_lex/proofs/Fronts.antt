@@ -1,5 +1,5 @@
 -- Reading the leaf at the front of a text.
-use Rattle.std.proofs.Common.{◌≡◌, ◌≢◌, ℕ, zero, suc, ◌+◌, ◌-◌, ◌≤◌, ◌<◌, Bool, true, false, List, [], ◌∷◌, ◌++◌, ◌⊎◌, inl, inr, Option, Some, None, Result, Ok, Err, MatchResult, IsErr, length, take, drop, slice_get, get_or, eqb, cond, if◌then◌else◌, ◌==◌, ◌||◌, not, refl, sym, ap, ◌∙◌, subst, arith, length-drop, drop-cons}
+use Rattle.std.proofs.Common.{◌≡◌, ◌≢◌, ℕ, suc, ◌+◌, ◌-◌, ◌≤◌, ◌<◌, Bool, true, false, List, [], ◌∷◌, ◌++◌, inl, inr, Option, Some, None, Result, Ok, Err, MatchResult, IsErr, length, take, drop, slice_get, get_or, eqb, if◌then◌else◌, ◌==◌, ◌||◌, not, refl, sym, ap, ◌∙◌, subst, arith, length-drop, drop-cons}
 use Rattle.std.proofs.lemmas.Bool.{both_ways, cases_lt, ne_eqb, eqb-true}
 use Rattle.std.proofs.lemmas.Option.{slice_get-get_or, slice_get_within, slice_get_past, get_or_from_slice_get}
 use Rattle.std.proofs.lemmas.List.{take-append-drop}
@@ -14,12 +14,12 @@ use Rattle.bz_lex.specs.declared.gap.GapState.TheVariants.{Open, Escape, EscapeR
 use Rattle.bz_lex.specs.declared.front.Front.{Front}
 use Rattle.bz_lex.specs.declared.front.Stop.{Stop}
 use Rattle.bz_lex.specs.Gaps.{is_flush}
-use Rattle.bz_lex.specs.GapStates.{gap_move, after, Stops, is_end}
-use Rattle.bz_lex.specs.Places.{Place, Fresh, Behind, Inside, Last, Over, newlines_at, May, end_at_once}
+use Rattle.bz_lex.specs.GapStates.{after, Stops, is_end}
+use Rattle.bz_lex.specs.Places.{Place, Fresh, Behind, Inside, Last, Over, newlines_at, end_at_once}
 use Rattle.bz_lex.specs.Fronts.{IsGapFront, front_leaf, behind_front, IsFront, NoLeaf, TellsFront}
 use Rattle.bz_lex.proofs.Gaps.{one_stop}
 use Rattle.bz_lex.proofs.Tokens.{token_holds}
-use Rattle.bz_lex.proofs.Forms.{ByToken, ByNewline, Empty, Form, form, may}
+use Rattle.bz_lex.proofs.Forms.{Empty, Form, form, may}
 
 -- what the byte at n says of the text from there on
 pub rest_none : (s : List ℕ) (n : ℕ) → slice_get s n ≡ None → drop n s ≡ []

@@ -1,14 +1,13 @@
 -- The tokens of a text without lines.
-use Rattle.std.proofs.Common.{◌≡◌, ◌≢◌, ℕ, zero, suc, ◌+◌, ◌-◌, ◌≤◌, ◌<◌, Bool, true, false, List, [], ◌∷◌, ◌++◌, ◌⊎◌, inl, inr, Option, Some, None, Result, Ok, Err, length, take, drop, slice_get, refl, sym, ap, ◌∙◌, subst, arith, append_assoc, length-append, length-drop}
+use Rattle.std.proofs.Common.{◌≡◌, ℕ, suc, ◌+◌, ◌-◌, ◌≤◌, ◌<◌, true, false, List, [], ◌∷◌, ◌++◌, ◌⊎◌, inl, inr, Some, length, take, drop, slice_get, refl, sym, ap, ◌∙◌, subst, arith, append_assoc, length-append, length-drop}
 use Rattle.std.proofs.lemmas.Bool.{both_ways}
-use Rattle.std.specs.Str.{IsUtf8, IsCharBoundary}
 use Rattle.std.proofs.Math.Seq.{take-length}
-use Rattle.std.proofs.lemmas.List.{take-append-drop, append-nil, append_cancel_left, length-take-le}
+use Rattle.std.proofs.lemmas.List.{take-append-drop, append-nil, append_cancel_left}
 use Rattle.bz_token.specs.declared.class.Class.{Class}
 use Rattle.bz_token.specs.Tokens.{IsToken, NoToken, TokenAt}
 use Rattle.bz_lex.specs.declared.gap.GapFront.{GapFront}
 use Rattle.bz_lex.specs.declared.gap.GapState.{GapState}
-use Rattle.bz_lex.specs.declared.gap.GapState.TheVariants.{Open, Escape, EscapeReturn, Comment}
+use Rattle.bz_lex.specs.declared.gap.GapState.TheVariants.{Open}
 use Rattle.bz_lex.specs.declared.front.Front.{Front}
 use Rattle.bz_lex.specs.Gaps.{IsGap}
 use Rattle.bz_lex.specs.GapStates.{after, Stops, is_end}
@@ -16,10 +15,9 @@ use Rattle.bz_lex.specs.Fronts.{IsLexemeFront, front_token, behind_front}
 use Rattle.bz_lex.specs.Lexing.{AreLexemes, NoLexemes}
 use Rattle.bz_lex.proofs.Gaps.{gap_after, gap_from, one_stop}
 use Rattle.bz_lex.proofs.Tokens.{one_token, token_stops, token_holds}
-use Rattle.bz_lex.proofs.Characters.{cut, gap_sealed, token_cut}
 use Rattle.bz_lex.proofs.Lists.{token_length}
 use Rattle.bz_lex.proofs.Forms.{closed_is}
-use Rattle.bz_lex.proofs.Fronts.{open_true, rest_some, TellsToken, token_within}
+use Rattle.bz_lex.proofs.Fronts.{open_true, rest_some, token_within}
 
 -- what stands behind the first gap of a text that has tokens: nothing, or a token
 abbrev Begun : GapState → List ℕ → Type 0
@@ -129,20 +127,3 @@ shorter rest behind front f e =
     let m : length (front_token front rest) + length (behind_front front rest) ≡ length rest - front.gap = sym (length-append (front_token front rest) (behind_front front rest)) ∙ ap length (take-append-drop front.token (drop front.gap rest)) ∙ length-drop front.gap rest in
     let w = f.within in
     rw e (omega arith)
-
--- ---- where it is cut
-
-pub gap_cut : (s : List ℕ) (front : Front) → IsUtf8 s → IsLexemeFront front s → IsCharBoundary s front.gap
-gap_cut s front u f =
-    subst (IsCharBoundary s) (length-take-le front.gap s (let w = f.within in omega arith))
-    (cut s (take front.gap s) (drop front.gap s) u (sym (take-append-drop front.gap s)) (gap_sealed (take front.gap s) f.gap))
-
-pub end_cut : (s : List ℕ) (front : Front) → IsUtf8 s → IsLexemeFront front s → IsCharBoundary s (front.gap + front.token)
-end_cut s front u f =
-    let w = f.within in
-    let g : length (take front.gap s) ≡ front.gap = length-take-le front.gap s (omega arith) in
-    let d : length (drop front.gap s) ≡ length s - front.gap = length-drop front.gap s in
-    let t : length (front_token front s) ≡ front.token = length-take-le front.token (drop front.gap s) (omega arith) in
-    let parts = sym (ap (λ (x : List ℕ). take front.gap s ++ x) (take-append-drop front.token (drop front.gap s)) ∙ take-append-drop front.gap s) in
-    let b = token_cut s (take front.gap s) (front_token front s) (behind_front front s) front.class u parts f.token in
-    rw (g, t) at b

@@ -1,5 +1,5 @@
 -- What the laws of tokens say of the text behind a gap.
-use Rattle.std.proofs.Common.{◌≡◌, ◌≢◌, ℕ, Bool, true, false, cond, eqb, List, [], ◌∷◌, ◌++◌, ◌&&◌, ◌||◌, None, refl, sym, subst}
+use Rattle.std.proofs.Common.{◌≡◌, ◌≢◌, ℕ, Bool, true, false, cond, eqb, List, [], ◌∷◌, ◌++◌, ◌||◌, None, refl, sym, subst}
 use Rattle.std.proofs.lemmas.Bool.{both_ways, or_parts, eqb-false, and_right}
 use Rattle.bz_token.specs.declared.class.Class.{Class}
 use Rattle.bz_token.specs.Bytes.{is_blank, is_solid}

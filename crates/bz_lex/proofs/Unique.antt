@@ -1,5 +1,5 @@
 -- No text has two lists of leaves.
-use Rattle.std.proofs.Common.{◌≡◌, ℕ, zero, suc, Bool, true, false, List, [], ◌∷◌, ◌++◌, ◌⊎◌, inl, inr, refl, sym, ap, ◌∙◌, subst}
+use Rattle.std.proofs.Common.{◌≡◌, ℕ, List, [], ◌∷◌, ◌++◌, inl, inr, refl, sym, ap, ◌∙◌, subst}
 use Rattle.std.proofs.lemmas.List.{append_cancel_left}
 use Rattle.bz_token.specs.declared.class.Class.{Class}
 use Rattle.bz_token.specs.declared.class.Class.TheVariants.{Newline, End}

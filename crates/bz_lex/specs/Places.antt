@@ -1,7 +1,7 @@
 -- Where leaves stand, and which leaf may stand where.
-use Rattle.std.specs.Prelude.{◌≡◌, ℕ, zero, suc, Bool, true, false, List, [], ◌∷◌, ◌||◌, nat_eq, if◌then◌else◌}
+use Rattle.std.specs.Prelude.{◌≡◌, ℕ, suc, Bool, true, false, List, [], ◌∷◌, ◌||◌, nat_eq, if◌then◌else◌}
 use Rattle.bz_token.specs.declared.class.Class.{Class}
-use Rattle.bz_token.specs.declared.class.Class.TheVariants.{Name, Keyword, Number, String, Mark, Newline, End}
+use Rattle.bz_token.specs.declared.class.Class.TheVariants.{Mark, Newline, End}
 use Rattle.bz_lex.specs.declared.leaf.Leaf.{Leaf}
 use Rattle.bz_lex.specs.Gaps.{IsGap, is_flush}
 pub use Rattle.bz_lex.specs.declared.place.Place.{Place}
@@ -22,20 +22,22 @@ abbrev pub is_closing : List ℕ → Bool
 is_closing (byte ∷ []) = nat_eq byte 41 || (nat_eq byte 93 || nat_eq byte 125)
 is_closing _ = false
 
--- behind a token that is neither bracket nor end of a line
+-- behind a token of a line that is no bracket
 abbrev pub same_depth : Place → Place
 same_depth (Inside depth) = Inside depth
 same_depth _ = Behind
 
+-- behind an opening bracket
 abbrev pub deeper : Place → Place
 deeper (Inside depth) = Inside (suc depth)
 deeper _ = Inside 0
 
--- (a closing bracket outside brackets leaves the depth as it is: which bracket may stand where is the grammar's matter)
+-- behind a closing bracket; outside brackets none is legal, which the grammar says
 abbrev pub shallower : Place → Place
 shallower (Inside (suc depth)) = Inside depth
 shallower _ = Behind
 
+-- behind a newline, or behind the one that is no byte
 abbrev pub behind_newline : List ℕ → Place
 behind_newline [] = Last
 behind_newline _ = Fresh
@@ -47,6 +49,7 @@ behind Newline token place = behind_newline token
 behind End token place = Over
 behind _ token place = same_depth place
 
+-- the place behind a leaf
 abbrev pub next : Place → Leaf → Place
 next place leaf = behind leaf.class leaf.token place
 

@@ -1,4 +1,4 @@
-ghost use Rattle.std.specs.Prelude.{◌≡◌, ◌≤◌, length, drop, MatchOption, MatchResult, nat_eq, ◌||◌, IfErr, true, false};
+ghost use Rattle.std.specs.Prelude.{◌≡◌, ℕ, ◌≤◌, length, drop, MatchOption, MatchResult, nat_eq, ◌||◌, IfErr, true, false};
 ghost use Rattle.bz_token.specs.Tokens.{NoToken, TokenAt};
 ghost use Rattle.bz_lex.specs.Fronts.{IsGapFront, IsLexemeFront, TellsFront};
 ghost use Rattle.bz_lex.specs.Gaps.{IsGap, is_flush};
@@ -40,6 +40,7 @@ impl Stop {
     }
 }
 
+/// Each is told as the fault of its name.
 #[derive(Clone, Copy)]
 pub enum Reason {
     BadCharacter,
@@ -60,7 +61,7 @@ pub fn leaf_front(text: &[u8], place: Place) -> Result<Front, Stop>
     match place {
         Place::Fresh => fresh(text, gap),
         Place::Behind => behind(text, gap),
-        Place::Inside(depth) => inside(text, gap, depth),
+        Place::Inside(_) => inside(text, gap),
         Place::Last => last(text),
         Place::Over => Err(Stop::new(Reason::Unexpected, 0)),
     }
@@ -97,9 +98,9 @@ fn behind(text: &[u8], gap: GapFront) -> Result<Front, Stop>
 }
 
 /// Inside brackets: a token.
-fn inside(text: &[u8], gap: GapFront, depth: usize) -> Result<Front, Stop>
+fn inside(text: &[u8], gap: GapFront) -> Result<Front, Stop>
     requires { IsGapFront true gap text.now }
-    ensures told { TellsFront (Place.Inside depth) text.now result }
+    ensures told { (depth : ℕ) → TellsFront (Place.Inside depth) text.now result }
     ensures within { IfErr result (λ stop. stop.at ≤ length text.now) }
 {
     if gap.length == text.len() {

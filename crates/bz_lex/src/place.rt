@@ -60,6 +60,7 @@ impl Place {
         !matches!(self, Place::Behind)
     }
 
+    /// Behind a token of a line that is no bracket.
     fn same_depth(self) -> Place
         ensures { result ≡ same_depth self }
     {
@@ -69,6 +70,7 @@ impl Place {
         }
     }
 
+    /// Behind an opening bracket.
     fn deeper(self) -> Place
         requires { open_brackets self < 2 ^ 64 }
         ensures { result ≡ deeper self }
@@ -79,6 +81,7 @@ impl Place {
         }
     }
 
+    /// Behind a closing bracket.
     fn shallower(self) -> Place
         ensures { result ≡ shallower self }
     {

@@ -7,3 +7,6 @@ pub mod Longest
 pub mod Taken
 pub mod Sound
 pub mod Tokens
+pub mod Boundaries
+pub mod Rows
+pub mod Characters

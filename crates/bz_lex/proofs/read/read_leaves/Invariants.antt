@@ -1,4 +1,4 @@
-use Rattle.std.proofs.Common.{◌≡◌, ℕ, length}
+use Rattle.std.proofs.Common.{◌≡◌, length}
 use Rattle.bz_lex.proofs.Lists.{IsReadTo, left}
 use Rattle.bz_lex.proofs.read.read_leaves.Given as goal
 

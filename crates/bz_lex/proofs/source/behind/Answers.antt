@@ -1,4 +1,4 @@
-use Rattle.bz_lex.proofs.Lexing.{end_cut}
+use Rattle.bz_lex.proofs.Characters.{end_cut}
 use Rattle.bz_lex.proofs.source.behind.Goals as goal
 
 pub range_from-requires : goal.range_from-requires

@@ -1,7 +1,6 @@
-use Rattle.std.proofs.Common.{◌≡◌, ◌++◌, ◌∷◌, [], ℕ, List, map, refl, sym, ◌∙◌, ap, subst}
+use Rattle.std.proofs.Common.{map, refl, ◌∙◌, ap}
 use Rattle.std.proofs.lemmas.List.{map-append}
-use Rattle.bz_lex.specs.Fronts.{IsLexemeFront}
-use Rattle.bz_lex.proofs.Lexing.{next_turn, shorter, done, no_tokens}
+use Rattle.bz_lex.proofs.Lexing.{next_turn, shorter, done}
 use Rattle.bz_lex.proofs.source.lex.Goals as goal
 
 pub returns-in-Ok-None-clause-told : goal.returns-in-Ok-None-clause-told

@@ -1,4 +1,4 @@
-use Rattle.bz_lex.proofs.Lexing.{gap_cut, end_cut}
+use Rattle.bz_lex.proofs.Characters.{gap_cut, end_cut}
 use Rattle.bz_lex.proofs.source.token_at.Goals as goal
 
 pub range-requires-clause-start_boundary : goal.range-requires-clause-start_boundary
