@@ -1,5 +1,6 @@
 pub mod Leaves
 pub mod Lines
+pub mod Placed
 pub mod Seen
-pub mod Told
 pub mod Shaped
+pub mod Told

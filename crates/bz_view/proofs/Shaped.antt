@@ -1,8 +1,8 @@
 -- The view of a legal tree is proper: one lemma for each row of the grammar.
-use Rattle.std.proofs.Common.{Bool, true, false, ◌||◌, ◌≡◌, List, [], ◌∷◌, ◌++◌, inl, inr, None, refl, sym, ap, ◌∙◌, subst, map}
+use Rattle.std.proofs.Common.{Bool, true, false, ◌≡◌, List, [], ◌∷◌, ◌++◌, inl, inr, None, refl, sym, ap, ◌∙◌, subst, map}
 use Rattle.std.specs.Prelude.{nat_eq, bytes_eq}
 use Rattle.std.specs.List.{All, AllByRecursion, flat_map}
-use Rattle.std.proofs.lemmas.Bool.{both_ways, and_parts}
+use Rattle.std.proofs.lemmas.Bool.{both_ways, and_parts, eqb-true}
 use Rattle.std.proofs.lemmas.List.Elements.{All-from_recursion}
 use Rattle.std.proofs.lemmas.Slice.Eq.{bytes_eq-Decides}
 use Rattle.bz_token.specs.declared.class.Class.{Class}
@@ -26,15 +26,9 @@ use Rattle.bz_view.specs.Gaps.{Bytes, lines_of, groups_of, all_but_last, last_gr
 use Rattle.bz_view.specs.View.{Seen, seen, seen_row, node_in, plain, no_comments, form_in, items_in, blocks, statement_behind, line_items, first_statement, file_items, view_of}
 use Rattle.bz_view.specs.Proper.{IsComment, IsPlainToken, IsString, IsList, IsValue, IsName, IsEquals, IsNamed, IsCall, IsStatement, IsProperItem, IsProper}
 use Rattle.bz_view.proofs.Told.{gap_groups, groups_front, groups_last, blocks_proper}
-use Rattle.bz_view.proofs.Leaves.{Fine, fine_leaves, same_class, same_kind, is_line_end}
+use Rattle.bz_view.proofs.Leaves.{Fine, fine_leaves, same_class, is_line_end, no_such, or_false, both}
+use Rattle.bz_tree.proofs.Numbers.{same_kind}
 use Rattle.bz_view.proofs.Seen.{seen_rows}
-
-no_such : {A : Type 0} → false ≡ true → A
-no_such h = absurd (both_ways false refl h)
-
-or_false : (a : Bool) → (a || false) ≡ true → a ≡ true
-or_false true h = refl
-or_false false h = h
 
 -- ---- parts whose leaves are fine
 
@@ -63,7 +57,7 @@ of_kind : (kind : Kind) (P : Seen → Type 0) → ((ps : List Part) → Fits IsS
     (x : Part) → is_node kind x ≡ true → Good x → P (seen x)
 of_kind kind P made (p.Leaf l) h g = no_such h
 of_kind kind P made (Node' other s r) h g =
-    let e : other ≡ kind = same_kind other kind h in
+    let e : other ≡ kind = same_kind other kind (eqb-true _ _ h) in
     let fits : Fits IsSort (shape kind) (items-the_row-Part _ r) = subst (λ kd. Fits IsSort (shape kd) (items-the_row-Part _ r)) e g.0.0 in
     subst P (sym (ap (λ kd. node_in (frame kd) kd (seen_row r)) e ∙ ap (node_in (frame kind) kind) (seen_rows _ r))) (made (items-the_row-Part _ r) fits (good_row _ r g.0.1 g.1))
 
@@ -221,10 +215,6 @@ a_statement lines a (Node' kind s r) h g = of_kind k.Bare (λ y. IsStatement (y.
 
 -- ---- lines
 
-both : {X : Type 0} (P : X → Type 0) (xs ys : List X) → AllByRecursion P xs → AllByRecursion P ys → AllByRecursion P (xs ++ ys)
-both P [] ys h i = i
-both P (x ∷ xs) ys h i = (h.0, both P xs ys h.1 i)
-
 behind_gap : (gap : Bytes) (x : Part) → IsSort statement x → Good x → AllByRecursion IsProperItem (statement_behind gap (seen x))
 behind_gap gap x h g =
     let gs : List (List Bytes) = groups_of (lines_of gap) in
@@ -238,7 +228,7 @@ made_line (x ∷ ps) h g = behind_gap (seen x).gap x h.0 g.0
 a_line : (x : Part) → IsSort line x → Good x → AllByRecursion IsProperItem (line_items x)
 a_line (p.Leaf l) h g = no_such h
 a_line (Node' kind s r) h g =
-    let fits : Fits IsSort (shape k.Line) (items-the_row-Part _ r) = subst (λ kd. Fits IsSort (shape kd) (items-the_row-Part _ r)) (same_kind kind k.Line (or_false _ h)) g.0.0 in
+    let fits : Fits IsSort (shape k.Line) (items-the_row-Part _ r) = subst (λ kd. Fits IsSort (shape kd) (items-the_row-Part _ r)) (same_kind kind k.Line (eqb-true _ _ (or_false _ h))) g.0.0 in
     subst (λ ss. AllByRecursion IsProperItem (first_statement ss)) (sym (seen_rows _ r)) (made_line (items-the_row-Part _ r) fits (good_row _ r g.0.1 g.1))
 
 an_end : (x : Part) → has_token end x ≡ true → AllByRecursion IsProperItem (line_items x)

@@ -26,6 +26,7 @@ pub record Seen : Type 0 where
 abbrev pub plain : Seen → Expr
 plain s = s.make no_comments false
 
+-- the gap before a row is the one before its first part
 abbrev pub first_gap : List Seen → Bytes
 first_gap [] = []
 first_gap (s ∷ ss) = s.gap
@@ -51,6 +52,9 @@ abbrev pub is_split : List Seen → Bool
 is_split [] = false
 is_split (s ∷ ss) = has_newline s.gap || is_split ss
 
+-- A node without gaps. Of a sequence, which stands between brackets, stay what stands before the bracket and the items;
+-- brackets and commas are gone. Every other node keeps the row of its parts. (Comments inside brackets come with the
+-- grammar that allows them, and then `end_` too.)
 abbrev pub form_in : Frame → Kind → List Seen → Comments → Form
 form_in row kind ss comments = record { kind = kind; split = false; head = []; items = row_exprs (is_binary kind) false ss; end_ = []; comments = comments }
 form_in (sequence opener closer) kind ss comments = record {
@@ -79,13 +83,14 @@ abbrev mutual
 
 -- ---- the file
 
--- groups that stand by themselves are Blocks
+-- Comment lines that follow each other form a group. A group whose last line is followed by a line without token and
+-- comment, or by no token at all, is a Block of its own; otherwise it stands above the next statement.
 abbrev pub blocks : List (List Bytes) → List Item
 blocks [] = []
 blocks ([] ∷ groups) = blocks groups
 blocks ((text ∷ group) ∷ groups) = i.Block (text ∷ group) ∷ blocks groups
 
--- a statement behind a gap: the gap's last group is above it, the others are Blocks
+-- a statement behind a gap: an empty line follows each group of the gap but the last, which is right above it
 abbrev pub statement_behind : Bytes → Seen → List Item
 statement_behind gap s =
     blocks (all_but_last (groups_of (lines_of gap))) ++ i.Stmt (s.make (record { before = last_group (groups_of (lines_of gap)); suffix = None }) false) ∷ []
@@ -94,7 +99,7 @@ abbrev pub first_statement : List Seen → List Item
 first_statement [] = []
 first_statement (s ∷ ss) = statement_behind s.gap s
 
--- a line: a statement and its Newline; the End, with the comments before it
+-- A line is a statement and its Newline. No token follows the groups before the End.
 abbrev pub line_items : Part → List Item
 line_items (p.Leaf l) = blocks (groups_of (lines_of l.gap))
 line_items (Node' kind _ parts) = first_statement (seen_row parts)

@@ -5,6 +5,7 @@ ghost use Rattle.bz_view.specs.View.{blocks};
 
 use crate::value::Item;
 use bz_items::{Items, Memory, Text};
+use std::alloc::Global;
 
 /// How many bytes stand before the first newline: all of them, where there is none.
 fn line_len(text: &[u8]) -> usize
@@ -60,11 +61,14 @@ fn push_block(lines: Items<Text>, items: &mut Items<Item>) -> Result<(), Memory>
 }
 
 /// Appends the groups of comment lines of a gap, but for those right above what follows it, and returns those.
-pub fn push_groups(gap: &[u8], items: &mut Items<Item>) -> Result<Items<Text>, Memory>
+pub fn push_groups(
+    alloc: Global,
+    gap: &[u8],
+    items: &mut Items<Item>,
+) -> Result<Items<Text>, Memory>
     ensures blocks { OnOk result (items.new ≡ items.old ++ blocks (all_but_last (groups_of (lines_of gap.now)))) }
     ensures last { IfOk result (λ group. group ≡ last_group (groups_of (lines_of gap.now))) }
 {
-    let alloc = items.alloc();
     let mut group = Items::new(alloc);
     let mut rest = gap;
     while let [first, tail @ ..] = rest {
@@ -86,10 +90,10 @@ pub fn push_groups(gap: &[u8], items: &mut Items<Item>) -> Result<Items<Text>, M
 }
 
 /// Appends all groups of comment lines of a gap.
-pub fn push_all_groups(gap: &[u8], items: &mut Items<Item>) -> Result<(), Memory>
+pub fn push_all_groups(alloc: Global, gap: &[u8], items: &mut Items<Item>) -> Result<(), Memory>
     ensures { OnOk result (items.new ≡ items.old ++ blocks (groups_of (lines_of gap.now))) }
 {
-    let last = push_groups(gap, items)?;
+    let last = push_groups(alloc, gap, items)?;
     push_block(last, items)
 }
 

@@ -9,6 +9,6 @@ mod laws;
 mod value;
 mod viewing;
 
-pub use laws::worked_views;
+pub use laws::{hosts_by_place, worked_views};
 pub use value::{Comments, Expr, File, Form, Item, Token};
 pub use viewing::view;

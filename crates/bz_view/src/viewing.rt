@@ -23,26 +23,25 @@ fn items_of_lines(alloc: Global, lines: &[Part]) -> Result<Items<Item>, Memory>
 {
     let mut items = Items::new(alloc);
     for line in lines {
-        push_line(line, &mut items)?;
+        push_line(alloc, line, &mut items)?;
     }
     Ok(items)
 }
 
 /// Appends the items of a line: the comments above its statement, and the statement; or those of the end.
-fn push_line(line: &Part, items: &mut Items<Item>) -> Result<(), Memory>
+fn push_line(alloc: Global, line: &Part, items: &mut Items<Item>) -> Result<(), Memory>
     ensures { OnOk result (items.new ≡ items.old ++ line_items line.now) }
 {
     match line {
-        Part::Leaf(end) => push_all_groups(end.gap.as_slice(), items),
+        Part::Leaf(end) => push_all_groups(alloc, end.gap.as_slice(), items),
         Part::Node(line) => match line.parts.as_slice() {
             [] => Ok(()),
             [statement, ..] => {
-                let before = push_groups(gap_before(statement), items)?;
+                let before = push_groups(alloc, gap_before(statement), items)?;
                 let comments = Comments {
                     before,
                     suffix: None,
                 };
-                let alloc = items.alloc();
                 items.push(Item::Stmt(expr_of(alloc, statement, comments, false)?))
             }
         },
