@@ -1,7 +1,8 @@
 ghost use Rattle.bz_write.specs.Laws.{FlagsKeepLayout, LayoutIsAccepted};
 ghost use Rattle.bz_write.specs.Rows.{WorkedRows};
 
-/// Settling the flags of a file value leaves its layout as it is, and keeps it proper.
+/// Settling the flags of a file value leaves its layout and the tree of it as they are, and keeps
+/// it proper.
 pub fn flags_keep_layout()
     ensures { FlagsKeepLayout }
 {
