@@ -1,10 +1,9 @@
 -- What the layout draws of each construct of a proper file value has the shape of the table and stands where it may.
-use Rattle.std.proofs.Common.{◌≡◌, ◌≤◌, ℕ, zero, suc, Bool, true, false, List, [], ◌∷◌, ◌++◌, inl, inr, ◌⊎◌, refl, sym, ap, ◌∙◌, subst, map, arith, if◌then◌else◌}
+use Rattle.std.proofs.Common.{◌≡◌, ℕ, zero, suc, Bool, true, false, List, [], ◌∷◌, ◌++◌, inl, inr, refl, sym, ap, ◌∙◌, subst, map, if◌then◌else◌}
 use Rattle.std.specs.Prelude.{None, All}
 use Rattle.std.specs.List.{AllByRecursion, flat_map}
 use Rattle.std.proofs.lemmas.List.Elements.{recursion_from_All}
 use Rattle.bz_token.specs.declared.class.Class.TheVariants as c
-use Rattle.bz_lex.specs.declared.place.Place.{Place}
 use Rattle.bz_lex.specs.declared.place.Place.TheVariants as at
 use Rattle.bz_lex.specs.Leaves.{spell_leaves}
 use Rattle.bz_tree.specs.declared.kind.Kind.{Kind}
@@ -12,9 +11,7 @@ use Rattle.bz_tree.specs.declared.kind.Kind.TheVariants as k
 use Rattle.bz_tree.specs.declared.tree.Part.{Part}
 use Rattle.bz_tree.specs.declared.tree.Part.TheVariants as p
 use Rattle.bz_tree.specs.Spell.{leaves_part}
-use Rattle.bz_tree.specs.Shapes.{Sort, value, element, argument, expression, statement, has_sort, Fits, shape, close_round, close_square}
-use Rattle.bz_tree.specs.Legal.{IsSort}
-use Rattle.bz_view.specs.declared.value.Form.{Form}
+use Rattle.bz_tree.specs.Shapes.{value, element, argument, expression, statement, has_sort, close_round, close_square}
 use Rattle.bz_view.specs.declared.value.Token.{Token}
 use Rattle.bz_view.specs.declared.value.Expr.{Expr}
 use Rattle.bz_view.specs.declared.value.Expr.TheVariants as e
@@ -25,7 +22,7 @@ use Rattle.bz_write.specs.Drawn.{piece_part, part_of, drawings}
 use Rattle.bz_write.proofs.Forms.{two, part_Form}
 use Rattle.bz_write.proofs.Gapped.{FitsGap, nothing_behind, space_inside}
 use Rattle.bz_tree.proofs.Spells.{leaves_Node}
-use Rattle.bz_write.proofs.Standing.{Separates, PartStands, RowStands, row_end, row_cons, node_stands, mark_stands, word_stands, text_behind}
+use Rattle.bz_write.proofs.Standing.{Separates, PartStands, row_end, row_cons, node_stands, mark_stands, word_stands, text_behind}
 use Rattle.bz_write.proofs.Sequences.{ItemStands, mark_part, body_stands, body_fits}
 
 -- what is drawn of a form without end comments

@@ -1,5 +1,5 @@
 -- Settling the flags changes neither the layout nor its tree, and keeps file values proper.
-use Rattle.std.proofs.Common.{ℕ, zero, suc, Bool, true, false, not, ◌&&◌, ◌||◌, ◌≡◌, List, [], ◌∷◌, ◌++◌, ◌+◌, if◌then◌else◌, inl, inr, ◌⊎◌, refl, sym, ap, ◌∙◌, map, subst}
+use Rattle.std.proofs.Common.{ℕ, suc, Bool, true, false, not, ◌&&◌, ◌||◌, ◌≡◌, List, [], ◌∷◌, ◌++◌, ◌+◌, if◌then◌else◌, inl, inr, refl, sym, ap, ◌∙◌, map, subst}
 use Rattle.std.specs.Prelude.{Option, None, All, nat_eq, nat_le, length}
 use Rattle.std.specs.List.{flat_map}
 use Rattle.std.proofs.lemmas.List.Elements.{All-map, All-weaker}

@@ -40,7 +40,6 @@ mark_part gap m = p.Leaf (record { class = c.Mark; gap = gap; token = m ∷ [] }
 module _ (sort : Sort) (close : List Terminal) (d n : ℕ) (last : Place) (closer : ℕ)
     (bracket : is_bracket_or_comma closer ≡ true) (ends : is_separator closer ≡ true) (after : place_behind c.Mark (closer ∷ []) (at.Inside n) ≡ last)
     (closes : (gap : Bytes) → is_one_of close (record { class = c.Mark; gap = gap; token = closer ∷ [] }) ≡ true) where
-
   closing : (gap : Bytes) (rest : List ℕ) → FitsGap (at.Inside n) gap → RowStands d (at.Inside n) (mark_part gap closer ∷ []) rest last
   closing gap rest g = row_cons d (at.Inside n) last last (mark_part gap closer) [] rest (mark_stands d (at.Inside n) last gap closer rest bracket g after) (row_end d last rest)
 

@@ -1,6 +1,6 @@
 -- Parts that stand where they may: their shapes are legal, their leaves run from one place to another before a text,
 -- and they are no deeper than a bound.
-use Rattle.std.proofs.Common.{◌≡◌, ◌≤◌, ℕ, zero, suc, Bool, true, false, not, ◌&&◌, ◌||◌, List, [], ◌∷◌, ◌++◌, refl, sym, ap, ◌∙◌, subst, arith}
+use Rattle.std.proofs.Common.{◌≡◌, ◌≤◌, ℕ, suc, true, not, ◌||◌, List, [], ◌∷◌, ◌++◌, refl, sym, subst, arith}
 use Rattle.std.specs.List.{flat_map, AllByRecursion}
 use Rattle.bz_token.specs.declared.class.Class.{Class}
 use Rattle.bz_token.specs.declared.class.Class.TheVariants as c
@@ -23,7 +23,6 @@ use Rattle.bz_tree.proofs.Spells.{leaves_Node, depth_Node}
 use Rattle.bz_tree.proofs.Trees.{of_shapes}
 use Rattle.bz_view.specs.Gaps.{Bytes}
 use Rattle.bz_write.proofs.Gapped.{FitsGap}
-
 use Rattle.bz_write.proofs.Runs.{Runs, Runs-append}
 
 -- a leaf stands as leaves may, and as this grammar's may
