@@ -15,3 +15,8 @@ FlagsKeepLayout = (items : List Item) → (layout (flags items) ≡ layout items
 -- The layout of a proper file value reads as its tree, where it is within the limits of length and depth.
 abbrev pub LayoutIsAccepted : Type 0
 LayoutIsAccepted = (items : List Item) → IsProper items → length (layout items) ≤ limit → depth_of (drawn items) ≤ 200 → Reads (layout items) (drawn items)
+
+-- In the grammar so far the tree of the layout of a proper file value is at most 6 deep: a file, a line, a statement, a
+-- call, an argument, a list.
+abbrev pub LayoutIsShallow : Type 0
+LayoutIsShallow = (items : List Item) → IsProper items → depth_of (drawn items) ≤ 6

@@ -1,4 +1,4 @@
-ghost use Rattle.bz_write.specs.Laws.{FlagsKeepLayout, LayoutIsAccepted};
+ghost use Rattle.bz_write.specs.Laws.{FlagsKeepLayout, LayoutIsAccepted, LayoutIsShallow};
 ghost use Rattle.bz_write.specs.Rows.{WorkedRows};
 
 /// Settling the flags of a file value leaves its layout and the tree of it as they are, and keeps
@@ -10,6 +10,11 @@ pub fn flags_keep_layout()
 /// The layout of a proper file value reads as its tree, where it is within the limits.
 pub fn layout_is_accepted()
     ensures { LayoutIsAccepted }
+{}
+
+/// The tree of the layout of a proper file value is at most 6 deep.
+pub fn layout_is_shallow()
+    ensures { LayoutIsShallow }
 {}
 
 /// Small file values have the layout that they are to have, byte for byte.

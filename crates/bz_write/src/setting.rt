@@ -67,7 +67,7 @@ pub fn set(alloc: Global, file: &File) -> Result<Tree, SetFault>
 #[cfg(test)]
 mod tests {
     use super::*;
-    use crate::laws::{flags_keep_layout, layout_is_accepted, worked_rows};
+    use crate::laws::{flags_keep_layout, layout_is_accepted, layout_is_shallow, worked_rows};
     use bz_tree::parse;
     use bz_view::view;
     use std::test::Fail;
@@ -91,6 +91,7 @@ mod tests {
     fn laws(_rt: HostRuntime) {
         flags_keep_layout();
         layout_is_accepted();
+        layout_is_shallow();
         worked_rows();
     }
 }
