@@ -210,14 +210,14 @@ same_drawn xs = ap (λ ps. let file : Node = record { kind = k.File; parts = ps 
 -- ---- proper values
 
 -- a form with its flag settled
-abbrev settled_form : Form → Form
+abbrev pub settled_form : Form → Form
 settled_form f = record { kind = f.kind; split = settled_split (frame f.kind) f.kind f.split f.items f.end_; head = map with_flags f.head; items = map with_flags f.items; end_ = f.end_; comments = f.comments }
 
 flags_row : (m : _) (r : Row_of-Expr m) → each_with_flags r ≡ map with_flags (items-the_row-Expr m r)
 flags_row m end_of-Expr = refl
 flags_row m (more_of-Expr x rest) = ap (λ t. with_flags x ∷ t) (flags_row _ rest)
 
-flags_Form : (f : Form) → with_flags (e.Form f) ≡ e.Form (settled_form f)
+pub flags_Form : (f : Form) → with_flags (e.Form f) ≡ e.Form (settled_form f)
 flags_Form f =
     let made : List Expr → List Expr → List Expr → Expr = λ z h xs. e.Form (record { kind = f.kind; split = settled_split (frame f.kind) f.kind f.split z f.end_; head = h; items = xs; end_ = f.end_; comments = f.comments }) in
     let head : List Expr = each_with_flags (head_row f).1 in

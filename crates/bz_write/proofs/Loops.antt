@@ -58,7 +58,7 @@ joined_next parts m gap closer one xs k d h =
 
 -- ---- rows and sequences
 
-values_drawings : (xs : List Expr) → map (λ x. x.0) (drawings xs) ≡ xs
+pub values_drawings : (xs : List Expr) → map (λ x. x.0) (drawings xs) ≡ xs
 values_drawings [] = refl
 values_drawings (x ∷ xs) = ap (λ ys. x ∷ ys) (values_drawings xs)
 

@@ -37,6 +37,12 @@ pub record ItemStands (sort : Sort) (depth n : ℕ) (x : Child) : Type 0 where
 abbrev pub mark_part : Bytes → ℕ → Part
 mark_part gap m = p.Leaf (record { class = c.Mark; gap = gap; token = m ∷ [] })
 
+-- an item without comments, in a broken sequence
+pub stacked_item : (closer m : ℕ) (x : Child) (xs : List Child) → comments_of x.0 ≡ no_comments → stacked m None closer [] (x ∷ xs) ≡ part (line (m + 4)) (m + 4) x.1 ∷ mark [] (44 ∷ []) ∷ stacked m None closer [] xs
+stacked_item closer m x xs e =
+    let with : Comments → List (Piece (Bytes → ℕ → Part)) = λ z. part (line (m + 4) ++ above (m + 4) z.before) (m + 4) x.1 ∷ mark [] (44 ∷ []) ∷ stacked m z.suffix closer [] xs in
+    ap with e ∙ ap (λ z. part z (m + 4) x.1 ∷ mark [] (44 ∷ []) ∷ stacked m None closer [] xs) (append-nil (line (m + 4)))
+
 module _ (sort : Sort) (close : List Terminal) (d n : ℕ) (last : Place) (closer : ℕ)
     (bracket : is_bracket_or_comma closer ≡ true) (ends : is_separator closer ≡ true) (after : place_behind c.Mark (closer ∷ []) (at.Inside n) ≡ last)
     (closes : (gap : Bytes) → is_one_of close (record { class = c.Mark; gap = gap; token = closer ∷ [] }) ≡ true) where
@@ -63,28 +69,22 @@ module _ (sort : Sort) (close : List Terminal) (d n : ℕ) (last : Place) (close
   joined_listed m gap false x [] h = (h.0.of_sort gap m, inl (closes [], tt))
   joined_listed m gap one x (y ∷ ys) h = (h.0.of_sort gap m, inr (refl, inl (joined_listed m (32 ∷ []) false y ys h.1)))
 
-  -- an item without comments, in a broken sequence
-  stacked_item : (m : ℕ) (x : Child) (xs : List Child) → comments_of x.0 ≡ no_comments → stacked m None closer [] (x ∷ xs) ≡ part (line (m + 4)) (m + 4) x.1 ∷ mark [] (44 ∷ []) ∷ stacked m None closer [] xs
-  stacked_item m x xs e =
-      let with : Comments → List (Piece (Bytes → ℕ → Part)) = λ z. part (line (m + 4) ++ above (m + 4) z.before) (m + 4) x.1 ∷ mark [] (44 ∷ []) ∷ stacked m z.suffix closer [] xs in
-      ap with e ∙ ap (λ z. part z (m + 4) x.1 ∷ mark [] (44 ∷ []) ∷ stacked m None closer [] xs) (append-nil (line (m + 4)))
-
   stacked_stands : (m : ℕ) (xs : List Child) (rest : List ℕ) → AllByRecursion (ItemStands sort d n) xs → RowStands d (at.Inside n) (map piece_part (stacked m None closer [] xs)) rest last
   stacked_stands m [] rest h = closing (line m) rest (line_fits n m)
   stacked_stands m (x ∷ xs) rest h =
       let more : List Part = map piece_part (stacked m None closer [] xs) in
       subst
       (λ ps. RowStands d (at.Inside n) (map piece_part ps) rest last)
-      (sym (stacked_item m x xs h.0.bare))
+      (sym (stacked_item closer m x xs h.0.bare))
       (item_first x (line (m + 4)) (m + 4) (mark_part [] 44 ∷ more) rest h.0 (line_fits n (m + 4)) refl (comma_first more rest (stacked_stands m xs rest h.1)))
 
   stacked_listed : (m : ℕ) (x : Child) (xs : List Child) → AllByRecursion (ItemStands sort d n) (x ∷ xs) → Listed (IsSort sort) comma true (Fits IsSort (tok close done)) (map piece_part (stacked m None closer [] (x ∷ xs)))
   stacked_listed m x [] h =
-      subst (λ ps. Listed (IsSort sort) comma true (Fits IsSort (tok close done)) (map piece_part ps)) (sym (stacked_item m x [] h.0.bare)) (h.0.of_sort (line (m + 4)) (m + 4), inr (refl, inr (refl, (closes (line m), tt))))
+      subst (λ ps. Listed (IsSort sort) comma true (Fits IsSort (tok close done)) (map piece_part ps)) (sym (stacked_item closer m x [] h.0.bare)) (h.0.of_sort (line (m + 4)) (m + 4), inr (refl, inr (refl, (closes (line m), tt))))
   stacked_listed m x (y ∷ ys) h =
       subst
       (λ ps. Listed (IsSort sort) comma true (Fits IsSort (tok close done)) (map piece_part ps))
-      (sym (stacked_item m x (y ∷ ys) h.0.bare))
+      (sym (stacked_item closer m x (y ∷ ys) h.0.bare))
       (h.0.of_sort (line (m + 4)) (m + 4), inr (refl, inl (stacked_listed m y ys h.1)))
 
   -- broken or not

@@ -3,6 +3,7 @@ use Rattle.std.specs.Prelude.{◌≡◌, ◌≤◌, List, length}
 use Rattle.bz_tree.specs.Spell.{depth_of, limit}
 use Rattle.bz_tree.specs.Legal.{Reads}
 use Rattle.bz_view.specs.declared.value.Item.{Item}
+use Rattle.bz_view.specs.View.{view_of}
 use Rattle.bz_view.specs.Proper.{IsProper}
 use Rattle.bz_write.specs.Written.{layout}
 use Rattle.bz_write.specs.Drawn.{drawn}
@@ -20,3 +21,7 @@ LayoutIsAccepted = (items : List Item) → IsProper items → length (layout ite
 -- call, an argument, a list.
 abbrev pub LayoutIsShallow : Type 0
 LayoutIsShallow = (items : List Item) → IsProper items → depth_of (drawn items) ≤ 6
+
+-- The view of the tree of the layout of a proper file value is the value with its flags settled.
+abbrev pub LayoutReadsBack : Type 0
+LayoutReadsBack = (items : List Item) → IsProper items → view_of (drawn items) ≡ flags items

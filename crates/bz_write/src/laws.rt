@@ -1,4 +1,4 @@
-ghost use Rattle.bz_write.specs.Laws.{FlagsKeepLayout, LayoutIsAccepted, LayoutIsShallow};
+ghost use Rattle.bz_write.specs.Laws.{FlagsKeepLayout, LayoutIsAccepted, LayoutIsShallow, LayoutReadsBack};
 ghost use Rattle.bz_write.specs.Rows.{WorkedRows};
 
 /// Settling the flags of a file value leaves its layout and the tree of it as they are, and keeps
@@ -15,6 +15,11 @@ pub fn layout_is_accepted()
 /// The tree of the layout of a proper file value is at most 6 deep.
 pub fn layout_is_shallow()
     ensures { LayoutIsShallow }
+{}
+
+/// The tree of the layout of a proper file value has that value, with its flags settled, as its view.
+pub fn layout_reads_back()
+    ensures { LayoutReadsBack }
 {}
 
 /// Small file values have the layout that they are to have, byte for byte.

@@ -67,7 +67,9 @@ pub fn set(alloc: Global, file: &File) -> Result<Tree, SetFault>
 #[cfg(test)]
 mod tests {
     use super::*;
-    use crate::laws::{flags_keep_layout, layout_is_accepted, layout_is_shallow, worked_rows};
+    use crate::laws::{
+        flags_keep_layout, layout_is_accepted, layout_is_shallow, layout_reads_back, worked_rows,
+    };
     use bz_tree::parse;
     use bz_view::view;
     use std::test::Fail;
@@ -92,6 +94,7 @@ mod tests {
         flags_keep_layout();
         layout_is_accepted();
         layout_is_shallow();
+        layout_reads_back();
         worked_rows();
     }
 }
