@@ -3,9 +3,10 @@ pub mod Files
 pub mod Flagged
 pub mod Forms
 pub mod Gapped
+pub mod LinesBack
 pub mod Loops
 pub mod Measures
-pub mod Parts
+pub mod ReadBack
 pub mod Runs
 pub mod Sequences
 pub mod Settings

@@ -2,7 +2,7 @@ ghost use Rattle.std.specs.Prelude.{◌≡◌, ◌++◌, ◌∷◌, ◌&&◌, �
 ghost use Rattle.bz_view.specs.Frames.{frame};
 ghost use Rattle.bz_view.specs.Proper.{comments_of};
 ghost use Rattle.bz_write.specs.Brackets.{brackets_of};
-ghost use Rattle.bz_write.specs.Layout as l;
+ghost use Rattle.bz_write.specs.Layout as layout;
 ghost use Rattle.bz_write.specs.Drawn.{piece_part, part_of, parts_in, drawings, body, comma_behind};
 
 use crate::gaps::{deeper, push_above, push_behind, push_ended, push_line};
@@ -39,6 +39,7 @@ fn brackets_of_kind(kind: Kind) -> Option<Brackets>
     }
 }
 
+/// The empty text.
 pub fn nothing(alloc: Global) -> Text
     ensures { result ≡ [] }
 {
@@ -57,7 +58,7 @@ pub fn comments(expr: &Expr) -> &Comments
 
 /// A bracket or a comma behind a gap.
 fn mark(alloc: Global, gap: Text, byte: u8) -> Result<Part, Memory>
-    ensures { IfOk result (λ part. part ≡ piece_part (l.mark gap (byte ∷ []))) }
+    ensures { IfOk result (λ part. part ≡ piece_part (layout.mark gap (byte ∷ []))) }
 {
     Ok(Part::Leaf(Leaf {
         class: Class::Mark,
@@ -69,7 +70,7 @@ fn mark(alloc: Global, gap: Text, byte: u8) -> Result<Part, Memory>
 // ---- what is spaced, and what is broken
 
 fn has_break(expr: &Expr) -> bool
-    ensures { result ≡ l.has_break expr.now }
+    ensures { result ≡ layout.has_break expr.now }
 {
     match expr {
         Expr::Token(token) => token.break_,
@@ -78,7 +79,7 @@ fn has_break(expr: &Expr) -> bool
 }
 
 fn is_number(expr: &Expr) -> bool
-    ensures { result ≡ l.is_number_token expr.now }
+    ensures { result ≡ layout.is_number_token expr.now }
 {
     match expr {
         Expr::Token(token) => matches!(token.class, Class::Number),
@@ -87,7 +88,7 @@ fn is_number(expr: &Expr) -> bool
 }
 
 fn is_named(expr: &Expr) -> bool
-    ensures { result ≡ l.is_named expr.now }
+    ensures { result ≡ layout.is_named expr.now }
 {
     match expr {
         Expr::Token(_) => false,
@@ -96,21 +97,21 @@ fn is_named(expr: &Expr) -> bool
 }
 
 fn has_comment(expr: &Expr) -> bool
-    ensures { result ≡ l.has_comments (expr.now ∷ []) }
+    ensures { result ≡ layout.has_comments (expr.now ∷ []) }
 {
     let comments = comments(expr);
     !comments.before.is_empty() || comments.suffix.is_some()
 }
 
 fn is_spaced(kind: Kind) -> bool
-    ensures { result ≡ l.is_spaced kind }
+    ensures { result ≡ layout.is_spaced kind }
 {
     matches!(kind, Kind::Sum | Kind::Named)
 }
 
 /// The gap behind a part of a row.
 fn gap_behind(alloc: Global, kind: Kind, margin: usize, expr: &Expr) -> Result<Text, Memory>
-    ensures { IfOk result (λ gap. gap ≡ l.gap_behind kind margin expr.now) }
+    ensures { IfOk result (λ gap. gap ≡ layout.gap_behind kind margin expr.now) }
 {
     let mut gap = Vec::new(alloc);
     if has_break(expr) {
@@ -123,7 +124,7 @@ fn gap_behind(alloc: Global, kind: Kind, margin: usize, expr: &Expr) -> Result<T
 
 /// The margin of what stands behind a part of a row.
 fn margin_behind(margin: usize, expr: &Expr) -> Result<usize, Memory>
-    ensures { IfOk result (λ inner. inner ≡ l.margin_behind margin expr.now) }
+    ensures { IfOk result (λ inner. inner ≡ layout.margin_behind margin expr.now) }
 {
     if has_break(expr) {
         deeper(margin)
@@ -133,7 +134,7 @@ fn margin_behind(margin: usize, expr: &Expr) -> Result<usize, Memory>
 }
 
 fn has_comments(items: &[Expr]) -> bool
-    ensures { result ≡ l.has_comments items.now }
+    ensures { result ≡ layout.has_comments items.now }
 {
     for item in items {
         if has_comment(item) {
@@ -144,7 +145,7 @@ fn has_comments(items: &[Expr]) -> bool
 }
 
 fn has_named(items: &[Expr]) -> bool
-    ensures { result ≡ l.has_named items.now }
+    ensures { result ≡ layout.has_named items.now }
 {
     for item in items {
         if is_named(item) {
@@ -156,7 +157,7 @@ fn has_named(items: &[Expr]) -> bool
 
 /// Whether a sequence of so many items is broken whatever they are.
 fn is_long(kind: Kind, items: &[Expr]) -> bool
-    ensures { result ≡ (nat_le 2 (length items.now) && (l.is_listed kind || (l.is_call kind && l.has_named items.now))) }
+    ensures { result ≡ (nat_le 2 (length items.now) && (layout.is_listed kind || (layout.is_call kind && layout.has_named items.now))) }
 {
     if items.len() < 2 {
         return false;
@@ -170,7 +171,7 @@ fn is_long(kind: Kind, items: &[Expr]) -> bool
 
 /// Whether the items of a sequence stand on lines of their own.
 fn is_broken(kind: Kind, split: bool, items: &[Expr], end_: &[Text]) -> bool
-    ensures { result ≡ l.is_broken kind split items.now end_.now }
+    ensures { result ≡ layout.is_broken kind split items.now end_.now }
 {
     if has_comments(items) || !end_.is_empty() || is_long(kind, items) {
         return true;
@@ -225,7 +226,7 @@ fn draw_row(
     margin: usize,
     parts: &mut Items<Part>,
 ) -> Result<(), Memory>
-    ensures { OnOk result (parts.new ≡ parts.old ++ map piece_part (l.rowed kind margin gap margin (drawings items.now))) }
+    ensures { OnOk result (parts.new ≡ parts.old ++ map piece_part (layout.rowed kind margin gap margin (drawings items.now))) }
 {
     let mut gap = gap;
     let mut inner = margin;
@@ -247,7 +248,7 @@ fn draw_head(
     opener: u8,
     parts: &mut Items<Part>,
 ) -> Result<(), Memory>
-    ensures { OnOk result (parts.new ≡ parts.old ++ map piece_part (l.headed margin gap opener (drawings head.now) [])) }
+    ensures { OnOk result (parts.new ≡ parts.old ++ map piece_part (layout.headed margin gap opener (drawings head.now) [])) }
 {
     let mut gap = gap;
     for expr in head {
@@ -284,7 +285,7 @@ fn push_comma(
     one: bool,
     parts: &mut Items<Part>,
 ) -> Result<(), Memory>
-    ensures { OnOk result (parts.new ≡ parts.old ++ map piece_part (comma_behind (l.is_empty others.now) one)) }
+    ensures { OnOk result (parts.new ≡ parts.old ++ map piece_part (comma_behind (layout.is_empty others.now) one)) }
 {
     if others.is_empty() && !one {
         return Ok(());
@@ -303,7 +304,7 @@ fn draw_joined(
     one: bool,
     parts: &mut Items<Part>,
 ) -> Result<(), Memory>
-    ensures { OnOk result (parts.new ≡ parts.old ++ map piece_part (l.joined margin [] closer one (drawings items.now))) }
+    ensures { OnOk result (parts.new ≡ parts.old ++ map piece_part (layout.joined margin [] closer one (drawings items.now))) }
 {
     let mut gap = nothing(alloc);
     let mut one = one;
@@ -327,7 +328,7 @@ fn draw_stacked(
     closer: u8,
     parts: &mut Items<Part>,
 ) -> Result<(), Memory>
-    ensures { OnOk result (parts.new ≡ parts.old ++ map piece_part (l.stacked margin None closer end_.now (drawings items.now))) }
+    ensures { OnOk result (parts.new ≡ parts.old ++ map piece_part (layout.stacked margin None closer end_.now (drawings items.now))) }
 {
     let mut gap = Vec::new(alloc);
     for item in items {

@@ -17,8 +17,7 @@ pub fn push_line(out: &mut Vec<u8>, margin: usize) -> Result<(), Memory>
     ensures { OnOk result (out.new.items ≡ out.old.items ++ line margin) }
 {
     out.push(b'\n')?;
-    for column in 0..margin {
-        let _ = column;
+    for _column in 0..margin {
         out.push(b' ')?;
     }
     Ok(())

@@ -8,5 +8,7 @@ mod lines;
 mod measure;
 mod setting;
 
-pub use laws::{flags_keep_layout, layout_is_accepted, worked_rows};
+pub use laws::{
+    flags_keep_layout, layout_is_accepted, layout_is_shallow, layout_reads_back, worked_rows,
+};
 pub use setting::{SetFault, set};

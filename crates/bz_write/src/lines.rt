@@ -1,5 +1,5 @@
 ghost use Rattle.std.specs.Prelude.{◌≡◌, ◌++◌, ◌∷◌, [], OnOk, IfOk, if◌then◌else◌};
-ghost use Rattle.bz_write.specs.Written as w;
+ghost use Rattle.bz_write.specs.Written as written;
 ghost use Rattle.bz_write.specs.Drawn.{line_of, own_lines, left_gap, before_next, lines_from};
 
 use crate::drawing::{comments, draw, nothing};
@@ -10,7 +10,7 @@ use bz_view::{Expr, Item};
 use std::alloc::Global;
 
 fn is_load(expr: &Expr) -> bool
-    ensures { result ≡ w.is_load expr.now }
+    ensures { result ≡ written.is_load expr.now }
 {
     match expr {
         Expr::Token(_) => false,
@@ -19,7 +19,7 @@ fn is_load(expr: &Expr) -> bool
 }
 
 fn is_assign(expr: &Expr) -> bool
-    ensures { result ≡ w.is_assign expr.now }
+    ensures { result ≡ written.is_assign expr.now }
 {
     match expr {
         Expr::Token(_) => false,
@@ -29,7 +29,7 @@ fn is_assign(expr: &Expr) -> bool
 
 /// Whether a statement stands right below another, with no blank line between.
 fn is_close(above: &Expr, below: &Expr) -> bool
-    ensures { (if result then [] else (10 ∷ [])) ≡ w.between (Item.Stmt above.now) (Item.Stmt below.now) }
+    ensures { (if result then [] else (10 ∷ [])) ≡ written.between (Item.Stmt above.now) (Item.Stmt below.now) }
 {
     if !comments(below).before.is_empty() {
         return false;
