@@ -87,9 +87,9 @@ starts b s d (one l e h) =
     elim (cases_Bool (eqb b 114)) [
       | inl k ↦ rw (letter_start b y d e, k) (prefix_rs s h)
       | inr k ↦ elim (cases_Bool (eqb b 98)) [
-          | inl m ↦ rw (letter_start b y d e, k, m) (prefix_bs s h)
-          | inr m ↦ rw (letter_start b y d e, letter_text b y k m e) (words s h)
-        ]
+        | inl m ↦ rw (letter_start b y d e, k, m) (prefix_bs s h)
+        | inr m ↦ rw (letter_start b y d e, letter_text b y k m e) (words s h)
+      ]
     ]
 starts b s d (three x y n h) = words (b ∷ s) (three x y n h)
 
@@ -144,12 +144,12 @@ zeros (b ∷ s) h =
     elim (cases_Bool (is_digit b)) [
       | inl d ↦ rw d (rw d at h)
       | inr d ↦ elim (cases_Bool (eqb b 46)) [
-          | inl p ↦ rw (d, p) (rw (d, p) at h)
-          | inr p ↦ elim (cases_Bool (is_e b)) [
-              | inl e ↦ rw (d, p, e) (rw (d, p, e) at h)
-              | inr e ↦ absurd (none-some v.Number (rw (d, p, e) at h))
-            ]
+        | inl p ↦ rw (d, p) (rw (d, p) at h)
+        | inr p ↦ elim (cases_Bool (is_e b)) [
+          | inl e ↦ rw (d, p, e) (rw (d, p, e) at h)
+          | inr e ↦ absurd (none-some v.Number (rw (d, p, e) at h))
         ]
+      ]
     ]
 
 first_digit : (b : ℕ) (s : List ℕ) → is_digit b ≡ true → reads Whole s ≡ Some v.Number → reads Start (b ∷ s) ≡ Some v.Number

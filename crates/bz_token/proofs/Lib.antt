@@ -7,3 +7,5 @@ pub mod Longest
 pub mod Taken
 pub mod Sound
 pub mod Tokens
+pub mod Boundaries
+pub mod Rows

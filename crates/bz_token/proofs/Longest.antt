@@ -24,7 +24,6 @@ front_cases c s [] b e = inl refl
 front_cases c s (x ∷ d) b e = let i : x ≡ c = cc in inr (d, rw i refl, cc)
 
 module _ (S : Type 0) (step : S → ℕ → Option S) (final : S → Bool) where
-
   found_nil : (q : S) (b : Bool) → final q ≡ b → Found S step final q [] (or_here b q None)
   found_nil q true e = record { within = omega arith; taken = refl; ended = e; most = λ a b h t. rw (front_nil a b h) (omega arith) }
   found_nil q false e = λ a b h. rw (front_nil a b h) e
@@ -82,7 +81,7 @@ pub goes_on : {S : Type 0} (step : S → ℕ → Option S) (final : S → Bool) 
     → or_found best i (longest step final q (drop i s)) ≡ or_found (or_best (final q) q i best) (i + 1) (longest step final r (drop (i + 1) s))
 goes_on step final q r i s best lt e =
     let one : or_found best i (longest step final q (drop i s)) ≡ or_found (or_best (final q) q i best) (i + 1) (longest step final r (drop (suc i) s)) =
-        rw (drop-cons s i 0, e) (more i (longest step final r (drop (suc i) s)) (final q) q best) in
+    rw (drop-cons s i 0, e) (more i (longest step final r (drop (suc i) s)) (final q) q best) in
     one ∙ ap (λ (j : ℕ). or_found (or_best (final q) q i best) (i + 1) (longest step final r (drop j s))) (sym (add-one i))
 
 here_only : {S : Type 0} (b : Bool) (q : S) (i : ℕ) (best : Option (S × ℕ)) → or_found best i (or_here b q None) ≡ or_best b q i best

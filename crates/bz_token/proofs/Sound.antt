@@ -35,11 +35,13 @@ doubled_mark : (k : Class) (c : ℕ) (s : List ℕ) (x : State) → ends x ≡ S
     → reads x s ≡ Some k → (k ≡ v.Mark) × (is_mark (c ∷ s) ≡ true)
 doubled_mark k c [] x e m t h = (sym (same_Some v.Mark k (sym e ∙ h)), t.0)
 doubled_mark k c (b ∷ s) x e m t h =
-    let w = doubled_reads k c b s (rw (m b) at h) in
-    (w.0, elim w.1 [
-      | inl i ↦ mark_of c (b ∷ s) (61 ∷ []) i t.1
-      | inr i ↦ elim i [ inl j ↦ mark_of c (b ∷ s) (c ∷ []) j t.2 | inr j ↦ mark_of c (b ∷ s) (c ∷ 61 ∷ []) j t.3 ]
-    ])
+    let w = doubled_reads k c b s (rw (m b) at h) in (
+      w.0,
+      elim w.1 [
+        | inl i ↦ mark_of c (b ∷ s) (61 ∷ []) i t.1
+        | inr i ↦ elim i [ inl j ↦ mark_of c (b ∷ s) (c ∷ []) j t.2 | inr j ↦ mark_of c (b ∷ s) (c ∷ 61 ∷ []) j t.3 ]
+      ],
+    )
 
 mark_more : (k : Class) (b : ℕ) (s : List ℕ) → among b lone_marks ≡ false → among b operator_marks ≡ false → from (mark_start b) s ≡ Some k → (k ≡ v.Mark) × (is_mark (b ∷ s) ≡ true)
 mark_more k b s e f h =
@@ -49,24 +51,24 @@ mark_more k b s e f h =
           let i = eqb-true b 42 g in
           (w.0, elim w.1 [ inl z ↦ mark_from b 42 s [] i z refl | inr z ↦ elim z [ inl y ↦ mark_from b 42 s (42 ∷ []) i y refl | inr y ↦ mark_from b 42 s (61 ∷ []) i y refl ] ])
       | inr g ↦ elim (cases_Bool (eqb b 47)) [
-          | inl m ↦
-              let w = doubled_mark k 47 s Slash refl (λ b. refl) (refl, refl, refl, refl) (rw (e, f, g, m) at h) in
-              (w.0, mark_from b 47 s s (eqb-true b 47 m) refl w.1)
-          | inr m ↦ elim (cases_Bool (eqb b 60)) [
-              | inl n ↦
-                  let w = doubled_mark k 60 s Less refl (λ b. refl) (refl, refl, refl, refl) (rw (e, f, g, m, n) at h) in
-                  (w.0, mark_from b 60 s s (eqb-true b 60 n) refl w.1)
-              | inr n ↦ elim (cases_Bool (eqb b 62)) [
-                  | inl o ↦
-                      let w = doubled_mark k 62 s Greater refl (λ b. refl) (refl, refl, refl, refl) (rw (e, f, g, m, n, o) at h) in
-                      (w.0, mark_from b 62 s s (eqb-true b 62 o) refl w.1)
-                  | inr o ↦ elim (cases_Bool (eqb b 33)) [
-                      | inl p ↦ let w = bang_reads k s (rw (e, f, g, m, n, o, p) at h) in (w.0, mark_from b 33 s (61 ∷ []) (eqb-true b 33 p) w.1 refl)
-                      | inr p ↦ absurd (none-some k (rw (e, f, g, m, n, o, p) at h))
-                    ]
-                ]
+        | inl m ↦
+            let w = doubled_mark k 47 s Slash refl (λ b. refl) (refl, refl, refl, refl) (rw (e, f, g, m) at h) in
+            (w.0, mark_from b 47 s s (eqb-true b 47 m) refl w.1)
+        | inr m ↦ elim (cases_Bool (eqb b 60)) [
+          | inl n ↦
+              let w = doubled_mark k 60 s Less refl (λ b. refl) (refl, refl, refl, refl) (rw (e, f, g, m, n) at h) in
+              (w.0, mark_from b 60 s s (eqb-true b 60 n) refl w.1)
+          | inr n ↦ elim (cases_Bool (eqb b 62)) [
+            | inl o ↦
+                let w = doubled_mark k 62 s Greater refl (λ b. refl) (refl, refl, refl, refl) (rw (e, f, g, m, n, o) at h) in
+                (w.0, mark_from b 62 s s (eqb-true b 62 o) refl w.1)
+            | inr o ↦ elim (cases_Bool (eqb b 33)) [
+              | inl p ↦ let w = bang_reads k s (rw (e, f, g, m, n, o, p) at h) in (w.0, mark_from b 33 s (61 ∷ []) (eqb-true b 33 p) w.1 refl)
+              | inr p ↦ absurd (none-some k (rw (e, f, g, m, n, o, p) at h))
             ]
+          ]
         ]
+      ]
     ]
 
 mark_sound : (k : Class) (b : ℕ) (s : List ℕ) → from (mark_start b) s ≡ Some k → (k ≡ v.Mark) × (is_mark (b ∷ s) ≡ true)
@@ -74,14 +76,16 @@ mark_sound k b s h =
     elim (cases_Bool (among b lone_marks)) [
       | inl e ↦ let w = ended_reads k s (rw e at h) in (w.0, mark_of b s [] w.1 (one_of (λ c. is_mark (c ∷ [])) lone_marks refl b e))
       | inr e ↦ elim (cases_Bool (among b operator_marks)) [
-          | inl f ↦
-              let w = operator_reads k s (rw (e, f) at h) in
-              (w.0, elim w.1 [
+        | inl f ↦
+            let w = operator_reads k s (rw (e, f) at h) in (
+              w.0,
+              elim w.1 [
                 | inl z ↦ mark_of b s [] z (one_of (λ c. is_mark (c ∷ [])) operator_marks refl b f)
                 | inr z ↦ mark_of b s (61 ∷ []) z (one_of (λ c. is_mark (c ∷ 61 ∷ [])) operator_marks refl b f)
-              ])
-          | inr f ↦ mark_more k b s e f h
-        ]
+              ],
+            )
+        | inr f ↦ mark_more k b s e f h
+      ]
     ]
 
 -- ---- numbers
@@ -109,17 +113,17 @@ number_sound k b s h =
     elim (cases_Bool (eqb b 48)) [
       | inl e ↦ let w = zero_reads k s (rw e at h) in inl (w.0, number_at b 48 s s (eqb-true b 48 e) refl (from_zero s w.1))
       | inr e ↦ elim (cases_Bool (is_digit b)) [
-          | inl d ↦ let w = whole_reads k s (rw (e, d) at h) in inl (w.0, from_digit b s d w.1)
-          | inr d ↦ elim (cases_Bool (eqb b 46)) [
-              | inl p ↦
-                  let i = eqb-true b 46 p in
-                  elim (point_reads k s (rw (e, d, p) at h)) [
-                    | inl w ↦ inr (w.0, mark_from b 46 s [] i w.1 refl)
-                    | inr w ↦ inl (w.0, number_at b 46 s (w.1 ∷ w.2) i w.3 (from_point (w.1) (w.2) w.4 w.5))
-                  ]
-              | inr p ↦ absurd (none-some k (rw (e, d, p) at h))
-            ]
+        | inl d ↦ let w = whole_reads k s (rw (e, d) at h) in inl (w.0, from_digit b s d w.1)
+        | inr d ↦ elim (cases_Bool (eqb b 46)) [
+          | inl p ↦
+              let i = eqb-true b 46 p in
+              elim (point_reads k s (rw (e, d, p) at h)) [
+                | inl w ↦ inr (w.0, mark_from b 46 s [] i w.1 refl)
+                | inr w ↦ inl (w.0, number_at b 46 s (w.1 ∷ w.2) i w.3 (from_point (w.1) (w.2) w.4 w.5))
+              ]
+          | inr p ↦ absurd (none-some k (rw (e, d, p) at h))
         ]
+      ]
     ]
 
 -- ---- names and strings
@@ -146,9 +150,9 @@ opened_reads q k (b ∷ []) h =
 opened_reads q k (b ∷ c ∷ s) h =
     elim (cases_Bool (eqb b (quote_byte q))) [
       | inl e ↦ elim (cases_Bool (eqb c (quote_byte q))) [
-          | inl f ↦ let w = (long_reads (length s) q k s (omega arith)).0 (rw (e, f) at h) in (w.0, quoted_long q b c s (eqb-true b (quote_byte q) e) (eqb-true c (quote_byte q) f) w.1)
-          | inr f ↦ absurd (none-some k (rw (e, f) at h))
-        ]
+        | inl f ↦ let w = (long_reads (length s) q k s (omega arith)).0 (rw (e, f) at h) in (w.0, quoted_long q b c s (eqb-true b (quote_byte q) e) (eqb-true c (quote_byte q) f) w.1)
+        | inr f ↦ absurd (none-some k (rw (e, f) at h))
+      ]
       | inr e ↦ let w = short_reads (length (b ∷ c ∷ s)) q k (b ∷ c ∷ s) (omega arith) (rw e (rw e at h)) in (w.0, quoted_short q (b ∷ c ∷ s) w.1)
     ]
 
@@ -157,9 +161,9 @@ quoted_or_word k b s h =
     elim (cases_Bool (eqb b 34)) [
       | inl e ↦ let w = opened_reads Double k s (rw e at h) in inl (w.0, quoted_at b 34 s (eqb-true b 34 e) w.1)
       | inr e ↦ elim (cases_Bool (eqb b 39)) [
-          | inl f ↦ let w = opened_reads Single k s (rw (e, f) at h) in inl (w.0, quoted_at b 39 s (eqb-true b 39 f) w.1)
-          | inr f ↦ inr (word_reads (length (b ∷ s)) k (b ∷ s) (omega arith) (rw (e, f) at h))
-        ]
+        | inl f ↦ let w = opened_reads Single k s (rw (e, f) at h) in inl (w.0, quoted_at b 39 s (eqb-true b 39 f) w.1)
+        | inr f ↦ inr (word_reads (length (b ∷ s)) k (b ∷ s) (omega arith) (rw (e, f) at h))
+      ]
     ]
 
 -- what stands behind the letters r of a prefix: more of a name, or perhaps more letters of the prefix and a quoted text
@@ -216,11 +220,11 @@ word_start k b s d m e f g h =
           let x = word_reads (length w.2) k (w.2) (omega arith) w.7 in
           inl (x.0, (d, three_letters b (w.0) (w.1) s (w.2) (eqb-true b 239 n) w.3 w.4 w.5 w.6 x.1))
       | inr n ↦ elim (cases_Bool (is_letter b)) [
-          | inl l ↦
-              let x = word_reads (length s) k s (omega arith) (rw (e, f, g, m, n, l) at h) in
-              inl (x.0, (d, one (or_left (is_letter b) (is_digit b) l) n x.1))
-          | inr l ↦ absurd (none-some k (rw (e, f, g, m, n, l) at h))
-        ]
+        | inl l ↦
+            let x = word_reads (length s) k s (omega arith) (rw (e, f, g, m, n, l) at h) in
+            inl (x.0, (d, one (or_left (is_letter b) (is_digit b) l) n x.1))
+        | inr l ↦ absurd (none-some k (rw (e, f, g, m, n, l) at h))
+      ]
     ]
 
 text_sound : (k : Class) (b : ℕ) (s : List ℕ) → is_digit b ≡ false → from (text_start b) s ≡ Some k → NameOrString k (b ∷ s)
@@ -228,15 +232,15 @@ text_sound k b s d h =
     elim (cases_Bool (eqb b 114)) [
       | inl e ↦ with_prefix 114 b k s (eqb-true b 114 e) refl refl refl (prefix_r_reads k s (rw e at h))
       | inr e ↦ elim (cases_Bool (eqb b 98)) [
-          | inl f ↦ with_prefix 98 b k s (eqb-true b 98 f) refl refl refl (prefix_b_reads k s (rw (e, f) at h))
-          | inr f ↦ elim (cases_Bool (eqb b 34)) [
-              | inl g ↦ let w = opened_reads Double k s (rw (e, f, g) at h) in no_prefix k (b ∷ s) (w.0, quoted_at b 34 s (eqb-true b 34 g) w.1)
-              | inr g ↦ elim (cases_Bool (eqb b 39)) [
-                  | inl m ↦ let w = opened_reads Single k s (rw (e, f, g, m) at h) in no_prefix k (b ∷ s) (w.0, quoted_at b 39 s (eqb-true b 39 m) w.1)
-                  | inr m ↦ word_start k b s d m e f g h
-                ]
-            ]
+        | inl f ↦ with_prefix 98 b k s (eqb-true b 98 f) refl refl refl (prefix_b_reads k s (rw (e, f) at h))
+        | inr f ↦ elim (cases_Bool (eqb b 34)) [
+          | inl g ↦ let w = opened_reads Double k s (rw (e, f, g) at h) in no_prefix k (b ∷ s) (w.0, quoted_at b 34 s (eqb-true b 34 g) w.1)
+          | inr g ↦ elim (cases_Bool (eqb b 39)) [
+            | inl m ↦ let w = opened_reads Single k s (rw (e, f, g, m) at h) in no_prefix k (b ∷ s) (w.0, quoted_at b 39 s (eqb-true b 39 m) w.1)
+            | inr m ↦ word_start k b s d m e f g h
+          ]
         ]
+      ]
     ]
 
 -- ---- all texts
@@ -265,8 +269,8 @@ sound k (b ∷ s) h =
     let lexeme = λ (c : Class). IsLexeme (named c (b ∷ s)) (b ∷ s) in
     elim (picked k (option_or (mark_start b) (number_start b)) (text_start b) s h) [
       | inl g ↦ elim (picked k (mark_start b) (number_start b) s g) [
-          | inl f ↦ let w = mark_sound k b s f in subst lexeme (sym w.0) w.1
-          | inr f ↦ elim (number_sound k b s f.1) [ inl w ↦ subst lexeme (sym w.0) w.1 | inr w ↦ subst lexeme (sym w.0) w.1 ]
-        ]
+        | inl f ↦ let w = mark_sound k b s f in subst lexeme (sym w.0) w.1
+        | inr f ↦ elim (number_sound k b s f.1) [ inl w ↦ subst lexeme (sym w.0) w.1 | inr w ↦ subst lexeme (sym w.0) w.1 ]
+      ]
       | inr g ↦ elim (text_sound k b s (no_digit b g.0) g.1) [ inl w ↦ subst lexeme (sym w.0) (name_is (b ∷ s) w.1) | inr w ↦ subst lexeme (sym w.0) w.1 ]
     ]

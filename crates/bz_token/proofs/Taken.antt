@@ -32,9 +32,9 @@ star_reads k (b ∷ s) h =
     elim (cases_Bool (eqb b 42)) [
       | inl e ↦ let w = ended_reads k s (rw e at h) in (w.0, inr (inl (rw (eqb-true b 42 e, w.1) refl)))
       | inr e ↦ elim (cases_Bool (eqb b 61)) [
-          | inl f ↦ let w = ended_reads k s (rw (e, f) at h) in (w.0, inr (inr (rw (eqb-true b 61 f, w.1) refl)))
-          | inr f ↦ absurd (none-some k (rw (e, f) at h))
-        ]
+        | inl f ↦ let w = ended_reads k s (rw (e, f) at h) in (w.0, inr (inr (rw (eqb-true b 61 f, w.1) refl)))
+        | inr f ↦ absurd (none-some k (rw (e, f) at h))
+      ]
     ]
 
 pub bang_reads : (k : Class) (s : List ℕ) → reads Bang s ≡ Some k → (k ≡ v.Mark) × (s ≡ 61 ∷ [])
@@ -55,9 +55,9 @@ doubled_reads k c b s h =
           let i : b ≡ c = eqb-true b c e in
           (w.0, elim w.1 [ inl z ↦ inr (inl (rw (i, z) refl)) | inr z ↦ inr (inr (rw (i, z) refl)) ])
       | inr e ↦ elim (cases_Bool (eqb b 61)) [
-          | inl f ↦ let w = ended_reads k s (rw (e, f) at h) in (w.0, inl (rw (eqb-true b 61 f, w.1) refl))
-          | inr f ↦ absurd (none-some k (rw (e, f) at h))
-        ]
+        | inl f ↦ let w = ended_reads k s (rw (e, f) at h) in (w.0, inl (rw (eqb-true b 61 f, w.1) refl))
+        | inr f ↦ absurd (none-some k (rw (e, f) at h))
+      ]
     ]
 
 -- ---- numbers
@@ -84,9 +84,9 @@ exponent_mark_reads k (b ∷ s) h =
     elim (cases_Bool (is_digit b)) [
       | inl d ↦ let w = exponent_reads k s (rw d at h) in (w.0, inl (d, w.1))
       | inr d ↦ elim (cases_Bool (is_sign b)) [
-          | inl g ↦ let w = sign_reads k s (rw (d, g) at h) in (w.0, inr (g, w.1))
-          | inr g ↦ absurd (none-some k (rw (d, g) at h))
-        ]
+        | inl g ↦ let w = sign_reads k s (rw (d, g) at h) in (w.0, inr (g, w.1))
+        | inr g ↦ absurd (none-some k (rw (d, g) at h))
+      ]
     ]
 
 -- what stands behind a point with a digit on one side: digits, and perhaps an exponent
@@ -102,9 +102,9 @@ fraction_reads k (b ∷ s) h =
           let x = w.1 in
           (w.0, (b ∷ x.0, x.1, ap (λ (t : List ℕ). b ∷ t) x.2, (d, x.3), x.4))
       | inr d ↦ elim (cases_Bool (is_e b)) [
-          | inl g ↦ let w = exponent_mark_reads k s (rw (d, g) at h) in (w.0, ([], b ∷ s, refl, tt, inr (g, w.1)))
-          | inr g ↦ absurd (none-some k (rw (d, g) at h))
-        ]
+        | inl g ↦ let w = exponent_mark_reads k s (rw (d, g) at h) in (w.0, ([], b ∷ s, refl, tt, inr (g, w.1)))
+        | inr g ↦ absurd (none-some k (rw (d, g) at h))
+      ]
     ]
 
 -- what stands behind the first digit: digits, and perhaps a point and what stands behind it, or an exponent
@@ -120,12 +120,12 @@ whole_reads k (b ∷ s) h =
           let x = w.1 in
           (w.0, (b ∷ x.0, x.1, ap (λ (t : List ℕ). b ∷ t) x.2, (d, x.3), x.4))
       | inr d ↦ elim (cases_Bool (eqb b 46)) [
-          | inl p ↦ let w = fraction_reads k s (rw (d, p) at h) in (w.0, ([], b ∷ s, refl, tt, inr (s, ap (λ (x : ℕ). x ∷ s) (eqb-true b 46 p), w.1)))
-          | inr p ↦ elim (cases_Bool (is_e b)) [
-              | inl g ↦ let w = exponent_mark_reads k s (rw (d, p, g) at h) in (w.0, ([], b ∷ s, refl, tt, inl (inr (g, w.1))))
-              | inr g ↦ absurd (none-some k (rw (d, p, g) at h))
-            ]
+        | inl p ↦ let w = fraction_reads k s (rw (d, p) at h) in (w.0, ([], b ∷ s, refl, tt, inr (s, ap (λ (x : ℕ). x ∷ s) (eqb-true b 46 p), w.1)))
+        | inr p ↦ elim (cases_Bool (is_e b)) [
+          | inl g ↦ let w = exponent_mark_reads k s (rw (d, p, g) at h) in (w.0, ([], b ∷ s, refl, tt, inl (inr (g, w.1))))
+          | inr g ↦ absurd (none-some k (rw (d, p, g) at h))
         ]
+      ]
     ]
 
 hex_reads : (k : Class) (s : List ℕ) → reads Hex s ≡ Some k → (k ≡ v.Number) × Each is_hexadecimal s
@@ -171,18 +171,18 @@ zero_reads k (b ∷ s) h =
     elim (cases_Bool (is_digit b)) [
       | inl d ↦ let w = whole_reads k (b ∷ s) (rw d (rw d at h)) in (w.0, inl w.1)
       | inr d ↦ elim (cases_Bool (eqb b 46)) [
-          | inl p ↦ let w = whole_reads k (b ∷ s) (rw (d, p) (rw (d, p) at h)) in (w.0, inl w.1)
-          | inr p ↦ elim (cases_Bool (is_e b)) [
-              | inl g ↦ let w = whole_reads k (b ∷ s) (rw (d, p, g) (rw (d, p, g) at h)) in (w.0, inl w.1)
-              | inr g ↦ elim (cases_Bool (is_x b)) [
-                  | inl x ↦ let w = hex_mark_reads k s (rw (d, p, g, x) at h) in (w.0, inr (inl (x, w.1)))
-                  | inr x ↦ elim (cases_Bool (is_o b)) [
-                      | inl o ↦ let w = oct_mark_reads k s (rw (d, p, g, x, o) at h) in (w.0, inr (inr (o, w.1)))
-                      | inr o ↦ absurd (none-some k (rw (d, p, g, x, o) at h))
-                    ]
-                ]
+        | inl p ↦ let w = whole_reads k (b ∷ s) (rw (d, p) (rw (d, p) at h)) in (w.0, inl w.1)
+        | inr p ↦ elim (cases_Bool (is_e b)) [
+          | inl g ↦ let w = whole_reads k (b ∷ s) (rw (d, p, g) (rw (d, p, g) at h)) in (w.0, inl w.1)
+          | inr g ↦ elim (cases_Bool (is_x b)) [
+            | inl x ↦ let w = hex_mark_reads k s (rw (d, p, g, x) at h) in (w.0, inr (inl (x, w.1)))
+            | inr x ↦ elim (cases_Bool (is_o b)) [
+              | inl o ↦ let w = oct_mark_reads k s (rw (d, p, g, x, o) at h) in (w.0, inr (inr (o, w.1)))
+              | inr o ↦ absurd (none-some k (rw (d, p, g, x, o) at h))
             ]
+          ]
         ]
+      ]
     ]
 
 -- a point alone is a mark
@@ -212,9 +212,9 @@ taken_reads q k (b ∷ []) h =
 taken_reads q k (b ∷ c ∷ s) h =
     elim (cases_Bool (eqb b 13)) [
       | inl e ↦ elim (cases_Bool (eqb c 10)) [
-          | inl f ↦ (b, c ∷ s, refl, inr (s, rw (eqb-true b 13 e, eqb-true c 10 f) refl, rw (e, f) at h))
-          | inr f ↦ (b, c ∷ s, refl, inl (rw f (rw (e, f) at h)))
-        ]
+        | inl f ↦ (b, c ∷ s, refl, inr (s, rw (eqb-true b 13 e, eqb-true c 10 f) refl, rw (e, f) at h))
+        | inr f ↦ (b, c ∷ s, refl, inl (rw f (rw (e, f) at h)))
+      ]
       | inr e ↦ (b, c ∷ s, refl, inl (rw e at h))
     ]
 
@@ -235,27 +235,27 @@ short_reads (suc n) q k (b ∷ s) l h =
     elim (cases_Bool (eqb b (quote_byte q))) [
       | inl e ↦ let w = closed_reads k s (rw e at h) in (w.0, ([], rw (eqb-true b (quote_byte q) e, w.1) refl, short_end))
       | inr e ↦ elim (cases_Bool (eqb b 92)) [
-          | inl f ↦
-              let i : b ≡ 92 = eqb-true b 92 f in
-              let w = taken_reads q k s (rw (e, f) at h) in
-              elim w.3 [
-                | inl r ↦
-                    let x = short_reads n q k (w.1) (let j : length s ≡ length (w.0 ∷ w.1) = ap length w.2 in omega arith) r in
-                    let y = x.1 in
-                    (x.0, taken_piece q b (w.0) s (w.1) (y.0) i w.2 y.1 y.2)
-                | inr r ↦
-                    let x = short_reads n q k (r.0) (let j : length s ≡ length (13 ∷ 10 ∷ r.0) = ap length r.1 in omega arith) r.2 in
-                    let y = x.1 in
-                    (x.0, line_piece q b s (r.0) (y.0) i r.1 y.1 y.2)
-              ]
-          | inr f ↦ elim (cases_Bool (eqb b 10)) [
-              | inl g ↦ absurd (none-some k (rw (e, f, g) at h))
-              | inr g ↦
-                  let x = short_reads n q k s (omega arith) (rw (e, f, g) at h) in
+        | inl f ↦
+            let i : b ≡ 92 = eqb-true b 92 f in
+            let w = taken_reads q k s (rw (e, f) at h) in
+            elim w.3 [
+              | inl r ↦
+                  let x = short_reads n q k (w.1) (let j : length s ≡ length (w.0 ∷ w.1) = ap length w.2 in omega arith) r in
                   let y = x.1 in
-                  (x.0, (b ∷ y.0, ap (λ (t : List ℕ). b ∷ t) y.1, short_plain (rw (e, g, f) refl) y.2))
+                  (x.0, taken_piece q b (w.0) s (w.1) (y.0) i w.2 y.1 y.2)
+              | inr r ↦
+                  let x = short_reads n q k (r.0) (let j : length s ≡ length (13 ∷ 10 ∷ r.0) = ap length r.1 in omega arith) r.2 in
+                  let y = x.1 in
+                  (x.0, line_piece q b s (r.0) (y.0) i r.1 y.1 y.2)
             ]
+        | inr f ↦ elim (cases_Bool (eqb b 10)) [
+          | inl g ↦ absurd (none-some k (rw (e, f, g) at h))
+          | inr g ↦
+              let x = short_reads n q k s (omega arith) (rw (e, f, g) at h) in
+              let y = x.1 in
+              (x.0, (b ∷ y.0, ap (λ (t : List ℕ). b ∷ t) y.1, short_plain (rw (e, g, f) refl) y.2))
         ]
+      ]
     ]
 
 abbrev pub three_of : Quote → List ℕ
@@ -311,17 +311,20 @@ long_reads n q k [] l = (λ h. absurd (none-some k h), λ h. absurd (none-some k
 long_reads zero q k (b ∷ s) l = absurd (omega arith)
 long_reads (suc n) q k (b ∷ s) l =
     let here = long_reads n q k s (omega arith) in
-    let later : (t : List ℕ) → length t ≤ length s → reads (Long q) t ≡ Some k → (k ≡ v.String) × EndsLong q 0 t = λ t m. (long_reads n q k t (omega arith)).0 in
-    (λ h. elim (cases_Bool (eqb b (quote_byte q))) [
-      | inl e ↦ let w = here.1 (rw e at h) in (w.0, mark_piece q 0 b s (eqb-true b (quote_byte q) e) w.1)
-      | inr e ↦ long_rest q 0 (LongOne q) k b s (omega arith) e later h
-    ], λ h. elim (cases_Bool (eqb b (quote_byte q))) [
-      | inl e ↦ let w = here.2 (rw e at h) in (w.0, mark_piece q 1 b s (eqb-true b (quote_byte q) e) w.1)
-      | inr e ↦ long_rest q 1 (LongTwo q) k b s (omega arith) e later h
-    ], λ h. elim (cases_Bool (eqb b (quote_byte q))) [
-      | inl e ↦ let w = closed_reads k s (rw e at h) in (w.0, last_piece q b s (eqb-true b (quote_byte q) e) w.1)
-      | inr e ↦ long_rest q 2 Closed k b s (omega arith) e later h
-    ])
+    let later : (t : List ℕ) → length t ≤ length s → reads (Long q) t ≡ Some k → (k ≡ v.String) × EndsLong q 0 t = λ t m. (long_reads n q k t (omega arith)).0 in (
+      λ h. elim (cases_Bool (eqb b (quote_byte q))) [
+        | inl e ↦ let w = here.1 (rw e at h) in (w.0, mark_piece q 0 b s (eqb-true b (quote_byte q) e) w.1)
+        | inr e ↦ long_rest q 0 (LongOne q) k b s (omega arith) e later h
+      ],
+      λ h. elim (cases_Bool (eqb b (quote_byte q))) [
+        | inl e ↦ let w = here.2 (rw e at h) in (w.0, mark_piece q 1 b s (eqb-true b (quote_byte q) e) w.1)
+        | inr e ↦ long_rest q 1 (LongTwo q) k b s (omega arith) e later h
+      ],
+      λ h. elim (cases_Bool (eqb b (quote_byte q))) [
+        | inl e ↦ let w = closed_reads k s (rw e at h) in (w.0, last_piece q b s (eqb-true b (quote_byte q) e) w.1)
+        | inr e ↦ long_rest q 2 Closed k b s (omega arith) e later h
+      ],
+    )
 
 -- ---- names
 
@@ -338,19 +341,19 @@ high_reads k (b ∷ []) h =
 high_reads k (b ∷ c ∷ s) h =
     elim (cases_Bool (eqb b 187)) [
       | inl e ↦ elim (cases_Bool (eqb c 191)) [
-          | inl f ↦ absurd (none-some k (rw (e, f) at h))
-          | inr f ↦ elim (cases_Bool (is_high c)) [
-              | inl z ↦ (b, c, s, refl, rw (eqb-true b 187 e) refl, z, and_right (eqb b 187) (eqb c 191) f, rw (e, f, z) at h)
-              | inr z ↦ absurd (none-some k (rw (e, f, z) at h))
-            ]
+        | inl f ↦ absurd (none-some k (rw (e, f) at h))
+        | inr f ↦ elim (cases_Bool (is_high c)) [
+          | inl z ↦ (b, c, s, refl, rw (eqb-true b 187 e) refl, z, and_right (eqb b 187) (eqb c 191) f, rw (e, f, z) at h)
+          | inr z ↦ absurd (none-some k (rw (e, f, z) at h))
         ]
+      ]
       | inr e ↦ elim (cases_Bool (is_high b)) [
-          | inl y ↦ elim (cases_Bool (is_high c)) [
-              | inl z ↦ (b, c, s, refl, y, z, and_left (eqb b 187) (eqb c 191) e, rw (e, y, z) at h)
-              | inr z ↦ absurd (none-some k (rw (e, y, z) at h))
-            ]
-          | inr y ↦ absurd (none-some k (rw (e, y) at h))
+        | inl y ↦ elim (cases_Bool (is_high c)) [
+          | inl z ↦ (b, c, s, refl, y, z, and_left (eqb b 187) (eqb c 191) e, rw (e, y, z) at h)
+          | inr z ↦ absurd (none-some k (rw (e, y, z) at h))
         ]
+        | inr y ↦ absurd (none-some k (rw (e, y) at h))
+      ]
     ]
 
 pub three_letters : (a b c : ℕ) (s u : List ℕ) → a ≡ 239 → s ≡ b ∷ c ∷ u → is_high b ≡ true → is_high c ≡ true → (eqb b 187 && eqb c 191) ≡ false → IsLetters u → IsLetters (a ∷ s)
@@ -368,7 +371,7 @@ word_reads (suc n) k (b ∷ s) l h =
           let x = word_reads n k (w.2) (omega arith) w.7 in
           (x.0, three_letters b (w.0) (w.1) s (w.2) i w.3 w.4 w.5 w.6 x.1)
       | inr e ↦ elim (cases_Bool (is_letter b || is_digit b)) [
-          | inl y ↦ let w = word_reads n k s (omega arith) (rw (e, y) at h) in (w.0, one y e w.1)
-          | inr y ↦ absurd (none-some k (rw (e, y) at h))
-        ]
+        | inl y ↦ let w = word_reads n k s (omega arith) (rw (e, y) at h) in (w.0, one y e w.1)
+        | inr y ↦ absurd (none-some k (rw (e, y) at h))
+      ]
     ]

@@ -65,15 +65,17 @@ third_at q s p m t u a y n e i =
 
 pub some_token : (s : List ℕ) (x : State × ℕ) (k : Class) → Some x ≡ longest_front s → before_third (x.0) (drop (x.1) s) ≡ false → Some k ≡ ends (x.0) → TokenAt (named k (take (x.1) s)) (x.1) s
 some_token s x k e n i =
-    let f = front_of s x e in
-    (f.within, record {
-      lexeme = lexeme_at s x k f i;
-      longest = λ d u w is l.
-          let j : u ++ w ≡ s = is ∙ take-append-drop (x.1) s in
-          let m = f.most u w j (taken_of d u l) in
-          omega (arith, front_length s (x.1) f.within, m);
-      no_third = λ p m u y z a b. both_ways (before_third (x.0) (drop (x.1) s)) n (third_at (x.0) (drop (x.1) s) p m (take (x.1) s) u f.taken y z a b);
-    })
+    let f = front_of s x e in (
+      f.within,
+      record {
+        lexeme = lexeme_at s x k f i;
+        longest = λ d u w is l.
+            let j : u ++ w ≡ s = is ∙ take-append-drop (x.1) s in
+            let m = f.most u w j (taken_of d u l) in
+            omega (arith, front_length s (x.1) f.within, m);
+        no_third = λ p m u y z a b. both_ways (before_third (x.0) (drop (x.1) s)) n (third_at (x.0) (drop (x.1) s) p m (take (x.1) s) u f.taken y z a b);
+      },
+    )
 
 -- what a third mark tells
 third_parts : (q : State) (s : List ℕ) → before_third q s ≡ true → (m : Quote) × (u : List ℕ) × (q ≡ Empty m) × (s ≡ quote_byte m ∷ u)

@@ -1,4 +1,4 @@
-ghost use Rattle.std.specs.Prelude.{◌≡◌, Some, None, take, drop, length, MatchOption};
+ghost use Rattle.std.specs.Prelude.{◌≡◌, Some, None, take, drop, length, MatchOption, IfSome, IsUtf8, IsCharBoundary};
 ghost use Rattle.bz_token.specs.Lexemes.{is_keyword};
 ghost use Rattle.bz_token.specs.Scanner.{longest_front, before_third, named};
 ghost use Rattle.bz_token.specs.Tokens.{NoToken, TokenAt};
@@ -16,7 +16,8 @@ pub struct Found {
 
 /// The token that the text begins with; `None` where it begins with none. A gap is no token, nor are the end and a newline.
 pub fn token(text: &[u8]) -> Option<Found>
-    ensures { MatchOption result (NoToken text.now) (λ found. TokenAt found.class found.len text.now) }
+    ensures exact { MatchOption result (NoToken text.now) (λ found. TokenAt found.class found.len text.now) }
+    ensures boundary { IsUtf8 text.now → IfSome result (λ found. IsCharBoundary text.now found.len) }
 {
     let (state, len) = longest_front(text)?;
     if before_third(state, &text[len..]) {

@@ -199,7 +199,10 @@ fn letter(byte: u8) -> bool
 fn lone_mark(byte: u8) -> bool
     ensures { result ≡ among byte lone_marks }
 {
-    matches!(byte, b'~' | b',' | b';' | b':' | b'(' | b')' | b'[' | b']' | b'{' | b'}')
+    matches!(
+        byte,
+        b'~' | b',' | b';' | b':' | b'(' | b')' | b'[' | b']' | b'{' | b'}'
+    )
 }
 
 fn operator_mark(byte: u8) -> bool

@@ -1,5 +1,5 @@
 -- What the parser reads is a legal tree of the text, and what it refuses has none.
-use Rattle.std.proofs.Common.{◌≡◌, ℕ, zero, suc, ◌≤◌, ◌<◌, ltb, Bool, true, false, cond, List, [], ◌∷◌, ◌++◌, length, ◌||◌, ◌&&◌, not, ◌⊎◌, inl, inr, Option, Some, None, Result, Ok, Err, refl, sym, ap, ◌∙◌, subst, arith}
+use Rattle.std.proofs.Common.{◌≡◌, ℕ, zero, suc, ◌≤◌, Bool, true, false, cond, List, [], ◌∷◌, length, ◌&&◌, inl, inr, Option, Some, None, Result, Err, refl, sym, ap, ◌∙◌, subst, arith}
 use Rattle.std.specs.Prelude.{MatchOption, IfErr, IsUtf8, nat_lt}
 use Rattle.std.specs.Str.{IsValidUpTo}
 use Rattle.std.proofs.Math.Seq.{take-length}
@@ -11,7 +11,7 @@ use Rattle.bz_token.specs.Tokens.{IsToken}
 use Rattle.bz_lex.specs.declared.leaf.Leaf.{Leaf}
 use Rattle.bz_lex.specs.declared.fault.ReadFault.{ReadFault}
 use Rattle.bz_lex.specs.declared.place.Place.{Place}
-use Rattle.bz_lex.specs.declared.place.Place.TheVariants.{Fresh, Behind, Inside, Last, Over}
+use Rattle.bz_lex.specs.declared.place.Place.TheVariants.{Fresh, Inside}
 use Rattle.bz_lex.specs.Places.{May, next, behind, deeper, shallower, same_depth, behind_newline, is_opening, is_closing}
 use Rattle.bz_lex.specs.Leaves.{Stand, AreLeaves, NoLeaves, spell_leaves}
 use Rattle.bz_lex.proofs.Unique.{one_lexing}
@@ -85,14 +85,16 @@ file_is ts = refl
 pub legal_of : (ls : List Leaf) (n : Node) → file_at ls ≡ Some n → AreLeaves ls → are_plain true ls ≡ true → Legal n × (leaves_of n ≡ ls)
 legal_of ls n e h p =
     let w = read_sound ls n (sym (file_is ls) ∙ e) in
-    let same : leaves_of n ≡ ls = sym w.1 in
-    (record {
-      root = w.0.0;
-      shapes = w.0.1;
-      leaves = subst AreLeaves (sym same) h;
-      plain = subst ArePlain (sym same) (plain_stand Fresh ls h p);
-      depth = w.0.2;
-    }, same)
+    let same : leaves_of n ≡ ls = sym w.1 in (
+      record {
+        root = w.0.0;
+        shapes = w.0.1;
+        leaves = subst AreLeaves (sym same) h;
+        plain = subst ArePlain (sym same) (plain_stand Fresh ls h p);
+        depth = w.0.2;
+      },
+      same,
+    )
 
 -- a legal tree is what its leaves are read as
 pub legal_read : (n : Node) → Legal n → (file_at (leaves_of n) ≡ Some n) × (are_plain true (leaves_of n) ≡ true)

@@ -1,5 +1,5 @@
 -- Readers that read just what they ought to: loops.
-use Rattle.std.proofs.Common.{◌≡◌, ℕ, zero, suc, ◌+◌, ◌≤◌, ◌<◌, Bool, true, false, cond, List, [], ◌∷◌, ◌++◌, length, ◌||◌, ◌&&◌, not, ◌⊎◌, inl, inr, Option, Some, None, refl, sym, ap, subst, ◌∙◌, append_assoc, arith, length-append}
+use Rattle.std.proofs.Common.{◌≡◌, ℕ, zero, suc, ◌≤◌, Bool, true, false, cond, List, [], ◌∷◌, ◌++◌, length, ◌&&◌, ◌⊎◌, inl, inr, Option, Some, None, refl, sym, ap, ◌∙◌, append_assoc, arith, length-append}
 use Rattle.std.proofs.lemmas.Bool.{and_parts, cases_Bool, both_ways, cond-false}
 use Rattle.std.specs.List.{flat_map}
 use Rattle.bz_lex.specs.declared.leaf.Leaf.{Leaf}
@@ -52,12 +52,11 @@ abbrev starts_after : List Terminal → List Terminal → List Leaf → Type 0
 starts_after go stop ts = starts_with go ts ≡ false
 
 module _ (P : Part → Type 0) (next : Read Part) (go_on begin : List Terminal) (exact : Exact Part leaves_part P go_on next) (begins : (p : Part) (rest : List Leaf) → P p → starts_with begin (leaves_part p ++ rest) ≡ true)
-  (sep : List Terminal) (last : Bool) (stop : List Terminal) (K : List Part → Type 0) (readK : Read (List Part)) (goK : List Terminal) (exactK : Exact (List Part) all_leaves K goK readK)
-  (quiet : (ps : List Part) (rest : List Leaf) → K ps → starts_with goK rest ≡ false → (starts_with go_on (all_leaves ps ++ rest) ≡ false) × (starts_with sep (all_leaves ps ++ rest) ≡ false))
-  (ends : last ≡ true → (ps : List Part) (rest : List Leaf) → K ps → starts_with stop (all_leaves ps ++ rest) ≡ true)
-  (apart : last ≡ true → disjoint begin stop ≡ true)
-  (separate : disjoint sep go_on ≡ true) where
-
+    (sep : List Terminal) (last : Bool) (stop : List Terminal) (K : List Part → Type 0) (readK : Read (List Part)) (goK : List Terminal) (exactK : Exact (List Part) all_leaves K goK readK)
+    (quiet : (ps : List Part) (rest : List Leaf) → K ps → starts_with goK rest ≡ false → (starts_with go_on (all_leaves ps ++ rest) ≡ false) × (starts_with sep (all_leaves ps ++ rest) ≡ false))
+    (ends : last ≡ true → (ps : List Part) (rest : List Leaf) → K ps → starts_with stop (all_leaves ps ++ rest) ≡ true)
+    (apart : last ≡ true → disjoint begin stop ≡ true)
+    (separate : disjoint sep go_on ≡ true) where
   behind_at_end : (ps : List Part) → K ps → Behind P sep last K ps
   behind_at_end [] k = k
   behind_at_end (p ∷ ps) k = inl k
@@ -136,10 +135,9 @@ module _ (P : Part → Type 0) (next : Read Part) (go_on begin : List Terminal) 
 -- ---- parts behind each other
 
 module _ (P : Part → Type 0) (next : Read Part) (go_on begin : List Terminal) (exact : Exact Part leaves_part P go_on next) (begins : (p : Part) (rest : List Leaf) → P p → starts_with begin (leaves_part p ++ rest) ≡ true)
-  (K : List Part → Type 0) (readK : Read (List Part)) (goK : List Terminal) (exactK : Exact (List Part) all_leaves K goK readK)
-  (quiet : (ps : List Part) (rest : List Leaf) → K ps → starts_with goK rest ≡ false → (starts_with go_on (all_leaves ps ++ rest) ≡ false) × (starts_with begin (all_leaves ps ++ rest) ≡ false))
-  (separate : disjoint begin go_on ≡ true) where
-
+    (K : List Part → Type 0) (readK : Read (List Part)) (goK : List Terminal) (exactK : Exact (List Part) all_leaves K goK readK)
+    (quiet : (ps : List Part) (rest : List Leaf) → K ps → starts_with goK rest ≡ false → (starts_with go_on (all_leaves ps ++ rest) ≡ false) × (starts_with begin (all_leaves ps ++ rest) ≡ false))
+    (separate : disjoint begin go_on ≡ true) where
   several_at_end : (ps : List Part) → K ps → Several P K ps
   several_at_end [] k = k
   several_at_end (p ∷ ps) k = inl k

@@ -1,5 +1,5 @@
 -- What is read is the one file that the leaves are.
-use Rattle.std.proofs.Common.{◌≡◌, ℕ, zero, suc, ◌+◌, ◌≤◌, ◌<◌, Bool, true, false, cond, eqb, List, [], ◌∷◌, ◌++◌, length, ◌||◌, ◌&&◌, not, ◌⊎◌, inl, inr, Option, Some, None, refl, sym, ap, subst, ◌∙◌, append_assoc, arith, max}
+use Rattle.std.proofs.Common.{◌≡◌, ℕ, zero, suc, ◌≤◌, Bool, true, false, eqb, List, [], ◌∷◌, ◌++◌, ◌&&◌, not, ◌⊎◌, inl, inr, Option, Some, None, refl, sym, ap, subst, ◌∙◌, arith}
 use Rattle.std.proofs.lemmas.Bool.{and_parts, or_cases, or_left, or_right, both_ways, not-true, eqb-true, eq-eqb}
 use Rattle.std.proofs.lemmas.List.{append-nil}
 use Rattle.std.proofs.lemmas.Option.{same_Some}
@@ -10,17 +10,17 @@ use Rattle.bz_tree.specs.Kinds.{kind_number}
 use Rattle.bz_tree.specs.declared.tree.Node.{Node}
 use Rattle.bz_tree.specs.declared.tree.Part.{Part}
 use Rattle.bz_tree.specs.declared.tree.Part.TheVariants as v
-use Rattle.bz_tree.specs.Spell.{leaves_part, leaves_of, depth_part, depth_of}
-use Rattle.bz_tree.specs.Shapes.{Terminal, is_one_of, has_sort, has_kind, Sort, line, statement, expression, argument, value, element, leaves_at, kinds_at, Shape, done, tok, each, Fits, shape, end}
-use Rattle.bz_tree.specs.Reading.{◌>>=◌, Read, starts_with, starts, first, run, wrap, token, node_or, reading, file_of, read_file}
-use Rattle.bz_tree.specs.Legal.{IsSort, LegalPart, LegalShapes}
+use Rattle.bz_tree.specs.Spell.{leaves_part, leaves_of, depth_of}
+use Rattle.bz_tree.specs.Shapes.{Terminal, is_one_of, has_kind, Sort, line, statement, expression, argument, value, element, leaves_at, kinds_at, Fits, shape}
+use Rattle.bz_tree.specs.Reading.{Read, starts_with, starts, first, run, wrap, token, node_or, reading, file_of, read_file}
+use Rattle.bz_tree.specs.Legal.{LegalShapes}
 use Rattle.bz_tree.proofs.Nested.{leaf_or_node}
 use Rattle.bz_tree.proofs.Numbers.{same_kind}
 use Rattle.bz_tree.proofs.Spells.{leaves_Node, depth_Node}
 use Rattle.bz_tree.proofs.Terminals.{disjoint, disjoint_at, subset, subset_at, subset_stops}
 use Rattle.bz_tree.proofs.Exact.{all_leaves, bind_some, if_some, cond_parts, Exact}
 use Rattle.bz_tree.proofs.Shapes.{nullable, go, tells, not_empty, run_exact}
-use Rattle.bz_tree.proofs.Trees.{AllLegal, At, join, split, Sound, legal_node, node_fits}
+use Rattle.bz_tree.proofs.Trees.{At, join, split, legal_node, node_fits}
 
 -- nothing continues a part of a sort
 abbrev pub goes : Sort → List Terminal
@@ -96,10 +96,9 @@ abbrev NodeOf : (Sort → Part → Type 0) → List Kind → Part → Type 0
 NodeOf P kinds x = (n : Node) × (x ≡ v.Node n) × (has_kind kinds n.kind ≡ true) × Fits P (shape n.kind) n.parts
 
 module _ (P : Sort → Part → Type 0) (begins : (q : Sort) (x : Part) (rest : List Leaf) → P q x → starts_with (starts q) (leaves_part x ++ rest) ≡ true)
-  (inner : Sort → Read Part) (exact : (q : Sort) → Exact Part leaves_part (P q) (goes q) (inner q))
-  (s : List Terminal) (A : Part → Type 0) (next : Read Part) (exactA : Exact Part leaves_part A [] next)
-  (startsA : (x : Part) (rest : List Leaf) → A x → starts_with s (leaves_part x ++ rest) ≡ true) where
-
+    (inner : Sort → Read Part) (exact : (q : Sort) → Exact Part leaves_part (P q) (goes q) (inner q))
+    (s : List Terminal) (A : Part → Type 0) (next : Read Part) (exactA : Exact Part leaves_part A [] next)
+    (startsA : (x : Part) (rest : List Leaf) → A x → starts_with s (leaves_part x ++ rest) ≡ true) where
   node_starts : (kinds : List Kind) (n : Node) (rest : List Leaf) → kinds_tell kinds s ≡ true → has_kind kinds n.kind ≡ true → Fits P (shape n.kind) n.parts → starts_with (first (shape n.kind)) (leaves_part (v.Node n) ++ rest) ≡ true
   node_starts kinds n rest ok h fits =
       let t = kind_tells n.kind kinds s ok h in
@@ -125,11 +124,13 @@ module _ (P : Sort → Part → Type 0) (begins : (q : Sort) (x : Part) (rest : 
             subst (λ (z : Part × List Leaf). Either (kind ∷ kinds) z.0 × (ts ≡ leaves_part z.0 ++ z.1)) (sym a.2)
             (inr (n, refl, mine, f.0), f.1 ∙ ap (λ (u : List Leaf). u ++ a.0.1) (sym (leaves_Node n)))
         | inr h ↦
-            let r = node_or_sound kinds w4.1 ts y h.1 in
-            (elim (r.0) [
-              | inl a ↦ inl a
-              | inr (n, is, m, f) ↦ inr (n, is, or_right (eqb (kind_number n.kind) (kind_number kind)) (has_kind kinds n.kind) m, f)
-            ], r.1)
+            let r = node_or_sound kinds w4.1 ts y h.1 in (
+              elim (r.0) [
+                | inl a ↦ inl a
+                | inr (n, is, m, f) ↦ inr (n, is, or_right (eqb (kind_number n.kind) (kind_number kind)) (has_kind kinds n.kind) m, f)
+              ],
+              r.1,
+            )
       ]
 
   own : (kind : Kind) (kinds : List Kind) → tells goes (shape kind) ≡ true → nullable (shape kind) ≡ false → subset (go goes (shape kind)) [] ≡ true → (n : Node) (rest : List Leaf) → n.kind ≡ kind

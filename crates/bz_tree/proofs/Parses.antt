@@ -1,15 +1,14 @@
 -- The words of the parser's functions are the reading that the laws are about.
-use Rattle.std.proofs.Common.{◌≡◌, ℕ, zero, suc, ◌<◌, ◌≤◌, length, arith, Bool, true, false, cond, List, [], ◌∷◌, ◌++◌, Option, Some, None, refl, sym, ap, ◌∙◌, inl, inr, ◌⊎◌}
-use Rattle.std.proofs.lemmas.Bool.{cases_Bool, both_ways, and_parts}
+use Rattle.std.proofs.Common.{◌≡◌, ℕ, suc, ◌<◌, length, arith, true, false, cond, List, [], ◌∷◌, ◌++◌, Option, Some, None, refl, sym, ap, ◌∙◌, inl, inr}
+use Rattle.std.proofs.lemmas.Bool.{cases_Bool, both_ways}
 use Rattle.bz_lex.specs.declared.leaf.Leaf.{Leaf}
 use Rattle.bz_tree.specs.declared.kind.Kind.{Kind}
 use Rattle.bz_tree.specs.declared.kind.Kind.TheVariants as k
 use Rattle.bz_tree.specs.declared.tree.Part.{Part}
-use Rattle.bz_tree.specs.Shapes.{Terminal, Sort, line, statement, expression, argument, value, element, leaves_at, kinds_at, Shape, done, tok, sub, items, each, shape, name, string, newline, end, open_round, close_round, equals, open_square, close_square}
-use Rattle.bz_tree.specs.Reading.{◌>>=◌, Read, starts_with, starts, first, put, run, wrap, token, node_or, reading}
+use Rattle.bz_tree.specs.Shapes.{line, statement, expression, argument, value, element, Shape, done, tok, sub, items, shape, name, string, newline, end, open_round, close_round, equals, open_square, close_square}
+use Rattle.bz_tree.specs.Reading.{◌>>=◌, starts_with, first, put, run, wrap, token, node_or, reading}
 use Rattle.bz_tree.specs.Words.{token_at, items_at, closed_at, list_at, value_at, argument_at, call_at, line_at, lines_at, with_front, node}
-use Rattle.bz_tree.proofs.Terminals.{subset}
-use Rattle.bz_tree.proofs.Shapes.{nullable, tells, go, not_empty, run_exact}
+use Rattle.bz_tree.proofs.Shapes.{nullable, tells, not_empty, run_exact}
 use Rattle.bz_tree.proofs.Files.{begins, goes, reading_exact}
 use Rattle.bz_tree.proofs.Trees.{At}
 use Rattle.bz_tree.proofs.Steps.{bind_same, token_run, closed_is, each_none, each_more, each_end, front_put, reading_takes}
@@ -85,10 +84,10 @@ argument_by d ts =
     ap (wrap k.Named) (token_run inner name tail ts) ∙
     wrap_bind k.Named (token_at name ts) (λ t. put t.0 (run inner tail t.1)) ∙
     bind_same (token_at name ts) _ _ (λ l e.
-        ap (λ (o : Option (List Part × List Leaf)). wrap k.Named (put l.0 o)) (token_run inner equals (sub value done) l.1) ∙
-        ap (wrap k.Named) (put_bind l.0 (token_at equals l.1) (λ s. put s.0 (run inner (sub value done) s.1))) ∙
-        wrap_bind k.Named (token_at equals l.1) (λ s. put l.0 (put s.0 (run inner (sub value done) s.1))) ∙
-        bind_same (token_at equals l.1) _ _ (λ s f. wrap_three k.Named l.0 s.0 (inner value s.1)))
+    ap (λ (o : Option (List Part × List Leaf)). wrap k.Named (put l.0 o)) (token_run inner equals (sub value done) l.1) ∙
+    ap (wrap k.Named) (put_bind l.0 (token_at equals l.1) (λ s. put s.0 (run inner (sub value done) s.1))) ∙
+    wrap_bind k.Named (token_at equals l.1) (λ s. put l.0 (put s.0 (run inner (sub value done) s.1))) ∙
+    bind_same (token_at equals l.1) _ _ (λ s f. wrap_three k.Named l.0 s.0 (inner value s.1)))
 
 pub argument_is : (ts : List Leaf) → reading 196 argument ts ≡ argument_at ts
 unfolding argument_at
@@ -105,10 +104,10 @@ call_by d ts =
     ap (wrap k.Call) (token_run inner name tail ts) ∙
     wrap_bind k.Call (token_at name ts) (λ t. put t.0 (run inner tail t.1)) ∙
     bind_same (token_at name ts) _ _ (λ f e.
-        ap (λ (o : Option (List Part × List Leaf)). wrap k.Call (put f.0 o)) (token_run inner open_round (items argument close_round) f.1) ∙
-        ap (wrap k.Call) (put_bind f.0 (token_at open_round f.1) (λ b. put b.0 (run inner (items argument close_round) b.1))) ∙
-        wrap_bind k.Call (token_at open_round f.1) (λ b. put f.0 (put b.0 (run inner (items argument close_round) b.1))) ∙
-        bind_same (token_at open_round f.1) _ _ (λ b g. wrap_put_two k.Call f.0 b.0 (run inner (items argument close_round) b.1)))
+    ap (λ (o : Option (List Part × List Leaf)). wrap k.Call (put f.0 o)) (token_run inner open_round (items argument close_round) f.1) ∙
+    ap (wrap k.Call) (put_bind f.0 (token_at open_round f.1) (λ b. put b.0 (run inner (items argument close_round) b.1))) ∙
+    wrap_bind k.Call (token_at open_round f.1) (λ b. put f.0 (put b.0 (run inner (items argument close_round) b.1))) ∙
+    bind_same (token_at open_round f.1) _ _ (λ b g. wrap_put_two k.Call f.0 b.0 (run inner (items argument close_round) b.1)))
 
 pub call_is : (ts : List Leaf) → reading 197 expression ts ≡ call_at ts
 unfolding call_at
@@ -138,10 +137,10 @@ line_by d ts =
     ap (λ (o : Option (Part × List Leaf)). o >>= λ y. wrap k.Line (put y.0 (run inner rest y.1))) (statement_by d ts) ∙
     line_bind (reading d expression ts) (λ s r. wrap k.Line (put s (run inner rest r))) ∙
     bind_same (reading d expression ts) _ _ (λ c e.
-        ap (λ (o : Option (List Part × List Leaf)). wrap k.Line (put (node k.Bare (c.0 ∷ [])) o)) (token_run inner newline done c.1) ∙
-        ap (wrap k.Line) (put_bind (node k.Bare (c.0 ∷ [])) (token_at newline c.1) (λ n. put n.0 (run inner done n.1))) ∙
-        wrap_bind k.Line (token_at newline c.1) (λ n. put (node k.Bare (c.0 ∷ [])) (put n.0 (run inner done n.1))) ∙
-        bind_same (token_at newline c.1) _ _ (λ n f. refl))
+    ap (λ (o : Option (List Part × List Leaf)). wrap k.Line (put (node k.Bare (c.0 ∷ [])) o)) (token_run inner newline done c.1) ∙
+    ap (wrap k.Line) (put_bind (node k.Bare (c.0 ∷ [])) (token_at newline c.1) (λ n. put n.0 (run inner done n.1))) ∙
+    wrap_bind k.Line (token_at newline c.1) (λ n. put (node k.Bare (c.0 ∷ [])) (put n.0 (run inner done n.1))) ∙
+    bind_same (token_at newline c.1) _ _ (λ n f. refl))
 
 pub line_is : (ts : List Leaf) → reading 199 line ts ≡ line_at ts
 unfolding line_at

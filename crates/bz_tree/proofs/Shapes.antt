@@ -1,5 +1,5 @@
 -- Reading a shape is exact where reading its sorts is, and one token tells what comes next.
-use Rattle.std.proofs.Common.{◌≡◌, ℕ, zero, suc, ◌+◌, ◌≤◌, ◌<◌, Bool, true, false, cond, List, [], ◌∷◌, ◌++◌, length, ◌||◌, ◌&&◌, not, ◌⊎◌, inl, inr, Option, Some, None, refl, sym, ap, subst, ◌∙◌, append_assoc, arith, length-append}
+use Rattle.std.proofs.Common.{◌≡◌, Bool, true, false, List, [], ◌∷◌, ◌++◌, length, ◌||◌, ◌&&◌, not, ◌⊎◌, inl, inr, Some, refl, sym, ap, subst, ◌∙◌, append_assoc, arith}
 use Rattle.std.proofs.lemmas.Bool.{and_parts, both_ways, not-true, or_left, or_right}
 use Rattle.std.proofs.lemmas.Option.{same_Some}
 use Rattle.bz_lex.specs.declared.leaf.Leaf.{Leaf}
@@ -7,7 +7,7 @@ use Rattle.bz_tree.specs.declared.tree.Part.{Part}
 use Rattle.bz_tree.specs.declared.tree.Part.TheVariants as v
 use Rattle.bz_tree.specs.Spell.{leaves_part}
 use Rattle.bz_tree.specs.Shapes.{Terminal, is_one_of, Sort, Shape, none, done, tok, sub, alt, list, each, Several, Fits}
-use Rattle.bz_tree.specs.Reading.{◌>>=◌, Read, starts_with, starts, first, put, run}
+use Rattle.bz_tree.specs.Reading.{Read, starts_with, starts, first, put, run}
 use Rattle.bz_tree.proofs.Terminals.{disjoint, disjoint_at, stops_left, stops_right, starts-append_left, starts-append_right}
 use Rattle.bz_tree.proofs.Exact.{all_leaves, token_leaf, bind_some, put_some, if_some, cond_parts, Exact, listed_sound, listed_complete, several_sound, several_complete}
 
@@ -57,7 +57,6 @@ right_opens q r ps rest (inl e) = inl (starts-append_right (starts q) (first r) 
 right_opens q r ps rest (inr e) = inr e
 
 module _ (P : Sort → Part → Type 0) (begins : (q : Sort) (p : Part) (rest : List Leaf) → P q p → starts_with (starts q) (leaves_part p ++ rest) ≡ true) where
-
   opens_each : (q : Sort) (r : Shape) {rest : List Leaf} → ((qs : List Part) → Fits P r qs → Opens r qs rest) → (ps : List Part) → Several (P q) (Fits P r) ps → Opens (each q r) ps rest
   opens_each q r {rest} f [] h = right_opens q r [] rest (f [] h)
   opens_each q r {rest} f (p ∷ ps) (inl h) = right_opens q r (p ∷ ps) rest (f (p ∷ ps) h)
@@ -83,7 +82,6 @@ module _ (P : Sort → Part → Type 0) (begins : (q : Sort) (p : Part) (rest : 
       ]
   opens (list q sep last r) [] rest h = absurd h
   opens (list q sep last r) (p ∷ ps) rest h = inl (rw append_assoc (begins q p (all_leaves ps ++ rest) h.0))
-
   opens (each q r) ps rest h = opens_each q r (λ qs k. opens r qs rest k) ps h
 
   -- what a shape begins with isn't in g, nor is what follows where the shape may be empty
@@ -98,9 +96,8 @@ module _ (P : Sort → Part → Type 0) (begins : (q : Sort) (p : Part) (rest : 
   not_empty r ps rest h n = elim (opens r ps rest h) [ inl e ↦ e | inr e ↦ absurd (both_ways (nullable r) n e.0) ]
 
 module _ (P : Sort → Part → Type 0) (begins : (q : Sort) (p : Part) (rest : List Leaf) → P q p → starts_with (starts q) (leaves_part p ++ rest) ≡ true)
-  (goes : Sort → List Terminal) (inner : Sort → Read Part)
-  (exact : (q : Sort) → Exact Part leaves_part (P q) (goes q) (inner q)) where
-
+    (goes : Sort → List Terminal) (inner : Sort → Read Part)
+    (exact : (q : Sort) → Exact Part leaves_part (P q) (goes q) (inner q)) where
   done_sound : (ts : List Leaf) (y : List Part × List Leaf) → run inner done ts ≡ Some y → Fits P done y.0 × (ts ≡ all_leaves y.0 ++ y.1)
   done_sound ts y e = subst (λ (z : List Part × List Leaf). Fits P done z.0 × (ts ≡ all_leaves z.0 ++ z.1)) (same_Some ([], ts) y e) (tt, refl)
 
@@ -160,11 +157,11 @@ module _ (P : Sort → Part → Type 0) (begins : (q : Sort) (p : Part) (rest : 
       let g = go goes (list q sep last r) in
       let xK : Exact (List Part) all_leaves (Fits P r) g (run inner r) = record { sound = x.sound; complete = λ ps rest h st. x.complete ps rest h (stops_right (only_if (nullable r) (goes q ++ sep)) (go goes r) rest st) } in
       let quiet : (ps : List Part) (rest : List Leaf) → Fits P r ps → starts_with g rest ≡ false → (starts_with (goes q) (all_leaves ps ++ rest) ≡ false) × (starts_with sep (all_leaves ps ++ rest) ≡ false) =
-          λ ps rest h st. let w = only_if_at (nullable r) (goes q ++ sep) rest (stops_left (only_if (nullable r) (goes q ++ sep)) (go goes r) rest st) in
-          (follows P begins r ps rest (goes q) h o2 (λ e. stops_left (goes q) sep rest (w e)), follows P begins r ps rest sep h o3 (λ e. stops_right (goes q) sep rest (w e))) in
+      λ ps rest h st. let w = only_if_at (nullable r) (goes q ++ sep) rest (stops_left (only_if (nullable r) (goes q ++ sep)) (go goes r) rest st) in
+      (follows P begins r ps rest (goes q) h o2 (λ e. stops_left (goes q) sep rest (w e)), follows P begins r ps rest sep h o3 (λ e. stops_right (goes q) sep rest (w e))) in
       let strict : last ≡ true → (disjoint (starts q) (first r) ≡ true) × (nullable r ≡ false) = λ t. let w = and_parts (disjoint (starts q) (first r)) (not (nullable r)) (rw t at o4) in (w.0, not-true (nullable r) w.1) in
       let ends : last ≡ true → (ps : List Part) (rest : List Leaf) → Fits P r ps → starts_with (first r) (all_leaves ps ++ rest) ≡ true =
-          λ t ps rest h. not_empty P begins r ps rest h (strict t).1 in
+      λ t ps rest h. not_empty P begins r ps rest h (strict t).1 in
       record {
         sound = λ ts y e. listed_sound (P q) (inner q) (goes q) (starts q) (exact q) (begins q) sep last (first r) (Fits P r) (run inner r) g xK quiet ends (λ t. (strict t).0) o1 (length ts) ts y e;
         complete = λ ps rest h st. listed_complete (P q) (inner q) (goes q) (starts q) (exact q) (begins q) sep last (first r) (Fits P r) (run inner r) g xK quiet ends (λ t. (strict t).0) o1 (length (all_leaves ps ++ rest)) ps rest h st (omega arith);
@@ -176,8 +173,8 @@ module _ (P : Sort → Part → Type 0) (begins : (q : Sort) (p : Part) (rest : 
       let g = go goes (each q r) in
       let xK : Exact (List Part) all_leaves (Fits P r) g (run inner r) = record { sound = x.sound; complete = λ ps rest h st. x.complete ps rest h (stops_right (only_if (nullable r) (goes q ++ starts q)) (go goes r) rest st) } in
       let quiet : (ps : List Part) (rest : List Leaf) → Fits P r ps → starts_with g rest ≡ false → (starts_with (goes q) (all_leaves ps ++ rest) ≡ false) × (starts_with (starts q) (all_leaves ps ++ rest) ≡ false) =
-          λ ps rest h st. let w = only_if_at (nullable r) (goes q ++ starts q) rest (stops_left (only_if (nullable r) (goes q ++ starts q)) (go goes r) rest st) in
-          (follows P begins r ps rest (goes q) h o2 (λ e. stops_left (goes q) (starts q) rest (w e)), follows P begins r ps rest (starts q) h o3 (λ e. stops_right (goes q) (starts q) rest (w e))) in
+      λ ps rest h st. let w = only_if_at (nullable r) (goes q ++ starts q) rest (stops_left (only_if (nullable r) (goes q ++ starts q)) (go goes r) rest st) in
+      (follows P begins r ps rest (goes q) h o2 (λ e. stops_left (goes q) (starts q) rest (w e)), follows P begins r ps rest (starts q) h o3 (λ e. stops_right (goes q) (starts q) rest (w e))) in
       record {
         sound = λ ts y e. several_sound (P q) (inner q) (goes q) (starts q) (exact q) (begins q) (Fits P r) (run inner r) g xK quiet o1 (length ts) ts y e;
         complete = λ ps rest h st. (several_complete (P q) (inner q) (goes q) (starts q) (exact q) (begins q) (Fits P r) (run inner r) g xK quiet o1 (length (all_leaves ps ++ rest)) ps rest h st (omega arith)).1;

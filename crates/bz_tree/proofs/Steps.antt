@@ -1,18 +1,17 @@
 -- One step of reading at a time, for the parser's functions.
-use Rattle.std.proofs.Common.{◌≡◌, ℕ, zero, suc, ◌+◌, ◌≤◌, ◌<◌, Bool, true, false, cond, List, [], ◌∷◌, ◌++◌, length, ◌&&◌, ◌⊎◌, inl, inr, Option, Some, None, Result, Ok, Err, refl, sym, ap, ◌∙◌, append_assoc, arith, length-append}
+use Rattle.std.proofs.Common.{◌≡◌, ℕ, zero, suc, ◌≤◌, ◌<◌, Bool, true, false, cond, List, [], ◌∷◌, ◌++◌, length, inl, inr, Option, Some, None, Result, Ok, Err, refl, sym, ap, ◌∙◌, append_assoc, arith, length-append}
 use Rattle.std.proofs.lemmas.Bool.{cases_Bool, both_ways}
 use Rattle.std.proofs.lemmas.Option.{same_Some, none-some}
 use Rattle.bz_lex.specs.declared.leaf.Leaf.{Leaf}
 use Rattle.bz_tree.specs.declared.tree.Part.{Part}
 use Rattle.bz_tree.specs.declared.tree.Part.TheVariants as v
 use Rattle.bz_tree.specs.Spell.{leaves_part}
-use Rattle.bz_tree.specs.Shapes.{Terminal, is_one_of, Sort, Shape, done, tok, sub, alt, list, each, items, comma}
-use Rattle.bz_tree.specs.Reading.{◌>>=◌, Read, starts_with, starts, first, put, behind, listed, several, run, token, reading}
+use Rattle.bz_tree.specs.Shapes.{Terminal, is_one_of, Sort, Shape, done, tok, list, each, comma}
+use Rattle.bz_tree.specs.Reading.{◌>>=◌, Read, starts_with, starts, first, put, behind, listed, several, run, reading}
 use Rattle.bz_tree.specs.Words.{token_at, items_at, closed_at, with_front, Halts, Fails}
 use Rattle.bz_tree.specs.declared.token.Halt.{Halt}
 use Rattle.bz_tree.specs.declared.token.Halt.TheVariants as h
 use Rattle.bz_tree.proofs.Terminals.{full_front}
-use Rattle.bz_tree.proofs.Exact.{all_leaves, put_some}
 use Rattle.bz_tree.proofs.Files.{begins, reading_exact}
 
 -- what reads a part takes a leaf at least
@@ -153,7 +152,7 @@ pub last_item : (d : ℕ) (q : Sort) (close : List Terminal) (front : List Part)
     with_front front (items_at d q close ts) ≡ with_front (front ++ (x ∷ [])) (closed_at close a)
 last_item d q close front ts a x h e c =
     let one : items_at d q close ts ≡ put x (closed_at close a) =
-        items_next d q close ts h ∙ rw e (ap (put x) (behind_no_comma (run (reading d) (list q comma true (tok close done))) (run (reading d) (tok close done)) close a c ∙ closed_is (reading d) close a)) in
+    items_next d q close ts h ∙ rw e (ap (put x) (behind_no_comma (run (reading d) (list q comma true (tok close done))) (run (reading d) (tok close done)) close a c ∙ closed_is (reading d) close a)) in
     ap (with_front front) one ∙ front_put front x (closed_at close a)
 
 behind_comma : (d : ℕ) (q : Sort) (close : List Terminal) (t : Leaf) (b : List Leaf) → is_one_of comma t ≡ true →
@@ -166,7 +165,7 @@ pub more_items : (d : ℕ) (q : Sort) (close : List Terminal) (front : List Part
 more_items d q close front ts a b x c h e o =
     let w = token_parts comma a b c o in
     let one : items_at d q close ts ≡ put x (put c (items_at d q close b)) =
-        items_next d q close ts h ∙ rw (e, w.1) (ap (put x) (behind_comma d q close w.0 b w.2 ∙ ap (λ (z : Part). put z (items_at d q close b)) (sym w.3))) in
+    items_next d q close ts h ∙ rw (e, w.1) (ap (put x) (behind_comma d q close w.0 b w.2 ∙ ap (λ (z : Part). put z (items_at d q close b)) (sym w.3))) in
     ap (with_front front) one ∙ front_put front x (put c (items_at d q close b)) ∙ front_put (front ++ (x ∷ [])) c (items_at d q close b)
 
 pub shorter : (d : ℕ) (q : Sort) (ts a b : List Leaf) (x c : Part) (s : List Terminal) → reading d q ts ≡ Some (x, a) → token_at s a ≡ Some (c, b) → length b < length ts
@@ -187,7 +186,6 @@ fails (Err e) o all w f = halts e o all w f
 -- ---- the loop over what brackets hold: front is what it began with, parts and ts where it is
 
 module _ (d : ℕ) (q : Sort) (close : List Terminal) (front parts : List Part) (all ts : List Leaf) (invariant : with_front parts (items_at d q close ts) ≡ with_front front (items_at d q close all)) where
-
   pub loop_no_item : starts_with close ts ≡ false → reading d q ts ≡ None → items_at d q close all ≡ None
   loop_no_item h e = front_none_at parts front (items_at d q close ts) (items_at d q close all) invariant (no_item d q close ts h e)
 

@@ -1,5 +1,5 @@
 -- What a refusal says of the text.
-use Rattle.std.specs.Prelude.{◌≡◌, ℕ, ◌⊎◌, true, false, List, Option, None}
+use Rattle.std.specs.Prelude.{◌≡◌, ◌⊎◌, true, false, List, None}
 use Rattle.bz_lex.specs.declared.leaf.Leaf.{Leaf}
 use Rattle.bz_lex.specs.declared.fault.ReadFault.{ReadFault}
 use Rattle.bz_lex.specs.declared.fault.ReadFault.TheVariants as f

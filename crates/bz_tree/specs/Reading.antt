@@ -1,13 +1,13 @@
 -- Reading leaves from left to right: the next token decides. The parser's functions are compared with this; that it
 -- reads just the legal trees is proved in proofs/.
-use Rattle.std.specs.Prelude.{◌≡◌, ℕ, zero, suc, Bool, true, false, List, [], ◌∷◌, ◌++◌, length, ◌||◌, ◌&&◌, Option, Some, None, if◌then◌else◌}
+use Rattle.std.specs.Prelude.{ℕ, zero, suc, Bool, false, List, [], ◌∷◌, ◌++◌, length, ◌&&◌, Option, Some, None, if◌then◌else◌}
 use Rattle.bz_lex.specs.declared.leaf.Leaf.{Leaf}
 use Rattle.bz_tree.specs.declared.kind.Kind.{Kind}
 use Rattle.bz_tree.specs.declared.kind.Kind.TheVariants as k
 use Rattle.bz_tree.specs.declared.tree.Node.{Node}
 use Rattle.bz_tree.specs.declared.tree.Part.{Part}
 use Rattle.bz_tree.specs.declared.tree.Part.TheVariants as p
-use Rattle.bz_tree.specs.Shapes.{Terminal, is_one_of, Sort, line, statement, expression, argument, value, element, leaves_at, kinds_at, Shape, none, done, tok, sub, alt, list, each, shape, name, string, open_square}
+use Rattle.bz_tree.specs.Shapes.{Terminal, is_one_of, Sort, value, element, leaves_at, kinds_at, Shape, none, done, tok, sub, alt, list, each, shape, name, string, open_square}
 
 infixl 10 ◌>>=◌
 abbrev pub ◌>>=◌ : {A B : Type 0} → Option A → (A → Option B) → Option B

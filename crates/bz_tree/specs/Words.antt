@@ -1,5 +1,7 @@
 -- Reading as words that do not unfold by themselves: one for each function of the parser.
-use Rattle.std.specs.Prelude.{◌≡◌, ℕ, Bool, List, [], ◌∷◌, ◌++◌, Option, Some, None, Result, Ok, Err, if◌then◌else◌}
+-- Depths: a file has at most 200, so its lines have at most 199, their statements 198, the call 197, its arguments 196,
+-- their values 195, the elements of a list 194.
+use Rattle.std.specs.Prelude.{◌≡◌, ℕ, List, [], ◌∷◌, ◌++◌, Option, Some, None, Result, Ok, Err, if◌then◌else◌}
 use Rattle.bz_lex.specs.declared.leaf.Leaf.{Leaf}
 use Rattle.bz_tree.specs.declared.kind.Kind.{Kind}
 use Rattle.bz_tree.specs.declared.kind.Kind.TheVariants as k
@@ -10,8 +12,8 @@ use Rattle.bz_tree.specs.declared.token.Token.{Token}
 use Rattle.bz_tree.specs.declared.token.Token.TheVariants as t
 use Rattle.bz_tree.specs.declared.token.Halt.{Halt}
 use Rattle.bz_tree.specs.declared.token.Halt.TheVariants as h
-use Rattle.bz_tree.specs.Shapes.{Terminal, is_one_of, Sort, line, statement, expression, argument, value, element, Shape, items, shape, name, string, newline, end, open_round, close_round, comma, equals, open_square, close_square}
-use Rattle.bz_tree.specs.Reading.{◌>>=◌, Read, starts_with, put, token, run, reading, file_of}
+use Rattle.bz_tree.specs.Shapes.{Terminal, Sort, argument, element, items, shape, name, string, newline, end, open_round, close_round, comma, equals, open_square, close_square}
+use Rattle.bz_tree.specs.Reading.{◌>>=◌, Read, starts_with, token, run, reading, file_of}
 
 abbrev pub terminals_of : Token → List Terminal
 terminals_of t.Name = name

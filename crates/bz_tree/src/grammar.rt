@@ -1,8 +1,6 @@
-ghost use Rattle.std.specs.Prelude.{◌≡◌, ◌∷◌, [], Some, None, IfOk};
-ghost use Rattle.bz_tree.specs.declared.kind.Kind.TheVariants as k;
-ghost use Rattle.bz_tree.specs.Shapes.{Sort, element, argument, close_square, close_round, items, shape, line, statement};
-ghost use Rattle.bz_tree.specs.Reading.{starts_with, read_file, run, reading};
-ghost use Rattle.bz_tree.specs.Words.{token_at, closed_at, lines_at, file_at, list_at, value_at, argument_at, call_at, line_at, items_at, with_front, node, terminals_of, Fails};
+ghost use Rattle.std.specs.Prelude.{◌≡◌, Some, IfOk};
+ghost use Rattle.bz_tree.specs.Shapes.{element, argument, close_square, close_round};
+ghost use Rattle.bz_tree.specs.Words.{closed_at, lines_at, file_at, list_at, value_at, argument_at, call_at, line_at, items_at, with_front, node, terminals_of, Fails};
 
 use crate::kind::Kind;
 use crate::token::{Halt, Leaves, Token};
@@ -10,6 +8,7 @@ use crate::tree::{Node, Part};
 use bz_items::Items;
 use std::alloc::Global;
 
+/// A node of these parts.
 fn node(kind: Kind, parts: Vec<Part>) -> Part
     ensures { result ≡ node kind parts.items }
 {
@@ -44,6 +43,7 @@ fn elements(mut parts: Vec<Part>, leaves: &mut Leaves) -> Result<Vec<Part>, Halt
     closed(parts, Token::CloseSquare, leaves)
 }
 
+/// A list of strings.
 #[tactic(auto, unfolding(crate::specs::Words::list_at))]
 fn list(alloc: Global, leaves: &mut Leaves) -> Result<Part, Halt>
     ensures ok { IfOk result (λ part. list_at leaves.old ≡ Some (part, leaves.new)) }
@@ -54,6 +54,7 @@ fn list(alloc: Global, leaves: &mut Leaves) -> Result<Part, Halt>
     Ok(node(Kind::List, parts))
 }
 
+/// A string or a list of strings.
 #[tactic(auto, unfolding(crate::specs::Words::value_at))]
 fn value(alloc: Global, leaves: &mut Leaves) -> Result<Part, Halt>
     ensures ok { IfOk result (λ part. value_at leaves.old ≡ Some (part, leaves.new)) }
@@ -66,6 +67,7 @@ fn value(alloc: Global, leaves: &mut Leaves) -> Result<Part, Halt>
     }
 }
 
+/// An argument of a call: a name, `=` and a value.
 #[tactic(auto, unfolding(crate::specs::Words::argument_at))]
 fn argument(alloc: Global, leaves: &mut Leaves) -> Result<Part, Halt>
     ensures ok { IfOk result (λ part. argument_at leaves.old ≡ Some (part, leaves.new)) }
@@ -92,6 +94,7 @@ fn arguments(alloc: Global, mut parts: Vec<Part>, leaves: &mut Leaves) -> Result
     closed(parts, Token::CloseRound, leaves)
 }
 
+/// A call of a name.
 #[tactic(auto, unfolding(crate::specs::Words::call_at))]
 fn call(alloc: Global, leaves: &mut Leaves) -> Result<Part, Halt>
     ensures ok { IfOk result (λ part. call_at leaves.old ≡ Some (part, leaves.new)) }
@@ -103,6 +106,7 @@ fn call(alloc: Global, leaves: &mut Leaves) -> Result<Part, Halt>
     Ok(node(Kind::Call, parts))
 }
 
+/// A call as a statement, and the newline behind it.
 #[tactic(auto, unfolding(crate::specs::Words::line_at))]
 fn line(alloc: Global, leaves: &mut Leaves) -> Result<Part, Halt>
     ensures ok { IfOk result (λ part. line_at leaves.old ≡ Some (part, leaves.new)) }
@@ -130,6 +134,7 @@ pub fn file(alloc: Global, leaves: &mut Leaves) -> Result<Node, Halt>
     })
 }
 
+/// The lines of a file, and the end.
 fn lines(alloc: Global, leaves: &mut Leaves) -> Result<Vec<Part>, Halt>
     ensures ok { IfOk result (λ all. lines_at leaves.old ≡ Some (all.items, leaves.new)) }
     ensures err { Fails result (lines_at leaves.old) }

@@ -7,6 +7,8 @@ pub mod laws;
 mod parsing;
 mod plain;
 mod same;
+#[cfg(test)]
+mod tests;
 mod token;
 mod tree;
 

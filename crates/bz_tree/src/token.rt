@@ -105,7 +105,9 @@ impl Model for Leaves {
     ghost use Rattle.bz_lex.specs.contracts.leaf.Leaf as e;
 
     ghost Value = { List Leaf };
+
     ghost coded = { coded_list e.the_row.coded };
+
     ghost view = { λ leaves. leaves.rest.items };
 }
 
@@ -137,7 +139,9 @@ impl Leaves {
 
     /// The byte at which the token of the next leaf begins.
     pub fn next_at(&self) -> Option<usize> {
-        self.rest.front().map(|leaf| self.offset.saturating_add(leaf.gap.len()))
+        self.rest
+            .front()
+            .map(|leaf| self.offset.saturating_add(leaf.gap.len()))
     }
 
     /// The next leaf, where it is this token.

@@ -62,8 +62,11 @@ mod tests {
         let alloc = rt.alloc();
         let text = b"# a \n\n# b\ncc_library(\n name = \"x\",)\n# c";
         let file = view(alloc, &parse(alloc, text)?)?;
-        let [Item::Block(first), Item::Stmt(Expr::Form(statement)), Item::Block(last)] =
-            file.items.as_slice()
+        let [
+            Item::Block(first),
+            Item::Stmt(Expr::Form(statement)),
+            Item::Block(last),
+        ] = file.items.as_slice()
         else {
             return Err(Fail::from("other items"));
         };

@@ -9,13 +9,13 @@ pub returns-in-None : goal.returns-in-None
 unfolding longest_front
 returns-in-None c =
     let b : or_best (may_end c.loop-i.state) c.loop-i.state c.loop-i.i c.loop-i.best ≡ c.if-may_end.best =
-        elim c.if-may_end.branch [ then-may_end w ↦ rw (sym c.may_end.ensures ∙ w.if-may_end.true, w.best-is) refl | else-may_end w ↦ rw (sym c.may_end.ensures ∙ w.if-may_end.false, w.best-is) refl ] in
+    elim c.if-may_end.branch [ then-may_end w ↦ rw (sym c.may_end.ensures ∙ w.if-may_end.true, w.best-is) refl | else-may_end w ↦ rw (sym c.may_end.ensures ∙ w.if-may_end.false, w.best-is) refl ] in
     sym b ∙ sym (sticks move may_end _ _ _ _ c.loop-i-test.true (sym c.in-None.ensures)) ∙ c.loop-i.invariant
 
 pub loop-i-preserved : goal.loop-i-preserved
 loop-i-preserved c =
     let b : or_best (may_end c.loop-i.state) c.loop-i.state c.loop-i.i c.loop-i.best ≡ c.if-may_end.best =
-        elim c.if-may_end.branch [ then-may_end w ↦ rw (sym c.may_end.ensures ∙ w.if-may_end.true, w.best-is) refl | else-may_end w ↦ rw (sym c.may_end.ensures ∙ w.if-may_end.false, w.best-is) refl ] in
+    elim c.if-may_end.branch [ then-may_end w ↦ rw (sym c.may_end.ensures ∙ w.if-may_end.true, w.best-is) refl | else-may_end w ↦ rw (sym c.may_end.ensures ∙ w.if-may_end.false, w.best-is) refl ] in
     rw (← b) (sym (goes_on move may_end _ _ _ _ _ c.loop-i-test.true (sym c.in-Some.ensures)) ∙ c.loop-i.invariant)
 
 pub returns-then-may_end-2 : goal.returns-then-may_end-2

@@ -1,7 +1,6 @@
-use Rattle.std.proofs.Common.{◌≡◌, None, Some, ap, sym, ◌∙◌, refl, false, true}
+use Rattle.std.proofs.Common.{sym, ◌∙◌}
 use Rattle.std.proofs.lemmas.Result.{err_from_is_err_and}
 use Rattle.bz_tree.specs.Shapes.{element, close_square, comma}
-use Rattle.bz_tree.specs.Words.{token_at, items_at, closed_at}
 use Rattle.bz_tree.proofs.Steps.{halts, fails, front_none_at, loop_no_item, loop_closes, loop_ends, loop_goes_on, shorter, starts_token}
 use Rattle.bz_tree.proofs.Parses.{element_is}
 use Rattle.bz_tree.proofs.grammar.elements.Goals as goal

@@ -1,6 +1,5 @@
-use Rattle.std.proofs.Common.{◌≡◌, None, Some, ap, sym, ◌∙◌, refl, false, true}
+use Rattle.std.proofs.Common.{sym, ◌∙◌}
 use Rattle.std.proofs.lemmas.Result.{err_from_is_err_and}
-use Rattle.bz_tree.specs.Words.{lines_at, closed_at}
 use Rattle.bz_tree.proofs.Steps.{halts, fails}
 use Rattle.bz_tree.proofs.Parses.{no_line, more_lines, lines_end, line_shorter, front_none_all}
 use Rattle.bz_tree.proofs.grammar.lines.Goals as goal
