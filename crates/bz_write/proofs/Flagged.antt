@@ -1,11 +1,13 @@
--- Settling the flags changes no byte of the layout, and keeps file values proper.
-use Rattle.std.proofs.Common.{ℕ, zero, suc, Bool, true, false, not, ◌&&◌, ◌||◌, ◌≡◌, List, [], ◌∷◌, ◌++◌, ◌+◌, if◌then◌else◌, inl, inr, ◌⊎◌, refl, sym, ap, ◌∙◌, map, subst}
+-- Settling the flags changes neither the layout nor its tree, and keeps file values proper.
+use Rattle.std.proofs.Common.{ℕ, suc, Bool, true, false, not, ◌&&◌, ◌||◌, ◌≡◌, List, [], ◌∷◌, ◌++◌, ◌+◌, if◌then◌else◌, inl, inr, refl, sym, ap, ◌∙◌, map, subst}
 use Rattle.std.specs.Prelude.{Option, None, All, nat_eq, nat_le, length}
-use Rattle.std.specs.List.{flat_map, AllByRecursion}
-use Rattle.std.proofs.lemmas.List.Elements.{recursion_from_All, All-from_recursion, All-map, All-weaker}
+use Rattle.std.specs.List.{flat_map}
+use Rattle.std.proofs.lemmas.List.Elements.{All-map, All-weaker}
+use mathlib.Core.Path.{fun_ext}
 use Rattle.bz_tree.specs.declared.kind.Kind.{Kind}
 use Rattle.bz_tree.specs.declared.kind.Kind.TheVariants as k
-use Rattle.bz_view.specs.declared.value.Comments.{Comments}
+use Rattle.bz_tree.specs.declared.tree.Node.{Node}
+use Rattle.bz_tree.specs.declared.tree.Part.TheVariants as p
 use Rattle.bz_view.specs.declared.value.Form.{Form}
 use Rattle.bz_view.specs.declared.value.Expr.{Expr, Token, Form', Row_of-Expr, end_of-Expr, more_of-Expr, items-the_row-Expr}
 use Rattle.bz_view.specs.declared.value.Expr.TheVariants as e
@@ -16,8 +18,9 @@ use Rattle.bz_view.specs.Gaps.{Bytes}
 use Rattle.bz_view.specs.Proper.{IsString, IsForm, IsList, IsValue, IsNamed, IsNamedRow, IsCall, IsOneName, IsOneCall, IsStatement, IsProperItem, IsProper, NotSplit, AnySplit, Nothing, IsComment, comments_of}
 use Rattle.bz_write.specs.Layout.{Piece, mark, part, laid, laid_in, rowed, headed, joined, stacked, is_broken, is_empty, is_tuple, gap_behind, margin_behind, behind, has_comments, has_named, is_named, is_listed, is_call, line, above}
 use Rattle.bz_write.specs.Written.{text_of, texts_of, piece_text, comment_lines, between, behind_item, item_text, layout, is_load, is_assign}
+use Rattle.bz_write.specs.Drawn.{part_of, parts_of, drawings, piece_part, before_next, line_of, lines_from, drawn}
 use Rattle.bz_write.specs.Flags.{settled_split, with_flags, each_with_flags, item_with_flags, flags}
-use Rattle.bz_write.proofs.Forms.{two, head_row, items_row, head_of_row, items_of_row, writings, text_Form}
+use Rattle.bz_write.proofs.Forms.{two, head_row, items_row, head_of_row, items_of_row, writings, text_Form, part_Form}
 
 -- ---- what the flags leave as it is
 
@@ -45,47 +48,7 @@ same_assign : (x : Expr) → is_assign (with_flags x) ≡ is_assign x
 same_assign (Token t) = refl
 same_assign (Form' kind split _ head _ items end_ comments) = refl
 
--- ---- texts of expressions with settled flags and without
-
-abbrev Writing : Type 0
-Writing = Expr × (ℕ → Bytes)
-
-data Alike : List Writing → List Writing → Type 0 where
-  over : Alike [] []
-  more : (v : Expr) (x y : ℕ → Bytes) (xs ys : List Writing) → ((m : ℕ) → x m ≡ y m) → Alike xs ys → Alike ((with_flags v, x) ∷ xs) ((v, y) ∷ ys)
-
-abbrev written : List (Piece (ℕ → Bytes)) → Bytes
-written ps = flat_map piece_text ps
-
-both : {a b c d : Bytes} → a ≡ b → c ≡ d → a ++ c ≡ b ++ d
-both {a} {b} {c} {d} e f = ap (λ t. t ++ c) e ∙ ap (λ t. b ++ t) f
-
-same_empty : (xs ys : List Writing) → Alike xs ys → is_empty xs ≡ is_empty ys
-same_empty xs ys over = refl
-same_empty xs ys (more v x y xs' ys' e a) = refl
-
-same_length : (xs ys : List Writing) → Alike xs ys → length xs ≡ length ys
-same_length xs ys over = refl
-same_length xs ys (more v x y xs' ys' e a) = ap suc (same_length xs' ys' a)
-
-abbrev values : List Writing → List Expr
-values xs = map (λ x. x.0) xs
-
-same_no_value : (xs ys : List Writing) → Alike xs ys → is_empty (values xs) ≡ is_empty (values ys)
-same_no_value xs ys over = refl
-same_no_value xs ys (more v x y xs' ys' e a) = refl
-
-same_values_length : (xs ys : List Writing) → Alike xs ys → length (values xs) ≡ length (values ys)
-same_values_length xs ys over = refl
-same_values_length xs ys (more v x y xs' ys' e a) = ap suc (same_values_length xs' ys' a)
-
-same_has_comments : (xs ys : List Writing) → Alike xs ys → has_comments (values xs) ≡ has_comments (values ys)
-same_has_comments xs ys over = refl
-same_has_comments xs ys (more v x y xs' ys' e a) = rw (same_comments v, same_has_comments xs' ys' a) refl
-
-same_has_named : (xs ys : List Writing) → Alike xs ys → has_named (values xs) ≡ has_named (values ys)
-same_has_named xs ys over = refl
-same_has_named xs ys (more v x y xs' ys' e a) = rw (same_named v, same_has_named xs' ys' a) refl
+-- ---- pieces of expressions with settled flags and without
 
 -- broken as before, also where the flag says whether it was
 settled : (a b c s n : Bool) → (a || (b || (c || ((a || (b || (c || (s && n)))) && n)))) ≡ (a || (b || (c || (s && n))))
@@ -96,67 +59,123 @@ settled false false false true true = refl
 settled false false false true false = refl
 settled false false false false n = refl
 
-same_broken : (kind : Kind) (split : Bool) (xs ys : List Writing) (end_ : List Bytes) → Alike xs ys → is_broken kind (is_broken kind split (values ys) end_) (values xs) end_ ≡ is_broken kind split (values ys) end_
-same_broken kind split xs ys end_ a =
-    rw (same_has_comments xs ys a, same_values_length xs ys a, same_has_named xs ys a, same_no_value xs ys a)
-    (settled (has_comments (values ys)) (not (is_empty end_)) (nat_le 2 (length (values ys)) && (is_listed kind || (is_call kind && has_named (values ys)))) split (not (is_empty (values ys))))
+module _ {X : Type 0} where
+  -- the flags settled, the reading as it is
+  abbrev flagged : Expr × X → Expr × X
+  flagged x = (with_flags x.0, x.1)
 
-same_rowed : (kind : Kind) (m : ℕ) (g : Bytes) (n : ℕ) (xs ys : List Writing) → Alike xs ys → written (rowed kind m g n xs) ≡ written (rowed kind m g n ys)
-same_rowed kind m g n xs ys over = refl
-same_rowed kind m g n xs ys (more v x y xs' ys' e a) =
-    both (ap (λ t. g ++ t) (e n)) (rw (same_gap kind m v, same_margin m v) (same_rowed kind m (gap_behind kind m v) (margin_behind m v) xs' ys' a))
+  abbrev values : List (Expr × X) → List Expr
+  values xs = map (λ x. x.0) xs
 
-same_headed : (m : ℕ) (g : Bytes) (o : ℕ) (xs ys : List Writing) (p q : List (Piece (ℕ → Bytes))) → Alike xs ys → written p ≡ written q → written (headed m g o xs p) ≡ written (headed m g o ys q)
-same_headed m g o xs ys p q over f = both refl f
-same_headed m g o xs ys p q (more v x y xs' ys' e a) f = both (ap (λ t. g ++ t) (e m)) (same_headed m [] o xs' ys' p q a f)
+  same_empty : (xs : List (Expr × X)) → is_empty (map flagged xs) ≡ is_empty xs
+  same_empty [] = refl
+  same_empty (x ∷ xs) = refl
 
-same_comma : (b : Bool) (p q : List (Piece (ℕ → Bytes))) → written p ≡ written q → written ((if b then [] else (mark [] (44 ∷ []) ∷ [])) ++ p) ≡ written ((if b then [] else (mark [] (44 ∷ []) ∷ [])) ++ q)
-same_comma true p q e = e
-same_comma false p q e = ap (λ t. 44 ∷ t) e
+  same_no_value : (xs : List (Expr × X)) → is_empty (values (map flagged xs)) ≡ is_empty (values xs)
+  same_no_value [] = refl
+  same_no_value (x ∷ xs) = refl
 
-same_joined : (m : ℕ) (g : Bytes) (c : ℕ) (one : Bool) (xs ys : List Writing) → Alike xs ys → written (joined m g c one xs) ≡ written (joined m g c one ys)
-same_joined m g c one xs ys over = refl
-same_joined m g c one xs ys (more v x y xs' ys' e a) =
-    both (ap (λ t. g ++ t) (e m)) (rw (same_empty xs' ys' a) (same_comma (is_empty ys' && not one) _ _ (same_joined m (32 ∷ []) c false xs' ys' a)))
+  same_length : (xs : List (Expr × X)) → length (map flagged xs) ≡ length xs
+  same_length [] = refl
+  same_length (x ∷ xs) = ap suc (same_length xs)
 
-same_stacked : (m : ℕ) (s : Option Bytes) (c : ℕ) (end_ : List Bytes) (xs ys : List Writing) → Alike xs ys → written (stacked m s c end_ xs) ≡ written (stacked m s c end_ ys)
-same_stacked m s c end_ xs ys over = refl
-same_stacked m s c end_ xs ys (more v x y xs' ys' e a) =
-    rw (same_comments v) (both (ap (λ t. (behind s ++ (line (m + 4) ++ above (m + 4) (comments_of v).before)) ++ t) (e (m + 4))) (ap (λ t. 44 ∷ t) (same_stacked m (comments_of v).suffix c end_ xs' ys' a)))
+  same_count : (xs : List (Expr × X)) → length (values (map flagged xs)) ≡ length (values xs)
+  same_count [] = refl
+  same_count (x ∷ xs) = ap suc (same_count xs)
 
-same_body : (b one : Bool) (m : ℕ) (c : ℕ) (end_ : List Bytes) (xs ys : List Writing) → Alike xs ys →
-    written (if b then stacked m None c end_ xs else joined m [] c one xs) ≡ written (if b then stacked m None c end_ ys else joined m [] c one ys)
-same_body true one m c end_ xs ys a = same_stacked m None c end_ xs ys a
-same_body false one m c end_ xs ys a = same_joined m [] c one xs ys a
+  same_has_comments : (xs : List (Expr × X)) → has_comments (values (map flagged xs)) ≡ has_comments (values xs)
+  same_has_comments [] = refl
+  same_has_comments (x ∷ xs) = rw (same_comments x.0, same_has_comments xs) refl
 
-same_laid : (f : Frame) (kind : Kind) (split : Bool) (m : ℕ) (hs hs' xs ys : List Writing) (end_ : List Bytes) → Alike hs hs' → Alike xs ys →
-    written (laid_in f kind (settled_split f kind split (values ys) end_) [] m hs xs end_) ≡ written (laid_in f kind split [] m hs' ys end_)
-same_laid row kind split m hs hs' xs ys end_ a b = same_rowed kind m [] m xs ys b
-same_laid (sequence o c) kind split m hs hs' xs ys end_ a b =
-    same_headed m [] o hs hs' _ _ a
-    (rw (same_broken kind split xs ys end_ b, same_length xs ys b) (same_body (is_broken kind split (values ys) end_) (is_tuple kind && nat_eq (length ys) 1) m c end_ xs ys b))
+  same_has_named : (xs : List (Expr × X)) → has_named (values (map flagged xs)) ≡ has_named (values xs)
+  same_has_named [] = refl
+  same_has_named (x ∷ xs) = rw (same_named x.0, same_has_named xs) refl
 
-values_of_row : (m : _) (r : Row_of-Expr m) → items-the_row-Expr m r ≡ values (texts_of r)
-values_of_row m end_of-Expr = refl
-values_of_row m (more_of-Expr x rest) = ap (λ t. x ∷ t) (values_of_row _ rest)
+  same_broken : (kind : Kind) (split : Bool) (xs : List (Expr × X)) (end_ : List Bytes) → is_broken kind (is_broken kind split (values xs) end_) (values (map flagged xs)) end_ ≡ is_broken kind split (values xs) end_
+  same_broken kind split xs end_ =
+      rw (same_has_comments xs, same_count xs, same_has_named xs, same_no_value xs)
+      (settled (has_comments (values xs)) (not (is_empty end_)) (nat_le 2 (length (values xs)) && (is_listed kind || (is_call kind && has_named (values xs)))) split (not (is_empty (values xs))))
+
+  same_rowed : (kind : Kind) (m : ℕ) (g : Bytes) (n : ℕ) (xs : List (Expr × X)) → rowed kind m g n (map flagged xs) ≡ rowed kind m g n xs
+  same_rowed kind m g n [] = refl
+  same_rowed kind m g n (x ∷ xs) = rw (same_gap kind m x.0, same_margin m x.0) (ap (λ ps. part g n x.1 ∷ ps) (same_rowed kind m (gap_behind kind m x.0) (margin_behind m x.0) xs))
+
+  same_headed : (m : ℕ) (g : Bytes) (o : ℕ) (xs : List (Expr × X)) (ps : List (Piece X)) → headed m g o (map flagged xs) ps ≡ headed m g o xs ps
+  same_headed m g o [] ps = refl
+  same_headed m g o (x ∷ xs) ps = ap (λ qs. part g m x.1 ∷ qs) (same_headed m [] o xs ps)
+
+  same_joined : (m : ℕ) (g : Bytes) (c : ℕ) (one : Bool) (xs : List (Expr × X)) → joined m g c one (map flagged xs) ≡ joined m g c one xs
+  same_joined m g c one [] = refl
+  same_joined m g c one (x ∷ xs) =
+      rw (same_empty xs) (ap (λ ps. part g m x.1 ∷ ((if is_empty xs && not one then [] else (mark [] (44 ∷ []) ∷ [])) ++ ps)) (same_joined m (32 ∷ []) c false xs))
+
+  same_stacked : (m : ℕ) (s : Option Bytes) (c : ℕ) (end_ : List Bytes) (xs : List (Expr × X)) → stacked m s c end_ (map flagged xs) ≡ stacked m s c end_ xs
+  same_stacked m s c end_ [] = refl
+  same_stacked m s c end_ (x ∷ xs) =
+      rw (same_comments x.0) (ap (λ ps. part (behind s ++ (line (m + 4) ++ above (m + 4) (comments_of x.0).before)) (m + 4) x.1 ∷ mark [] (44 ∷ []) ∷ ps) (same_stacked m (comments_of x.0).suffix c end_ xs))
+
+  same_body : (b one : Bool) (m : ℕ) (c : ℕ) (end_ : List Bytes) (xs : List (Expr × X)) →
+      (if b then stacked m None c end_ (map flagged xs) else joined m [] c one (map flagged xs)) ≡ (if b then stacked m None c end_ xs else joined m [] c one xs)
+  same_body true one m c end_ xs = same_stacked m None c end_ xs
+  same_body false one m c end_ xs = same_joined m [] c one xs
+
+  same_laid : (f : Frame) (kind : Kind) (split : Bool) (g : Bytes) (m : ℕ) (hs xs : List (Expr × X)) (end_ : List Bytes) →
+      laid_in f kind (settled_split f kind split (values xs) end_) g m (map flagged hs) (map flagged xs) end_ ≡ laid_in f kind split g m hs xs end_
+  same_laid row kind split g m hs xs end_ = same_rowed kind m g m xs
+  same_laid (sequence o c) kind split g m hs xs end_ =
+      rw (same_broken kind split xs end_, same_length xs)
+      (same_headed m g o hs _ ∙
+      ap (λ ps. headed m g o hs ps) (same_body (is_broken kind split (values xs) end_) (is_tuple kind && nat_eq (length xs) 1) m c end_ xs))
+
+  -- the pieces of a form whose flag is settled, where each expression in it has its reading
+  same_pieces : (kind : Kind) (split : Bool) (g : Bytes) (m : ℕ) (hs xs hs' xs' : List (Expr × X)) (ys : List Expr) (end_ : List Bytes) → hs' ≡ map flagged hs → xs' ≡ map flagged xs → ys ≡ values xs →
+      laid kind (settled_split (frame kind) kind split ys end_) g m hs' xs' end_ ≡ laid kind split g m hs xs end_
+  same_pieces kind split g m hs xs hs' xs' ys end_ a b e =
+      ap (λ z. laid kind (settled_split (frame kind) kind split z end_) g m hs' xs' end_) e ∙
+      (two (λ h x. laid kind (settled_split (frame kind) kind split (values xs) end_) g m h x end_) a b ∙ same_laid (frame kind) kind split g m hs xs end_)
+
+-- ---- the text of an expression
+
+texts_values : (m : _) (r : Row_of-Expr m) → items-the_row-Expr m r ≡ map (λ x. x.0) (texts_of r)
+texts_values m end_of-Expr = refl
+texts_values m (more_of-Expr x rest) = ap (λ t. x ∷ t) (texts_values _ rest)
 
 mutual
-  text_flags : (a : Expr) (m : ℕ) → text_of (with_flags a) m ≡ text_of a m
-  text_flags (Token t) m = refl
-  text_flags (Form' kind split _ head _ items end_ comments) m =
-      text_Form (record { kind = kind; split = settled_split (frame kind) kind split (items-the_row-Expr _ items) end_; head = each_with_flags head; items = each_with_flags items; end_ = end_; comments = comments }) m ∙
-      (ap (λ z. written (laid kind (settled_split (frame kind) kind split z end_) [] m (writings (each_with_flags head)) (writings (each_with_flags items)) end_)) (values_of_row _ items) ∙
-      same_laid (frame kind) kind split m (writings (each_with_flags head)) (texts_of head) (writings (each_with_flags items)) (texts_of items) end_ (alike _ head) (alike _ items))
+  text_flags : (a : Expr) → text_of (with_flags a) ≡ text_of a
+  text_flags (Token t) = refl
+  text_flags (Form' kind split _ head _ items end_ comments) =
+      fun_ext
+      (λ m. text_Form (record { kind = kind; split = settled_split (frame kind) kind split (items-the_row-Expr _ items) end_; head = each_with_flags head; items = each_with_flags items; end_ = end_; comments = comments }) m ∙
+      ap (λ ps. flat_map piece_text ps) (same_pieces kind split [] m (texts_of head) (texts_of items) _ _ _ end_ (texts_flags _ head) (texts_flags _ items) (texts_values _ items)))
 
-  alike : (n : _) (r : Row_of-Expr n) → Alike (writings (each_with_flags r)) (texts_of r)
-  alike n end_of-Expr = over
-  alike n (more_of-Expr x rest) = more x _ _ _ _ (text_flags x) (alike _ rest)
+  texts_flags : (n : _) (r : Row_of-Expr n) → writings (each_with_flags r) ≡ map flagged (texts_of r)
+  texts_flags n end_of-Expr = refl
+  texts_flags n (more_of-Expr x rest) = two (λ t ts. (with_flags x, t) ∷ ts) (text_flags x) (texts_flags _ rest)
+
+-- ---- what is drawn of an expression
+
+parts_values : (m : _) (r : Row_of-Expr m) → items-the_row-Expr m r ≡ map (λ x. x.0) (parts_of r)
+parts_values m end_of-Expr = refl
+parts_values m (more_of-Expr x rest) = ap (λ t. x ∷ t) (parts_values _ rest)
+
+mutual
+  part_flags : (a : Expr) → part_of (with_flags a) ≡ part_of a
+  part_flags (Token t) = refl
+  part_flags (Form' kind split _ head _ items end_ comments) =
+      fun_ext
+      (λ g. fun_ext
+      (λ m. part_Form (record { kind = kind; split = settled_split (frame kind) kind split (items-the_row-Expr _ items) end_; head = each_with_flags head; items = each_with_flags items; end_ = end_; comments = comments }) g m ∙
+      ap (λ ps. p.Node (record { kind = kind; parts = map piece_part ps })) (same_pieces kind split g m (parts_of head) (parts_of items) _ _ _ end_ (parts_flags _ head) (parts_flags _ items) (parts_values _ items))))
+
+  parts_flags : (n : _) (r : Row_of-Expr n) → drawings (each_with_flags r) ≡ map flagged (parts_of r)
+  parts_flags n end_of-Expr = refl
+  parts_flags n (more_of-Expr x rest) = two (λ t ts. (with_flags x, t) ∷ ts) (part_flags x) (parts_flags _ rest)
 
 -- ---- the file
 
 same_item : (x : Item) → item_text (item_with_flags x) ≡ item_text x
 same_item (i.Block texts) = refl
-same_item (i.Stmt x) = rw (same_comments x, text_flags x 0) refl
+same_item (i.Stmt x) = rw (same_comments x, text_flags x) refl
 
 same_between : (x y : Item) → between (item_with_flags x) (item_with_flags y) ≡ between x y
 same_between (i.Block texts) y = refl
@@ -165,11 +184,28 @@ same_between (i.Stmt x) (i.Stmt y) = rw (same_load x, same_load y, same_assign x
 
 same_behind : (x : Item) (ys : List Item) → behind_item (item_with_flags x) (flags ys) ≡ behind_item x ys
 same_behind x [] = refl
-same_behind x (y ∷ ys) = both (same_between x y) (both (same_item y) (same_behind y ys))
+same_behind x (y ∷ ys) = two (λ s t. s ++ t) (same_between x y) (two (λ s t. s ++ t) (same_item y) (same_behind y ys))
 
 pub same_layout : (xs : List Item) → layout (flags xs) ≡ layout xs
 same_layout [] = refl
-same_layout (x ∷ xs) = both (same_item x) (same_behind x xs)
+same_layout (x ∷ xs) = two (λ s t. s ++ t) (same_item x) (same_behind x xs)
+
+same_next : (x : Item) (ys : List Item) → before_next (item_with_flags x) (flags ys) ≡ before_next x ys
+same_next x [] = refl
+same_next x (y ∷ ys) = same_between x y
+
+same_line : (gap : Bytes) (x : Expr) → line_of gap (with_flags x) ≡ line_of gap x
+same_line gap x = rw (same_comments x, part_flags x) refl
+
+same_lines : (gap : Bytes) (xs : List Item) → lines_from gap (flags xs) ≡ lines_from gap xs
+same_lines gap [] = refl
+same_lines gap (i.Block texts ∷ xs) =
+    ap (λ z. lines_from ((gap ++ comment_lines texts) ++ z) (flags xs)) (same_next (i.Block texts) xs) ∙ same_lines ((gap ++ comment_lines texts) ++ before_next (i.Block texts) xs) xs
+same_lines gap (i.Stmt x ∷ xs) =
+    two (λ z zs. z ∷ zs) (same_line gap x) (ap (λ z. lines_from z (flags xs)) (same_next (i.Stmt x) xs) ∙ same_lines (before_next (i.Stmt x) xs) xs)
+
+pub same_drawn : (xs : List Item) → drawn (flags xs) ≡ drawn xs
+same_drawn xs = ap (λ ps. let file : Node = record { kind = k.File; parts = ps } in file) (same_lines [] xs)
 
 -- ---- proper values
 

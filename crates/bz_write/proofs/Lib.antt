@@ -5,7 +5,6 @@ pub mod Forms
 pub mod Gapped
 pub mod Loops
 pub mod Measures
-pub mod Parts
 pub mod Runs
 pub mod Sequences
 pub mod Settings

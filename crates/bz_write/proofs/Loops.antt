@@ -1,5 +1,5 @@
 -- The steps of the loops that draw rows and sequences.
-use Rattle.std.proofs.Common.{ℕ, suc, Bool, true, false, not, ◌&&◌, ◌≡◌, ◌<◌, List, [], ◌∷◌, ◌++◌, ◌+◌, if◌then◌else◌, length, get_or, drop, refl, sym, ap, ◌∙◌, map, append_assoc}
+use Rattle.std.proofs.Common.{ℕ, suc, Bool, false, ◌&&◌, ◌≡◌, ◌<◌, List, [], ◌∷◌, ◌++◌, ◌+◌, if◌then◌else◌, length, get_or, drop, refl, sym, ap, ◌∙◌, map, append_assoc}
 use Rattle.std.specs.Prelude.{Option, None, Some, nat_eq}
 use Rattle.std.proofs.lemmas.List.{map-append, drop_more}
 use Rattle.std.proofs.lemmas.Option.{same_Some}
@@ -46,7 +46,7 @@ joined_first m gap closer one x xs =
 
 pub joined_next : (parts : List Part) (m : ℕ) (gap : Bytes) (closer : ℕ) (one : Bool) (xs : List Expr) (k : ℕ) (d : Expr) → k < length xs →
     parts ++ map piece_part (joined m gap closer one (drawings (drop k xs))) ≡
-        ((parts ++ part_of (get_or xs k d) gap m ∷ []) ++ map piece_part (comma_behind (is_empty (drop (k + 1) xs)) one)) ++ map piece_part (joined m (32 ∷ []) closer false (drawings (drop (k + 1) xs)))
+    ((parts ++ part_of (get_or xs k d) gap m ∷ []) ++ map piece_part (comma_behind (is_empty (drop (k + 1) xs)) one)) ++ map piece_part (joined m (32 ∷ []) closer false (drawings (drop (k + 1) xs)))
 joined_next parts m gap closer one xs k d h =
     let x : Expr = get_or xs k d in
     let rest : List Expr = drop (k + 1) xs in
@@ -85,8 +85,8 @@ sequence_laid (sequence opener closer) b kind split gap m hs xs end_ h =
     let here : Brackets = record { opener = opener; closer = closer } in
     let is : here ≡ b = same_Some here b h in
     let at : Brackets → List Expr → ℕ → List (Piece (Bytes → ℕ → Part)) = λ z ys n.
-        headed m gap z.opener (drawings hs)
-        (if is_broken kind split ys end_ then stacked m None z.closer end_ (drawings xs) else joined m [] z.closer (is_tuple kind && nat_eq n 1) (drawings xs)) in
+    headed m gap z.opener (drawings hs)
+    (if is_broken kind split ys end_ then stacked m None z.closer end_ (drawings xs) else joined m [] z.closer (is_tuple kind && nat_eq n 1) (drawings xs)) in
     ap (λ ys. at here ys (length (drawings xs))) (values_drawings xs) ∙ (ap (λ n. at here xs n) (length-drawings xs) ∙ ap (λ z. at z xs (length xs)) is)
 
 pub sequence_parts : (f : Form) (b : Brackets) (gap : Bytes) (m : ℕ) → brackets_of (frame f.kind) ≡ Some b → parts_in f gap m ≡ map piece_part (headed m gap b.opener (drawings f.head) []) ++ map piece_part (body f m b.closer)

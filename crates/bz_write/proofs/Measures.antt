@@ -1,13 +1,9 @@
 -- The steps of the loops that measure parts.
-use Rattle.std.proofs.Common.{ℕ, zero, suc, ◌≡◌, ◌<◌, ◌≤◌, ◌+◌, List, [], ◌∷◌, ◌++◌, length, get_or, take, refl, sym, ap, ◌∙◌, arith, add-one}
+use Rattle.std.proofs.Common.{ℕ, zero, suc, ◌≡◌, ◌<◌, ◌≤◌, ◌+◌, List, [], ◌∷◌, length, get_or, take, ap, ◌∙◌, arith, add-one}
 use Rattle.std.specs.Prelude.{max}
-use Rattle.std.specs.List.{flat_map}
-use Rattle.bz_tree.specs.declared.tree.Node.{Node}
 use Rattle.bz_tree.specs.declared.tree.Part.{Part}
-use Rattle.bz_tree.specs.declared.tree.Part.TheVariants as p
-use Rattle.bz_tree.specs.Spell.{spell_part, depth_part, deepest}
-pub use Rattle.bz_tree.proofs.Spells.{spell_Node, spelled_so_far}
-pub use Rattle.bz_write.proofs.Parts.{depth_Node}
+use Rattle.bz_tree.specs.Spell.{depth_part, deepest}
+pub use Rattle.bz_tree.proofs.Spells.{spell_Node, spelled_so_far, depth_Node}
 
 pub within_deepest : (xs : List Part) (k : ℕ) (d : Part) → k < length xs → depth_part (get_or xs k d) ≤ deepest xs
 within_deepest [] k d h = absurd (omega arith)

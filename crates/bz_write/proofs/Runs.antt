@@ -1,14 +1,10 @@
 -- Runs of leaves: each leaf stands as it may, from one place to another, before a text.
-use Rattle.std.proofs.Common.{◌≡◌, ℕ, List, [], ◌∷◌, ◌++◌, refl, sym, ap, ◌∙◌, subst, append_assoc}
+use Rattle.std.proofs.Common.{◌≡◌, ℕ, List, [], ◌∷◌, ◌++◌, sym, ap, ◌∙◌, subst, append_assoc}
 use Rattle.bz_lex.specs.declared.leaf.Leaf.{Leaf}
 use Rattle.bz_lex.specs.declared.place.Place.{Place}
 use Rattle.bz_lex.specs.Places.{next}
 use Rattle.bz_lex.specs.Leaves.{spell_leaves, Stand}
-
-pub spell_leaves-append : (a b : List Leaf) → spell_leaves (a ++ b) ≡ spell_leaves a ++ spell_leaves b
-spell_leaves-append [] b = refl
-spell_leaves-append (l ∷ a) b =
-    ap (λ t. l.gap ++ (l.token ++ t)) (spell_leaves-append a b) ∙ (ap (λ t. l.gap ++ t) (sym (append_assoc l.token _ _)) ∙ sym (append_assoc l.gap _ _))
+use Rattle.bz_tree.proofs.Spells.{spell_leaves-append}
 
 behind_both : (a b : List Leaf) (rest : List ℕ) → spell_leaves a ++ (spell_leaves b ++ rest) ≡ spell_leaves (a ++ b) ++ rest
 behind_both a b rest = sym (append_assoc (spell_leaves a) (spell_leaves b) rest) ∙ ap (λ t. t ++ rest) (sym (spell_leaves-append a b))

@@ -5,7 +5,6 @@ use Rattle.std.specs.List.{AllByRecursion}
 use Rattle.std.proofs.lemmas.List.{append-nil}
 use Rattle.bz_token.specs.declared.class.Class.TheVariants as c
 use Rattle.bz_token.specs.Bytes.{is_separator, is_bracket_or_comma}
-use Rattle.bz_token.specs.Laws.{Separated, Single}
 use Rattle.bz_lex.specs.declared.place.Place.{Place}
 use Rattle.bz_lex.specs.declared.place.Place.TheVariants as at
 use Rattle.bz_lex.specs.Places.{behind as place_behind}
@@ -38,16 +37,15 @@ pub record ItemStands (sort : Sort) (depth n : ℕ) (x : Child) : Type 0 where
 abbrev pub mark_part : Bytes → ℕ → Part
 mark_part gap m = p.Leaf (record { class = c.Mark; gap = gap; token = m ∷ [] })
 
-module _ (separated : Separated) (single : Single) (sort : Sort) (close : List Terminal) (d n : ℕ) (last : Place) (closer : ℕ)
+module _ (sort : Sort) (close : List Terminal) (d n : ℕ) (last : Place) (closer : ℕ)
     (bracket : is_bracket_or_comma closer ≡ true) (ends : is_separator closer ≡ true) (after : place_behind c.Mark (closer ∷ []) (at.Inside n) ≡ last)
     (closes : (gap : Bytes) → is_one_of close (record { class = c.Mark; gap = gap; token = closer ∷ [] }) ≡ true) where
-
   closing : (gap : Bytes) (rest : List ℕ) → FitsGap (at.Inside n) gap → RowStands d (at.Inside n) (mark_part gap closer ∷ []) rest last
-  closing gap rest g = row_cons d (at.Inside n) last last (mark_part gap closer) [] rest (mark_stands separated single d (at.Inside n) last gap closer rest bracket g after) (row_end d last rest)
+  closing gap rest g = row_cons d (at.Inside n) last last (mark_part gap closer) [] rest (mark_stands d (at.Inside n) last gap closer rest bracket g after) (row_end d last rest)
 
   comma_first : (xs : List Part) (rest : List ℕ) → RowStands d (at.Inside n) xs rest last → RowStands d (at.Inside n) (mark_part [] 44 ∷ xs) rest last
   comma_first xs rest h =
-      row_cons d (at.Inside n) (at.Inside n) last (mark_part [] 44) xs rest (mark_stands separated single d (at.Inside n) (at.Inside n) [] 44 (text_behind xs rest) refl (nothing_inside n) refl) h
+      row_cons d (at.Inside n) (at.Inside n) last (mark_part [] 44) xs rest (mark_stands d (at.Inside n) (at.Inside n) [] 44 (text_behind xs rest) refl (nothing_inside n) refl) h
 
   item_first : (x : Child) (gap : Bytes) (m : ℕ) (xs : List Part) (rest : List ℕ) → ItemStands sort d n x → FitsGap (at.Inside n) gap → Separates (text_behind xs rest) → RowStands d (at.Inside n) xs rest last → RowStands d (at.Inside n) (x.1 gap m ∷ xs) rest last
   item_first x gap m xs rest i g s h = row_cons d (at.Inside n) (at.Inside n) last (x.1 gap m) xs rest (i.stands gap m (text_behind xs rest) g s) h

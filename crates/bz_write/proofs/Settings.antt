@@ -1,7 +1,6 @@
 -- What the tests of the limits say of the tree of a layout.
-use Rattle.std.proofs.Common.{◌≡◌, ◌≤◌, ◌<◌, ℕ, true, false, List, [], length, refl, ap, sym, ◌∙◌, subst, arith}
+use Rattle.std.proofs.Common.{◌≡◌, ◌≤◌, ◌<◌, true, false, List, [], length, ap, sym, ◌∙◌, subst, arith}
 use Rattle.std.specs.List.{flat_map}
-use Rattle.bz_token.proofs.Laws.{separated, single}
 use Rattle.bz_tree.specs.declared.kind.Kind.TheVariants as k
 use Rattle.bz_tree.specs.declared.tree.Node.{Node}
 use Rattle.bz_tree.specs.declared.tree.Part.{Part}
@@ -37,4 +36,4 @@ past_depth xs parts h e short deep =
     (omega (arith, same, short), omega (arith, depth, deeper))
 
 pub legal_file : (xs : List Item) (parts : List Part) → IsProper xs → parts ≡ lines_from [] xs → length (flat_map spell_part parts) ≤ 4194304 → Legal (file_of parts) × (length (spell_node (file_of parts)) ≤ limit)
-legal_file xs parts h e short = (subst (λ ps. Legal (file_of ps)) (sym e) (drawn_legal separated single xs h), short)
+legal_file xs parts h e short = (subst (λ ps. Legal (file_of ps)) (sym e) (drawn_legal xs h), short)

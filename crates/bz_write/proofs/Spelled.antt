@@ -1,5 +1,5 @@
 -- The tree of the layout spells its text.
-use Rattle.std.proofs.Common.{ℕ, zero, suc, Bool, true, false, not, ◌&&◌, ◌≡◌, ◌≢◌, List, [], ◌∷◌, ◌++◌, ◌+◌, if◌then◌else◌, inl, inr, refl, sym, ap, ◌∙◌, map, subst, append_assoc}
+use Rattle.std.proofs.Common.{ℕ, suc, Bool, true, false, not, ◌&&◌, ◌≡◌, List, [], ◌∷◌, ◌++◌, ◌+◌, if◌then◌else◌, inl, inr, refl, sym, ap, ◌∙◌, map, subst, append_assoc}
 use Rattle.std.specs.Prelude.{Option, None, All, nat_eq, length}
 use Rattle.std.specs.List.{flat_map, AllByRecursion}
 use Rattle.std.proofs.lemmas.List.{append-nil}
@@ -18,8 +18,8 @@ use Rattle.bz_view.specs.declared.value.Item.TheVariants as i
 use Rattle.bz_view.specs.Frames.{Frame, row, sequence, frame}
 use Rattle.bz_view.specs.Gaps.{Bytes}
 use Rattle.bz_view.specs.Proper.{IsString, IsForm, IsList, IsValue, IsNamed, IsNamedRow, IsCall, IsOneName, IsOneCall, IsStatement, IsProperItem, IsProper, NotSplit, AnySplit, Nothing, comments_of}
-use Rattle.bz_write.specs.Layout.{Piece, mark, part, laid, laid_in, rowed, headed, joined, stacked, is_broken, is_empty, is_tuple, gap_behind, margin_behind, behind}
-use Rattle.bz_write.specs.Written.{text_of, texts_of, piece_text, comment_lines, between, behind_item, item_text, layout}
+use Rattle.bz_write.specs.Layout.{Piece, mark, laid_in, rowed, headed, joined, stacked, is_broken, is_empty, is_tuple, gap_behind, margin_behind, behind}
+use Rattle.bz_write.specs.Written.{text_of, texts_of, piece_text, comment_lines, behind_item, item_text, layout}
 use Rattle.bz_write.specs.Drawn.{part_of, parts_of, piece_part, before_next, line_of, lines_from, drawn}
 use Rattle.bz_write.proofs.Forms.{head_row, items_row, head_of_row, items_of_row}
 

@@ -1,5 +1,5 @@
 -- The pass over the flags: split becomes whether the sequence is broken.
-use Rattle.std.specs.Prelude.{Bool, true, false, List, [], ◌∷◌, map}
+use Rattle.std.specs.Prelude.{Bool, List, [], ◌∷◌, map}
 use Rattle.bz_tree.specs.declared.kind.Kind.{Kind}
 use Rattle.bz_view.specs.declared.value.Expr.{Expr, Form', Row_of-Expr, end_of-Expr, more_of-Expr, items-the_row-Expr}
 use Rattle.bz_view.specs.declared.value.Expr.TheVariants as e

@@ -8,9 +8,9 @@ use Rattle.bz_write.specs.Written.{layout}
 use Rattle.bz_write.specs.Drawn.{drawn}
 use Rattle.bz_write.specs.Flags.{flags}
 
--- Settling the flags changes no byte of the layout, and keeps file values proper.
+-- Settling the flags changes neither the layout nor its tree, and keeps file values proper.
 abbrev pub FlagsKeepLayout : Type 0
-FlagsKeepLayout = (items : List Item) → (layout (flags items) ≡ layout items) × (IsProper items → IsProper (flags items))
+FlagsKeepLayout = (items : List Item) → (layout (flags items) ≡ layout items) × (drawn (flags items) ≡ drawn items) × (IsProper items → IsProper (flags items))
 
 -- The layout of a proper file value reads as its tree, where it is within the limits of length and depth.
 abbrev pub LayoutIsAccepted : Type 0

@@ -4,7 +4,6 @@ use Rattle.bz_token.specs.declared.class.Class.{Class}
 use Rattle.bz_token.specs.declared.class.Class.TheVariants as c
 use Rattle.bz_tree.specs.declared.kind.Kind.{Kind}
 use Rattle.bz_tree.specs.declared.kind.Kind.TheVariants as k
-use Rattle.bz_view.specs.declared.value.Comments.{Comments}
 use Rattle.bz_view.specs.declared.value.Expr.{Expr, Token, Form'}
 use Rattle.bz_view.specs.Gaps.{Bytes}
 use Rattle.bz_view.specs.Frames.{Frame, row, sequence, frame}

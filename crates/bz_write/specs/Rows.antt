@@ -1,5 +1,5 @@
 -- Worked rows: small file values and their layout, byte for byte.
-use Rattle.std.specs.Prelude.{◌≡◌, ℕ, Bool, true, false, List, [], ◌∷◌, ◌++◌, codes, None}
+use Rattle.std.specs.Prelude.{◌≡◌, Bool, true, false, List, [], ◌∷◌, codes, None}
 use Rattle.bz_token.specs.declared.class.Class.{Class}
 use Rattle.bz_token.specs.declared.class.Class.TheVariants as c
 use Rattle.bz_tree.specs.declared.kind.Kind.{Kind}
@@ -30,25 +30,16 @@ abbrev statement : List Bytes → Bytes → List Expr → Item
 statement before name arguments =
     i.Stmt (e.Form (record { kind = k.Bare; split = false; head = []; items = form k.Call false (token c.Name name ∷ []) arguments ∷ []; end_ = []; comments = record { before = before; suffix = None } }))
 
--- a text of lines
-abbrev lines : List Bytes → Bytes
-lines [] = []
-lines (line ∷ more) = line ++ (10 ∷ lines more)
-
 abbrev pub WorkedRows : Type 0
 WorkedRows =
-      (layout [] ≡ [])
-      -- a comment right above, one space around `=`
-    × (layout (statement (codes "# keep" ∷ []) (codes "cc_binary") (argument (codes "name") (string (codes "'y'")) ∷ []) ∷ []) ≡ lines (codes "# keep" ∷ codes "cc_binary(name = 'y')" ∷ []))
-      -- a call of two arguments is broken, a list of one is not
-    × (layout (statement [] (codes "f") (argument (codes "a") (string (codes "'y'")) ∷ argument (codes "b") (form k.List false [] (string (codes "'z'") ∷ [])) ∷ []) ∷ []) ≡
-        lines (codes "f(" ∷ codes "    a = 'y'," ∷ codes "    b = ['z']," ∷ codes ")" ∷ []))
-      -- a list of two is broken, its items at the margin of the argument and 4
-    × (layout (statement [] (codes "f") (argument (codes "b") (form k.List false [] (string (codes "'y'") ∷ string (codes "'z'") ∷ [])) ∷ []) ∷ []) ≡
-        lines (codes "f(b = [" ∷ codes "    'y'," ∷ codes "    'z'," ∷ codes "])" ∷ []))
-      -- a list of one that is split is broken
-    × (layout (statement [] (codes "f") (argument (codes "b") (form k.List true [] (string (codes "'y'") ∷ [])) ∷ argument (codes "c") (form k.List true [] []) ∷ []) ∷ []) ≡
-        lines (codes "f(" ∷ codes "    b = [" ∷ codes "        'y'," ∷ codes "    ]," ∷ codes "    c = []," ∷ codes ")" ∷ []))
-      -- a blank line between two items, a Block at the end
-    × (layout (i.Block (codes "# a" ∷ codes "# b" ∷ []) ∷ statement [] (codes "f") [] ∷ statement [] (codes "g") [] ∷ i.Block (codes "# c" ∷ []) ∷ []) ≡
-        lines (codes "# a" ∷ codes "# b" ∷ [] ∷ codes "f()" ∷ [] ∷ codes "g()" ∷ [] ∷ codes "# c" ∷ []))
+    (layout [] ≡ [])
+    -- a comment right above, one space around `=`
+    × (layout (statement (codes "# keep" ∷ []) (codes "cc_binary") (argument (codes "name") (string (codes "\"y\"")) ∷ []) ∷ []) ≡ codes "# keep\ncc_binary(name = \"y\")\n")
+    -- a call of two arguments is broken, a list of one is not
+    × (layout (statement [] (codes "f") (argument (codes "a") (string (codes "\"y\"")) ∷ argument (codes "b") (form k.List false [] (string (codes "'z'") ∷ [])) ∷ []) ∷ []) ≡ codes "f(\n    a = \"y\",\n    b = ['z'],\n)\n")
+    -- a list of two is broken, its items 4 further than the call
+    × (layout (statement [] (codes "f") (argument (codes "b") (form k.List false [] (string (codes "\"y\"") ∷ string (codes "'z'") ∷ [])) ∷ []) ∷ []) ≡ codes "f(b = [\n    \"y\",\n    'z',\n])\n")
+    -- a list of one that is split is broken, an empty one never
+    × (layout (statement [] (codes "f") (argument (codes "b") (form k.List true [] (string (codes "\"y\"") ∷ [])) ∷ argument (codes "c") (form k.List true [] []) ∷ []) ∷ []) ≡ codes "f(\n    b = [\n        \"y\",\n    ],\n    c = [],\n)\n")
+    -- a blank line between two items, a Block at the end
+    × (layout (i.Block (codes "# a" ∷ codes "# b" ∷ []) ∷ statement [] (codes "f") [] ∷ statement [] (codes "g") [] ∷ i.Block (codes "# c" ∷ []) ∷ []) ≡ codes "# a\n# b\n\nf()\n\ng()\n\n# c\n")
