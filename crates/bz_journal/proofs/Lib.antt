@@ -2,5 +2,4 @@ pub mod Acting
 pub mod Kept
 pub mod Opening
 pub mod Running
-pub mod Settled
 pub mod Writes
