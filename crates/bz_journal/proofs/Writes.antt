@@ -11,14 +11,13 @@ use Rattle.bz_write.specs.Drawn.{drawn}
 use Rattle.bz_write.specs.Flags.{flags}
 use Rattle.bz_command.specs.declared.refusal.Refusal.TheVariants.{TooLarge, TooDeep}
 use Rattle.bz_journal.specs.Meaning.{Meaning, gives, refuses, written}
-use Rattle.bz_write.proofs.Flagged.{same_layout}
-use Rattle.bz_journal.proofs.Settled.{flags_keep_drawn}
+use Rattle.bz_write.proofs.Flagged.{same_layout, same_drawn}
 
 abbrev limited : ℕ → Bytes → Meaning
 limited depth text = if nat_lt limit (length text) then refuses TooLarge else (if nat_lt 200 depth then refuses TooDeep else gives text)
 
 written_is : (items : List Item) → written items ≡ limited (depth_of (drawn items)) (layout items)
-written_is items = ap (λ text. limited (depth_of (drawn (flags items))) text) (same_layout items) ∙ ap (λ tree. limited (depth_of tree) (layout items)) (flags_keep_drawn items)
+written_is items = ap (λ text. limited (depth_of (drawn (flags items))) text) (same_layout items) ∙ ap (λ tree. limited (depth_of tree) (layout items)) (same_drawn items)
 
 too_large : (depth : ℕ) (text : Bytes) → limit < length text → limited depth text ≡ refuses TooLarge
 too_large depth text h = let over : nat_lt limit (length text) ≡ true = grind (arith, nat_tests) in rw over

@@ -4,6 +4,8 @@
 mod action;
 mod meaning;
 mod session;
+#[cfg(test)]
+mod tests;
 
 pub use action::{Action, Reply};
 pub use session::Session;

@@ -20,6 +20,8 @@ fn read(alloc: Global, text: &[u8]) -> Result<Tree, Refusal>
     match parse(alloc, text) {
         Ok(tree) => Ok(tree),
         Err(ReadFault::Memory) => Err(Refusal::Memory),
+        // Never: a text of a session is that of a text of characters, less some of its rules.
+        Err(ReadFault::NotUtf8 { at: _ }) => Err(Refusal::Memory),
         Err(_) => unreachable!(),
     }
 }

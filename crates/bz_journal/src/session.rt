@@ -1,7 +1,9 @@
-ghost use Rattle.std.specs.Prelude.{◌≡◌, ◌≢◌, ◌≤◌, ◌<◌, ◌+◌, ◌++◌, ◌↔◌, ◌⊎◌, [], ◌∷◌, take, vec_len, Err, List, IfOk, IfErr, OnOk, OnErr, length, Result};
+ghost use Rattle.std.specs.Prelude.{◌≡◌, ◌≤◌, ◌<◌, ◌+◌, ◌++◌, ◌↔◌, ◌⊎◌, [], ◌∷◌, take, vec_len, Err, ℕ, List, IfOk, IfErr, OnOk, OnErr, length, Result};
 ghost use Rattle.bz_tree.specs.declared.tree.Node.{Node};
 ghost use Rattle.bz_tree.specs.Spell.{limit};
+ghost use Rattle.std.specs.Str.{IsValidUpTo};
 ghost use Rattle.bz_tree.specs.Legal.{Reads, Accepted};
+ghost use Rattle.bz_tree.specs.Faults.{IsInText};
 ghost use Rattle.bz_command.specs.declared.refusal.Refusal.{Refusal};
 ghost use Rattle.bz_journal.specs.declared.action.Reply.{Reply};
 ghost use Rattle.bz_journal.specs.declared.action.Action.{Action};
@@ -42,16 +44,22 @@ impl Session {
         requires { length «package».now ≤ 65536 }
         ensures ok { IfOk result (λ session. session ≡ opened text.now) }
         ensures accepted { OnOk result (Accepted text.now) }
-        ensures too_large { (result ≡ Err ReadFault.TooLarge) ↔ limit < length text.now }
-        ensures refused { IfErr result (λ fault. fault ≢ ReadFault.TooLarge → fault ≢ ReadFault.Memory → (n : Node) → Reads text.now n → ⊥) }
+        ensures too_large { (result ≡ Err ReadFault.TooLarge) ↔ (limit < length text.now) }
+        ensures not_utf8 { (at : ℕ) → ((result ≡ Err (ReadFault.NotUtf8 at)) ↔ ((length text.now ≤ limit) × IsValidUpTo text.now at)) }
+        ensures refused { IfErr result (λ fault. IsInText fault → (tree : Node) → Reads text.now tree → ⊥) }
     {
         let _ = package;
-        let _tree = parse(alloc, text)?;
-        Ok(Session {
-            texts: one(alloc, text)?,
-            cursor: 0,
-            before: 0,
-        })
+        if let Err(fault) = parse(alloc, text) {
+            return Err(fault);
+        }
+        match one(alloc, text) {
+            Ok(texts) => Ok(Session {
+                texts,
+                cursor: 0,
+                before: 0,
+            }),
+            Err(_) => Err(ReadFault::Memory),
+        }
     }
 
     /// The number of the present text; the first is 0.
