@@ -7,3 +7,4 @@ pub mod Operands
 pub mod Verbs
 pub mod Asked
 pub mod Shown
+pub mod Outcome
