@@ -1,9 +1,10 @@
 //! The program buildozer over any reader and writers.
-ghost use Rattle.std.specs.Prelude.{◌≡◌, ◌≢◌, [], List, ℕ, IfOk, map, is_some};
+ghost use Rattle.std.specs.Prelude.{◌≡◌, ◌≢◌, [], List, ℕ, IfOk, map, is_some, None};
 ghost use Rattle.std.specs.Io.KnownBytes.{Appends, Keeps};
 ghost use Rattle.bz_tools.specs.Faults.{Rises, AppendsSome};
 ghost use Rattle.bz_tools.specs.Shown.{actions_in};
-ghost use Rattle.bz_tools.specs.Outcome.{RunsToRefusal, Edits, Outcome, IsInput};
+ghost use Rattle.bz_tools.specs.Asked.{actions_of};
+ghost use Rattle.bz_tools.specs.Outcome.{RunsToRefusal, Edits, Outcome, IsInput, status_of};
 
 use crate::sink::write_whole;
 use crate::source::{InputFault, read_most};
@@ -36,7 +37,16 @@ pub struct Exit {
     pub cut: Cut,
 }
 
-// The longest text, and one byte more, by which a longer one is told.
+// The statuses of whole runs; a run that is cut has that of a refusal.
+const CHANGED: u8 = 0;
+
+const USAGE: u8 = 1;
+
+const REFUSED: u8 = 2;
+
+const SAME: u8 = 3;
+
+// The length of the longest text, and one byte more, by which a longer one is told.
 const MOST: usize = 4_194_305;
 
 // A command that was refused.
@@ -78,9 +88,21 @@ fn unread<E: Sink>(alloc: Global, fault: &ReadFault, err: &mut E) -> Result<Edit
         _ => {
             tell_fault(err, fault);
             let text = Vec::new(alloc);
-            Ok(Edited { text, status: 2 })
+            Ok(Edited {
+                text,
+                status: REFUSED,
+            })
         }
     }
+}
+
+fn status_of(refused: bool, read: &[u8], written: &[u8]) -> u8
+    ensures { result ≡ status_of refused read.now written.now }
+{
+    if refused {
+        return REFUSED;
+    }
+    if written == read { SAME } else { CHANGED }
 }
 
 // Runs the actions on a text, and tells what is refused.
@@ -99,20 +121,20 @@ fn edit<E: Sink>(
     let halt = run(&mut session, steps)?;
     let mut text = Vec::new(alloc);
     session.text_into(&mut text)?;
-    let status = match halt {
-        Some(halt) => {
-            tell_refusal(err, halt.command, halt.refusal);
-            2
-        }
-        None => { if text.as_slice() == input { 3 } else { 0 } }
-    };
+    if let Some(halt) = &halt {
+        tell_refusal(err, halt.command, halt.refusal);
+    }
+    let status = status_of(halt.is_some(), input, &text);
     Ok(Edited { text, status })
 }
 
 fn cut_by(cut: Cut) -> Exit
     ensures { result ≡ record { status = 2; cut = cut } }
 {
-    Exit { status: 2, cut }
+    Exit {
+        status: REFUSED,
+        cut,
+    }
 }
 
 // The words ask for nothing, which is told; or memory was refused.
@@ -125,7 +147,7 @@ fn unasked<E: Sink>(fault: &UsageFault<'_>, err: &mut E) -> Exit
         _ => {
             tell_usage(err, fault);
             Exit {
-                status: 1,
+                status: USAGE,
                 cut: Cut::Whole,
             }
         }
@@ -151,6 +173,9 @@ pub fn buildozer<S: AsStr, R: Source, W: Sink, E: Sink>(
     ensures read { result.cut ≡ Cut.Read → Keeps (W.contents out.old) (W.contents out.new) }
     ensures write { result.cut ≡ Cut.Write → (bytes : List ℕ) × (text : List ℕ) × (status : ℕ) × IsInput (R.remaining input.old) bytes
         × Outcome (map S.text words.now) bytes text status × AppendsSome (W.contents out.old) (W.contents out.new) text }
+
+    // Words that are no line of the program's leave the input unread.
+    ensures unread { actions_of (map S.text words.now) ≡ None → input.new ≡ input.old }
 
     // A reader or a writer that failed has counted it.
     ensures read_cause { result.cut ≡ Cut.Read → Rises (R.faults input.old) (R.faults input.new) }
