@@ -1,5 +1,5 @@
 -- What a command makes of a file value.
-use Rattle.std.specs.Prelude.{Bool, true, false, List, [], ◌∷◌, Option, Some, None, codes, map, if◌then◌else◌}
+use Rattle.std.specs.Prelude.{Bool, true, false, List, [], ◌∷◌, Option, Some, codes, map, if◌then◌else◌}
 use Rattle.std.specs.List.{list_any}
 use Rattle.bz_view.specs.declared.value.Item.{Item}
 use Rattle.bz_view.specs.Gaps.{Bytes}

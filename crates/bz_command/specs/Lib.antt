@@ -1,3 +1,4 @@
 pub mod Effect
 pub mod Refusals
 pub mod Rules
+pub mod Seen

@@ -3,6 +3,7 @@
 
 mod command;
 mod refusal;
+mod rules;
 mod running;
 
 pub use command::{Command, Outcome, Target, Which};

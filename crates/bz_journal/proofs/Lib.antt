@@ -1,0 +1,6 @@
+pub mod Acting
+pub mod Kept
+pub mod Opening
+pub mod Running
+pub mod Settled
+pub mod Writes

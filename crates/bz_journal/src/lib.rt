@@ -2,6 +2,7 @@
 #![tactic(auto)]
 
 mod action;
+mod meaning;
 mod session;
 
 pub use action::{Action, Reply};

@@ -1,18 +1,23 @@
-ghost use Rattle.std.specs.Prelude.{◌≡◌, ◌≢◌, ◌≤◌, ◌<◌, ◌+◌, ◌++◌, ◌↔◌, List, IfOk, IfErr, OnOk, OnErr, length, Result};
+ghost use Rattle.std.specs.Prelude.{◌≡◌, ◌≤◌, ◌<◌, ◌+◌, ◌++◌, ◌↔◌, ◌⊎◌, [], ◌∷◌, take, vec_len, Err, ℕ, List, IfOk, IfErr, OnOk, OnErr, length, Result};
 ghost use Rattle.bz_tree.specs.declared.tree.Node.{Node};
 ghost use Rattle.bz_tree.specs.Spell.{limit};
+ghost use Rattle.std.specs.Str.{IsValidUpTo};
 ghost use Rattle.bz_tree.specs.Legal.{Reads, Accepted};
+ghost use Rattle.bz_tree.specs.Faults.{IsInText};
 ghost use Rattle.bz_command.specs.declared.refusal.Refusal.{Refusal};
 ghost use Rattle.bz_journal.specs.declared.action.Reply.{Reply};
 ghost use Rattle.bz_journal.specs.declared.action.Action.{Action};
-ghost use Rattle.bz_journal.specs.History.{History, present, opened, undone, redone, IsMove, Leads, Acts, Runs};
+ghost use Rattle.bz_journal.specs.History.{History, present, opened, after_text, undone, redone, IsMove, Leads, Acts, Runs};
 
 use crate::action::{Action, Reply};
+use crate::meaning::changed;
 use bz_command::{Command, Refusal, Target};
 use bz_items::{Memory, Text};
-use bz_tree::ReadFault;
-use std::alloc::{AllocError, Global};
+use bz_tree::{ReadFault, parse};
+use std::alloc::Global;
 use std::marker::Model;
+
+const MOST_STEPS: u32 = 100_000;
 
 /// The texts of a BUILD file, one after another, and the place in them. Contracts see it as its history.
 #[derive(Drop)]
@@ -39,19 +44,29 @@ impl Session {
         requires { length «package».now ≤ 65536 }
         ensures ok { IfOk result (λ session. session ≡ opened text.now) }
         ensures accepted { OnOk result (Accepted text.now) }
-        ensures too_large { (result ≡ Err ReadFault.TooLarge) ↔ limit < length text.now }
-        ensures refused { IfErr result (λ fault. fault ≢ ReadFault.TooLarge → fault ≢ ReadFault.Memory → (n : Node) → Reads text.now n → ⊥) }
+        ensures too_large { (result ≡ Err ReadFault.TooLarge) ↔ (limit < length text.now) }
+        ensures not_utf8 { (at : ℕ) → ((result ≡ Err (ReadFault.NotUtf8 at)) ↔ ((length text.now ≤ limit) × IsValidUpTo text.now at)) }
+        ensures refused { IfErr result (λ fault. IsInText fault → (tree : Node) → Reads text.now tree → ⊥) }
     {
         let _ = package;
-        let _tree = bz_tree::parse(alloc, text)?;
-        Err(ReadFault::Memory)
+        if let Err(fault) = parse(alloc, text) {
+            return Err(fault);
+        }
+        match one(alloc, text) {
+            Ok(texts) => Ok(Session {
+                texts,
+                cursor: 0,
+                before: 0,
+            }),
+            Err(_) => Err(ReadFault::Memory),
+        }
     }
 
     /// The number of the present text; the first is 0.
     pub fn cursor(&self) -> u32
         ensures { result ≡ self.now.cursor }
     {
-        self.cursor
+        self.cursor // from 0
     }
 
     /// How many steps there are between the first text and the last.
@@ -66,7 +81,7 @@ impl Session {
         ensures ok { OnOk result (out.new.items ≡ out.old.items ++ present self.now) }
         ensures err { OnErr result (out.new.items ≡ out.old.items) }
     {
-        out.extend_from_slice(self.texts[self.cursor as usize].as_slice())
+        out.extend_from_slice(self.present())
     }
 
     /// Does an action. At an error the history is as before. Errors: those of the command; `TooLarge` and `TooDeep`
@@ -84,15 +99,46 @@ impl Session {
         }
     }
 
+    /// The present text.
+    fn present(&self) -> &[u8]
+        ensures text { result.now ≡ present self.now }
+        ensures accepted { Accepted result.now }
+    {
+        self.texts[self.cursor as usize].as_slice()
+    }
+
+    /// Puts a text behind the present one.
+    fn push(&mut self, text: Text) -> Result<Reply, Refusal>
+        requires { Accepted text }
+        ensures acts { ((result, self.new) ≡ after_text self.old text) ⊎ ((result ≡ Err Refusal.Memory) × (self.new ≡ self.old)) }
+    {
+        if text.as_slice() == self.present() {
+            return Ok(Reply::Same);
+        }
+        let cursor = self.cursor;
+        if cursor >= MOST_STEPS {
+            return Err(Refusal::Full);
+        }
+        put_after(&mut self.texts, cursor as usize + 1, text)?;
+        self.before = cursor;
+        self.cursor = cursor + 1;
+        Ok(Reply::Changed)
+    }
+
+    /// Does a command on the present text.
     fn edit(&mut self, command: &Command, target: &Target) -> Result<Reply, Refusal>
         ensures acts { Acts (Action.Do command.now target.now) self.old result self.new }
         ensures err { OnErr result (self.new ≡ self.old) }
     {
-        let _ = command;
-        let _ = target;
-        Err(Refusal::Memory)
+        let alloc = *self.texts.allocator();
+        match changed(alloc, command, target, self.present()) {
+            Ok(Some(text)) => self.push(text),
+            Ok(None) => Ok(Reply::Same),
+            Err(refusal) => Err(refusal),
+        }
     }
 
+    /// Goes back by n steps.
     fn undo(&mut self, n: u32) -> Result<Reply, Refusal>
         ensures { (result, self.new) ≡ undone n self.old }
     {
@@ -107,6 +153,7 @@ impl Session {
         Ok(Reply::Moved)
     }
 
+    /// Goes forward by n steps.
     fn redo(&mut self, n: u32) -> Result<Reply, Refusal>
         ensures { (result, self.new) ≡ redone n self.old }
     {
@@ -133,8 +180,35 @@ impl Session {
             × Runs self.old actions.now added self.new) }
         ensures err { OnErr result ((replies.new.items ≡ replies.old.items) × (self.new ≡ self.old)) }
     {
-        let _ = actions;
-        let _ = replies;
-        Err(AllocError)
+        replies.reserve(actions.len())?;
+        for action in actions {
+            let reply = self.act(action);
+            replies.push(reply).unwrap();
+        }
+        Ok(())
     }
+}
+
+/// A list of one text.
+fn one(alloc: Global, text: &[u8]) -> Result<Vec<Text>, Memory>
+    ensures { IfOk result (λ texts. texts.items ≡ text.now ∷ []) }
+{
+    let mut texts = Vec::new(alloc);
+    texts.push(Text::from_slice(alloc, text)?)?;
+    Ok(texts)
+}
+
+/// Puts a text behind the first n, in the place of those that are there.
+fn put_after(texts: &mut Vec<Text>, n: usize, text: Text) -> Result<(), Memory>
+    requires { n ≤ vec_len texts.old }
+    ensures ok { OnOk result (texts.new.items ≡ take n texts.old.items ++ text ∷ []) }
+    ensures err { OnErr result (texts.new.items ≡ texts.old.items) }
+{
+    if n < texts.len() {
+        texts[n] = text;
+        texts.truncate(n + 1);
+    } else {
+        texts.push(text)?;
+    }
+    Ok(())
 }

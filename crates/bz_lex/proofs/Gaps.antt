@@ -1,11 +1,13 @@
 -- The states of a gap take just the gaps, and a gap ends at one place.
-use Rattle.std.proofs.Common.{◌≡◌, ◌≢◌, ℕ, zero, suc, Bool, true, false, cond, eqb, List, [], ◌∷◌, ◌++◌, ◌&&◌, ◌||◌, ◌⊎◌, inl, inr, Option, Some, None, refl, sym, ap, ◌∙◌, subst, append_assoc}
+use Rattle.std.proofs.Common.{◌≡◌, ◌≢◌, ℕ, zero, suc, Bool, true, false, cond, eqb, List, [], ◌∷◌, ◌++◌, ◌&&◌, ◌||◌, ◌⊎◌, inl, inr, Option, Some, None, refl, sym, ap, ◌∙◌, subst, append_assoc, ◌<◌, ◌+◌, length, take, get_or, add-one}
+use Rattle.std.proofs.Math.Seq.{take-suc}
 use Rattle.std.proofs.lemmas.Bool.{both_ways, cases_Bool, eqb-true, eqb-false, ne_eqb, and_parts, and_left}
 use Rattle.std.proofs.lemmas.List.{append-nil}
 use Rattle.std.proofs.lemmas.Option.{same_Some}
 use Rattle.bz_lex.specs.declared.gap.GapState.{GapState}
 use Rattle.bz_lex.specs.declared.gap.GapState.TheVariants.{Open, Escape, EscapeReturn, Comment}
-use Rattle.bz_lex.specs.Gaps.{is_blank, IsOneLine, IsGap, nothing, blank, escaped, escaped_return, unescaped, comment, last_comment}
+use Rattle.bz_token.specs.Bytes.{is_blank}
+use Rattle.bz_lex.specs.Gaps.{IsOneLine, IsGap, nothing, blank, escaped, escaped_return, unescaped, comment, last_comment}
 use Rattle.bz_lex.specs.GapStates.{gap_move, and_then, after, Stops, is_end}
 
 abbrev holds : Bool → Option GapState → Bool
@@ -17,7 +19,6 @@ one_line_end [] c h i = (i, tt)
 one_line_end (b ∷ w) c h i = (h.0, one_line_end w c h.1 i)
 
 module _ (n u : Bool) where
-
   -- what stands behind a state that ends as a gap may
   abbrev Rest : GapState → List ℕ → Type 0
   Rest Open s = IsGap n u s
@@ -31,24 +32,24 @@ module _ (n u : Bool) where
       elim (cases_Bool (is_blank c)) [
         | inl b ↦ blank c s refl b (rest Open s (rw b at h))
         | inr b ↦ elim (cases_Bool (eqb c 92)) [
-            | inl e ↦ let i : c ≡ 92 = eqb-true c 92 e in subst (λ (x : ℕ). IsGap n u (x ∷ s)) (sym i) (rest Escape s (rw (b, e) at h))
-            | inr e ↦ elim (cases_Bool (eqb c 35)) [
-                | inl f ↦ let i : c ≡ 35 = eqb-true c 35 f in subst (λ (x : ℕ). IsGap n u (x ∷ s)) (sym i) (rest Comment s (rw (b, e, f) at h) [] tt)
-                | inr f ↦ elim (cases_Bool (n && eqb c 10)) [
-                    | inl g ↦ let k = and_parts n (eqb c 10) g in unescaped s (ap (λ (x : ℕ). x ∷ s) (eqb-true c 10 k.1)) k.0 (rest Open s (rw (b, e, f, g) at h))
-                    | inr g ↦ absurd (both_ways false refl (rw (b, e, f, g) at h))
-                  ]
-              ]
+          | inl e ↦ let i : c ≡ 92 = eqb-true c 92 e in subst (λ (x : ℕ). IsGap n u (x ∷ s)) (sym i) (rest Escape s (rw (b, e) at h))
+          | inr e ↦ elim (cases_Bool (eqb c 35)) [
+            | inl f ↦ let i : c ≡ 35 = eqb-true c 35 f in subst (λ (x : ℕ). IsGap n u (x ∷ s)) (sym i) (rest Comment s (rw (b, e, f) at h) [] tt)
+            | inr f ↦ elim (cases_Bool (n && eqb c 10)) [
+              | inl g ↦ let k = and_parts n (eqb c 10) g in unescaped s (ap (λ (x : ℕ). x ∷ s) (eqb-true c 10 k.1)) k.0 (rest Open s (rw (b, e, f, g) at h))
+              | inr g ↦ absurd (both_ways false refl (rw (b, e, f, g) at h))
+            ]
           ]
+        ]
       ]
   rest Escape [] h = absurd (both_ways false refl h)
   rest Escape (c ∷ s) h =
       elim (cases_Bool (eqb c 10)) [
         | inl b ↦ let i : c ≡ 10 = eqb-true c 10 b in escaped s (ap (λ (x : ℕ). 92 ∷ x ∷ s) i) (rest Open s (rw b at h))
         | inr b ↦ elim (cases_Bool (eqb c 13)) [
-            | inl e ↦ let i : c ≡ 13 = eqb-true c 13 e in subst (λ (x : ℕ). IsGap n u (92 ∷ x ∷ s)) (sym i) (rest EscapeReturn s (rw (b, e) at h))
-            | inr e ↦ absurd (both_ways false refl (rw (b, e) at h))
-          ]
+          | inl e ↦ let i : c ≡ 13 = eqb-true c 13 e in subst (λ (x : ℕ). IsGap n u (92 ∷ x ∷ s)) (sym i) (rest EscapeReturn s (rw (b, e) at h))
+          | inr e ↦ absurd (both_ways false refl (rw (b, e) at h))
+        ]
       ]
   rest EscapeReturn [] h = absurd (both_ways false refl h)
   rest EscapeReturn (c ∷ s) h =
@@ -60,9 +61,9 @@ module _ (n u : Bool) where
   rest Comment (c ∷ s) h =
       elim (cases_Bool (eqb c 10)) [
         | inl b ↦ let i : c ≡ 10 = eqb-true c 10 b in elim (cases_Bool n) [
-            | inl m ↦ λ w o. comment w s (ap (λ (x : ℕ). 35 ∷ (w ++ (x ∷ s))) i) o m (rest Open s (rw (b, m) at h))
-            | inr m ↦ absurd (both_ways false refl (rw (b, m) at h))
-          ]
+          | inl m ↦ λ w o. comment w s (ap (λ (x : ℕ). 35 ∷ (w ++ (x ∷ s))) i) o m (rest Open s (rw (b, m) at h))
+          | inr m ↦ absurd (both_ways false refl (rw (b, m) at h))
+        ]
         | inr b ↦ λ w o. subst (λ (t : List ℕ). IsGap n u (35 ∷ t)) (append_assoc w (c ∷ []) s) (rest Comment s (rw b at h) (w ++ (c ∷ [])) (one_line_end w c o (eqb-false c 10 b)))
       ]
 
@@ -123,3 +124,7 @@ through (Some q) f g h e = e q
 pub after-append : (n : Bool) (p : GapState) (a b : List ℕ) → after n p (a ++ b) ≡ and_then (after n p a) (λ q. after n q b)
 after-append n p [] b = refl
 after-append n p (c ∷ a) b = through (gap_move n p c) (λ q. after n q (a ++ b)) (λ q. after n q a) (λ q. after n q b) (λ q. after-append n q a b)
+
+-- one byte more
+pub after_more : (n : Bool) (p q r : GapState) (i : ℕ) (s : List ℕ) → i < length s → after n p (take i s) ≡ Some q → gap_move n q (get_or s i 0) ≡ Some r → after n p (take (i + 1) s) ≡ Some r
+after_more n p q r i s lt e f = rw (add-one, take-suc s i 0 lt, after-append n p (take i s) (get_or s i 0 ∷ []), e, f) refl

@@ -1,9 +1,6 @@
 -- Gaps: what may stand before a token.
 use Rattle.std.specs.Prelude.{◌≡◌, ◌≢◌, ℕ, Bool, true, false, List, [], ◌∷◌, ◌++◌, ◌||◌, nat_eq, if◌then◌else◌}
-
--- a space, a tab or a carriage return
-abbrev pub is_blank : ℕ → Bool
-is_blank byte = nat_eq byte 32 || (nat_eq byte 9 || nat_eq byte 13)
+use Rattle.bz_token.specs.Bytes.{is_blank}
 
 -- no newline is in the text
 abbrev pub IsOneLine : List ℕ → Type 0

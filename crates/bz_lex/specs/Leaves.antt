@@ -17,3 +17,7 @@ Stand may place (leaf ∷ leaves) = may place leaf (spell_leaves leaves) × Stan
 -- the leaves of a whole text, from the start of its first line to the end
 abbrev pub AreLeaves : List Leaf → Type 0
 AreLeaves leaves = Stand (May IsToken) Fresh leaves
+
+-- the text has no leaves
+abbrev pub NoLeaves : List ℕ → Type 0
+NoLeaves text = (leaves : List Leaf) → AreLeaves leaves → spell_leaves leaves ≡ text → ⊥

@@ -7,6 +7,11 @@ use Rattle.bz_lex.specs.Gaps.{IsGap, is_flush}
 pub use Rattle.bz_lex.specs.declared.place.Place.{Place}
 pub use Rattle.bz_lex.specs.declared.place.Place.TheVariants.{Fresh, Behind, Inside, Last, Over}
 
+-- how many brackets are open
+abbrev pub open_brackets : Place → ℕ
+open_brackets (Inside depth) = suc depth
+open_brackets _ = 0
+
 -- ( [ {
 abbrev pub is_opening : List ℕ → Bool
 is_opening (byte ∷ []) = nat_eq byte 40 || (nat_eq byte 91 || nat_eq byte 123)
@@ -44,6 +49,11 @@ behind _ token place = same_depth place
 
 abbrev pub next : Place → Leaf → Place
 next place leaf = behind leaf.class leaf.token place
+
+-- whether unescaped newlines may stand in the gap of a leaf
+abbrev pub newlines_at : Place → Bool
+newlines_at Behind = false
+newlines_at _ = true
 
 -- Which leaf may stand at a place, before a text; IsToken says of a class, a token and the text behind it that the
 -- token, which is neither a newline nor the end, is the longest lexeme there.

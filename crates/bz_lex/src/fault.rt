@@ -31,8 +31,13 @@ pub enum ReadFault {
 }
 
 impl ReadFault {
-    /// The number of the refusal.
-    pub fn number(&self) -> u8 {
+    ghost use Rattle.std.specs.Prelude.{◌≡◌};
+    ghost use Rattle.bz_lex.specs.Faults.{fault_number};
+
+    /// The number of the refusal, as the tools tell it.
+    pub fn number(&self) -> u8
+        ensures { result ≡ fault_number self.now }
+    {
         match self {
             ReadFault::NotUtf8 { .. } => 1,
             ReadFault::TooLarge => 2,

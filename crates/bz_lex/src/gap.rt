@@ -1,3 +1,7 @@
+ghost use Rattle.std.specs.Prelude.{◌≡◌, ◌≤◌, length, take, drop, MatchOption, true, false};
+ghost use Rattle.bz_lex.specs.declared.gap.GapState.TheVariants.{Open};
+ghost use Rattle.bz_lex.specs.GapStates.{gap_move, after, Stops, is_end};
+
 /// How far a gap has been read.
 #[derive(Clone, Copy)]
 pub enum GapState {
@@ -9,4 +13,70 @@ pub enum GapState {
     EscapeReturn,
     /// In a comment.
     Comment,
+}
+
+impl GapState {
+    /// The state behind one more byte; `None` where no gap goes on with it.
+    fn step(self, newlines: bool, byte: u8) -> Option<GapState>
+        ensures { result ≡ gap_move newlines self byte }
+    {
+        match self {
+            GapState::Open => match byte {
+                b' ' | b'\t' | b'\r' => Some(GapState::Open),
+                b'\\' => Some(GapState::Escape),
+                b'#' => Some(GapState::Comment),
+                b'\n' => newlines.then_some(GapState::Open),
+                _ => None,
+            },
+            GapState::Escape => match byte {
+                b'\n' => Some(GapState::Open),
+                b'\r' => Some(GapState::EscapeReturn),
+                _ => None,
+            },
+            GapState::EscapeReturn => (byte == b'\n').then_some(GapState::Open),
+            GapState::Comment => match byte {
+                b'\n' => newlines.then_some(GapState::Open),
+                _ => Some(GapState::Comment),
+            },
+        }
+    }
+}
+
+/// How long the gap at the front of a text is, and the state at its end.
+#[derive(Clone, Copy)]
+pub struct GapFront {
+    pub length: usize,
+    pub state: GapState,
+}
+
+impl GapFront {
+    /// Where the gap breaks off, if it does: at a backslash that is not right before a newline.
+    pub fn broken_at(self) -> Option<usize>
+        ensures { MatchOption result (is_end true self.state ≡ true) (λ at. (is_end true self.state ≡ false) × (at ≤ self.length)) }
+    {
+        match self.state {
+            GapState::Open | GapState::Comment => None,
+            GapState::Escape => Some(self.length.saturating_sub(1)),
+            GapState::EscapeReturn => Some(self.length.saturating_sub(2)),
+        }
+    }
+}
+
+/// Reads as much as a gap can go on with; `newlines` says whether unescaped newlines may stand in it.
+pub fn gap_front(text: &[u8], newlines: bool) -> GapFront
+    ensures within { result.length ≤ length text.now }
+    ensures taken { after newlines Open (take result.length text.now) ≡ Some result.state }
+    ensures stops { Stops newlines result.state (drop result.length text.now) }
+{
+    let mut state = GapState::Open;
+    for (i, byte) in text.iter().enumerate() {
+        match state.step(newlines, *byte) {
+            None => return GapFront { length: i, state },
+            Some(next) => state = next,
+        }
+    }
+    GapFront {
+        length: text.len(),
+        state,
+    }
 }

@@ -2,10 +2,18 @@
 #![tactic(auto)]
 
 mod fault;
+mod front;
 mod gap;
+pub mod laws;
 mod leaf;
 mod place;
+mod position;
+mod read;
+mod source;
 
 pub use bz_token::Class;
 pub use fault::ReadFault;
 pub use leaf::Leaf;
+pub use position::place_of;
+pub use read::{Reading, read_leaves};
+pub use source::lex;

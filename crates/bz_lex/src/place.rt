@@ -1,3 +1,8 @@
+ghost use Rattle.std.specs.Prelude.{◌≡◌, ◌<◌, ◌^◌, ◌↔◌, IsTrue};
+ghost use Rattle.bz_lex.specs.Places.{behind, is_closing, is_opening, deeper, same_depth, shallower, open_brackets, newlines_at};
+
+use bz_token::Class;
+
 /// Where a leaf stands in a file.
 #[derive(Clone, Copy)]
 pub enum Place {
@@ -11,4 +16,88 @@ pub enum Place {
     Last,
     /// Behind the end.
     Over,
+}
+
+impl Place {
+    /// Whether the end was read.
+    pub fn is_over(self) -> bool
+        ensures { IsTrue result ↔ (self ≡ Place.Over) }
+    {
+        matches!(self, Place::Over)
+    }
+
+    /// The place behind a token of this class.
+    pub fn behind(self, class: Class, token: &[u8]) -> Place
+        requires { open_brackets self < 2 ^ 64 }
+        ensures { result ≡ behind class token.now self }
+    {
+        match class {
+            Class::Newline => {
+                if token.is_empty() {
+                    Place::Last
+                } else {
+                    Place::Fresh
+                }
+            }
+            Class::End => Place::Over,
+            Class::Mark => {
+                if is_opening(token) {
+                    self.deeper()
+                } else if is_closing(token) {
+                    self.shallower()
+                } else {
+                    self.same_depth()
+                }
+            }
+            _ => self.same_depth(),
+        }
+    }
+
+    /// Whether unescaped newlines may stand in the gap of a leaf here.
+    pub fn newlines(self) -> bool
+        ensures { result ≡ newlines_at self }
+    {
+        !matches!(self, Place::Behind)
+    }
+
+    fn same_depth(self) -> Place
+        ensures { result ≡ same_depth self }
+    {
+        match self {
+            Place::Inside(depth) => Place::Inside(depth),
+            _ => Place::Behind,
+        }
+    }
+
+    fn deeper(self) -> Place
+        requires { open_brackets self < 2 ^ 64 }
+        ensures { result ≡ deeper self }
+    {
+        match self {
+            Place::Inside(depth) => Place::Inside(depth + 1),
+            _ => Place::Inside(0),
+        }
+    }
+
+    fn shallower(self) -> Place
+        ensures { result ≡ shallower self }
+    {
+        match self {
+            Place::Inside(0) => Place::Behind,
+            Place::Inside(depth) => Place::Inside(depth - 1),
+            _ => Place::Behind,
+        }
+    }
+}
+
+fn is_opening(token: &[u8]) -> bool
+    ensures { result ≡ is_opening token.now }
+{
+    matches!(token, [b'(' | b'[' | b'{'])
+}
+
+fn is_closing(token: &[u8]) -> bool
+    ensures { result ≡ is_closing token.now }
+{
+    matches!(token, [b')' | b']' | b'}'])
 }

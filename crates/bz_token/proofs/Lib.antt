@@ -1,0 +1,11 @@
+pub mod Fronts
+pub mod Tables
+pub mod Strings
+pub mod Complete
+pub mod Laws
+pub mod Longest
+pub mod Taken
+pub mod Sound
+pub mod Tokens
+pub mod Boundaries
+pub mod Rows

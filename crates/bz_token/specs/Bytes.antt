@@ -14,13 +14,19 @@ is_blank b = nat_eq b 32 || (nat_eq b 9 || nat_eq b 13)
 abbrev pub is_solid : ℕ → Bool
 is_solid b = if is_blank b || (nat_eq b 92 || (nat_eq b 35 || nat_eq b 10)) then false else true
 
--- a space, a newline, `,` `(` `)` `[` or `]`
-abbrev pub is_separator : ℕ → Bool
-is_separator b = among b (32 ∷ 10 ∷ 44 ∷ 40 ∷ 41 ∷ 91 ∷ 93 ∷ [])
+-- a space, a newline, `,` `(` `)` `[` and `]`
+abbrev pub separators : List ℕ
+separators = 32 ∷ 10 ∷ 44 ∷ 40 ∷ 41 ∷ 91 ∷ 93 ∷ []
 
--- `(` `)` `[` `]` or `,`
+abbrev pub is_separator : ℕ → Bool
+is_separator b = among b separators
+
+-- `(` `)` `[` `]` and `,`
+abbrev pub brackets_and_comma : List ℕ
+brackets_and_comma = 40 ∷ 41 ∷ 91 ∷ 93 ∷ 44 ∷ []
+
 abbrev pub is_bracket_or_comma : ℕ → Bool
-is_bracket_or_comma b = among b (40 ∷ 41 ∷ 91 ∷ 93 ∷ 44 ∷ [])
+is_bracket_or_comma b = among b brackets_and_comma
 
 -- 0 to 9
 abbrev pub is_digit : ℕ → Bool

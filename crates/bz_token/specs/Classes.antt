@@ -1,5 +1,5 @@
 -- The classes of tokens and their numbers: Name 1, Keyword 2, Number 3, String 4, Mark 5, Newline 6, End 7.
-use Rattle.std.specs.Prelude.{ℕ, Option, Some, None, List, [], ◌∷◌, ◌-◌, nat_eq, if◌then◌else◌, slice_get}
+use Rattle.std.specs.Prelude.{ℕ, Option, None, List, [], ◌∷◌, ◌-◌, nat_eq, if◌then◌else◌, slice_get}
 use Rattle.bz_token.specs.declared.class.Class.{Class}
 use Rattle.bz_token.specs.declared.class.Class.TheVariants as v
 

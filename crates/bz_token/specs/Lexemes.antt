@@ -1,5 +1,5 @@
 -- Starlark's lexical elements: the texts of each class, as lists of the bytes of UTF-8.
-use Rattle.std.specs.Prelude.{◌≡◌, ◌<◌, ℕ, Bool, true, false, List, [], ◌∷◌, ◌++◌, ◌⊎◌, ◌&&◌, ◌||◌, not, nat_eq, bytes_eq, replicate, codes}
+use Rattle.std.specs.Prelude.{◌≡◌, ◌<◌, ℕ, Bool, true, false, List, [], ◌∷◌, ◌++◌, ◌⊎◌, ◌&&◌, ◌||◌, nat_eq, bytes_eq, replicate, codes}
 use Rattle.bz_token.specs.declared.class.Class.{Class}
 use Rattle.bz_token.specs.declared.class.Class.TheVariants as v
 use Rattle.bz_token.specs.Bytes.{among, is_digit, is_octal, is_hexadecimal, is_x, is_o, is_e, is_sign, is_high, is_letter, is_quote}
@@ -34,7 +34,8 @@ pub data IsLetters : List ℕ → Type 0 where
 
 -- a letter or `_`, then letters, digits and `_`: a Name, where it is no keyword
 abbrev pub IsWord : List ℕ → Type 0
-IsWord s = (b : ℕ) × (u : List ℕ) × (s ≡ b ∷ u) × (is_digit b ≡ false) × IsLetters s
+IsWord [] = ⊥
+IsWord (b ∷ s) = (is_digit b ≡ false) × IsLetters (b ∷ s)
 
 -- none or more of these
 abbrev pub Each : (ℕ → Bool) → List ℕ → Type 0
@@ -76,17 +77,17 @@ pub data IsNumber : List ℕ → Type 0 where
 -- Pieces between single marks m: a character other than m, a newline or a backslash, or a backslash and any one character, CR LF counting as one.
 -- A backslash takes the next byte; where that begins a longer character, its other bytes are pieces of their own, and the texts are the same.
 pub data IsShort (m : ℕ) : List ℕ → Type 0 where
-  nothing : IsShort m []
-  plain : {b : ℕ} {s : List ℕ} → among b (m ∷ 10 ∷ 92 ∷ []) ≡ false → IsShort m s → IsShort m (b ∷ s)
-  taken : {b : ℕ} {s : List ℕ} → IsShort m s → IsShort m (92 ∷ b ∷ s)
-  taken_line : {s : List ℕ} → IsShort m s → IsShort m (92 ∷ 13 ∷ 10 ∷ s)
+  short_end : IsShort m []
+  short_plain : {b : ℕ} {s : List ℕ} → among b (m ∷ 10 ∷ 92 ∷ []) ≡ false → IsShort m s → IsShort m (b ∷ s)
+  short_taken : {b : ℕ} {s : List ℕ} → IsShort m s → IsShort m (92 ∷ b ∷ s)
+  short_line : {s : List ℕ} → IsShort m s → IsShort m (92 ∷ 13 ∷ 10 ∷ s)
 
 -- Pieces between three marks m at each end: those above, a newline, or the mark. The text ends at the first three marks in a row that no backslash takes:
 -- so at most two stand right before each other piece, and none at the end. (A backslash and CR LF are the piece of a backslash and CR, and a newline.)
 pub data IsLong (m : ℕ) : List ℕ → Type 0 where
-  nothing : IsLong m []
-  plain : (k b : ℕ) (s : List ℕ) → k < 3 → among b (m ∷ 92 ∷ []) ≡ false → IsLong m s → IsLong m (replicate k m ++ (b ∷ s))
-  taken : (k b : ℕ) (s : List ℕ) → k < 3 → IsLong m s → IsLong m (replicate k m ++ (92 ∷ b ∷ s))
+  long_end : IsLong m []
+  long_plain : (k b : ℕ) (s : List ℕ) → k < 3 → among b (m ∷ 92 ∷ []) ≡ false → IsLong m s → IsLong m (replicate k m ++ (b ∷ s))
+  long_taken : (k b : ℕ) (s : List ℕ) → k < 3 → IsLong m s → IsLong m (replicate k m ++ (92 ∷ b ∷ s))
 
 -- `"` or `'`, pieces, and the same mark, or three marks at each end
 pub data IsQuoted : List ℕ → Type 0 where
@@ -94,8 +95,11 @@ pub data IsQuoted : List ℕ → Type 0 where
   triple : (m : ℕ) (s : List ℕ) → is_quote m ≡ true → IsLong m s → IsQuoted (m ∷ m ∷ m ∷ (s ++ (m ∷ m ∷ m ∷ [])))
 
 -- an optional prefix: r b rb br
+abbrev pub prefixes : List (List ℕ)
+prefixes = [] ∷ codes "r" ∷ codes "b" ∷ codes "rb" ∷ codes "br" ∷ []
+
 abbrev pub is_prefix : List ℕ → Bool
-is_prefix p = in_table p ([] ∷ codes "r" ∷ codes "b" ∷ codes "rb" ∷ codes "br" ∷ [])
+is_prefix p = in_table p prefixes
 
 -- String: an optional prefix, then a quoted text
 abbrev pub IsString : List ℕ → Type 0

@@ -1,5 +1,7 @@
 pub mod Bytes
 pub mod Classes
 pub mod Lexemes
+pub mod Machine
+pub mod Scanner
 pub mod Tokens
 pub mod Laws

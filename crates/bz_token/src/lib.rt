@@ -2,5 +2,14 @@
 #![tactic(auto)]
 
 mod class;
+mod scan;
+mod state;
+#[cfg(test)]
+mod tests;
+mod theorems;
 
 pub use class::Class;
+pub use scan::{Found, token};
+pub use theorems::{
+    begins, cuts, each_keyword, each_mark, each_number, one_token, separated, single,
+};

@@ -1,2 +1,11 @@
 pub mod Nested
+pub mod Numbers
 pub mod Spells
+pub mod Terminals
+pub mod Exact
+pub mod Shapes
+pub mod Trees
+pub mod Files
+pub mod Steps
+pub mod Parses
+pub mod Accepts

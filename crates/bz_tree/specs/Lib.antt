@@ -3,3 +3,8 @@ pub mod Kinds
 pub mod Spell
 pub mod Shapes
 pub mod Legal
+pub mod Reading
+pub mod Words
+pub mod Plain
+pub mod Faults
+pub mod Laws

@@ -30,27 +30,36 @@ is_one_of (terminal ∷ others) leaf = is_terminal terminal leaf || is_one_of ot
 
 abbrev pub name : List Terminal
 name = any c.Name ∷ []
+
 abbrev pub string : List Terminal
 string = any c.String ∷ []
+
 abbrev pub newline : List Terminal
 newline = any c.Newline ∷ []
+
 abbrev pub end : List Terminal
 end = any c.End ∷ []
+
 -- (
 abbrev pub open_round : List Terminal
 open_round = this c.Mark (40 ∷ []) ∷ []
+
 -- )
 abbrev pub close_round : List Terminal
 close_round = this c.Mark (41 ∷ []) ∷ []
+
 -- ,
 abbrev pub comma : List Terminal
 comma = this c.Mark (44 ∷ []) ∷ []
+
 -- =
 abbrev pub equals : List Terminal
 equals = this c.Mark (61 ∷ []) ∷ []
+
 -- [
 abbrev pub open_square : List Terminal
 open_square = this c.Mark (91 ∷ []) ∷ []
+
 -- ]
 abbrev pub close_square : List Terminal
 close_square = this c.Mark (93 ∷ []) ∷ []

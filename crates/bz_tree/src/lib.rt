@@ -1,10 +1,18 @@
 //! Trees of BUILD files: kinds, shapes, legal trees, and the one legal tree that spells a text.
 #![tactic(auto)]
 
+mod grammar;
 mod kind;
+pub mod laws;
+mod parsing;
+mod plain;
 mod same;
+#[cfg(test)]
+mod tests;
+mod token;
 mod tree;
 
 pub use bz_lex::{Class, Leaf, ReadFault};
 pub use kind::Kind;
+pub use parsing::parse;
 pub use tree::{Node, Part, Tree};

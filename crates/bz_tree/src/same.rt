@@ -4,6 +4,7 @@ ghost use Rattle.bz_tree.specs.Fronts.{IsFront};
 use crate::tree::Part;
 
 impl Part {
+    /// Whether the other part is equal: the same kinds, classes, gaps and tokens in the same places.
     #[cycle(same)]
     pub fn equals(&self, other: &Part) -> bool
         ensures { IsTrue result ↔ (self.now ≡ other.now) }

@@ -8,6 +8,7 @@ use bz_lex::Leaf;
 use std::alloc::Global;
 use std::marker::Model;
 
+/// What stands in a node: a token with its gap, or a node.
 #[cycle(tree)]
 #[derive(Drop)]
 pub enum Part {
@@ -15,6 +16,7 @@ pub enum Part {
     Node(Node),
 }
 
+/// A kind and its parts from left to right. Nothing says yet that they have the shape of the kind.
 #[cycle(tree)]
 #[derive(Drop)]
 pub struct Node {
@@ -58,6 +60,7 @@ fn append_all(parts: &[Part], out: &mut Vec<u8>) -> Result<(), Memory>
 }
 
 impl Node {
+    /// Appends the spelling of the node to `out`. The error: a growth was refused; `out` is then as before.
     pub fn spell_into(&self, out: &mut Vec<u8>) -> Result<(), Memory>
         ensures ok { OnOk result (out.new.items ≡ out.old.items ++ spell_node self.now) }
         ensures err { OnErr result (out.new.items ≡ out.old.items) }
@@ -116,6 +119,7 @@ fn len_of(parts: &[Part]) -> usize
 }
 
 impl Node {
+    /// An equal node. The error: a growth was refused.
     #[cycle(copy)]
     pub fn copy(&self) -> Result<Node, Memory>
         ensures { IfOk result (λ node. node ≡ self.now) }
@@ -127,6 +131,7 @@ impl Node {
     }
 }
 
+/// Equal parts. The error: a growth was refused.
 #[cycle(copy)]
 pub fn copy_all(alloc: Global, parts: &[Part]) -> Result<Items<Part>, Memory>
     ensures { IfOk result (λ copied. copied ≡ parts.now) }
@@ -154,8 +159,11 @@ impl Model for Tree {
     ghost use Rattle.bz_tree.specs.Legal.{Legal};
 
     ghost Value = { Node };
+
     ghost coded = { Prim.hlevel (codes, e.the_row.coded, n.the_row.coded) };
+
     ghost view = { λ tree. tree.root };
+
     ghost invariant = { λ tree. Legal tree.root × (length (spell_node tree.root) ≤ limit) };
 }
 

@@ -17,6 +17,10 @@ frame k.List = sequence 91 93
 frame k.Dict = sequence 123 125
 frame _ = row
 
+abbrev pub has_brackets : Frame → Bool
+has_brackets row = false
+has_brackets (sequence opener closer) = true
+
 -- how many parts stand before the opening bracket: the function of a call, the word of a load
 abbrev pub lead : Kind → ℕ
 lead k.Call = 1

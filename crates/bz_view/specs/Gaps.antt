@@ -1,6 +1,6 @@
 -- What a gap says: its lines, each with a comment or without one.
-use Rattle.bz_lex.specs.Gaps.{is_blank}
-use Rattle.std.specs.Prelude.{ℕ, Bool, true, false, not, ◌||◌, List, [], ◌∷◌, ◌++◌, Option, Some, None, if◌then◌else◌, nat_eq}
+use Rattle.bz_token.specs.Bytes.{is_blank}
+use Rattle.std.specs.Prelude.{ℕ, Bool, false, ◌||◌, List, [], ◌∷◌, Option, Some, None, if◌then◌else◌, nat_eq}
 
 abbrev pub Bytes : Type 0
 Bytes = List ℕ

@@ -1,12 +1,12 @@
 -- The file value of a tree: its statements without gaps, each comment at its host.
-use Rattle.std.specs.Prelude.{ℕ, zero, suc, Bool, true, false, not, ◌&&◌, ◌||◌, List, [], ◌∷◌, ◌++◌, Option, Some, None, map, take, drop}
-use Rattle.bz_token.specs.declared.class.Class.{Class}
+use Rattle.std.specs.Prelude.{suc, Bool, false, not, ◌&&◌, ◌||◌, List, [], ◌∷◌, ◌++◌, None, map, take, drop}
 use Rattle.bz_lex.specs.declared.leaf.Leaf.{Leaf}
 use Rattle.bz_tree.specs.declared.kind.Kind.{Kind}
 use Rattle.bz_tree.specs.declared.tree.Node.{Node}
 use Rattle.bz_tree.specs.declared.tree.Part.{Part, Row_of-Part, end_of-Part, more_of-Part, Node'}
 use Rattle.bz_tree.specs.declared.tree.Part.TheVariants as p
 use Rattle.bz_view.specs.declared.value.Comments.{Comments}
+use Rattle.bz_view.specs.declared.value.Form.{Form}
 use Rattle.bz_view.specs.declared.value.Expr.{Expr}
 use Rattle.bz_view.specs.declared.value.Expr.TheVariants as e
 use Rattle.bz_view.specs.declared.value.Item.{Item}
@@ -51,22 +51,19 @@ abbrev pub is_split : List Seen → Bool
 is_split [] = false
 is_split (s ∷ ss) = has_newline s.gap || is_split ss
 
+abbrev pub form_in : Frame → Kind → List Seen → Comments → Form
+form_in row kind ss comments = record { kind = kind; split = false; head = []; items = row_exprs (is_binary kind) false ss; end_ = []; comments = comments }
+form_in (sequence opener closer) kind ss comments = record {
+  kind = kind;
+  split = is_split (drop (suc (lead kind)) ss);
+  head = map plain (take (lead kind) ss);
+  items = items_in (drop (suc (lead kind)) ss);
+  end_ = [];
+  comments = comments;
+}
+
 abbrev pub node_in : Frame → Kind → List Seen → Seen
-node_in row kind ss = record {
-  make = λ comments break. e.Form (record { kind = kind; split = false; head = []; items = row_exprs (is_binary kind) false ss; end_ = []; comments = comments });
-  gap = first_gap ss;
-}
-node_in (sequence opener closer) kind ss = record {
-  make = λ comments break. e.Form (record {
-    kind = kind;
-    split = is_split (drop (suc (lead kind)) ss);
-    head = map plain (take (lead kind) ss);
-    items = items_in (drop (suc (lead kind)) ss);
-    end_ = [];
-    comments = comments;
-  });
-  gap = first_gap ss;
-}
+node_in shape kind ss = record { make = λ comments break. e.Form (form_in shape kind ss comments); gap = first_gap ss }
 
 abbrev pub leaf_seen : Leaf → Seen
 leaf_seen l = record { make = λ comments break. e.Token (record { class = l.class; text = l.token; break_ = break; comments = comments }); gap = l.gap }

@@ -1,6 +1,6 @@
 ghost use Rattle.std.specs.Prelude.{◌≡◌, take, IfOk};
 
-use crate::value::{Comments, Expr, Form, Item, Token};
+use crate::value::{Comments, Expr, File, Form, Item, Token};
 use bz_items::{Items, Memory, Text};
 use std::alloc::Global;
 
@@ -94,5 +94,83 @@ impl Item {
             Item::Block(lines) => Ok(Item::Block(copy_texts(lines.alloc(), lines.as_slice())?)),
             Item::Stmt(expr) => Ok(Item::Stmt(expr.copy()?)),
         }
+    }
+}
+
+fn copy_items(alloc: Global, items: &[Item]) -> Result<Items<Item>, Memory>
+    ensures { IfOk result (λ copied. copied ≡ items.now) }
+{
+    let mut copied = Items::new(alloc);
+    for item in items {
+        copied.push(item.copy()?)?;
+    }
+    Ok(copied)
+}
+
+impl File {
+    /// An equal file value. The error: a growth was refused.
+    pub fn copy(&self) -> Result<File, Memory>
+        ensures { IfOk result (λ file. file ≡ self.now) }
+    {
+        Ok(File {
+            items: copy_items(self.items.alloc(), self.items.as_slice())?,
+        })
+    }
+}
+
+#[cfg(test)]
+mod tests {
+    use super::*;
+    use bz_tree::{Class, Kind};
+    use std::test::Fail;
+
+    fn text(alloc: Global, bytes: &[u8]) -> Result<Items<Text>, Memory> {
+        let mut texts = Items::new(alloc);
+        texts.push(Text::from_slice(alloc, bytes)?)?;
+        Ok(texts)
+    }
+
+    fn comments(alloc: Global) -> Result<Comments, Memory> {
+        Ok(Comments {
+            before: text(alloc, b"# above")?,
+            suffix: Some(Text::from_slice(alloc, b"# behind")?),
+        })
+    }
+
+    // each type is copied with all its parts, where memory is ample
+    #[test]
+    fn copies(rt: HostRuntime) -> Result<(), Fail> {
+        let alloc = rt.alloc();
+        let token = Token {
+            class: Class::Name,
+            text: Text::from_slice(alloc, b"f")?,
+            break_: true,
+            comments: comments(alloc)?,
+        };
+        let mut items = Items::new(alloc);
+        items.push(Expr::Token(token))?;
+        let form = Form {
+            kind: Kind::Bare,
+            split: true,
+            head: Items::new(alloc),
+            items,
+            end_: text(alloc, b"# end")?,
+            comments: comments(alloc)?,
+        };
+        let item = Item::Stmt(Expr::Form(form)).copy()?;
+        let Item::Stmt(Expr::Form(form)) = item else {
+            return Err(Fail::from("no form"));
+        };
+        assert_eq!(rt; form.kind, Kind::Bare);
+        assert!(rt; form.split);
+        assert_eq!(rt; form.end_.len(), 1);
+        assert!(rt; form.comments.suffix.is_some());
+        assert!(rt; form.head.is_empty());
+        let Some(Expr::Token(token)) = form.items.get(0) else {
+            return Err(Fail::from("no token"));
+        };
+        assert_eq!(rt; token.text.as_slice(), b"f".as_slice());
+        assert_eq!(rt; token.comments.before.len(), 1);
+        Ok(())
     }
 }

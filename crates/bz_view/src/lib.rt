@@ -2,8 +2,13 @@
 #![tactic(auto)]
 
 mod copy;
+mod expr;
+mod frame;
+mod gap;
+mod laws;
 mod value;
 mod viewing;
 
+pub use laws::worked_views;
 pub use value::{Comments, Expr, File, Form, Item, Token};
 pub use viewing::view;

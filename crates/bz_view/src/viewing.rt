@@ -1,16 +1,89 @@
-ghost use Rattle.std.specs.Prelude.{◌≡◌, IfOk};
-ghost use Rattle.bz_view.specs.View.{view_of};
+ghost use Rattle.std.specs.Prelude.{◌≡◌, ◌++◌, IfOk, OnOk};
+ghost use Rattle.bz_view.specs.View.{file_items, line_items, view_of};
 
-use crate::value::File;
-use bz_items::Memory;
-use bz_tree::Tree;
-use std::alloc::{AllocError, Global};
+use crate::expr::{expr_of, gap_before};
+use crate::gap::{push_all_groups, push_groups};
+use crate::value::{Comments, File, Item};
+use bz_items::{Items, Memory};
+use bz_tree::{Part, Tree};
+use std::alloc::Global;
 
 /// The file value of a tree: its statements without gaps, each comment at its host. The error: a growth was refused.
 pub fn view(alloc: Global, tree: &Tree) -> Result<File, Memory>
     ensures { IfOk result (λ file. file ≡ view_of tree.now) }
 {
-    let _ = alloc;
-    let _ = tree;
-    Err(AllocError)
+    Ok(File {
+        items: items_of_lines(alloc, tree.root.parts.as_slice())?,
+    })
+}
+
+/// The items of the lines of a file and of its end.
+fn items_of_lines(alloc: Global, lines: &[Part]) -> Result<Items<Item>, Memory>
+    ensures { IfOk result (λ items. items ≡ file_items lines.now) }
+{
+    let mut items = Items::new(alloc);
+    for line in lines {
+        push_line(line, &mut items)?;
+    }
+    Ok(items)
+}
+
+/// Appends the items of a line: the comments above its statement, and the statement; or those of the end.
+fn push_line(line: &Part, items: &mut Items<Item>) -> Result<(), Memory>
+    ensures { OnOk result (items.new ≡ items.old ++ line_items line.now) }
+{
+    match line {
+        Part::Leaf(end) => push_all_groups(end.gap.as_slice(), items),
+        Part::Node(line) => match line.parts.as_slice() {
+            [] => Ok(()),
+            [statement, ..] => {
+                let before = push_groups(gap_before(statement), items)?;
+                let comments = Comments {
+                    before,
+                    suffix: None,
+                };
+                let alloc = items.alloc();
+                items.push(Item::Stmt(expr_of(alloc, statement, comments, false)?))
+            }
+        },
+    }
+}
+
+#[cfg(test)]
+mod tests {
+    use super::*;
+    use crate::value::Expr;
+    use bz_tree::{Kind, parse};
+    use std::test::Fail;
+
+    // a Block, a statement with a comment above it and split brackets, and a comment at the end, where memory is ample
+    #[test]
+    fn views(rt: HostRuntime) -> Result<(), Fail> {
+        let alloc = rt.alloc();
+        let text = b"# a \n\n# b\ncc_library(\n name = \"x\",)\n# c";
+        let file = view(alloc, &parse(alloc, text)?)?;
+        let [
+            Item::Block(first),
+            Item::Stmt(Expr::Form(statement)),
+            Item::Block(last),
+        ] = file.items.as_slice()
+        else {
+            return Err(Fail::from("other items"));
+        };
+        assert_eq!(rt; first.len(), 1);
+        let Some(line) = first.get(0) else {
+            return Err(Fail::from("no comment"));
+        };
+        assert_eq!(rt; line.as_slice(), b"# a".as_slice());
+        assert_eq!(rt; statement.kind, Kind::Bare);
+        assert_eq!(rt; statement.comments.before.len(), 1);
+        let Some(Expr::Form(call)) = statement.items.get(0) else {
+            return Err(Fail::from("no call"));
+        };
+        assert!(rt; call.split);
+        assert_eq!(rt; call.head.len(), 1);
+        assert_eq!(rt; call.items.len(), 1);
+        assert_eq!(rt; last.len(), 1);
+        Ok(())
+    }
 }

@@ -1,0 +1,13 @@
+pub mod Constructs
+pub mod Files
+pub mod Flagged
+pub mod Forms
+pub mod Gapped
+pub mod Loops
+pub mod Measures
+pub mod Parts
+pub mod Runs
+pub mod Sequences
+pub mod Settings
+pub mod Spelled
+pub mod Standing

@@ -33,15 +33,21 @@ abbrev pub item_text : Item → Bytes
 item_text (i.Block lines) = comment_lines lines
 item_text (i.Stmt x) = comment_lines (comments_of x).before ++ (text_of x 0 ++ (behind (comments_of x).suffix ++ 10 ∷ []))
 
+abbrev pub is_load_kind : Kind → Bool
+is_load_kind k.Load = true
+is_load_kind _ = false
+
+abbrev pub is_assign_kind : Kind → Bool
+is_assign_kind k.Assign = true
+is_assign_kind _ = false
+
 abbrev pub is_load : Expr → Bool
 is_load (Token t) = false
-is_load (Form' k.Load split _ head _ items end_ comments) = true
-is_load (Form' _ split _ head _ items end_ comments) = false
+is_load (Form' kind split _ head _ items end_ comments) = is_load_kind kind
 
 abbrev pub is_assign : Expr → Bool
 is_assign (Token t) = false
-is_assign (Form' k.Assign split _ head _ items end_ comments) = true
-is_assign (Form' _ split _ head _ items end_ comments) = false
+is_assign (Form' kind split _ head _ items end_ comments) = is_assign_kind kind
 
 -- One blank line between two items; none where both are Loads or both are Assigns and the later has no comment above.
 abbrev pub between : Item → Item → Bytes

@@ -3,11 +3,18 @@ ghost use Rattle.bz_tree.specs.Spell.{spell_node, depth_of, limit};
 ghost use Rattle.bz_write.specs.Drawn.{drawn};
 ghost use Rattle.bz_write.specs.Written.{layout};
 
-use bz_items::Memory;
-use bz_tree::Tree;
+use crate::lines::draw_lines;
+use crate::measure::{are_spelled_within, are_within};
+use bz_tree::{Kind, Node, Tree};
 use bz_view::File;
 use std::alloc::{AllocError, Global};
 use thiserror::Error;
+
+/// The most bytes that a text has.
+const LIMIT: usize = 4_194_304;
+
+/// The greatest depth of a tree: a file, and what is inside.
+const DEEPEST: usize = 200;
 
 /// Why a file value is not written.
 #[derive(Debug, Drop, Error)]
@@ -42,7 +49,17 @@ pub fn set(alloc: Global, file: &File) -> Result<Tree, SetFault>
     ensures too_large { result ≡ Err SetFault.TooLarge → limit < length (layout file.now) }
     ensures too_deep { result ≡ Err SetFault.TooDeep → (length (layout file.now) ≤ limit) × (200 < depth_of (drawn file.now)) }
 {
-    let _ = alloc;
-    let _ = file;
-    Err(SetFault::Memory)
+    let parts = draw_lines(alloc, file.items.as_slice())?;
+    if !are_spelled_within(parts.as_slice(), LIMIT) {
+        return Err(SetFault::TooLarge);
+    }
+    if !are_within(parts.as_slice(), DEEPEST - 1) {
+        return Err(SetFault::TooDeep);
+    }
+    Ok(Tree {
+        root: Node {
+            kind: Kind::File,
+            parts,
+        },
+    })
 }

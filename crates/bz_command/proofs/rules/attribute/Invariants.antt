@@ -1,0 +1,7 @@
+use Rattle.std.proofs.Common.{◌≡◌, drop}
+use Rattle.bz_command.specs.Rules.{attribute}
+use Rattle.bz_command.proofs.rules.attribute.Given as goal
+
+-- what the arguments that are left say is what all say
+abbrev pub invariant-loop-argument : goal.invariant-loop-argument
+invariant-loop-argument l = attribute l.name l.arguments ≡ attribute l.name (drop l.argument-index l.arguments)

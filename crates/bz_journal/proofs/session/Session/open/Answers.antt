@@ -1,0 +1,11 @@
+use Rattle.bz_journal.proofs.Opening.{passed_tells, opened_tells, refused_tells}
+use Rattle.bz_journal.proofs.session.Session.open.Goals as goal
+
+pub returns-in-Err-clause-not_utf8 : goal.returns-in-Err-clause-not_utf8
+returns-in-Err-clause-not_utf8 c = passed_tells c.args.text.now c.in-Err.fault c.in-Err.ensures.not_utf8
+
+pub returns-in-Ok-clause-not_utf8 : goal.returns-in-Ok-clause-not_utf8
+returns-in-Ok-clause-not_utf8 c = opened_tells c.args.text.now c.in_default.field-0 _ c.in_default.ensures.not_utf8
+
+pub returns-in-Err-one-clause-not_utf8 : goal.returns-in-Err-one-clause-not_utf8
+returns-in-Err-one-clause-not_utf8 c = refused_tells c.args.text.now c.in_default.field-0 c.in_default.ensures.not_utf8

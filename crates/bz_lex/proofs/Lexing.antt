@@ -1,0 +1,148 @@
+-- The tokens of a text without lines.
+use Rattle.std.proofs.Common.{◌≡◌, ◌≢◌, ℕ, zero, suc, ◌+◌, ◌-◌, ◌≤◌, ◌<◌, Bool, true, false, List, [], ◌∷◌, ◌++◌, ◌⊎◌, inl, inr, Option, Some, None, Result, Ok, Err, length, take, drop, slice_get, refl, sym, ap, ◌∙◌, subst, arith, append_assoc, length-append, length-drop}
+use Rattle.std.proofs.lemmas.Bool.{both_ways}
+use Rattle.std.specs.Str.{IsUtf8, IsCharBoundary}
+use Rattle.std.proofs.Math.Seq.{take-length}
+use Rattle.std.proofs.lemmas.List.{take-append-drop, append-nil, append_cancel_left, length-take-le}
+use Rattle.bz_token.specs.declared.class.Class.{Class}
+use Rattle.bz_token.specs.Tokens.{IsToken, NoToken, TokenAt}
+use Rattle.bz_lex.specs.declared.gap.GapFront.{GapFront}
+use Rattle.bz_lex.specs.declared.gap.GapState.{GapState}
+use Rattle.bz_lex.specs.declared.gap.GapState.TheVariants.{Open, Escape, EscapeReturn, Comment}
+use Rattle.bz_lex.specs.declared.front.Front.{Front}
+use Rattle.bz_lex.specs.Gaps.{IsGap}
+use Rattle.bz_lex.specs.GapStates.{after, Stops, is_end}
+use Rattle.bz_lex.specs.Fronts.{IsLexemeFront, front_token, behind_front}
+use Rattle.bz_lex.specs.Lexing.{AreLexemes, NoLexemes}
+use Rattle.bz_lex.proofs.Gaps.{gap_after, gap_from, one_stop}
+use Rattle.bz_lex.proofs.Tokens.{one_token, token_stops, token_holds}
+use Rattle.bz_lex.proofs.Characters.{cut, gap_sealed, token_cut}
+use Rattle.bz_lex.proofs.Lists.{token_length}
+use Rattle.bz_lex.proofs.Forms.{closed_is}
+use Rattle.bz_lex.proofs.Fronts.{open_true, rest_some, TellsToken, token_within}
+
+-- what stands behind the first gap of a text that has tokens: nothing, or a token
+abbrev Begun : GapState → List ℕ → Type 0
+Begun q b = ((b ≡ []) × (is_end true q ≡ true)) ⊎ ((k : Class) × (u : List ℕ) × (r : List ℕ) × (vs : List (List ℕ)) × (b ≡ u ++ r) × (q ≡ Open) × IsToken k u r × AreLexemes vs r)
+
+record First (s : List ℕ) : Type 0 where
+  gap : List ℕ
+  behind : List ℕ
+  state : GapState
+  parts : s ≡ gap ++ behind
+  taken : after true Open gap ≡ Some state
+  stops : Stops true state behind
+  begun : Begun state behind
+
+first : (s : List ℕ) (us : List (List ℕ)) → AreLexemes us s → First s
+first s [] h =
+    let w = gap_after true true s h in
+    record { gap = s; behind = []; state = w.0; parts = sym (append-nil s); taken = w.1; stops = tt; begun = inl (refl, w.2) }
+first s (u ∷ us) (k, g, r, e, i, t, m) =
+    let w = gap_after true false g i in
+    let o = closed_is w.0 w.2 in
+    record { gap = g; behind = u ++ r; state = Open; parts = e; taken = rw o at w.1; stops = token_stops true k u r t; begun = inr (k, u, r, us, refl, refl, t, m) }
+
+-- the first gap as it was read
+met : (q : GapState) (n : ℕ) (s : List ℕ) (us : List (List ℕ)) → after true Open (take n s) ≡ Some q → Stops true q (drop n s) → AreLexemes us s → Begun q (drop n s)
+met q n s us e h k =
+    let f = first s us k in
+    let o = one_stop true Open f.state q f.gap f.behind (take n s) (drop n s) f.taken f.stops e h (sym f.parts ∙ sym (take-append-drop n s)) in
+    rw (o.1, o.2) at f.begun
+
+begun_ends : (q : GapState) (b : List ℕ) → Begun q b → is_end true q ≡ true
+begun_ends q b (inl h) = h.1
+begun_ends q b (inr (k, u, r, vs, e, o, t, m)) = rw o refl
+
+pub broken_lexeme : (gap : GapFront) (s : List ℕ) → after true Open (take gap.length s) ≡ Some gap.state → Stops true gap.state (drop gap.length s) → is_end true gap.state ≡ false → NoLexemes s
+broken_lexeme gap s e h b us k = both_ways (is_end true gap.state) b (begun_ends gap.state (drop gap.length s) (met gap.state gap.length s us e h k))
+
+pub all_gap : (gap : GapFront) (s : List ℕ) → after true Open (take gap.length s) ≡ Some gap.state → is_end true gap.state ≡ true → gap.length ≡ length s → IsGap true true s
+all_gap gap s e b i = subst (IsGap true true) (take_all s gap.length i) (gap_from true true gap.state (take gap.length s) e b)
+  where
+    take_all : (s : List ℕ) (n : ℕ) → n ≡ length s → take n s ≡ s
+    take_all s n i = rw i (take-length s)
+
+pub no_lexeme : (gap : GapFront) (s : List ℕ) (c : ℕ) → after true Open (take gap.length s) ≡ Some gap.state → Stops true gap.state (drop gap.length s) → slice_get s gap.length ≡ Some c → NoToken (drop gap.length s) → NoLexemes s
+no_lexeme gap s c e h b t us k = by_begun (met gap.state gap.length s us e h k)
+  where
+    by_begun : Begun gap.state (drop gap.length s) → ⊥
+    by_begun (inl w) = let i : c ∷ drop (suc gap.length) s ≡ [] = sym (rest_some s gap.length c b) ∙ w.0 in cc
+    by_begun (inr (k, u, r, vs, i, o, m, l)) = t k u r (sym i) m
+
+pub lexeme : (gap : GapFront) (s : List ℕ) (c : ℕ) (front : Front) → gap.length ≤ length s → after true Open (take gap.length s) ≡ Some gap.state → Stops true gap.state (drop gap.length s) → is_end true gap.state ≡ true
+    → slice_get s gap.length ≡ Some c → front.gap ≡ gap.length → TokenAt front.class front.token (drop gap.length s) → IsLexemeFront front s
+lexeme gap s c front w e h b i f t =
+    let o = open_true gap.state c (drop (suc gap.length) s) (subst (Stops true gap.state) (rest_some s gap.length c i) h) b in
+    record {
+      within = token_within gap.length front s w f t;
+      gap = rw f (gap_from true false gap.state (take gap.length s) e (rw o refl));
+      token = rw f t.1;
+    }
+
+-- ---- the tokens so far
+
+next_tokens : (front : Front) (s : List ℕ) (us : List (List ℕ)) → IsLexemeFront front s → AreLexemes us s → (vs : List (List ℕ)) × AreLexemes vs (behind_front front s)
+next_tokens front s us f k =
+    let g = gap_after true false (take front.gap s) f.gap in
+    let o = closed_is g.0 g.2 in
+    let parts = take-append-drop front.token (drop front.gap s) in
+    let stops : Stops true Open (drop front.gap s) = subst (Stops true Open) parts (token_stops true front.class (front_token front s) (behind_front front s) f.token) in
+    by_begun (met Open front.gap s us (rw o at g.1) stops k) parts
+  where
+    by_begun : Begun Open (drop front.gap s) → front_token front s ++ behind_front front s ≡ drop front.gap s → (vs : List (List ℕ)) × AreLexemes vs (behind_front front s)
+    by_begun (inl w) parts = absurd (token_holds front.class (front_token front s) (behind_front front s) f.token (parts ∙ w.0))
+    by_begun (inr (k, u, r, vs, i, o, m, l)) parts =
+        let one = one_token k front.class u r (front_token front s) (behind_front front s) m f.token (sym i ∙ sym parts) in
+        (vs, subst (AreLexemes vs) (append_cancel_left (front_token front s) r (behind_front front s) (subst (λ (x : List ℕ). x ++ r ≡ front_token front s ++ behind_front front s) one.1 (sym i ∙ sym parts))) l)
+
+-- the tokens read so far, and the rest of the text
+pub record IsLexedTo (text : List ℕ) (tokens : List (List ℕ)) (rest : List ℕ) : Type 0 where
+  pub sound : (us : List (List ℕ)) → AreLexemes us rest → AreLexemes (tokens ++ us) text
+  pub complete : (us : List (List ℕ)) → AreLexemes us text → (vs : List (List ℕ)) × AreLexemes vs rest
+  pub within : length rest ≤ length text
+
+pub begin : (text : List ℕ) → IsLexedTo text [] text
+begin text = record { sound = λ us h. h; complete = λ us h. (us, h); within = omega arith }
+
+pub go_on : (text : List ℕ) (ts : List (List ℕ)) (rest : List ℕ) (front : Front) → IsLexedTo text ts rest → IsLexemeFront front rest → IsLexedTo text (ts ++ (front_token front rest ∷ [])) (behind_front front rest)
+go_on text ts rest front h f = record {
+  sound = λ us k. rw (append_assoc ts (front_token front rest ∷ []) us)
+      (h.sound (front_token front rest ∷ us) (front.class, take front.gap rest, behind_front front rest, sym (ap (λ (t : List ℕ). take front.gap rest ++ t) (take-append-drop front.token (drop front.gap rest)) ∙ take-append-drop front.gap rest), f.gap, f.token, k));
+  complete = λ us k. let w = h.complete us k in next_tokens front rest w.0 f w.1;
+  within = let n = h.within in simp length-drop (omega arith);
+}
+
+pub done : (text : List ℕ) (ts : List (List ℕ)) (rest : List ℕ) → IsLexedTo text ts rest → IsGap true true rest → AreLexemes ts text
+done text ts rest h g = rw append-nil at (h.sound [] g)
+
+pub no_tokens : (text : List ℕ) (ts : List (List ℕ)) (rest : List ℕ) → IsLexedTo text ts rest → NoLexemes rest → NoLexemes text
+no_tokens text ts rest h n us k = let w = h.complete us k in n w.0 w.1
+
+-- one turn of the loop
+pub next_turn : (text : List ℕ) (ts us : List (List ℕ)) (rest behind token : List ℕ) (front : Front) → IsLexedTo text ts rest → IsLexemeFront front rest → token ≡ front_token front rest → us ≡ ts ++ (token ∷ []) → behind ≡ behind_front front rest → IsLexedTo text us behind
+next_turn text ts us rest behind token front h f e i j = rw (i, e, j) (go_on text ts rest front h f)
+
+pub shorter : (rest behind : List ℕ) (front : Front) → IsLexemeFront front rest → behind ≡ behind_front front rest → length behind < length rest
+shorter rest behind front f e =
+    let n = token_length front.class (front_token front rest) (behind_front front rest) f.token in
+    let m : length (front_token front rest) + length (behind_front front rest) ≡ length rest - front.gap = sym (length-append (front_token front rest) (behind_front front rest)) ∙ ap length (take-append-drop front.token (drop front.gap rest)) ∙ length-drop front.gap rest in
+    let w = f.within in
+    rw e (omega arith)
+
+-- ---- where it is cut
+
+pub gap_cut : (s : List ℕ) (front : Front) → IsUtf8 s → IsLexemeFront front s → IsCharBoundary s front.gap
+gap_cut s front u f =
+    subst (IsCharBoundary s) (length-take-le front.gap s (let w = f.within in omega arith))
+    (cut s (take front.gap s) (drop front.gap s) u (sym (take-append-drop front.gap s)) (gap_sealed (take front.gap s) f.gap))
+
+pub end_cut : (s : List ℕ) (front : Front) → IsUtf8 s → IsLexemeFront front s → IsCharBoundary s (front.gap + front.token)
+end_cut s front u f =
+    let w = f.within in
+    let g : length (take front.gap s) ≡ front.gap = length-take-le front.gap s (omega arith) in
+    let d : length (drop front.gap s) ≡ length s - front.gap = length-drop front.gap s in
+    let t : length (front_token front s) ≡ front.token = length-take-le front.token (drop front.gap s) (omega arith) in
+    let parts = sym (ap (λ (x : List ℕ). take front.gap s ++ x) (take-append-drop front.token (drop front.gap s)) ∙ take-append-drop front.gap s) in
+    let b = token_cut s (take front.gap s) (front_token front s) (behind_front front s) front.class u parts f.token in
+    rw (g, t) at b

@@ -1,0 +1,17 @@
+use Rattle.std.proofs.Common.{refl, sym, ◌∙◌, ap, subst}
+use Rattle.std.proofs.lemmas.Bool.{both_ways}
+use Rattle.bz_lex.specs.Places.{behind}
+use Rattle.bz_lex.proofs.Lists.{told_refused, more, less, finished}
+use Rattle.bz_lex.proofs.read.read_leaves.Goals as goal
+
+pub returns-in-Err : goal.returns-in-Err
+returns-in-Err c = told_refused _ _ _ _ _ _ c.leaves.invariant.read c.in-Err.ensures.told (λ e. both_ways _ refl (c.leaves-test.ensures.1 e)) c.refused.ensures
+
+pub leaves-smaller : goal.leaves-smaller
+leaves-smaller c = less _ _ _ _ _ _ c.in-Ok.ensures.told c.in_ok-leaf.ensures (c.behind-place.ensures ∙ ap (λ t. behind c.in_ok-leaf.leaf.class t c.leaves.place) c.as_slice.ensures) c.behind-rest.ensures
+
+pub leaves-preserved : goal.leaves-preserved
+leaves-preserved c = record { read = more _ _ _ _ _ _ _ _ _ c.leaves.invariant.read c.in-Ok.ensures.told c.in_ok-leaf.ensures (c.behind-place.ensures ∙ ap (λ t. behind c.in_ok-leaf.leaf.class t c.leaves.place) c.as_slice.ensures) c.in_ok-push.ensures.ok c.behind-rest.ensures; whole = refl }
+
+pub returns : goal.returns
+returns c = finished _ _ _ _ c.leaves.invariant.read (c.leaves-test.ensures.0 refl)

@@ -1,0 +1,19 @@
+use Rattle.std.proofs.Common.{◌≡◌, ◌++◌, ◌∷◌, [], ℕ, List, map, refl, sym, ◌∙◌, ap, subst}
+use Rattle.std.proofs.lemmas.List.{map-append}
+use Rattle.bz_lex.specs.Fronts.{IsLexemeFront}
+use Rattle.bz_lex.proofs.Lexing.{next_turn, shorter, done, no_tokens}
+use Rattle.bz_lex.proofs.source.lex.Goals as goal
+
+pub returns-in-Ok-None-clause-told : goal.returns-in-Ok-None-clause-told
+returns-in-Ok-None-clause-told c = rw c.into_vec.ensures (done _ _ _ c.tokens.invariant.lexed (rw (c.in-Ok-None.field-0-is, c.as_bytes.ensures.value) at c.in-Ok-None.ensures.told))
+
+pub tokens-smaller : goal.tokens-smaller
+tokens-smaller c = shorter _ _ _ (rw (c.in-Ok-Some.field-0-is, c.as_bytes.ensures.value) at c.in-Ok-Some.ensures.told) c.behind-rest.ensures
+
+pub tokens-preserved : goal.tokens-preserved
+tokens-preserved c = record {
+  lexed = next_turn _ _ _ _ _ _ _ c.tokens.invariant.lexed (rw (c.in-Ok-Some.field-0-is, c.as_bytes.ensures.value) at c.in-Ok-Some.ensures.told) c.token_at-token.ensures
+      (ap (map (λ token. token.now)) c.in_ok-push.ensures.ok ∙ map-append _ _ _) c.behind-rest.ensures;
+  text = c.behind-rest.utf8;
+  whole = refl;
+}

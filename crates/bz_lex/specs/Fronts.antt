@@ -1,0 +1,46 @@
+-- The leaf at the front of a text.
+use Rattle.std.specs.Prelude.{◌≡◌, ◌≤◌, ◌+◌, ℕ, Bool, true, false, List, ◌++◌, length, take, drop, Result, Some, MatchResult}
+use Rattle.bz_lex.specs.declared.leaf.Leaf.{Leaf}
+use Rattle.bz_lex.specs.declared.gap.GapFront.{GapFront}
+use Rattle.bz_lex.specs.declared.gap.GapState.TheVariants.{Open}
+use Rattle.bz_lex.specs.declared.front.Front.{Front}
+use Rattle.bz_lex.specs.declared.front.Stop.{Stop}
+use Rattle.bz_token.specs.Tokens.{IsToken}
+use Rattle.bz_lex.specs.Gaps.{IsGap}
+use Rattle.bz_lex.specs.GapStates.{after, Stops, is_end}
+use Rattle.bz_lex.specs.Places.{Place, May}
+
+-- the text before which the gap is read as far as it goes
+pub record IsGapFront (newlines : Bool) (gap : GapFront) (text : List ℕ) : Type 0 where
+  pub within : gap.length ≤ length text
+  pub taken : after newlines Open (take gap.length text) ≡ Some gap.state
+  pub stops : Stops newlines gap.state (drop gap.length text)
+  pub ends : is_end true gap.state ≡ true
+
+-- the leaf of a class and two lengths, and the text behind it
+abbrev pub front_token : Front → List ℕ → List ℕ
+front_token front text = take front.token (drop front.gap text)
+
+abbrev pub front_leaf : Front → List ℕ → Leaf
+front_leaf front text = record { class = front.class; gap = take front.gap text; token = front_token front text }
+
+abbrev pub behind_front : Front → List ℕ → List ℕ
+behind_front front text = drop front.token (drop front.gap text)
+
+-- that leaf stands there
+pub record IsFront (place : Place) (front : Front) (text : List ℕ) : Type 0 where
+  pub within : front.gap + front.token ≤ length text
+  pub may : May IsToken place (front_leaf front text) (behind_front front text)
+
+-- none does
+abbrev pub NoLeaf : Place → List ℕ → Type 0
+NoLeaf place text = (leaf : Leaf) (rest : List ℕ) → May IsToken place leaf rest → leaf.gap ++ (leaf.token ++ rest) ≡ text → ⊥
+
+abbrev pub TellsFront : Place → List ℕ → Result Front Stop → Type 0
+TellsFront place text result = MatchResult result (λ front. IsFront place front text) (λ _. NoLeaf place text)
+
+-- a token stands there behind a gap
+pub record IsLexemeFront (front : Front) (text : List ℕ) : Type 0 where
+  pub within : front.gap + front.token ≤ length text
+  pub gap : IsGap true false (take front.gap text)
+  pub token : IsToken front.class (front_token front text) (behind_front front text)

@@ -1,0 +1,55 @@
+-- The rows of the tables, by a computed test of each.
+use Rattle.std.proofs.Common.{◌≡◌, ℕ, Bool, true, false, List, [], ◌∷◌, codes, Option, Some, None, refl, subst}
+use Rattle.std.proofs.lemmas.Bool.{both_ways, and_parts}
+use Rattle.bz_token.specs.declared.class.Class.{Class}
+use Rattle.bz_token.specs.declared.class.Class.TheVariants as v
+use Rattle.bz_token.specs.declared.state.State.TheVariants.{Start, Fraction, Point, Word}
+use Rattle.bz_token.specs.Laws.{AllTokens, EachMark, EachKeyword, EachNumber, numbers, Cuts}
+use Rattle.bz_token.specs.Lexemes.{marks, keywords, IsLexeme}
+use Rattle.bz_token.specs.Scanner.{reads, named, longest_front}
+use Rattle.bz_token.proofs.Laws.{separated}
+use Rattle.bz_token.proofs.Sound.{sound}
+use Rattle.bz_token.proofs.Tables.{every}
+use Rattle.bz_token.proofs.Tokens.{some_token}
+
+-- the machine takes the text as one of this class
+abbrev as_class : Class → Class → Bool
+as_class v.Keyword v.Keyword = true
+as_class v.Number v.Number = true
+as_class v.Mark v.Mark = true
+as_class _ _ = false
+
+abbrev taken_by : Class → List ℕ → Option Class → Bool
+taken_by c s None = false
+taken_by c s (Some k) = as_class c (named k s)
+
+abbrev taken_as : Class → List ℕ → Bool
+taken_as c s = taken_by c s (reads Start s)
+
+same_class : (c d : Class) → as_class c d ≡ true → d ≡ c
+same_class v.Keyword v.Keyword h = refl
+same_class v.Number v.Number h = refl
+same_class v.Mark v.Mark h = refl
+same_class _ _ h = absurd (both_ways false refl h)
+
+lexeme_by : (c : Class) (s : List ℕ) (o : Option Class) → reads Start s ≡ o → taken_by c s o ≡ true → IsLexeme c s
+lexeme_by c s None e h = absurd (both_ways false refl h)
+lexeme_by c s (Some k) e h = subst (λ (d : Class). IsLexeme d s) (same_class c (named k s) h) (sound k s e)
+
+rows : (c : Class) (ss : List (List ℕ)) → every (taken_as c) ss ≡ true → AllTokens c ss
+rows c [] h = tt
+rows c (s ∷ ss) h = let w = and_parts (taken_as c s) (every (taken_as c) ss) h in (separated c s [] 10 (lexeme_by c s (reads Start s) refl w.0) refl, rows c ss w.1)
+
+pub each_mark : EachMark
+each_mark = rows v.Mark marks refl
+
+pub each_keyword : EachKeyword
+each_keyword = rows v.Keyword keywords refl
+
+pub each_number : EachNumber
+each_number = rows v.Number numbers refl
+
+pub cuts : Cuts
+unfolding longest_front
+cuts =
+    ((some_token (codes "1..real") (Fraction, 2) v.Number refl refl refl).1, (some_token (codes ".real") (Point, 1) v.Mark refl refl refl).1, (some_token (codes "1.real") (Fraction, 2) v.Number refl refl refl).1, (some_token (codes "real") (Word, 4) v.Name refl refl refl).1)

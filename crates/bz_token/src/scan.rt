@@ -1,0 +1,90 @@
+ghost use Rattle.std.specs.Prelude.{◌≡◌, Some, None, take, drop, length, MatchOption, IfSome, IsUtf8, IsCharBoundary};
+ghost use Rattle.bz_token.specs.Lexemes.{is_keyword};
+ghost use Rattle.bz_token.specs.Scanner.{longest_front, before_third, named};
+ghost use Rattle.bz_token.specs.Tokens.{NoToken, TokenAt};
+
+use crate::Class;
+use crate::state::State;
+
+/// The token at the front of a text.
+#[derive(Clone, Copy, Debug, PartialEq, Eq)]
+pub struct Found {
+    pub class: Class,
+    /// How many bytes long it is.
+    pub len: usize,
+}
+
+/// The token that the text begins with; `None` where it begins with none. A gap is no token, nor are the end and a newline.
+pub fn token(text: &[u8]) -> Option<Found>
+    ensures exact { MatchOption result (NoToken text.now) (λ found. TokenAt found.class found.len text.now) }
+    ensures boundary { IsUtf8 text.now → IfSome result (λ found. IsCharBoundary text.now found.len) }
+{
+    let (state, len) = longest_front(text)?;
+    if before_third(state, &text[len..]) {
+        return None;
+    }
+    let class = named(state.class()?, &text[..len]);
+    Some(Found { class, len })
+}
+
+/// Whether an empty string ends in this state and a third mark is next.
+fn before_third(state: State, rest: &[u8]) -> bool
+    ensures { result ≡ before_third state rest.now }
+{
+    match (state, rest) {
+        (State::Empty(quote), [byte, ..]) => *byte == quote.byte(),
+        _ => false,
+    }
+}
+
+/// A Name of the table of keywords is a Keyword.
+fn named(class: Class, text: &[u8]) -> Class
+    ensures { result ≡ named class text.now }
+{
+    match class {
+        Class::Name if is_keyword(text) => Class::Keyword,
+        _ => class,
+    }
+}
+
+/// The state after the longest lexeme at the front, and its length.
+fn longest_front(text: &[u8]) -> Option<(State, usize)>
+    ensures { result ≡ longest_front text.now }
+{
+    let mut state = State::Start;
+    let mut best = None;
+    for (i, byte) in text.iter().enumerate() {
+        if state.may_end() {
+            best = Some((state, i));
+        }
+        match state.step(*byte) {
+            None => return best,
+            Some(next) => state = next,
+        }
+    }
+    if state.may_end() {
+        Some((state, text.len()))
+    } else {
+        best
+    }
+}
+
+fn is_keyword(text: &[u8]) -> bool
+    ensures { result ≡ is_keyword text.now }
+{
+    text == b"and".as_slice()
+        || text == b"break".as_slice()
+        || text == b"continue".as_slice()
+        || text == b"def".as_slice()
+        || text == b"elif".as_slice()
+        || text == b"else".as_slice()
+        || text == b"for".as_slice()
+        || text == b"if".as_slice()
+        || text == b"in".as_slice()
+        || text == b"lambda".as_slice()
+        || text == b"load".as_slice()
+        || text == b"not".as_slice()
+        || text == b"or".as_slice()
+        || text == b"pass".as_slice()
+        || text == b"return".as_slice()
+}

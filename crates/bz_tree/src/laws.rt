@@ -1,0 +1,12 @@
+//! Laws of legal trees: the contract of each function is a law, and there is nothing to run.
+ghost use Rattle.bz_tree.specs.Laws.{OneTree};
+
+use crate::tree::Tree;
+
+/// No text has two legal trees.
+pub fn one_tree(tree: &Tree, other: &Tree)
+    ensures { OneTree tree.now other.now }
+{
+    let _root = &tree.root;
+    let _other = &other.root;
+}
