@@ -5,13 +5,12 @@ use Rattle.std.specs.Io.KnownBytes.{Appends}
 use Rattle.std.proofs.lemmas.List.{take_all, append-nil}
 use Rattle.std.proofs.lemmas.Bool.{cases_lt}
 use Rattle.bz_tree.specs.Spell.{limit}
-use Rattle.bz_tree.specs.Legal.{Accepted}
 use Rattle.bz_command.specs.declared.refusal.Refusal.{Refusal}
 use Rattle.bz_command.specs.declared.refusal.Refusal.TheVariants.{Memory}
 use Rattle.bz_journal.specs.declared.action.Action.{Action}
 use Rattle.bz_journal.specs.declared.action.Reply.{Reply}
 use Rattle.bz_journal.specs.History.{History, Acts, Leads}
-use Rattle.bz_tools.specs.Outcome.{RunsToRefusal, Edits, Outcome, IsInput}
+use Rattle.bz_tools.specs.Outcome.{RunsToRefusal, Edits, Outcome, IsInput, IsRead}
 use Rattle.bz_tools.specs.Asked.{actions_of}
 
 -- an action that is not refused, and what the run makes of the rest
@@ -32,8 +31,8 @@ run_halts h after action left rest refusal split acts other = rw (split) (inl (r
     leads (inl done) = done
     leads (inr wanting) = let e = wanting.0 in absurd (other (cc))
 
-within_limit : (text : List ℕ) → Accepted text → length text ≤ limit
-within_limit text (tree, reads) = reads.2
+within_limit : (text : List ℕ) → IsRead text → length text ≤ limit
+within_limit text (coded, (tree, reads)) = reads.2
 
 -- the first bytes of an input, one more than a text may have, tell what becomes of it
 edits_of_front : (actions : List Action) (all output : List ℕ) (status : ℕ) → Edits actions (take 4194305 all) output status → Edits actions all output status
