@@ -1,11 +1,13 @@
 -- Operands one after the other.
-use Rattle.std.proofs.Common.{◌≡◌, ℕ, List, [], ◌∷◌, ◌++◌, ◌<◌, ◌+◌, length, drop, get_or, add-one, map, append_assoc, Result, Ok, Err, refl, ap, sym, ◌∙◌}
+use Rattle.std.proofs.Common.{◌≡◌, ◌==◌, Bool, false, ℕ, List, [], ◌∷◌, ◌++◌, ◌<◌, ◌+◌, length, drop, get_or, add-one, Some, arith, append_assoc, Result, Ok, Err, refl, ap, sym, ◌∙◌}
 use Rattle.std.proofs.Math.Seq.{drop-cons}
+use Rattle.std.proofs.lemmas.Bool.{eqb-false}
 use Rattle.std.proofs.lemmas.List.{append-nil}
 use Rattle.bz_command.specs.declared.command.Target.{Target}
 use Rattle.bz_tools.specs.declared.verb.Verb.{Verb}
 use Rattle.bz_tools.specs.declared.verb.OperandFault.{OperandFault}
-use Rattle.bz_tools.specs.Asked.{Asked, nothing, both, aimed, wanted, joined, asked_by, asked_of}
+use Rattle.bz_tools.specs.Asked.{Asked, aimed, wanted, joined, asked_by, asked_of, actions_of, actions_for, complete}
+use Rattle.bz_tools.specs.Line.{operands_of}
 
 pub joined-target : (verbs : List Verb) (targets more : List Target) (target : Target) → more ≡ targets ++ target ∷ []
     → joined (Ok (record { verbs = verbs; targets = targets })) (aimed (Ok target)) ≡ Ok (record { verbs = verbs; targets = more })
@@ -31,3 +33,17 @@ asked_turn asked more operand left rest full split so_far one =
 -- what is left at a place is the item there and what is left behind it
 pub left-cons : {A : Type 0} (items : List A) (at : ℕ) (default : A) → at < length items → drop at items ≡ get_or items at default ∷ drop (at + 1) items
 left-cons items at default within = rw (add-one) (drop-cons items at default within)
+
+-- words without a fault, with a command and a target
+pub actions_of-some : (words operands : List (List ℕ)) (asked : Asked) → operands_of words ≡ Some operands → asked_of operands ≡ Ok asked
+    → 0 < length asked.verbs → 0 < length asked.targets → actions_of words ≡ Some (actions_for asked.verbs asked.targets)
+actions_of-some words operands asked line read some any = rw (line, read) (full asked.verbs asked.targets some any)
+  where
+    full : (verbs : List Verb) (targets : List Target) → 0 < length verbs → 0 < length targets → complete verbs targets ≡ Some (actions_for verbs targets)
+    full [] targets h k = absurd (omega arith)
+    full (verb ∷ verbs) [] h k = absurd (omega arith)
+    full (verb ∷ verbs) (target ∷ targets) h k = refl
+
+-- a list that its test finds not empty
+pub some-items : (empty : Bool) (count : ℕ) → empty ≡ (count == 0) → empty ≡ false → 0 < count
+some-items empty count test other = let more = eqb-false count 0 (sym test ∙ other) in omega arith

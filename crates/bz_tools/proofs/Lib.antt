@@ -2,3 +2,5 @@ pub mod Written
 pub mod Pieces
 pub mod Counts
 pub mod AskedLemmas
+pub mod Outcomes
+pub mod Coding

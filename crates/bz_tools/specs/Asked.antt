@@ -1,5 +1,5 @@
 -- What the words of a line ask for: the actions, in order.
-use Rattle.std.specs.Prelude.{ℕ, List, [], ◌∷◌, ◌++◌, map, if◌then◌else◌, Option, Some, None, Result, Ok, Err, option_and_then}
+use Rattle.std.specs.Prelude.{List, [], ◌∷◌, ◌++◌, map, if◌then◌else◌, Option, Some, None, Result, Ok, Err, option_and_then}
 use Rattle.std.specs.List.{flat_map}
 use Rattle.bz_view.specs.Gaps.{Bytes}
 use Rattle.bz_command.specs.declared.command.Command.TheVariants as c

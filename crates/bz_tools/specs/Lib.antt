@@ -1,9 +1,10 @@
-pub mod Faults
-pub mod Memory
 pub mod App
-pub mod Line
-pub mod Words
-pub mod Operands
-pub mod Verbs
 pub mod Asked
+pub mod Faults
+pub mod Line
+pub mod Operands
+pub mod Outcome
+pub mod Ports
 pub mod Shown
+pub mod Verbs
+pub mod Words

@@ -3,7 +3,7 @@ use Rattle.std.specs.Prelude.{map, List}
 use Rattle.bz_journal.specs.declared.action.Action.{Action}
 use Rattle.bz_tools.specs.Asked as a
 use Rattle.bz_tools.specs.declared.asked.Asked.{Asked}
-use Rattle.bz_tools.specs.declared.asked.Step.{Step}
+use Rattle.bz_tools.specs.declared.steps.Step.{Step}
 
 abbrev pub asked_in : Asked → a.Asked
 asked_in asked = record { verbs = map (λ command. command.verb) asked.commands.items; targets = asked.targets.items }

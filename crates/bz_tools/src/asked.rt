@@ -2,14 +2,13 @@
 ghost use Rattle.std.specs.Prelude.{◌≡◌, ◌≢◌, ◌⊎◌, [], ◌∷◌, ◌++◌, List, Result, Ok, Err, IfOk, IfErr, OnOk, map};
 ghost use Rattle.bz_tools.specs.Asked as a;
 ghost use Rattle.bz_tools.specs.Operands.{target_of, verb_of};
-ghost use Rattle.bz_tools.specs.Shown.{asked_in, actions_in};
+ghost use Rattle.bz_tools.specs.Shown.{asked_in};
 ghost use Rattle.bz_tools.specs.declared.verb.OperandFault.{OperandFault};
 
 use crate::target::{is_target, read_target};
 use crate::verb::{OperandFault, Verb, read_verb};
-use bz_command::{Command, Target, Which};
-use bz_journal::Action;
-use std::alloc::{AllocError, Global};
+use bz_command::Target;
+use std::alloc::Global;
 
 /// A command, and its text.
 #[derive(Clone, Copy)]
@@ -32,13 +31,6 @@ pub(crate) struct Refused<'a> {
     pub(crate) fault: OperandFault,
 }
 
-/// An action, and the text of its command.
-#[derive(Drop)]
-pub(crate) struct Step<'a> {
-    pub(crate) action: Action,
-    pub(crate) command: &'a str,
-}
-
 fn add_target(alloc: Global, asked: &mut Asked<'_>, operand: &str) -> Result<(), OperandFault>
     ensures ok { OnOk result (a.joined (Ok (asked_in asked.old)) (a.aimed (target_of operand.now)) ≡ Ok (asked_in asked.new)) }
     ensures err { IfErr result (λ fault. (a.aimed (target_of operand.now) ≡ Err fault) ⊎ (fault ≡ OperandFault.Memory)) }
@@ -50,14 +42,21 @@ fn add_target(alloc: Global, asked: &mut Asked<'_>, operand: &str) -> Result<(),
     Ok(())
 }
 
-fn add_command<'a>(alloc: Global, asked: &mut Asked<'a>, operand: &'a str) -> Result<(), OperandFault>
+fn add_command<'a>(
+    alloc: Global,
+    asked: &mut Asked<'a>,
+    operand: &'a str,
+) -> Result<(), OperandFault>
     ensures ok { OnOk result (a.joined (Ok (asked_in asked.old)) (a.wanted (verb_of operand.entry.now)) ≡ Ok (asked_in asked.new)) }
     ensures err { IfErr result (λ fault. (a.wanted (verb_of operand.entry.now) ≡ Err fault) ⊎ (fault ≡ OperandFault.Memory)) }
 {
     let verb = read_verb(alloc, operand.as_bytes())?;
     if asked
         .commands
-        .push(Asking { verb, text: operand })
+        .push(Asking {
+            verb,
+            text: operand,
+        })
         .is_err()
     {
         return Err(OperandFault::Memory);

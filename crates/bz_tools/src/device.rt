@@ -1,5 +1,5 @@
 //! Any reader or writer of std's.
-ghost use Rattle.std.specs.Prelude.{◌≡◌};
+ghost use Rattle.std.specs.Prelude.{◌≡◌, ◌≤◌};
 
 use crate::{PortFault, Sink, Source};
 use std::io::{Read, Write};
@@ -12,9 +12,25 @@ pub struct Device<T> {
 }
 
 impl<T> Device<T> {
+    ghost use Rattle.bz_tools.specs.Ports.{device_in, device_faults};
+    ghost use Rattle.bz_tools.specs.Faults.{Rises};
+
     /// A device that has not failed yet.
-    pub fn new(device: T) -> Device<T> {
+    pub fn new(device: T) -> Device<T>
+        ensures held { device_in result ≡ device }
+        ensures fresh { device_faults result ≡ 0 }
+    {
         Device { device, faults: 0 }
+    }
+
+    // A fault is counted.
+    fn failed(&mut self) -> PortFault
+        ensures held { device_in self.new ≡ device_in self.old }
+        ensures rises { Rises (device_faults self.old) (device_faults self.new) }
+        ensures count { device_faults self.old ≤ device_faults self.new }
+    {
+        self.faults = self.faults.saturating_add(1);
+        PortFault
     }
 }
 
@@ -26,10 +42,7 @@ impl<R: Read> Source for Device<R> {
     fn read(&mut self, into: &mut [u8]) -> Result<usize, PortFault> {
         match self.device.read(into) {
             Ok(n) => Ok(n),
-            Err(_) => {
-                self.faults = self.faults.saturating_add(1);
-                Err(PortFault)
-            }
+            Err(_) => Err(self.failed()),
         }
     }
 }
@@ -42,10 +55,7 @@ impl<W: Write> Sink for Device<W> {
     fn write(&mut self, bytes: &[u8]) -> Result<usize, PortFault> {
         match self.device.write(bytes) {
             Ok(n) if n > 0 || bytes.is_empty() => Ok(n),
-            _ => {
-                self.faults = self.faults.saturating_add(1);
-                Err(PortFault)
-            }
+            _ => Err(self.failed()),
         }
     }
 }

@@ -4,15 +4,19 @@
 
 mod asked;
 mod device;
+mod engine;
 mod line;
 mod memory;
 mod sink;
 mod source;
+mod steps;
 mod target;
+mod told;
 mod verb;
 mod words;
 
 pub use device::Device;
+pub use engine::{Cut, Exit, buildozer};
 pub use memory::{MemorySink, MemorySource};
 pub use sink::Sink;
 pub use source::{PortFault, Source};

@@ -1,5 +1,5 @@
 //! Readers and writers in memory, which can be made to fail.
-ghost use Rattle.std.specs.Prelude.{◌≡◌, ◌<◌, Some};
+ghost use Rattle.std.specs.Prelude.{◌≡◌, ◌<◌, [], Some};
 
 use crate::{PortFault, Sink, Source};
 use std::alloc::Global;
@@ -16,9 +16,13 @@ pub struct MemorySource<'a> {
 }
 
 impl<'a> MemorySource<'a> {
+    ghost use Rattle.bz_tools.specs.Ports.{left_in};
+
     /// Gives at most `step` bytes a read (0 counts as 1), and fails at the read numbered `fails_at`, from 1; at 0 it
     /// never fails.
-    pub fn new(bytes: &'a [u8], step: usize, fails_at: u64) -> MemorySource<'a> {
+    pub fn new(bytes: &'a [u8], step: usize, fails_at: u64) -> MemorySource<'a>
+        ensures { left_in result ≡ bytes.now }
+    {
         MemorySource {
             bytes,
             step: step.max(1),
@@ -60,11 +64,13 @@ pub struct MemorySink {
 }
 
 impl MemorySink {
-    ghost use Rattle.bz_tools.specs.Memory.{written};
+    ghost use Rattle.bz_tools.specs.Ports.{written_in};
 
     /// Takes at most `step` bytes a write (0 counts as 1), and fails at the write numbered `fails_at`, from 1; at 0 it
     /// fails only where memory is refused.
-    pub fn new(alloc: Global, step: usize, fails_at: u64) -> MemorySink {
+    pub fn new(alloc: Global, step: usize, fails_at: u64) -> MemorySink
+        ensures { written_in result ≡ [] }
+    {
         MemorySink {
             bytes: Vec::new(alloc),
             step: step.max(1),
@@ -76,7 +82,7 @@ impl MemorySink {
 
     /// What was written.
     pub fn bytes(&self) -> &[u8]
-        ensures { result.now ≡ written self.now }
+        ensures { result.now ≡ written_in self.now }
     {
         self.bytes.as_slice()
     }

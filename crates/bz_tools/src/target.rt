@@ -13,7 +13,8 @@ use std::alloc::Global;
 pub(crate) fn is_target(operand: &[u8]) -> bool
     ensures { result ≡ is_target operand.now }
 {
-    !operand.contains(&b' ') && (operand.contains(&b':') || operand.strip_prefix(b"//".as_slice()).is_some())
+    !operand.contains(&b' ')
+        && (operand.contains(&b':') || operand.strip_prefix(b"//".as_slice()).is_some())
 }
 
 fn copied(alloc: Global, text: &[u8]) -> Result<Text, OperandFault>

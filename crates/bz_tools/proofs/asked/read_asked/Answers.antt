@@ -11,5 +11,5 @@ loop-operand-preserved c =
     let none : Bor (List ℕ) = record { ref_ptr = (0, 0); now = [] } in
     let texts : List (Bor (List ℕ)) → List (List ℕ) = λ list. map (λ s. s.now) list in
     asked_turn (asked_in c.loop-operand.asked) (asked_in c.add.new.asked) (get_or operands at none).now (texts (drop at operands))
-        (texts (drop (at + 1) operands)) (asked_of (texts operands)) (ap texts (left-cons operands at none c.loop-operand-test.true))
-        c.loop-operand.invariant c.in-Ok.ensures.ok
+    (texts (drop (at + 1) operands)) (asked_of (texts operands)) (ap texts (left-cons operands at none c.loop-operand-test.true))
+    c.loop-operand.invariant c.in-Ok.ensures.ok

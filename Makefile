@@ -1,0 +1,33 @@
+# make        proves and builds every program, leaves it in bin/, and shows a first run
+# make test   the tests: every proof from nothing, the edits that the prover must refuse, each program and each test
+# make bench  the time and the memory of a delete in a large file
+
+PROGRAMS = bin/buildozer
+
+.PHONY: all test bench clean show rt
+
+all: $(PROGRAMS) show
+
+rt:
+	@command -v rt > /dev/null || { \
+	    echo "rt was not found: install a Rattle kit (rattle-kit-13b or later) and put its bin folder on the PATH." >&2; exit 1; }
+
+# 'rt run' proves and builds the program before it runs it.
+bin/buildozer: rt
+	@mkdir -p bin
+	cd crates/buildozer && rt run -- -- delete -:middle < ../../examples/BUILD > /dev/null
+	cp crates/buildozer/out/buildozer $@
+
+show: $(PROGRAMS)
+	@echo; echo "examples/BUILD:"; echo; cat examples/BUILD
+	@echo; echo "bin/buildozer -- delete -:middle < examples/BUILD"; echo
+	@bin/buildozer -- delete -:middle < examples/BUILD
+
+test: rt
+	@rt ci
+
+bench: $(PROGRAMS)
+	@bench/delete.sh
+
+clean:
+	rm -rf bin crates/*/out

@@ -1,0 +1,132 @@
+//! The actions of a line, in order.
+ghost use Rattle.std.specs.Prelude.{◌≡◌, ◌≢◌, ◌++◌, Some, None, IfOk, IfErr, OnOk, map};
+ghost use Rattle.bz_tools.specs.Asked as a;
+ghost use Rattle.bz_tools.specs.Shown.{actions_in};
+
+use crate::asked::{Asking, Refused, read_asked};
+use crate::line::{LineFault, read_operands};
+use crate::verb::{OperandFault, Verb};
+use bz_command::{Command, Target, Which};
+use bz_journal::Action;
+use std::alloc::{AllocError, Global};
+use std::convert::AsStr;
+
+/// An action, and the text of its command.
+#[derive(Drop)]
+pub(crate) struct Step<'a> {
+    pub(crate) action: Action,
+    pub(crate) command: &'a str,
+}
+
+/// Why the words of a line ask for nothing.
+#[derive(Drop)]
+pub(crate) enum UsageFault<'a> {
+    /// The words are no line of the program's; clap's text says why.
+    Line(clap::Error),
+    /// The first operand that is refused.
+    Operand(Refused<'a>),
+    /// There is no command.
+    NoCommand,
+    /// There is no target.
+    NoTarget,
+    /// Memory was refused.
+    Memory,
+}
+
+fn copy_which(which: &Which) -> Result<Which, AllocError>
+    ensures { IfOk result (λ copy. copy ≡ which.now) }
+{
+    match which {
+        Which::Name(name) => Ok(Which::Name(name.copy()?)),
+        Which::Package => Ok(Which::Package),
+    }
+}
+
+fn copy_target(target: &Target) -> Result<Target, AllocError>
+    ensures { IfOk result (λ copy. copy ≡ target.now) }
+{
+    let package = target.package.copy()?;
+    let which = copy_which(&target.which)?;
+    Ok(Target { package, which })
+}
+
+fn action_of(verb: Verb, target: &Target) -> Result<Action, AllocError>
+    ensures { IfOk result (λ action. action ≡ a.action_of target.now verb) }
+{
+    match verb {
+        Verb::Delete => Ok(Action::Do(Command::Delete, copy_target(target)?)),
+        Verb::Undo(count) => Ok(Action::Undo(count)),
+        Verb::Redo(count) => Ok(Action::Redo(count)),
+    }
+}
+
+// The target gets all commands, in order.
+fn add_steps<'a>(
+    steps: &mut Vec<Step<'a>>,
+    commands: &[Asking<'a>],
+    target: &Target,
+) -> Result<(), AllocError>
+    ensures { OnOk result (actions_in steps.new.items
+        ≡ actions_in steps.old.items ++ map (a.action_of target.now) (map (λ command. command.verb) commands.now)) }
+{
+    for command in commands {
+        let action = action_of(command.verb, target)?;
+        let command = command.text;
+        steps.push(Step { action, command })?;
+    }
+    Ok(())
+}
+
+// Each target gets all commands, in order.
+fn steps_of<'a>(
+    alloc: Global,
+    commands: &[Asking<'a>],
+    targets: &[Target],
+) -> Result<Vec<Step<'a>>, AllocError>
+    ensures { IfOk result (λ steps. actions_in steps.items ≡ a.actions_for (map (λ command. command.verb) commands.now) targets.now) }
+{
+    let mut steps = Vec::new(alloc);
+    for target in targets {
+        add_steps(&mut steps, commands, target)?;
+    }
+    Ok(steps)
+}
+
+/// The actions that the words of a line ask for, in order. The error is memory, or the words ask for nothing: a fault
+/// that clap finds, the first refused operand, no command, or no target.
+pub(crate) fn read_steps<'a, S: AsStr>(
+    alloc: Global,
+    words: &'a [S],
+) -> Result<Vec<Step<'a>>, UsageFault<'a>>
+    ensures ok { IfOk result (λ steps. a.actions_of (map S.text words.entry.now) ≡ Some (actions_in steps.items)) }
+    ensures err { IfErr result (λ fault. fault ≢ UsageFault.Memory → a.actions_of (map S.text words.entry.now) ≡ None) }
+{
+    let operands = match read_operands(alloc, words) {
+        Ok(operands) => operands,
+        Err(LineFault::Memory) => return Err(UsageFault::Memory),
+        Err(LineFault::Usage(error)) => return Err(UsageFault::Line(error)),
+    };
+    let asked = match read_asked(alloc, &operands) {
+        Ok(asked) => asked,
+        Err(refused) => return Err(usage_fault(refused)),
+    };
+    if asked.commands.is_empty() {
+        return Err(UsageFault::NoCommand);
+    }
+    if asked.targets.is_empty() {
+        return Err(UsageFault::NoTarget);
+    }
+    match steps_of(alloc, &asked.commands, &asked.targets) {
+        Ok(steps) => Ok(steps),
+        Err(_) => Err(UsageFault::Memory),
+    }
+}
+
+fn usage_fault(refused: Refused<'_>) -> UsageFault<'_>
+    ensures { result ≢ UsageFault.Memory → refused.entry.fault ≢ OperandFault.Memory }
+{
+    match refused.fault {
+        OperandFault::Memory => UsageFault::Memory,
+        _ => UsageFault::Operand(refused),
+    }
+}
