@@ -7,7 +7,6 @@ use Rattle.std.proofs.lemmas.List.{append-nil}
 use Rattle.std.proofs.lemmas.List.Elements.{recursion_from_All}
 use Rattle.bz_token.specs.declared.class.Class.TheVariants as c
 use Rattle.bz_tree.specs.declared.kind.Kind.TheVariants as k
-use Rattle.bz_tree.specs.declared.tree.Part.{Part}
 use Rattle.bz_tree.specs.declared.tree.Part.TheVariants as p
 use Rattle.bz_view.specs.declared.value.Comments.{Comments}
 use Rattle.bz_view.specs.declared.value.Expr.{Expr}
@@ -19,9 +18,9 @@ use Rattle.bz_view.specs.Proper.{IsComment, IsStatement, IsProperItem, IsProper,
 use Rattle.bz_view.proofs.Lines.{some_group}
 use Rattle.bz_view.proofs.Seen.{items_Node}
 use Rattle.bz_write.specs.Layout.{behind}
-use Rattle.bz_write.specs.Written.{comment_lines, between}
+use Rattle.bz_write.specs.Written.{comment_lines}
 use Rattle.bz_write.specs.Drawn.{part_of, line_of, before_next, lines_from, drawn}
-use Rattle.bz_write.specs.Flags.{with_flags, item_with_flags, flags}
+use Rattle.bz_write.specs.Flags.{with_flags, flags}
 use Rattle.bz_write.proofs.Forms.{two}
 use Rattle.bz_write.proofs.ReadBack.{statement_back}
 
@@ -120,7 +119,7 @@ block_waits : (ls : List (Option Bytes)) (bs : List Item) (text : Bytes) (texts 
 block_waits ls bs text texts h =
     let before : List (Option Bytes) = ls ++ told (text ∷ texts) in
     let all : (above : List Bytes) → groups_of ((before ++ None ∷ []) ++ told above) ≡ groups_of before ++ above ∷ [] = λ above.
-        ap groups_of (append_assoc before (None ∷ []) (told above)) ∙ (groups_cut before (told above) ∙ ap (λ z. groups_of before ++ z) (groups_told above)) in
+    ap groups_of (append_assoc before (None ∷ []) (told above)) ∙ (groups_cut before (told above) ∙ ap (λ z. groups_of before ++ z) (groups_told above)) in
     record {
       front = λ above. ap (λ z. blocks (all_but_last z)) (all above) ∙ (ap blocks (front_kept (groups_of before) above) ∙ told_blocks ls bs text texts h);
       last = λ above. ap last_group (all above) ∙ last_kept (groups_of before) above;

@@ -1,30 +1,28 @@
 -- What is drawn of an expression reads back as the expression with its flags settled.
-use Rattle.std.proofs.Common.{◌≡◌, ℕ, zero, suc, Bool, true, false, not, ◌&&◌, ◌||◌, List, [], ◌∷◌, ◌++◌, ◌+◌, if◌then◌else◌, inl, inr, ◌⊎◌, refl, sym, ap, ◌∙◌, subst, map}
+use Rattle.std.proofs.Common.{◌≡◌, ℕ, Bool, true, false, ◌||◌, List, [], ◌∷◌, ◌+◌, if◌then◌else◌, inl, inr, refl, sym, ap, ◌∙◌, subst, map}
 use Rattle.std.specs.Prelude.{None, All}
 use Rattle.std.specs.List.{AllByRecursion}
 use Rattle.std.proofs.lemmas.List.Elements.{recursion_from_All}
-use Rattle.bz_token.specs.declared.class.Class.TheVariants as c
 use Rattle.bz_tree.specs.declared.kind.Kind.{Kind}
 use Rattle.bz_tree.specs.declared.kind.Kind.TheVariants as k
 use Rattle.bz_tree.specs.declared.tree.Part.{Part}
-use Rattle.bz_tree.specs.declared.tree.Part.TheVariants as p
 use Rattle.bz_view.specs.declared.value.Comments.{Comments}
 use Rattle.bz_view.specs.declared.value.Token.{Token}
 use Rattle.bz_view.specs.declared.value.Expr.{Expr}
 use Rattle.bz_view.specs.declared.value.Expr.TheVariants as e
-use Rattle.bz_view.specs.Frames.{Frame, row, sequence, frame}
+use Rattle.bz_view.specs.Frames.{frame}
 use Rattle.bz_view.specs.Gaps.{Bytes, has_newline}
 use Rattle.bz_view.specs.View.{Seen, seen, plain, no_comments, items_in, is_split, node_in, first_gap, row_exprs}
-use Rattle.bz_view.specs.Proper.{IsString, IsForm, IsPlainToken, IsList, IsValue, IsName, IsEquals, IsNamed, IsNamedRow, IsCall, IsOneName, IsOneCall, IsStatement, NotSplit, AnySplit, Nothing, comments_of}
+use Rattle.bz_view.specs.Proper.{IsString, IsForm, IsList, IsValue, IsName, IsEquals, IsNamed, IsNamedRow, IsCall, IsOneName, IsOneCall, IsStatement, NotSplit, AnySplit, Nothing, comments_of}
 use Rattle.bz_view.proofs.Lines.{newline_here}
 use Rattle.bz_view.proofs.Seen.{seen_Node}
-use Rattle.bz_write.specs.Layout.{Piece, mark, part, laid, is_broken, joined, stacked, line}
+use Rattle.bz_write.specs.Layout.{Piece, mark, laid, is_broken, joined, stacked, line}
 use Rattle.bz_write.specs.Drawn.{piece_part, part_of, drawings}
 use Rattle.bz_write.specs.Flags.{settled_split, with_flags}
 use Rattle.bz_write.proofs.Forms.{two}
 use Rattle.bz_write.proofs.Loops.{values_drawings}
 use Rattle.bz_write.proofs.Flagged.{flags_Form}
-use Rattle.bz_write.proofs.Sequences.{Child, mark_part, stacked_item}
+use Rattle.bz_write.proofs.Sequences.{Child, stacked_item}
 use Rattle.bz_write.proofs.Constructs.{form_part}
 
 -- the child has no comments, and reads back behind any gap, at any margin
@@ -140,7 +138,7 @@ list_back x h =
     let broken : Bool = is_broken k.List f.split (map (λ z. z.0) xs) [] in
     let all : AllByRecursion ReadsBack xs = each_back IsString string_back f.items (recursion_from_All IsString f.items h.0.items) in
     let as_seen : (gap : Bytes) (m : ℕ) → seen (part_of x gap m) ≡ node_in (frame k.List) k.List (seen_pieces (laid k.List f.split gap m [] xs [])) = λ gap m.
-        seen_form x k.List Nothing (All IsString) AnySplit h.0 gap m ∙ ap (λ z. node_in (frame k.List) k.List (seen_pieces (laid k.List f.split gap m (drawings z) xs []))) h.0.head in
+    seen_form x k.List Nothing (All IsString) AnySplit h.0 gap m ∙ ap (λ z. node_in (frame k.List) k.List (seen_pieces (laid k.List f.split gap m (drawings z) xs []))) h.0.head in
     record {
       bare = h.1;
       value = λ gap m.
@@ -180,7 +178,7 @@ named_back x h =
     let f = h.0.form in
     let own : RowBack k.Named f.split f.items = named_row_back f.split f.items h.0.items in
     let as_seen : (gap : Bytes) (m : ℕ) → seen (part_of x gap m) ≡ node_in (frame k.Named) k.Named (seen_pieces (laid k.Named f.split gap m [] (drawings f.items) [])) = λ gap m.
-        seen_form x k.Named Nothing IsNamedRow NotSplit h.0 gap m ∙ ap (λ z. node_in (frame k.Named) k.Named (seen_pieces (laid k.Named f.split gap m (drawings z) (drawings f.items) []))) h.0.head in
+    seen_form x k.Named Nothing IsNamedRow NotSplit h.0 gap m ∙ ap (λ z. node_in (frame k.Named) k.Named (seen_pieces (laid k.Named f.split gap m (drawings z) (drawings f.items) []))) h.0.head in
     record {
       bare = h.1;
       value = λ gap m.
@@ -210,7 +208,7 @@ call_back x h =
     let head : HeadBack f.head = head_back f.head h.0.head in
     let all : AllByRecursion ReadsBack xs = each_back IsNamed named_back f.items (recursion_from_All IsNamed f.items h.0.items) in
     let as_seen : (gap : Bytes) (m : ℕ) → seen (part_of x gap m) ≡ node_in (frame k.Call) k.Call (seen_pieces (laid k.Call f.split gap m (drawings (head.name ∷ [])) xs [])) = λ gap m.
-        seen_form x k.Call IsOneName (All IsNamed) AnySplit h.0 gap m ∙ ap (λ z. node_in (frame k.Call) k.Call (seen_pieces (laid k.Call f.split gap m (drawings z) xs []))) head.is in
+    seen_form x k.Call IsOneName (All IsNamed) AnySplit h.0 gap m ∙ ap (λ z. node_in (frame k.Call) k.Call (seen_pieces (laid k.Call f.split gap m (drawings z) xs []))) head.is in
     record {
       bare = h.1;
       value = λ gap m.
@@ -234,7 +232,9 @@ statement_back x h gap =
     let f = h.0.form in
     let own : RowBack k.Bare f.split f.items = one_call_back f.split f.items h.0.items in
     let as_seen : seen (part_of x gap 0) ≡ node_in (frame k.Bare) k.Bare (seen_pieces (laid k.Bare f.split gap 0 [] (drawings f.items) [])) =
-        seen_form x k.Bare Nothing IsOneCall NotSplit h.0 gap 0 ∙ ap (λ z. node_in (frame k.Bare) k.Bare (seen_pieces (laid k.Bare f.split gap 0 (drawings z) (drawings f.items) []))) h.0.head in
-    (ap (λ s. s.make (comments_of x) false) as_seen ∙
-    (made k.Bare (sym h.0.split) (ap (λ z. map with_flags z) (sym h.0.head)) (plain_row (seen_pieces (laid k.Bare f.split gap 0 [] (drawings f.items) [])) ∙ own.items gap 0) refl ∙
-    sym (flags_form x k.Bare Nothing IsOneCall NotSplit h.0)), ap (λ z. z.gap) as_seen ∙ own.gap gap 0)
+    seen_form x k.Bare Nothing IsOneCall NotSplit h.0 gap 0 ∙ ap (λ z. node_in (frame k.Bare) k.Bare (seen_pieces (laid k.Bare f.split gap 0 (drawings z) (drawings f.items) []))) h.0.head in (
+      ap (λ s. s.make (comments_of x) false) as_seen ∙
+          (made k.Bare (sym h.0.split) (ap (λ z. map with_flags z) (sym h.0.head)) (plain_row (seen_pieces (laid k.Bare f.split gap 0 [] (drawings f.items) [])) ∙ own.items gap 0) refl ∙
+          sym (flags_form x k.Bare Nothing IsOneCall NotSplit h.0)),
+      ap (λ z. z.gap) as_seen ∙ own.gap gap 0,
+    )
