@@ -2,10 +2,14 @@
 #![tactic(auto)]
 
 mod command;
+mod laws;
 mod refusal;
 mod rules;
 mod running;
+#[cfg(test)]
+mod tests;
 
 pub use command::{Command, Outcome, Target, Which};
+pub use laws::{worked_bodies, worked_deletes};
 pub use refusal::Refusal;
 pub use running::run;

@@ -2,10 +2,12 @@
 #![tactic(auto)]
 
 mod action;
+mod laws;
 mod meaning;
 mod session;
 #[cfg(test)]
 mod tests;
 
 pub use action::{Action, Reply};
+pub use laws::worked_histories;
 pub use session::Session;

@@ -1,0 +1,34 @@
+-- Worked rows: what undo, redo and new texts make of small histories.
+use Rattle.std.specs.Prelude.{◌≡◌, [], ◌∷◌, codes, Ok, Err}
+use Rattle.bz_view.specs.Gaps.{Bytes}
+use Rattle.bz_command.specs.declared.refusal.Refusal.TheVariants.{NoTarget, TooFar, Full}
+use Rattle.bz_journal.specs.declared.action.Reply.TheVariants.{Changed, Same, Moved}
+use Rattle.bz_journal.specs.Meaning.{gives, refuses}
+use Rattle.bz_journal.specs.History.{History, opened, after_meaning, undone, redone}
+
+abbrev pub WorkedHistories : Type 0
+WorkedHistories =
+    let a : Bytes = codes "f(name = 'x')\n" in
+    let b : Bytes = codes "\n" in
+    let c : Bytes = [] in
+    let first : History = opened a in
+    let second : History = record { texts = a ∷ b ∷ []; cursor = 1; before = 0 } in
+    let back : History = record { texts = a ∷ b ∷ []; cursor = 0; before = 1 } in
+    let cut : History = record { texts = a ∷ c ∷ []; cursor = 1; before = 0 } in
+    let full : History = record { texts = []; cursor = 100000; before = 0 } in
+    (after_meaning first (gives b) ≡ (Ok Changed, second))
+    -- the present text again, a refusal
+    × (after_meaning first (gives a) ≡ (Ok Same, first))
+    × (after_meaning first (refuses NoTarget) ≡ (Err NoTarget, first))
+    -- back and forward, and by no step
+    × (undone 1 second ≡ (Ok Moved, back))
+    × (redone 1 back ≡ (Ok Moved, second))
+    × (undone 0 second ≡ (Ok Moved, second))
+    -- not so many steps
+    × (undone 2 second ≡ (Err TooFar, second))
+    × (redone 1 second ≡ (Err TooFar, second))
+    -- a new text cuts those after the present one, so there is no way forward
+    × (after_meaning back (gives c) ≡ (Ok Changed, cut))
+    × (redone 1 cut ≡ (Err TooFar, cut))
+    -- behind the most steps there is no further one
+    × (after_meaning full (gives a) ≡ (Err Full, full))

@@ -1,0 +1,8 @@
+//! Facts about the definitions, for readers: the functions do nothing.
+
+ghost use Rattle.bz_journal.specs.Worked.{WorkedHistories};
+
+/// Worked rows: what undo, redo and new texts make of small histories.
+pub fn worked_histories()
+    ensures { WorkedHistories }
+{}
