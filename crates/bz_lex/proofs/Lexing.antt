@@ -1,9 +1,8 @@
 -- The tokens of a text without lines.
 use Rattle.std.proofs.Common.{◌≡◌, ℕ, suc, ◌+◌, ◌-◌, ◌≤◌, ◌<◌, true, false, List, [], ◌∷◌, ◌++◌, ◌⊎◌, inl, inr, Some, length, take, drop, slice_get, refl, sym, ap, ◌∙◌, subst, arith, append_assoc, length-append, length-drop}
 use Rattle.std.proofs.lemmas.Bool.{both_ways}
-use Rattle.std.specs.Str.{IsUtf8, IsCharBoundary}
 use Rattle.std.proofs.Math.Seq.{take-length}
-use Rattle.std.proofs.lemmas.List.{take-append-drop, append-nil, append_cancel_left, length-take-le}
+use Rattle.std.proofs.lemmas.List.{take-append-drop, append-nil, append_cancel_left}
 use Rattle.bz_token.specs.declared.class.Class.{Class}
 use Rattle.bz_token.specs.Tokens.{IsToken, NoToken, TokenAt}
 use Rattle.bz_lex.specs.declared.gap.GapFront.{GapFront}

@@ -14,6 +14,14 @@ fault_number (v.Unexpected line column) = 6
 fault_number (v.TooDeep line column) = 7
 fault_number v.Memory = 8
 
+-- the faults of leaves: where no lexeme begins, or one that may not stand there
+abbrev pub is_of_leaves : ReadFault → Bool
+is_of_leaves (v.BadCharacter line column) = true
+is_of_leaves (v.OpenString line column) = true
+is_of_leaves (v.Indented line column) = true
+is_of_leaves (v.Unexpected line column) = true
+is_of_leaves _ = false
+
 -- the faults of lexemes alone, and of memory
 abbrev pub is_lexical : ReadFault → Bool
 is_lexical (v.BadCharacter line column) = true

@@ -40,6 +40,7 @@ impl Stop {
     }
 }
 
+/// Each is told as the fault of its name.
 #[derive(Clone, Copy)]
 pub enum Reason {
     BadCharacter,

@@ -1,4 +1,5 @@
-ghost use Rattle.std.specs.Prelude.{◌≡◌, ◌≤◌, ◌+◌, IfOk, IsSome, MatchOption, length};
+ghost use Rattle.std.specs.Prelude.{◌≡◌, ◌≤◌, ◌+◌, IfOk, IfSome, IsSome, MatchOption, length, true};
+ghost use Rattle.bz_lex.specs.Faults.{is_of_leaves};
 ghost use Rattle.bz_lex.specs.Fronts.{behind_front, front_leaf};
 ghost use Rattle.bz_lex.specs.Leaves.{AreLeaves, NoLeaves, spell_leaves};
 
@@ -20,7 +21,8 @@ pub struct Reading {
 /// Reads a text as leaves. Where none cover it the fault is one of `BadCharacter`, `OpenString`, `Indented` and
 /// `Unexpected`, and the leaves are those in front of it. The error: a growth was refused.
 pub fn read_leaves(alloc: Global, text: &[u8]) -> Result<Reading, AllocError>
-    ensures { IfOk result (λ reading. MatchOption reading.fault (AreLeaves reading.leaves × (spell_leaves reading.leaves ≡ text.now)) (λ _. NoLeaves text.now)) }
+    ensures told { IfOk result (λ reading. MatchOption reading.fault (AreLeaves reading.leaves × (spell_leaves reading.leaves ≡ text.now)) (λ _. NoLeaves text.now)) }
+    ensures kind { IfOk result (λ reading. IfSome reading.fault (λ fault. is_of_leaves fault ≡ true)) }
 {
     let mut leaves = Items::new(alloc);
     let mut place = Place::Fresh;
@@ -64,10 +66,11 @@ fn behind(text: &[u8], front: Front) -> &[u8]
     text.split_at(front.gap).1.split_at(front.token).1
 }
 
-/// The leaves in front of a stop behind the byte at `from`, and the fault there.
+/// The leaves in front of a stop, where the text from `from` on was left to read, and the fault there.
 fn refused(text: &[u8], from: usize, stop: Stop, mut leaves: Items<Leaf>) -> Reading
     requires { from + stop.at ≤ length text.now }
-    ensures { IsSome result.fault }
+    ensures stopped { IsSome result.fault }
+    ensures kind { IfSome result.fault (λ fault. is_of_leaves fault ≡ true) }
 {
     let mut at = from + stop.at;
     if matches!(stop.reason, Reason::OpenString) && stop.at == 0 {

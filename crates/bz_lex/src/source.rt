@@ -50,7 +50,7 @@ fn behind(text: &str, front: Front) -> &str
     &text[front.gap + front.token..]
 }
 
-/// The fault of a stop behind the byte at `from`.
+/// The fault of a stop, where the source from `from` on was left to read.
 fn lexical_fault(source: &[u8], from: usize, stop: Stop, tokens: &[&str]) -> ReadFault
     requires { from + stop.at ≤ length source.now }
     ensures { is_lexical result ≡ true }

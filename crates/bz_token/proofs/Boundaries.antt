@@ -32,12 +32,12 @@ abbrev only_names : Option State → Bool
 only_names None = true
 only_names (Some q) = only_name (ends q)
 
-letter_high : (b : ℕ) → is_high b ≡ true → is_letter b ≡ true
+pub letter_high : (b : ℕ) → is_high b ≡ true → is_letter b ≡ true
 letter_high b h =
     or_right (leb 65 b && leb b 90) ((leb 97 b && leb b 122) || (eqb b 95 || is_high b)) (or_right (leb 97 b && leb b 122) (eqb b 95 || is_high b) (or_right (eqb b 95) (is_high b) h))
 
 -- a byte of a longer character is none of ASCII
-no_digit : (b : ℕ) → is_high b ≡ true → is_digit b ≡ false
+pub no_digit : (b : ℕ) → is_high b ≡ true → is_digit b ≡ false
 no_digit b h = grind (arith, nat_tests)
 
 no_octal : (b : ℕ) → is_high b ≡ true → is_octal b ≡ false

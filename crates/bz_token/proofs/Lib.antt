@@ -9,3 +9,4 @@ pub mod Sound
 pub mod Tokens
 pub mod Boundaries
 pub mod Rows
+pub mod Characters

@@ -1,4 +1,5 @@
 pub mod Bytes
+pub mod Characters
 pub mod Classes
 pub mod Lexemes
 pub mod Machine

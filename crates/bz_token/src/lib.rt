@@ -11,5 +11,5 @@ mod theorems;
 pub use class::Class;
 pub use scan::{Found, token};
 pub use theorems::{
-    begins, cuts, each_keyword, each_mark, each_number, one_token, separated, single,
+    begins, by_characters, cuts, each_keyword, each_mark, each_number, one_token, separated, single,
 };

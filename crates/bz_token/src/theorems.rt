@@ -1,3 +1,4 @@
+ghost use Rattle.bz_token.specs.Characters.{ByCharacters};
 ghost use Rattle.bz_token.specs.Laws.{OneToken, Begins, Separated, Single, EachMark, EachKeyword, EachNumber, Cuts};
 
 /// No text begins with two tokens: neither of two classes nor of two lengths.
@@ -39,3 +40,9 @@ pub fn each_number()
 pub fn cuts()
     ensures { Cuts }
 {}
+
+/// The bytes of a text are a word just where its characters are a letter or `_` and then letters, digits and `_`.
+pub fn by_characters()
+    ensures { ByCharacters }
+{
+}
