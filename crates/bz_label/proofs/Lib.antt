@@ -2,6 +2,7 @@ pub mod Cuts
 pub mod Empty
 pub mod Equal
 pub mod Shapes
+pub mod Paths
 pub mod Readings
 pub mod Orders
 pub mod Rows

@@ -3,7 +3,7 @@ use Rattle.std.proofs.Common.{◌≡◌, [], ◌∷◌, codes, refl, true, false
 use Rattle.std.specs.declared.cmp.Ordering.TheVariants.{Less, Equal, Greater}
 use Rattle.bz_label.specs.Pieces.{last_piece, is_joined}
 use Rattle.bz_label.specs.Keys.{key_order, key_pieces}
-use Rattle.bz_label.specs.Labels.{is_path, is_repository_name, IsLabel, whole, package_alone, repository_alone, colon_name, bare_name, absent, main, named_twice}
+use Rattle.bz_label.specs.Labels.{is_path, is_repository_name, IsLabel, whole, package_alone, repository_alone, colon_name, bare_name, absent, main, canonical_named}
 use Rattle.bz_label.specs.Tables.{is_sorted, is_label_attribute, is_list_attribute, priority_of}
 use Rattle.bz_label.specs.Targets.{which_of, is_package}
 use Rattle.bz_label.specs.declared.target.Which.TheVariants.{All, Kind, Line, Package, Name}
@@ -37,7 +37,7 @@ pub label_rows : IsLabel (codes "p") (codes "//a/b") (record { repository = []; 
 label_rows = (
   package_alone (record { repository = absent refl; «package» = refl; name = refl; spelled = refl }),
   whole (record { repository = main refl; «package» = refl; name = refl; spelled = refl }),
-  whole (record { repository = named_twice (codes "r") refl refl; «package» = refl; name = refl; spelled = refl }),
+  whole (record { repository = canonical_named (codes "r") refl refl; «package» = refl; name = refl; spelled = refl }),
   repository_alone (record { repository = refl; «package» = refl; name = refl; spelled = refl }),
   colon_name (record { repository = refl; «package» = refl; name = refl; spelled = refl }),
   bare_name (record { repository = refl; «package» = refl; name = refl; begins = refl; spelled = refl }),

@@ -4,7 +4,7 @@ use Rattle.std.specs.List.{list_any}
 use Rattle.std.proofs.lemmas.Bool.{and_parts, and_from, not-true, eqb-true, both_ways}
 use Rattle.std.proofs.lemmas.Bool.Decides.{nat_tests}
 use Rattle.bz_label.specs.Pieces.{Bytes, is_empty, is_slash, is_colon, has_slash, has_colon, last_piece}
-use Rattle.bz_label.specs.Labels.{is_barred, is_plain, is_path, is_repository_name, IsRepository, absent, main, main_twice, named, named_twice, IsWhole, IsPackageAlone}
+use Rattle.bz_label.specs.Labels.{is_barred, is_plain, is_path, is_repository_name, IsRepository, absent, main, canonical_main, named, canonical_named, IsWhole, IsPackageAlone}
 use Rattle.bz_label.specs.declared.label.Label.{Label}
 use Rattle.bz_label.specs.Forms.{is_repository, are_whole, are_alone}
 use Rattle.bz_label.proofs.Cuts.{cut_once}
@@ -35,9 +35,9 @@ name_slashless name good = not-true _ (and_parts _ _ (and_parts _ _ good).0).1
 pub repository_slashless : (text : Bytes) → IsRepository text → has_slash text ≡ false
 repository_slashless text (absent e) = ap has_slash e
 repository_slashless text (main e) = ap has_slash e
-repository_slashless text (main_twice e) = ap has_slash e
+repository_slashless text (canonical_main e) = ap has_slash e
 repository_slashless text (named name good e) = ap has_slash e ∙ name_slashless name good
-repository_slashless text (named_twice name good e) = ap has_slash e ∙ name_slashless name good
+repository_slashless text (canonical_named name good e) = ap has_slash e ∙ name_slashless name good
 
 -- a name may begin with @, so that @@REPO is @ and a name
 named_at : (name : Bytes) → is_repository_name name ≡ true → is_repository_name (64 ∷ name) ≡ true
@@ -51,9 +51,9 @@ or_right x y h = grind (arith, nat_tests)
 pub repository_holds : (text : Bytes) → IsRepository text → is_repository text ≡ true
 repository_holds text (absent e) = ap is_repository e
 repository_holds text (main e) = ap is_repository e
-repository_holds text (main_twice e) = ap is_repository e
+repository_holds text (canonical_main e) = ap is_repository e
 repository_holds text (named name good e) = ap is_repository e ∙ or_right _ _ good
-repository_holds text (named_twice name good e) = ap is_repository e ∙ named_at name good
+repository_holds text (canonical_named name good e) = ap is_repository e ∙ named_at name good
 
 named_from : (name : Bytes) → (is_empty name || is_repository_name name) ≡ true → IsRepository (64 ∷ name)
 named_from [] good = main refl

@@ -13,7 +13,8 @@ group_from_slash (second ∷ _) = if is_slash second then 2 else 0
 
 abbrev pub group_of : Bytes → ℕ
 group_of [] = 0
-group_of (first ∷ rest) = if is_colon first then 1 else (if is_at first then 3 else (if is_slash first then group_from_slash rest else 0))
+group_of (first ∷ rest) = if is_colon first then 1
+    else (if is_at first then 3 else (if is_slash first then group_from_slash rest else 0))
 
 -- where a key is cut: at every dot and colon
 abbrev pub is_cut : ℕ → Bool

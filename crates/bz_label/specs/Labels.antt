@@ -23,9 +23,11 @@ is_repository_name text = is_present text && not (has_slash text) && is_plain te
 pub data IsRepository (text : Bytes) : Type 0 where
   absent : text ≡ [] → IsRepository text
   main : text ≡ codes "@" → IsRepository text
-  main_twice : text ≡ codes "@@" → IsRepository text
-  named : (name : Bytes) → IsTrue (is_repository_name name) → text ≡ codes "@" ++ name → IsRepository text
-  named_twice : (name : Bytes) → IsTrue (is_repository_name name) → text ≡ codes "@@" ++ name → IsRepository text
+  canonical_main : text ≡ codes "@@" → IsRepository text
+  named : (name : Bytes) → IsTrue (is_repository_name name)
+      → text ≡ codes "@" ++ name → IsRepository text
+  canonical_named : (name : Bytes) → IsTrue (is_repository_name name)
+      → text ≡ codes "@@" ++ name → IsRepository text
 
 -- [REPOSITORY]//PACKAGE:NAME, where PACKAGE may be empty
 pub record IsWhole (text : Bytes) (label : Label) : Type 0 where
@@ -73,7 +75,8 @@ pub data IsLabel (current text : Bytes) (label : Label) : Type 0 where
 
 -- both are labels with equal three parts, or the texts are equal
 abbrev pub IsSame : Bytes → Bytes → Bytes → Type 0
-IsSame current first second = (first ≡ second) ⊎ ((label : Label) × IsLabel current first label × IsLabel current second label)
+IsSame current first second = (first ≡ second)
+    ⊎ ((label : Label) × IsLabel current first label × IsLabel current second label)
 
 -- the text is //p:x with p the current package
 pub record IsOwn (current text : Bytes) (label : Label) : Type 0 where
@@ -88,10 +91,13 @@ pub record IsRepeat (text : Bytes) (label : Label) : Type 0 where
 
 -- ..//p/x:x becomes ..//p/x, and ..//x:x becomes ..//x; any other text stays
 pub data IsUnrepeated (text short : Bytes) : Type 0 where
-  repeat : (label : Label) → IsRepeat text label → short ≡ label.repository ++ codes "//" ++ label.package → IsUnrepeated text short
+  repeat : (label : Label) → IsRepeat text label
+      → short ≡ label.repository ++ codes "//" ++ label.package → IsUnrepeated text short
   stays : ((label : Label) → IsRepeat text label → ⊥) → short ≡ text → IsUnrepeated text short
 
 -- //p:x with p the current package becomes :x; any other text loses a repeated name
 pub data IsShortened (current text short : Bytes) : Type 0 where
-  own : (label : Label) → IsOwn current text label → short ≡ codes ":" ++ label.name → IsShortened current text short
-  other : ((label : Label) → IsOwn current text label → ⊥) → IsUnrepeated text short → IsShortened current text short
+  own : (label : Label) → IsOwn current text label
+      → short ≡ codes ":" ++ label.name → IsShortened current text short
+  other : ((label : Label) → IsOwn current text label → ⊥)
+      → IsUnrepeated text short → IsShortened current text short

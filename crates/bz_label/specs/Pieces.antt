@@ -1,5 +1,5 @@
 -- The parts of labels and targets. Texts are lists of bytes, so a character from U+0080 on is bytes from 128 on.
-use Rattle.std.specs.Prelude.{ℕ, Bool, true, false, not, ◌==◌, List, [], ◌∷◌}
+use Rattle.std.specs.Prelude.{◌≡◌, ℕ, Bool, true, false, not, ◌==◌, List, [], ◌∷◌, ◌++◌, codes}
 use Rattle.std.specs.List.{slice_split, list_all, list_any, after_last}
 
 -- the bytes of a text
@@ -40,6 +40,13 @@ pieces_of = slice_split is_slash
 abbrev pub last_piece : Bytes → Bytes
 last_piece = after_last is_slash
 
--- non-empty pieces joined by slashes: a text that is not empty, neither begins nor ends with a slash and holds no two in a row
+-- non-empty pieces joined by slashes
 abbrev pub is_joined : Bytes → Bool
 is_joined path = list_all is_present (pieces_of path)
+
+-- the same, said without pieces; a law shows that it is the same
+pub record IsSlashSeparated (path : Bytes) : Type 0 where
+  pub present : path ≡ [] → ⊥
+  pub begins : (rest : Bytes) → path ≡ codes "/" ++ rest → ⊥
+  pub ends : (front : Bytes) → path ≡ front ++ codes "/" → ⊥
+  pub single : (front rest : Bytes) → path ≡ front ++ codes "//" ++ rest → ⊥

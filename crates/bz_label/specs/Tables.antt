@@ -9,11 +9,14 @@ is_in table name = list_any (bytes_eq name) table
 
 -- the attributes whose lists are sorted
 abbrev pub sorted_attributes : List Bytes
-sorted_attributes = codes "compatible_with" ∷ codes "data" ∷ codes "deps" ∷ codes "exports" ∷ codes "hdrs" ∷ codes "implementation_deps" ∷ codes "runtime_deps" ∷ codes "srcs" ∷ codes "tags" ∷ codes "textual_hdrs" ∷ codes "visibility" ∷ []
+sorted_attributes = codes "compatible_with" ∷ codes "data" ∷ codes "deps" ∷ codes "exports" ∷ codes "hdrs"
+    ∷ codes "implementation_deps" ∷ codes "runtime_deps" ∷ codes "srcs"
+    ∷ codes "tags" ∷ codes "textual_hdrs" ∷ codes "visibility" ∷ []
 
 -- they are sorted in every kind, except srcs of genrule
 abbrev pub is_sorted : Bytes → Bytes → Bool
-is_sorted kind attribute = is_in sorted_attributes attribute && not (bytes_eq kind (codes "genrule") && bytes_eq attribute (codes "srcs"))
+is_sorted kind attribute = is_in sorted_attributes attribute
+    && not (bytes_eq kind (codes "genrule") && bytes_eq attribute (codes "srcs"))
 
 -- the attributes whose texts are labels, in every kind: the sorted ones without tags
 abbrev pub is_label_attribute : Bytes → Bool
@@ -21,7 +24,8 @@ is_label_attribute attribute = is_in sorted_attributes attribute && not (bytes_e
 
 -- further attributes whose values are lists
 abbrev pub further_lists : List Bytes
-further_lists = codes "copts" ∷ codes "defines" ∷ codes "features" ∷ codes "includes" ∷ codes "linkopts" ∷ codes "outs" ∷ []
+further_lists = codes "copts" ∷ codes "defines" ∷ codes "features"
+    ∷ codes "includes" ∷ codes "linkopts" ∷ codes "outs" ∷ []
 
 -- the attributes that `set` gives a list, in every kind: the sorted ones and those
 abbrev pub is_list_attribute : Bytes → Bool
@@ -29,7 +33,8 @@ is_list_attribute attribute = is_in sorted_attributes attribute || is_in further
 
 -- the arguments of a rule that stand first, in this order, and those that stand last
 abbrev pub first_arguments : List Bytes
-first_arguments = codes "name" ∷ codes "size" ∷ codes "timeout" ∷ codes "testonly" ∷ codes "src" ∷ codes "srcs" ∷ codes "out" ∷ codes "outs" ∷ codes "hdrs" ∷ []
+first_arguments = codes "name" ∷ codes "size" ∷ codes "timeout" ∷ codes "testonly"
+    ∷ codes "src" ∷ codes "srcs" ∷ codes "out" ∷ codes "outs" ∷ codes "hdrs" ∷ []
 
 abbrev pub last_arguments : List Bytes
 last_arguments = codes "exports" ∷ codes "runtime_deps" ∷ codes "deps" ∷ codes "alwayslink" ∷ []
@@ -45,4 +50,5 @@ priority_at None later = later_priority later
 
 -- the first arguments are 0 to 8, all others 9, the last ones 10 to 13
 abbrev pub priority_of : Bytes → ℕ
-priority_of attribute = priority_at (position (bytes_eq attribute) first_arguments) (position (bytes_eq attribute) last_arguments)
+priority_of attribute = priority_at (position (bytes_eq attribute) first_arguments)
+    (position (bytes_eq attribute) last_arguments)

@@ -12,9 +12,11 @@ use Rattle.bz_label.specs.Pieces.{Bytes, is_empty, is_present, has_colon, is_joi
 abbrev pub decimal : Bytes → ℕ
 decimal digits = fold (λ number digit. number * 10 + (digit - 48)) 0 digits
 
--- what follows %: digits are a line, where a number past 4,294,967,295 is that line, which no text within the limit has; all else is a kind
+-- what follows %: digits are a line, where a number past 4,294,967,295 is that line, which no text within the limit has;
+-- all else is a kind
 abbrev pub after_percent : Bytes → Which
-after_percent word = if is_present word && list_all is_ascii_digit word then Line (min (decimal word) (2 ^ 32 - 1)) else Kind word
+after_percent word = if is_present word && list_all is_ascii_digit word
+    then Line (min (decimal word) (2 ^ 32 - 1)) else Kind word
 
 abbrev pub other_word : Bytes → Which
 other_word [] = Name []

@@ -70,7 +70,8 @@ fn fits(front: &[u8], package: &[u8], name: &[u8]) -> bool
 
 /// `[REPOSITORY]//PACKAGE:NAME`.
 pub(crate) fn whole(text: &[u8]) -> Option<Parts<'_>>
-    ensures { MatchOption result ((label : Label) → IsWhole text.now label → ⊥) (λ parts. IsWhole text.now (label_of parts)) }
+    ensures { MatchOption result ((label : Label) → IsWhole text.now label → ⊥)
+        (λ parts. IsWhole text.now (label_of parts)) }
 {
     let (front, rest) = cut_slashes(text)?;
     let (package, name) = cut(rest, b':')?;
@@ -92,7 +93,8 @@ fn fits_alone(front: &[u8], package: &[u8]) -> bool
 
 /// `[REPOSITORY]//PACKAGE`.
 fn package_alone(text: &[u8]) -> Option<Parts<'_>>
-    ensures { MatchOption result ((label : Label) → IsPackageAlone text.now label → ⊥) (λ parts. IsPackageAlone text.now (label_of parts)) }
+    ensures { MatchOption result ((label : Label) → IsPackageAlone text.now label → ⊥)
+        (λ parts. IsPackageAlone text.now (label_of parts)) }
 {
     let (front, package) = cut_slashes(text)?;
     if !fits_alone(front, package) {
@@ -107,7 +109,8 @@ fn package_alone(text: &[u8]) -> Option<Parts<'_>>
 
 /// `@REPO`.
 fn repository_alone(text: &[u8]) -> Option<Parts<'_>>
-    ensures { MatchOption result ((label : Label) → IsRepositoryAlone text.now label → ⊥) (λ parts. IsRepositoryAlone text.now (label_of parts)) }
+    ensures { MatchOption result ((label : Label) → IsRepositoryAlone text.now label → ⊥)
+        (λ parts. IsRepositoryAlone text.now (label_of parts)) }
 {
     match text {
         [b'@', name @ ..] if repository_name(name) => Some(Parts {
@@ -121,7 +124,8 @@ fn repository_alone(text: &[u8]) -> Option<Parts<'_>>
 
 /// `:NAME`.
 fn colon_name<'a>(current: &'a [u8], text: &'a [u8]) -> Option<Parts<'a>>
-    ensures { MatchOption result ((label : Label) → IsColonName current.now text.now label → ⊥) (λ parts. IsColonName current.now text.now (label_of parts)) }
+    ensures { MatchOption result ((label : Label) → IsColonName current.now text.now label → ⊥)
+        (λ parts. IsColonName current.now text.now (label_of parts)) }
 {
     match text {
         [b':', name @ ..] if path(name) => Some(Parts {
@@ -135,7 +139,8 @@ fn colon_name<'a>(current: &'a [u8], text: &'a [u8]) -> Option<Parts<'a>>
 
 /// `NAME`.
 fn bare_name<'a>(current: &'a [u8], text: &'a [u8]) -> Option<Parts<'a>>
-    ensures { MatchOption result ((label : Label) → IsBareName current.now text.now label → ⊥) (λ parts. IsBareName current.now text.now (label_of parts)) }
+    ensures { MatchOption result ((label : Label) → IsBareName current.now text.now label → ⊥)
+        (λ parts. IsBareName current.now text.now (label_of parts)) }
 {
     match text {
         [b'@', ..] => None,
@@ -150,7 +155,8 @@ fn bare_name<'a>(current: &'a [u8], text: &'a [u8]) -> Option<Parts<'a>>
 
 /// The parts of the label that the text is, read in the current package.
 pub(crate) fn parts_of<'a>(current: &'a [u8], text: &'a [u8]) -> Option<Parts<'a>>
-    ensures { MatchOption result ((label : Label) → IsLabel current.now text.now label → ⊥) (λ parts. IsLabel current.now text.now (label_of parts)) }
+    ensures { MatchOption result ((label : Label) → IsLabel current.now text.now label → ⊥)
+        (λ parts. IsLabel current.now text.now (label_of parts)) }
 {
     if let Some(parts) = whole(text) {
         return Some(parts);

@@ -7,8 +7,8 @@ ghost use Rattle.bz_label.specs.declared.label.Label.{Label};
 
 use crate::bytes;
 use crate::form::{Parts, parts_of};
-use bz_items::Text;
-use std::alloc::{AllocError, Global};
+use bz_items::{Memory, Text};
+use std::alloc::Global;
 use thiserror::Error;
 
 /// A label: the repository's part as written, the package and the name.
@@ -16,7 +16,9 @@ use thiserror::Error;
 pub struct Label {
     /// Nothing, `@`, `@@`, `@REPO` or `@@REPO`.
     pub repository: Text,
+    /// Empty, or non-empty pieces joined by slashes; of `:NAME` and `NAME` the current package.
     pub package: Text,
+    /// Without a name of its own the last piece of the package, or the repository's name.
     pub name: Text,
 }
 
@@ -31,6 +33,16 @@ pub enum LabelFault {
     Memory,
 }
 
+impl From<Memory> for LabelFault {
+    ghost use Rattle.bz_label.specs.declared.label.LabelFault.TheVariants as fault;
+
+    ghost from_gives = { λ _ made. made ≡ fault.Memory };
+
+    fn from(_refused: Memory) -> LabelFault {
+        LabelFault::Memory
+    }
+}
+
 impl LabelFault {
     /// The fault's number in messages: 11 or 8.
     pub fn number(&self) -> u8
@@ -43,7 +55,7 @@ impl LabelFault {
     }
 }
 
-fn copied(alloc: Global, parts: Parts) -> Result<Label, AllocError>
+fn copied(alloc: Global, parts: Parts) -> Result<Label, Memory>
     ensures { IfOk result (λ label. label ≡ label_of parts.entry) }
 {
     Ok(Label {
@@ -54,20 +66,17 @@ fn copied(alloc: Global, parts: Parts) -> Result<Label, AllocError>
 }
 
 impl Label {
-    /// The label that the text is, read in the current package, which `:NAME` and `NAME`
-    /// stand in. `BadLabel` exactly where it is
-    /// none; `Memory` where room for the three parts was refused.
+    /// The label that the text is, read in the current package, which `:NAME` and `NAME` stand in. `BadLabel` exactly
+    /// where it is none; `Memory` where room for the three parts was refused.
     pub fn read(alloc: Global, current: &str, text: &str) -> Result<Label, LabelFault>
         ensures ok { IfOk result (IsLabel current.now text.now) }
-        ensures bad { (result ≡ Err LabelFault.BadLabel) ↔ ((label : Label) → IsLabel current.now text.now label → ⊥) }
+        ensures bad { (result ≡ Err LabelFault.BadLabel)
+            ↔ ((label : Label) → IsLabel current.now text.now label → ⊥) }
     {
-        match parts_of(current.as_bytes(), text.as_bytes()) {
-            Some(parts) => match copied(alloc, parts) {
-                Ok(label) => Ok(label),
-                Err(_) => Err(LabelFault::Memory),
-            },
-            None => Err(LabelFault::BadLabel),
-        }
+        let Some(parts) = parts_of(current.as_bytes(), text.as_bytes()) else {
+            return Err(LabelFault::BadLabel);
+        };
+        Ok(copied(alloc, parts)?)
     }
 }
 

@@ -1,13 +1,20 @@
 //! Laws of labels, keys and targets: the contracts of functions that do nothing.
-ghost use Rattle.std.specs.Prelude.{◌≡◌, List, ℕ};
+ghost use Rattle.std.specs.Prelude.{◌≡◌, ◌↔◌, IsTrue, List, ℕ};
 ghost use Rattle.std.specs.Cmp.{IsTotalOrder};
 ghost use Rattle.std.specs.declared.cmp.Ordering.TheVariants.{Equal};
 ghost use Rattle.bz_label.specs.Keys.{key_order};
 ghost use Rattle.bz_label.specs.Labels.{IsLabel, IsShortened, IsUnrepeated};
+ghost use Rattle.bz_label.specs.Pieces.{is_joined, IsSlashSeparated};
 ghost use Rattle.bz_label.specs.Targets.{IsTarget};
 
 use crate::label::Label;
 use crate::target::Target;
+
+/// Packages and names are non-empty pieces joined by slashes: texts that are not empty, neither begin nor end with a
+/// slash and hold no two in a row.
+pub fn path_law()
+    ensures { (path : List ℕ) → IsTrue (is_joined path) ↔ IsSlashSeparated path }
+{}
 
 /// A text is one label at most.
 pub fn one_label(current: &str, text: &str, one: &Label, other: &Label)

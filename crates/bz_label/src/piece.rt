@@ -12,7 +12,8 @@ pub(crate) fn holds(text: &[u8], byte: u8) -> bool
 
 /// What follows the first byte, where it is this one.
 pub(crate) fn after(text: &[u8], byte: u8) -> Option<&[u8]>
-    ensures { MatchOption result ((rest : List ℕ) → text.now ≡ byte ∷ rest → ⊥) (λ rest. text.now ≡ byte ∷ rest.now) }
+    ensures { MatchOption result ((rest : List ℕ) → text.now ≡ byte ∷ rest → ⊥)
+        (λ rest. text.now ≡ byte ∷ rest.now) }
 {
     match text {
         [first, rest @ ..] if *first == byte => Some(rest),
@@ -39,7 +40,8 @@ pub(crate) fn cut(text: &[u8], byte: u8) -> Option<(&[u8], &[u8])>
 pub(crate) fn joined(text: &[u8]) -> bool
     ensures { result ≡ is_joined text.now }
 {
-    text.split(|byte| *byte == b'/').all(|piece| !piece.is_empty())
+    text.split(|byte| *byte == b'/')
+        .all(|piece| !piece.is_empty())
 }
 
 /// What stands after the last slash, or the whole text.

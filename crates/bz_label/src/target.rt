@@ -8,8 +8,8 @@ ghost use Rattle.bz_label.specs.Faults.{target_fault_number};
 ghost use Rattle.bz_label.specs.declared.target.Target.{Target};
 
 use crate::piece::{after, cut, holds, joined, last};
-use bz_items::Text;
-use std::alloc::{AllocError, Global};
+use bz_items::{Memory, Text};
+use std::alloc::Global;
 use thiserror::Error;
 
 /// Which rules of a package's file are meant.
@@ -47,6 +47,16 @@ pub enum TargetFault {
     Memory,
 }
 
+impl From<Memory> for TargetFault {
+    ghost use Rattle.bz_label.specs.declared.target.TargetFault.TheVariants as fault;
+
+    ghost from_gives = { λ _ made. made ≡ fault.Memory };
+
+    fn from(_refused: Memory) -> TargetFault {
+        TargetFault::Memory
+    }
+}
+
 impl TargetFault {
     /// The fault's number in messages: 12 or 8.
     pub fn number(&self) -> u8
@@ -82,7 +92,7 @@ fn digits(word: &[u8]) -> bool
 }
 
 #[tactic(auto, using(crate::proofs::Empty::present_by_length))]
-fn percent(alloc: Global, word: &[u8]) -> Result<Which, AllocError>
+fn percent(alloc: Global, word: &[u8]) -> Result<Which, Memory>
     ensures { IfOk result (λ which. which ≡ after_percent word.now) }
 {
     if !word.is_empty() && digits(word) {
@@ -92,7 +102,7 @@ fn percent(alloc: Global, word: &[u8]) -> Result<Which, AllocError>
     }
 }
 
-fn which_rules(alloc: Global, word: &[u8]) -> Result<Which, AllocError>
+fn which_rules(alloc: Global, word: &[u8]) -> Result<Which, Memory>
     ensures { IfOk result (λ which. which ≡ which_of word.now) }
 {
     match word {
@@ -116,7 +126,8 @@ fn fits(path: &[u8], word: &[u8]) -> bool
 
 /// What follows `//`.
 fn after_slashes(text: &[u8]) -> Option<&[u8]>
-    ensures { MatchOption result ((rest : List ℕ) → text.now ≡ codes "//" ++ rest → ⊥) (λ rest. text.now ≡ codes "//" ++ rest.now) }
+    ensures { MatchOption result ((rest : List ℕ) → text.now ≡ codes "//" ++ rest → ⊥)
+        (λ rest. text.now ≡ codes "//" ++ rest.now) }
 {
     after(after(text, b'/')?, b'/')
 }
@@ -148,7 +159,7 @@ fn target_halves(text: &[u8]) -> Option<(&[u8], &[u8])>
     Some((path, word))
 }
 
-fn copied(alloc: Global, path: &[u8], word: &[u8]) -> Result<Target, AllocError>
+fn copied(alloc: Global, path: &[u8], word: &[u8]) -> Result<Target, Memory>
     ensures { IfOk result (λ target. target ≡ target_of path.now word.now) }
 {
     Ok(Target {
@@ -162,14 +173,12 @@ impl Target {
     /// 65,536 bytes; `Memory` where room for the package or the word was refused.
     pub fn read(alloc: Global, text: &str) -> Result<Target, TargetFault>
         ensures ok { IfOk result (IsTarget text.now) }
-        ensures bad { (result ≡ Err TargetFault.BadTarget) ↔ ((target : Target) → IsTarget text.now target → ⊥) }
+        ensures bad { (result ≡ Err TargetFault.BadTarget)
+            ↔ ((target : Target) → IsTarget text.now target → ⊥) }
     {
-        match target_halves(text.as_bytes()) {
-            Some((path, word)) => match copied(alloc, path, word) {
-                Ok(target) => Ok(target),
-                Err(_) => Err(TargetFault::Memory),
-            },
-            None => Err(TargetFault::BadTarget),
-        }
+        let Some((path, word)) = target_halves(text.as_bytes()) else {
+            return Err(TargetFault::BadTarget);
+        };
+        Ok(copied(alloc, path, word)?)
     }
 }
