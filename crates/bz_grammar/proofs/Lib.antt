@@ -1,0 +1,11 @@
+pub mod Terminals
+pub mod Exact
+pub mod Shapes
+pub mod Plans
+pub mod Nodes
+pub mod Trees
+pub mod Levels
+pub mod Families
+pub mod Primary
+pub mod Parse
+pub mod Files

@@ -1,0 +1,30 @@
+-- Which trees have the shapes of the whole grammar.
+use Rattle.std.specs.Prelude.{◌≡◌, true, List}
+use Rattle.std.specs.List.{AllByRecursion}
+use Rattle.bz_tree.specs.declared.kind.Kind.TheVariants as k
+use Rattle.bz_tree.specs.declared.tree.Node.{Node}
+use Rattle.bz_tree.specs.declared.tree.Part.{Part, Row_of-Part, end_of-Part, more_of-Part, Node', items-the_row-Part}
+use Rattle.bz_tree.specs.declared.tree.Part as p
+use Rattle.bz_grammar.specs.Shapes.{Sort, has_sort, Fits, shape}
+
+abbrev pub IsSort : Sort → Part → Type 0
+IsSort sort part = has_sort sort part ≡ true
+
+-- Every node in the part has the shape of its kind.
+abbrev mutual
+  pub LegalPart : Part → Type 0
+  LegalPart (p.Leaf l) = Unit {0}
+  LegalPart (Node' k s r) = Fits IsSort (shape k) (items-the_row-Part _ r) × LegalRow r
+
+  pub LegalRow : {m : _} → Row_of-Part m → Type 0
+  LegalRow end_of-Part = Unit {0}
+  LegalRow (more_of-Part x rest) = LegalPart x × LegalRow rest
+
+-- The node has the shape of its kind, and so has every node inside it.
+abbrev pub LegalShapes : Node → Type 0
+LegalShapes n = Fits IsSort (shape n.kind) n.parts × AllByRecursion LegalPart n.parts
+
+-- A file by its shapes: the root is a File, and every node has the shape of its kind.
+pub record IsFile (n : Node) : Type 0 where
+  pub root : n.kind ≡ k.File
+  pub shapes : LegalShapes n
