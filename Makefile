@@ -1,8 +1,8 @@
 # make        proves and builds every program, leaves it in bin/, and shows a first run
 # make test   the tests: every proof from nothing, the edits that the prover must refuse, each program and each test
-# make bench  the time and the memory of a delete in a large file
+# make bench  the time and the memory of a delete in a large file, and of reading one
 
-PROGRAMS = bin/buildozer
+PROGRAMS = bin/buildozer bin/measure
 
 .PHONY: all test bench clean show rt
 
@@ -18,6 +18,11 @@ bin/buildozer: rt
 	cd crates/buildozer && rt run -- -- delete -:middle < ../../examples/BUILD > /dev/null
 	cp crates/buildozer/out/buildozer $@
 
+bin/measure: rt
+	@mkdir -p bin
+	cd crates/measure && rt run -- copy < ../../examples/BUILD > /dev/null
+	cp crates/measure/out/measure $@
+
 show: $(PROGRAMS)
 	@echo; echo "examples/BUILD:"; echo; cat examples/BUILD
 	@echo; echo "bin/buildozer -- delete -:middle < examples/BUILD"; echo
@@ -28,6 +33,7 @@ test: rt
 
 bench: $(PROGRAMS)
 	@bench/delete.sh
+	@bench/reading.sh
 
 clean:
 	rm -rf bin crates/*/out

@@ -85,3 +85,62 @@ fn tells_tokens(rt: HostRuntime) -> Result<(), Fail> {
     }
     Ok(())
 }
+
+/// The tokens of a text joined by spaces, or the number of the fault, its text behind it.
+fn lexed(alloc: Global, text: &str) -> Result<String, Fail> {
+    let mut shown = String::new(alloc);
+    match lex(alloc, text) {
+        Ok(tokens) => {
+            for token in tokens.as_slice() {
+                shown.push_str(token)?;
+                shown.push_str(" ")?;
+            }
+        }
+        Err(fault) => {
+            let number = fault.number();
+            shown.push_str(format!(in alloc; "{number} {fault}")?.as_str())?;
+        }
+    }
+    Ok(shown)
+}
+
+#[test]
+fn tells_worked_tokens(rt: HostRuntime) -> Result<(), Fail> {
+    let rows = [
+        ("x = 1 .real", "x = 1 . real "),
+        ("x = 1.real", "x = 1. real "),
+        ("x = 1..real", "x = 1. . real "),
+        ("x = \"\"\"a\r\nb\"\"\"\r\n", "x = \"\"\"a\r\nb\"\"\" "),
+        ("a < b < c", "a < b < c "),
+        ("\"a\" \"b\"", "\"a\" \"b\" "),
+        (" x = 1", "x = 1 "),
+        ("x = 1\r", "x = 1 "),
+        ("cc_library(", "cc_library ( "),
+        ("f(a = 1, *b, c, **d,)", "f ( a = 1 , * b , c , ** d , ) "),
+        ("lambda: 1", "lambda : 1 "),
+        ("x = \"\"\"a", "4 1:5: OpenString"),
+        ("x = 1$", "3 1:6: BadCharacter"),
+    ];
+    for (text, tokens) in rows {
+        assert_eq!(rt; lexed(rt.alloc(), text)?.as_str(), tokens);
+    }
+    Ok(())
+}
+
+#[test]
+fn reads_a_long_comment(rt: HostRuntime) -> Result<(), Fail> {
+    let mut text = String::from_str(rt.alloc(), "#")?;
+    for _ in 0..4_194_303 {
+        text.push('a')?;
+    }
+    assert_eq!(rt;
+        lex(rt.alloc(), text.as_str()).ok().ok_or("refused")?.len(),
+        0
+    );
+    text.push('a')?;
+    assert_eq!(rt;
+        lex(rt.alloc(), text.as_str()).ok().ok_or("refused")?.len(),
+        0
+    );
+    Ok(())
+}
