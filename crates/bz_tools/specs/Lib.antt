@@ -8,3 +8,4 @@ pub mod Ports
 pub mod Shown
 pub mod Verbs
 pub mod Words
+pub mod Worked

@@ -33,7 +33,9 @@ pub enum Cut {
 /// How a run ended.
 #[derive(Clone, Copy, Debug, PartialEq, Eq)]
 pub struct Exit {
+    /// The status for the process.
     pub status: u8,
+    /// The first failure, or that there was none.
     pub cut: Cut,
 }
 

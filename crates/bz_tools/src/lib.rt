@@ -5,6 +5,7 @@
 mod asked;
 mod device;
 mod engine;
+mod laws;
 mod line;
 mod memory;
 mod sink;
@@ -17,6 +18,7 @@ mod words;
 
 pub use device::Device;
 pub use engine::{Cut, Exit, buildozer};
+pub use laws::worked_words;
 pub use memory::{MemorySink, MemorySource};
 pub use sink::Sink;
 pub use source::{PortFault, Source};
