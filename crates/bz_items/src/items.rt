@@ -3,7 +3,8 @@ ghost use Rattle.std.specs.Option.{option_copied};
 ghost use Rattle.std.specs.Borrow.{sem};
 ghost use Rattle.bz_items.specs.Lending.{LendsAll, LendsItem};
 
-use std::alloc::{AllocError, Global};
+use crate::Memory;
+use std::alloc::Global;
 use std::marker::Model;
 
 /// A `Vec` that contracts see as the list of its elements.
@@ -24,6 +25,7 @@ impl<T> Model for Items<T> {
 }
 
 impl<T> Items<T> {
+    /// An empty list, which takes no memory.
     pub fn new(alloc: Global) -> Items<T>
         ensures { result ≡ [] }
     {
@@ -37,12 +39,14 @@ impl<T> Items<T> {
         *self.items.allocator()
     }
 
+    /// The list of these items, in their order. It takes no memory.
     pub fn from_vec(items: Vec<T>) -> Items<T>
         ensures { result ≡ items.items }
     {
         Items { items }
     }
 
+    /// The items, in their order. It takes no memory.
     pub fn into_vec(self) -> Vec<T>
         ensures { result.items ≡ self }
     {
@@ -50,24 +54,28 @@ impl<T> Items<T> {
         items
     }
 
+    /// The items, in their order.
     pub fn as_slice(&self) -> &[T]
         ensures { result.now ≡ self.now }
     {
         self.items.as_slice()
     }
 
+    /// How many items there are.
     pub fn len(&self) -> usize
         ensures { result ≡ length self.now }
     {
         self.items.len()
     }
 
+    /// Whether there is no item.
     pub fn is_empty(&self) -> bool
         ensures { IsTrue result ↔ (self.now ≡ []) }
     {
         self.items.is_empty()
     }
 
+    /// The item at a place, from 0; `None` past the last.
     pub fn get(&self, at: usize) -> Option<&T>
         ensures value { option_copied result ≡ slice_get self.now at }
         ensures within { OnSome result (at < length self.now) }
@@ -75,6 +83,7 @@ impl<T> Items<T> {
         self.items.get(at)
     }
 
+    /// The item at a place, from 0, to be changed where it stands.
     pub fn at_mut(&mut self, at: usize) -> &mut T
         requires { at < length self.old }
         ensures* writes_back { sem 𝓛 (LendsItem T.row self.entry at result) }
@@ -83,6 +92,7 @@ impl<T> Items<T> {
         &mut self.items[at]
     }
 
+    /// The items, to be changed where they stand.
     pub fn as_mut_slice(&mut self) -> &mut [T]
         ensures* writes_back { sem 𝓛 (LendsAll T.row self.entry result) }
         ensures value { result.now ≡ self.old }
@@ -90,6 +100,7 @@ impl<T> Items<T> {
         self.items.as_mut_slice()
     }
 
+    /// Takes the last item off; `None` of an empty list.
     pub fn pop(&mut self) -> Option<T>
         ensures { MatchOption result ((self.old ≡ []) × (self.new ≡ [])) (λ last. self.old ≡ self.new ++ last ∷ []) }
     {
@@ -111,14 +122,10 @@ impl<T> Items<T> {
 }
 
 impl<T: Drop> Items<T> {
+    /// Exchanges all of `other` with `count` items from `at` on. Equal numbers take no memory. The error: a growth was
+    /// refused; both lists are then as before.
     #[tactic(auto, using(crate::proofs::Spans::span))]
-    /// Exchanges all of `other` with `count` items from `at` on. Equal numbers take no memory.
-    pub fn splice(
-        &mut self,
-        at: usize,
-        count: usize,
-        other: &mut Items<T>,
-    ) -> Result<(), AllocError>
+    pub fn splice(&mut self, at: usize, count: usize, other: &mut Items<T>) -> Result<(), Memory>
         requires { at + count ≤ length self.old }
         ensures here { OnOk result (self.new ≡ take at self.old ++ other.old ++ drop (at + count) self.old) }
         ensures there { OnOk result (other.new ≡ take count (drop at self.old)) }
@@ -147,7 +154,8 @@ impl<T: Drop> Items<T> {
         }
     }
 
-    pub fn push(&mut self, item: T) -> Result<(), AllocError>
+    /// Appends an item. The error: a growth was refused; the list is then as before.
+    pub fn push(&mut self, item: T) -> Result<(), Memory>
         ensures ok { OnOk result (self.new ≡ self.old ++ item ∷ []) }
         ensures err { OnErr result (self.new ≡ self.old) }
     {

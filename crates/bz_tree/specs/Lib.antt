@@ -1,4 +1,3 @@
-pub mod Fronts
 pub mod Kinds
 pub mod Spell
 pub mod Shapes

@@ -1,5 +1,4 @@
 //! Texts of the thin grammar, accepted and refused, worked out by hand from the grammar.
-use crate::same::common_front;
 use crate::{Kind, ReadFault, Tree, laws, parse};
 use std::test::Fail;
 
@@ -70,11 +69,15 @@ fn accepted_texts_are_spelled_back(rt: HostRuntime) -> Result<(), Fail> {
         assert_eq!(rt; tree.len(), text.len());
         let again = tree.copy()?;
         laws::one_tree(&tree, &again);
-        let parts = again.root.parts.len();
-        assert_eq!(rt;
-            common_front(tree.root.parts.as_slice(), again.root.parts.as_slice()),
-            parts
-        );
+        let parts = tree
+            .root
+            .parts
+            .as_slice()
+            .iter()
+            .zip(again.root.parts.as_slice());
+        for (part, other) in parts {
+            assert!(rt; part.equals(other));
+        }
     }
     Ok(())
 }
