@@ -69,7 +69,6 @@ fn unmarked(alloc: Global, marks: &[bool], items: &[Item]) -> Result<Items<Item>
     Ok(kept)
 }
 
-#[tactic(auto, using(crate::proofs::Marks::all_unmarked))]
 /// The effect of a command on the rules that the target means. Errors: `NoTarget` exactly where it means none;
 /// `Memory`: a growth was refused.
 pub fn run(

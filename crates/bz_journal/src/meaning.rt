@@ -20,7 +20,7 @@ fn read(alloc: Global, text: &[u8]) -> Result<Tree, Refusal>
     match parse(alloc, text) {
         Ok(tree) => Ok(tree),
         Err(ReadFault::Memory) => Err(Refusal::Memory),
-        // Never: a text of a session is that of a text of characters, less some of its rules.
+        // Never met: the first text was UTF-8, and a command writes only what stood in the text.
         Err(ReadFault::NotUtf8 { at: _ }) => Err(Refusal::Memory),
         Err(_) => unreachable!(),
     }
@@ -36,8 +36,8 @@ fn spelled(alloc: Global, tree: &Tree) -> Result<Text, Memory>
     Ok(Text::from_vec(text))
 }
 
-#[tactic(auto, using(crate::proofs::Writes::written_too_large, crate::proofs::Writes::written_too_deep, crate::proofs::Writes::written_spelled))]
 /// The text of a new value.
+#[tactic(auto, using(crate::proofs::Writes::written_too_large, crate::proofs::Writes::written_too_deep, crate::proofs::Writes::written_spelled))]
 fn written(alloc: Global, file: &File) -> Result<Text, Refusal>
     ensures ok { IfOk result (λ text. written file.now ≡ gives text) }
     ensures accepted { IfOk result Accepted }

@@ -38,8 +38,9 @@ impl Model for Session {
 }
 
 impl Session {
-    /// A session at the first text of a file of this package. Refused exactly where the text is not accepted, with the
-    /// fault of reading it; `Memory`: a growth was refused.
+    /// A session at the first text of a file of this package, whose name has at most 65,536 bytes. Errors: those of
+    /// reading the text: `TooLarge` past 4,194,304 bytes; `NotUtf8` with the length of the longest beginning that is UTF-8;
+    /// a fault with line and column where the text reads as no tree; `Memory` where a growth was refused.
     pub fn open(alloc: Global, package: &str, text: &[u8]) -> Result<Session, ReadFault>
         requires { length «package».now ≤ 65536 }
         ensures ok { IfOk result (λ session. session ≡ opened text.now) }
