@@ -1,5 +1,5 @@
 -- What the readers and writers of this crate hold.
-use Rattle.std.specs.Prelude.{ℕ, List}
+use Rattle.std.specs.Prelude.{ℕ, List, max}
 use Rattle.bz_tools.specs.declared.device.Device.{Device}
 use Rattle.bz_tools.specs.declared.memory.MemorySink.{MemorySink}
 use Rattle.bz_tools.specs.declared.memory.MemorySource.{MemorySource}
@@ -19,3 +19,21 @@ left_in source = source.bytes.now
 -- the bytes that were written in memory
 abbrev pub written_in : MemorySink → List ℕ
 written_in sink = sink.bytes.items
+
+-- how a reader or a writer in memory goes on: the most bytes a call, the call that fails or 0, how many calls there were,
+-- and how many of them failed
+pub record Turns : Type 0 where
+  pub step : ℕ
+  pub fails_at : ℕ
+  pub calls : ℕ
+  pub faults : ℕ
+
+-- before the first call
+abbrev pub first_turn : ℕ → ℕ → Turns
+first_turn step fails_at = record { step = max step 1; fails_at = fails_at; calls = 0; faults = 0 }
+
+abbrev pub source_turns : MemorySource → Turns
+source_turns source = record { step = source.step; fails_at = source.fails_at; calls = source.calls; faults = source.faults }
+
+abbrev pub sink_turns : MemorySink → Turns
+sink_turns sink = record { step = sink.step; fails_at = sink.fails_at; calls = sink.calls; faults = sink.faults }

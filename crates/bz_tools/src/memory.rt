@@ -16,12 +16,13 @@ pub struct MemorySource<'a> {
 }
 
 impl<'a> MemorySource<'a> {
-    ghost use Rattle.bz_tools.specs.Ports.{left_in};
+    ghost use Rattle.bz_tools.specs.Ports.{left_in, source_turns, first_turn};
 
     /// Gives at most `step` bytes a read (0 counts as 1), and fails at the read numbered `fails_at`, from 1; at 0 it
     /// never fails.
     pub fn new(bytes: &'a [u8], step: usize, fails_at: u64) -> MemorySource<'a>
-        ensures { left_in result ≡ bytes.now }
+        ensures held { left_in result ≡ bytes.now }
+        ensures set { source_turns result ≡ first_turn step fails_at }
     {
         MemorySource {
             bytes,
@@ -64,12 +65,13 @@ pub struct MemorySink {
 }
 
 impl MemorySink {
-    ghost use Rattle.bz_tools.specs.Ports.{written_in};
+    ghost use Rattle.bz_tools.specs.Ports.{written_in, sink_turns, first_turn};
 
     /// Takes at most `step` bytes a write (0 counts as 1), and fails at the write numbered `fails_at`, from 1; at 0 it
     /// fails only where memory is refused.
     pub fn new(alloc: Global, step: usize, fails_at: u64) -> MemorySink
-        ensures { written_in result ≡ [] }
+        ensures held { written_in result ≡ [] }
+        ensures set { sink_turns result ≡ first_turn step fails_at }
     {
         MemorySink {
             bytes: Vec::new(alloc),
