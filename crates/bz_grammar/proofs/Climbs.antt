@@ -1,22 +1,31 @@
 -- Parts, expressions and files as the parser reads them.
-use Rattle.std.proofs.Common.{◌≡◌, ℕ, zero, suc, ◌+◌, ◌*◌, ◌≤◌, ◌<◌, Bool, true, false, cond, List, [], ◌∷◌, ◌++◌, length, ◌⊎◌, inl, inr, Option, Some, None, refl, sym, ap, subst, ◌∙◌, arith, length-append}
+use Rattle.std.proofs.Common.{◌≡◌, ℕ, zero, suc, ◌+◌, ◌*◌, ◌≤◌, ◌<◌, ◌-◌, Bool, true, false, cond, List, [], ◌∷◌, ◌++◌, length, ◌⊎◌, inl, inr, Option, Some, None, Result, Ok, Err, refl, sym, ap, subst, ◌∙◌, arith, length-append}
 use Rattle.std.proofs.lemmas.Bool.{cases_Bool, both_ways, cond-true, cond-false, le-leb}
+use Rattle.std.specs.Result.{IsErrAnd, IfOk}
+use Rattle.std.proofs.lemmas.Option.{same_Some}
+use Rattle.bz_grammar.specs.declared.row.Deep.{Deep}
+use Rattle.bz_grammar.specs.declared.token.Halt.{Halt}
 use Rattle.bz_lex.specs.declared.leaf.Leaf.{Leaf}
 use Rattle.bz_tree.specs.declared.kind.Kind.{Kind}
 use Rattle.bz_tree.specs.declared.kind.Kind.TheVariants as k
 use Rattle.bz_tree.specs.declared.tree.Node.{Node}
-use Rattle.bz_tree.specs.declared.tree.Part.{Part}
+use Rattle.bz_tree.specs.declared.tree.Part.{Part, items-the_row-Part}
+use Rattle.bz_tree.specs.declared.tree.Part as p
 use Rattle.bz_tree.specs.declared.tree.Part.TheVariants as v
 use Rattle.bz_tree.specs.Spell.{depth_part}
 use Rattle.bz_grammar.specs.declared.token.Token.{Token}
 use Rattle.bz_grammar.specs.declared.token.Token.TheVariants as t
+use Rattle.bz_grammar.specs.declared.state.Sort.{Sort as Place}
 use Rattle.bz_grammar.specs.declared.state.Sort.TheVariants as q
+use Rattle.bz_grammar.specs.declared.state.Rung.{Rung}
+use Rattle.bz_grammar.specs.declared.state.Rung.TheVariants as g
 use Rattle.bz_grammar.specs.declared.state.State.{State}
 use Rattle.bz_grammar.specs.declared.state.State.TheVariants as s
 use Rattle.bz_grammar.specs.Shapes.{Terminal, has_token, Sort, level, argument, entry, clause, first_clause, loaded, small, line, bitor, or_level, test, Shape, done, tok, sub, alt, list, each, shape, name, simple, string, equals, stars, signs, orders, products, sums, shifts, mark, keyword, comma, open_round, open_square, open_curly}
 use Rattle.bz_grammar.specs.Reading.{◌>>=◌, Read, starts_with, first, put, run, finish, first_of, Found, as_kind, put_found, follow, node, wrap, wrap_found, infix_at, fits_in, atom, suffixes, climb, read_argument, named_tail, reading, round, square, curly, suffix, clause_plan, small_plan, if_all, read_file}
-use Rattle.bz_grammar.specs.Words.{terminals_of, token_at, part_at, with_found, found_by}
-use Rattle.bz_grammar.specs.States.{compare_tail, cond_tail, plan_at, found_at, begun_at, level_at, rung_of, climbed, suffixes_at, atom_at, argument_at}
+use Rattle.bz_grammar.specs.Words.{terminals_of, token_at, part_at, with_found, found_by, Halts, Fails}
+use Rattle.bz_grammar.specs.States.{sort_of, compare_tail, cond_tail, plan_at, found_at, begun_at, level_at, rung_of, climbed, suffixes_at, atom_at, argument_at}
+use Rattle.bz_tree.proofs.Nested.{items_of_row}
 use Rattle.bz_grammar.proofs.Terminals.{full_front}
 use Rattle.bz_grammar.proofs.Exact.{all_leaves, token_leaf}
 use Rattle.bz_grammar.proofs.Plans.{found_leaves, put_found_some, not_empty_plan, plan_exact}
@@ -24,7 +33,7 @@ use Rattle.bz_grammar.proofs.Nodes.{wrap_found_some}
 use Rattle.bz_grammar.proofs.Trees.{At}
 use Rattle.bz_grammar.proofs.Levels.{begins, goes}
 use Rattle.bz_grammar.proofs.Parse.{reading_exact}
-use Rattle.bz_grammar.proofs.Steps.{bind_same}
+use Rattle.bz_grammar.proofs.Steps.{bind_same, halts, fails}
 
 -- ---- nodes of an empty row, and of one part
 
@@ -43,6 +52,22 @@ found_plain (Some x) = refl
 found_one : (a : Part) (o : Option (Found × List Leaf)) → wrap_found (put_found a o) ≡ wrap_found (with_found (a ∷ []) o)
 found_one a None = refl
 found_one a (Some x) = refl
+
+-- ---- results handed on
+
+pub row_same : (d : ℕ) (state : State) (ts : List Leaf) (ps ps' : List Part) → ps ≡ ps' → found_at d ps' state ts ≡ found_at d ps state ts
+row_same d state ts ps ps' e = ap (λ (z : List Part). found_at d z state ts) (sym e)
+
+pub carry_ok : (result : Result Deep Halt) (o o' : Option (Part × List Leaf)) (rest : List Leaf) → o ≡ o' → IfOk result (λ deep. o' ≡ Some (deep.part, rest)) → IfOk result (λ deep. o ≡ Some (deep.part, rest))
+carry_ok (Ok x) o o' rest e h = e ∙ h
+carry_ok (Err x) o o' rest e h = tt
+
+pub carry_err : (result : Result Deep Halt) (o o' : Option (Part × List Leaf)) → o ≡ o' → Fails result o' → Fails result o
+carry_err result o o' e h = fails result o' o h (λ n. e ∙ n)
+
+pub handed_on : {X Y Y' : Type 0} (e : Halt) (result : Result X Halt) (o : Option Y) (all : Option Y') → IsErrAnd result (λ f. f ≡ e) → Halts e o → (o ≡ None → all ≡ None) → Fails result all
+handed_on e (Ok x) o all is w f = tt
+handed_on e (Err g) o all is w f = let is' : g ≡ e = is in rw is' (halts e o all w f)
 
 -- ---- parts of a sort
 
@@ -82,11 +107,23 @@ pub loaded_is : (d : ℕ) (ts : List Leaf) → starts_with name ts ≡ false →
 unfolding part_at token_at
 loaded_is d ts h = cond-false (starts_with name ts) _ _ h
 
+one_less : (d : ℕ) → (d ≡ 0 → ⊥) → d ≡ suc (d - 1)
+one_less zero h = absurd (h refl)
+one_less (suc d) h = omega arith
+
+-- a part of a sort, by the parts inside
+pub inside : (place place' : Place) (d : ℕ) (ts : List Leaf) (o : Option (Part × List Leaf)) → place ≡ place' → (d ≡ 0 → ⊥) → part_at (suc (d - 1)) (sort_of place') ts ≡ o → part_at d (sort_of place) ts ≡ o
+inside place place' d ts o is h e = let same : d ≡ suc (d - 1) = one_less d h in ap (λ (n : ℕ). part_at n (sort_of place) ts) same ∙ ap (λ (z : Place). part_at (suc (d - 1)) (sort_of z) ts) is ∙ e
+
 pub part_depth : (d : ℕ) (sort : Sort) (ts rest : List Leaf) (x : Part) → part_at d sort ts ≡ Some (x, rest) → depth_part x ≤ d
 unfolding part_at
 part_depth d sort ts rest x e = ((reading_exact d sort).sound ts (x, rest) e).0.2
 
 -- ---- operators
+
+unfit : {A B : Type 0} (b : Bool) (a : A) (o : Option B) → cond b (Some a) None ≡ None → cond b o None ≡ None
+unfit true a o e = absurd cc
+unfit false a o e = refl
 
 infix_is : (d : ℕ) (kind : Kind) (r : Shape) (n : ℕ) (ts : List Leaf) → infix_at kind (fits_in d) r (reading d) (climb d (reading d) n) ts ≡
     (level_at d n ts >>= λ a. cond (starts_with (first r) a.1) (cond (fits_in d a.0) (found_by d (a.0 ∷ []) (finish kind r) a.1) None) (Some (a.0, a.1)))
@@ -120,6 +157,25 @@ level_step d (suc (suc (suc (suc (suc (suc (suc (suc (suc (suc (suc zero))))))))
 level_step d (suc (suc (suc (suc (suc (suc (suc (suc (suc (suc (suc (suc zero)))))))))))) ts = infix_is d k.Row (tail_of 12 comma) 12 ts
 level_step d (suc (suc (suc (suc (suc (suc (suc (suc (suc (suc (suc (suc (suc n))))))))))))) ts = refl
 
+module _ (d n : ℕ) (ts : List Leaf) (h : n ≡ 0 → ⊥) where
+  climb_by : (r : Rung) → r ≡ rung_of (n - 1) → level_at d n ts ≡ climbed d r (level_at d (n - 1)) ts
+  climb_by r e = ap (λ (m : ℕ). level_at d m ts) (one_less n h) ∙ level_step d (n - 1) ts ∙ ap (λ (z : Rung). climbed d z (level_at d (n - 1)) ts) (sym e)
+
+  pub level_same : g.Same ≡ rung_of (n - 1) → level_at d n ts ≡ level_at d (n - 1) ts
+  level_same e = climb_by g.Same e
+
+  pub level_prefix : (token : Token) (state : State) → g.Prefix token state ≡ rung_of (n - 1) → starts_with (terminals_of token) ts ≡ true → level_at d n ts ≡ found_at d [] state ts
+  level_prefix token state e b = climb_by (g.Prefix token state) e ∙ cond-true (starts_with (terminals_of token) ts) _ _ b
+
+  pub level_other : (token : Token) (state : State) → g.Prefix token state ≡ rung_of (n - 1) → starts_with (terminals_of token) ts ≡ false → level_at d n ts ≡ level_at d (n - 1) ts
+  level_other token state e b = climb_by (g.Prefix token state) e ∙ cond-false (starts_with (terminals_of token) ts) _ _ b
+
+  pub level_none : (token : Token) (state : State) → g.Infix token state ≡ rung_of (n - 1) → level_at d (n - 1) ts ≡ None → level_at d n ts ≡ None
+  level_none token state e b = climb_by (g.Infix token state) e ∙ ap (λ (o : Option (Part × List Leaf)). o >>= λ a. begun_at d token state a.0 a.1) b
+
+  pub level_begun : (token : Token) (state : State) (a : Part) (rest : List Leaf) → g.Infix token state ≡ rung_of (n - 1) → level_at d (n - 1) ts ≡ Some (a, rest) → level_at d n ts ≡ begun_at d token state a rest
+  level_begun token state a rest e b = climb_by (g.Infix token state) e ∙ ap (λ (o : Option (Part × List Leaf)). o >>= λ a. begun_at d token state a.0 a.1) b
+
 module _ (d : ℕ) (token : Token) (state : State) (a : Part) (ts : List Leaf) where
   pub begun_stays : starts_with (terminals_of token) ts ≡ false → begun_at d token state a ts ≡ Some (a, ts)
   unfolding begun_at
@@ -131,11 +187,7 @@ module _ (d : ℕ) (token : Token) (state : State) (a : Part) (ts : List Leaf) w
 
   pub begun_none : starts_with (terminals_of token) ts ≡ true → cond (fits_in d a) (Some a) None ≡ None → begun_at d token state a ts ≡ None
   unfolding begun_at
-  begun_none h f = cond-true (starts_with (terminals_of token) ts) _ _ h ∙ unfit (fits_in d a) f
-    where
-      unfit : (b : Bool) → cond b (Some a) None ≡ None → cond b (found_at d (a ∷ []) state ts) None ≡ None
-      unfit true e = absurd cc
-      unfit false e = refl
+  begun_none h f = cond-true (starts_with (terminals_of token) ts) _ _ h ∙ unfit (fits_in d a) a _ f
 
 -- ---- atoms
 
@@ -207,11 +259,7 @@ module _ (d : ℕ) (a : Part) (ts : List Leaf) where
   suffix_stops h = suffix_step d a ts ∙ cond-false (starts_with (first_of suffix) ts) _ _ h
 
   pub suffix_unfit : starts_with (terminals_of t.Suffixes) ts ≡ true → cond (fits_in d a) (Some a) None ≡ None → suffixes_at d a ts ≡ None
-  suffix_unfit h f = suffix_step d a ts ∙ cond-true (starts_with (first_of suffix) ts) _ _ h ∙ unfit (fits_in d a) f
-    where
-      unfit : (b : Bool) → cond b (Some a) None ≡ None → cond b (suffixed d a ts >>= λ x. suffixes_at d x.0 x.1) None ≡ None
-      unfit true e = absurd cc
-      unfit false e = refl
+  suffix_unfit h f = suffix_step d a ts ∙ cond-true (starts_with (first_of suffix) ts) _ _ h ∙ unfit (fits_in d a) a _ f
 
   suffix_reads : starts_with (terminals_of t.Suffixes) ts ≡ true → fits_in d a ≡ true → suffixes_at d a ts ≡ (found_at d (a ∷ []) s.Suffix ts >>= λ x. suffixes_at d x.0 x.1)
   suffix_reads h f = suffix_step d a ts ∙ cond-true (starts_with (first_of suffix) ts) _ _ h ∙ cond-true (fits_in d a) _ _ f ∙ ap (λ (o : Option (Part × List Leaf)). o >>= λ x. suffixes_at d x.0 x.1) (sym (suffix_is d a ts))
@@ -252,19 +300,65 @@ module _ (d : ℕ) (ts : List Leaf) where
   named_fits : (a : Part) → has_token name a ≡ true → fits_in d a ≡ true
   named_fits a h = let w = token_leaf name a h in rw w.1 (le-leb 0 d (omega arith))
 
-  pub argument_stays : (a : Part) (rest : List Leaf) → starts_with stars ts ≡ false → level_at d 12 ts ≡ Some (a, rest) → starts_with equals rest ≡ false → argument_at d ts ≡ begun_at d t.Equals (s.Ends k.Named t.Equals (q.Level 12)) a rest
-  argument_stays a rest h e m = named_is h ∙ rw (e, m) (sym (begun_stays d t.Equals (s.Ends k.Named t.Equals (q.Level 12)) a rest m))
+  pub argument_stays : (a : Part) (rest : List Leaf) → starts_with stars ts ≡ false → level_at d 12 ts ≡ Some (a, rest) → starts_with equals rest ≡ false → argument_at d ts ≡ Some (a, rest)
+  argument_stays a rest h e m = named_is h ∙ rw (e, m) refl
 
   pub argument_named : (a : Part) (rest : List Leaf) → starts_with stars ts ≡ false → level_at d 12 ts ≡ Some (a, rest) → has_token name a ≡ true → argument_at d ts ≡ begun_at d t.Equals (s.Ends k.Named t.Equals (q.Level 12)) a rest
   argument_named a rest h e n =
       elim (cases_Bool (starts_with equals rest)) [
         | inl m ↦ named_is h ∙ rw (e, m, n) (sym (begun_goes d t.Equals (s.Ends k.Named t.Equals (q.Level 12)) a rest m (named_fits a n)))
-        | inr m ↦ argument_stays a rest h e m
+        | inr m ↦ argument_stays a rest h e m ∙ sym (begun_stays d t.Equals (s.Ends k.Named t.Equals (q.Level 12)) a rest m)
       ]
 
 -- ---- files
 
-abbrev file_of : Option (Part × List Leaf) → Option Node
-file_of None = None
-file_of (Some (v.Node n, [])) = Some n
-file_of (Some (x, ts)) = None
+no_leaf : (n : Node) (l : Leaf) → v.Node n ≡ v.Leaf l → ⊥
+no_leaf n l h = absurd cc
+
+abbrev back : Part → Node → Node
+back (p.Leaf l) m = m
+back (p.Node' kind size row) m = record { kind = kind; parts = items-the_row-Part _ row }
+
+back_is : (n m : Node) → back (v.Node n) m ≡ n
+back_is n m = ap (λ (ps : List Part). let z : Node = record { kind = n.kind; parts = ps } in z) (items_of_row n)
+
+same_node : (m n : Node) → v.Node m ≡ v.Node n → m ≡ n
+same_node m n h = sym (back_is m m) ∙ ap (λ (x : Part). back x m) h ∙ back_is n m
+
+left_over : (ps : List Part) (us : List Leaf) → (us ≡ [] → ⊥) → if_all (ps, us) ≡ None
+left_over ps [] h = absurd (h refl)
+left_over ps (u ∷ us) h = refl
+
+abbrev framed : Option (List Part × List Leaf) → Option (Part × List Leaf)
+framed o = wrap_found (with_found [] (as_kind k.File o))
+
+framed_some : (o : Option (List Part × List Leaf)) (x : Part) (rest : List Leaf) → framed o ≡ Some (x, rest) → (ps : List Part) × (o ≡ Some (ps, rest)) × (node k.File ps ≡ x)
+framed_some None x rest e = absurd cc
+framed_some (Some y) x rest e = let w = same_Some (node k.File y.0, y.1) (x, rest) e in (y.0, ap (λ (z : Part × List Leaf). Some (y.0, z.1)) w, ap (λ (z : Part × List Leaf). z.0) w)
+
+framed_none : (o : Option (List Part × List Leaf)) → framed o ≡ None → o ≡ None
+framed_none None e = refl
+framed_none (Some y) e = absurd cc
+
+module _ (d : ℕ) (ts : List Leaf) where
+  pub file_none : found_at d [] s.Lines ts ≡ None → read_file d ts ≡ None
+  unfolding found_at found_by
+  file_none e = rw (framed_none (run (reading d) (shape k.File) ts) e) refl
+
+  pub file_leaf : {A : Type 0} (l : Leaf) (rest : List Leaf) → found_at d [] s.Lines ts ≡ Some (v.Leaf l, rest) → A
+  unfolding found_at found_by
+  file_leaf l rest e = let w = framed_some (run (reading d) (shape k.File) ts) (v.Leaf l) rest e in absurd (no_leaf (record { kind = k.File; parts = w.0 }) l w.2)
+
+  pub file_whole : (n : Node) (rest : List Leaf) → found_at d [] s.Lines ts ≡ Some (v.Node n, rest) → rest ≡ [] → read_file d ts ≡ Some n
+  unfolding found_at found_by
+  file_whole n rest e h =
+      let w = framed_some (run (reading d) (shape k.File) ts) (v.Node n) rest e in
+      let m : Node = record { kind = k.File; parts = w.0 } in
+      let same : m ≡ n = same_node m n w.2 in
+      rw (w.1, h) (ap (λ (z : Node). Some z) same)
+
+  pub file_more : (n : Node) (rest : List Leaf) → found_at d [] s.Lines ts ≡ Some (v.Node n, rest) → (rest ≡ [] → ⊥) → read_file d ts ≡ None
+  unfolding found_at found_by
+  file_more n rest e h =
+      let w = framed_some (run (reading d) (shape k.File) ts) (v.Node n) rest e in
+      rw w.1 (left_over w.0 rest h)

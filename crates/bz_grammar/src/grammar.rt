@@ -1,12 +1,12 @@
 //! The parser: nodes by the table of states, expressions by their ranks.
-ghost use Rattle.std.specs.Prelude.{◌≡◌, ◌∷◌, ◌≤◌, [], ℕ, Some, None, IfOk, true, false};
+ghost use Rattle.std.specs.Prelude.{◌≡◌, ◌∷◌, ◌≤◌, [], ℕ, Some, Err, IfOk};
 ghost use Rattle.bz_tree.specs.declared.tree.Node.{Node};
-ghost use Rattle.bz_tree.specs.Spell.{leaves_of, depth_of};
+ghost use Rattle.bz_grammar.specs.declared.token.Halt.TheVariants as h;
 ghost use Rattle.bz_grammar.specs.Shapes.{name, has_token};
-ghost use Rattle.bz_grammar.specs.Legal.{IsFile};
+ghost use Rattle.bz_grammar.specs.Legal.{IsFileOf};
 ghost use Rattle.bz_grammar.specs.Reading.{read_file};
 ghost use Rattle.bz_grammar.specs.Words.{terminals_of, token_at, part_at, Adds, Fails};
-ghost use Rattle.bz_grammar.specs.States.{sort_of, found_at, begun_at, level_at, suffixes_at, atom_at, argument_at};
+ghost use Rattle.bz_grammar.specs.States.{sort_of, found_at, begun_at, level_at, atom_at, argument_at};
 
 use crate::row::{Deep, Row};
 use crate::state::{Move, Rung, Sort, State, TEST, rung_at};
@@ -18,18 +18,32 @@ use std::alloc::Global;
 /// How deep the parts of a file may be.
 const DEPTH: u32 = 199;
 
-/// All leaves as a file, at most 200 nodes deep.
+/// These leaves as a file at most 200 nodes deep.
 ///
 /// Errors: `Unexpected` where no such file has these leaves; `Memory` where a growth was refused.
+#[tactic(auto, using(crate::proofs::Files::file_read, crate::proofs::Files::no_file))]
 pub fn file(alloc: Global, leaves: Vec<Leaf>) -> Result<Node, Halt>
-    ensures ok { IfOk result (λ file. read_file 199 leaves.items ≡ Some file) }
-    ensures err { Fails result (read_file 199 leaves.items) }
+    ensures ok { IfOk result (λ file. IsFileOf leaves.items file) }
+    ensures err { (result ≡ Err h.Unexpected) → (file : Node) → IsFileOf leaves.items file → ⊥ }
 {
-    let mut rest = Leaves::new(leaves);
-    let Deep { part, .. } = follow(alloc, Row::new(alloc), State::Lines, DEPTH, &mut rest)?;
+    whole(alloc, &mut Leaves::new(leaves))
+}
+
+/// All leaves as a file.
+fn whole(alloc: Global, leaves: &mut Leaves) -> Result<Node, Halt>
+    ensures ok { IfOk result (λ file. read_file 199 leaves.old ≡ Some file) }
+    ensures err { Fails result (read_file 199 leaves.old) }
+{
+    let Deep { part, .. } = follow(alloc, Row::new(alloc), State::Lines, DEPTH, leaves)?;
     match part {
-        Part::Node(file) if rest.is_empty() => Ok(file),
-        _ => Err(Halt::Unexpected),
+        Part::Leaf(_) => Err(Halt::Unexpected),
+        Part::Node(file) => {
+            if leaves.is_empty() {
+                Ok(file)
+            } else {
+                Err(Halt::Unexpected)
+            }
+        }
     }
 }
 
@@ -204,10 +218,14 @@ fn argument(alloc: Global, depth: u32, leaves: &mut Leaves) -> Result<Deep, Halt
         return follow(alloc, Row::new(alloc), State::Ends(Kind::Star, Token::Stars, TEST), depth, leaves);
     }
     let left = level(alloc, 12, depth, leaves)?;
-    if leaves.starts(Token::Equals) && !is_name(&left.part) {
+    if !leaves.starts(Token::Equals) {
+        return Ok(left);
+    }
+    if !is_name(&left.part) {
         return Err(Halt::Unexpected);
     }
-    begun(alloc, left, Token::Equals, State::Ends(Kind::Named, Token::Equals, TEST), depth, leaves)
+    let named = State::Ends(Kind::Named, Token::Equals, TEST);
+    begun(alloc, left, Token::Equals, named, depth, leaves)
 }
 
 /// Whether the part is a name.
