@@ -340,6 +340,9 @@ framed_none : (o : Option (List Part × List Leaf)) → framed o ≡ None → o 
 framed_none None e = refl
 framed_none (Some y) e = absurd cc
 
+pub file_part : (x y : Part) (rest : List Leaf) → x ≡ y → (let z : Option (Part × List Leaf) = Some (x, rest) in z) ≡ Some (y, rest)
+file_part x y rest e = ap (λ (z : Part). let w : Option (Part × List Leaf) = Some (z, rest) in w) e
+
 module _ (d : ℕ) (ts : List Leaf) where
   pub file_none : found_at d [] s.Lines ts ≡ None → read_file d ts ≡ None
   unfolding found_at found_by
