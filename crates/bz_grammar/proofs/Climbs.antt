@@ -1,6 +1,6 @@
 -- Parts, expressions and files as the parser reads them.
-use Rattle.std.proofs.Common.{◌≡◌, ℕ, zero, suc, ◌+◌, ◌*◌, ◌≤◌, ◌<◌, ◌-◌, Bool, true, false, cond, List, [], ◌∷◌, ◌++◌, length, ◌⊎◌, inl, inr, Option, Some, None, Result, Ok, Err, refl, sym, ap, subst, ◌∙◌, arith, length-append}
-use Rattle.std.proofs.lemmas.Bool.{cases_Bool, both_ways, cond-true, cond-false, le-leb}
+use Rattle.std.proofs.Common.{◌≡◌, ℕ, zero, suc, ◌≤◌, ◌<◌, ◌-◌, Bool, true, false, cond, List, [], ◌∷◌, length, inl, inr, Option, Some, None, Result, Ok, Err, refl, sym, ap, ◌∙◌, arith, length-append}
+use Rattle.std.proofs.lemmas.Bool.{cases_Bool, cond-true, cond-false, le-leb}
 use Rattle.std.specs.Result.{IsErrAnd, IfOk}
 use Rattle.std.proofs.lemmas.Option.{same_Some}
 use Rattle.bz_grammar.specs.declared.row.Deep.{Deep}
@@ -21,14 +21,14 @@ use Rattle.bz_grammar.specs.declared.state.Rung.{Rung}
 use Rattle.bz_grammar.specs.declared.state.Rung.TheVariants as g
 use Rattle.bz_grammar.specs.declared.state.State.{State}
 use Rattle.bz_grammar.specs.declared.state.State.TheVariants as s
-use Rattle.bz_grammar.specs.Shapes.{Terminal, has_token, Sort, level, argument, entry, clause, first_clause, loaded, small, line, bitor, or_level, test, Shape, done, tok, sub, alt, list, each, shape, name, simple, string, equals, stars, signs, orders, products, sums, shifts, mark, keyword, comma, open_round, open_square, open_curly}
-use Rattle.bz_grammar.specs.Reading.{◌>>=◌, Read, starts_with, first, put, run, finish, first_of, Found, as_kind, put_found, follow, node, wrap, wrap_found, infix_at, fits_in, atom, suffixes, climb, read_argument, named_tail, reading, round, square, curly, suffix, clause_plan, small_plan, if_all, read_file}
+use Rattle.bz_grammar.specs.Shapes.{Terminal, has_token, Sort, level, argument, entry, clause, first_clause, loaded, small, line, Shape, done, tok, list, shape, name, simple, string, equals, stars, products, sums, shifts, comma, open_round, open_square, open_curly}
+use Rattle.bz_grammar.specs.Reading.{◌>>=◌, Read, starts_with, first, put, run, finish, first_of, Found, as_kind, put_found, follow, node, wrap, wrap_found, infix_at, fits_in, suffixes, climb, named_tail, reading, round, square, curly, suffix, clause_plan, small_plan, if_all, read_file}
 use Rattle.bz_grammar.specs.Words.{terminals_of, token_at, part_at, with_found, found_by, Halts, Fails}
-use Rattle.bz_grammar.specs.States.{sort_of, compare_tail, cond_tail, plan_at, found_at, begun_at, level_at, rung_of, climbed, suffixes_at, atom_at, argument_at}
+use Rattle.bz_grammar.specs.States.{sort_of, compare_tail, cond_tail, found_at, begun_at, level_at, rung_of, climbed, suffixes_at, atom_at, argument_at}
 use Rattle.bz_tree.proofs.Nested.{items_of_row}
 use Rattle.bz_grammar.proofs.Terminals.{full_front}
 use Rattle.bz_grammar.proofs.Exact.{all_leaves, token_leaf}
-use Rattle.bz_grammar.proofs.Plans.{found_leaves, put_found_some, not_empty_plan, plan_exact}
+use Rattle.bz_grammar.proofs.Plans.{put_found_some, not_empty_plan, plan_exact}
 use Rattle.bz_grammar.proofs.Nodes.{wrap_found_some}
 use Rattle.bz_grammar.proofs.Trees.{At}
 use Rattle.bz_grammar.proofs.Levels.{begins, goes}

@@ -1,5 +1,5 @@
 -- What is read is the one file that the leaves are.
-use Rattle.std.proofs.Common.{◌≡◌, ℕ, zero, suc, ◌≤◌, max, List, [], ◌∷◌, ◌++◌, Option, Some, None, refl, sym, ap, subst, ◌∙◌, arith}
+use Rattle.std.proofs.Common.{◌≡◌, ℕ, suc, ◌≤◌, max, List, [], ◌∷◌, ◌++◌, Some, None, refl, sym, ap, subst, ◌∙◌, arith}
 use Rattle.std.proofs.lemmas.List.{append-nil}
 use Rattle.std.proofs.lemmas.Option.{same_Some, none-some}
 use Rattle.bz_lex.specs.declared.leaf.Leaf.{Leaf}
@@ -9,7 +9,7 @@ use Rattle.bz_tree.specs.declared.tree.Node.{Node}
 use Rattle.bz_tree.specs.declared.tree.Part.{Part}
 use Rattle.bz_tree.specs.Spell.{leaves_of, depth_of}
 use Rattle.bz_grammar.specs.Shapes.{Fits, shape}
-use Rattle.bz_grammar.specs.Legal.{IsFile, LegalShapes, IsFileOf}
+use Rattle.bz_grammar.specs.Legal.{IsFile, IsFileOf}
 use Rattle.bz_grammar.specs.Laws.{OneFile}
 use Rattle.bz_grammar.specs.Reading.{run, reading, if_all, read_file}
 use Rattle.bz_grammar.proofs.Exact.{all_leaves, bind_some, Exact}

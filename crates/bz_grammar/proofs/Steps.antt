@@ -1,18 +1,17 @@
 -- One step of reading at a time, for the parser's functions.
-use Rattle.std.proofs.Common.{◌≡◌, ℕ, zero, suc, ◌+◌, ◌≤◌, ◌<◌, Bool, true, false, cond, List, [], ◌∷◌, ◌++◌, length, ◌&&◌, ◌⊎◌, inl, inr, Option, Some, None, Result, Ok, Err, refl, sym, ap, ◌∙◌, append_assoc, arith, length-append}
+use Rattle.std.proofs.Common.{◌≡◌, ℕ, zero, suc, ◌≤◌, Bool, true, false, cond, List, [], ◌∷◌, length, inl, inr, Option, Some, None, Result, Ok, Err, refl, sym, ap, ◌∙◌, arith, length-append}
 use Rattle.std.proofs.lemmas.Bool.{cases_Bool, both_ways}
 use Rattle.std.proofs.lemmas.Option.{same_Some, none-some}
 use Rattle.bz_lex.specs.declared.leaf.Leaf.{Leaf}
 use Rattle.bz_tree.specs.declared.tree.Part.{Part}
 use Rattle.bz_tree.specs.declared.tree.Part.TheVariants as v
 use Rattle.bz_tree.specs.Spell.{leaves_part}
-use Rattle.bz_grammar.specs.Shapes.{Terminal, is_one_of, Sort, Shape, done, tok, sub, alt, list, each}
-use Rattle.bz_grammar.specs.Reading.{◌>>=◌, Read, starts_with, starts, first, put, behind, listed, several, run, token_of, reading}
+use Rattle.bz_grammar.specs.Shapes.{Terminal, is_one_of, Sort, Shape, tok, list, each}
+use Rattle.bz_grammar.specs.Reading.{◌>>=◌, Read, starts_with, starts, first, put, behind, listed, several, run, reading}
 use Rattle.bz_grammar.specs.Words.{token_at, Halts, Fails}
 use Rattle.bz_grammar.specs.declared.token.Halt.{Halt}
 use Rattle.bz_grammar.specs.declared.token.Halt.TheVariants as h
 use Rattle.bz_grammar.proofs.Terminals.{full_front}
-use Rattle.bz_grammar.proofs.Exact.{all_leaves, put_some}
 use Rattle.bz_grammar.proofs.Levels.{begins}
 use Rattle.bz_grammar.proofs.Parse.{reading_exact}
 

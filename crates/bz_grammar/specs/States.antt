@@ -1,6 +1,5 @@
 -- The parser's table: what is left to read in each state, and its next move.
-use Rattle.std.specs.Prelude.{◌≡◌, ℕ, zero, suc, Bool, true, false, List, [], ◌∷◌, ◌++◌, length, Option, Some, None, ◌<◌, if◌then◌else◌, codes}
-use Rattle.bz_lex.specs.declared.leaf.Leaf.{Leaf}
+use Rattle.std.specs.Prelude.{ℕ, zero, suc, true, false, List, [], ◌∷◌, ◌++◌, length, Some, None, if◌then◌else◌, codes}
 use Rattle.bz_tree.specs.declared.kind.Kind.{Kind}
 use Rattle.bz_tree.specs.declared.kind.Kind.TheVariants as k
 use Rattle.bz_tree.specs.declared.tree.Part.{Part}
@@ -14,7 +13,7 @@ use Rattle.bz_grammar.specs.declared.state.Move.{Move}
 use Rattle.bz_grammar.specs.declared.state.Move.TheVariants as m
 use Rattle.bz_grammar.specs.declared.state.Rung.{Rung}
 use Rattle.bz_grammar.specs.declared.state.Rung.TheVariants as g
-use Rattle.bz_grammar.specs.Shapes.{Sort, level, argument, entry, clause, first_clause, loaded, small, line, primary, bitor, or_level, test, expr, Shape, done, tok, sub, alt, list, each, opt, items, slice_end, shape, name, string, orders, assigns, comma, colon, equals, keyword, open_round, close_round, open_square, close_square, open_curly, close_curly}
+use Rattle.bz_grammar.specs.Shapes.{Sort, level, argument, entry, clause, first_clause, loaded, small, line, primary, bitor, or_level, test, expr, Shape, done, tok, sub, alt, list, each, opt, items, slice_end, shape, string, orders, assigns, comma, colon, keyword, open_round, close_round, open_square, close_square}
 use Rattle.bz_grammar.specs.Reading.{◌>>=◌, Read, starts_with, Plan, finish, one, piece, choose, round, square, curly, suffix, clause_plan, small_plan, more_items, clauses, node, fits_in, atom, suffixes, climb, read_argument, reading}
 use Rattle.bz_grammar.specs.Words.{terminals_of, token_at, part_at, found_by}
 

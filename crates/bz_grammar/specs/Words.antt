@@ -1,12 +1,12 @@
 -- Reading as words that do not unfold by themselves: one for each function of the parser.
-use Rattle.std.specs.Prelude.{◌≡◌, ℕ, Bool, List, [], ◌∷◌, ◌++◌, Option, Some, None, Result, Ok, Err, if◌then◌else◌, codes}
+use Rattle.std.specs.Prelude.{◌≡◌, ℕ, List, [], ◌∷◌, ◌++◌, Option, Some, None, Result, Ok, Err, codes}
 use Rattle.bz_lex.specs.declared.leaf.Leaf.{Leaf}
 use Rattle.bz_tree.specs.declared.tree.Part.{Part}
 use Rattle.bz_grammar.specs.declared.token.Token.{Token}
 use Rattle.bz_grammar.specs.declared.token.Token.TheVariants as t
 use Rattle.bz_grammar.specs.declared.token.Halt.{Halt}
 use Rattle.bz_grammar.specs.declared.token.Halt.TheVariants as h
-use Rattle.bz_grammar.specs.Shapes.{Terminal, Sort, Shape, name, string, simple, newline, end, open_round, close_round, open_square, close_square, open_curly, close_curly, comma, colon, semicolon, dot, equals, assigns, stars, signs, orders, shifts, sums, products, mark, keyword, clause, line}
+use Rattle.bz_grammar.specs.Shapes.{Terminal, Sort, name, string, simple, newline, end, open_round, close_round, open_square, close_square, open_curly, close_curly, comma, colon, semicolon, dot, equals, assigns, stars, signs, orders, shifts, sums, products, mark, keyword, clause, line}
 use Rattle.bz_grammar.specs.Reading.{Read, token_of, starts, reading, Plan, Found, follow, wrap_found, first_of, suffix}
 
 abbrev pub terminals_of : Token → List Terminal

@@ -11,22 +11,21 @@ ghost use Rattle.bz_grammar.specs.States.{sort_of, found_at, begun_at, level_at,
 use crate::row::{Deep, Row};
 use crate::state::{Move, Rung, Sort, State, TEST, rung_at};
 use crate::token::{Halt, Leaves, Token};
-use bz_lex::Leaf;
 use bz_tree::{Kind, Node, Part};
 use std::alloc::Global;
 
 /// How deep the parts of a file may be.
 const DEPTH: u32 = 199;
 
-/// These leaves as a file at most 200 nodes deep.
+/// The leaves as a file at most 200 nodes deep.
 ///
 /// Errors: `Unexpected` where no such file has these leaves; `Memory` where a growth was refused.
 #[tactic(auto, using(crate::proofs::Files::file_read, crate::proofs::Files::no_file))]
-pub fn file(alloc: Global, leaves: Vec<Leaf>) -> Result<Node, Halt>
-    ensures ok { IfOk result (λ file. IsFileOf leaves.items file) }
-    ensures err { (result ≡ Err h.Unexpected) → (file : Node) → IsFileOf leaves.items file → ⊥ }
+pub fn file(alloc: Global, leaves: &mut Leaves) -> Result<Node, Halt>
+    ensures ok { IfOk result (λ file. IsFileOf leaves.old file) }
+    ensures err { (result ≡ Err h.Unexpected) → (file : Node) → IsFileOf leaves.old file → ⊥ }
 {
-    whole(alloc, &mut Leaves::new(leaves))
+    whole(alloc, leaves)
 }
 
 /// All leaves as a file.
@@ -72,7 +71,13 @@ fn read(alloc: Global, row: Row, sort: Sort, depth: u32, leaves: &mut Leaves) ->
 
 /// The node of a row and of what is left to read of it in a state.
 #[cycle(parser)]
-fn follow(alloc: Global, row: Row, state: State, depth: u32, leaves: &mut Leaves) -> Result<Deep, Halt>
+fn follow(
+    alloc: Global,
+    row: Row,
+    state: State,
+    depth: u32,
+    leaves: &mut Leaves,
+) -> Result<Deep, Halt>
     requires { row.depth ≤ depth }
     ensures ok { IfOk result (λ deep. found_at depth row.parts.items state leaves.old ≡ Some (deep.part, leaves.new)) }
     ensures err { Fails result (found_at depth row.parts.items state leaves.old) }
@@ -121,7 +126,13 @@ fn part(alloc: Global, sort: Sort, depth: u32, leaves: &mut Leaves) -> Result<De
         Sort::Clause => follow(alloc, Row::new(alloc), State::AnyClause, inner, leaves),
         Sort::FirstClause => follow(alloc, Row::new(alloc), State::For, inner, leaves),
         Sort::Small => follow(alloc, Row::new(alloc), State::Small, inner, leaves),
-        Sort::Line => follow(alloc, Row::new(alloc), State::Listed(Kind::Line, Sort::Small, Token::Semicolon, Token::Newline), inner, leaves),
+        Sort::Line => follow(
+            alloc,
+            Row::new(alloc),
+            State::Listed(Kind::Line, Sort::Small, Token::Semicolon, Token::Newline),
+            inner,
+            leaves,
+        ),
     }
 }
 
@@ -140,7 +151,14 @@ fn leaf_of(sort: Sort, leaves: &mut Leaves) -> Result<Deep, Halt>
 
 /// `left`, or the node that it begins where this token stands behind it.
 #[cycle(parser)]
-fn begun(alloc: Global, left: Deep, token: Token, state: State, depth: u32, leaves: &mut Leaves) -> Result<Deep, Halt>
+fn begun(
+    alloc: Global,
+    left: Deep,
+    token: Token,
+    state: State,
+    depth: u32,
+    leaves: &mut Leaves,
+) -> Result<Deep, Halt>
     ensures ok { IfOk result (λ deep. begun_at depth token state left.part leaves.old ≡ Some (deep.part, leaves.new)) }
     ensures err { Fails result (begun_at depth token state left.part leaves.old) }
 {
@@ -215,7 +233,13 @@ fn argument(alloc: Global, depth: u32, leaves: &mut Leaves) -> Result<Deep, Halt
     ensures err { Fails result (argument_at depth leaves.old) }
 {
     if leaves.starts(Token::Stars) {
-        return follow(alloc, Row::new(alloc), State::Ends(Kind::Star, Token::Stars, TEST), depth, leaves);
+        return follow(
+            alloc,
+            Row::new(alloc),
+            State::Ends(Kind::Star, Token::Stars, TEST),
+            depth,
+            leaves,
+        );
     }
     let left = level(alloc, 12, depth, leaves)?;
     if !leaves.starts(Token::Equals) {

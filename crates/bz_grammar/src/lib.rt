@@ -5,8 +5,10 @@ mod grammar;
 mod laws;
 mod row;
 mod state;
+#[cfg(test)]
+mod tests;
 mod token;
 
 pub use grammar::file;
 pub use laws::one_file;
-pub use token::Halt;
+pub use token::{Halt, Leaves};

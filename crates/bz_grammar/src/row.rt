@@ -4,10 +4,9 @@ ghost use Rattle.bz_tree.specs.Spell.{depth_part, deepest};
 ghost use Rattle.bz_grammar.specs.Reading.{node, fits_in};
 ghost use Rattle.bz_grammar.specs.Words.{terminals_of, token_at, Adds, Fails};
 
-use bz_tree::Kind;
 use crate::token::{Halt, Leaves, Token};
-use bz_tree::{Node, Part};
 use bz_items::{Items, Memory};
+use bz_tree::{Kind, Node, Part};
 use std::alloc::Global;
 
 /// A part, and how deep it is.

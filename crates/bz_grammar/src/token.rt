@@ -4,8 +4,8 @@ ghost use Rattle.bz_grammar.specs.Shapes.{this, is_class, is_terminal, is_one_of
 ghost use Rattle.bz_grammar.specs.Reading.{starts_with, starts};
 ghost use Rattle.bz_grammar.specs.Words.{terminals_of, token_at, Fails};
 
-use bz_tree::Part;
 use bz_lex::{Class, Leaf};
+use bz_tree::Part;
 use std::alloc::{AllocError, AllocFailed};
 use std::collections::VecDeque;
 use std::marker::Model;
@@ -43,7 +43,7 @@ impl<T: Drop> From<AllocFailed<T>> for Halt {
 
 /// The tokens that the grammar asks for, one or several.
 #[derive(Clone, Copy)]
-pub enum Token {
+pub(crate) enum Token {
     Name,
     String,
     /// A name, a number or a string.
@@ -219,7 +219,8 @@ impl Token {
     }
 }
 
-/// The leaves that are not in the tree yet, and how many bytes those in front of them spell.
+/// The leaves that are not in the tree yet, and how many bytes those in front of them spell. A contract sees the list of
+/// leaves that are left.
 #[derive(Drop)]
 pub struct Leaves {
     rest: VecDeque<Leaf>,
@@ -240,6 +241,7 @@ impl Model for Leaves {
 }
 
 impl Leaves {
+    /// All these leaves, from the first on.
     pub fn new(leaves: Vec<Leaf>) -> Leaves
         ensures { result ≡ leaves.items }
     {
@@ -249,14 +251,14 @@ impl Leaves {
         }
     }
 
-    pub fn is_empty(&self) -> bool
+    pub(crate) fn is_empty(&self) -> bool
         ensures { IsTrue result ↔ (self.now ≡ []) }
     {
         self.rest.is_empty()
     }
 
     /// Whether the next leaf is this token.
-    pub fn starts(&self, token: Token) -> bool
+    pub(crate) fn starts(&self, token: Token) -> bool
         ensures { result ≡ starts_with (terminals_of token) self.now }
     {
         match self.rest.front() {
@@ -274,7 +276,7 @@ impl Leaves {
 
     /// The next leaf, where it is this token.
     #[tactic(auto, unfolding(crate::specs::Words::token_at))]
-    pub fn take(&mut self, token: Token) -> Result<Part, Halt>
+    pub(crate) fn take(&mut self, token: Token) -> Result<Part, Halt>
         ensures ok { IfOk result (λ part. token_at (terminals_of token) self.old ≡ Some (part, self.new)) }
         ensures err { Fails result (token_at (terminals_of token) self.old) }
     {

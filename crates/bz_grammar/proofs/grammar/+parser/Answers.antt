@@ -1,4 +1,4 @@
-use Rattle.std.proofs.Common.{◌≡◌, ℕ, List, Some, None, sym, ap, ◌∙◌, arith}
+use Rattle.std.proofs.Common.{Some, sym, ap, ◌∙◌, arith}
 use Rattle.bz_tree.specs.declared.tree.Part.{Part}
 use Rattle.bz_grammar.proofs.Moves.{finishes, takes, takes_none, reads, reads_none, chooses_left, chooses_right, fewer_taken, fewer_read, fewer_left, fewer_right}
 use Rattle.bz_grammar.proofs.Climbs.{row_same, carry_ok, carry_err, handed_on, inside, level_is, argument_is, entry_is, clause_is, first_clause_is, small_is, line_is, alias_is, loaded_is, part_depth, level_same, level_prefix, level_other, level_none, level_begun, begun_stays, begun_goes, begun_none, atom_round, atom_square, atom_curly, atom_leaf, primary_atom, primary_none, suffix_stops, suffix_unfit, suffix_goes, suffix_none, suffix_shorter, star_is, argument_none, argument_odd, argument_stays, argument_named}

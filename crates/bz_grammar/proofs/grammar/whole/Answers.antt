@@ -1,6 +1,5 @@
-use Rattle.std.proofs.Common.{◌≡◌, List, [], Some, None, sym, ap, ◌∙◌}
+use Rattle.std.proofs.Common.{◌∙◌}
 use Rattle.std.proofs.lemmas.Bool.{both_ways}
-use Rattle.bz_tree.specs.declared.tree.Part.{Part}
 use Rattle.bz_grammar.proofs.Climbs.{row_same, handed_on, file_none, file_leaf, file_whole, file_more, file_part}
 use Rattle.bz_grammar.proofs.grammar.whole.Goals as goal
 
