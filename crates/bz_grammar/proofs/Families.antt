@@ -1,15 +1,14 @@
 -- Kinds that begin alike: their plans ask for what the table of shapes asks for.
-use Rattle.std.proofs.Common.{◌≡◌, ℕ, zero, suc, ◌≤◌, Bool, true, false, cond, eqb, leb, List, [], ◌∷◌, ◌++◌, ◌||◌, ◌&&◌, not, ◌⊎◌, inl, inr, Option, Some, None, refl, sym, ap, subst, ◌∙◌, arith}
-use Rattle.std.proofs.lemmas.Bool.{and_parts, both_ways}
+use Rattle.std.proofs.Common.{◌≡◌, ℕ, suc, true, false, List, [], ◌∷◌, ◌++◌, inl, inr, refl, sym, ap, subst, ◌∙◌}
+use Rattle.std.proofs.lemmas.Bool.{both_ways}
 use Rattle.bz_lex.specs.declared.leaf.Leaf.{Leaf}
 use Rattle.bz_tree.specs.declared.kind.Kind.{Kind}
 use Rattle.bz_tree.specs.declared.kind.Kind.TheVariants as k
 use Rattle.bz_tree.specs.declared.tree.Part.{Part}
 use Rattle.bz_tree.specs.Spell.{leaves_part}
-use Rattle.bz_grammar.specs.Shapes.{Terminal, Sort, level, clause, small, entry, primary, test, has_kind, Shape, none, done, tok, sub, alt, list, each, items, Fits, shape, comma, open_round, close_round, open_square, close_square, open_curly, close_curly}
-use Rattle.bz_grammar.specs.Reading.{Read, starts, Plan, finish, one, piece, choose, Found, follow, node, wrap_found, round, square, curly, suffix, clause_plan, small_plan, more_items}
-use Rattle.bz_grammar.proofs.Terminals.{subset}
-use Rattle.bz_grammar.proofs.Exact.{all_leaves, Exact}
+use Rattle.bz_grammar.specs.Shapes.{Terminal, Sort, clause, small, entry, primary, test, has_kind, Shape, done, tok, sub, alt, items, Fits, shape, open_square, close_square, open_curly, close_curly}
+use Rattle.bz_grammar.specs.Reading.{Read, Plan, finish, one, piece, choose, Found, follow, node, wrap_found, round, square, curly, suffix, clause_plan, small_plan, more_items}
+use Rattle.bz_grammar.proofs.Exact.{Exact}
 use Rattle.bz_grammar.proofs.Nodes.{node_leaves, wrap_found_some}
 use Rattle.bz_grammar.proofs.Plans.{Finds, shape_in, shape_of_plan, plan_of_shape, found_leaves}
 use Rattle.bz_grammar.proofs.Trees.{At}

@@ -1,7 +1,7 @@
 -- What is read is the one file that the leaves are.
-use Rattle.std.proofs.Common.{◌≡◌, ℕ, zero, suc, ◌≤◌, max, List, [], ◌∷◌, ◌++◌, Option, Some, None, refl, sym, ap, ◌∙◌, arith}
+use Rattle.std.proofs.Common.{◌≡◌, ℕ, suc, ◌≤◌, max, List, [], ◌∷◌, ◌++◌, Some, None, refl, sym, ap, subst, ◌∙◌, arith}
 use Rattle.std.proofs.lemmas.List.{append-nil}
-use Rattle.std.proofs.lemmas.Option.{same_Some}
+use Rattle.std.proofs.lemmas.Option.{same_Some, none-some}
 use Rattle.bz_lex.specs.declared.leaf.Leaf.{Leaf}
 use Rattle.bz_tree.specs.declared.kind.Kind.{Kind}
 use Rattle.bz_tree.specs.declared.kind.Kind.TheVariants as k
@@ -9,12 +9,12 @@ use Rattle.bz_tree.specs.declared.tree.Node.{Node}
 use Rattle.bz_tree.specs.declared.tree.Part.{Part}
 use Rattle.bz_tree.specs.Spell.{leaves_of, depth_of}
 use Rattle.bz_grammar.specs.Shapes.{Fits, shape}
-use Rattle.bz_grammar.specs.Legal.{IsFile, LegalShapes}
+use Rattle.bz_grammar.specs.Legal.{IsFile, IsFileOf}
 use Rattle.bz_grammar.specs.Laws.{OneFile}
-use Rattle.bz_grammar.specs.Reading.{run, reading, read_file}
-use Rattle.bz_grammar.proofs.Exact.{all_leaves, Exact}
+use Rattle.bz_grammar.specs.Reading.{run, reading, if_all, read_file}
+use Rattle.bz_grammar.proofs.Exact.{all_leaves, bind_some, Exact}
 use Rattle.bz_grammar.proofs.Shapes.{go, run_exact}
-use Rattle.bz_grammar.proofs.Trees.{At, join}
+use Rattle.bz_grammar.proofs.Trees.{At, join, split}
 use Rattle.bz_grammar.proofs.Levels.{begins, goes}
 use Rattle.bz_grammar.proofs.Parse.{reading_exact}
 
@@ -27,6 +27,26 @@ read_complete d n h deep =
     let r = (file_shape d).complete n.parts [] s refl in
     let r' : run (reading d) (shape k.File) (leaves_of n) ≡ Some (n.parts, []) = rw append-nil at r in
     rw r' (ap (λ (kind : Kind). let m : Node = record { kind = kind; parts = n.parts } in Some m) (sym h.root))
+
+if_all_some : (x : List Part × List Leaf) (n : Node) → if_all x ≡ Some n → (x.1 ≡ []) × (record { kind = k.File; parts = x.0 } ≡ n)
+if_all_some (ps, []) n e = (refl, same_Some _ n e)
+if_all_some (ps, t ∷ ts) n e = absurd (none-some n e)
+
+sound_file : (d : ℕ) (ts : List Leaf) (ps : List Part) → Fits (At d) (shape k.File) ps → ts ≡ all_leaves ps ++ [] → let n : Node = record { kind = k.File; parts = ps } in IsFile n × (leaves_of n ≡ ts) × (depth_of n ≤ suc d)
+sound_file d ts ps f e = let w = split d (shape k.File) ps f in (record { root = refl; shapes = (w.0, w.1) }, sym (e ∙ append-nil (all_leaves ps)), omega (arith, w.2))
+
+pub read_sound : (d : ℕ) (ts : List Leaf) (n : Node) → read_file d ts ≡ Some n → IsFile n × (leaves_of n ≡ ts) × (depth_of n ≤ suc d)
+read_sound d ts n e =
+    let x = bind_some (run (reading d) (shape k.File) ts) if_all n e in
+    let w = if_all_some x.0 n x.2 in
+    let s = (file_shape d).sound ts x.0 x.1 in
+    subst (λ (m : Node). IsFile m × (leaves_of m ≡ ts) × (depth_of m ≤ suc d)) w.1 (sound_file d ts x.0.0 s.0 (s.1 ∙ ap (λ (us : List Leaf). all_leaves x.0.0 ++ us) w.0))
+
+pub file_read : (ts : List Leaf) (n : Node) → read_file 199 ts ≡ Some n → IsFileOf ts n
+file_read ts n e = let w = read_sound 199 ts n e in record { file = w.0; leaves = w.1; depth = omega (arith, w.2) }
+
+pub no_file : (ts : List Leaf) → read_file 199 ts ≡ None → (n : Node) → IsFileOf ts n → ⊥
+no_file ts e n h = let c = read_complete 199 n h.file (omega (arith, h.depth)) in none-some n (sym e ∙ ap (read_file 199) (sym h.leaves) ∙ c)
 
 pub one_file : OneFile
 one_file m n f g e =

@@ -1,22 +1,21 @@
 -- With what a part of a sort begins, what may continue it, and the levels of operators.
-use Rattle.std.proofs.Common.{◌≡◌, ℕ, zero, suc, ◌+◌, ◌≤◌, ◌<◌, max, Bool, true, false, cond, eqb, leb, List, [], ◌∷◌, ◌++◌, length, ◌||◌, ◌&&◌, not, ◌⊎◌, inl, inr, Option, Some, None, refl, sym, ap, subst, ◌∙◌, append_assoc, arith, rules, length-append, ◌-◌, zero-add, suc-add}
-use Rattle.std.proofs.lemmas.Bool.{and_parts, or_parts, or_cases, cases_Bool, both_ways, not-true, or_from, or_left, or_right, and_from, cond-true, cond-false, eqb-true, leb-true, le-leb, cases_lt}
+use Rattle.std.proofs.Common.{◌≡◌, ℕ, zero, suc, ◌+◌, ◌≤◌, Bool, true, false, eqb, leb, List, [], ◌∷◌, ◌++◌, ◌&&◌, not, ◌⊎◌, inl, inr, refl, ap, ◌∙◌, arith, ◌-◌, zero-add, suc-add}
+use Rattle.std.proofs.lemmas.Bool.{and_parts, both_ways, not-true, and_from, eqb-true, leb-true, le-leb, cases_lt}
 use Rattle.bz_lex.specs.declared.leaf.Leaf.{Leaf}
 use Rattle.bz_tree.specs.declared.kind.Kind.{Kind}
 use Rattle.bz_tree.specs.declared.kind.Kind.TheVariants as k
 use Rattle.bz_tree.specs.declared.tree.Node.{Node}
 use Rattle.bz_tree.specs.declared.tree.Part.{Part}
 use Rattle.bz_tree.specs.declared.tree.Part.TheVariants as v
-use Rattle.bz_tree.specs.Spell.{leaves_part, depth_part, depth_of}
-use Rattle.bz_grammar.specs.Shapes.{Terminal, Sort, level, argument, entry, clause, first_clause, loaded, small, line, has_kind, rank, is_expression, leaves_at, Shape, none, done, tok, sub, alt, list, each, Fits, shape, simple, string, name, equals, assigns, keyword, open_round, open_square, open_curly}
-use Rattle.bz_grammar.specs.Reading.{Read, starts_with, starts, starts_level, own_token, first, run, kind_at, shape_at, suffix, first_of, node, by_shape, infix_at, prefix_at, fits_in}
-use Rattle.bz_grammar.specs.Legal.{IsSort, LegalPart}
+use Rattle.bz_tree.specs.Spell.{leaves_part, depth_part}
+use Rattle.bz_grammar.specs.Shapes.{Terminal, Sort, level, argument, entry, clause, first_clause, loaded, small, line, has_kind, rank, is_expression, leaves_at, Shape, none, done, tok, sub, alt, list, each, Fits, shape, simple, string, equals, assigns, open_round, open_square, open_curly}
+use Rattle.bz_grammar.specs.Reading.{Read, starts_with, starts, starts_level, own_token, first, kind_at, shape_at, suffix, first_of, node, by_shape, infix_at, prefix_at, fits_in}
 use Rattle.bz_tree.proofs.Nested.{leaf_or_node}
 use Rattle.bz_tree.proofs.Spells.{leaves_Node, depth_Node}
-use Rattle.bz_grammar.proofs.Terminals.{disjoint, disjoint_at, subset, subset_at, subset_stops, starts-append_left, starts-append_right, stops_right}
-use Rattle.bz_grammar.proofs.Exact.{all_leaves, Exact}
+use Rattle.bz_grammar.proofs.Terminals.{disjoint, disjoint_at, subset, subset_at, starts-append_left, starts-append_right, stops_right}
+use Rattle.bz_grammar.proofs.Exact.{Exact}
 use Rattle.bz_grammar.proofs.Shapes.{nullable, go, tells, not_empty, run_exact}
-use Rattle.bz_grammar.proofs.Trees.{At, join, split, legal_node, node_fits}
+use Rattle.bz_grammar.proofs.Trees.{At, legal_node, node_fits}
 use Rattle.bz_grammar.proofs.Nodes.{exact_like, Begun, Wrapped, infix_exact, prefix_exact}
 
 -- ---- with what a part begins

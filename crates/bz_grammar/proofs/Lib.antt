@@ -9,3 +9,7 @@ pub mod Families
 pub mod Primary
 pub mod Parse
 pub mod Files
+pub mod Steps
+pub mod Moves
+pub mod Deepest
+pub mod Climbs

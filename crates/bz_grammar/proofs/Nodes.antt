@@ -1,6 +1,5 @@
 -- Reading nodes: with a token of their own in front, or behind their first part.
-use Rattle.std.proofs.Common.{◌≡◌, ℕ, zero, suc, ◌+◌, ◌≤◌, ◌<◌, Bool, true, false, cond, List, [], ◌∷◌, ◌++◌, length, ◌||◌, ◌&&◌, not, ◌⊎◌, inl, inr, Option, Some, None, refl, sym, ap, subst, ◌∙◌, append_assoc, arith, length-append}
-use Rattle.std.proofs.lemmas.Bool.{and_parts, both_ways, not-true}
+use Rattle.std.proofs.Common.{◌≡◌, Bool, true, false, cond, List, [], ◌∷◌, ◌++◌, ◌⊎◌, inl, inr, Option, Some, None, refl, sym, ap, subst, ◌∙◌, append_assoc}
 use Rattle.std.proofs.lemmas.Option.{same_Some}
 use Rattle.bz_lex.specs.declared.leaf.Leaf.{Leaf}
 use Rattle.bz_tree.specs.declared.kind.Kind.{Kind}
@@ -9,7 +8,7 @@ use Rattle.bz_tree.specs.declared.tree.Part.{Part}
 use Rattle.bz_tree.specs.declared.tree.Part.TheVariants as v
 use Rattle.bz_tree.specs.Spell.{leaves_part}
 use Rattle.bz_grammar.specs.Shapes.{Terminal, is_one_of, Sort, Shape}
-use Rattle.bz_grammar.specs.Reading.{◌>>=◌, Read, starts_with, first, put, run, Found, node, wrap, wrap_found, token_of, infix_at, prefix_at}
+use Rattle.bz_grammar.specs.Reading.{Read, starts_with, first, put, run, Found, node, wrap, wrap_found, token_of, infix_at, prefix_at}
 use Rattle.bz_tree.proofs.Spells.{leaves_Node}
 use Rattle.bz_grammar.proofs.Terminals.{disjoint, disjoint_at, subset, subset_stops}
 use Rattle.bz_grammar.proofs.Exact.{all_leaves, bind_some, put_some, if_some, cond_parts, Exact}

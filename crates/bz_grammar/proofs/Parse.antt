@@ -1,17 +1,17 @@
 -- Reading a part of each sort is exact.
-use Rattle.std.proofs.Common.{◌≡◌, ℕ, zero, suc, ◌+◌, ◌≤◌, ◌<◌, max, Bool, true, false, cond, eqb, leb, List, [], ◌∷◌, ◌++◌, length, ◌||◌, ◌&&◌, not, ◌⊎◌, inl, inr, Option, Some, None, refl, sym, ap, subst, ◌∙◌, append_assoc, arith, rules, length-append, ◌-◌}
-use Rattle.std.proofs.lemmas.Bool.{and_parts, both_ways}
+use Rattle.std.proofs.Common.{◌≡◌, ℕ, zero, suc, true, false, List, [], ◌∷◌, ◌++◌, ◌⊎◌, inl, inr, Some, refl, ap, ◌∙◌, append_assoc, arith}
+use Rattle.std.proofs.lemmas.Bool.{both_ways}
 use Rattle.bz_lex.specs.declared.leaf.Leaf.{Leaf}
 use Rattle.bz_tree.specs.declared.kind.Kind.{Kind}
 use Rattle.bz_tree.specs.declared.kind.Kind.TheVariants as k
 use Rattle.bz_tree.specs.declared.tree.Node.{Node}
 use Rattle.bz_tree.specs.declared.tree.Part.{Part}
 use Rattle.bz_tree.specs.declared.tree.Part.TheVariants as v
-use Rattle.bz_tree.specs.Spell.{leaves_part, depth_part}
-use Rattle.bz_grammar.specs.Shapes.{Terminal, is_one_of, has_token, Sort, level, argument, entry, clause, first_clause, loaded, small, line, test, simple, string, name, leaves_at, has_kind, Fits, shape}
-use Rattle.bz_grammar.specs.Reading.{Read, starts_with, starts, starts_level, first, run, node, wrap, wrap_found, follow, token_of, infix_at, prefix_at, climb, kind_at, shape_at, named_tail, read_argument, reading, clause_plan, small_plan}
+use Rattle.bz_tree.specs.Spell.{leaves_part}
+use Rattle.bz_grammar.specs.Shapes.{is_one_of, has_token, Sort, level, argument, entry, clause, first_clause, loaded, small, line, test, simple, string, name, leaves_at, has_kind, Fits, shape}
+use Rattle.bz_grammar.specs.Reading.{Read, starts_with, starts_level, first, run, node, wrap, wrap_found, follow, token_of, infix_at, prefix_at, climb, shape_at, named_tail, read_argument, reading, clause_plan, small_plan}
 use Rattle.bz_tree.proofs.Nested.{leaf_or_node}
-use Rattle.bz_grammar.proofs.Terminals.{disjoint, disjoint_at, subset, subset_at, subset_stops, subset-one_of}
+use Rattle.bz_grammar.proofs.Terminals.{disjoint_at, subset, subset-one_of}
 use Rattle.bz_grammar.proofs.Exact.{all_leaves, Exact}
 use Rattle.bz_grammar.proofs.Shapes.{go, tells, not_empty, run_exact}
 use Rattle.bz_grammar.proofs.Plans.{Finds, plan_exact, go_on}

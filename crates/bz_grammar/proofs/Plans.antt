@@ -1,5 +1,5 @@
 -- Following a plan is exact where reading its sorts is, and one token tells what comes next.
-use Rattle.std.proofs.Common.{◌≡◌, ℕ, zero, suc, ◌+◌, ◌≤◌, ◌<◌, Bool, true, false, cond, eqb, List, [], ◌∷◌, ◌++◌, length, ◌||◌, ◌&&◌, not, ◌⊎◌, inl, inr, Option, Some, None, refl, sym, ap, subst, ◌∙◌, append_assoc, arith, length-append}
+use Rattle.std.proofs.Common.{◌≡◌, Bool, true, false, cond, List, [], ◌∷◌, ◌++◌, ◌||◌, ◌&&◌, not, ◌⊎◌, inl, inr, Option, Some, None, refl, sym, ap, ◌∙◌, append_assoc}
 use Rattle.std.proofs.lemmas.Bool.{and_parts, both_ways, not-true, or_left, or_right, cases_Bool, eqb-true, eq-eqb}
 use Rattle.std.proofs.lemmas.Option.{same_Some}
 use Rattle.bz_lex.specs.declared.leaf.Leaf.{Leaf}
@@ -8,13 +8,12 @@ use Rattle.bz_tree.specs.declared.tree.Part.{Part}
 use Rattle.bz_tree.specs.declared.tree.Part.TheVariants as v
 use Rattle.bz_tree.specs.Kinds.{kind_number}
 use Rattle.bz_tree.specs.Spell.{leaves_part}
-use Rattle.bz_grammar.specs.Shapes.{Terminal, is_one_of, has_token, is_kind, Sort, Shape, none, done, tok, sub, alt, list, each, Listed, Behind, Several, Fits}
-use Rattle.bz_grammar.specs.Reading.{◌>>=◌, Read, starts_with, starts, first, put, run, Plan, finish, one, piece, choose, first_of, Found, as_kind, put_found, follow, node, wrap_found}
+use Rattle.bz_grammar.specs.Shapes.{Terminal, is_one_of, has_token, is_kind, Sort, Shape, none, done, tok, sub, alt, list, each, Fits}
+use Rattle.bz_grammar.specs.Reading.{Read, starts_with, starts, run, Plan, finish, one, piece, choose, first_of, Found, as_kind, put_found, follow}
 use Rattle.bz_tree.proofs.Numbers.{same_kind}
-use Rattle.bz_grammar.proofs.Terminals.{disjoint, disjoint_at, subset, subset_stops, stops_left, stops_right, starts-append_left, starts-append_right}
+use Rattle.bz_grammar.proofs.Terminals.{disjoint, disjoint_at, stops_left, stops_right, starts-append_left, starts-append_right}
 use Rattle.bz_grammar.proofs.Exact.{all_leaves, token_leaf, bind_some, if_some, cond_parts, Exact}
-use Rattle.bz_grammar.proofs.Shapes.{nullable, only_if, only_if_at, go, tells, opens, Opens, run_exact}
-use Rattle.bz_grammar.proofs.Nodes.{node_leaves, wrap_found_some}
+use Rattle.bz_grammar.proofs.Shapes.{nullable, only_if, only_if_at, go, tells, opens, run_exact}
 
 -- what a plan finds: a kind, and parts that the way to it asks for
 abbrev pub Finds : (Sort → Part → Type 0) → Plan → Kind → List Part → Type 0

@@ -1,19 +1,18 @@
 -- What binds tightest is read exactly.
-use Rattle.std.proofs.Common.{◌≡◌, ℕ, zero, suc, ◌+◌, ◌≤◌, ◌<◌, max, Bool, true, false, cond, eqb, leb, List, [], ◌∷◌, ◌++◌, length, ◌||◌, ◌&&◌, not, ◌⊎◌, inl, inr, Option, Some, None, refl, sym, ap, subst, ◌∙◌, append_assoc, arith, rules, length-append, ◌-◌}
-use Rattle.std.proofs.lemmas.Bool.{and_parts, both_ways, cond-true, cond-false, leb-true, le-leb}
+use Rattle.std.proofs.Common.{◌≡◌, ℕ, zero, suc, ◌≤◌, ◌<◌, true, false, cond, List, [], ◌∷◌, ◌++◌, length, ◌⊎◌, inl, inr, Some, None, refl, sym, ap, subst, ◌∙◌, append_assoc, arith, length-append, ◌-◌}
+use Rattle.std.proofs.lemmas.Bool.{cond-false, leb-true, le-leb}
 use Rattle.std.proofs.lemmas.Option.{same_Some}
 use Rattle.bz_lex.specs.declared.leaf.Leaf.{Leaf}
 use Rattle.bz_tree.specs.declared.kind.Kind.{Kind}
 use Rattle.bz_tree.specs.declared.kind.Kind.TheVariants as k
-use Rattle.bz_tree.specs.declared.tree.Node.{Node}
 use Rattle.bz_tree.specs.declared.tree.Part.{Part}
 use Rattle.bz_tree.specs.declared.tree.Part.TheVariants as v
 use Rattle.bz_tree.specs.Spell.{leaves_part, depth_part, depth_of, deepest}
-use Rattle.bz_grammar.specs.Shapes.{Terminal, Sort, level, primary, simple, open_round, open_square, open_curly, Fits, shape}
-use Rattle.bz_grammar.specs.Reading.{◌>>=◌, Read, starts_with, run, Plan, piece, first_of, Found, put_found, follow, node, wrap_found, token_of, fits_in, atom, suffixes, read_primary, round, square, curly, suffix}
+use Rattle.bz_grammar.specs.Shapes.{Sort, primary, simple}
+use Rattle.bz_grammar.specs.Reading.{◌>>=◌, Read, starts_with, Plan, piece, first_of, Found, put_found, follow, node, wrap_found, token_of, fits_in, atom, suffixes, read_primary, round, square, curly, suffix}
 use Rattle.bz_tree.proofs.Nested.{leaf_or_node}
-use Rattle.bz_tree.proofs.Spells.{leaves_Node, depth_Node}
-use Rattle.bz_grammar.proofs.Terminals.{disjoint, disjoint_at, subset_stops, full_front}
+use Rattle.bz_tree.proofs.Spells.{depth_Node}
+use Rattle.bz_grammar.proofs.Terminals.{disjoint_at, full_front}
 use Rattle.bz_grammar.proofs.Exact.{all_leaves, bind_some, if_some, cond_parts, Exact}
 use Rattle.bz_grammar.proofs.Plans.{Finds, found_leaves, put_found_some, not_empty_plan, plan_exact, decides, go_on}
 use Rattle.bz_grammar.proofs.Nodes.{node_leaves, wrap_found_some, IsLeaf, token_exact, leaf_starts}

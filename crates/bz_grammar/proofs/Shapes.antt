@@ -1,5 +1,5 @@
 -- Reading a shape is exact where reading its sorts is, and one token tells what comes next.
-use Rattle.std.proofs.Common.{◌≡◌, ℕ, zero, suc, ◌+◌, ◌≤◌, ◌<◌, Bool, true, false, cond, List, [], ◌∷◌, ◌++◌, length, ◌||◌, ◌&&◌, not, ◌⊎◌, inl, inr, Option, Some, None, refl, sym, ap, subst, ◌∙◌, append_assoc, arith, length-append}
+use Rattle.std.proofs.Common.{◌≡◌, Bool, true, false, List, [], ◌∷◌, ◌++◌, length, ◌||◌, ◌&&◌, not, ◌⊎◌, inl, inr, Some, refl, sym, ap, subst, ◌∙◌, append_assoc, arith}
 use Rattle.std.proofs.lemmas.Bool.{and_parts, both_ways, not-true, or_left, or_right}
 use Rattle.std.proofs.lemmas.Option.{same_Some}
 use Rattle.bz_lex.specs.declared.leaf.Leaf.{Leaf}
@@ -7,7 +7,7 @@ use Rattle.bz_tree.specs.declared.tree.Part.{Part}
 use Rattle.bz_tree.specs.declared.tree.Part.TheVariants as v
 use Rattle.bz_tree.specs.Spell.{leaves_part}
 use Rattle.bz_grammar.specs.Shapes.{Terminal, is_one_of, Sort, Shape, none, done, tok, sub, alt, list, each, Several, Fits}
-use Rattle.bz_grammar.specs.Reading.{◌>>=◌, Read, starts_with, starts, first, put, run}
+use Rattle.bz_grammar.specs.Reading.{Read, starts_with, starts, first, put, run}
 use Rattle.bz_grammar.proofs.Terminals.{disjoint, disjoint_at, stops_left, stops_right, starts-append_left, starts-append_right}
 use Rattle.bz_grammar.proofs.Exact.{all_leaves, token_leaf, bind_some, put_some, if_some, cond_parts, Exact, listed_sound, listed_complete, several_sound, several_complete}
 

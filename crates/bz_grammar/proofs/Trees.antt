@@ -1,11 +1,11 @@
 -- Legal trees by their parts.
-use Rattle.std.proofs.Common.{◌≡◌, ℕ, zero, suc, ◌+◌, ◌≤◌, ◌<◌, max, Bool, true, false, List, [], ◌∷◌, ◌⊎◌, inl, inr, refl, sym, ap, subst, ◌∙◌, arith}
+use Rattle.std.proofs.Common.{◌≡◌, ℕ, suc, ◌≤◌, Bool, true, List, [], ◌∷◌, inl, inr, sym, subst, arith}
 use Rattle.std.specs.List.{AllByRecursion}
 use Rattle.bz_tree.specs.declared.tree.Node.{Node}
 use Rattle.bz_tree.specs.declared.tree.Part.{Part, Row_of-Part, end_of-Part, more_of-Part, items-the_row-Part}
 use Rattle.bz_tree.specs.declared.tree.Part.TheVariants as v
-use Rattle.bz_tree.specs.Spell.{depth_part, depth_of, deepest}
-use Rattle.bz_grammar.specs.Shapes.{Terminal, has_token, has_sort, Sort, Shape, none, done, tok, sub, alt, list, each, Listed, Behind, Several, Fits, shape}
+use Rattle.bz_tree.specs.Spell.{depth_part, deepest}
+use Rattle.bz_grammar.specs.Shapes.{Terminal, has_token, Sort, Shape, none, done, tok, sub, alt, list, each, Listed, Behind, Several, Fits, shape}
 use Rattle.bz_grammar.specs.Legal.{IsSort, LegalPart, LegalRow, LegalShapes}
 use Rattle.bz_tree.proofs.Nested.{row_of, items_of_row}
 use Rattle.bz_tree.proofs.Spells.{depth_Node}

@@ -1,10 +1,12 @@
 -- Which trees have the shapes of the whole grammar.
-use Rattle.std.specs.Prelude.{◌≡◌, true, List}
+use Rattle.std.specs.Prelude.{◌≡◌, ◌≤◌, true, List}
 use Rattle.std.specs.List.{AllByRecursion}
+use Rattle.bz_lex.specs.declared.leaf.Leaf.{Leaf}
 use Rattle.bz_tree.specs.declared.kind.Kind.TheVariants as k
 use Rattle.bz_tree.specs.declared.tree.Node.{Node}
 use Rattle.bz_tree.specs.declared.tree.Part.{Part, Row_of-Part, end_of-Part, more_of-Part, Node', items-the_row-Part}
 use Rattle.bz_tree.specs.declared.tree.Part as p
+use Rattle.bz_tree.specs.Spell.{leaves_of, depth_of}
 use Rattle.bz_grammar.specs.Shapes.{Sort, has_sort, Fits, shape}
 
 abbrev pub IsSort : Sort → Part → Type 0
@@ -28,3 +30,9 @@ LegalShapes n = Fits IsSort (shape n.kind) n.parts × AllByRecursion LegalPart n
 pub record IsFile (n : Node) : Type 0 where
   pub root : n.kind ≡ k.File
   pub shapes : LegalShapes n
+
+-- A file of these leaves, at most 200 nodes deep.
+pub record IsFileOf (leaves_there : List Leaf) (n : Node) : Type 0 where
+  pub file : IsFile n
+  pub leaves : leaves_of n ≡ leaves_there
+  pub depth : depth_of n ≤ 200

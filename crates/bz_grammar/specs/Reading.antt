@@ -1,14 +1,14 @@
 -- Reading leaves from left to right: the next token decides. The parser's functions are compared with this; that it
 -- reads just the legal trees is proved in proofs/.
-use Rattle.std.specs.Prelude.{◌≡◌, ℕ, zero, suc, Bool, true, false, List, [], ◌∷◌, ◌++◌, length, ◌||◌, ◌&&◌, Option, Some, None, if◌then◌else◌, nat_le, codes}
+use Rattle.std.specs.Prelude.{ℕ, zero, suc, Bool, false, List, [], ◌∷◌, ◌++◌, length, ◌&&◌, Option, Some, None, if◌then◌else◌, nat_le, codes}
 use Rattle.bz_lex.specs.declared.leaf.Leaf.{Leaf}
 use Rattle.bz_tree.specs.declared.kind.Kind.{Kind}
 use Rattle.bz_tree.specs.declared.kind.Kind.TheVariants as k
 use Rattle.bz_tree.specs.declared.tree.Node.{Node}
-use Rattle.bz_tree.specs.declared.tree.Part.{Part, Node'}
+use Rattle.bz_tree.specs.declared.tree.Part.{Part}
 use Rattle.bz_tree.specs.declared.tree.Part.TheVariants as p
 use Rattle.bz_tree.specs.Spell.{depth_part}
-use Rattle.bz_grammar.specs.Shapes.{Terminal, is_one_of, has_token, Sort, level, argument, entry, clause, first_clause, loaded, small, line, primary, or_level, test, expr, leaves_at, Shape, none, done, tok, sub, alt, list, each, items, slice_end, shape, name, simple, string, equals, stars, assigns, dot, comma, colon, keyword, open_round, close_round, open_square, close_square, open_curly, close_curly}
+use Rattle.bz_grammar.specs.Shapes.{Terminal, is_one_of, has_token, Sort, level, argument, entry, clause, first_clause, loaded, small, line, test, expr, leaves_at, Shape, none, done, tok, sub, alt, list, each, items, slice_end, shape, name, simple, string, equals, stars, assigns, dot, comma, colon, keyword, open_round, close_round, open_square, close_square, open_curly, close_curly}
 
 infixl 10 ◌>>=◌
 abbrev pub ◌>>=◌ : {A B : Type 0} → Option A → (A → Option B) → Option B
