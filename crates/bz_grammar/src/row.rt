@@ -52,6 +52,7 @@ impl Row {
         Ok(row)
     }
 
+    /// A row of no parts.
     pub fn new(alloc: Global) -> Row
         ensures empty { result.parts.items ≡ [] }
         ensures flat { result.depth ≡ 0 }
@@ -62,8 +63,8 @@ impl Row {
         }
     }
 
-    #[tactic(auto, using(crate::proofs::Deepest::deepest_push))]
     /// The row and one more part.
+    #[tactic(auto, using(crate::proofs::Deepest::deepest_push))]
     pub fn with(self, deep: Deep) -> Result<Row, Memory>
         ensures ok { IfOk result (λ row. row.parts.items ≡ self.parts.items ++ deep.part ∷ []) }
         ensures within { (d : ℕ) → self.depth ≤ d → deep.depth ≤ d → IfOk result (λ row. row.depth ≤ d) }
