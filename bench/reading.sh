@@ -14,8 +14,8 @@ rules() {
             printf "cc_library(\n    name = \"r%d\",\n    srcs = [\n        \"r%d.c\",\n        \"more.c\",\n    ],\n    deps = [\":base\"],\n)\n\n", i, i
     }'
 }
-rules 20000 > "$folder/once"
-rules 40000 > "$folder/twice"
+rules 18000 > "$folder/once"
+rules 36000 > "$folder/twice"
 
 python3 - "$folder" "${BEST_OF:-7}" <<'MEASURE'
 import os, subprocess, sys, time
