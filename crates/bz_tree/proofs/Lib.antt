@@ -4,8 +4,16 @@ pub mod Spells
 pub mod Terminals
 pub mod Exact
 pub mod Shapes
+pub mod Plans
+pub mod Nodes
 pub mod Trees
+pub mod Levels
+pub mod Families
+pub mod Primary
+pub mod ExactSorts
 pub mod Files
 pub mod Steps
-pub mod Parses
+pub mod Moves
+pub mod Deepest
+pub mod Climbs
 pub mod Accepts

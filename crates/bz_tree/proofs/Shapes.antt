@@ -45,11 +45,11 @@ tells goes (list q sep last r) =
     disjoint sep (goes q) && (disjoint (first r) (goes q) && (disjoint (first r) sep && ((not last || (disjoint (starts q) (first r) && not (nullable r))) && tells goes r)))
 tells goes (each q r) = disjoint (starts q) (goes q) && (disjoint (first r) (goes q) && (disjoint (first r) (starts q) && tells goes r))
 
-only_if_at : (b : Bool) (s : List Terminal) (ts : List Leaf) → starts_with (only_if b s) ts ≡ false → b ≡ true → starts_with s ts ≡ false
+pub only_if_at : (b : Bool) (s : List Terminal) (ts : List Leaf) → starts_with (only_if b s) ts ≡ false → b ≡ true → starts_with s ts ≡ false
 only_if_at true s ts h e = h
 only_if_at false s ts h e = absurd (both_ways false refl e)
 
-abbrev Opens : Shape → List Part → List Leaf → Type 0
+abbrev pub Opens : Shape → List Part → List Leaf → Type 0
 Opens r ps rest = (starts_with (first r) (all_leaves ps ++ rest) ≡ true) ⊎ ((nullable r ≡ true) × (ps ≡ []))
 
 right_opens : (q : Sort) (r : Shape) (ps : List Part) (rest : List Leaf) → Opens r ps rest → Opens (each q r) ps rest

@@ -1,18 +1,19 @@
 -- One step of reading at a time, for the parser's functions.
-use Rattle.std.proofs.Common.{◌≡◌, ℕ, zero, suc, ◌≤◌, ◌<◌, Bool, true, false, cond, List, [], ◌∷◌, ◌++◌, length, inl, inr, Option, Some, None, Result, Ok, Err, refl, sym, ap, ◌∙◌, append_assoc, arith, length-append}
+use Rattle.std.proofs.Common.{◌≡◌, ℕ, zero, suc, ◌≤◌, Bool, true, false, cond, List, [], ◌∷◌, length, inl, inr, Option, Some, None, Result, Ok, Err, refl, sym, ap, ◌∙◌, arith, length-append}
 use Rattle.std.proofs.lemmas.Bool.{cases_Bool, both_ways}
 use Rattle.std.proofs.lemmas.Option.{same_Some, none-some}
 use Rattle.bz_lex.specs.declared.leaf.Leaf.{Leaf}
 use Rattle.bz_tree.specs.declared.tree.Part.{Part}
 use Rattle.bz_tree.specs.declared.tree.Part.TheVariants as v
 use Rattle.bz_tree.specs.Spell.{leaves_part}
-use Rattle.bz_tree.specs.Shapes.{Terminal, is_one_of, Sort, Shape, done, tok, list, each, comma}
+use Rattle.bz_tree.specs.Shapes.{Terminal, is_one_of, Sort, Shape, tok, list, each}
 use Rattle.bz_tree.specs.Reading.{◌>>=◌, Read, starts_with, starts, first, put, behind, listed, several, run, reading}
-use Rattle.bz_tree.specs.Words.{token_at, items_at, closed_at, with_front, Halts, Fails}
+use Rattle.bz_tree.specs.Words.{token_at, Halts, Fails}
 use Rattle.bz_tree.specs.declared.token.Halt.{Halt}
 use Rattle.bz_tree.specs.declared.token.Halt.TheVariants as h
 use Rattle.bz_tree.proofs.Terminals.{full_front}
-use Rattle.bz_tree.proofs.Files.{begins, reading_exact}
+use Rattle.bz_tree.proofs.Levels.{begins}
+use Rattle.bz_tree.proofs.ExactSorts.{reading_exact}
 
 -- what reads a part takes a leaf at least
 abbrev pub Takes : Read Part → Type 0
@@ -111,68 +112,6 @@ unfolding token_at
 token_run inner s r [] = refl
 token_run inner s r (t ∷ ts) = elim (cases_Bool (is_one_of s t)) [ inl h ↦ rw h refl | inr h ↦ rw h refl ]
 
-pub closed_is : (inner : Sort → Read Part) (s : List Terminal) (ts : List Leaf) → run inner (tok s done) ts ≡ closed_at s ts
-unfolding closed_at
-closed_is inner s ts = token_run inner s done ts ∙ bind_same (token_at s ts) (λ t. put t.0 (run inner done t.1)) (λ t. Some (t.0 ∷ [], t.1)) (λ t e. refl)
-
--- ---- what was read before
-
-pub front_none_at : (front before : List Part) (o o' : Option (List Part × List Leaf)) → with_front front o ≡ with_front before o' → o ≡ None → o' ≡ None
-front_none_at front before o None e n = refl
-front_none_at front before None (Some x) e n = absurd cc
-front_none_at front before (Some y) (Some x) e n = absurd cc
-
-pub front_nothing : (o : Option (List Part × List Leaf)) → with_front [] o ≡ o
-front_nothing None = refl
-front_nothing (Some x) = refl
-
-pub front_put : (front : List Part) (x : Part) (o : Option (List Part × List Leaf)) → with_front front (put x o) ≡ with_front (front ++ (x ∷ [])) o
-front_put front x None = refl
-front_put front x (Some y) = ap (λ (ps : List Part). Some (ps, y.1)) (sym (append_assoc front (x ∷ []) y.0))
-
--- ---- what brackets hold
-
-pub items_end : (d : ℕ) (q : Sort) (close : List Terminal) (ts : List Leaf) → starts_with close ts ≡ true → items_at d q close ts ≡ closed_at close ts
-unfolding items_at
-items_end d q close ts h = rw h (closed_is (reading d) close ts)
-
-items_next : (d : ℕ) (q : Sort) (close : List Terminal) (ts : List Leaf) → starts_with close ts ≡ false →
-    items_at d q close ts ≡ (reading d q ts >>= λ x. put x.0 (behind (run (reading d) (list q comma true (tok close done))) comma true close (run (reading d) (tok close done)) x.1))
-unfolding items_at
-items_next d q close ts h = rw h (list_step d q comma true (tok close done) ts)
-
-pub no_item : (d : ℕ) (q : Sort) (close : List Terminal) (ts : List Leaf) → starts_with close ts ≡ false → reading d q ts ≡ None → items_at d q close ts ≡ None
-no_item d q close ts h e = items_next d q close ts h ∙ rw e refl
-
-behind_no_comma : (again K : Read (List Part)) (close : List Terminal) (ts : List Leaf) → starts_with comma ts ≡ false → behind again comma true close K ts ≡ K ts
-behind_no_comma again K close [] h = refl
-behind_no_comma again K close (t ∷ ts) h = rw h refl
-
-pub last_item : (d : ℕ) (q : Sort) (close : List Terminal) (front : List Part) (ts a : List Leaf) (x : Part) → starts_with close ts ≡ false → reading d q ts ≡ Some (x, a) → starts_with comma a ≡ false →
-    with_front front (items_at d q close ts) ≡ with_front (front ++ (x ∷ [])) (closed_at close a)
-last_item d q close front ts a x h e c =
-    let one : items_at d q close ts ≡ put x (closed_at close a) =
-    items_next d q close ts h ∙ rw e (ap (put x) (behind_no_comma (run (reading d) (list q comma true (tok close done))) (run (reading d) (tok close done)) close a c ∙ closed_is (reading d) close a)) in
-    ap (with_front front) one ∙ front_put front x (closed_at close a)
-
-behind_comma : (d : ℕ) (q : Sort) (close : List Terminal) (t : Leaf) (b : List Leaf) → is_one_of comma t ≡ true →
-    behind (run (reading d) (list q comma true (tok close done))) comma true close (run (reading d) (tok close done)) (t ∷ b) ≡ put (v.Leaf t) (items_at d q close b)
-unfolding items_at
-behind_comma d q close t b m = rw m refl
-
-pub more_items : (d : ℕ) (q : Sort) (close : List Terminal) (front : List Part) (ts a b : List Leaf) (x c : Part) → starts_with close ts ≡ false → reading d q ts ≡ Some (x, a) → token_at comma a ≡ Some (c, b) →
-    with_front front (items_at d q close ts) ≡ with_front ((front ++ (x ∷ [])) ++ (c ∷ [])) (items_at d q close b)
-more_items d q close front ts a b x c h e o =
-    let w = token_parts comma a b c o in
-    let one : items_at d q close ts ≡ put x (put c (items_at d q close b)) =
-    items_next d q close ts h ∙ rw (e, w.1) (ap (put x) (behind_comma d q close w.0 b w.2 ∙ ap (λ (z : Part). put z (items_at d q close b)) (sym w.3))) in
-    ap (with_front front) one ∙ front_put front x (put c (items_at d q close b)) ∙ front_put (front ++ (x ∷ [])) c (items_at d q close b)
-
-pub shorter : (d : ℕ) (q : Sort) (ts a b : List Leaf) (x c : Part) (s : List Terminal) → reading d q ts ≡ Some (x, a) → token_at s a ≡ Some (c, b) → length b < length ts
-shorter d q ts a b x c s e o =
-    let w = token_parts s a b c o in
-    omega (arith, reading_takes d q ts (x, a) e, ap length w.1)
-
 -- ---- what a halt says, carried along
 
 pub halts : {Y Y' : Type 0} (e : Halt) (o : Option Y) (all : Option Y') → Halts e o → (o ≡ None → all ≡ None) → Halts e all
@@ -183,19 +122,7 @@ pub fails : {X Y Y' : Type 0} (r : Result X Halt) (o : Option Y) (all : Option Y
 fails (Ok x) o all w f = tt
 fails (Err e) o all w f = halts e o all w f
 
--- ---- the loop over what brackets hold: front is what it began with, parts and ts where it is
+-- ---- parts with separators: what comes behind one of them
 
-module _ (d : ℕ) (q : Sort) (close : List Terminal) (front parts : List Part) (all ts : List Leaf) (invariant : with_front parts (items_at d q close ts) ≡ with_front front (items_at d q close all)) where
-  pub loop_no_item : starts_with close ts ≡ false → reading d q ts ≡ None → items_at d q close all ≡ None
-  loop_no_item h e = front_none_at parts front (items_at d q close ts) (items_at d q close all) invariant (no_item d q close ts h e)
-
-  pub loop_closes : starts_with close ts ≡ true → with_front front (items_at d q close all) ≡ with_front parts (closed_at close ts)
-  loop_closes h = sym invariant ∙ ap (with_front parts) (items_end d q close ts h)
-
-  pub loop_ends : (more : List Part) (a : List Leaf) (x : Part) → starts_with close ts ≡ false → reading d q ts ≡ Some (x, a) → starts_with comma a ≡ false → more ≡ parts ++ (x ∷ []) → with_front front (items_at d q close all) ≡ with_front more (closed_at close a)
-  loop_ends more a x h e c m = sym invariant ∙ last_item d q close parts ts a x h e c ∙ ap (λ (z : List Part). with_front z (closed_at close a)) (sym m)
-
-  pub loop_goes_on : (more again : List Part) (a b : List Leaf) (x c : Part) → starts_with close ts ≡ false → reading d q ts ≡ Some (x, a) → token_at comma a ≡ Some (c, b) → more ≡ parts ++ (x ∷ []) → again ≡ more ++ (c ∷ []) →
-      with_front again (items_at d q close b) ≡ with_front front (items_at d q close all)
-  loop_goes_on more again a b x c h e o m n =
-      ap (λ (z : List Part). with_front z (items_at d q close b)) (n ∙ ap (λ (z : List Part). z ++ (c ∷ [])) m) ∙ sym (more_items d q close parts ts a b x c h e o) ∙ invariant
+abbrev pub behind_at : ℕ → Sort → List Terminal → Bool → Shape → Read (List Part)
+behind_at d q sep last r ts = behind (run (reading d) (list q sep last r)) sep last (first r) (run (reading d) r) ts

@@ -4,6 +4,6 @@ pub mod Shapes
 pub mod Legal
 pub mod Reading
 pub mod Words
-pub mod Plain
+pub mod States
 pub mod Faults
 pub mod Laws

@@ -1,13 +1,14 @@
 -- Reading leaves from left to right: the next token decides. The parser's functions are compared with this; that it
 -- reads just the legal trees is proved in proofs/.
-use Rattle.std.specs.Prelude.{ℕ, zero, suc, Bool, false, List, [], ◌∷◌, ◌++◌, length, ◌&&◌, Option, Some, None, if◌then◌else◌}
+use Rattle.std.specs.Prelude.{ℕ, zero, suc, Bool, false, List, [], ◌∷◌, ◌++◌, length, ◌&&◌, Option, Some, None, if◌then◌else◌, nat_le, codes}
 use Rattle.bz_lex.specs.declared.leaf.Leaf.{Leaf}
 use Rattle.bz_tree.specs.declared.kind.Kind.{Kind}
 use Rattle.bz_tree.specs.declared.kind.Kind.TheVariants as k
 use Rattle.bz_tree.specs.declared.tree.Node.{Node}
 use Rattle.bz_tree.specs.declared.tree.Part.{Part}
 use Rattle.bz_tree.specs.declared.tree.Part.TheVariants as p
-use Rattle.bz_tree.specs.Shapes.{Terminal, is_one_of, Sort, value, element, leaves_at, kinds_at, Shape, none, done, tok, sub, alt, list, each, shape, name, string, open_square}
+use Rattle.bz_tree.specs.Spell.{depth_part}
+use Rattle.bz_tree.specs.Shapes.{Terminal, is_one_of, has_token, Sort, level, argument, entry, clause, first_clause, loaded, small, line, test, expr, leaves_at, Shape, none, done, tok, sub, alt, list, each, items, slice_end, shape, name, simple, string, equals, stars, assigns, dot, comma, colon, keyword, open_round, close_round, open_square, close_square, open_curly, close_curly}
 
 infixl 10 ◌>>=◌
 abbrev pub ◌>>=◌ : {A B : Type 0} → Option A → (A → Option B) → Option B
@@ -22,11 +23,44 @@ abbrev pub starts_with : List Terminal → List Leaf → Bool
 starts_with terminals [] = false
 starts_with terminals (leaf ∷ rest) = is_one_of terminals leaf
 
+-- the operators' nodes, from the tightest on: level n + 1 is level n or such a node
+abbrev pub kind_at : ℕ → Kind
+kind_at zero = k.Unary
+kind_at (suc zero) = k.Product
+kind_at (suc (suc zero)) = k.Sum
+kind_at (suc (suc (suc zero))) = k.Shift
+kind_at (suc (suc (suc (suc zero)))) = k.BitAnd
+kind_at (suc (suc (suc (suc (suc zero))))) = k.Xor
+kind_at (suc (suc (suc (suc (suc (suc zero)))))) = k.BitOr
+kind_at (suc (suc (suc (suc (suc (suc (suc zero))))))) = k.Compare
+kind_at (suc (suc (suc (suc (suc (suc (suc (suc zero)))))))) = k.Not
+kind_at (suc (suc (suc (suc (suc (suc (suc (suc (suc zero))))))))) = k.And
+kind_at (suc (suc (suc (suc (suc (suc (suc (suc (suc (suc zero)))))))))) = k.Or
+kind_at (suc (suc (suc (suc (suc (suc (suc (suc (suc (suc (suc zero))))))))))) = k.Cond
+kind_at _ = k.Row
+
+abbrev pub shape_at : ℕ → Shape
+shape_at (suc (suc (suc (suc (suc (suc (suc (suc (suc (suc (suc (suc (suc n))))))))))))) = done
+shape_at n = shape (kind_at n)
+
+abbrev pub own_token : Shape → List Terminal
+own_token (tok terminals r) = terminals
+own_token _ = []
+
 -- the tokens with which a part of a sort begins
+abbrev pub starts_level : ℕ → List Terminal
+starts_level zero = simple ++ (open_round ++ (open_square ++ open_curly))
+starts_level (suc n) = own_token (shape_at n) ++ starts_level n
+
 abbrev pub starts : Sort → List Terminal
-starts value = open_square ++ string
-starts element = string
-starts _ = name
+starts (level n) = starts_level n
+starts argument = stars ++ starts_level 12
+starts entry = starts_level 12
+starts clause = keyword (codes "for") ++ keyword (codes "if")
+starts first_clause = keyword (codes "for")
+starts loaded = string ++ name
+starts small = keyword (codes "load") ++ starts_level 13
+starts line = keyword (codes "load") ++ starts_level 13
 
 -- the tokens with which a shape begins
 abbrev pub first : Shape → List Terminal
@@ -67,33 +101,156 @@ run inner (alt r r') ts = if starts_with (first r) ts then run inner r ts else r
 run inner (list q separators last r) ts = listed (length ts) (inner q) separators last (first r) (run inner r) ts
 run inner (each q r) ts = several (length ts) (inner q) (starts q) (run inner r) ts
 
+-- ---- kinds that begin alike
+
+-- What stands in a node of one of several kinds that begin alike: the kind shows on the way.
+pub data Plan : Type 0 where
+  -- what is left has this shape, and the node is of this kind
+  finish : Kind → Shape → Plan
+  -- one token of these, and then
+  one : List Terminal → Plan → Plan
+  -- one part of this sort, and then
+  piece : Sort → Plan → Plan
+  -- the left one where the next token begins it, else the right one
+  choose : Plan → Plan → Plan
+
+-- the tokens with which a plan begins
+abbrev pub first_of : Plan → List Terminal
+first_of (finish kind r) = first r
+first_of (one terminals plan) = terminals
+first_of (piece q plan) = starts q
+first_of (choose left right) = first_of left ++ first_of right
+
+abbrev pub Found : Type 0
+Found = Kind × List Part
+
+abbrev pub as_kind : Kind → Option (List Part × List Leaf) → Option (Found × List Leaf)
+as_kind kind None = None
+as_kind kind (Some x) = Some ((kind, x.0), x.1)
+
+abbrev pub put_found : Part → Option (Found × List Leaf) → Option (Found × List Leaf)
+put_found part None = None
+put_found part (Some x) = Some ((x.0.0, part ∷ x.0.1), x.1)
+
+abbrev pub follow : (Sort → Read Part) → Plan → Read Found
+follow inner (finish kind r) ts = as_kind kind (run inner r ts)
+follow inner (one terminals plan) [] = None
+follow inner (one terminals plan) (t ∷ ts) = if is_one_of terminals t then put_found (p.Leaf t) (follow inner plan ts) else None
+follow inner (piece q plan) ts = inner q ts >>= λ x. put_found x.0 (follow inner plan x.1)
+follow inner (choose left right) ts = if starts_with (first_of left) ts then follow inner left ts else follow inner right ts
+
+-- ( ) or ( test .. : a Tuple, or a Paren
+abbrev pub round : Plan
+round = one open_round (choose (finish k.Tuple (tok close_round done)) (piece test (choose (finish k.Paren (tok close_round done)) (finish k.Tuple (tok comma (items test close_round))))))
+
+-- behind the first item, in brackets
+abbrev pub more_items : Sort → List Terminal → Shape
+more_items sort close = alt (tok close done) (tok comma (items sort close))
+
+-- behind the element of a comprehension
+abbrev pub clauses : List Terminal → Shape
+clauses close = sub first_clause (each clause (tok close done))
+
+-- an opening bracket: a list or a dict, or a comprehension
+abbrev pub bracketed : List Terminal → List Terminal → Sort → Kind → Kind → Plan
+bracketed open_ close sort whole comprehension =
+    one open_ (choose (finish whole (tok close done)) (piece sort (choose (finish comprehension (clauses close)) (finish whole (more_items sort close)))))
+
+abbrev pub square : Plan
+square = bracketed open_square close_square test k.List k.ListComp
+
+abbrev pub curly : Plan
+curly = bracketed open_curly close_curly entry k.Dict k.DictComp
+
+-- what may stand behind a primary
+abbrev pub suffix : Plan
+suffix =
+    choose (finish k.Dot (tok dot (tok name done))) (choose (finish k.Call (tok open_round (items argument close_round)))
+    (one open_square (choose (finish k.Slice (tok colon slice_end)) (piece expr (choose (finish k.Index (tok close_square done)) (finish k.Slice (tok colon slice_end)))))))
+
+abbrev pub clause_plan : Plan
+clause_plan = choose (finish k.For (shape k.For)) (finish k.If (shape k.If))
+
+abbrev pub small_plan : Plan
+small_plan = choose (finish k.Load (shape k.Load)) (piece expr (choose (finish k.Assign (tok assigns (sub expr done))) (finish k.Bare done)))
+
 -- ---- parts
+
+abbrev pub node : Kind → List Part → Part
+node kind parts = p.Node (record { kind = kind; parts = parts })
 
 -- a node of these parts
 abbrev pub wrap : Kind → Option (List Part × List Leaf) → Option (Part × List Leaf)
 wrap kind None = None
-wrap kind (Some x) = Some (p.Node (record { kind = kind; parts = x.0 }), x.1)
+wrap kind (Some x) = Some (node kind x.0, x.1)
+
+abbrev pub wrap_found : Option (Found × List Leaf) → Option (Part × List Leaf)
+wrap_found None = None
+wrap_found (Some x) = Some (node x.0.0 x.0.1, x.1)
 
 -- one of these tokens
-abbrev pub token : List Terminal → Read Part
-token terminals [] = None
-token terminals (t ∷ ts) = if is_one_of terminals t then Some (p.Leaf t, ts) else None
+abbrev pub token_of : List Terminal → Read Part
+token_of terminals [] = None
+token_of terminals (t ∷ ts) = if is_one_of terminals t then Some (p.Leaf t, ts) else None
 
--- a node of one of these kinds, each with tokens of its own in front, or what next reads
-abbrev pub node_or : List Kind → (Sort → Read Part) → Read Part → Read Part
-node_or [] inner next ts = next ts
-node_or (kind ∷ kinds) inner next ts = if starts_with (first (shape kind)) ts then wrap kind (run inner (shape kind) ts) else node_or kinds inner next ts
+-- a part, or a node that it begins, where the next token says so and the part may begin one
+abbrev pub infix_at : Kind → (Part → Bool) → Shape → (Sort → Read Part) → Read Part → Read Part
+infix_at kind left tail inner next ts =
+    next ts >>= λ a. if starts_with (first tail) a.1 then (if left a.0 then wrap kind (put a.0 (run inner tail a.1)) else None) else Some a
 
--- a part of at most that depth
+abbrev pub prefix_at : Kind → Shape → (Sort → Read Part) → Read Part → Read Part
+prefix_at kind r inner next ts = if starts_with (first r) ts then wrap kind (run inner r ts) else next ts
+
+-- whether a part may stand in a node inside that depth
+abbrev pub fits_in : ℕ → Part → Bool
+fits_in d a = nat_le (depth_part a) d
+
+abbrev pub by_shape : Kind → ℕ → Shape → (Sort → Read Part) → Read Part → Read Part
+by_shape kind d (tok terminals r) inner next = prefix_at kind (tok terminals r) inner next
+by_shape kind d (sub q r) inner next = infix_at kind (fits_in d) r inner next
+by_shape kind d _ inner next = next
+
+-- what binds tightest, without what may stand behind it
+abbrev pub atom : (Sort → Read Part) → Read Part
+atom inner ts =
+    if starts_with (first_of round) ts then wrap_found (follow inner round ts)
+    else (if starts_with (first_of square) ts then wrap_found (follow inner square ts)
+    else (if starts_with (first_of curly) ts then wrap_found (follow inner curly ts) else token_of simple ts))
+
+abbrev pub suffixes : ℕ → ℕ → (Sort → Read Part) → Part → Read Part
+suffixes zero d inner a ts = Some (a, ts)
+suffixes (suc n) d inner a ts =
+    if starts_with (first_of suffix) ts then (if fits_in d a then (wrap_found (put_found a (follow inner suffix ts)) >>= λ x. suffixes n d inner x.0 x.1) else None) else Some (a, ts)
+
+abbrev pub read_primary : ℕ → (Sort → Read Part) → Read Part
+read_primary d inner ts = atom inner ts >>= λ a. suffixes (length a.1) d inner a.0 a.1
+
+abbrev pub climb : ℕ → (Sort → Read Part) → ℕ → Read Part
+climb d inner zero = read_primary d inner
+climb d inner (suc n) = by_shape (kind_at n) d (shape_at n) inner (climb d inner n)
+
+abbrev pub named_tail : Shape
+named_tail = tok equals (sub test done)
+
+abbrev pub read_argument : Read Part → (Sort → Read Part) → Read Part
+read_argument next inner = prefix_at k.Star (shape k.Star) inner (infix_at k.Named (has_token name) named_tail inner next)
+
+-- parts of at most that depth
 abbrev pub reading : ℕ → Sort → Read Part
-reading zero q ts = token (leaves_at q) ts
-reading (suc depth) q ts = node_or (kinds_at q) (reading depth) (token (leaves_at q)) ts
+reading zero q ts = token_of (leaves_at q) ts
+reading (suc d) (level n) ts = climb d (reading d) n ts
+reading (suc d) argument ts = read_argument (climb d (reading d) 12) (reading d) ts
+reading (suc d) entry ts = wrap k.Entry (run (reading d) (shape k.Entry) ts)
+reading (suc d) clause ts = wrap_found (follow (reading d) clause_plan ts)
+reading (suc d) first_clause ts = wrap k.For (run (reading d) (shape k.For) ts)
+reading (suc d) loaded ts = prefix_at k.Alias (shape k.Alias) (reading d) (token_of string) ts
+reading (suc d) small ts = wrap_found (follow (reading d) small_plan ts)
+reading (suc d) line ts = wrap k.Line (run (reading d) (shape k.Line) ts)
 
--- a file of these parts, where no leaf is left
-abbrev pub file_of : List Part → List Leaf → Option Node
-file_of parts [] = Some (record { kind = k.File; parts = parts })
-file_of parts (t ∷ ts) = None
+-- all leaves, as a file
+abbrev pub if_all : List Part × List Leaf → Option Node
+if_all x = elim (x.1) [ [] ↦ Some (record { kind = k.File; parts = x.0 }) | t ∷ ts ↦ None ]
 
--- all leaves, as a file of a depth of at most 200
-abbrev pub read_file : List Leaf → Option Node
-read_file ts = run (reading 199) (shape k.File) ts >>= λ x. file_of x.0 x.1
+-- a file of a depth of at most suc depth
+abbrev pub read_file : ℕ → List Leaf → Option Node
+read_file depth ts = run (reading depth) (shape k.File) ts >>= if_all

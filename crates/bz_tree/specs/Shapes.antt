@@ -1,5 +1,5 @@
 -- The grammar: which parts stand in a node of each kind, from left to right.
-use Rattle.std.specs.Prelude.{◌≡◌, ℕ, Bool, true, false, List, [], ◌∷◌, ◌&&◌, ◌||◌, ◌⊎◌, nat_eq, bytes_eq}
+use Rattle.std.specs.Prelude.{◌≡◌, ℕ, Bool, true, false, List, [], ◌∷◌, ◌++◌, ◌&&◌, ◌||◌, ◌⊎◌, nat_eq, nat_le, bytes_eq, codes}
 use Rattle.bz_token.specs.declared.class.Class.{Class}
 use Rattle.bz_token.specs.declared.class.Class.TheVariants as c
 use Rattle.bz_token.specs.Classes.{class_number}
@@ -34,65 +34,168 @@ name = any c.Name ∷ []
 abbrev pub string : List Terminal
 string = any c.String ∷ []
 
+abbrev pub simple : List Terminal
+simple = any c.Name ∷ any c.Number ∷ any c.String ∷ []
+
 abbrev pub newline : List Terminal
 newline = any c.Newline ∷ []
 
 abbrev pub end : List Terminal
 end = any c.End ∷ []
 
--- (
+-- these marks; these keywords
+abbrev pub marks : List (List ℕ) → List Terminal
+marks [] = []
+marks (token ∷ tokens) = this c.Mark token ∷ marks tokens
+
+abbrev pub keywords : List (List ℕ) → List Terminal
+keywords [] = []
+keywords (token ∷ tokens) = this c.Keyword token ∷ keywords tokens
+
+abbrev pub mark : List ℕ → List Terminal
+mark token = marks (token ∷ [])
+
+abbrev pub keyword : List ℕ → List Terminal
+keyword token = keywords (token ∷ [])
+
 abbrev pub open_round : List Terminal
-open_round = this c.Mark (40 ∷ []) ∷ []
+open_round = mark (codes "(")
 
--- )
 abbrev pub close_round : List Terminal
-close_round = this c.Mark (41 ∷ []) ∷ []
+close_round = mark (codes ")")
 
--- ,
-abbrev pub comma : List Terminal
-comma = this c.Mark (44 ∷ []) ∷ []
-
--- =
-abbrev pub equals : List Terminal
-equals = this c.Mark (61 ∷ []) ∷ []
-
--- [
 abbrev pub open_square : List Terminal
-open_square = this c.Mark (91 ∷ []) ∷ []
+open_square = mark (codes "[")
 
--- ]
 abbrev pub close_square : List Terminal
-close_square = this c.Mark (93 ∷ []) ∷ []
+close_square = mark (codes "]")
+
+abbrev pub open_curly : List Terminal
+open_curly = mark (codes "{")
+
+abbrev pub close_curly : List Terminal
+close_curly = mark (codes "}")
+
+abbrev pub comma : List Terminal
+comma = mark (codes ",")
+
+abbrev pub colon : List Terminal
+colon = mark (codes ":")
+
+abbrev pub semicolon : List Terminal
+semicolon = mark (codes ";")
+
+abbrev pub dot : List Terminal
+dot = mark (codes ".")
+
+abbrev pub equals : List Terminal
+equals = mark (codes "=")
+
+-- `=` or an augmented form
+abbrev pub assigns : List Terminal
+assigns = marks (codes "=" ∷ codes "+=" ∷ codes "-=" ∷ codes "*=" ∷ codes "/=" ∷ codes "//=" ∷ codes "%=" ∷ codes "&=" ∷ codes "|=" ∷ codes "^=" ∷ codes "<<=" ∷ codes ">>=" ∷ [])
+
+abbrev pub stars : List Terminal
+stars = marks (codes "*" ∷ codes "**" ∷ [])
+
+abbrev pub signs : List Terminal
+signs = marks (codes "+" ∷ codes "-" ∷ codes "~" ∷ [])
+
+abbrev pub orders : List Terminal
+orders = marks (codes "==" ∷ codes "!=" ∷ codes "<" ∷ codes ">" ∷ codes "<=" ∷ codes ">=" ∷ []) ++ keyword (codes "in")
+
+abbrev pub shifts : List Terminal
+shifts = marks (codes "<<" ∷ codes ">>" ∷ [])
+
+abbrev pub sums : List Terminal
+sums = marks (codes "+" ∷ codes "-" ∷ [])
+
+abbrev pub products : List Terminal
+products = marks (codes "*" ∷ codes "/" ∷ codes "//" ∷ codes "%" ∷ [])
 
 -- ---- what may stand at a place
 
--- A sort names the alternatives of the grammar that make no node. So far: line = Line; statement = Bare;
--- expression = Call; argument = Named; value = String | List; element = String.
+-- A sort names the alternatives of the grammar that make no node.
+-- level n: an expression of that rank or a lower one; argument = test | Named | Star; entry = Entry; clause = For | If;
+-- first_clause = For; loaded = String | Alias; small = Bare | Assign | Load; line = Line.
 pub data Sort : Type 0 where
-  line statement expression argument value element : Sort
+  level : ℕ → Sort
+  argument entry clause first_clause loaded small line : Sort
+
+-- Operators bind the tighter the lower their rank: 0 primary, 1 unary, then the binary operators from products on,
+-- 8 compare, 9 not, 10 and, 11 or, 12 test, 13 expr.
+abbrev pub rank : Kind → ℕ
+rank k.Unary = 1
+rank k.Product = 2
+rank k.Sum = 3
+rank k.Shift = 4
+rank k.BitAnd = 5
+rank k.Xor = 6
+rank k.BitOr = 7
+rank k.Compare = 8
+rank k.Not = 9
+rank k.And = 10
+rank k.Or = 11
+rank k.Cond = 12
+rank k.Row = 13
+rank _ = 0
+
+abbrev pub primary : Sort
+primary = level 0
+
+abbrev pub bitor : Sort
+bitor = level 7
+
+abbrev pub not_level : Sort
+not_level = level 9
+
+abbrev pub or_level : Sort
+or_level = level 11
+
+abbrev pub test : Sort
+test = level 12
+
+abbrev pub expr : Sort
+expr = level 13
+
+abbrev pub is_expression : Kind → Bool
+is_expression k.File = false
+is_expression k.Line = false
+is_expression k.Bare = false
+is_expression k.Assign = false
+is_expression k.Load = false
+is_expression k.Alias = false
+is_expression k.Named = false
+is_expression k.Star = false
+is_expression k.Entry = false
+is_expression k.For = false
+is_expression k.If = false
+is_expression _ = true
+
+abbrev pub is_kind : Kind → Kind → Bool
+is_kind kind other = nat_eq (kind_number kind) (kind_number other)
 
 -- the leaves that have a sort
 abbrev pub leaves_at : Sort → List Terminal
-leaves_at value = string
-leaves_at element = string
+leaves_at (level n) = simple
+leaves_at argument = simple
+leaves_at loaded = string
 leaves_at _ = []
 
--- the kinds of the nodes that have a sort
-abbrev pub kinds_at : Sort → List Kind
-kinds_at line = k.Line ∷ []
-kinds_at statement = k.Bare ∷ []
-kinds_at expression = k.Call ∷ []
-kinds_at argument = k.Named ∷ []
-kinds_at value = k.List ∷ []
-kinds_at element = []
-
-abbrev pub has_kind : List Kind → Kind → Bool
-has_kind [] kind = false
-has_kind (first ∷ others) kind = nat_eq (kind_number kind) (kind_number first) || has_kind others kind
+-- whether nodes of a kind have a sort
+abbrev pub has_kind : Sort → Kind → Bool
+has_kind (level n) kind = is_expression kind && nat_le (rank kind) n
+has_kind argument kind = (is_expression kind && nat_le (rank kind) 12) || (is_kind kind k.Named || is_kind kind k.Star)
+has_kind entry kind = is_kind kind k.Entry
+has_kind clause kind = is_kind kind k.For || is_kind kind k.If
+has_kind first_clause kind = is_kind kind k.For
+has_kind loaded kind = is_kind kind k.Alias
+has_kind small kind = is_kind kind k.Bare || (is_kind kind k.Assign || is_kind kind k.Load)
+has_kind line kind = is_kind kind k.Line
 
 abbrev pub has_sort : Sort → Part → Bool
 has_sort sort (p.Leaf leaf) = is_one_of (leaves_at sort) leaf
-has_sort sort (Node' kind size row) = has_kind (kinds_at sort) kind
+has_sort sort (Node' kind size row) = has_kind sort kind
 
 -- whether the part is one of these tokens
 abbrev pub has_token : List Terminal → Part → Bool
@@ -148,19 +251,84 @@ Fits P (each sort then_) xs = Several (P sort) (Fits P then_) xs
 
 -- ---- the table
 
+-- perhaps a part of a sort, and then
+abbrev pub opt : Sort → Shape → Shape
+opt sort then_ = alt then_ (sub sort then_)
+
 -- what stands in brackets, behind the opening one: [x {"," x} [","]] and the closing one
 abbrev pub items : Sort → List Terminal → Shape
 items sort close = alt (tok close done) (list sort comma true (tok close done))
 
--- Starlark's grammar of BUILD files, a row for each kind; the kinds without a row are refused so far.
--- File = {Line} End                                    Line = Bare Newline
--- Bare = Call                                          Call = Name "(" [Named {"," Named} [","]] ")"
--- Named = Name "=" (String | List)                     List = "[" [String {"," String} [","]] "]"
+-- next op next {op next}, where next is of a sort
+abbrev pub flat : Sort → List Terminal → Shape
+flat sort operators = sub sort (tok operators (list sort operators false done))
+
+-- behind the first colon of a slice: [test] [":" [test]] "]"
+abbrev pub slice_end : Shape
+slice_end = opt test (alt (tok close_square done) (tok colon (opt test (tok close_square done))))
+
+-- Starlark's grammar of BUILD files, a line for each kind.
 abbrev pub shape : Kind → Shape
+-- File = {Line} End
 shape k.File = each line (tok end done)
-shape k.Line = sub statement (tok newline done)
-shape k.Bare = sub expression done
-shape k.Call = tok name (tok open_round (items argument close_round))
-shape k.Named = tok name (tok equals (sub value done))
-shape k.List = tok open_square (items element close_square)
-shape _ = none
+-- Line = small {";" small} [";"] Newline
+shape k.Line = list small semicolon true (tok newline done)
+-- Bare = expr
+shape k.Bare = sub expr done
+-- Assign = expr ("=" or an augmented form) expr
+shape k.Assign = sub expr (tok assigns (sub expr done))
+-- Load = "load" "(" String {"," (String | Alias)} [","] ")"
+shape k.Load = tok (keyword (codes "load")) (tok open_round (tok string (alt (tok close_round done) (tok comma (items loaded close_round)))))
+-- Alias = Name "=" String
+shape k.Alias = tok name (tok equals (tok string done))
+-- Row = test "," test {"," test}
+shape k.Row = flat test comma
+-- Cond = or "if" or "else" test
+shape k.Cond = sub or_level (tok (keyword (codes "if")) (sub or_level (tok (keyword (codes "else")) (sub test done))))
+-- Or = and "or" and {"or" and}
+shape k.Or = flat (level 10) (keyword (codes "or"))
+-- And = not "and" not {"and" not}
+shape k.And = flat not_level (keyword (codes "and"))
+-- Not = "not" not
+shape k.Not = tok (keyword (codes "not")) (sub not_level done)
+-- Compare = bitor op bitor; op: == != < > <= >= in, or "not" "in"
+shape k.Compare = sub bitor (alt (tok orders (sub bitor done)) (tok (keyword (codes "not")) (tok (keyword (codes "in")) (sub bitor done))))
+-- BitOr | Xor ^ BitAnd & Shift << >> Sum + - Product * / // %: next op next {op next}, loosest first
+shape k.BitOr = flat (level 6) (mark (codes "|"))
+shape k.Xor = flat (level 5) (mark (codes "^"))
+shape k.BitAnd = flat (level 4) (mark (codes "&"))
+shape k.Shift = flat (level 3) shifts
+shape k.Sum = flat (level 2) sums
+shape k.Product = flat (level 1) products
+-- Unary = ("+" | "-" | "~") unary
+shape k.Unary = tok signs (sub (level 1) done)
+-- Dot = primary "." Name
+shape k.Dot = sub primary (tok dot (tok name done))
+-- Call = primary "(" [arg {"," arg} [","]] ")"
+shape k.Call = sub primary (tok open_round (items argument close_round))
+-- Named = Name "=" test
+shape k.Named = tok name (tok equals (sub test done))
+-- Star = ("*" | "**") test
+shape k.Star = tok stars (sub test done)
+-- Index = primary "[" expr "]"
+shape k.Index = sub primary (tok open_square (sub expr (tok close_square done)))
+-- Slice = primary "[" [expr] ":" [test] [":" [test]] "]"
+shape k.Slice = sub primary (tok open_square (opt expr (tok colon slice_end)))
+-- List = "[" [test {"," test} [","]] "]"
+shape k.List = tok open_square (items test close_square)
+-- Dict = "{" [Entry {"," Entry} [","]] "}"
+shape k.Dict = tok open_curly (items entry close_curly)
+-- Entry = test ":" test
+shape k.Entry = sub test (tok colon (sub test done))
+-- Paren = "(" test ")"
+shape k.Paren = tok open_round (sub test (tok close_round done))
+-- Tuple = "(" ")" | "(" test "," ")" | "(" test "," test {"," test} [","] ")"
+shape k.Tuple = tok open_round (alt (tok close_round done) (sub test (tok comma (items test close_round))))
+-- ListComp = "[" test For {For | If} "]"
+shape k.ListComp = tok open_square (sub test (sub first_clause (each clause (tok close_square done))))
+-- DictComp = "{" Entry For {For | If} "}"
+shape k.DictComp = tok open_curly (sub entry (sub first_clause (each clause (tok close_curly done))))
+-- For = "for" primary {"," primary} "in" or
+shape k.For = tok (keyword (codes "for")) (list primary comma false (tok (keyword (codes "in")) (sub or_level done)))
+-- If = "if" or
+shape k.If = tok (keyword (codes "if")) (sub or_level done)

@@ -1,147 +1,264 @@
-ghost use Rattle.std.specs.Prelude.{◌≡◌, Some, IfOk};
-ghost use Rattle.bz_tree.specs.Shapes.{element, argument, close_square, close_round};
-ghost use Rattle.bz_tree.specs.Words.{closed_at, lines_at, file_at, list_at, value_at, argument_at, call_at, line_at, items_at, with_front, node, terminals_of, Fails};
+//! The parser: nodes by the table of states, expressions by their ranks.
+ghost use Rattle.std.specs.Prelude.{◌≡◌, ◌∷◌, ◌≤◌, [], ℕ, Some, Err, IfOk};
+ghost use Rattle.bz_tree.specs.declared.tree.Node.{Node};
+ghost use Rattle.bz_tree.specs.declared.token.Halt.TheVariants as h;
+ghost use Rattle.bz_tree.specs.Shapes.{name, has_token};
+ghost use Rattle.bz_tree.specs.Legal.{IsFileOf};
+ghost use Rattle.bz_tree.specs.Reading.{read_file};
+ghost use Rattle.bz_tree.specs.Words.{terminals_of, token_at, part_at, Adds, Fails};
+ghost use Rattle.bz_tree.specs.States.{sort_of, found_at, begun_at, level_at, atom_at, argument_at};
 
-use crate::kind::Kind;
+use crate::row::{Deep, Row};
+use crate::state::{Move, Rung, Sort, State, TEST, rung_at};
 use crate::token::{Halt, Leaves, Token};
+use crate::kind::Kind;
 use crate::tree::{Node, Part};
-use bz_items::Items;
 use std::alloc::Global;
 
-/// A node of these parts.
-fn node(kind: Kind, parts: Vec<Part>) -> Part
-    ensures { result ≡ node kind parts.items }
-{
-    Part::Node(Node {
-        kind,
-        parts: Items::from_vec(parts),
-    })
-}
+/// How deep the parts of a file may be.
+const DEPTH: u32 = 199;
 
-/// `parts` and the closing token.
-#[tactic(auto, unfolding(crate::specs::Words::closed_at))]
-fn closed(mut parts: Vec<Part>, close: Token, leaves: &mut Leaves) -> Result<Vec<Part>, Halt>
-    ensures ok { IfOk result (λ all. with_front parts.items (closed_at (terminals_of close) leaves.old) ≡ Some (all.items, leaves.new)) }
-    ensures err { Fails result (closed_at (terminals_of close) leaves.old) }
+/// The leaves as a file at most 200 nodes deep.
+///
+/// Errors: `Unexpected` where no such file has these leaves; `Memory` where a growth was refused.
+#[tactic(auto, using(crate::proofs::Files::file_read, crate::proofs::Files::no_file))]
+pub fn file(alloc: Global, leaves: &mut Leaves) -> Result<Node, Halt>
+    ensures ok { IfOk result (λ file. IsFileOf leaves.old file) }
+    ensures err { (result ≡ Err h.Unexpected) → (file : Node) → IsFileOf leaves.old file → ⊥ }
 {
-    parts.push(leaves.take(close)?)?;
-    Ok(parts)
-}
-
-/// `parts`, what stands in the brackets of a list behind the opening one, and the closing one.
-fn elements(mut parts: Vec<Part>, leaves: &mut Leaves) -> Result<Vec<Part>, Halt>
-    ensures ok { IfOk result (λ all. with_front parts.items (items_at 194 element close_square leaves.old) ≡ Some (all.items, leaves.new)) }
-    ensures err { Fails result (items_at 194 element close_square leaves.old) }
-{
-    'items: while !leaves.starts(Token::CloseSquare) {
-        parts.push(leaves.take(Token::String)?)?;
-        if !leaves.starts(Token::Comma) {
-            return closed(parts, Token::CloseSquare, leaves);
-        }
-        parts.push(leaves.take(Token::Comma)?)?;
-    }
-    closed(parts, Token::CloseSquare, leaves)
-}
-
-/// A list of strings.
-#[tactic(auto, unfolding(crate::specs::Words::list_at))]
-fn list(alloc: Global, leaves: &mut Leaves) -> Result<Part, Halt>
-    ensures ok { IfOk result (λ part. list_at leaves.old ≡ Some (part, leaves.new)) }
-    ensures err { Fails result (list_at leaves.old) }
-{
-    let bracket = leaves.take(Token::OpenSquare)?;
-    let parts = elements(vec![in alloc; bracket]?, leaves)?;
-    Ok(node(Kind::List, parts))
-}
-
-/// A string or a list of strings.
-#[tactic(auto, unfolding(crate::specs::Words::value_at))]
-fn value(alloc: Global, leaves: &mut Leaves) -> Result<Part, Halt>
-    ensures ok { IfOk result (λ part. value_at leaves.old ≡ Some (part, leaves.new)) }
-    ensures err { Fails result (value_at leaves.old) }
-{
-    if leaves.starts(Token::OpenSquare) {
-        list(alloc, leaves)
-    } else {
-        leaves.take(Token::String)
-    }
-}
-
-/// An argument of a call: a name, `=` and a value.
-#[tactic(auto, unfolding(crate::specs::Words::argument_at))]
-fn argument(alloc: Global, leaves: &mut Leaves) -> Result<Part, Halt>
-    ensures ok { IfOk result (λ part. argument_at leaves.old ≡ Some (part, leaves.new)) }
-    ensures err { Fails result (argument_at leaves.old) }
-{
-    let name = leaves.take(Token::Name)?;
-    let equals = leaves.take(Token::Equals)?;
-    let value = value(alloc, leaves)?;
-    Ok(node(Kind::Named, vec![in alloc; name, equals, value]?))
-}
-
-/// `parts`, what stands in the brackets of a call behind the opening one, and the closing one.
-fn arguments(alloc: Global, mut parts: Vec<Part>, leaves: &mut Leaves) -> Result<Vec<Part>, Halt>
-    ensures ok { IfOk result (λ all. with_front parts.items (items_at 196 argument close_round leaves.old) ≡ Some (all.items, leaves.new)) }
-    ensures err { Fails result (items_at 196 argument close_round leaves.old) }
-{
-    'items: while !leaves.starts(Token::CloseRound) {
-        parts.push(argument(alloc, leaves)?)?;
-        if !leaves.starts(Token::Comma) {
-            return closed(parts, Token::CloseRound, leaves);
-        }
-        parts.push(leaves.take(Token::Comma)?)?;
-    }
-    closed(parts, Token::CloseRound, leaves)
-}
-
-/// A call of a name.
-#[tactic(auto, unfolding(crate::specs::Words::call_at))]
-fn call(alloc: Global, leaves: &mut Leaves) -> Result<Part, Halt>
-    ensures ok { IfOk result (λ part. call_at leaves.old ≡ Some (part, leaves.new)) }
-    ensures err { Fails result (call_at leaves.old) }
-{
-    let name = leaves.take(Token::Name)?;
-    let bracket = leaves.take(Token::OpenRound)?;
-    let parts = arguments(alloc, vec![in alloc; name, bracket]?, leaves)?;
-    Ok(node(Kind::Call, parts))
-}
-
-/// A call as a statement, and the newline behind it.
-#[tactic(auto, unfolding(crate::specs::Words::line_at))]
-fn line(alloc: Global, leaves: &mut Leaves) -> Result<Part, Halt>
-    ensures ok { IfOk result (λ part. line_at leaves.old ≡ Some (part, leaves.new)) }
-    ensures err { Fails result (line_at leaves.old) }
-{
-    let call = call(alloc, leaves)?;
-    let newline = leaves.take(Token::Newline)?;
-    let statement = node(Kind::Bare, vec![in alloc; call]?);
-    Ok(node(Kind::Line, vec![in alloc; statement, newline]?))
+    whole(alloc, leaves)
 }
 
 /// All leaves as a file.
-#[tactic(auto, unfolding(crate::specs::Words::file_at))]
-pub fn file(alloc: Global, leaves: &mut Leaves) -> Result<Node, Halt>
-    ensures ok { IfOk result (λ file. file_at leaves.old ≡ Some file) }
-    ensures err { Fails result (file_at leaves.old) }
+fn whole(alloc: Global, leaves: &mut Leaves) -> Result<Node, Halt>
+    ensures ok { IfOk result (λ file. read_file 199 leaves.old ≡ Some file) }
+    ensures err { Fails result (read_file 199 leaves.old) }
 {
-    let parts = lines(alloc, leaves)?;
-    if !leaves.is_empty() {
-        return Err(Halt::Unexpected);
+    let Deep { part, .. } = follow(alloc, Row::new(alloc), State::Lines, DEPTH, leaves)?;
+    match part {
+        Part::Leaf(_) => Err(Halt::Unexpected),
+        Part::Node(file) => {
+            if leaves.is_empty() {
+                Ok(file)
+            } else {
+                Err(Halt::Unexpected)
+            }
+        }
     }
-    Ok(Node {
-        kind: Kind::File,
-        parts: Items::from_vec(parts),
-    })
 }
 
-/// The lines of a file, and the end.
-fn lines(alloc: Global, leaves: &mut Leaves) -> Result<Vec<Part>, Halt>
-    ensures ok { IfOk result (λ all. lines_at leaves.old ≡ Some (all.items, leaves.new)) }
-    ensures err { Fails result (lines_at leaves.old) }
+/// The row and the next leaf, where it is this token.
+fn take(row: Row, token: Token, leaves: &mut Leaves) -> Result<Row, Halt>
+    ensures adds { IfOk result (λ all. Adds (token_at (terminals_of token)) row.parts.items leaves.old all.parts.items leaves.new) }
+    ensures err { Fails result (token_at (terminals_of token) leaves.old) }
+    ensures within { (d : ℕ) → row.depth ≤ d → IfOk result (λ all. all.depth ≤ d) }
 {
-    let mut parts = Vec::new(alloc);
-    'lines: while leaves.starts(Token::Name) {
-        parts.push(line(alloc, leaves)?)?;
+    let leaf = Deep::leaf(token, leaves)?;
+    let row = row.with(leaf)?;
+    Ok(row)
+}
+
+/// The row and a part of this sort.
+#[cycle(parser)]
+fn read(alloc: Global, row: Row, sort: Sort, depth: u32, leaves: &mut Leaves) -> Result<Row, Halt>
+    ensures adds { IfOk result (λ all. Adds (part_at depth (sort_of sort)) row.parts.items leaves.old all.parts.items leaves.new) }
+    ensures err { Fails result (part_at depth (sort_of sort) leaves.old) }
+    ensures within { row.depth ≤ depth → IfOk result (λ all. all.depth ≤ depth) }
+{
+    let deep = part(alloc, sort, depth, leaves)?;
+    let row = row.with(deep)?;
+    Ok(row)
+}
+
+/// The node of a row and of what is left to read of it in a state.
+#[cycle(parser)]
+fn follow(
+    alloc: Global,
+    row: Row,
+    state: State,
+    depth: u32,
+    leaves: &mut Leaves,
+) -> Result<Deep, Halt>
+    requires { row.depth ≤ depth }
+    ensures ok { IfOk result (λ deep. found_at depth row.parts.items state leaves.old ≡ Some (deep.part, leaves.new)) }
+    ensures err { Fails result (found_at depth row.parts.items state leaves.old) }
+{
+    let mut row = row;
+    let mut state = state;
+    'moves: loop {
+        match state.next() {
+            Move::Finish(kind) => return Ok(row.node(kind)),
+            Move::Take(token, next) => {
+                row = take(row, token, leaves)?;
+                state = next;
+            }
+            Move::Read(sort, next) => {
+                row = read(alloc, row, sort, depth, leaves)?;
+                state = next;
+            }
+            Move::Choose(token, one, other) => {
+                state = if leaves.starts(token) { one } else { other };
+            }
+        }
     }
-    closed(parts, Token::End, leaves)
+}
+
+/// A part of this sort that is at most so deep.
+#[cycle(parser)]
+fn part(alloc: Global, sort: Sort, depth: u32, leaves: &mut Leaves) -> Result<Deep, Halt>
+    ensures ok { IfOk result (λ deep. part_at depth (sort_of sort) leaves.old ≡ Some (deep.part, leaves.new)) }
+    ensures err { Fails result (part_at depth (sort_of sort) leaves.old) }
+{
+    if depth == 0 {
+        return leaf_of(sort, leaves);
+    }
+    let inner = depth - 1;
+    match sort {
+        Sort::Level(n) => level(alloc, n, inner, leaves),
+        Sort::Argument => argument(alloc, inner, leaves),
+        Sort::Loaded => {
+            if leaves.starts(Token::Name) {
+                follow(alloc, Row::new(alloc), State::Alias, inner, leaves)
+            } else {
+                Deep::leaf(Token::String, leaves)
+            }
+        }
+        Sort::Entry => follow(alloc, Row::new(alloc), State::Entry, inner, leaves),
+        Sort::Clause => follow(alloc, Row::new(alloc), State::AnyClause, inner, leaves),
+        Sort::FirstClause => follow(alloc, Row::new(alloc), State::For, inner, leaves),
+        Sort::Small => follow(alloc, Row::new(alloc), State::Small, inner, leaves),
+        Sort::Line => follow(
+            alloc,
+            Row::new(alloc),
+            State::Listed(Kind::Line, Sort::Small, Token::Semicolon, Token::Newline),
+            inner,
+            leaves,
+        ),
+    }
+}
+
+/// A leaf of this sort.
+#[tactic(auto, unfolding(crate::specs::Words::token_at, crate::specs::Words::part_at))]
+fn leaf_of(sort: Sort, leaves: &mut Leaves) -> Result<Deep, Halt>
+    ensures ok { IfOk result (λ deep. part_at 0 (sort_of sort) leaves.old ≡ Some (deep.part, leaves.new)) }
+    ensures err { Fails result (part_at 0 (sort_of sort) leaves.old) }
+{
+    match sort {
+        Sort::Level(_) | Sort::Argument => Deep::leaf(Token::Simple, leaves),
+        Sort::Loaded => Deep::leaf(Token::String, leaves),
+        _ => Err(Halt::Unexpected),
+    }
+}
+
+/// `left`, or the node that it begins where this token stands behind it.
+#[cycle(parser)]
+fn begun(
+    alloc: Global,
+    left: Deep,
+    token: Token,
+    state: State,
+    depth: u32,
+    leaves: &mut Leaves,
+) -> Result<Deep, Halt>
+    ensures ok { IfOk result (λ deep. begun_at depth token state left.part leaves.old ≡ Some (deep.part, leaves.new)) }
+    ensures err { Fails result (begun_at depth token state left.part leaves.old) }
+{
+    if !leaves.starts(token) {
+        return Ok(left);
+    }
+    let row = Row::first(alloc, left, depth)?;
+    follow(alloc, row, state, depth, leaves)
+}
+
+/// An expression of this rank or a lower one, of which the parts are at most so deep.
+#[cycle(parser)]
+fn level(alloc: Global, n: u8, depth: u32, leaves: &mut Leaves) -> Result<Deep, Halt>
+    ensures ok { IfOk result (λ deep. level_at depth n leaves.old ≡ Some (deep.part, leaves.new)) }
+    ensures err { Fails result (level_at depth n leaves.old) }
+{
+    if n == 0 {
+        return primary(alloc, depth, leaves);
+    }
+    let below = n - 1;
+    match rung_at(below) {
+        Rung::Same => level(alloc, below, depth, leaves),
+        Rung::Prefix(token, state) => {
+            if leaves.starts(token) {
+                follow(alloc, Row::new(alloc), state, depth, leaves)
+            } else {
+                level(alloc, below, depth, leaves)
+            }
+        }
+        Rung::Infix(token, state) => {
+            let left = level(alloc, below, depth, leaves)?;
+            begun(alloc, left, token, state, depth, leaves)
+        }
+    }
+}
+
+/// A name, a number, a string or what stands in brackets, and what stands behind it.
+#[cycle(parser)]
+fn primary(alloc: Global, depth: u32, leaves: &mut Leaves) -> Result<Deep, Halt>
+    ensures ok { IfOk result (λ deep. level_at depth 0 leaves.old ≡ Some (deep.part, leaves.new)) }
+    ensures err { Fails result (level_at depth 0 leaves.old) }
+{
+    let mut left = atom(alloc, depth, leaves)?;
+    'suffixes: while leaves.starts(Token::Suffixes) {
+        let row = Row::first(alloc, left, depth)?;
+        left = follow(alloc, row, State::Suffix, depth, leaves)?;
+    }
+    Ok(left)
+}
+
+/// A name, a number, a string or what stands in brackets.
+#[cycle(parser)]
+fn atom(alloc: Global, depth: u32, leaves: &mut Leaves) -> Result<Deep, Halt>
+    ensures ok { IfOk result (λ deep. atom_at depth leaves.old ≡ Some (deep.part, leaves.new)) }
+    ensures err { Fails result (atom_at depth leaves.old) }
+{
+    if leaves.starts(Token::OpenRound) {
+        follow(alloc, Row::new(alloc), State::Round, depth, leaves)
+    } else if leaves.starts(Token::OpenSquare) {
+        follow(alloc, Row::new(alloc), State::Square, depth, leaves)
+    } else if leaves.starts(Token::OpenCurly) {
+        follow(alloc, Row::new(alloc), State::Curly, depth, leaves)
+    } else {
+        Deep::leaf(Token::Simple, leaves)
+    }
+}
+
+/// An argument of a call.
+#[cycle(parser)]
+fn argument(alloc: Global, depth: u32, leaves: &mut Leaves) -> Result<Deep, Halt>
+    ensures ok { IfOk result (λ deep. argument_at depth leaves.old ≡ Some (deep.part, leaves.new)) }
+    ensures err { Fails result (argument_at depth leaves.old) }
+{
+    if leaves.starts(Token::Stars) {
+        return follow(
+            alloc,
+            Row::new(alloc),
+            State::Ends(Kind::Star, Token::Stars, TEST),
+            depth,
+            leaves,
+        );
+    }
+    let left = level(alloc, 12, depth, leaves)?;
+    if !leaves.starts(Token::Equals) {
+        return Ok(left);
+    }
+    if !is_name(&left.part) {
+        return Err(Halt::Unexpected);
+    }
+    let named = State::Ends(Kind::Named, Token::Equals, TEST);
+    begun(alloc, left, Token::Equals, named, depth, leaves)
+}
+
+/// Whether the part is a name.
+fn is_name(part: &Part) -> bool
+    ensures { result ≡ has_token name part.now }
+{
+    match part {
+        Part::Leaf(leaf) => Token::Name.is(leaf),
+        Part::Node(_) => false,
+    }
 }

@@ -1,5 +1,5 @@
 //! Laws of legal trees: the contract of each function is a law, and there is nothing to run.
-ghost use Rattle.bz_tree.specs.Laws.{OneTree};
+ghost use Rattle.bz_tree.specs.Laws.{OneTree, OneFile};
 
 use crate::tree::Tree;
 
@@ -10,3 +10,8 @@ pub fn one_tree(tree: &Tree, other: &Tree)
     let _root = &tree.root;
     let _other = &other.root;
 }
+
+/// No leaves are those of two files.
+pub fn one_file()
+    ensures { OneFile }
+{}

@@ -1,12 +1,13 @@
-//! Trees of BUILD files: kinds, shapes, legal trees, and the one legal tree that spells a text.
+//! Trees of BUILD files: kinds, the table of shapes, legal trees, and the one legal tree that spells a text.
 #![tactic(auto)]
 
 mod grammar;
 mod kind;
 pub mod laws;
 mod parsing;
-mod plain;
+mod row;
 mod same;
+mod state;
 #[cfg(test)]
 mod tests;
 mod token;

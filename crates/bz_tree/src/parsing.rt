@@ -1,16 +1,13 @@
-ghost use Rattle.std.specs.Prelude.{◌≡◌, ◌↔◌, ◌≤◌, ◌<◌, ℕ, length, true, Some, None, IfOk, IfErr, IfSome, MatchOption};
+//! Reading a text as the tree that spells it.
+ghost use Rattle.std.specs.Prelude.{◌≡◌, ◌↔◌, ◌≤◌, ◌<◌, ℕ, true, length, IfOk, IfErr, IfSome, IsUtf8, MatchOption};
 ghost use Rattle.std.specs.Str.{IsValidUpTo};
 ghost use Rattle.bz_lex.specs.Faults.{is_of_leaves};
 ghost use Rattle.bz_lex.specs.Leaves.{AreLeaves, NoLeaves, spell_leaves};
-ghost use Rattle.bz_tree.specs.declared.tree.Node.{Node};
-ghost use Rattle.bz_tree.specs.Legal.{Reads};
+ghost use Rattle.bz_tree.specs.Legal.{IsFileOf, Reads, NoTree};
 ghost use Rattle.bz_tree.specs.Spell.{limit};
-ghost use Rattle.bz_tree.specs.Plain.{are_plain};
-ghost use Rattle.bz_tree.specs.Words.{file_at};
-ghost use Rattle.bz_tree.specs.Faults.{IsInText, IsOther, Refuses, IsPlace};
+ghost use Rattle.bz_tree.specs.Faults.{IsOfText, IsOther, Refuses, IsPlace};
 
 use crate::grammar::file;
-use crate::plain::odd_leaf;
 use crate::token::{Halt, Leaves};
 use crate::tree::{Node, Tree};
 use bz_items::Items;
@@ -41,7 +38,7 @@ pub fn parse(alloc: Global, text: &[u8]) -> Result<Tree, ReadFault>
     ensures ok { IfOk result (λ tree. Reads text.now tree) }
     ensures too_large { (result ≡ Err ReadFault.TooLarge) ↔ (limit < length text.now) }
     ensures not_utf8 { (at : ℕ) → ((result ≡ Err (ReadFault.NotUtf8 at)) ↔ ((length text.now ≤ limit) × IsValidUpTo text.now at)) }
-    ensures refused { IfErr result (λ fault. IsInText fault → (tree : Node) → Reads text.now tree → ⊥) }
+    ensures refused { IfErr result (λ fault. IsOfText fault → NoTree text.now) }
 {
     if text.len() > LIMIT {
         return Err(ReadFault::TooLarge);
@@ -57,11 +54,12 @@ pub fn parse(alloc: Global, text: &[u8]) -> Result<Tree, ReadFault>
 /// The tree of the leaves of a text, or the fault that stands first in the text.
 fn tree_of(alloc: Global, text: &[u8], reading: Reading) -> Result<Tree, ReadFault>
     requires within { length text.now ≤ limit }
+    requires coded { IsUtf8 text.now }
     requires told { MatchOption reading.fault (AreLeaves reading.leaves × (spell_leaves reading.leaves ≡ text.now)) (λ _. NoLeaves text.now) }
     requires kind { IfSome reading.fault (λ fault. is_of_leaves fault ≡ true) }
     ensures ok { IfOk result (λ tree. Reads text.now tree) }
     ensures other { IfErr result (λ fault. IsOther fault) }
-    ensures refused { IfErr result (λ fault. IsInText fault → (tree : Node) → Reads text.now tree → ⊥) }
+    ensures refused { IfErr result (λ fault. IsOfText fault → NoTree text.now) }
 {
     match file_of(alloc, reading.leaves) {
         Ok(root) => match reading.fault {
@@ -76,7 +74,7 @@ fn tree_of(alloc: Global, text: &[u8], reading: Reading) -> Result<Tree, ReadFau
 fn told(text: &[u8], refusal: Refusal, fault: Option<ReadFault>) -> ReadFault
     requires { IfSome fault (λ fault. is_of_leaves fault ≡ true) }
     ensures other { IsOther result }
-    ensures place { IsInText result → IsPlace refusal }
+    ensures place { IsOfText result → IsPlace refusal }
 {
     match (refusal, fault) {
         (Refusal::Memory, _) => ReadFault::Memory,
@@ -88,34 +86,23 @@ fn told(text: &[u8], refusal: Refusal, fault: Option<ReadFault>) -> ReadFault
 
 /// The leaves as a file.
 fn file_of(alloc: Global, leaves: Items<Leaf>) -> Result<Node, Refusal>
-    ensures ok { IfOk result (λ root. (file_at leaves ≡ Some root) × (are_plain true leaves ≡ true)) }
+    ensures ok { IfOk result (λ root. IsFileOf leaves root) }
     ensures err { IfErr result (λ refusal. Refuses refusal leaves) }
 {
-    let odd = odd_leaf(leaves.as_slice());
     let mut rest = Leaves::new(leaves.into_vec());
     match file(alloc, &mut rest) {
-        Ok(root) => match odd {
-            None => Ok(root),
-            Some(at) => Err(Refusal::At(at)),
-        },
+        Ok(root) => Ok(root),
         Err(Halt::Memory) => Err(Refusal::Memory),
-        Err(Halt::Unexpected) => Err(first(odd, rest.next_at())),
-    }
-}
-
-/// The first of two places, where there is one.
-fn first(one: Option<usize>, other: Option<usize>) -> Refusal
-    ensures { IsPlace result }
-{
-    match (one, other) {
-        (Some(a), Some(b)) => Refusal::At(a.min(b)),
-        (Some(at), None) | (None, Some(at)) => Refusal::At(at),
-        (None, None) => Refusal::Over,
+        Err(Halt::Unexpected) => Err(match rest.next_at() {
+            Some(at) => Refusal::At(at),
+            None => Refusal::Over,
+        }),
     }
 }
 
 fn unexpected(text: &[u8], at: usize) -> ReadFault
-    ensures { IsInText result }
+    ensures other { IsOther result }
+    ensures of_text { IsOfText result }
 {
     let (line, column) = place_of(text, at.min(text.len()));
     ReadFault::Unexpected { line, column }

@@ -1,11 +1,11 @@
 ghost use Rattle.std.specs.Prelude.{◌≡◌, ◌↔◌, ◌∷◌, [], Some, None, IfOk, IsTrue};
 ghost use Rattle.bz_token.specs.declared.class.Class.TheVariants as c;
-ghost use Rattle.bz_tree.specs.Shapes.{this, is_class, is_terminal, is_one_of};
-ghost use Rattle.bz_tree.specs.Reading.{starts_with};
+ghost use Rattle.bz_tree.specs.Shapes.{this, is_class, is_terminal, is_one_of, simple, assigns, orders, products, line};
+ghost use Rattle.bz_tree.specs.Reading.{starts_with, starts};
 ghost use Rattle.bz_tree.specs.Words.{terminals_of, token_at, Fails};
 
-use crate::tree::Part;
 use bz_lex::{Class, Leaf};
+use crate::tree::Part;
 use std::alloc::{AllocError, AllocFailed};
 use std::collections::VecDeque;
 use std::marker::Model;
@@ -41,19 +41,61 @@ impl<T: Drop> From<AllocFailed<T>> for Halt {
     }
 }
 
-/// The tokens that the grammar asks for.
+/// The tokens that the grammar asks for, one or several.
 #[derive(Clone, Copy)]
-pub enum Token {
+pub(crate) enum Token {
     Name,
     String,
+    /// A name, a number or a string.
+    Simple,
     Newline,
     End,
     OpenRound,
     CloseRound,
-    Comma,
-    Equals,
     OpenSquare,
     CloseSquare,
+    OpenCurly,
+    CloseCurly,
+    Comma,
+    Colon,
+    Semicolon,
+    Dot,
+    Equals,
+    /// `=` or an augmented form.
+    Assigns,
+    /// `*` or `**`.
+    Stars,
+    /// `+`, `-` or `~`.
+    Signs,
+    /// `==`, `!=`, `<`, `>`, `<=`, `>=` or `in`.
+    Orders,
+    /// What an order begins with, or `not`.
+    Compares,
+    /// What stands behind a primary: `.`, `(` or `[`.
+    Suffixes,
+    /// `for` or `if`.
+    Clauses,
+    /// What a line begins with.
+    Lines,
+    /// `]` or `:`.
+    SliceStops,
+    Bar,
+    Caret,
+    Ampersand,
+    /// `<<` or `>>`.
+    Shifts,
+    /// `+` or `-`.
+    Sums,
+    /// `*`, `/`, `//` or `%`.
+    Products,
+    Load,
+    If,
+    Else,
+    Or,
+    And,
+    Not,
+    In,
+    For,
 }
 
 fn has_class(leaf: &Leaf, class: Class) -> bool
@@ -62,36 +104,123 @@ fn has_class(leaf: &Leaf, class: Class) -> bool
     leaf.class.number() == class.number()
 }
 
-fn is_mark(leaf: &Leaf, byte: u8) -> bool
-    ensures { result ≡ is_terminal (this c.Mark (byte ∷ [])) leaf.now }
+fn is_mark(leaf: &Leaf, text: &[u8]) -> bool
+    ensures { result ≡ is_terminal (this c.Mark text.now) leaf.now }
 {
-    has_class(leaf, Class::Mark)
-        && match leaf.token.as_slice() {
-            [only] => *only == byte,
-            _ => false,
-        }
+    has_class(leaf, Class::Mark) && leaf.token.as_slice() == text
+}
+
+fn is_keyword(leaf: &Leaf, text: &[u8]) -> bool
+    ensures { result ≡ is_terminal (this c.Keyword text.now) leaf.now }
+{
+    has_class(leaf, Class::Keyword) && leaf.token.as_slice() == text
+}
+
+fn is_simple(leaf: &Leaf) -> bool
+    ensures { result ≡ is_one_of simple leaf.now }
+{
+    has_class(leaf, Class::Name) || has_class(leaf, Class::Number) || has_class(leaf, Class::String)
+}
+
+fn is_assign(leaf: &Leaf) -> bool
+    ensures { result ≡ is_one_of assigns leaf.now }
+{
+    is_mark(leaf, b"=")
+        || is_mark(leaf, b"+=")
+        || is_mark(leaf, b"-=")
+        || is_mark(leaf, b"*=")
+        || is_mark(leaf, b"/=")
+        || is_mark(leaf, b"//=")
+        || is_mark(leaf, b"%=")
+        || is_mark(leaf, b"&=")
+        || is_mark(leaf, b"|=")
+        || is_mark(leaf, b"^=")
+        || is_mark(leaf, b"<<=")
+        || is_mark(leaf, b">>=")
+}
+
+fn is_order(leaf: &Leaf) -> bool
+    ensures { result ≡ is_one_of orders leaf.now }
+{
+    is_mark(leaf, b"==")
+        || is_mark(leaf, b"!=")
+        || is_mark(leaf, b"<")
+        || is_mark(leaf, b">")
+        || is_mark(leaf, b"<=")
+        || is_mark(leaf, b">=")
+        || is_keyword(leaf, b"in")
+}
+
+fn is_product(leaf: &Leaf) -> bool
+    ensures { result ≡ is_one_of products leaf.now }
+{
+    is_mark(leaf, b"*") || is_mark(leaf, b"/") || is_mark(leaf, b"//") || is_mark(leaf, b"%")
+}
+
+fn is_line(leaf: &Leaf) -> bool
+    ensures { result ≡ is_one_of (starts line) leaf.now }
+{
+    is_keyword(leaf, b"load")
+        || is_keyword(leaf, b"not")
+        || is_mark(leaf, b"+")
+        || is_mark(leaf, b"-")
+        || is_mark(leaf, b"~")
+        || is_simple(leaf)
+        || is_mark(leaf, b"(")
+        || is_mark(leaf, b"[")
+        || is_mark(leaf, b"{")
 }
 
 impl Token {
-    fn is(self, leaf: &Leaf) -> bool
+    pub fn is(self, leaf: &Leaf) -> bool
         ensures { result ≡ is_one_of (terminals_of self) leaf.now }
     {
         match self {
             Token::Name => has_class(leaf, Class::Name),
             Token::String => has_class(leaf, Class::String),
+            Token::Simple => is_simple(leaf),
             Token::Newline => has_class(leaf, Class::Newline),
             Token::End => has_class(leaf, Class::End),
-            Token::OpenRound => is_mark(leaf, b'('),
-            Token::CloseRound => is_mark(leaf, b')'),
-            Token::Comma => is_mark(leaf, b','),
-            Token::Equals => is_mark(leaf, b'='),
-            Token::OpenSquare => is_mark(leaf, b'['),
-            Token::CloseSquare => is_mark(leaf, b']'),
+            Token::OpenRound => is_mark(leaf, b"("),
+            Token::CloseRound => is_mark(leaf, b")"),
+            Token::OpenSquare => is_mark(leaf, b"["),
+            Token::CloseSquare => is_mark(leaf, b"]"),
+            Token::OpenCurly => is_mark(leaf, b"{"),
+            Token::CloseCurly => is_mark(leaf, b"}"),
+            Token::Comma => is_mark(leaf, b","),
+            Token::Colon => is_mark(leaf, b":"),
+            Token::Semicolon => is_mark(leaf, b";"),
+            Token::Dot => is_mark(leaf, b"."),
+            Token::Equals => is_mark(leaf, b"="),
+            Token::Assigns => is_assign(leaf),
+            Token::Stars => is_mark(leaf, b"*") || is_mark(leaf, b"**"),
+            Token::Signs => is_mark(leaf, b"+") || is_mark(leaf, b"-") || is_mark(leaf, b"~"),
+            Token::Orders => is_order(leaf),
+            Token::Compares => is_order(leaf) || is_keyword(leaf, b"not"),
+            Token::Suffixes => is_mark(leaf, b".") || is_mark(leaf, b"(") || is_mark(leaf, b"["),
+            Token::Clauses => is_keyword(leaf, b"for") || is_keyword(leaf, b"if"),
+            Token::Lines => is_line(leaf),
+            Token::SliceStops => is_mark(leaf, b"]") || is_mark(leaf, b":"),
+            Token::Bar => is_mark(leaf, b"|"),
+            Token::Caret => is_mark(leaf, b"^"),
+            Token::Ampersand => is_mark(leaf, b"&"),
+            Token::Shifts => is_mark(leaf, b"<<") || is_mark(leaf, b">>"),
+            Token::Sums => is_mark(leaf, b"+") || is_mark(leaf, b"-"),
+            Token::Products => is_product(leaf),
+            Token::Load => is_keyword(leaf, b"load"),
+            Token::If => is_keyword(leaf, b"if"),
+            Token::Else => is_keyword(leaf, b"else"),
+            Token::Or => is_keyword(leaf, b"or"),
+            Token::And => is_keyword(leaf, b"and"),
+            Token::Not => is_keyword(leaf, b"not"),
+            Token::In => is_keyword(leaf, b"in"),
+            Token::For => is_keyword(leaf, b"for"),
         }
     }
 }
 
-/// The leaves that are not in the tree yet, and how many bytes those in front of them spell.
+/// The leaves that are not in the tree yet, and how many bytes those in front of them spell. A contract sees the list of
+/// leaves that are left.
 #[derive(Drop)]
 pub struct Leaves {
     rest: VecDeque<Leaf>,
@@ -112,6 +241,7 @@ impl Model for Leaves {
 }
 
 impl Leaves {
+    /// All these leaves, from the first on.
     pub fn new(leaves: Vec<Leaf>) -> Leaves
         ensures { result ≡ leaves.items }
     {
@@ -121,14 +251,14 @@ impl Leaves {
         }
     }
 
-    pub fn is_empty(&self) -> bool
+    pub(crate) fn is_empty(&self) -> bool
         ensures { IsTrue result ↔ (self.now ≡ []) }
     {
         self.rest.is_empty()
     }
 
     /// Whether the next leaf is this token.
-    pub fn starts(&self, token: Token) -> bool
+    pub(crate) fn starts(&self, token: Token) -> bool
         ensures { result ≡ starts_with (terminals_of token) self.now }
     {
         match self.rest.front() {
@@ -146,7 +276,7 @@ impl Leaves {
 
     /// The next leaf, where it is this token.
     #[tactic(auto, unfolding(crate::specs::Words::token_at))]
-    pub fn take(&mut self, token: Token) -> Result<Part, Halt>
+    pub(crate) fn take(&mut self, token: Token) -> Result<Part, Halt>
         ensures ok { IfOk result (λ part. token_at (terminals_of token) self.old ≡ Some (part, self.new)) }
         ensures err { Fails result (token_at (terminals_of token) self.old) }
     {

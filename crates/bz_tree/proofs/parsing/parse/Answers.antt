@@ -1,7 +1,7 @@
 use Rattle.std.proofs.Common.{◌≤◌, length, arith}
 use Rattle.std.proofs.lemmas.Result.{err_from_is_err_and}
 use Rattle.bz_tree.specs.Spell.{limit}
-use Rattle.bz_tree.proofs.Accepts.{told_not_utf8, not_told}
+use Rattle.bz_tree.proofs.Accepts.{told_not_utf8, not_told, no_tree_so_long, no_tree_coded}
 use Rattle.bz_tree.proofs.parsing.parse.Goals as goal
 
 pub returns-in-Err-clause-not_utf8 : goal.returns-in-Err-clause-not_utf8
@@ -16,3 +16,6 @@ returns-in_err-read_leaves-clause-not_utf8 c at =
 
 pub returns-clause-not_utf8 : goal.returns-clause-not_utf8
 returns-clause-not_utf8 c at = not_told c.tree_of.result c.args.text.now at c.in_default.ensures.cases.1 c.tree_of.ensures.other
+
+pub returns-in-Err-clause-refused : goal.returns-in-Err-clause-refused
+returns-in-Err-clause-refused c _ = no_tree_coded c.args.text.now _ c.in-Err.ensures.cases.1

@@ -1,0 +1,367 @@
+-- Parts, expressions and files as the parser reads them.
+use Rattle.std.proofs.Common.{◌≡◌, ℕ, zero, suc, ◌≤◌, ◌<◌, ◌-◌, Bool, true, false, cond, List, [], ◌∷◌, length, inl, inr, Option, Some, None, Result, Ok, Err, refl, sym, ap, ◌∙◌, arith, length-append}
+use Rattle.std.proofs.lemmas.Bool.{cases_Bool, cond-true, cond-false, le-leb}
+use Rattle.std.specs.Result.{IsErrAnd, IfOk}
+use Rattle.std.proofs.lemmas.Option.{same_Some}
+use Rattle.bz_tree.specs.declared.row.Deep.{Deep}
+use Rattle.bz_tree.specs.declared.token.Halt.{Halt}
+use Rattle.bz_lex.specs.declared.leaf.Leaf.{Leaf}
+use Rattle.bz_tree.specs.declared.kind.Kind.{Kind}
+use Rattle.bz_tree.specs.declared.kind.Kind.TheVariants as k
+use Rattle.bz_tree.specs.declared.tree.Node.{Node}
+use Rattle.bz_tree.specs.declared.tree.Part.{Part, items-the_row-Part}
+use Rattle.bz_tree.specs.declared.tree.Part as p
+use Rattle.bz_tree.specs.declared.tree.Part.TheVariants as v
+use Rattle.bz_tree.specs.Spell.{depth_part}
+use Rattle.bz_tree.specs.declared.token.Token.{Token}
+use Rattle.bz_tree.specs.declared.token.Token.TheVariants as t
+use Rattle.bz_tree.specs.declared.state.Sort.{Sort as Place}
+use Rattle.bz_tree.specs.declared.state.Sort.TheVariants as q
+use Rattle.bz_tree.specs.declared.state.Rung.{Rung}
+use Rattle.bz_tree.specs.declared.state.Rung.TheVariants as g
+use Rattle.bz_tree.specs.declared.state.State.{State}
+use Rattle.bz_tree.specs.declared.state.State.TheVariants as s
+use Rattle.bz_tree.specs.Shapes.{Terminal, has_token, Sort, level, argument, entry, clause, first_clause, loaded, small, line, Shape, done, tok, list, shape, name, simple, string, equals, stars, products, sums, shifts, comma, open_round, open_square, open_curly}
+use Rattle.bz_tree.specs.Reading.{◌>>=◌, Read, starts_with, first, put, run, finish, first_of, Found, as_kind, put_found, follow, node, wrap, wrap_found, infix_at, fits_in, suffixes, climb, named_tail, reading, round, square, curly, suffix, clause_plan, small_plan, if_all, read_file}
+use Rattle.bz_tree.specs.Words.{terminals_of, token_at, part_at, with_found, found_by, Halts, Fails}
+use Rattle.bz_tree.specs.States.{sort_of, compare_tail, cond_tail, found_at, begun_at, level_at, rung_of, climbed, suffixes_at, atom_at, argument_at}
+use Rattle.bz_tree.proofs.Nested.{items_of_row}
+use Rattle.bz_tree.proofs.Terminals.{full_front}
+use Rattle.bz_tree.proofs.Exact.{all_leaves, token_leaf}
+use Rattle.bz_tree.proofs.Plans.{put_found_some, not_empty_plan, plan_exact}
+use Rattle.bz_tree.proofs.Nodes.{wrap_found_some}
+use Rattle.bz_tree.proofs.Trees.{At}
+use Rattle.bz_tree.proofs.Levels.{begins, goes}
+use Rattle.bz_tree.proofs.ExactSorts.{reading_exact}
+use Rattle.bz_tree.proofs.Steps.{bind_same, halts, fails}
+
+-- ---- nodes of an empty row, and of one part
+
+wrapped : (kind : Kind) (o : Option (List Part × List Leaf)) → wrap kind o ≡ wrap_found (with_found [] (as_kind kind o))
+wrapped kind None = refl
+wrapped kind (Some x) = refl
+
+wrapped_one : (kind : Kind) (a : Part) (o : Option (List Part × List Leaf)) → wrap kind (put a o) ≡ wrap_found (with_found (a ∷ []) (as_kind kind o))
+wrapped_one kind a None = refl
+wrapped_one kind a (Some x) = refl
+
+found_plain : (o : Option (Found × List Leaf)) → wrap_found o ≡ wrap_found (with_found [] o)
+found_plain None = refl
+found_plain (Some x) = refl
+
+found_one : (a : Part) (o : Option (Found × List Leaf)) → wrap_found (put_found a o) ≡ wrap_found (with_found (a ∷ []) o)
+found_one a None = refl
+found_one a (Some x) = refl
+
+-- ---- results handed on
+
+pub row_same : (d : ℕ) (state : State) (ts : List Leaf) (ps ps' : List Part) → ps ≡ ps' → found_at d ps' state ts ≡ found_at d ps state ts
+row_same d state ts ps ps' e = ap (λ (z : List Part). found_at d z state ts) (sym e)
+
+pub carry_ok : (result : Result Deep Halt) (o o' : Option (Part × List Leaf)) (rest : List Leaf) → o ≡ o' → IfOk result (λ deep. o' ≡ Some (deep.part, rest)) → IfOk result (λ deep. o ≡ Some (deep.part, rest))
+carry_ok (Ok x) o o' rest e h = e ∙ h
+carry_ok (Err x) o o' rest e h = tt
+
+pub carry_err : (result : Result Deep Halt) (o o' : Option (Part × List Leaf)) → o ≡ o' → Fails result o' → Fails result o
+carry_err result o o' e h = fails result o' o h (λ n. e ∙ n)
+
+pub handed_on : {X Y Y' : Type 0} (e : Halt) (result : Result X Halt) (o : Option Y) (all : Option Y') → IsErrAnd result (λ f. f ≡ e) → Halts e o → (o ≡ None → all ≡ None) → Fails result all
+handed_on e (Ok x) o all is w f = tt
+handed_on e (Err g) o all is w f = let is' : g ≡ e = is in rw is' (halts e o all w f)
+
+-- ---- parts of a sort
+
+pub level_is : (d n : ℕ) (ts : List Leaf) → part_at (suc d) (level n) ts ≡ level_at d n ts
+unfolding part_at level_at
+level_is d n ts = refl
+
+pub argument_is : (d : ℕ) (ts : List Leaf) → part_at (suc d) argument ts ≡ argument_at d ts
+unfolding part_at argument_at
+argument_is d ts = refl
+
+pub entry_is : (d : ℕ) (ts : List Leaf) → part_at (suc d) entry ts ≡ found_at d [] s.Entry ts
+unfolding part_at found_at found_by
+entry_is d ts = wrapped k.Entry (run (reading d) (shape k.Entry) ts)
+
+pub clause_is : (d : ℕ) (ts : List Leaf) → part_at (suc d) clause ts ≡ found_at d [] s.AnyClause ts
+unfolding part_at found_at found_by
+clause_is d ts = found_plain (follow (reading d) clause_plan ts)
+
+pub first_clause_is : (d : ℕ) (ts : List Leaf) → part_at (suc d) first_clause ts ≡ found_at d [] s.For ts
+unfolding part_at found_at found_by
+first_clause_is d ts = wrapped k.For (run (reading d) (shape k.For) ts)
+
+pub small_is : (d : ℕ) (ts : List Leaf) → part_at (suc d) small ts ≡ found_at d [] s.Small ts
+unfolding part_at found_at found_by
+small_is d ts = found_plain (follow (reading d) small_plan ts)
+
+pub line_is : (d : ℕ) (ts : List Leaf) → part_at (suc d) line ts ≡ found_at d [] (s.Listed k.Line q.Small t.Semicolon t.Newline) ts
+unfolding part_at found_at found_by
+line_is d ts = wrapped k.Line (run (reading d) (shape k.Line) ts)
+
+pub alias_is : (d : ℕ) (ts : List Leaf) → starts_with name ts ≡ true → part_at (suc d) loaded ts ≡ found_at d [] s.Alias ts
+unfolding part_at found_at found_by
+alias_is d ts h = cond-true (starts_with name ts) _ _ h ∙ wrapped k.Alias (run (reading d) (shape k.Alias) ts)
+
+pub loaded_is : (d : ℕ) (ts : List Leaf) → starts_with name ts ≡ false → part_at (suc d) loaded ts ≡ token_at string ts
+unfolding part_at token_at
+loaded_is d ts h = cond-false (starts_with name ts) _ _ h
+
+one_less : (d : ℕ) → (d ≡ 0 → ⊥) → d ≡ suc (d - 1)
+one_less zero h = absurd (h refl)
+one_less (suc d) h = omega arith
+
+-- a part of a sort, by the parts inside
+pub inside : (place place' : Place) (d : ℕ) (ts : List Leaf) (o : Option (Part × List Leaf)) → place ≡ place' → (d ≡ 0 → ⊥) → part_at (suc (d - 1)) (sort_of place') ts ≡ o → part_at d (sort_of place) ts ≡ o
+inside place place' d ts o is h e = let same : d ≡ suc (d - 1) = one_less d h in ap (λ (n : ℕ). part_at n (sort_of place) ts) same ∙ ap (λ (z : Place). part_at (suc (d - 1)) (sort_of z) ts) is ∙ e
+
+pub part_depth : (d : ℕ) (sort : Sort) (ts rest : List Leaf) (x : Part) → part_at d sort ts ≡ Some (x, rest) → depth_part x ≤ d
+unfolding part_at
+part_depth d sort ts rest x e = ((reading_exact d sort).sound ts (x, rest) e).0.2
+
+-- ---- operators
+
+unfit : {A B : Type 0} (b : Bool) (a : A) (o : Option B) → cond b (Some a) None ≡ None → cond b o None ≡ None
+unfit true a o e = absurd cc
+unfit false a o e = refl
+
+infix_is : (d : ℕ) (kind : Kind) (r : Shape) (n : ℕ) (ts : List Leaf) → infix_at kind (fits_in d) r (reading d) (climb d (reading d) n) ts ≡
+    (level_at d n ts >>= λ a. cond (starts_with (first r) a.1) (cond (fits_in d a.0) (found_by d (a.0 ∷ []) (finish kind r) a.1) None) (Some (a.0, a.1)))
+unfolding level_at found_by
+infix_is d kind r n ts =
+    bind_same (climb d (reading d) n ts) (λ a. cond (starts_with (first r) a.1) (cond (fits_in d a.0) (wrap kind (put a.0 (run (reading d) r a.1))) None) (Some a))
+    (λ a. cond (starts_with (first r) a.1) (cond (fits_in d a.0) (wrap_found (with_found (a.0 ∷ []) (as_kind kind (run (reading d) r a.1)))) None) (Some (a.0, a.1)))
+    (λ a e. ap (λ o. cond (starts_with (first r) a.1) (cond (fits_in d a.0) o None) (Some a)) (wrapped_one kind a.0 (run (reading d) r a.1)))
+
+prefix_is : (d : ℕ) (kind : Kind) (r : Shape) (n : ℕ) (ts : List Leaf) → cond (starts_with (first r) ts) (wrap kind (run (reading d) r ts)) (climb d (reading d) n ts) ≡ cond (starts_with (first r) ts) (found_by d [] (finish kind r) ts) (level_at d n ts)
+unfolding level_at found_by
+prefix_is d kind r n ts = ap (λ o. cond (starts_with (first r) ts) o (climb d (reading d) n ts)) (wrapped kind (run (reading d) r ts))
+
+abbrev tail_of : ℕ → List Terminal → Shape
+tail_of n operators = tok operators (list (level n) operators false done)
+
+pub level_step : (d n : ℕ) (ts : List Leaf) → level_at d (suc n) ts ≡ climbed d (rung_of n) (level_at d n) ts
+unfolding level_at begun_at found_at
+level_step d zero ts = prefix_is d k.Unary (shape k.Unary) 0 ts
+level_step d (suc zero) ts = infix_is d k.Product (tail_of 1 products) 1 ts
+level_step d (suc (suc zero)) ts = infix_is d k.Sum (tail_of 2 sums) 2 ts
+level_step d (suc (suc (suc zero))) ts = infix_is d k.Shift (tail_of 3 shifts) 3 ts
+level_step d (suc (suc (suc (suc zero)))) ts = infix_is d k.BitAnd (tail_of 4 (terminals_of t.Ampersand)) 4 ts
+level_step d (suc (suc (suc (suc (suc zero))))) ts = infix_is d k.Xor (tail_of 5 (terminals_of t.Caret)) 5 ts
+level_step d (suc (suc (suc (suc (suc (suc zero)))))) ts = infix_is d k.BitOr (tail_of 6 (terminals_of t.Bar)) 6 ts
+level_step d (suc (suc (suc (suc (suc (suc (suc zero))))))) ts = infix_is d k.Compare compare_tail 7 ts
+level_step d (suc (suc (suc (suc (suc (suc (suc (suc zero)))))))) ts = prefix_is d k.Not (shape k.Not) 8 ts
+level_step d (suc (suc (suc (suc (suc (suc (suc (suc (suc zero))))))))) ts = infix_is d k.And (tail_of 9 (terminals_of t.And)) 9 ts
+level_step d (suc (suc (suc (suc (suc (suc (suc (suc (suc (suc zero)))))))))) ts = infix_is d k.Or (tail_of 10 (terminals_of t.Or)) 10 ts
+level_step d (suc (suc (suc (suc (suc (suc (suc (suc (suc (suc (suc zero))))))))))) ts = infix_is d k.Cond (tok (terminals_of t.If) cond_tail) 11 ts
+level_step d (suc (suc (suc (suc (suc (suc (suc (suc (suc (suc (suc (suc zero)))))))))))) ts = infix_is d k.Row (tail_of 12 comma) 12 ts
+level_step d (suc (suc (suc (suc (suc (suc (suc (suc (suc (suc (suc (suc (suc n))))))))))))) ts = refl
+
+module _ (d n : ℕ) (ts : List Leaf) (h : n ≡ 0 → ⊥) where
+  climb_by : (r : Rung) → r ≡ rung_of (n - 1) → level_at d n ts ≡ climbed d r (level_at d (n - 1)) ts
+  climb_by r e = ap (λ (m : ℕ). level_at d m ts) (one_less n h) ∙ level_step d (n - 1) ts ∙ ap (λ (z : Rung). climbed d z (level_at d (n - 1)) ts) (sym e)
+
+  pub level_same : g.Same ≡ rung_of (n - 1) → level_at d n ts ≡ level_at d (n - 1) ts
+  level_same e = climb_by g.Same e
+
+  pub level_prefix : (token : Token) (state : State) → g.Prefix token state ≡ rung_of (n - 1) → starts_with (terminals_of token) ts ≡ true → level_at d n ts ≡ found_at d [] state ts
+  level_prefix token state e b = climb_by (g.Prefix token state) e ∙ cond-true (starts_with (terminals_of token) ts) _ _ b
+
+  pub level_other : (token : Token) (state : State) → g.Prefix token state ≡ rung_of (n - 1) → starts_with (terminals_of token) ts ≡ false → level_at d n ts ≡ level_at d (n - 1) ts
+  level_other token state e b = climb_by (g.Prefix token state) e ∙ cond-false (starts_with (terminals_of token) ts) _ _ b
+
+  pub level_none : (token : Token) (state : State) → g.Infix token state ≡ rung_of (n - 1) → level_at d (n - 1) ts ≡ None → level_at d n ts ≡ None
+  level_none token state e b = climb_by (g.Infix token state) e ∙ ap (λ (o : Option (Part × List Leaf)). o >>= λ a. begun_at d token state a.0 a.1) b
+
+  pub level_begun : (token : Token) (state : State) (a : Part) (rest : List Leaf) → g.Infix token state ≡ rung_of (n - 1) → level_at d (n - 1) ts ≡ Some (a, rest) → level_at d n ts ≡ begun_at d token state a rest
+  level_begun token state a rest e b = climb_by (g.Infix token state) e ∙ ap (λ (o : Option (Part × List Leaf)). o >>= λ a. begun_at d token state a.0 a.1) b
+
+module _ (d : ℕ) (token : Token) (state : State) (a : Part) (ts : List Leaf) where
+  pub begun_stays : starts_with (terminals_of token) ts ≡ false → begun_at d token state a ts ≡ Some (a, ts)
+  unfolding begun_at
+  begun_stays h = cond-false (starts_with (terminals_of token) ts) _ _ h
+
+  pub begun_goes : starts_with (terminals_of token) ts ≡ true → fits_in d a ≡ true → begun_at d token state a ts ≡ found_at d (a ∷ []) state ts
+  unfolding begun_at
+  begun_goes h f = cond-true (starts_with (terminals_of token) ts) _ _ h ∙ cond-true (fits_in d a) _ _ f
+
+  pub begun_none : starts_with (terminals_of token) ts ≡ true → cond (fits_in d a) (Some a) None ≡ None → begun_at d token state a ts ≡ None
+  unfolding begun_at
+  begun_none h f = cond-true (starts_with (terminals_of token) ts) _ _ h ∙ unfit (fits_in d a) a _ f
+
+-- ---- atoms
+
+module _ (d : ℕ) (ts : List Leaf) where
+  pub atom_round : starts_with open_round ts ≡ true → atom_at d ts ≡ found_at d [] s.Round ts
+  unfolding atom_at found_at found_by
+  atom_round h = cond-true (starts_with open_round ts) _ _ h ∙ found_plain (follow (reading d) round ts)
+
+  pub atom_square : starts_with open_round ts ≡ false → starts_with open_square ts ≡ true → atom_at d ts ≡ found_at d [] s.Square ts
+  unfolding atom_at found_at found_by
+  atom_square g h = cond-false (starts_with open_round ts) _ _ g ∙ cond-true (starts_with open_square ts) _ _ h ∙ found_plain (follow (reading d) square ts)
+
+  pub atom_curly : starts_with open_round ts ≡ false → starts_with open_square ts ≡ false → starts_with open_curly ts ≡ true → atom_at d ts ≡ found_at d [] s.Curly ts
+  unfolding atom_at found_at found_by
+  atom_curly f g h = cond-false (starts_with open_round ts) _ _ f ∙ cond-false (starts_with open_square ts) _ _ g ∙ cond-true (starts_with open_curly ts) _ _ h ∙ found_plain (follow (reading d) curly ts)
+
+  pub atom_leaf : starts_with open_round ts ≡ false → starts_with open_square ts ≡ false → starts_with open_curly ts ≡ false → atom_at d ts ≡ token_at simple ts
+  unfolding atom_at token_at
+  atom_leaf f g h = cond-false (starts_with open_round ts) _ _ f ∙ cond-false (starts_with open_square ts) _ _ g ∙ cond-false (starts_with open_curly ts) _ _ h
+
+-- ---- what stands behind a primary
+
+pub primary_is : (d : ℕ) (ts : List Leaf) → level_at d 0 ts ≡ (atom_at d ts >>= λ a. suffixes_at d a.0 a.1)
+unfolding level_at atom_at suffixes_at
+primary_is d ts = refl
+
+pub primary_atom : (d : ℕ) (ts rest : List Leaf) (a : Part) → atom_at d ts ≡ Some (a, rest) → suffixes_at d a rest ≡ level_at d 0 ts
+primary_atom d ts rest a e = sym (primary_is d ts ∙ ap (λ (o : Option (Part × List Leaf)). o >>= λ a. suffixes_at d a.0 a.1) e)
+
+pub primary_none : (d : ℕ) (ts : List Leaf) → atom_at d ts ≡ None → level_at d 0 ts ≡ None
+primary_none d ts e = primary_is d ts ∙ ap (λ (o : Option (Part × List Leaf)). o >>= λ a. suffixes_at d a.0 a.1) e
+
+abbrev suffixed : ℕ → Part → Read Part
+suffixed d a ts = wrap_found (put_found a (follow (reading d) suffix ts))
+
+suffixed_takes : (d : ℕ) (a : Part) (ts : List Leaf) (y : Part × List Leaf) → suffixed d a ts ≡ Some y → suc (length y.1) ≤ length ts
+suffixed_takes d a ts y e =
+    let w = wrap_found_some (put_found a (follow (reading d) suffix ts)) y e in
+    let p = put_found_some a (follow (reading d) suffix ts) w.0 w.1 in
+    let x = (plan_exact (At d) (begins d) goes (reading d) (reading_exact d) suffix refl).sound ts p.0 p.1 in
+    let some = full_front (first_of suffix) (all_leaves p.0.0.1) (not_empty_plan (At d) (begins d) suffix p.0.0.0 p.0.0.1 [] x.0 refl) in
+    omega (arith, ap length x.1, length-append (all_leaves p.0.0.1) p.0.1, ap (λ (z : Part × List Leaf). length z.1) w.2, ap (λ (z : Found × List Leaf). length z.1) p.2)
+
+suffixes_same : (d n m : ℕ) (a : Part) (ts : List Leaf) → length ts ≤ n → length ts ≤ m → suffixes n d (reading d) a ts ≡ suffixes m d (reading d) a ts
+suffixes_same d zero zero a ts g h = refl
+suffixes_same d zero (suc m) a [] g h = refl
+suffixes_same d zero (suc m) a (t ∷ ts) g h = absurd (omega arith)
+suffixes_same d (suc n) zero a [] g h = refl
+suffixes_same d (suc n) zero a (t ∷ ts) g h = absurd (omega arith)
+suffixes_same d (suc n) (suc m) a ts g h =
+    ap (λ o. cond (starts_with (first_of suffix) ts) (cond (fits_in d a) o None) (Some (a, ts)))
+    (bind_same (suffixed d a ts) (λ x. suffixes n d (reading d) x.0 x.1) (λ x. suffixes m d (reading d) x.0 x.1)
+    (λ x e. suffixes_same d n m x.0 x.1 (omega (arith, suffixed_takes d a ts x e)) (omega (arith, suffixed_takes d a ts x e))))
+
+suffix_is : (d : ℕ) (a : Part) (ts : List Leaf) → found_at d (a ∷ []) s.Suffix ts ≡ suffixed d a ts
+unfolding found_at found_by
+suffix_is d a ts = sym (found_one a (follow (reading d) suffix ts))
+
+suffix_step : (d : ℕ) (a : Part) (ts : List Leaf) → suffixes_at d a ts ≡ cond (starts_with (first_of suffix) ts) (cond (fits_in d a) (suffixed d a ts >>= λ x. suffixes_at d x.0 x.1) None) (Some (a, ts))
+unfolding suffixes_at
+suffix_step d a ts =
+    suffixes_same d (length ts) (suc (length ts)) a ts (omega arith) (omega arith) ∙
+    ap (λ o. cond (starts_with (first_of suffix) ts) (cond (fits_in d a) o None) (Some (a, ts)))
+    (bind_same (suffixed d a ts) (λ x. suffixes (length ts) d (reading d) x.0 x.1) (λ x. suffixes (length x.1) d (reading d) x.0 x.1)
+    (λ x e. suffixes_same d (length ts) (length x.1) x.0 x.1 (omega (arith, suffixed_takes d a ts x e)) (omega arith)))
+
+module _ (d : ℕ) (a : Part) (ts : List Leaf) where
+  pub suffix_stops : starts_with (terminals_of t.Suffixes) ts ≡ false → suffixes_at d a ts ≡ Some (a, ts)
+  suffix_stops h = suffix_step d a ts ∙ cond-false (starts_with (first_of suffix) ts) _ _ h
+
+  pub suffix_unfit : starts_with (terminals_of t.Suffixes) ts ≡ true → cond (fits_in d a) (Some a) None ≡ None → suffixes_at d a ts ≡ None
+  suffix_unfit h f = suffix_step d a ts ∙ cond-true (starts_with (first_of suffix) ts) _ _ h ∙ unfit (fits_in d a) a _ f
+
+  suffix_reads : starts_with (terminals_of t.Suffixes) ts ≡ true → fits_in d a ≡ true → suffixes_at d a ts ≡ (found_at d (a ∷ []) s.Suffix ts >>= λ x. suffixes_at d x.0 x.1)
+  suffix_reads h f = suffix_step d a ts ∙ cond-true (starts_with (first_of suffix) ts) _ _ h ∙ cond-true (fits_in d a) _ _ f ∙ ap (λ (o : Option (Part × List Leaf)). o >>= λ x. suffixes_at d x.0 x.1) (sym (suffix_is d a ts))
+
+  pub suffix_goes : (x : Part) (rest : List Leaf) → starts_with (terminals_of t.Suffixes) ts ≡ true → fits_in d a ≡ true → found_at d (a ∷ []) s.Suffix ts ≡ Some (x, rest) → suffixes_at d x rest ≡ suffixes_at d a ts
+  suffix_goes x rest h f e = sym (suffix_reads h f ∙ ap (λ (o : Option (Part × List Leaf)). o >>= λ x. suffixes_at d x.0 x.1) e)
+
+  pub suffix_none : starts_with (terminals_of t.Suffixes) ts ≡ true → fits_in d a ≡ true → found_at d (a ∷ []) s.Suffix ts ≡ None → suffixes_at d a ts ≡ None
+  suffix_none h f e = suffix_reads h f ∙ ap (λ (o : Option (Part × List Leaf)). o >>= λ x. suffixes_at d x.0 x.1) e
+
+  pub suffix_shorter : (x : Part) (rest : List Leaf) → found_at d (a ∷ []) s.Suffix ts ≡ Some (x, rest) → length rest < length ts
+  suffix_shorter x rest e = let w = suffixed_takes d a ts (x, rest) (sym (suffix_is d a ts) ∙ e) in omega (arith, w)
+
+-- ---- arguments
+
+module _ (d : ℕ) (ts : List Leaf) where
+  pub star_is : starts_with stars ts ≡ true → argument_at d ts ≡ found_at d [] (s.Ends k.Star t.Stars (q.Level 12)) ts
+  unfolding argument_at found_at found_by
+  star_is h = cond-true (starts_with stars ts) _ _ h ∙ wrapped k.Star (run (reading d) (shape k.Star) ts)
+
+  abbrev named : Read Part
+  named us = level_at d 12 us >>= λ a. cond (starts_with equals a.1) (cond (has_token name a.0) (found_at d (a.0 ∷ []) (s.Ends k.Named t.Equals (q.Level 12)) a.1) None) (Some a)
+
+  named_is : starts_with stars ts ≡ false → argument_at d ts ≡ named ts
+  unfolding argument_at found_at found_by level_at
+  named_is h =
+      cond-false (starts_with stars ts) _ _ h ∙
+      bind_same (climb d (reading d) 12 ts) (λ a. cond (starts_with equals a.1) (cond (has_token name a.0) (wrap k.Named (put a.0 (run (reading d) named_tail a.1))) None) (Some a))
+      (λ a. cond (starts_with equals a.1) (cond (has_token name a.0) (wrap_found (with_found (a.0 ∷ []) (as_kind k.Named (run (reading d) named_tail a.1)))) None) (Some a))
+      (λ a e. ap (λ o. cond (starts_with equals a.1) (cond (has_token name a.0) o None) (Some a)) (wrapped_one k.Named a.0 (run (reading d) named_tail a.1)))
+
+  pub argument_none : starts_with stars ts ≡ false → level_at d 12 ts ≡ None → argument_at d ts ≡ None
+  argument_none h e = named_is h ∙ rw e refl
+
+  pub argument_odd : (a : Part) (rest : List Leaf) → starts_with stars ts ≡ false → level_at d 12 ts ≡ Some (a, rest) → starts_with equals rest ≡ true → has_token name a ≡ false → argument_at d ts ≡ None
+  argument_odd a rest h e m n = named_is h ∙ rw (e, m, n) refl
+
+  named_fits : (a : Part) → has_token name a ≡ true → fits_in d a ≡ true
+  named_fits a h = let w = token_leaf name a h in rw w.1 (le-leb 0 d (omega arith))
+
+  pub argument_stays : (a : Part) (rest : List Leaf) → starts_with stars ts ≡ false → level_at d 12 ts ≡ Some (a, rest) → starts_with equals rest ≡ false → argument_at d ts ≡ Some (a, rest)
+  argument_stays a rest h e m = named_is h ∙ rw (e, m) refl
+
+  pub argument_named : (a : Part) (rest : List Leaf) → starts_with stars ts ≡ false → level_at d 12 ts ≡ Some (a, rest) → has_token name a ≡ true → argument_at d ts ≡ begun_at d t.Equals (s.Ends k.Named t.Equals (q.Level 12)) a rest
+  argument_named a rest h e n =
+      elim (cases_Bool (starts_with equals rest)) [
+        | inl m ↦ named_is h ∙ rw (e, m, n) (sym (begun_goes d t.Equals (s.Ends k.Named t.Equals (q.Level 12)) a rest m (named_fits a n)))
+        | inr m ↦ argument_stays a rest h e m ∙ sym (begun_stays d t.Equals (s.Ends k.Named t.Equals (q.Level 12)) a rest m)
+      ]
+
+-- ---- files
+
+no_leaf : (n : Node) (l : Leaf) → v.Node n ≡ v.Leaf l → ⊥
+no_leaf n l h = absurd cc
+
+abbrev back : Part → Node → Node
+back (p.Leaf l) m = m
+back (p.Node' kind size row) m = record { kind = kind; parts = items-the_row-Part _ row }
+
+back_is : (n m : Node) → back (v.Node n) m ≡ n
+back_is n m = ap (λ (ps : List Part). let z : Node = record { kind = n.kind; parts = ps } in z) (items_of_row n)
+
+same_node : (m n : Node) → v.Node m ≡ v.Node n → m ≡ n
+same_node m n h = sym (back_is m m) ∙ ap (λ (x : Part). back x m) h ∙ back_is n m
+
+left_over : (ps : List Part) (us : List Leaf) → (us ≡ [] → ⊥) → if_all (ps, us) ≡ None
+left_over ps [] h = absurd (h refl)
+left_over ps (u ∷ us) h = refl
+
+abbrev framed : Option (List Part × List Leaf) → Option (Part × List Leaf)
+framed o = wrap_found (with_found [] (as_kind k.File o))
+
+framed_some : (o : Option (List Part × List Leaf)) (x : Part) (rest : List Leaf) → framed o ≡ Some (x, rest) → (ps : List Part) × (o ≡ Some (ps, rest)) × (node k.File ps ≡ x)
+framed_some None x rest e = absurd cc
+framed_some (Some y) x rest e = let w = same_Some (node k.File y.0, y.1) (x, rest) e in (y.0, ap (λ (z : Part × List Leaf). Some (y.0, z.1)) w, ap (λ (z : Part × List Leaf). z.0) w)
+
+framed_none : (o : Option (List Part × List Leaf)) → framed o ≡ None → o ≡ None
+framed_none None e = refl
+framed_none (Some y) e = absurd cc
+
+pub file_part : (x y : Part) (rest : List Leaf) → x ≡ y → (let z : Option (Part × List Leaf) = Some (x, rest) in z) ≡ Some (y, rest)
+file_part x y rest e = ap (λ (z : Part). let w : Option (Part × List Leaf) = Some (z, rest) in w) e
+
+module _ (d : ℕ) (ts : List Leaf) where
+  pub file_none : found_at d [] s.Lines ts ≡ None → read_file d ts ≡ None
+  unfolding found_at found_by
+  file_none e = rw (framed_none (run (reading d) (shape k.File) ts) e) refl
+
+  pub file_leaf : {A : Type 0} (l : Leaf) (rest : List Leaf) → found_at d [] s.Lines ts ≡ Some (v.Leaf l, rest) → A
+  unfolding found_at found_by
+  file_leaf l rest e = let w = framed_some (run (reading d) (shape k.File) ts) (v.Leaf l) rest e in absurd (no_leaf (record { kind = k.File; parts = w.0 }) l w.2)
+
+  pub file_whole : (n : Node) (rest : List Leaf) → found_at d [] s.Lines ts ≡ Some (v.Node n, rest) → rest ≡ [] → read_file d ts ≡ Some n
+  unfolding found_at found_by
+  file_whole n rest e h =
+      let w = framed_some (run (reading d) (shape k.File) ts) (v.Node n) rest e in
+      let m : Node = record { kind = k.File; parts = w.0 } in
+      let same : m ≡ n = same_node m n w.2 in
+      rw (w.1, h) (ap (λ (z : Node). Some z) same)
+
+  pub file_more : (n : Node) (rest : List Leaf) → found_at d [] s.Lines ts ≡ Some (v.Node n, rest) → (rest ≡ [] → ⊥) → read_file d ts ≡ None
+  unfolding found_at found_by
+  file_more n rest e h =
+      let w = framed_some (run (reading d) (shape k.File) ts) (v.Node n) rest e in
+      rw w.1 (left_over w.0 rest h)
