@@ -15,6 +15,7 @@ use Rattle.bz_view.specs.declared.value.Item.TheVariants as i
 use Rattle.bz_view.specs.Gaps.{Bytes, lines_of, groups_of, all_but_last, last_group}
 use Rattle.bz_view.specs.Proper.{comments_of}
 use Rattle.bz_view.specs.View.{view_of}
+use Rattle.bz_view.specs.Thin.{IsThin}
 
 -- comment lines and their host: none, or the statement that they stand above
 pub data Hosted : Type 0 where
@@ -48,6 +49,7 @@ abbrev pub hosted_in : Item → List Hosted
 hosted_in (i.Block lines) = block lines ∷ []
 hosted_in (i.Stmt x) = above (comments_of x).before ∷ []
 
--- The view of a legal tree has each comment at the host that its place in the text gives it, in the order of the text.
+-- The view of a legal tree of the thin grammar has each comment at the host that its place in the text gives it, in the
+-- order of the text.
 abbrev pub HostsByPlace : Type 0
-HostsByPlace = (n : Node) → Legal n → flat_map hosted_in (view_of n) ≡ hosted Fresh (leaves_of n)
+HostsByPlace = (n : Node) → Legal n → IsThin n → flat_map hosted_in (view_of n) ≡ hosted Fresh (leaves_of n)

@@ -4,3 +4,6 @@ pub mod Hosts
 pub mod Proper
 pub mod View
 pub mod Worked
+pub mod Thin
+pub mod Plain
+pub mod Outside

@@ -3,7 +3,7 @@ use Rattle.std.specs.Prelude.{Bool, true, not, ◌&&◌, ◌||◌, List, [], ◌
 use Rattle.bz_token.specs.declared.class.Class.TheVariants as c
 use Rattle.bz_lex.specs.declared.leaf.Leaf.{Leaf}
 use Rattle.bz_tree.specs.Shapes.{is_class}
-use Rattle.bz_tree.specs.Legal.{has_comment, is_quoted}
+use Rattle.bz_view.specs.Thin.{has_comment, is_quoted}
 
 -- whether the leaf behind this one is the first of a line or the end
 abbrev pub begins_line : Leaf → Bool

@@ -1,11 +1,11 @@
 -- Proper file values: those that the layout can write and the grammar reads back.
-use Rattle.std.specs.Prelude.{◌≡◌, ◌≢◌, ◌⊎◌, Bool, true, false, List, [], ◌∷◌, None, All}
+use Rattle.std.specs.Prelude.{◌≡◌, ◌≢◌, ◌⊎◌, Bool, true, false, List, [], ◌∷◌, None, All, IsUtf8}
 use Rattle.bz_token.specs.declared.class.Class.{Class}
 use Rattle.bz_token.specs.declared.class.Class.TheVariants as c
 use Rattle.bz_token.specs.Lexemes.{IsLexeme}
 use Rattle.bz_tree.specs.declared.kind.Kind.{Kind}
 use Rattle.bz_tree.specs.declared.kind.Kind.TheVariants as k
-use Rattle.bz_tree.specs.Legal.{is_quoted}
+use Rattle.bz_view.specs.Thin.{is_quoted}
 use Rattle.bz_view.specs.declared.value.Comments.{Comments}
 use Rattle.bz_view.specs.declared.value.Token.{Token}
 use Rattle.bz_view.specs.declared.value.Form.{Form}
@@ -16,16 +16,19 @@ use Rattle.bz_view.specs.declared.value.Item.TheVariants as i
 use Rattle.bz_view.specs.Gaps.{Bytes, trimmed}
 use Rattle.bz_view.specs.View.{no_comments}
 
--- a comment: it begins with `#`, holds no newline, and doesn't end with a space, tab or carriage return
+-- a comment: a text of characters that begins with `#`, holds no newline, and doesn't end with a space, tab or carriage
+-- return
 pub record IsComment (text : Bytes) : Type 0 where
   pub begins : (rest : Bytes) × (text ≡ 35 ∷ rest)
   pub one_line : All (λ c. c ≢ 10) text
   pub no_blank_end : trimmed text ≡ text
+  pub coded : IsUtf8 text
 
--- a token of a class, without break and comments
+-- a token of a class, a text of characters, without break and comments
 pub record IsPlainToken (class : Class) (t : Token) : Type 0 where
   pub same_class : t.class ≡ class
   pub lexeme : IsLexeme class t.text
+  pub coded : IsUtf8 t.text
   pub no_break : t.break_ ≡ false
   pub bare : t.comments ≡ no_comments
 

@@ -1,6 +1,6 @@
 ghost use Rattle.std.specs.Prelude.{◌≡◌, ◌↔◌, true, IsTrue, IsNone};
-ghost use Rattle.bz_tree.specs.Legal.{has_comment, is_quoted};
-ghost use Rattle.bz_tree.specs.Plain.{begins_line, is_plain_leaf, are_plain};
+ghost use Rattle.bz_view.specs.Thin.{has_comment, is_quoted};
+ghost use Rattle.bz_view.specs.Plain.{begins_line, is_plain_leaf, are_plain};
 
 use bz_lex::{Class, Leaf};
 
