@@ -72,6 +72,7 @@ no_tree text ls (Some fault) h bad = no_leaves text h
 pub no_tree_refused : (text : List ℕ) (ls : List Leaf) (fault : Option ReadFault) (refusal : Refusal) → Told text ls fault → IsPlace refusal → Refuses refusal ls → NoTree text
 no_tree_refused text ls fault r.Memory h p w = absurd p
 no_tree_refused text ls fault (r.At at) h p w = no_tree text ls fault h w
+no_tree_refused text ls fault (r.Deep at) h p w = no_tree text ls fault h w
 no_tree_refused text ls fault r.Over h p w = no_tree text ls fault h w
 
 pub no_tree_told : (text : List ℕ) (ls : List Leaf) (fault : Option ReadFault) (one : ReadFault) → Told text ls fault → fault ≡ Some one → NoTree text

@@ -58,6 +58,9 @@ found_one a (Some x) = refl
 pub row_same : (d : ℕ) (state : State) (ts : List Leaf) (ps ps' : List Part) → ps ≡ ps' → found_at d ps' state ts ≡ found_at d ps state ts
 row_same d state ts ps ps' e = ap (λ (z : List Part). found_at d z state ts) (sym e)
 
+pub leaves_same : (d : ℕ) (state : State) (ps : List Part) (ts ts' : List Leaf) → ts' ≡ ts → found_at d ps state ts ≡ found_at d ps state ts'
+leaves_same d state ps ts ts' e = ap (λ (z : List Leaf). found_at d ps state z) (sym e)
+
 pub carry_ok : (result : Result Deep Halt) (o o' : Option (Part × List Leaf)) (rest : List Leaf) → o ≡ o' → IfOk result (λ deep. o' ≡ Some (deep.part, rest)) → IfOk result (λ deep. o ≡ Some (deep.part, rest))
 carry_ok (Ok x) o o' rest e h = e ∙ h
 carry_ok (Err x) o o' rest e h = tt

@@ -8,10 +8,11 @@ ghost use Rattle.bz_tree.specs.Reading.{read_file};
 ghost use Rattle.bz_tree.specs.Words.{terminals_of, token_at, part_at, Adds, Fails};
 ghost use Rattle.bz_tree.specs.States.{sort_of, found_at, begun_at, level_at, atom_at, argument_at};
 
+use crate::deep::{goes_on, mark_next, mark_part};
+use crate::kind::Kind;
 use crate::row::{Deep, Row};
 use crate::state::{Move, Rung, Sort, State, TEST, rung_at};
 use crate::token::{Halt, Leaves, Token};
-use crate::kind::Kind;
 use crate::tree::{Node, Part};
 use std::alloc::Global;
 
@@ -143,11 +144,19 @@ fn leaf_of(sort: Sort, leaves: &mut Leaves) -> Result<Deep, Halt>
     ensures ok { IfOk result (λ deep. part_at 0 (sort_of sort) leaves.old ≡ Some (deep.part, leaves.new)) }
     ensures err { Fails result (part_at 0 (sort_of sort) leaves.old) }
 {
-    match sort {
-        Sort::Level(_) | Sort::Argument => Deep::leaf(Token::Simple, leaves),
-        Sort::Loaded => Deep::leaf(Token::String, leaves),
-        _ => Err(Halt::Unexpected),
+    mark_next(sort, leaves);
+    let at = leaves.next_at();
+    let leaf = match sort {
+        Sort::Level(_) | Sort::Argument => Deep::leaf(Token::Simple, leaves)?,
+        Sort::Loaded => Deep::leaf(Token::String, leaves)?,
+        _ => return Err(Halt::Unexpected),
+    };
+    if let Some(at) = at
+        && goes_on(sort, leaves)
+    {
+        leaves.mark_too_deep(at);
     }
+    Ok(leaf)
 }
 
 /// `left`, or the node that it begins where this token stands behind it.
@@ -166,6 +175,7 @@ fn begun(
     if !leaves.starts(token) {
         return Ok(left);
     }
+    mark_part(&left, depth, leaves);
     let row = Row::first(alloc, left, depth)?;
     follow(alloc, row, state, depth, leaves)
 }
@@ -204,6 +214,7 @@ fn primary(alloc: Global, depth: u32, leaves: &mut Leaves) -> Result<Deep, Halt>
 {
     let mut left = atom(alloc, depth, leaves)?;
     'suffixes: while leaves.starts(Token::Suffixes) {
+        mark_part(&left, depth, leaves);
         let row = Row::first(alloc, left, depth)?;
         left = follow(alloc, row, State::Suffix, depth, leaves)?;
     }

@@ -1,6 +1,7 @@
 //! Trees of BUILD files: kinds, the table of shapes, legal trees, and the one legal tree that spells a text.
 #![tactic(auto)]
 
+mod deep;
 mod grammar;
 mod kind;
 pub mod laws;

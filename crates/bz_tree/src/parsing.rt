@@ -25,6 +25,8 @@ pub enum Refusal {
     Memory,
     /// No file goes on with the token that begins at this byte.
     At(usize),
+    /// The node that begins at this byte is nested too deep.
+    Deep(usize),
     /// The leaves break off.
     Over,
 }
@@ -32,8 +34,8 @@ pub enum Refusal {
 /// Reads a text as the legal tree that spells it.
 ///
 /// Errors: `TooLarge` for a text past 4,194,304 bytes; `NotUtf8` with the length of the longest beginning that is;
-/// `BadCharacter`, `OpenString`, `Indented` or `Unexpected` with line and column of the first fault where no legal tree
-/// spells the text; `Memory` where a growth was refused.
+/// `BadCharacter`, `OpenString`, `Indented`, `Unexpected` or `TooDeep` (a tree deeper than 200) with line and column of the
+/// first fault where no legal tree spells the text; `Memory` where a growth was refused.
 pub fn parse(alloc: Global, text: &[u8]) -> Result<Tree, ReadFault>
     ensures ok { IfOk result (λ tree. Reads text.now tree) }
     ensures too_large { (result ≡ Err ReadFault.TooLarge) ↔ (limit < length text.now) }
@@ -79,6 +81,7 @@ fn told(text: &[u8], refusal: Refusal, fault: Option<ReadFault>) -> ReadFault
     match (refusal, fault) {
         (Refusal::Memory, _) => ReadFault::Memory,
         (Refusal::At(at), _) => unexpected(text, at),
+        (Refusal::Deep(at), _) => too_deep(text, at),
         (Refusal::Over, Some(fault)) => fault,
         (Refusal::Over, None) => unexpected(text, text.len()),
     }
@@ -93,11 +96,27 @@ fn file_of(alloc: Global, leaves: Items<Leaf>) -> Result<Node, Refusal>
     match file(alloc, &mut rest) {
         Ok(root) => Ok(root),
         Err(Halt::Memory) => Err(Refusal::Memory),
-        Err(Halt::Unexpected) => Err(match rest.next_at() {
-            Some(at) => Refusal::At(at),
-            None => Refusal::Over,
-        }),
+        Err(Halt::Unexpected) => Err(place_in(&rest)),
     }
+}
+
+/// Where no file goes on with the leaves that are left.
+fn place_in(rest: &Leaves) -> Refusal
+    ensures { IsPlace result }
+{
+    match (rest.too_deep_at(), rest.next_at()) {
+        (Some(at), _) => Refusal::Deep(at),
+        (None, Some(at)) => Refusal::At(at),
+        (None, None) => Refusal::Over,
+    }
+}
+
+fn too_deep(text: &[u8], at: usize) -> ReadFault
+    ensures other { IsOther result }
+    ensures of_text { IsOfText result }
+{
+    let (line, column) = place_of(text, at.min(text.len()));
+    ReadFault::TooDeep { line, column }
 }
 
 fn unexpected(text: &[u8], at: usize) -> ReadFault

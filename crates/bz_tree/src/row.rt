@@ -4,10 +4,10 @@ ghost use Rattle.bz_tree.specs.Spell.{depth_part, deepest};
 ghost use Rattle.bz_tree.specs.Reading.{node, fits_in};
 ghost use Rattle.bz_tree.specs.Words.{terminals_of, token_at, Adds, Fails};
 
-use crate::token::{Halt, Leaves, Token};
-use bz_items::{Items, Memory};
 use crate::kind::Kind;
+use crate::token::{Halt, Leaves, Token};
 use crate::tree::{Node, Part};
+use bz_items::{Items, Memory};
 use std::alloc::Global;
 
 /// A part, and how deep it is.

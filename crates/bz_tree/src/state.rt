@@ -2,8 +2,8 @@
 ghost use Rattle.std.specs.Prelude.{◌≡◌};
 ghost use Rattle.bz_tree.specs.States.{next_of, rung_of, operator_of};
 
-use crate::token::Token;
 use crate::kind::Kind;
+use crate::token::Token;
 
 /// The alternatives of the grammar that make no node.
 #[derive(Clone, Copy)]

@@ -4,8 +4,8 @@ ghost use Rattle.bz_tree.specs.Shapes.{this, is_class, is_terminal, is_one_of, s
 ghost use Rattle.bz_tree.specs.Reading.{starts_with, starts};
 ghost use Rattle.bz_tree.specs.Words.{terminals_of, token_at, Fails};
 
-use bz_lex::{Class, Leaf};
 use crate::tree::Part;
+use bz_lex::{Class, Leaf};
 use std::alloc::{AllocError, AllocFailed};
 use std::collections::VecDeque;
 use std::marker::Model;
@@ -219,12 +219,20 @@ impl Token {
     }
 }
 
-/// The leaves that are not in the tree yet, and how many bytes those in front of them spell. A contract sees the list of
-/// leaves that are left.
+/// Where a node begins that is nested too deep, and the byte behind which the leaves can't go on for that reason.
+#[derive(Clone, Copy, Drop)]
+struct TooDeep {
+    at: usize,
+    until: usize,
+}
+
+/// The leaves that are not in the tree yet, how many bytes those in front of them spell, and the last node that was seen
+/// to be nested too deep. A contract sees the list of leaves that are left.
 #[derive(Drop)]
 pub struct Leaves {
     rest: VecDeque<Leaf>,
     offset: usize,
+    too_deep: Option<TooDeep>,
 }
 
 impl Model for Leaves {
@@ -248,6 +256,7 @@ impl Leaves {
         Leaves {
             rest: VecDeque::from_vec(leaves),
             offset: 0,
+            too_deep: None,
         }
     }
 
@@ -265,6 +274,29 @@ impl Leaves {
             Some(leaf) => token.is(leaf),
             None => false,
         }
+    }
+
+    /// Keeps that a node begins at this byte which would be nested too deep if it went on with the next leaf.
+    pub(crate) fn mark_too_deep(&mut self, at: usize)
+        ensures { self.new ≡ self.old }
+    {
+        self.too_deep = Some(TooDeep {
+            at,
+            until: self.offset,
+        });
+    }
+
+    /// The byte at which the node begins that keeps the next leaf from being read, since it is nested too deep.
+    pub fn too_deep_at(&self) -> Option<usize> {
+        match self.too_deep {
+            Some(TooDeep { at, until }) if until == self.offset => Some(at),
+            _ => None,
+        }
+    }
+
+    /// How many bytes the leaves spell that were taken.
+    pub(crate) fn offset(&self) -> usize {
+        self.offset
     }
 
     /// The byte at which the token of the next leaf begins.

@@ -1,7 +1,7 @@
 use Rattle.std.proofs.Common.{Some, sym, ap, ◌∙◌, arith}
 use Rattle.bz_tree.specs.declared.tree.Part.{Part}
 use Rattle.bz_tree.proofs.Moves.{finishes, takes, takes_none, reads, reads_none, chooses_left, chooses_right, fewer_taken, fewer_read, fewer_left, fewer_right}
-use Rattle.bz_tree.proofs.Climbs.{row_same, carry_ok, carry_err, handed_on, inside, level_is, argument_is, entry_is, clause_is, first_clause_is, small_is, line_is, alias_is, loaded_is, part_depth, level_same, level_prefix, level_other, level_none, level_begun, begun_stays, begun_goes, begun_none, atom_round, atom_square, atom_curly, atom_leaf, primary_atom, primary_none, suffix_stops, suffix_unfit, suffix_goes, suffix_none, suffix_shorter, star_is, argument_none, argument_odd, argument_stays, argument_named}
+use Rattle.bz_tree.proofs.Climbs.{row_same, leaves_same, carry_ok, carry_err, handed_on, inside, level_is, argument_is, entry_is, clause_is, first_clause_is, small_is, line_is, alias_is, loaded_is, part_depth, level_same, level_prefix, level_other, level_none, level_begun, begun_stays, begun_goes, begun_none, atom_round, atom_square, atom_curly, atom_leaf, primary_atom, primary_none, suffix_stops, suffix_unfit, suffix_goes, suffix_none, suffix_shorter, star_is, argument_none, argument_odd, argument_stays, argument_named}
 use Rattle.bz_tree.proofs.grammar.+parser.Goals as goal
 
 pub argument-returns-clause-err : goal.argument-returns-clause-err
@@ -50,10 +50,10 @@ pub atom-returns-then-starts-clause-ok : goal.atom-returns-then-starts-clause-ok
 atom-returns-then-starts-clause-ok t c = carry_ok _ _ _ _ (atom_round _ _ (sym c.starts.ensures ∙ c.if-starts.true) ∙ row_same _ _ _ _ _ c.new.ensures.empty) c.follow.ensures.ok
 
 pub begun-returns-clause-err : goal.begun-returns-clause-err
-begun-returns-clause-err t c = carry_err _ _ _ (begun_goes _ _ _ _ _ (sym c.starts.ensures ∙ c.if-not-starts.false) c.in_ok-row.ensures.fits ∙ row_same _ _ _ _ _ c.in_ok-row.ensures.ok) c.follow.ensures.err
+begun-returns-clause-err t c = carry_err _ _ _ (begun_goes _ _ _ _ _ (sym c.starts.ensures ∙ c.if-not-starts.false) c.in_ok-row.ensures.fits ∙ row_same _ _ _ _ _ c.in_ok-row.ensures.ok ∙ leaves_same _ _ _ _ _ c.mark_part.ensures) c.follow.ensures.err
 
 pub begun-returns-clause-ok : goal.begun-returns-clause-ok
-begun-returns-clause-ok t c = carry_ok _ _ _ _ (begun_goes _ _ _ _ _ (sym c.starts.ensures ∙ c.if-not-starts.false) c.in_ok-row.ensures.fits ∙ row_same _ _ _ _ _ c.in_ok-row.ensures.ok) c.follow.ensures.ok
+begun-returns-clause-ok t c = carry_ok _ _ _ _ (begun_goes _ _ _ _ _ (sym c.starts.ensures ∙ c.if-not-starts.false) c.in_ok-row.ensures.fits ∙ row_same _ _ _ _ _ c.in_ok-row.ensures.ok ∙ leaves_same _ _ _ _ _ c.mark_part.ensures) c.follow.ensures.ok
 
 pub begun-returns-in_err-row-clause-err : goal.begun-returns-in_err-row-clause-err
 begun-returns-in_err-row-clause-err t c = handed_on _ _ _ _ c.from_residual.ensures.1 c.in_err-row.ensures.err (λ n. begun_none _ _ _ _ _ (sym c.starts.ensures ∙ c.if-not-starts.false) n)
@@ -179,7 +179,7 @@ pub primary-returns-clause-ok : goal.primary-returns-clause-ok
 primary-returns-clause-ok t c = sym c.suffixes.invariant ∙ suffix_stops _ _ _ (sym c.starts.ensures ∙ c.suffixes-test.false)
 
 pub primary-returns-in_err-left-2-clause-err : goal.primary-returns-in_err-left-2-clause-err
-primary-returns-in_err-left-2-clause-err t c = handed_on _ _ _ _ c.from_residual-in_err-left-2.ensures.1 c.in_err-left-2.ensures.err (λ n. sym c.suffixes.invariant ∙ suffix_none _ _ _ (sym c.starts.ensures ∙ c.suffixes-test.true) c.in_ok-row.ensures.fits (row_same _ _ _ _ _ c.in_ok-row.ensures.ok ∙ n))
+primary-returns-in_err-left-2-clause-err t c = handed_on _ _ _ _ c.from_residual-in_err-left-2.ensures.1 c.in_err-left-2.ensures.err (λ n. sym c.suffixes.invariant ∙ suffix_none _ _ _ (sym c.starts.ensures ∙ c.suffixes-test.true) c.in_ok-row.ensures.fits (row_same _ _ _ _ _ c.in_ok-row.ensures.ok ∙ leaves_same _ _ _ _ _ c.mark_part.ensures ∙ n))
 
 pub primary-returns-in_err-left-clause-err : goal.primary-returns-in_err-left-clause-err
 primary-returns-in_err-left-clause-err t c = handed_on _ _ _ _ c.from_residual.ensures.1 c.in_err-left.ensures.err (λ n. primary_none _ _ n)
@@ -191,10 +191,10 @@ pub primary-suffixes-init : goal.primary-suffixes-init
 primary-suffixes-init t c = primary_atom _ _ _ _ c.in_ok-left.ensures.ok
 
 pub primary-suffixes-preserved : goal.primary-suffixes-preserved
-primary-suffixes-preserved t c = suffix_goes _ _ _ _ _ (sym c.starts.ensures ∙ c.suffixes-test.true) c.in_ok-row.ensures.fits (row_same _ _ _ _ _ c.in_ok-row.ensures.ok ∙ c.in_ok-left-2.ensures.ok) ∙ c.suffixes.invariant
+primary-suffixes-preserved t c = suffix_goes _ _ _ _ _ (sym c.starts.ensures ∙ c.suffixes-test.true) c.in_ok-row.ensures.fits (row_same _ _ _ _ _ c.in_ok-row.ensures.ok ∙ leaves_same _ _ _ _ _ c.mark_part.ensures ∙ c.in_ok-left-2.ensures.ok) ∙ c.suffixes.invariant
 
 pub primary-suffixes-smaller : goal.primary-suffixes-smaller
-primary-suffixes-smaller t c = suffix_shorter _ _ _ _ _ (row_same _ _ _ _ _ c.in_ok-row.ensures.ok ∙ c.in_ok-left-2.ensures.ok)
+primary-suffixes-smaller t c = suffix_shorter _ _ _ _ _ (row_same _ _ _ _ _ c.in_ok-row.ensures.ok ∙ leaves_same _ _ _ _ _ c.mark_part.ensures ∙ c.in_ok-left-2.ensures.ok)
 
 pub read-returns-clause-within : goal.read-returns-clause-within
 read-returns-clause-within t c h = c.in_ok-row.ensures.within c.args.depth h (omega (arith, c.in_ok-deep.deep.counted, part_depth _ _ _ _ _ c.in_ok-deep.ensures.ok))

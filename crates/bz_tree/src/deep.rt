@@ -1,0 +1,117 @@
+//! Where a text nests too deep. It is told with the fault; no clause speaks of the place.
+ghost use Rattle.std.specs.Prelude.{◌≡◌};
+
+use crate::row::Deep;
+use crate::state::{Rung, Sort, rung_at};
+use crate::token::{Leaves, Token};
+use crate::tree::Part;
+
+/// Marks where the part holds the first node that is too deep, if it may be at most so deep.
+pub(crate) fn mark_part(deep: &Deep, depth: u32, leaves: &mut Leaves)
+    ensures { leaves.new ≡ leaves.old }
+{
+    let levels = depth as u64;
+    if deep.depth <= levels {
+        return;
+    }
+    let mut length = 0;
+    let _ = finds_deeper(&deep.part, u64::MAX, &mut length);
+    let mut at = leaves.offset().saturating_sub(length);
+    let _ = finds_deeper(&deep.part, levels, &mut at);
+    leaves.mark_too_deep(at);
+}
+
+/// Marks the next leaf where it begins a node of this sort, which has no room, or is a leaf of it that such a node goes on with.
+pub(crate) fn mark_next(sort: Sort, leaves: &mut Leaves)
+    ensures { leaves.new ≡ leaves.old }
+{
+    if let Some(at) = leaves.next_at()
+        && begins_node(sort, leaves)
+    {
+        leaves.mark_too_deep(at);
+    }
+}
+
+/// Whether the part has a node inside more than so many levels; `at`, the byte at which the part begins, is then the byte at
+/// which that node's first token begins, else the byte behind the part.
+#[cycle(deep)]
+fn finds_deeper(part: &Part, levels: u64, at: &mut usize) -> bool {
+    match part {
+        Part::Leaf(leaf) => {
+            *at = at
+                .saturating_add(leaf.gap.len())
+                .saturating_add(leaf.token.len());
+            false
+        }
+        Part::Node(node) => {
+            if levels == 0 {
+                *at = at.saturating_add(first_gap(node.parts.as_slice()));
+                return true;
+            }
+            finds_deeper_in(node.parts.as_slice(), levels - 1, at)
+        }
+    }
+}
+
+#[cycle(deep)]
+fn finds_deeper_in(parts: &[Part], levels: u64, at: &mut usize) -> bool {
+    for part in parts {
+        if finds_deeper(part, levels, at) {
+            return true;
+        }
+    }
+    false
+}
+
+/// How long the gap is before the first token of the parts.
+fn first_gap(parts: &[Part]) -> usize {
+    match parts.first() {
+        Some(Part::Leaf(leaf)) => leaf.gap.len(),
+        Some(Part::Node(node)) => first_gap(node.parts.as_slice()),
+        None => 0,
+    }
+}
+
+/// Whether a node of this sort begins with the next leaf and not with a leaf of it.
+fn begins_node(sort: Sort, leaves: &Leaves) -> bool {
+    match sort {
+        Sort::Level(n) => begins_level(n, leaves),
+        Sort::Argument => leaves.starts(Token::Stars) || begins_level(12, leaves),
+        Sort::Loaded => leaves.starts(Token::Name),
+        Sort::Entry => leaves.starts(Token::Simple) || begins_level(12, leaves),
+        Sort::Clause => leaves.starts(Token::Clauses),
+        Sort::FirstClause => leaves.starts(Token::For),
+        Sort::Small | Sort::Line => leaves.starts(Token::Lines),
+    }
+}
+
+fn begins_level(n: u8, leaves: &Leaves) -> bool {
+    leaves.starts(Token::OpenRound)
+        || leaves.starts(Token::OpenSquare)
+        || leaves.starts(Token::OpenCurly)
+        || (n >= 1 && leaves.starts(Token::Signs))
+        || (n >= 9 && leaves.starts(Token::Not))
+}
+
+/// Whether a node of this sort goes on with the next leaf behind a leaf of it.
+pub(crate) fn goes_on(sort: Sort, leaves: &Leaves) -> bool {
+    match sort {
+        Sort::Level(n) => level_goes_on(n, leaves),
+        Sort::Argument => leaves.starts(Token::Equals) || level_goes_on(12, leaves),
+        _ => false,
+    }
+}
+
+fn level_goes_on(n: u8, leaves: &Leaves) -> bool {
+    if leaves.starts(Token::Suffixes) {
+        return true;
+    }
+    for rank in 0..n {
+        if let Rung::Infix(token, _) = rung_at(rank)
+            && leaves.starts(token)
+        {
+            return true;
+        }
+    }
+    false
+}
