@@ -1,7 +1,7 @@
 -- A history of whole texts, and what actions make of it.
 use Rattle.std.specs.Prelude.{◌≡◌, ◌⊎◌, ◌+◌, ◌-◌, ◌<◌, ◌≤◌, ◌==◌, ℕ, List, [], ◌∷◌, ◌++◌, length, take, slice_index_or, nat_lt, bytes_eq, if◌then◌else◌, Result, Ok, Err}
 use Rattle.std.specs.List.{All}
-use Rattle.bz_tree.specs.Legal.{Accepted}
+use Rattle.bz_view.specs.Thin.{Taken}
 use Rattle.bz_view.specs.Gaps.{Bytes}
 use Rattle.bz_command.specs.declared.refusal.Refusal.{Refusal}
 use Rattle.bz_command.specs.declared.refusal.Refusal.TheVariants.{TooFar, Full, Memory}
@@ -27,9 +27,9 @@ opened text = record { texts = text ∷ []; cursor = 0; before = 0 }
 abbrev pub most_steps : ℕ
 most_steps = 100000
 
--- Every text is accepted, one is the present one, and there are no more steps than may be.
+-- Every text reads as a tree of the thin grammar, one is the present one, and there are no more steps than may be.
 pub record IsKept (h : History) : Type 0 where
-  pub accepted : All Accepted h.texts
+  pub taken : All Taken h.texts
   pub within : h.cursor < length h.texts
   pub bounded : length h.texts ≤ most_steps + 1
 

@@ -36,6 +36,6 @@ meaning_of (e.leaves (Some items) printed) text = written items
 abbrev pub meaning : Command → Target → Node → Bytes → Meaning
 meaning command target tree text = meaning_of (e.effect command target (view_of tree)) text
 
--- On an accepted text a command has the meaning that its effect on the file value gives.
+-- On a text that reads as a tree a command has the meaning that its effect on the file value gives.
 abbrev pub Means : Command → Target → Bytes → Meaning → Type 0
 Means command target text m = (tree : Node) × Reads text tree × (m ≡ meaning command target tree text)

@@ -1,28 +1,41 @@
 ghost use Rattle.std.specs.Prelude.{◌≡◌, ◌⊎◌, IfOk, IfErr, IfSome};
 ghost use Rattle.std.specs.Option.{unwrap_or};
-ghost use Rattle.bz_tree.specs.Legal.{Reads, Accepted};
+ghost use Rattle.bz_tree.specs.Legal.{Reads};
+ghost use Rattle.bz_view.specs.Thin.{IsThin, ReadsThin, Taken};
 ghost use Rattle.bz_tree.specs.Spell.{spell_node};
+ghost use Rattle.bz_view.specs.View.{view_of};
 ghost use Rattle.bz_journal.specs.Meaning.{gives, refuses, written, Means};
 
 use bz_command::{Command, Outcome, Refusal, Target, run};
 use bz_items::{Memory, Text};
 use bz_tree::{ReadFault, Tree, parse};
-use bz_view::{File, view};
+use bz_view::{File, ViewFault, view};
 use bz_write::{SetFault, set};
 use std::alloc::Global;
 
-/// The tree that an accepted text reads as.
+/// The tree that a text of the session reads as.
 fn read(alloc: Global, text: &[u8]) -> Result<Tree, Refusal>
-    requires { Accepted text.now }
-    ensures ok { IfOk result (λ tree. Reads text.now tree) }
+    requires { Taken text.now }
+    ensures ok { IfOk result (λ tree. ReadsThin text.now tree) }
     ensures err { IfErr result (λ refusal. refusal ≡ Refusal.Memory) }
 {
     match parse(alloc, text) {
         Ok(tree) => Ok(tree),
         Err(ReadFault::Memory) => Err(Refusal::Memory),
-        // Never met: the first text was UTF-8, and a command writes only what stood in the text.
-        Err(ReadFault::NotUtf8 { at: _ }) => Err(Refusal::Memory),
         Err(_) => unreachable!(),
+    }
+}
+
+/// The file value of a tree of the thin grammar.
+fn viewed(alloc: Global, tree: &Tree) -> Result<File, Refusal>
+    requires { IsThin tree.now }
+    ensures ok { IfOk result (λ file. file ≡ view_of tree.now) }
+    ensures err { IfErr result (λ refusal. refusal ≡ Refusal.Memory) }
+{
+    match view(alloc, tree) {
+        Ok(file) => Ok(file),
+        Err(ViewFault::Memory) => Err(Refusal::Memory),
+        Err(ViewFault::Outside { at: _ }) => unreachable!(),
     }
 }
 
@@ -40,7 +53,7 @@ fn spelled(alloc: Global, tree: &Tree) -> Result<Text, Memory>
 #[tactic(auto, using(crate::proofs::Writes::written_too_large, crate::proofs::Writes::written_too_deep, crate::proofs::Writes::written_spelled))]
 fn written(alloc: Global, file: &File) -> Result<Text, Refusal>
     ensures ok { IfOk result (λ text. written file.now ≡ gives text) }
-    ensures accepted { IfOk result Accepted }
+    ensures taken { IfOk result Taken }
     ensures err { IfErr result (λ refusal. (written file.now ≡ refuses refusal) ⊎ (refusal ≡ Refusal.Memory)) }
 {
     let tree = match set(alloc, file) {
@@ -52,20 +65,20 @@ fn written(alloc: Global, file: &File) -> Result<Text, Refusal>
     Ok(spelled(alloc, &tree)?)
 }
 
-/// What a command makes of an accepted text: a new text, or none where the file is unchanged.
+/// What a command makes of a text of the session: a new text, or none where the file is unchanged.
 pub(crate) fn changed(
     alloc: Global,
     command: &Command,
     target: &Target,
     text: &[u8],
 ) -> Result<Option<Text>, Refusal>
-    requires { Accepted text.now }
+    requires { Taken text.now }
     ensures ok { IfOk result (λ new. Means command.now target.now text.now (gives (unwrap_or new text.now))) }
-    ensures accepted { IfOk result (λ new. IfSome new Accepted) }
+    ensures taken { IfOk result (λ new. IfSome new Taken) }
     ensures err { IfErr result (λ refusal. Means command.now target.now text.now (refuses refusal) ⊎ (refusal ≡ Refusal.Memory)) }
 {
     let tree = read(alloc, text)?;
-    let file = view(alloc, &tree)?;
+    let file = viewed(alloc, &tree)?;
     let Outcome { file, printed: _ } = run(alloc, command, target, &file)?;
     match file {
         None => Ok(None),

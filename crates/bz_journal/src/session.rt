@@ -1,9 +1,8 @@
 ghost use Rattle.std.specs.Prelude.{◌≡◌, ◌≤◌, ◌<◌, ◌+◌, ◌++◌, ◌↔◌, ◌⊎◌, [], ◌∷◌, take, vec_len, Err, ℕ, List, IfOk, IfErr, OnOk, OnErr, length, Result};
-ghost use Rattle.bz_tree.specs.declared.tree.Node.{Node};
 ghost use Rattle.bz_tree.specs.Spell.{limit};
 ghost use Rattle.std.specs.Str.{IsValidUpTo};
-ghost use Rattle.bz_tree.specs.Legal.{Reads, Accepted};
-ghost use Rattle.bz_tree.specs.Faults.{IsInText};
+ghost use Rattle.bz_view.specs.Thin.{Taken};
+ghost use Rattle.bz_tree.specs.Faults.{IsOfText};
 ghost use Rattle.bz_command.specs.declared.refusal.Refusal.{Refusal};
 ghost use Rattle.bz_journal.specs.declared.action.Reply.{Reply};
 ghost use Rattle.bz_journal.specs.declared.action.Action.{Action};
@@ -13,7 +12,8 @@ use crate::action::{Action, Reply};
 use crate::meaning::changed;
 use bz_command::{Command, Refusal, Target};
 use bz_items::{Memory, Text};
-use bz_tree::{ReadFault, parse};
+use bz_tree::{ReadFault, parse, unexpected_at};
+use bz_view::first_outside;
 use std::alloc::Global;
 use std::marker::Model;
 
@@ -40,18 +40,23 @@ impl Model for Session {
 impl Session {
     /// A session at the first text of a file of this package, whose name has at most 65,536 bytes. Errors: those of
     /// reading the text: `TooLarge` past 4,194,304 bytes; `NotUtf8` with the length of the longest beginning that is UTF-8;
-    /// a fault with line and column where the text reads as no tree; `Memory` where a growth was refused.
+    /// a fault with line and column where the text reads as no tree of the thin grammar (`Unexpected` at the first part
+    /// outside it, where it is a tree of the whole one); `Memory` where a growth was refused.
     pub fn open(alloc: Global, package: &str, text: &[u8]) -> Result<Session, ReadFault>
         requires { length «package».now ≤ 65536 }
         ensures ok { IfOk result (λ session. session ≡ opened text.now) }
-        ensures accepted { OnOk result (Accepted text.now) }
+        ensures taken { OnOk result (Taken text.now) }
         ensures too_large { (result ≡ Err ReadFault.TooLarge) ↔ (limit < length text.now) }
         ensures not_utf8 { (at : ℕ) → ((result ≡ Err (ReadFault.NotUtf8 at)) ↔ ((length text.now ≤ limit) × IsValidUpTo text.now at)) }
-        ensures refused { IfErr result (λ fault. IsInText fault → (tree : Node) → Reads text.now tree → ⊥) }
+        ensures refused { IfErr result (λ fault. IsOfText fault → Taken text.now → ⊥) }
     {
         let _ = package;
-        if let Err(fault) = parse(alloc, text) {
-            return Err(fault);
+        let tree = match parse(alloc, text) {
+            Ok(tree) => tree,
+            Err(fault) => return Err(fault),
+        };
+        if let Some(at) = first_outside(&tree) {
+            return Err(unexpected_at(text, at));
         }
         match one(alloc, text) {
             Ok(texts) => Ok(Session {
@@ -103,14 +108,14 @@ impl Session {
     /// The present text.
     fn present(&self) -> &[u8]
         ensures text { result.now ≡ present self.now }
-        ensures accepted { Accepted result.now }
+        ensures taken { Taken result.now }
     {
         self.texts[self.cursor as usize].as_slice()
     }
 
     /// Puts a text behind the present one.
     fn push(&mut self, text: Text) -> Result<Reply, Refusal>
-        requires { Accepted text }
+        requires { Taken text }
         ensures acts { ((result, self.new) ≡ after_text self.old text) ⊎ ((result ≡ Err Refusal.Memory) × (self.new ≡ self.old)) }
     {
         if text.as_slice() == self.present() {

@@ -3,4 +3,3 @@ pub mod Pieces
 pub mod Counts
 pub mod AskedLemmas
 pub mod Outcomes
-pub mod Coding

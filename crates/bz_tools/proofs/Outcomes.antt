@@ -4,13 +4,17 @@ use Rattle.std.specs.Prelude.{IfSome}
 use Rattle.std.specs.Io.KnownBytes.{Appends}
 use Rattle.std.proofs.lemmas.List.{take_all, append-nil}
 use Rattle.std.proofs.lemmas.Bool.{cases_lt}
+use Rattle.bz_lex.specs.declared.fault.ReadFault.{ReadFault}
+use Rattle.bz_lex.specs.declared.fault.ReadFault.TheVariants as f
 use Rattle.bz_tree.specs.Spell.{limit}
+use Rattle.bz_tree.specs.Faults.{IsOfText}
 use Rattle.bz_command.specs.declared.refusal.Refusal.{Refusal}
 use Rattle.bz_command.specs.declared.refusal.Refusal.TheVariants.{Memory}
 use Rattle.bz_journal.specs.declared.action.Action.{Action}
 use Rattle.bz_journal.specs.declared.action.Reply.{Reply}
 use Rattle.bz_journal.specs.History.{History, Acts, Leads}
-use Rattle.bz_tools.specs.Outcome.{RunsToRefusal, Edits, Outcome, IsInput, IsRead}
+use Rattle.bz_tools.specs.Outcome.{RunsToRefusal, Edits, Outcome, IsInput}
+use Rattle.bz_view.specs.Thin.{Taken}
 use Rattle.bz_tools.specs.Asked.{actions_of}
 
 -- an action that is not refused, and what the run makes of the rest
@@ -31,8 +35,13 @@ run_halts h after action left rest refusal split acts other = rw (split) (inl (r
     leads (inl done) = done
     leads (inr wanting) = let e = wanting.0 in absurd (other (cc))
 
-within_limit : (text : List ℕ) → IsRead text → length text ≤ limit
-within_limit text (coded, (tree, reads)) = reads.2
+-- a fault of the text says that it is not taken
+pub refused_text : (text : List ℕ) (fault : ReadFault) → (IsOfText fault → Taken text → ⊥) → (fault ≡ f.Memory → ⊥) → Taken text → ⊥
+refused_text text f.Memory none memory taken = memory refl
+refused_text text _ none memory taken = none tt taken
+
+within_limit : (text : List ℕ) → Taken text → length text ≤ limit
+within_limit text (tree, (reads, thin)) = reads.2
 
 -- the first bytes of an input, one more than a text may have, tell what becomes of it
 edits_of_front : (actions : List Action) (all output : List ℕ) (status : ℕ) → Edits actions (take 4194305 all) output status → Edits actions all output status
@@ -43,10 +52,10 @@ edits_of_front actions all output status edits = go (cases_lt limit (length all)
         let whole : take 4194305 all ≡ all = take_all 4194305 all (omega arith) in
         let P : List ℕ → Type 0 = λ text. Edits actions text output status in subst P whole e
     go (inl long) (inl edited) =
-        let le = within_limit (take 4194305 all) edited.accepted in
+        let le = within_limit (take 4194305 all) edited.taken in
         let len = length-take 4194305 all in absurd (omega arith)
     go (inl long) (inr unread) =
-        inr (record { refused = λ accepted. let le = within_limit all accepted in omega arith; nothing = unread.nothing; told = unread.told })
+        inr (record { refused = λ taken. let le = within_limit all taken in omega arith; nothing = unread.nothing; told = unread.told })
 
 pub outcome_of_front : (known : Option (List ℕ)) (front : List ℕ) (words : List (List ℕ)) (actions : List Action) (output : List ℕ) (status : ℕ)
     → IfSome known (λ all. front ≡ take 4194305 all) → actions_of words ≡ Some actions → Edits actions front output status

@@ -1,6 +1,6 @@
 -- What a run of buildozer over standard input writes on standard output, and its status.
-use Rattle.std.specs.Prelude.{◌≡◌, ◌⊎◌, ℕ, List, [], ◌∷◌, Bool, true, false, if◌then◌else◌, bytes_eq, Option, Some, None, Ok, Err, IfSome, IsUtf8}
-use Rattle.bz_tree.specs.Legal.{Accepted}
+use Rattle.std.specs.Prelude.{◌≡◌, ◌⊎◌, ℕ, List, [], ◌∷◌, Bool, true, false, if◌then◌else◌, bytes_eq, Option, Some, None, Ok, Err, IfSome}
+use Rattle.bz_view.specs.Thin.{Taken}
 use Rattle.bz_view.specs.Gaps.{Bytes}
 use Rattle.bz_command.specs.declared.refusal.Refusal.{Refusal}
 use Rattle.bz_journal.specs.declared.action.Action.{Action}
@@ -19,13 +19,9 @@ RunsToRefusal h (action ∷ actions) refused after =
 abbrev pub status_of : Bool → Bytes → Bytes → ℕ
 status_of refused read written = if refused then 2 else (if bytes_eq written read then 3 else 0)
 
--- A text of characters that reads as a tree.
-abbrev pub IsRead : Bytes → Type 0
-IsRead text = IsUtf8 text × Accepted text
-
--- A text that is read is opened, the actions are run on it, and the text that is then present is written.
+-- A text that reads as a tree of the thin grammar is opened, the actions are run on it, and the text that is then present is written.
 pub record Edited (actions : List Action) (input output : Bytes) (status : ℕ) : Type 0 where
-  pub accepted : IsRead input
+  pub taken : Taken input
   pub refused : Bool
   pub after : History
   pub runs : RunsToRefusal (opened input) actions refused after
@@ -34,7 +30,7 @@ pub record Edited (actions : List Action) (input output : Bytes) (status : ℕ) 
 
 -- Of every other text nothing is written.
 pub record Unread (input output : Bytes) (status : ℕ) : Type 0 where
-  pub refused : IsRead input → ⊥
+  pub refused : Taken input → ⊥
   pub nothing : output ≡ []
   pub told : status ≡ 2
 

@@ -16,5 +16,5 @@ mod tree;
 
 pub use bz_lex::{Class, Leaf, ReadFault};
 pub use kind::Kind;
-pub use parsing::parse;
+pub use parsing::{parse, unexpected_at};
 pub use tree::{Node, Part, Tree};

@@ -1,7 +1,8 @@
 //! Reading a text as the tree that spells it.
-ghost use Rattle.std.specs.Prelude.{◌≡◌, ◌↔◌, ◌≤◌, ◌<◌, ℕ, true, length, IfOk, IfErr, IfSome, IsUtf8, MatchOption};
+ghost use Rattle.std.specs.Prelude.{◌≡◌, ◌↔◌, ◌≤◌, ◌<◌, ℕ, true, min, length, IfOk, IfErr, IfSome, IsUtf8, MatchOption};
 ghost use Rattle.std.specs.Str.{IsValidUpTo};
 ghost use Rattle.bz_lex.specs.Faults.{is_of_leaves};
+ghost use Rattle.bz_lex.specs.Positions.{line_of, column_of};
 ghost use Rattle.bz_lex.specs.Leaves.{AreLeaves, NoLeaves, spell_leaves};
 ghost use Rattle.bz_tree.specs.Legal.{IsFileOf, Reads, NoTree};
 ghost use Rattle.bz_tree.specs.Spell.{limit};
@@ -80,10 +81,10 @@ fn told(text: &[u8], refusal: Refusal, fault: Option<ReadFault>) -> ReadFault
 {
     match (refusal, fault) {
         (Refusal::Memory, _) => ReadFault::Memory,
-        (Refusal::At(at), _) => unexpected(text, at),
+        (Refusal::At(at), _) => unexpected_at(text, at),
         (Refusal::Deep(at), _) => too_deep(text, at),
         (Refusal::Over, Some(fault)) => fault,
-        (Refusal::Over, None) => unexpected(text, text.len()),
+        (Refusal::Over, None) => unexpected_at(text, text.len()),
     }
 }
 
@@ -119,9 +120,9 @@ fn too_deep(text: &[u8], at: usize) -> ReadFault
     ReadFault::TooDeep { line, column }
 }
 
-fn unexpected(text: &[u8], at: usize) -> ReadFault
-    ensures other { IsOther result }
-    ensures of_text { IsOfText result }
+/// The fault `Unexpected` with line and column, from 1, of the byte at `at` (past the last one: of the end).
+pub fn unexpected_at(text: &[u8], at: usize) -> ReadFault
+    ensures told { result ≡ ReadFault.Unexpected (min (line_of text.now (min at (length text.now))) u32.MAX) (min (column_of text.now (min at (length text.now))) u32.MAX) }
 {
     let (line, column) = place_of(text, at.min(text.len()));
     ReadFault::Unexpected { line, column }

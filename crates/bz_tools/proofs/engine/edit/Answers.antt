@@ -4,7 +4,7 @@ use Rattle.bz_lex.specs.declared.fault.ReadFault.TheVariants as f
 use Rattle.bz_journal.specs.History.{History}
 use Rattle.bz_tools.specs.Outcome.{Edits, RunsToRefusal}
 use Rattle.bz_tools.specs.Shown.{actions_in}
-use Rattle.bz_tools.proofs.Coding.{opened_text, refused_text}
+use Rattle.bz_tools.proofs.Outcomes.{refused_text}
 use Rattle.bz_tools.proofs.engine.edit.Goals as goal
 
 pub returns-in-Err : goal.returns-in-Err
@@ -12,7 +12,7 @@ returns-in-Err g c =
     IfOk-weaker c.unread.result (λ edited. (c.in-Err.fault ≡ f.Memory → ⊥) × (edited.text.items ≡ []) × (edited.status ≡ 2))
     (λ edited. Edits (actions_in c.args.steps.now) c.args.input.now edited.text.items edited.status)
     (λ edited told. inr (record {
-      refused = refused_text _ c.args.input.now c.in-Err.fault c.in-Err.ensures.too_large c.in-Err.ensures.not_utf8 c.in-Err.ensures.refused told.0;
+      refused = refused_text c.args.input.now c.in-Err.fault c.in-Err.ensures.refused told.0;
       nothing = told.1;
       told = told.2;
     }))
@@ -20,7 +20,7 @@ returns-in-Err g c =
 
 pub returns : goal.returns
 returns g c = inl (record {
-  accepted = opened_text _ c.args.input.now _ c.in-Ok.ensures.not_utf8 c.in-Ok.ensures.accepted;
+  taken = c.in-Ok.ensures.accepted;
   refused = is_some c.in_ok-halt.halt;
   after = c.run.new.session;
   runs = (let P : History → Type 0 = λ h. RunsToRefusal h (actions_in c.args.steps.now) (is_some c.in_ok-halt.halt) c.run.new.session in
