@@ -1,5 +1,5 @@
 -- A text of characters may be cut behind each gap and each token.
-use Rattle.std.proofs.Common.{◌≡◌, ℕ, ◌+◌, ◌≤◌, ◌<◌, true, false, List, [], ◌∷◌, ◌++◌, ◌⊎◌, inl, inr, length, get_or, take, drop, refl, sym, ap, ◌∙◌, subst, arith, length-append, length-drop, append_assoc}
+use Rattle.std.proofs.Common.{◌≡◌, ℕ, ◌+◌, ◌≤◌, ◌<◌, Bool, true, false, List, [], ◌∷◌, ◌++◌, ◌⊎◌, inl, inr, length, get_or, take, drop, refl, sym, ap, ◌∙◌, subst, arith, length-append, length-drop, append_assoc}
 use Rattle.std.proofs.Math.Seq.{get_or-append_seam}
 use Rattle.std.proofs.lemmas.Bool.{both_ways}
 use Rattle.std.proofs.lemmas.Bool.Decides.{nat_tests}
@@ -16,7 +16,7 @@ use Rattle.bz_lex.specs.Fronts.{IsLexemeFront}
 abbrev EndsInAscii : List ℕ → Type 0
 EndsInAscii s = (f : List ℕ) × (b : ℕ) × (s ≡ f ++ (b ∷ [])) × (b < 128)
 
-abbrev IsSealed : List ℕ → Type 0
+abbrev pub IsSealed : List ℕ → Type 0
 IsSealed s = (s ≡ []) ⊎ EndsInAscii s
 
 behind_text : (w r : List ℕ) → EndsInAscii r → EndsInAscii (w ++ r)
@@ -29,17 +29,18 @@ behind_byte b r h (inr k) = behind_text (b ∷ []) r k
 blank_ascii : (b : ℕ) → is_blank b ≡ true → b < 128
 blank_ascii b h = grind (arith, nat_tests)
 
-gap_sealed : (s : List ℕ) → IsGap true false s → IsSealed s
-gap_sealed s (nothing e) = inl e
-gap_sealed s (blank b r e i g) = inr (rw e (behind_byte b r (blank_ascii b i) (gap_sealed r g)))
-gap_sealed s (escaped r e g) = inr (rw e (behind_text (92 ∷ []) (10 ∷ r) (behind_byte 10 r (omega arith) (gap_sealed r g))))
-gap_sealed s (escaped_return r e g) = inr (rw e (behind_text (92 ∷ 13 ∷ []) (10 ∷ r) (behind_byte 10 r (omega arith) (gap_sealed r g))))
-gap_sealed s (unescaped r e i g) = inr (rw e (behind_byte 10 r (omega arith) (gap_sealed r g)))
-gap_sealed s (comment w r e o i g) = inr (rw e (behind_text (35 ∷ w) (10 ∷ r) (behind_byte 10 r (omega arith) (gap_sealed r g))))
-gap_sealed s (last_comment w e o i) = absurd (both_ways false refl i)
+-- a gap that ends between two pieces is sealed
+pub gap_sealed : (n : Bool) (s : List ℕ) → IsGap n false s → IsSealed s
+gap_sealed n s (nothing e) = inl e
+gap_sealed n s (blank b r e i g) = inr (rw e (behind_byte b r (blank_ascii b i) (gap_sealed n r g)))
+gap_sealed n s (escaped r e g) = inr (rw e (behind_text (92 ∷ []) (10 ∷ r) (behind_byte 10 r (omega arith) (gap_sealed n r g))))
+gap_sealed n s (escaped_return r e g) = inr (rw e (behind_text (92 ∷ 13 ∷ []) (10 ∷ r) (behind_byte 10 r (omega arith) (gap_sealed n r g))))
+gap_sealed n s (unescaped r e i g) = inr (rw e (behind_byte 10 r (omega arith) (gap_sealed n r g)))
+gap_sealed n s (comment w r e o i g) = inr (rw e (behind_text (35 ∷ w) (10 ∷ r) (behind_byte 10 r (omega arith) (gap_sealed n r g))))
+gap_sealed n s (last_comment w e o i) = absurd (both_ways false refl i)
 
--- where a text whose front is sealed may be cut
-cut : (s a b : List ℕ) → IsUtf8 s → s ≡ a ++ b → IsSealed a → IsCharBoundary s (length a)
+-- a text whose front is sealed may be cut behind that front
+pub cut : (s a b : List ℕ) → IsUtf8 s → s ≡ a ++ b → IsSealed a → IsCharBoundary s (length a)
 cut s a b u e (inl i) = rw i (IsCharBoundary-start s u)
 cut s a b u e (inr (f, c, i, h)) =
     let n : length a ≡ length f + 1 = rw i (length-append f (c ∷ [])) in
@@ -51,7 +52,7 @@ cut s a b u e (inr (f, c, i, h)) =
 pub gap_cut : (s : List ℕ) (front : Front) → IsUtf8 s → IsLexemeFront front s → IsCharBoundary s front.gap
 gap_cut s front u f =
     subst (IsCharBoundary s) (length-take-le front.gap s (let w = f.within in omega arith))
-    (cut s (take front.gap s) (drop front.gap s) u (sym (take-append-drop front.gap s)) (gap_sealed (take front.gap s) f.gap))
+    (cut s (take front.gap s) (drop front.gap s) u (sym (take-append-drop front.gap s)) (gap_sealed true (take front.gap s) f.gap))
 
 pub end_cut : (s : List ℕ) (front : Front) → IsUtf8 s → IsLexemeFront front s → IsCharBoundary s (front.gap + front.token)
 end_cut s front u f =

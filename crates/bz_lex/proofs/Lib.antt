@@ -6,3 +6,4 @@ pub mod Fronts
 pub mod Characters
 pub mod Lists
 pub mod Lexing
+pub mod Coded

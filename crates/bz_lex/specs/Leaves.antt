@@ -1,5 +1,6 @@
 -- The leaves of a text: gaps and tokens that cover it, each standing where it may.
-use Rattle.std.specs.Prelude.{◌≡◌, ℕ, List, [], ◌∷◌, ◌++◌}
+use Rattle.std.specs.Prelude.{◌≡◌, ℕ, List, [], ◌∷◌, ◌++◌, IsUtf8}
+use Rattle.std.specs.List.{AllByRecursion}
 use Rattle.bz_token.specs.Tokens.{IsToken}
 use Rattle.bz_lex.specs.declared.leaf.Leaf.{Leaf}
 use Rattle.bz_lex.specs.Places.{Place, Fresh, Over, next, May}
@@ -21,3 +22,11 @@ AreLeaves leaves = Stand (May IsToken) Fresh leaves
 -- the text has no leaves
 abbrev pub NoLeaves : List ℕ → Type 0
 NoLeaves text = (leaves : List Leaf) → AreLeaves leaves → spell_leaves leaves ≡ text → ⊥
+
+-- gap and token are texts of characters
+abbrev pub IsCodedLeaf : Leaf → Type 0
+IsCodedLeaf leaf = IsUtf8 leaf.gap × IsUtf8 leaf.token
+
+-- the leaves' gaps and tokens are texts of characters
+abbrev pub AreCoded : List Leaf → Type 0
+AreCoded leaves = AllByRecursion IsCodedLeaf leaves
