@@ -8,9 +8,10 @@ use Rattle.bz_tree.specs.Spell.{spell_part, spell_node, deepest, depth_of, limit
 use Rattle.bz_tree.specs.Legal.{Legal}
 use Rattle.bz_view.specs.declared.value.Item.{Item}
 use Rattle.bz_view.specs.Proper.{IsProper}
+use Rattle.bz_view.specs.Thin.{IsThin}
 use Rattle.bz_write.specs.Written.{layout}
 use Rattle.bz_write.specs.Drawn.{lines_from, drawn}
-use Rattle.bz_write.proofs.Files.{drawn_legal}
+use Rattle.bz_write.proofs.Files.{drawn_legal, drawn_thin}
 use Rattle.bz_write.proofs.Spelled.{spell_drawn}
 
 -- a file of these parts
@@ -37,3 +38,6 @@ past_depth xs parts h e short deep =
 
 pub legal_file : (xs : List Item) (parts : List Part) → IsProper xs → parts ≡ lines_from [] xs → length (flat_map spell_part parts) ≤ 4194304 → Legal (file_of parts) × (length (spell_node (file_of parts)) ≤ limit)
 legal_file xs parts h e short = (subst (λ ps. Legal (file_of ps)) (sym e) (drawn_legal xs h), short)
+
+pub thin_file : (xs : List Item) (parts : List Part) → IsProper xs → parts ≡ lines_from [] xs → IsThin (file_of parts)
+thin_file xs parts h e = subst (λ ps. IsThin (file_of ps)) (sym e) (drawn_thin xs h)

@@ -1,10 +1,10 @@
 -- Laws of the layout.
 use Rattle.std.specs.Prelude.{◌≡◌, ◌≤◌, List, length}
 use Rattle.bz_tree.specs.Spell.{depth_of, limit}
-use Rattle.bz_tree.specs.Legal.{Reads}
 use Rattle.bz_view.specs.declared.value.Item.{Item}
 use Rattle.bz_view.specs.View.{view_of}
 use Rattle.bz_view.specs.Proper.{IsProper}
+use Rattle.bz_view.specs.Thin.{ReadsThin}
 use Rattle.bz_write.specs.Written.{layout}
 use Rattle.bz_write.specs.Drawn.{drawn}
 use Rattle.bz_write.specs.Flags.{flags}
@@ -13,9 +13,10 @@ use Rattle.bz_write.specs.Flags.{flags}
 abbrev pub FlagsKeepLayout : Type 0
 FlagsKeepLayout = (items : List Item) → (layout (flags items) ≡ layout items) × (drawn (flags items) ≡ drawn items) × (IsProper items → IsProper (flags items))
 
--- The layout of a proper file value reads as its tree, where it is within the limits of length and depth.
+-- The layout of a proper file value reads as its tree, which is one of the thin grammar, where it is within the limits of
+-- length and depth.
 abbrev pub LayoutIsAccepted : Type 0
-LayoutIsAccepted = (items : List Item) → IsProper items → length (layout items) ≤ limit → depth_of (drawn items) ≤ 200 → Reads (layout items) (drawn items)
+LayoutIsAccepted = (items : List Item) → IsProper items → length (layout items) ≤ limit → depth_of (drawn items) ≤ 200 → ReadsThin (layout items) (drawn items)
 
 -- In the grammar so far the tree of the layout of a proper file value is at most 6 deep: a file, a line, a statement, a
 -- call, an argument, a list.

@@ -7,7 +7,8 @@ pub fn flags_keep_layout()
     ensures { FlagsKeepLayout }
 {}
 
-/// The layout of a proper file value reads as its tree, where it is within the limits.
+/// The layout of a proper file value reads as its tree, which is one of the thin grammar, where it is
+/// within the limits.
 pub fn layout_is_accepted()
     ensures { LayoutIsAccepted }
 {}

@@ -1,5 +1,6 @@
 ghost use Rattle.std.specs.Prelude.{◌≡◌, ◌<◌, ◌≤◌, IfOk, length};
 ghost use Rattle.bz_tree.specs.Spell.{spell_node, depth_of, limit};
+ghost use Rattle.bz_view.specs.Thin.{IsThin};
 ghost use Rattle.bz_write.specs.Drawn.{drawn};
 ghost use Rattle.bz_write.specs.Written.{layout};
 
@@ -41,11 +42,13 @@ impl From<AllocError> for SetFault {
     }
 }
 
-/// The tree whose spelling is the layout of the file value. Errors: `TooLarge` exactly where the layout is past the
-/// limit of a text, else `TooDeep` exactly where the tree is past the limit of depth; `Memory`: a growth was refused.
+/// The tree whose spelling is the layout of the file value; it is of the thin grammar. Errors: `TooLarge` exactly where
+/// the layout is past the limit of a text, else `TooDeep` exactly where the tree is past the limit of depth; `Memory`: a
+/// growth was refused.
 pub fn set(alloc: Global, file: &File) -> Result<Tree, SetFault>
     ensures drawn { IfOk result (λ tree. tree ≡ drawn file.now) }
     ensures text { IfOk result (λ tree. spell_node tree ≡ layout file.now) }
+    ensures thin { IfOk result (λ tree. IsThin tree) }
     ensures too_large { result ≡ Err SetFault.TooLarge → limit < length (layout file.now) }
     ensures too_deep { result ≡ Err SetFault.TooDeep → (length (layout file.now) ≤ limit) × (200 < depth_of (drawn file.now)) }
 {

@@ -3,7 +3,7 @@ use Rattle.std.specs.List.{flat_map}
 use Rattle.bz_tree.specs.Spell.{spell_part, deepest}
 use Rattle.bz_view.specs.Proper.{IsProper}
 use Rattle.bz_write.specs.Drawn.{lines_from}
-use Rattle.bz_write.proofs.Settings.{text_of_file, past_limit, past_depth, legal_file}
+use Rattle.bz_write.proofs.Settings.{text_of_file, past_limit, past_depth, legal_file, thin_file}
 use Rattle.bz_write.proofs.setting.set.Goals as goal
 
 pub returns-then-not-are_spelled_within-clause-too_large : goal.returns-then-not-are_spelled_within-clause-too_large
@@ -28,3 +28,7 @@ invariant_of-result c =
 pub returns-clause-text : goal.returns-clause-text
 returns-clause-text c =
     text_of_file c.args.file.now c.in_ok-parts.parts (subst (λ xs. IsProper xs) c.file.view_is c.file.invariant) (c.in_ok-parts.ensures ∙ ap (lines_from []) (c.as_slice.ensures ∙ c.file.view_is))
+
+pub returns-clause-thin : goal.returns-clause-thin
+returns-clause-thin c =
+    thin_file c.args.file.now c.in_ok-parts.parts (subst (λ xs. IsProper xs) c.file.view_is c.file.invariant) (c.in_ok-parts.ensures ∙ ap (lines_from []) (c.as_slice.ensures ∙ c.file.view_is))
