@@ -1,14 +1,19 @@
 -- Newlines of parts, first leaves, and where a walk through the statements of a file stands.
 use Rattle.std.proofs.Common.{ℕ, zero, suc, Bool, true, false, ◌≡◌, ◌≢◌, ◌<◌, ◌≤◌, ◌+◌, ◌-◌, List, [], ◌∷◌, ◌++◌, Option, Some, None, if◌then◌else◌, cond, count_by, refl, sym, ap, ◌∙◌, subst, take, drop, length, get_or, slice_get, option_map, inl, inr, arith}
+use Rattle.std.specs.Prelude.{codes}
 use Rattle.std.specs.List.{flat_map}
 use Rattle.std.proofs.lemmas.List.{drop_more, take_more, flat_map_more, length-append}
 use Rattle.std.proofs.lemmas.List.Sums.{sum_by-append, count_by-le-length}
+use Rattle.bz_token.specs.declared.class.Class.TheVariants as c
 use Rattle.bz_lex.specs.declared.leaf.Leaf.{Leaf}
 use Rattle.bz_lex.specs.Leaves.{spell_leaves}
 use Rattle.bz_lex.specs.Positions.{is_newline}
+use Rattle.bz_tree.specs.declared.kind.Kind.TheVariants as k
+use Rattle.bz_tree.specs.declared.tree.Node.{Node}
 use Rattle.bz_tree.specs.declared.tree.Part.{Part}
-use Rattle.bz_tree.specs.Spell.{spell_part, leaves_part}
-use Rattle.bz_tree.specs.Statements.{is_node, parts_of, gap_of, first_gap, newlines, fronts_in, fronts, line_behind}
+use Rattle.bz_tree.specs.declared.tree.Part.TheVariants as p
+use Rattle.bz_tree.specs.Spell.{spell_part, spell_node, leaves_part}
+use Rattle.bz_tree.specs.Statements.{is_node, parts_of, gap_of, first_gap, newlines, fronts_in, fronts, line_behind, line_of}
 use Rattle.bz_tree.proofs.Nested.{items_of_row, leaf_or_node}
 use Rattle.bz_tree.proofs.Spells.{spell_Node, spelled_so_far, part_spelled}
 
@@ -199,3 +204,26 @@ pub line_fits : (xs : List Part) (statement i line left : ℕ) (d : Part) → i 
 line_fits xs statement i line left d h is at =
     let one : length (spell_part d) ≡ length (spell_part (get_or xs i d)) = ap (λ y. length (spell_part y)) is in
     omega (arith, spelled_so_far xs i d h, newlines_within (flat_map spell_part (take i xs)), at.line_is, one)
+
+-- ---- worked lines: those of the text "a\n\n# c\nb; c\n"
+
+abbrev name : List ℕ → List ℕ → Part
+name gap token = p.Leaf (record { class = c.Name; gap = gap; token = token })
+
+abbrev statement_of : Part → Part
+statement_of x = p.Node (record { kind = k.Bare; parts = x ∷ [] })
+
+abbrev line_with : List Part → Part
+line_with xs = p.Node (record { kind = k.Line; parts = xs ++ p.Leaf (record { class = c.Newline; gap = []; token = codes "\n" }) ∷ [] })
+
+abbrev worked_file : Node
+worked_file =
+    record {
+      kind = k.File;
+      parts =
+          line_with (statement_of (name [] (codes "a")) ∷ []) ∷ line_with (statement_of (name (codes "\n# c\n") (codes "b")) ∷ p.Leaf (record { class = c.Mark; gap = []; token = codes ";" }) ∷ statement_of (name (codes " ") (codes "c")) ∷ []) ∷ p.Leaf (record { class = c.End; gap = []; token = [] }) ∷ [];
+    }
+
+pub worked_lines : (spell_node worked_file ≡ codes "a\n\n# c\nb; c\n") × (line_of worked_file 0 ≡ Some 1) × (line_of worked_file 1 ≡ Some 4) × (line_of worked_file 2 ≡ Some 4) × (line_of worked_file 3 ≡ None)
+unfolding Rattle.bz_tree.specs.declared.tree.Part.TheBlock.hidden-the_row-Part-0 denote.Hole.Carrier.hidden
+worked_lines = (refl, refl, refl, refl, refl)
