@@ -17,3 +17,4 @@ pub mod Moves
 pub mod Deepest
 pub mod Climbs
 pub mod Accepts
+pub mod Statements

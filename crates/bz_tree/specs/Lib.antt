@@ -7,3 +7,4 @@ pub mod Words
 pub mod States
 pub mod Faults
 pub mod Laws
+pub mod Statements

@@ -9,6 +9,7 @@ mod parsing;
 mod row;
 mod same;
 mod state;
+mod statement;
 #[cfg(test)]
 mod tests;
 mod token;
