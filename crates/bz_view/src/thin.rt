@@ -75,13 +75,9 @@ fn odd_in_call(parts: &[Part]) -> Option<usize>
     ensures { is_none result ≡ are_thin Kind.Call parts.now }
 {
     match parts {
-        [function, rest @ ..] if is_leaf(Class::Name, function) => match odd_in_row(
-            Kind::Call,
-            rest,
-        ) {
-            Some(at) => Some(at.saturating_add(1)),
-            None => None,
-        },
+        [function, arguments @ ..] if is_leaf(Class::Name, function) => {
+            odd_in_row(Kind::Call, arguments).map(|at| at.saturating_add(1))
+        }
         _ => Some(0),
     }
 }
@@ -91,8 +87,8 @@ fn odd_in_named(parts: &[Part]) -> Option<usize>
     ensures { is_none result ≡ are_thin Kind.Named parts.now }
 {
     match parts {
-        [_, _, value] => { if is_value(value) { None } else { Some(2) } }
-        _ => Some(0),
+        [_, _, value] if is_value(value) => None,
+        _ => Some(2),
     }
 }
 
