@@ -1,7 +1,5 @@
-ghost use Rattle.std.specs.Prelude.{◌≡◌, [], ◌∷◌, ◌++◌, ◌+◌, ◌<◌, ◌≤◌, length, take, drop, slice_get, slice_set, ◌↔◌, IsTrue, IfOk, IsOk, MatchOption, OnOk, OnErr, OnSome};
+ghost use Rattle.std.specs.Prelude.{◌≡◌, [], ◌∷◌, ◌++◌, ◌+◌, ◌<◌, ◌≤◌, length, take, drop, slice_get, ◌↔◌, IsTrue, IsOk, MatchOption, OnOk, OnErr, OnSome};
 ghost use Rattle.std.specs.Option.{option_copied};
-ghost use Rattle.std.specs.Borrow.{sem};
-ghost use Rattle.bz_items.specs.Lending.{LendsAll, LendsItem};
 
 use crate::Memory;
 use std::alloc::Global;
@@ -83,23 +81,6 @@ impl<T> Items<T> {
         self.items.get(at)
     }
 
-    /// The item at a place, from 0, to be changed where it stands.
-    pub fn at_mut(&mut self, at: usize) -> &mut T
-        requires { at < length self.old }
-        ensures* writes_back { sem 𝓛 (LendsItem T.row self.entry at result) }
-        ensures value { slice_get self.old at ≡ Some result.now }
-    {
-        &mut self.items[at]
-    }
-
-    /// The items, to be changed where they stand.
-    pub fn as_mut_slice(&mut self) -> &mut [T]
-        ensures* writes_back { sem 𝓛 (LendsAll T.row self.entry result) }
-        ensures value { result.now ≡ self.old }
-    {
-        self.items.as_mut_slice()
-    }
-
     /// Takes the last item off; `None` of an empty list.
     pub fn pop(&mut self) -> Option<T>
         ensures { MatchOption result ((self.old ≡ []) × (self.new ≡ [])) (λ last. self.old ≡ self.new ++ last ∷ []) }
@@ -108,7 +89,7 @@ impl<T> Items<T> {
     }
 
     /// Exchanges all of `other` with as many items from `at` on.
-    pub fn exchange(&mut self, at: usize, other: &mut Items<T>)
+    fn exchange(&mut self, at: usize, other: &mut Items<T>)
         requires { at + length other.old ≤ length self.old }
         ensures here { self.new ≡ take at self.old ++ other.old ++ drop (at + length other.old) self.old }
         ensures there { other.new ≡ take (length other.old) (drop at self.old) }

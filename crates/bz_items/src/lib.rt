@@ -4,6 +4,8 @@
 #![tactic(auto)]
 
 mod items;
+#[cfg(test)]
+mod tests;
 mod text;
 
 pub use items::{Items, at};
