@@ -148,7 +148,7 @@ fn rows(rt: HostRuntime) {
 }
 
 // Of a text that is refused nothing is written.
-static REFUSED: [(&str, &str); 6] = [
+static REFUSED: [(&str, &str); 12] = [
     (
         "cc_library(name = \"x\") $\n",
         "<stdin>:1:24: BadCharacter\n",
@@ -156,8 +156,15 @@ static REFUSED: [(&str, &str); 6] = [
     ("x(a = \"b\n", "<stdin>:1:7: OpenString\n"),
     (" x()\n", "<stdin>:1:2: Indented\n"),
     ("cc_library(", "<stdin>:1:12: Unexpected\n"),
-    ("x(y())\n", "<stdin>:1:4: Unexpected\n"),
-    ("# a\n# é\nx = 1\n", "<stdin>:3:3: Unexpected\n"),
+    ("a < b < c", "<stdin>:1:7: Unexpected\n"),
+    ("\"a\" \"b\"", "<stdin>:1:5: Unexpected\n"),
+    // trees that the grammar has, at the first part that file values do not hold yet
+    ("x(y())\n", "<stdin>:1:3: Unexpected\n"),
+    ("# a\n# é\nx = 1\n", "<stdin>:3:1: Unexpected\n"),
+    ("x(a = 1 + 2)", "<stdin>:1:7: Unexpected\n"),
+    ("x() # c", "<stdin>:1:8: Unexpected\n"),
+    ("x(a = r\"b\")", "<stdin>:1:7: Unexpected\n"),
+    ("x()\nload(\"a\", \"b\")", "<stdin>:2:1: Unexpected\n"),
 ];
 
 #[test]
