@@ -20,7 +20,7 @@ returns-in-Err g c =
 
 pub returns : goal.returns
 returns g c = inl (record {
-  taken = c.in-Ok.ensures.accepted;
+  taken = c.in-Ok.ensures.taken;
   refused = is_some c.in_ok-halt.halt;
   after = c.run.new.session;
   runs = (let P : History → Type 0 = λ h. RunsToRefusal h (actions_in c.args.steps.now) (is_some c.in_ok-halt.halt) c.run.new.session in
