@@ -204,26 +204,3 @@ pub line_fits : (xs : List Part) (statement i line left : ℕ) (d : Part) → i 
 line_fits xs statement i line left d h is at =
     let one : length (spell_part d) ≡ length (spell_part (get_or xs i d)) = ap (λ y. length (spell_part y)) is in
     omega (arith, spelled_so_far xs i d h, newlines_within (flat_map spell_part (take i xs)), at.line_is, one)
-
--- ---- worked lines: those of the text "a\n\n# c\nb; c\n"
-
-abbrev name : List ℕ → List ℕ → Part
-name gap token = p.Leaf (record { class = c.Name; gap = gap; token = token })
-
-abbrev statement_of : Part → Part
-statement_of x = p.Node (record { kind = k.Bare; parts = x ∷ [] })
-
-abbrev line_with : List Part → Part
-line_with xs = p.Node (record { kind = k.Line; parts = xs ++ p.Leaf (record { class = c.Newline; gap = []; token = codes "\n" }) ∷ [] })
-
-abbrev worked_file : Node
-worked_file =
-    record {
-      kind = k.File;
-      parts =
-          line_with (statement_of (name [] (codes "a")) ∷ []) ∷ line_with (statement_of (name (codes "\n# c\n") (codes "b")) ∷ p.Leaf (record { class = c.Mark; gap = []; token = codes ";" }) ∷ statement_of (name (codes " ") (codes "c")) ∷ []) ∷ p.Leaf (record { class = c.End; gap = []; token = [] }) ∷ [];
-    }
-
-pub worked_lines : (spell_node worked_file ≡ codes "a\n\n# c\nb; c\n") × (line_of worked_file 0 ≡ Some 1) × (line_of worked_file 1 ≡ Some 4) × (line_of worked_file 2 ≡ Some 4) × (line_of worked_file 3 ≡ None)
-unfolding Rattle.bz_tree.specs.declared.tree.Part.TheBlock.hidden-the_row-Part-0 denote.Hole.Carrier.hidden
-worked_lines = (refl, refl, refl, refl, refl)

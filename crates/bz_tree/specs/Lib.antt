@@ -8,3 +8,4 @@ pub mod States
 pub mod Faults
 pub mod Laws
 pub mod Statements
+pub mod Worked

@@ -1,5 +1,6 @@
 //! Laws of legal trees: the contract of each function is a law, and there is nothing to run.
 ghost use Rattle.bz_tree.specs.Laws.{OneTree, OneFile};
+ghost use Rattle.bz_tree.specs.Worked.{WorkedLines};
 
 use crate::tree::Tree;
 
@@ -14,4 +15,9 @@ pub fn one_tree(tree: &Tree, other: &Tree)
 /// No leaves are those of two files.
 pub fn one_file()
     ensures { OneFile }
+{}
+
+/// The lines of the statements of one small text.
+pub fn worked_lines()
+    ensures { WorkedLines }
 {}
