@@ -41,15 +41,9 @@ def joined(limit):
     return b"".join(pieces)
 
 
-def run(work, path):
-    """What the program prints, and its peak memory in bytes."""
+def told(path, *words):
     with open(path, "rb") as text:
-        child = subprocess.Popen(["bin/measure", work], stdin=text, stdout=subprocess.PIPE)
-        told = child.stdout.read().decode()
-        _, status, used = os.wait4(child.pid, 0)
-    if status != 0:
-        sys.exit("bench/reading.sh: '%s' ended with the wait status %d" % (work, status))
-    return told, used.ru_maxrss * 1024
+        return subprocess.run(["bin/measure", *words], stdin=text, stdout=subprocess.PIPE, check=True).stdout.decode()
 
 
 times = []
@@ -58,14 +52,14 @@ for limit in (2097152, 4194304):
     with open(path, "wb") as text:
         text.write(joined(limit))
     size = os.path.getsize(path)
-    told, _ = run("time", path)
-    times.append({work: int(best) / 1e9 for work, best in (line.split() for line in told.splitlines())})
+    lines = [line.split() for line in told(path, "time").splitlines()]
+    times.append({work: int(best) / 1e9 for work, best in lines})
     for work, seconds in times[-1].items():
         print("%-5s %8d bytes: %.4f s, %.1f MB/s" % (work, size, seconds, size / seconds / 1e6))
 for work in times[0]:
     print("%-5s twice the text: %.2f times the time (goal: at most 2.2, on an idle machine)"
           % (work, times[1][work] / times[0][work]))
-copied, tree = run("copy", path)[1], run("tree", path)[1]
-print("tree  %8d bytes: peak %.1f MB, of the text and a copy of it %.1f MB; so parse alone takes %.1f bytes a byte of text"
+copied, tree = (1024 * int(told(path, "peak", work)) for work in ("copy", "tree"))
+print("tree  %8d bytes: peak %.1f MB, and %.1f MB where the text is only copied; so parse alone takes %.1f bytes a byte"
       % (size, tree / 1e6, copied / 1e6, (tree - copied + size) / size))
 MEASURE

@@ -1,16 +1,17 @@
 //! Reads standard input and does one piece of work on it, for the scripts of bench/. `copy` copies the bytes, `lex` cuts
 //! the text into its tokens, `tree` makes its tree and `parse` also spells it: each prints how many bytes or tokens that
-//! gives. `time` prints the nanoseconds of the fastest of several rounds of `copy`, `lex` and `parse`. `spell` writes what
-//! the tree spells to standard output, or the fault of a text that has none to standard error.
+//! gives. `time` prints the nanoseconds of the fastest of several rounds of `copy`, `lex` and `parse`; `peak WORK` does a
+//! work once and prints how many KiB of memory the process took at most. `spell` writes what the tree spells to standard
+//! output, or the fault of a text that has none to standard error.
 #![tactic(auto)]
 
 use bz_lex::lex;
 use bz_tree::parse;
 use std::alloc::Global;
-use std::env;
 use std::io::{Read, Write};
 use std::process::ExitCode;
 use std::time::Instant;
+use std::{env, fs};
 
 /// How often `time` does a piece of work.
 const ROUNDS: u32 = 9;
@@ -84,6 +85,17 @@ fn timed(rt: &HostRuntime, bytes: &[u8]) -> Option<()> {
     Some(())
 }
 
+/// The KiB of memory that the process has taken at most, as the system tells them.
+fn peak(rt: &HostRuntime) -> Option<u64> {
+    let status = fs::read_to_string(rt, "/proc/self/status").ok()?;
+    for line in status.as_str().lines() {
+        if let Some(rest) = line.strip_prefix("VmHWM:") {
+            return rest.split_whitespace().next()?.parse().ok();
+        }
+    }
+    None
+}
+
 fn spelled(rt: &HostRuntime, bytes: &[u8]) -> Option<()> {
     match parse(rt.alloc(), bytes) {
         Ok(tree) => {
@@ -98,6 +110,12 @@ fn spelled(rt: &HostRuntime, bytes: &[u8]) -> Option<()> {
     }
 }
 
+/// Does the work that a word names once, and tells what it counts.
+fn counted(rt: &HostRuntime, word: &str, bytes: &[u8]) -> Option<usize> {
+    let mut out = Vec::new(rt.alloc());
+    Work::named(word)?.count(rt.alloc(), bytes, &mut out)
+}
+
 fn measured(rt: &HostRuntime) -> Option<()> {
     let mut words = env::args(rt).ok()?.skip(1);
     let word = words.next()?;
@@ -106,9 +124,13 @@ fn measured(rt: &HostRuntime) -> Option<()> {
     match word.as_str() {
         "time" => timed(rt, &bytes),
         "spell" => spelled(rt, &bytes),
+        "peak" => {
+            let _count = counted(rt, words.next()?.as_str(), &bytes)?;
+            let most = peak(rt)?;
+            println!(rt; "{most}").ok()
+        }
         name => {
-            let mut out = Vec::new(rt.alloc());
-            let count = Work::named(name)?.count(rt.alloc(), &bytes, &mut out)?;
+            let count = counted(rt, name, &bytes)?;
             println!(rt; "{count}").ok()
         }
     }
