@@ -274,7 +274,7 @@ static STATEMENTS: [(&str, &str); 39] = [
     ("x = 1..real", "Assign(x = Dot(1. . real))"),
     ("x = 1\r", "Assign(x = 1)"),
     // Load, Alias
-    ("load('x')", "Load(load ( 'x' ))"),
+    ("load(\"x\")", "Load(load ( \"x\" ))"),
     ("load(\"x\",)", "Load(load ( \"x\" , ))"),
     ("load('x', 'a')", "Load(load ( 'x' , 'a' ))"),
     ("load('x', 'a', 'b',)", "Load(load ( 'x' , 'a' , 'b' , ))"),

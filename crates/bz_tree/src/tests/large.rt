@@ -1,4 +1,5 @@
-//! Long texts: no length but the limit is refused, and none ends the process for want of stack.
+//! Long texts: no length but the limit is refused, and none ends the process for want of stack. They are as long as that
+//! takes, so only the built tests (`rt test`) end within a minute, not those that `rt try` runs.
 use crate::parse;
 use crate::tests::deep::repeat;
 use crate::tests::refused::told;
@@ -54,7 +55,7 @@ fn long(alloc: Global, begin: &str, piece: &str, end: &str, bytes: usize) -> Res
 #[test]
 fn long_texts_are_spelled_back(rt: HostRuntime) -> Result<(), Fail> {
     for (begin, piece, end) in &FLAT {
-        let text = long(rt.alloc(), *begin, *piece, *end, 60000)?;
+        let text = long(rt.alloc(), *begin, *piece, *end, 400000)?;
         let tree = parse(rt.alloc(), text.as_bytes())?;
         let mut spelled = Vec::new(rt.alloc());
         tree.spell_into(&mut spelled)?;
@@ -66,7 +67,7 @@ fn long_texts_are_spelled_back(rt: HostRuntime) -> Result<(), Fail> {
 #[test]
 fn long_nests_are_refused(rt: HostRuntime) -> Result<(), Fail> {
     for (begin, piece) in &NESTED {
-        let text = long(rt.alloc(), *begin, *piece, "", 200000)?;
+        let text = long(rt.alloc(), *begin, *piece, "", LIMIT - 8)?;
         assert!(rt;
             parse(rt.alloc(), text.as_bytes()).is_err(),
             "{piece} is accepted"
