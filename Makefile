@@ -1,10 +1,11 @@
 # make        proves and builds every program, leaves it in bin/, and shows a first run
 # make test   the tests: every proof from nothing, the edits that the prover must refuse, each program and each test
-# make bench  the time and the memory of a delete in a large file, and of reading one
+# make bench  the time and the memory of a delete in a large file, and of reading one; with FOLDER=.. of the BUILD files there
+# make corpus FOLDER=..   reads each BUILD file below the folder, and spells it back byte for byte
 
 PROGRAMS = bin/buildozer bin/measure
 
-.PHONY: all test bench clean show rt
+.PHONY: all test bench corpus clean show rt
 
 all: $(PROGRAMS) show
 
@@ -33,7 +34,10 @@ test: rt
 
 bench: $(PROGRAMS)
 	@bench/delete.sh
-	@bench/reading.sh
+	@bench/reading.sh $(if $(FOLDER),"$(FOLDER)")
+
+corpus: bin/measure
+	@bench/corpus.sh "$(FOLDER)"
 
 clean:
 	rm -rf bin crates/*/out

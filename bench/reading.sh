@@ -1,44 +1,65 @@
 #!/bin/sh
-# How fast a text is cut into tokens and parsed, in MB a second, beside a copy of the same bytes by the same program in
-# the same run; for 2 MB and twice as much. The goal: twice the text takes at most 2.2 times the time. Build the program
-# first (make). BEST_OF sets the runs of each (7).
+# How fast a text is copied, cut into tokens, and parsed and spelled back, in MB a second, by one run of one program; and
+# how much memory its tree takes at most while it is made. For two texts of about 2 and 4 MB: the BUILD files below a
+# folder joined, as often as it takes, or rules made here: bench/reading.sh [FOLDER]. The goal: twice the text takes at
+# most 2.2 times the time. Build the program first (make).
 set -eu
+[ $# = 0 ] || folder=$(cd "$1" && pwd)
 cd "$(dirname "$0")/.."
 [ -x bin/measure ] || { echo "bench/reading.sh: bin/measure is not there: run make first" >&2; exit 1; }
-folder=$(mktemp -d)
-trap 'rm -rf "$folder"' EXIT
+scratch=$(mktemp -d)
+trap 'rm -rf "$scratch"' EXIT
 
-rules() {
-    awk -v count="$1" 'BEGIN {
-        for (i = 1; i <= count; i++)
+if [ $# = 0 ]; then
+    folder=$scratch/made
+    mkdir "$folder"
+    awk 'BEGIN {
+        for (i = 1; i <= 1000; i++)
             printf "cc_library(\n    name = \"r%d\",\n    srcs = [\n        \"r%d.c\",\n        \"more.c\",\n    ],\n    deps = [\":base\"],\n)\n\n", i, i
-    }'
-}
-rules 18000 > "$folder/once"
-rules 36000 > "$folder/twice"
+    }' > "$folder/BUILD"
+fi
+find "$folder" -type f \( -name '*BUILD' -o -name '*BUILD.bazel' \) | sort > "$scratch/names"
 
-python3 - "$folder" "${BEST_OF:-7}" <<'MEASURE'
-import os, subprocess, sys, time
+python3 - "$scratch" <<'MEASURE'
+import os, subprocess, sys
 
-folder, best_of = sys.argv[1], int(sys.argv[2])
-
-
-def best(work, name):
-    times = []
-    for _ in range(best_of):
-        with open(name, "rb") as text:
-            start = time.perf_counter()
-            subprocess.run(["bin/measure", work], stdin=text, stdout=subprocess.DEVNULL, check=True)
-            times.append(time.perf_counter() - start)
-    return min(times)
+scratch = sys.argv[1]
+with open(os.path.join(scratch, "names")) as names:
+    files = [open(name.rstrip("\n"), "rb").read() for name in names]
+files = [text if text.endswith(b"\n") else text + b"\n" for text in files if text]
+if not files:
+    sys.exit("bench/reading.sh: there is no BUILD file below the folder")
 
 
-for work in ("copy", "lex", "parse"):
-    seconds = []
-    for name in ("once", "twice"):
-        path = os.path.join(folder, name)
-        size = os.path.getsize(path)
-        seconds.append(best(work, path))
-        print("%-5s %8d bytes: %.4f s, %.1f MB/s" % (work, size, seconds[-1], size / seconds[-1] / 1e6))
-    print("%-5s twice the text: %.2f times the time (goal: at most 2.2, on an idle machine)" % (work, seconds[1] / seconds[0]))
+def joined(limit):
+    """The files one behind the other, over and over, as long as they fit."""
+    pieces, size, at = [], 0, 0
+    while size + len(files[at % len(files)]) <= limit:
+        pieces.append(files[at % len(files)])
+        size += len(pieces[-1])
+        at += 1
+    return b"".join(pieces)
+
+
+def told(path, *words):
+    with open(path, "rb") as text:
+        return subprocess.run(["bin/measure", *words], stdin=text, stdout=subprocess.PIPE, check=True).stdout.decode()
+
+
+times = []
+for limit in (2097152, 4194304):
+    path = os.path.join(scratch, "text")
+    with open(path, "wb") as text:
+        text.write(joined(limit))
+    size = os.path.getsize(path)
+    lines = [line.split() for line in told(path, "time").splitlines()]
+    times.append({work: int(best) / 1e9 for work, best in lines})
+    for work, seconds in times[-1].items():
+        print("%-5s %8d bytes: %.4f s, %.1f MB/s" % (work, size, seconds, size / seconds / 1e6))
+for work in times[0]:
+    print("%-5s twice the text: %.2f times the time (goal: at most 2.2, on an idle machine)"
+          % (work, times[1][work] / times[0][work]))
+copied, tree = (1024 * int(told(path, "peak", work)) for work in ("copy", "tree"))
+print("tree  %8d bytes: peak %.1f MB, and %.1f MB where the text is only copied; so parse alone takes %.1f bytes a byte"
+      % (size, tree / 1e6, copied / 1e6, (tree - copied + size) / size))
 MEASURE

@@ -1,52 +1,144 @@
-//! Reads standard input and does one piece of work on it, for the scripts of bench/: `copy` copies the bytes, `lex` cuts
-//! the text into its tokens, `parse` makes its tree and spells it back. Prints how many bytes, tokens or bytes that gives.
+//! Reads standard input and does one piece of work on it, for the scripts of bench/. `copy` copies the bytes, `lex` cuts
+//! the text into its tokens, `tree` makes its tree and `parse` also spells it: each prints how many bytes or tokens that
+//! gives. `time` prints the nanoseconds of the fastest of several rounds of `copy`, `lex` and `parse`; `peak WORK` does a
+//! work once and prints how many KiB of memory the process took at most. `spell` writes what the tree spells to standard
+//! output, or the fault of a text that has none to standard error.
 #![tactic(auto)]
 
 use bz_lex::lex;
 use bz_tree::parse;
 use std::alloc::Global;
-use std::env;
-use std::io::Read;
+use std::io::{Read, Write};
 use std::process::ExitCode;
+use std::time::Instant;
+use std::{env, fs};
 
-fn copied(alloc: Global, bytes: &[u8]) -> Option<usize> {
-    let mut copy = Vec::new(alloc);
-    copy.extend_from_slice(bytes).ok()?;
-    Some(copy.len())
+/// How often `time` does a piece of work.
+const ROUNDS: u32 = 9;
+
+#[derive(Clone, Copy)]
+enum Work {
+    Copy,
+    Lex,
+    Tree,
+    Parse,
 }
 
-fn lexed(alloc: Global, bytes: &[u8]) -> Option<usize> {
-    let text = str::from_utf8(bytes).ok()?;
-    Some(lex(alloc, text).ok()?.len())
+impl Work {
+    fn named(word: &str) -> Option<Work> {
+        match word {
+            "copy" => Some(Work::Copy),
+            "lex" => Some(Work::Lex),
+            "tree" => Some(Work::Tree),
+            "parse" => Some(Work::Parse),
+            _ => None,
+        }
+    }
+
+    /// Does the work once. What it writes goes to `out`, where nobody can leave it out.
+    fn count(self, alloc: Global, bytes: &[u8], out: &mut Vec<u8>) -> Option<usize> {
+        match self {
+            Work::Copy => {
+                out.clear();
+                out.extend_from_slice(bytes).ok()?;
+                Some(out.len())
+            }
+            Work::Lex => {
+                let text = str::from_utf8(bytes).ok()?;
+                Some(lex(alloc, text).ok()?.len())
+            }
+            Work::Tree => Some(parse(alloc, bytes).ok()?.len()),
+            Work::Parse => {
+                out.clear();
+                parse(alloc, bytes).ok()?.spell_into(out).ok()?;
+                Some(out.len())
+            }
+        }
+    }
 }
 
-fn parsed(alloc: Global, bytes: &[u8]) -> Option<usize> {
-    let tree = parse(alloc, bytes).ok()?;
-    let mut spelled = Vec::new(alloc);
-    tree.spell_into(&mut spelled).ok()?;
-    Some(spelled.len())
+/// The nanoseconds of the fastest round.
+fn fastest(rt: &HostRuntime, work: Work, bytes: &[u8], out: &mut Vec<u8>) -> Option<u128> {
+    let mut best = u128::MAX;
+    for _ in 0..ROUNDS {
+        let start = Instant::now(rt).ok()?;
+        let _count = work.count(rt.alloc(), bytes, out)?;
+        best = best.min(start.elapsed(rt).ok()?.as_nanos());
+    }
+    if out.as_slice() == bytes {
+        Some(best)
+    } else {
+        None
+    }
 }
 
-fn measured(rt: &HostRuntime) -> Option<usize> {
-    let alloc = rt.alloc();
+fn timed(rt: &HostRuntime, bytes: &[u8]) -> Option<()> {
+    let mut out = Vec::new(rt.alloc());
+    for (name, work) in [
+        ("copy", Work::Copy),
+        ("lex", Work::Lex),
+        ("parse", Work::Parse),
+    ] {
+        let best = fastest(rt, work, bytes, &mut out)?;
+        println!(rt; "{name} {best}").ok()?;
+    }
+    Some(())
+}
+
+/// The KiB of memory that the process has taken at most, as the system tells them.
+fn peak(rt: &HostRuntime) -> Option<u64> {
+    let status = fs::read_to_string(rt, "/proc/self/status").ok()?;
+    for line in status.as_str().lines() {
+        if let Some(rest) = line.strip_prefix("VmHWM:") {
+            return rest.split_whitespace().next()?.parse().ok();
+        }
+    }
+    None
+}
+
+fn spelled(rt: &HostRuntime, bytes: &[u8]) -> Option<()> {
+    match parse(rt.alloc(), bytes) {
+        Ok(tree) => {
+            let mut out = Vec::new(rt.alloc());
+            tree.spell_into(&mut out).ok()?;
+            rt.stdout().write_all(out.as_slice()).ok()
+        }
+        Err(fault) => {
+            let _told = eprintln!(rt; "{fault}");
+            None
+        }
+    }
+}
+
+/// Does the work that a word names once, and tells what it counts.
+fn counted(rt: &HostRuntime, word: &str, bytes: &[u8]) -> Option<usize> {
+    let mut out = Vec::new(rt.alloc());
+    Work::named(word)?.count(rt.alloc(), bytes, &mut out)
+}
+
+fn measured(rt: &HostRuntime) -> Option<()> {
     let mut words = env::args(rt).ok()?.skip(1);
-    let work = words.next()?;
-    let mut bytes = Vec::new(alloc);
+    let word = words.next()?;
+    let mut bytes = Vec::new(rt.alloc());
     rt.stdin().read_to_end(&mut bytes).ok()?;
-    match work.as_str() {
-        "copy" => copied(alloc, &bytes),
-        "lex" => lexed(alloc, &bytes),
-        "parse" => parsed(alloc, &bytes),
-        _ => None,
+    match word.as_str() {
+        "time" => timed(rt, &bytes),
+        "spell" => spelled(rt, &bytes),
+        "peak" => {
+            let _count = counted(rt, words.next()?.as_str(), &bytes)?;
+            let most = peak(rt)?;
+            println!(rt; "{most}").ok()
+        }
+        name => {
+            let count = counted(rt, name, &bytes)?;
+            println!(rt; "{count}").ok()
+        }
     }
 }
 
 fn main(rt: HostRuntime) -> ExitCode {
     match measured(&rt) {
-        Some(count) => match println!(&rt; "{count}") {
-            Ok(()) => ExitCode::from(0),
-            Err(_) => ExitCode::from(1),
-        },
+        Some(()) => ExitCode::from(0),
         None => ExitCode::from(1),
     }
 }
