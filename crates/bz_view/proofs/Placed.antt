@@ -1,5 +1,5 @@
 -- In the view of a legal tree of the thin grammar each comment has the host that its place among the leaves gives it.
-use Rattle.std.proofs.Common.{Bool, true, false, ◌||◌, ◌&&◌, ◌≡◌, List, [], ◌∷◌, ◌++◌, ◌⊎◌, inl, inr, None, cond, refl, sym, ap, ◌∙◌, subst, append_assoc, append-nil, map}
+use Rattle.std.proofs.Common.{Bool, true, false, ◌&&◌, ◌≡◌, List, [], ◌∷◌, ◌++◌, inl, inr, None, cond, refl, sym, ap, ◌∙◌, subst, append_assoc, append-nil, map}
 use Rattle.std.specs.List.{AllByRecursion, flat_map}
 use Rattle.std.proofs.lemmas.Bool.{both_ways, and_parts, or_cases, eqb-true}
 use Rattle.std.proofs.lemmas.Grind.{flat_map-append}
@@ -27,7 +27,7 @@ use Rattle.bz_view.specs.declared.value.Item.TheVariants as i
 use Rattle.bz_view.specs.Frames.{Frame, row, sequence, frame}
 use Rattle.bz_view.specs.Gaps.{Bytes, lines_of, groups_of, all_but_last, last_group}
 use Rattle.bz_view.specs.Proper.{comments_of}
-use Rattle.bz_view.specs.Thin.{is_fresh, all_parts, are_thin, thin_part, thin_row, IsThin}
+use Rattle.bz_view.specs.Thin.{is_fresh, all_parts, are_thin, thin_part, thin_row}
 use Rattle.bz_view.specs.View.{Seen, seen, seen_row, form_in, first_gap, blocks, statement_behind, line_items, first_statement, file_items}
 use Rattle.bz_view.specs.Hosts.{Hosted, above, alone, hosted_before, hosted_at, hosted, hosted_in, HostsByPlace}
 use Rattle.bz_view.proofs.Leaves.{same_class, is_line_end, no_such, or_false, both}

@@ -1,5 +1,5 @@
 -- The view of a legal tree of the thin grammar is proper: one lemma for each row that the thin grammar has.
-use Rattle.std.proofs.Common.{Bool, true, false, ◌||◌, ◌&&◌, ◌≡◌, List, [], ◌∷◌, ◌++◌, inl, inr, None, refl, sym, ap, ◌∙◌, subst, map}
+use Rattle.std.proofs.Common.{Bool, true, false, ◌||◌, ◌≡◌, List, [], ◌∷◌, inl, inr, None, refl, sym, ap, ◌∙◌, subst, map}
 use Rattle.std.specs.Prelude.{bytes_eq}
 use Rattle.std.specs.List.{All, AllByRecursion, flat_map}
 use Rattle.std.specs.Str.{IsUtf8}
@@ -14,7 +14,6 @@ use Rattle.bz_lex.specs.declared.leaf.Leaf.{Leaf}
 use Rattle.bz_lex.specs.declared.place.Place.TheVariants.{Fresh}
 use Rattle.bz_tree.specs.declared.kind.Kind.{Kind}
 use Rattle.bz_tree.specs.declared.kind.Kind.TheVariants as k
-use Rattle.bz_tree.specs.Kinds.{kind_number}
 use Rattle.bz_tree.specs.declared.tree.Node.{Node}
 use Rattle.bz_tree.specs.declared.tree.Part.{Part, Row_of-Part, end_of-Part, more_of-Part, Node', items-the_row-Part}
 use Rattle.bz_tree.specs.declared.tree.Part.TheVariants as p

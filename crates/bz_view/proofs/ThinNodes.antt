@@ -1,11 +1,11 @@
 -- The thin grammar as the walks test it: a node by the list of its parts, and leaves as they follow each other.
-use Rattle.std.proofs.Common.{ℕ, Bool, true, not, ◌&&◌, ◌≡◌, List, [], ◌∷◌, Option, Some, None, refl, sym, ap, ◌∙◌, append-nil}
+use Rattle.std.proofs.Common.{ℕ, Bool, true, not, ◌&&◌, ◌≡◌, [], Option, Some, None, refl, sym, ap, ◌∙◌, append-nil}
 use Rattle.std.specs.Option.{is_none, IsNone}
 use Rattle.std.proofs.Math.Bool.{and-true}
 use Rattle.std.proofs.lemmas.Bool.{and_parts, and_from}
 use Rattle.bz_lex.specs.Leaves.{AreLeaves}
 use Rattle.bz_tree.specs.declared.tree.Node.{Node}
-use Rattle.bz_tree.specs.declared.tree.Part.{Part, Row_of-Part, end_of-Part, more_of-Part, items-the_row-Part}
+use Rattle.bz_tree.specs.declared.tree.Part.{Row_of-Part, end_of-Part, more_of-Part, items-the_row-Part}
 use Rattle.bz_tree.specs.declared.tree.Part.TheVariants as p
 use Rattle.bz_tree.specs.Spell.{leaves_of}
 use Rattle.bz_tree.proofs.Nested.{row_of, items_of_row}
