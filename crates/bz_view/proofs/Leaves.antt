@@ -1,4 +1,4 @@
--- The leaves of a legal tree hold lexemes, and strings without prefix.
+-- The leaves of a legal tree of the thin grammar hold lexemes and texts of characters, and strings without prefix.
 use Rattle.std.proofs.Common.{ℕ, Bool, true, false, not, ◌||◌, ◌≡◌, List, [], ◌∷◌, ◌++◌, ◌⊎◌, inl, inr, Some, refl, sym, ap, ◌∙◌}
 use Rattle.std.specs.List.{AllByRecursion}
 use Rattle.std.proofs.lemmas.Bool.{eqb-true, and_parts, false≢true}
@@ -12,9 +12,9 @@ use Rattle.bz_token.specs.Tokens.{IsToken}
 use Rattle.bz_lex.specs.declared.leaf.Leaf.{Leaf}
 use Rattle.bz_lex.specs.declared.place.Place.{Place}
 use Rattle.bz_lex.specs.Places.{next, May, first, later, inner, newline, no_newline, end, end_at_once}
-use Rattle.bz_lex.specs.Leaves.{Stand, spell_leaves}
+use Rattle.bz_lex.specs.Leaves.{Stand, spell_leaves, IsCodedLeaf, AreCoded}
 use Rattle.bz_tree.specs.Shapes.{is_class}
-use Rattle.bz_tree.specs.Legal.{is_plain, is_quoted}
+use Rattle.bz_view.specs.Thin.{is_plain, is_quoted}
 
 pub no_such : {A : Type 0} → false ≡ true → A
 no_such h = absurd (false≢true h)
@@ -26,6 +26,10 @@ pub both : {X : Type 0} (P : X → Type 0) (xs ys : List X) → AllByRecursion P
 both P [] ys h i = i
 both P (x ∷ xs) ys h i = (h.0, both P xs ys h.1 i)
 
+pub parted : {X : Type 0} (P : X → Type 0) (xs ys : List X) → AllByRecursion P (xs ++ ys) → AllByRecursion P xs × AllByRecursion P ys
+parted P [] ys h = (tt, h)
+parted P (x ∷ xs) ys h = let w = parted P xs ys h.1 in ((h.0, w.0), w.1)
+
 -- a newline or the end
 abbrev pub is_line_end : Class → Bool
 is_line_end c.Newline = true
@@ -35,6 +39,7 @@ is_line_end _ = false
 pub record Fine (l : Leaf) : Type 0 where
   pub lexed : IsLexeme l.class l.token ⊎ (is_line_end l.class ≡ true)
   pub quoted : (not (is_class l.class c.String) || is_quoted l.token) ≡ true
+  pub coded : IsCodedLeaf l
 
 lexed : (place : Place) (l : Leaf) (rest : List ℕ) → May IsToken place l rest → IsLexeme l.class l.token ⊎ (is_line_end l.class ≡ true)
 lexed place l rest (first g f t) = inl t.lexeme
@@ -45,9 +50,9 @@ lexed place l rest (no_newline unclosed g) = inr refl
 lexed place l rest (end unclosed g) = inr refl
 lexed place l rest end_at_once = inr refl
 
-pub fine_leaves : (place : Place) (ls : List Leaf) → Stand (May IsToken) place ls → Stand (λ place leaf rest. is_plain place leaf ≡ true) place ls → AllByRecursion Fine ls
-fine_leaves place [] h i = tt
-fine_leaves place (l ∷ ls) h i = (record { lexed = lexed place l (spell_leaves ls) h.0; quoted = (and_parts _ _ i.0).1 }, fine_leaves (next place l) ls h.1 i.1)
+pub fine_leaves : (place : Place) (ls : List Leaf) → Stand (May IsToken) place ls → Stand (λ place leaf rest. is_plain place leaf ≡ true) place ls → AreCoded ls → AllByRecursion Fine ls
+fine_leaves place [] h i u = tt
+fine_leaves place (l ∷ ls) h i u = (record { lexed = lexed place l (spell_leaves ls) h.0; quoted = (and_parts _ _ i.0).1; coded = u.0 }, fine_leaves (next place l) ls h.1 i.1 u.1)
 
 class_back : (a : Class) → class_of (class_number a) ≡ Some a
 class_back c.Name = refl

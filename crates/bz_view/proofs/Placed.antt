@@ -1,8 +1,7 @@
--- In the view of a legal tree each comment has the host that its place among the leaves gives it.
-use Rattle.std.proofs.Common.{zero, suc, Bool, true, false, ◌||◌, ◌&&◌, ◌≡◌, List, [], ◌∷◌, ◌++◌, ◌⊎◌, inl, inr, None, cond, refl, sym, ap, ◌∙◌, subst, append_assoc, append-nil, map}
-use Rattle.std.specs.Prelude.{nat_eq}
+-- In the view of a legal tree of the thin grammar each comment has the host that its place among the leaves gives it.
+use Rattle.std.proofs.Common.{Bool, true, false, ◌&&◌, ◌≡◌, List, [], ◌∷◌, ◌++◌, inl, inr, None, cond, refl, sym, ap, ◌∙◌, subst, append_assoc, append-nil, map}
 use Rattle.std.specs.List.{AllByRecursion, flat_map}
-use Rattle.std.proofs.lemmas.Bool.{both_ways, and_parts, eqb-true}
+use Rattle.std.proofs.lemmas.Bool.{both_ways, and_parts, or_cases, eqb-true}
 use Rattle.std.proofs.lemmas.Grind.{flat_map-append}
 use Rattle.bz_token.specs.declared.class.Class.{Class}
 use Rattle.bz_token.specs.declared.class.Class.TheVariants as c
@@ -10,17 +9,16 @@ use Rattle.bz_token.specs.Tokens.{IsToken}
 use Rattle.bz_lex.specs.declared.leaf.Leaf.{Leaf}
 use Rattle.bz_lex.specs.declared.place.Place.{Place}
 use Rattle.bz_lex.specs.declared.place.Place.TheVariants as l
-use Rattle.bz_lex.specs.Places.{next, behind, behind_newline, deeper, shallower, same_depth, is_opening, is_closing, May, end_at_once}
+use Rattle.bz_lex.specs.Places.{next, behind, behind_newline, May, end_at_once}
 use Rattle.bz_lex.specs.Leaves.{Stand}
 use Rattle.bz_tree.specs.declared.kind.Kind.{Kind}
 use Rattle.bz_tree.specs.declared.kind.Kind.TheVariants as k
-use Rattle.bz_tree.specs.Kinds.{kind_number}
 use Rattle.bz_tree.specs.declared.tree.Part.{Part, Row_of-Part, end_of-Part, more_of-Part, Node', items-the_row-Part}
 use Rattle.bz_tree.specs.declared.tree.Part.TheVariants as p
 use Rattle.bz_tree.specs.Spell.{leaves_part, leaves_row}
 use Rattle.bz_tree.specs.Shapes as s
-use Rattle.bz_tree.specs.Shapes.{Sort, Terminal, Shape, Fits, Listed, Behind, Several, shape, has_token, is_one_of, is_terminal, is_class, has_sort, has_kind, leaves_at, kinds_at}
-use Rattle.bz_tree.specs.Legal.{IsSort, LegalPart, LegalRow, is_fresh}
+use Rattle.bz_tree.specs.Shapes.{Sort, Terminal, Shape, Fits, Listed, Behind, Several, shape, has_token, is_one_of, is_terminal, has_kind, leaves_at}
+use Rattle.bz_tree.specs.Legal.{IsSort, LegalPart, LegalRow}
 use Rattle.bz_tree.proofs.Numbers.{same_kind}
 use Rattle.bz_view.specs.declared.value.Comments.{Comments}
 use Rattle.bz_view.specs.declared.value.Expr.TheVariants as e
@@ -29,9 +27,11 @@ use Rattle.bz_view.specs.declared.value.Item.TheVariants as i
 use Rattle.bz_view.specs.Frames.{Frame, row, sequence, frame}
 use Rattle.bz_view.specs.Gaps.{Bytes, lines_of, groups_of, all_but_last, last_group}
 use Rattle.bz_view.specs.Proper.{comments_of}
+use Rattle.bz_view.specs.Thin.{is_fresh, all_parts, are_thin, thin_part, thin_row}
 use Rattle.bz_view.specs.View.{Seen, seen, seen_row, form_in, first_gap, blocks, statement_behind, line_items, first_statement, file_items}
 use Rattle.bz_view.specs.Hosts.{Hosted, above, alone, hosted_before, hosted_at, hosted, hosted_in, HostsByPlace}
 use Rattle.bz_view.proofs.Leaves.{same_class, is_line_end, no_such, or_false, both}
+use Rattle.bz_view.proofs.PlainLeaves.{fresh_behind}
 use Rattle.bz_view.proofs.Seen.{seen_rows}
 
 -- ---- places
@@ -39,29 +39,9 @@ use Rattle.bz_view.proofs.Seen.{seen_rows}
 abbrev IsInner : Leaf → Type 0
 IsInner leaf = is_line_end leaf.class ≡ false
 
-deeper_not : (p : Place) → is_fresh (deeper p) ≡ false
-deeper_not (l.Inside n) = refl
-deeper_not _ = refl
-
-shallower_not : (p : Place) → is_fresh (shallower p) ≡ false
-shallower_not (l.Inside zero) = refl
-shallower_not (l.Inside (suc n)) = refl
-shallower_not _ = refl
-
-same_not : (p : Place) → is_fresh (same_depth p) ≡ false
-same_not (l.Inside n) = refl
-same_not _ = refl
-
-mark_not : (opens closes : Bool) (p : Place) → is_fresh (cond opens (deeper p) (cond closes (shallower p) (same_depth p))) ≡ false
-mark_not true closes p = deeper_not p
-mark_not false true p = shallower_not p
-mark_not false false p = same_not p
-
 class_not : (class : Class) (token : Bytes) (p : Place) → is_line_end class ≡ false → is_fresh (behind class token p) ≡ false
-class_not c.Mark token p h = mark_not (is_opening token) (is_closing token) p
 class_not c.Newline token p h = absurd (both_ways true h refl)
-class_not c.End token p h = absurd (both_ways true h refl)
-class_not _ token p h = same_not p
+class_not class token p h = fresh_behind class token p
 
 quiet_at : (p : Place) (leaf : Leaf) → is_fresh p ≡ false → hosted_at p leaf ≡ []
 quiet_at l.Fresh leaf h = absurd (both_ways true h refl)
@@ -127,26 +107,24 @@ some_shape (s.alt r r') = some_shape r && some_shape r'
 some_shape (s.each q r) = some_shape r
 some_shape _ = true
 
-abbrev inner_kinds : List Kind → Bool
-inner_kinds [] = true
-inner_kinds (kind ∷ kinds) = (inner_shape (shape kind) && some_shape (shape kind)) && inner_kinds kinds
+file_apart : (q : Sort) → has_kind q k.File ≡ false
+file_apart (s.level n) = refl
+file_apart _ = refl
 
-or_cases : (a b : Bool) → (a || b) ≡ true → (a ≡ true) ⊎ (b ≡ true)
-or_cases true b h = inl refl
-or_cases false b h = inr h
+line_apart : (q : Sort) → inner_sort q ≡ true → has_kind q k.Line ≡ false
+line_apart s.line h = no_such h
+line_apart (s.level n) h = refl
+line_apart _ h = refl
 
-kind_inner : (ks : List Kind) (kind : Kind) → inner_kinds ks ≡ true → has_kind ks kind ≡ true → (inner_shape (shape kind) && some_shape (shape kind)) ≡ true
-kind_inner [] kind h i = no_such i
-kind_inner (first ∷ others) kind h i =
-    let w = and_parts (inner_shape (shape first) && some_shape (shape first)) (inner_kinds others) h in
-    elim (or_cases (nat_eq (kind_number kind) (kind_number first)) (has_kind others kind) i) [
-      | inl f ↦ subst (λ z. (inner_shape (shape z) && some_shape (shape z)) ≡ true) (sym (same_kind kind first (eqb-true _ _ f))) w.0
-      | inr f ↦ kind_inner others kind w.1 f
-    ]
+-- A File or a Line has no sort but that of a line; every other kind has such a shape.
+kind_inner : (q : Sort) (kind : Kind) → inner_sort q ≡ true → has_kind q kind ≡ true → (inner_shape (shape kind) && some_shape (shape kind)) ≡ true
+kind_inner q k.File h i = no_such (sym (file_apart q) ∙ i)
+kind_inner q k.Line h i = no_such (sym (line_apart q h) ∙ i)
+kind_inner q _ h i = refl
 
-sort_inner : (q : Sort) → inner_sort q ≡ true → (inner_kinds (kinds_at q) ≡ true) × (all_inner (leaves_at q) ≡ true)
+sort_inner : (q : Sort) → inner_sort q ≡ true → all_inner (leaves_at q) ≡ true
 sort_inner s.line h = no_such h
-sort_inner _ h = (refl, refl)
+sort_inner _ h = refl
 
 terminal_inner : (t : Terminal) (leaf : Leaf) → ends t ≡ false → is_terminal t leaf ≡ true → IsInner leaf
 terminal_inner (s.any class) leaf h i = ap is_line_end (same_class leaf.class class i) ∙ h
@@ -241,9 +219,9 @@ legal_row m (more_of-Part x rest) h = (h.0, legal_row _ rest h.1)
 
 mutual
   know : (x : Part) → Will x
-  know (p.Leaf leaf) q i h g = leaf_known leaf (leaf_inner (leaves_at q) leaf (sort_inner q i).1 h)
+  know (p.Leaf leaf) q i h g = leaf_known leaf (leaf_inner (leaves_at q) leaf (sort_inner q i) h)
   know (Node' kind s r) q i h g =
-      let w = and_parts (inner_shape (shape kind)) (some_shape (shape kind)) (kind_inner (kinds_at q) kind (sort_inner q i).0 h) in
+      let w = and_parts (inner_shape (shape kind)) (some_shape (shape kind)) (kind_inner q kind i h) in
       let all = fits_known (shape kind) w.0 (items-the_row-Part _ r) (know_row _ r) (legal_row _ r g.1) g.0 in
       (row_inner _ r all, row_starts _ r all (λ e. fits_some (shape kind) w.1 (subst (Fits IsSort (shape kind)) e g.0)))
 
@@ -306,12 +284,15 @@ line_at x nl zs w n =
       λ h. subst (λ q. Stand (May IsToken) q zs) (after_more l.Fresh (leaves_part x) (nl ∷ []) ∙ to (after l.Fresh (leaves_part x))) (stand_behind (May IsToken) l.Fresh (leaves_part x ++ nl ∷ []) zs h),
     )
 
-line_parts : (bs : List Part) → Fits IsSort (shape k.Line) bs → Legals bs → (zs : List Leaf) → (token : Bytes) × LineTold bs zs token
-line_parts [] h g zs = absurd h
-line_parts (x ∷ []) h g zs = absurd h.1
-line_parts (x ∷ p.Leaf nl ∷ []) h g zs = (nl.token, line_at x nl zs (know x s.statement refl h.0 g.0) (same_class nl.class c.Newline (or_false _ h.1.0)))
-line_parts (x ∷ Node' kind s r ∷ []) h g zs = no_such h.1.0
-line_parts (x ∷ y ∷ z ∷ bs) h g zs = absurd h.1.1
+line_parts : (bs : List Part) → Fits IsSort (shape k.Line) bs → are_thin k.Line bs ≡ true → Legals bs → (zs : List Leaf) → (token : Bytes) × LineTold bs zs token
+line_parts [] h t g zs = no_such t
+line_parts (x ∷ []) h t g zs = no_such t
+line_parts (x ∷ p.Leaf nl ∷ []) (a, inl h) t g zs = (nl.token, line_at x nl zs (know x s.small refl a g.0) (same_class nl.class c.Newline (or_false _ h.0)))
+line_parts (x ∷ p.Leaf nl ∷ []) (a, inr (m, inl h)) t g zs = absurd h
+line_parts (x ∷ p.Leaf nl ∷ []) (a, inr (m, inr h)) t g zs = absurd h.1
+line_parts (x ∷ Node' kind sz r ∷ []) (a, inl h) t g zs = no_such h.0
+line_parts (x ∷ Node' kind sz r ∷ []) (a, inr h) t g zs = no_such h.0
+line_parts (x ∷ y ∷ z ∷ bs) h t g zs = no_such t
 
 leaves_rows : (m : _) (r : Row_of-Part m) → leaves_row r ≡ flat_map leaves_part (items-the_row-Part m r)
 leaves_rows m end_of-Part = refl
@@ -320,7 +301,7 @@ leaves_rows m (more_of-Part x rest) = ap (λ t. leaves_part x ++ t) (leaves_rows
 first_in : (bs : List Part) → Fits IsSort (shape k.Line) bs → Legals bs → (first : Leaf) × (others : List Leaf) × (flat_map leaves_part bs ≡ first ∷ others) × IsInner first
 first_in [] h g = absurd h
 first_in (x ∷ bs) h g =
-    let w = know x s.statement refl h.0 g.0 in
+    let w = know x s.small refl h.0 g.0 in
     let inner : AllByRecursion IsInner (w.1.0 ∷ w.1.1) = subst (AllByRecursion IsInner) w.1.2 w.0 in
     (w.1.0, w.1.1 ++ flat_map leaves_part bs, ap (λ t. t ++ flat_map leaves_part bs) w.1.2, inner.0)
 
@@ -329,11 +310,13 @@ abbrev OneLine : Part → List Leaf → Bytes → Type 0
 OneLine x zs token =
     (flat_map hosted_in (line_items x) ++ hosted (behind_newline token) zs ≡ hosted l.Fresh (leaves_part x ++ zs)) × (Stand (May IsToken) l.Fresh (leaves_part x ++ zs) → Stand (May IsToken) (behind_newline token) zs)
 
-line_told : (x : Part) → IsSort s.line x → LegalPart x → (zs : List Leaf) → (token : Bytes) × OneLine x zs token
-line_told (p.Leaf leaf) h g zs = no_such h
-line_told (Node' kind s r) h g zs =
-    let fits : Fits IsSort (shape k.Line) (items-the_row-Part _ r) = subst (λ kd. Fits IsSort (shape kd) (items-the_row-Part _ r)) (same_kind kind k.Line (eqb-true _ _ (or_false _ h))) g.0 in
-    let w = line_parts (items-the_row-Part _ r) fits (legal_row _ r g.1) zs in (
+line_told : (x : Part) → IsSort s.line x → LegalPart x → thin_part x ≡ true → (zs : List Leaf) → (token : Bytes) × OneLine x zs token
+line_told (p.Leaf leaf) h g t zs = no_such h
+line_told (Node' kind s r) h g t zs =
+    let e : kind ≡ k.Line = same_kind kind k.Line (eqb-true _ _ h) in
+    let fits : Fits IsSort (shape k.Line) (items-the_row-Part _ r) = subst (λ kd. Fits IsSort (shape kd) (items-the_row-Part _ r)) e g.0 in
+    let thin : are_thin k.Line (items-the_row-Part _ r) ≡ true = subst (λ kd. are_thin kd (items-the_row-Part _ r) ≡ true) e (and_parts (are_thin kind (items-the_row-Part _ r)) (thin_row r) t).0 in
+    let w = line_parts (items-the_row-Part _ r) fits thin (legal_row _ r g.1) zs in (
       w.0,
       (
         ap (λ ss. flat_map hosted_in (first_statement ss) ++ hosted (behind_newline w.0) zs) (seen_rows _ r) ∙ (w.1.0 ∙ ap (λ t. hosted l.Fresh (t ++ zs)) (sym (leaves_rows _ r))),
@@ -345,7 +328,7 @@ line_told (Node' kind s r) h g zs =
 line_first : (x : Part) → IsSort s.line x → LegalPart x → (first : Leaf) × (others : List Leaf) × (leaves_part x ≡ first ∷ others) × IsInner first
 line_first (p.Leaf leaf) h g = no_such h
 line_first (Node' kind s r) h g =
-    let fits : Fits IsSort (shape k.Line) (items-the_row-Part _ r) = subst (λ kd. Fits IsSort (shape kd) (items-the_row-Part _ r)) (same_kind kind k.Line (eqb-true _ _ (or_false _ h))) g.0 in
+    let fits : Fits IsSort (shape k.Line) (items-the_row-Part _ r) = subst (λ kd. Fits IsSort (shape kd) (items-the_row-Part _ r)) (same_kind kind k.Line (eqb-true _ _ h)) g.0 in
     let w = first_in (items-the_row-Part _ r) fits (legal_row _ r g.1) in
     (w.0, w.1, leaves_rows _ r ∙ w.2, w.3)
 
@@ -379,18 +362,19 @@ at_newline : (token : Bytes) (P : Place → Type 0) → P l.Last → P l.Fresh �
 at_newline [] P h i = h
 at_newline (b ∷ token) P h i = i
 
-from_fresh : (ps : List Part) → Lines ps → Legals ps → Stand (May IsToken) l.Fresh (flat_map leaves_part ps) → Told l.Fresh ps
-from_fresh [] h g i = absurd h
-from_fresh (p.Leaf leaf ∷ []) (inl h) g i = end_told leaf h.0
-from_fresh (Node' kind s r ∷ []) (inl h) g i = no_such h.0
-from_fresh (x ∷ y ∷ ps) (inl h) g i = absurd h.1
-from_fresh (x ∷ ps) (inr h) g i =
+from_fresh : (ps : List Part) → Lines ps → Legals ps → all_parts thin_part ps ≡ true → Stand (May IsToken) l.Fresh (flat_map leaves_part ps) → Told l.Fresh ps
+from_fresh [] h g t i = absurd h
+from_fresh (p.Leaf leaf ∷ []) (inl h) g t i = end_told leaf h.0
+from_fresh (Node' kind s r ∷ []) (inl h) g t i = no_such h.0
+from_fresh (x ∷ y ∷ ps) (inl h) g t i = absurd h.1
+from_fresh (x ∷ ps) (inr h) g t i =
     let zs = flat_map leaves_part ps in
-    let w = line_told x h.0 g.0 zs in
-    let rest : Told (behind_newline w.0) ps = at_newline w.0 (λ q. Stand (May IsToken) q zs → Told q ps) (from_last ps h.1 g.1) (from_fresh ps h.1 g.1) (w.1.1 i) in
+    let v = and_parts (thin_part x) (all_parts thin_part ps) t in
+    let w = line_told x h.0 g.0 v.0 zs in
+    let rest : Told (behind_newline w.0) ps = at_newline w.0 (λ q. Stand (May IsToken) q zs → Told q ps) (from_last ps h.1 g.1) (from_fresh ps h.1 g.1 v.1) (w.1.1 i) in
     flat_map-append hosted_in (line_items x) (file_items ps) ∙ (ap (λ t. flat_map hosted_in (line_items x) ++ t) rest ∙ w.1.0)
 
 pub hosts_by_place : HostsByPlace
-hosts_by_place n h =
-    let fits : Fits IsSort (shape k.File) n.parts = subst (λ kd. Fits IsSort (shape kd) n.parts) h.root h.shapes.0 in
-    from_fresh n.parts fits h.shapes.1 h.leaves
+hosts_by_place n h t =
+    let fits : Fits IsSort (shape k.File) n.parts = subst (λ kd. Fits IsSort (shape kd) n.parts) h.file.root h.file.shapes.0 in
+    from_fresh n.parts fits h.file.shapes.1 (and_parts (are_thin n.kind n.parts) (all_parts thin_part n.parts) t.nodes).1 h.leaves

@@ -7,3 +7,4 @@ pub mod Worked
 pub mod Thin
 pub mod Plain
 pub mod Outside
+pub mod Walks

@@ -6,9 +6,12 @@ mod expr;
 mod frame;
 mod gap;
 mod laws;
+mod plain;
+mod thin;
 mod value;
 mod viewing;
 
 pub use laws::{hosts_by_place, worked_views};
+pub use thin::first_outside;
 pub use value::{Comments, Expr, File, Form, Item, Token};
-pub use viewing::view;
+pub use viewing::{ViewFault, view};

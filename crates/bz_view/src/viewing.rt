@@ -1,17 +1,47 @@
-ghost use Rattle.std.specs.Prelude.{◌≡◌, ◌++◌, IfOk, OnOk};
+ghost use Rattle.std.specs.Prelude.{◌≡◌, ◌++◌, IfOk, IfErr, OnOk};
+ghost use Rattle.bz_view.specs.Outside.{SaysOutside};
 ghost use Rattle.bz_view.specs.View.{file_items, line_items, view_of};
 
 use crate::expr::{expr_of, gap_before};
 use crate::gap::{push_all_groups, push_groups};
+use crate::thin::first_outside;
 use crate::value::{Comments, File, Item};
 use bz_items::{Items, Memory};
 use bz_tree::{Part, Tree};
-use std::alloc::Global;
+use std::alloc::{AllocError, Global};
+use thiserror::Error;
 
-/// The file value of a tree: its statements without gaps, each comment at its host. The error: a growth was refused.
-pub fn view(alloc: Global, tree: &Tree) -> Result<File, Memory>
-    ensures { IfOk result (λ file. file ≡ view_of tree.now) }
+/// Why a tree has no file value.
+#[derive(Debug, Drop, Error)]
+pub enum ViewFault {
+    /// A growth was refused.
+    #[error("Memory")]
+    Memory,
+    /// The part that begins at this byte is outside the thin grammar.
+    #[error("Outside")]
+    Outside { at: usize },
+}
+
+impl From<AllocError> for ViewFault {
+    ghost use Rattle.std.specs.Prelude.{◌≡◌};
+    ghost use Rattle.bz_view.specs.declared.viewing.ViewFault.TheVariants as f;
+
+    ghost from_gives = { λ _ fault. fault ≡ f.Memory };
+
+    fn from(_refused: AllocError) -> ViewFault {
+        ViewFault::Memory
+    }
+}
+
+/// The file value of a tree: its statements without gaps, each comment at its host. Errors: `Outside` only where the tree
+/// is outside the thin grammar; `Memory`: a growth was refused.
+pub fn view(alloc: Global, tree: &Tree) -> Result<File, ViewFault>
+    ensures ok { IfOk result (λ file. file ≡ view_of tree.now) }
+    ensures outside { IfErr result (λ fault. SaysOutside fault tree.now) }
 {
+    if let Some(at) = first_outside(tree) {
+        return Err(ViewFault::Outside { at });
+    }
     Ok(File {
         items: items_of_lines(alloc, tree.root.parts.as_slice())?,
     })
@@ -83,6 +113,14 @@ mod tests {
         assert_eq!(rt; call.head.len(), 1);
         assert_eq!(rt; call.items.len(), 1);
         assert_eq!(rt; last.len(), 1);
+        Ok(())
+    }
+
+    #[test]
+    fn refuses_what_is_outside(rt: HostRuntime) -> Result<(), Fail> {
+        let alloc = rt.alloc();
+        let told = view(alloc, &parse(alloc, b"f()\n\nx = 1")?);
+        assert!(rt; matches!(told, Err(ViewFault::Outside { at: 5 })));
         Ok(())
     }
 }

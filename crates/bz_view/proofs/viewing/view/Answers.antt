@@ -1,8 +1,11 @@
-use Rattle.std.proofs.Common.{subst, sym, ap, ◌∙◌}
-use Rattle.bz_view.specs.View.{file_items}
+use Rattle.std.proofs.Common.{refl, subst, sym, ap, ◌∙◌}
 use Rattle.bz_view.specs.Proper.{IsProper}
+use Rattle.bz_view.specs.Thin.{IsThin}
+use Rattle.bz_view.specs.View.{file_items}
 use Rattle.bz_view.proofs.Shaped.{view_proper}
 use Rattle.bz_view.proofs.viewing.view.Goals as goal
 
 pub invariant_of-result : goal.invariant_of-result
-invariant_of-result c = subst IsProper (sym (c.in_ok-items_of_lines.ensures ∙ ap file_items c.as_slice.ensures)) (view_proper c.tree.inside.root c.tree.invariant.0)
+invariant_of-result c =
+    subst IsProper (sym (c.in_ok-items_of_lines.ensures ∙ ap file_items c.as_slice.ensures))
+    (view_proper c.tree.inside.root c.tree.invariant.0 (subst (λ tree. IsThin tree) (sym c.tree.view_is) (c.in_default.ensures.0 refl)))
