@@ -1,6 +1,6 @@
 -- Parts that stand where they may: their shapes are legal and those of the thin grammar, their leaves run from one place
 -- to another before a text, and they are no deeper than a bound.
-use Rattle.std.proofs.Common.{◌≡◌, ◌≤◌, ℕ, suc, true, not, ◌&&◌, ◌||◌, List, [], ◌∷◌, ◌++◌, refl, sym, ap, ◌∙◌, subst, arith}
+use Rattle.std.proofs.Common.{◌≡◌, ◌≤◌, ℕ, suc, true, not, ◌||◌, List, [], ◌∷◌, ◌++◌, refl, sym, ◌∙◌, subst, arith}
 use Rattle.std.specs.Prelude.{IsUtf8, nat_lt}
 use Rattle.std.specs.List.{flat_map, AllByRecursion}
 use Rattle.std.proofs.lemmas.Bool.{and_from, ltb-true}
@@ -17,17 +17,16 @@ use Rattle.bz_lex.specs.declared.place.Place.TheVariants.{Fresh, Behind, Inside,
 use Rattle.bz_lex.specs.Places.{next, May, first, later, inner}
 use Rattle.bz_lex.specs.Leaves.{spell_leaves, IsCodedLeaf}
 use Rattle.bz_tree.specs.declared.kind.Kind.{Kind}
-use Rattle.bz_tree.specs.declared.tree.Node.{Node}
-use Rattle.bz_tree.specs.declared.tree.Part.{Part, Row_of-Part, end_of-Part, more_of-Part, items-the_row-Part}
+use Rattle.bz_tree.specs.declared.tree.Part.{Part}
 use Rattle.bz_tree.specs.declared.tree.Part.TheVariants as p
 use Rattle.bz_tree.specs.Spell.{leaves_part, depth_part, deepest}
 use Rattle.bz_tree.specs.Shapes.{Fits, shape, is_class}
 use Rattle.bz_tree.specs.Legal.{IsSort, LegalPart}
-use Rattle.bz_tree.proofs.Nested.{row_of, items_of_row}
 use Rattle.bz_tree.proofs.Spells.{leaves_Node, depth_Node}
 use Rattle.bz_tree.proofs.Trees.{of_shapes}
 use Rattle.bz_view.specs.Gaps.{Bytes}
-use Rattle.bz_view.specs.Thin.{are_thin, all_parts, thin_part, thin_row, thin_node, is_plain, is_quoted}
+use Rattle.bz_view.specs.Thin.{are_thin, all_parts, thin_part, is_plain, is_quoted}
+use Rattle.bz_view.proofs.ThinNodes.{thin_Node}
 use Rattle.bz_write.proofs.Gapped.{FitsGap, coded_byte}
 use Rattle.bz_write.proofs.Runs.{Runs, Runs-append}
 
@@ -46,17 +45,6 @@ leaf_stands Over leaf rest g t q u = absurd g
 abbrev pub Separates : List ℕ → Type 0
 Separates [] = ⊥
 Separates (b ∷ s) = is_separator b ≡ true
-
--- ---- a node by its row and by its list
-
-thin_rows : (m : _) (r : Row_of-Part m) → thin_row r ≡ all_parts thin_part (items-the_row-Part m r)
-thin_rows m end_of-Part = refl
-thin_rows m (more_of-Part x rest) = ap (λ t. thin_part x && t) (thin_rows _ rest)
-
-thin_Node : (n : Node) → thin_part (p.Node n) ≡ thin_node n
-thin_Node n = ap (λ t. are_thin n.kind (items-the_row-Part _ (row_of n).1) && t) (thin_rows _ (row_of n).1) ∙ ap (λ ps. are_thin n.kind ps && all_parts thin_part ps) (items_of_row n)
-
--- ---- parts and rows
 
 pub record PartStands (depth : ℕ) (place : Place) (part : Part) (rest : List ℕ) (last : Place) : Type 0 where
   pub legal : LegalPart part
