@@ -56,7 +56,7 @@ for limit in (2097152, 4194304):
     times.append({work: int(best) / 1e9 for work, best in lines})
     for work, seconds in times[-1].items():
         print("%-5s %8d bytes: %.4f s, %.1f MB/s" % (work, size, seconds, size / seconds / 1e6))
-for work in times[0]:
+for work in ("lex", "parse"):
     print("%-5s twice the text: %.2f times the time (goal: at most 2.2, on an idle machine)"
           % (work, times[1][work] / times[0][work]))
 copied, tree = (1024 * int(told(path, "peak", work)) for work in ("copy", "tree"))
