@@ -1,19 +1,14 @@
 -- Newlines of parts, first leaves, and where a walk through the statements of a file stands.
 use Rattle.std.proofs.Common.{ℕ, zero, suc, Bool, true, false, ◌≡◌, ◌≢◌, ◌<◌, ◌≤◌, ◌+◌, ◌-◌, List, [], ◌∷◌, ◌++◌, Option, Some, None, if◌then◌else◌, cond, count_by, refl, sym, ap, ◌∙◌, subst, take, drop, length, get_or, slice_get, option_map, inl, inr, arith}
-use Rattle.std.specs.Prelude.{codes}
 use Rattle.std.specs.List.{flat_map}
 use Rattle.std.proofs.lemmas.List.{drop_more, take_more, flat_map_more, length-append}
 use Rattle.std.proofs.lemmas.List.Sums.{sum_by-append, count_by-le-length}
-use Rattle.bz_token.specs.declared.class.Class.TheVariants as c
 use Rattle.bz_lex.specs.declared.leaf.Leaf.{Leaf}
 use Rattle.bz_lex.specs.Leaves.{spell_leaves}
 use Rattle.bz_lex.specs.Positions.{is_newline}
-use Rattle.bz_tree.specs.declared.kind.Kind.TheVariants as k
-use Rattle.bz_tree.specs.declared.tree.Node.{Node}
 use Rattle.bz_tree.specs.declared.tree.Part.{Part}
-use Rattle.bz_tree.specs.declared.tree.Part.TheVariants as p
-use Rattle.bz_tree.specs.Spell.{spell_part, spell_node, leaves_part}
-use Rattle.bz_tree.specs.Statements.{is_node, parts_of, gap_of, first_gap, newlines, fronts_in, fronts, line_behind, line_of}
+use Rattle.bz_tree.specs.Spell.{spell_part, leaves_part}
+use Rattle.bz_tree.specs.Statements.{is_node, parts_of, gap_of, first_gap, newlines, fronts_in, fronts, line_behind}
 use Rattle.bz_tree.proofs.Nested.{items_of_row, leaf_or_node}
 use Rattle.bz_tree.proofs.Spells.{spell_Node, spelled_so_far, part_spelled}
 

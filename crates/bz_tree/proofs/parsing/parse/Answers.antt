@@ -1,7 +1,7 @@
 use Rattle.std.proofs.Common.{◌≤◌, length, arith}
 use Rattle.std.proofs.lemmas.Result.{err_from_is_err_and}
 use Rattle.bz_tree.specs.Spell.{limit}
-use Rattle.bz_tree.proofs.Accepts.{told_not_utf8, not_told, no_tree_so_long, no_tree_coded}
+use Rattle.bz_tree.proofs.Accepts.{told_not_utf8, not_told, no_tree_coded}
 use Rattle.bz_tree.proofs.parsing.parse.Goals as goal
 
 pub returns-in-Err-clause-not_utf8 : goal.returns-in-Err-clause-not_utf8
