@@ -18,3 +18,4 @@ pub mod Deepest
 pub mod Climbs
 pub mod Accepts
 pub mod Statements
+pub mod Alone

@@ -1,5 +1,5 @@
 -- Reading as words that do not unfold by themselves: one for each function of the parser.
-use Rattle.std.specs.Prelude.{◌≡◌, ℕ, List, [], ◌∷◌, ◌++◌, Option, Some, None, Result, Ok, Err, codes}
+use Rattle.std.specs.Prelude.{◌≡◌, ℕ, Bool, ◌&&◌, drop, List, [], ◌∷◌, ◌++◌, Option, Some, None, Result, Ok, Err, codes}
 use Rattle.bz_lex.specs.declared.leaf.Leaf.{Leaf}
 use Rattle.bz_tree.specs.declared.tree.Part.{Part}
 use Rattle.bz_tree.specs.declared.token.Token.{Token}
@@ -7,7 +7,7 @@ use Rattle.bz_tree.specs.declared.token.Token.TheVariants as t
 use Rattle.bz_tree.specs.declared.token.Halt.{Halt}
 use Rattle.bz_tree.specs.declared.token.Halt.TheVariants as h
 use Rattle.bz_tree.specs.Shapes.{Terminal, Sort, name, string, simple, newline, end, open_round, close_round, open_square, close_square, open_curly, close_curly, comma, colon, semicolon, dot, equals, assigns, stars, signs, orders, shifts, sums, products, mark, keyword, clause, line}
-use Rattle.bz_tree.specs.Reading.{Read, token_of, starts, reading, Plan, Found, follow, wrap_found, first_of, suffix}
+use Rattle.bz_tree.specs.Reading.{Read, starts_with, token_of, starts, reading, Plan, Found, follow, wrap_found, first_of, suffix}
 
 abbrev pub terminals_of : Token → List Terminal
 terminals_of t.Name = name
@@ -41,6 +41,7 @@ terminals_of t.Products = products
 terminals_of t.Clauses = starts clause
 terminals_of t.Lines = starts line
 terminals_of t.SliceStops = close_square ++ colon
+terminals_of t.Ends = comma ++ (close_round ++ (close_square ++ (close_curly ++ (colon ++ (equals ++ (semicolon ++ newline))))))
 terminals_of t.Load = keyword (codes "load")
 terminals_of t.If = keyword (codes "if")
 terminals_of t.Else = keyword (codes "else")
@@ -62,6 +63,10 @@ Fails (Err e) read = Halts e read
 -- one of these tokens
 unfoldable pub token_at : List Terminal → Read Part
 token_at terminals ts = token_of terminals ts
+
+-- a name, a number or a string, behind which an expression in which no comma binds ends
+abbrev pub is_alone : List Leaf → Bool
+is_alone ts = starts_with simple ts && starts_with (terminals_of t.Ends) (drop 1 ts)
 
 -- a part of a sort of at most that depth
 unfoldable pub part_at : ℕ → Sort → Read Part

@@ -115,7 +115,7 @@ fn part(alloc: Global, sort: Sort, depth: u32, leaves: &mut Leaves) -> Result<De
     }
     let inner = depth - 1;
     match sort {
-        Sort::Level(n) => level(alloc, n, inner, leaves),
+        Sort::Level(n) => expression(alloc, n, inner, leaves),
         Sort::Argument => argument(alloc, inner, leaves),
         Sort::Loaded => {
             if leaves.starts(Token::Name) {
@@ -180,7 +180,23 @@ fn begun(
     follow(alloc, row, state, depth, leaves)
 }
 
-/// An expression of this rank or a lower one, of which the parts are at most so deep.
+/// An expression of this rank or a lower one, of which the parts are at most so deep. Most are one leaf, for which no rank
+/// has to be looked at.
+#[cycle(parser)]
+fn expression(alloc: Global, n: u8, depth: u32, leaves: &mut Leaves) -> Result<Deep, Halt>
+    ensures ok { IfOk result (λ deep. level_at depth n leaves.old ≡ Some (deep.part, leaves.new)) }
+    ensures err { Fails result (level_at depth n leaves.old) }
+{
+    if n > 12 {
+        return level(alloc, n, depth, leaves);
+    }
+    if leaves.is_alone() {
+        return Deep::leaf(Token::Simple, leaves);
+    }
+    level(alloc, n, depth, leaves)
+}
+
+/// The same, rank by rank.
 #[cycle(parser)]
 fn level(alloc: Global, n: u8, depth: u32, leaves: &mut Leaves) -> Result<Deep, Halt>
     ensures ok { IfOk result (λ deep. level_at depth n leaves.old ≡ Some (deep.part, leaves.new)) }
@@ -253,7 +269,7 @@ fn argument(alloc: Global, depth: u32, leaves: &mut Leaves) -> Result<Deep, Halt
             leaves,
         );
     }
-    let left = level(alloc, 12, depth, leaves)?;
+    let left = expression(alloc, 12, depth, leaves)?;
     if !leaves.starts(Token::Equals) {
         return Ok(left);
     }

@@ -1,8 +1,9 @@
-ghost use Rattle.std.specs.Prelude.{◌≡◌, ◌↔◌, ◌∷◌, [], Some, None, IfOk, IsTrue};
+ghost use Rattle.std.specs.Prelude.{◌≡◌, ◌↔◌, ◌∷◌, [], drop, Some, None, IfOk, IsTrue};
 ghost use Rattle.bz_token.specs.declared.class.Class.TheVariants as c;
 ghost use Rattle.bz_tree.specs.Shapes.{this, is_class, is_terminal, is_one_of, simple, assigns, orders, products, line};
 ghost use Rattle.bz_tree.specs.Reading.{starts_with, starts};
-ghost use Rattle.bz_tree.specs.Words.{terminals_of, token_at, Fails};
+ghost use Rattle.bz_tree.specs.declared.token.Token.TheVariants as t;
+ghost use Rattle.bz_tree.specs.Words.{terminals_of, is_alone, token_at, Fails};
 
 use crate::tree::Part;
 use bz_lex::{Class, Leaf};
@@ -79,6 +80,8 @@ pub(crate) enum Token {
     Lines,
     /// `]` or `:`.
     SliceStops,
+    /// What an expression ends before, where no comma binds in it: a comma, a closing bracket, `:`, `=`, `;` or a newline.
+    Ends,
     Bar,
     Caret,
     Ampersand,
@@ -157,6 +160,19 @@ fn is_product(leaf: &Leaf) -> bool
     is_mark(leaf, b"*") || is_mark(leaf, b"/") || is_mark(leaf, b"//") || is_mark(leaf, b"%")
 }
 
+fn is_end(leaf: &Leaf) -> bool
+    ensures { result ≡ is_one_of (terminals_of t.Ends) leaf.now }
+{
+    is_mark(leaf, b",")
+        || is_mark(leaf, b")")
+        || is_mark(leaf, b"]")
+        || is_mark(leaf, b"}")
+        || is_mark(leaf, b":")
+        || is_mark(leaf, b"=")
+        || is_mark(leaf, b";")
+        || has_class(leaf, Class::Newline)
+}
+
 fn is_line(leaf: &Leaf) -> bool
     ensures { result ≡ is_one_of (starts line) leaf.now }
 {
@@ -201,6 +217,7 @@ impl Token {
             Token::Clauses => is_keyword(leaf, b"for") || is_keyword(leaf, b"if"),
             Token::Lines => is_line(leaf),
             Token::SliceStops => is_mark(leaf, b"]") || is_mark(leaf, b":"),
+            Token::Ends => is_end(leaf),
             Token::Bar => is_mark(leaf, b"|"),
             Token::Caret => is_mark(leaf, b"^"),
             Token::Ampersand => is_mark(leaf, b"&"),
@@ -274,6 +291,24 @@ impl Leaves {
             Some(leaf) => token.is(leaf),
             None => false,
         }
+    }
+
+    /// Whether the leaf behind the next one is this token.
+    #[tactic(auto, using(crate::proofs::Alone::second_starts, crate::proofs::Alone::no_second))]
+    fn goes_on(&self, token: Token) -> bool
+        ensures { result ≡ starts_with (terminals_of token) (drop 1 self.now) }
+    {
+        match self.rest.get(1) {
+            Some(leaf) => token.is(leaf),
+            None => false,
+        }
+    }
+
+    /// Whether the next leaf is a name, a number or a string, behind which an expression ends in which no comma binds.
+    pub(crate) fn is_alone(&self) -> bool
+        ensures { result ≡ is_alone self.now }
+    {
+        self.starts(Token::Simple) && self.goes_on(Token::Ends)
     }
 
     /// Keeps that a node begins at this byte which would be nested too deep if it went on with the next leaf.

@@ -2,7 +2,14 @@ use Rattle.std.proofs.Common.{Some, sym, ap, ◌∙◌, arith}
 use Rattle.bz_tree.specs.declared.tree.Part.{Part}
 use Rattle.bz_tree.proofs.Moves.{finishes, takes, takes_none, reads, reads_none, chooses_left, chooses_right, fewer_taken, fewer_read, fewer_left, fewer_right}
 use Rattle.bz_tree.proofs.Climbs.{row_same, leaves_same, carry_ok, carry_err, handed_on, inside, level_is, argument_is, entry_is, clause_is, first_clause_is, small_is, line_is, alias_is, loaded_is, part_depth, level_same, level_prefix, level_other, level_none, level_begun, begun_stays, begun_goes, begun_none, atom_round, atom_square, atom_curly, atom_leaf, primary_atom, primary_none, suffix_stops, suffix_unfit, suffix_goes, suffix_none, suffix_shorter, star_is, argument_none, argument_odd, argument_stays, argument_named}
+use Rattle.bz_tree.proofs.Alone.{alone}
 use Rattle.bz_tree.proofs.grammar.+parser.Goals as goal
+
+pub expression-returns-then-is_alone-clause-err : goal.expression-returns-then-is_alone-clause-err
+expression-returns-then-is_alone-clause-err t c = carry_err _ _ _ (alone _ _ _ (omega arith) (sym c.is_alone.ensures ∙ c.if-is_alone.true)) c.leaf.ensures.err
+
+pub expression-returns-then-is_alone-clause-ok : goal.expression-returns-then-is_alone-clause-ok
+expression-returns-then-is_alone-clause-ok t c = carry_ok _ _ _ _ (alone _ _ _ (omega arith) (sym c.is_alone.ensures ∙ c.if-is_alone.true)) c.leaf.ensures.ok
 
 pub argument-returns-clause-err : goal.argument-returns-clause-err
 argument-returns-clause-err t c = carry_err _ _ _ (argument_named _ _ _ _ (sym c.starts.ensures ∙ c.if-starts.false) c.in_ok-left.ensures.ok (sym c.is_name.ensures ∙ c.if-not-is_name.false)) c.begun.ensures.err
@@ -152,10 +159,10 @@ pub part-returns-in-FirstClause-clause-ok : goal.part-returns-in-FirstClause-cla
 part-returns-in-FirstClause-clause-ok t c = carry_ok _ _ _ _ (inside _ _ _ _ _ c.in-FirstClause.is c.if-depth-eq0.false (first_clause_is _ _ ∙ row_same _ _ _ _ _ c.new-in-FirstClause.ensures.empty)) c.follow-in-FirstClause.ensures.ok
 
 pub part-returns-in-Level-clause-err : goal.part-returns-in-Level-clause-err
-part-returns-in-Level-clause-err t c = carry_err _ _ _ (inside _ _ _ _ _ c.in-Level.is c.if-depth-eq0.false (level_is _ _ _)) c.level.ensures.err
+part-returns-in-Level-clause-err t c = carry_err _ _ _ (inside _ _ _ _ _ c.in-Level.is c.if-depth-eq0.false (level_is _ _ _)) c.expression.ensures.err
 
 pub part-returns-in-Level-clause-ok : goal.part-returns-in-Level-clause-ok
-part-returns-in-Level-clause-ok t c = carry_ok _ _ _ _ (inside _ _ _ _ _ c.in-Level.is c.if-depth-eq0.false (level_is _ _ _)) c.level.ensures.ok
+part-returns-in-Level-clause-ok t c = carry_ok _ _ _ _ (inside _ _ _ _ _ c.in-Level.is c.if-depth-eq0.false (level_is _ _ _)) c.expression.ensures.ok
 
 pub part-returns-in-Line-clause-err : goal.part-returns-in-Line-clause-err
 part-returns-in-Line-clause-err t c = carry_err _ _ _ (inside _ _ _ _ _ c.in-Line.is c.if-depth-eq0.false (line_is _ _ ∙ row_same _ _ _ _ _ c.new-in-Line.ensures.empty)) c.follow-in-Line.ensures.err

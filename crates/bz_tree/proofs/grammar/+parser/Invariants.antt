@@ -24,6 +24,9 @@ decreases-primary l = 2000 * l.depth + 4
 abbrev pub decreases-level : goal.decreases-level
 decreases-level l = 2000 * l.depth + 5 + l.n
 
+abbrev pub decreases-expression : goal.decreases-expression
+decreases-expression l = 2000 * l.depth + 6 + l.n
+
 abbrev pub decreases-argument : goal.decreases-argument
 decreases-argument l = 2000 * l.depth + 300
 
