@@ -83,7 +83,9 @@ impl Row {
         ensures part { result.part ≡ node kind self.parts.items }
         ensures depth { result.depth ≡ self.depth + 1 }
     {
-        let Row { parts, depth } = self;
+        let Row { mut parts, depth } = self;
+        // a tree lives long, and most nodes are small
+        parts.shrink_to_fit();
         Deep {
             part: Part::Node(Node {
                 kind,
