@@ -1,7 +1,7 @@
 #!/bin/sh
 # Reads each BUILD, WORKSPACE and MODULE.bazel file below a folder and spells it back: bench/corpus.sh FOLDER. Prints the
 # names of those that were refused or came back with other bytes, and how many did not; the status is 1 where any did.
-# A name may have another in front, as in zlib.BUILD or tools__BUILD. Files past 4 MiB are left out, since no text is
+# A name may have another in front or behind, as in zlib.BUILD or BUILD.tools. Files past 4 MiB are left out, since no text is
 # longer. Build the program first (make).
 set -eu
 folder=${1:?"FOLDER is missing: bench/corpus.sh FOLDER"}
@@ -11,7 +11,7 @@ scratch=$(mktemp -d)
 trap 'rm -rf "$scratch"' EXIT
 
 find "$folder" -type f ! -size +4194304c \
-    \( -name '*BUILD' -o -name '*BUILD.bazel' -o -name '*WORKSPACE*' -o -name '*MODULE.bazel' \) | sort > "$scratch/names"
+    \( -name '*BUILD' -o -name '*BUILD.*' -o -name '*WORKSPACE*' -o -name '*MODULE.bazel' \) | sort > "$scratch/names"
 accepted=0
 others=0
 while IFS= read -r name; do
