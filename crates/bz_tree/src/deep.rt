@@ -21,7 +21,7 @@ pub(crate) fn mark_part(deep: &Deep, depth: u32, leaves: &mut Leaves)
     leaves.mark_too_deep(at);
 }
 
-/// Marks the next leaf where it begins a node of this sort, which has no room, or is a leaf of it that such a node goes on with.
+/// Marks the next leaf where it begins a node of this sort, for which there is no room.
 pub(crate) fn mark_next(sort: Sort, leaves: &mut Leaves)
     ensures { leaves.new ≡ leaves.old }
 {
