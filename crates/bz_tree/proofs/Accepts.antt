@@ -18,17 +18,15 @@ use Rattle.bz_tree.specs.Legal.{IsFileOf, Legal, Reads, NoTree}
 use Rattle.bz_tree.specs.Faults.{NoFile, Refuses, IsPlace, IsOther}
 use Rattle.bz_tree.proofs.Spells.{node_spelled}
 use Rattle.bz_tree.proofs.Files.{one_file}
+use Rattle.bz_tree.proofs.Both.{leaves_legal, legal_leaves}
 
 -- ---- legal trees and their leaves
 
 -- a file of the leaves of a text of characters is a legal tree
 pub legal_of : (ls : List Leaf) (n : Node) → IsFileOf ls n → AreLeaves ls → IsUtf8 (spell_leaves ls) → Legal n
-legal_of ls n e h u = record {
-  file = e.file;
-  leaves = subst AreLeaves (sym e.leaves) h;
-  coded = subst AreCoded (sym e.leaves) (leaves_coded ls h u);
-  depth = e.depth;
-}
+legal_of ls n e h u =
+    let w = legal_leaves n e.file (subst AreLeaves (sym e.leaves) h) in
+    record { file = e.file; gaps = w.0; tokens = w.1; coded = subst AreCoded (sym e.leaves) (leaves_coded ls h u); depth = e.depth }
 
 -- a legal tree is a file of its leaves
 pub file_of_legal : (n : Node) (ls : List Leaf) → Legal n → leaves_of n ≡ ls → IsFileOf ls n
@@ -36,7 +34,7 @@ file_of_legal n ls h e = record { file = h.file; leaves = e; depth = h.depth }
 
 -- no text has two legal trees
 pub one_tree : (n m : Node) → Legal n → Legal m → spell_node n ≡ spell_node m → n ≡ m
-one_tree n m h k e = one_file n m h.file k.file (one_lexing (leaves_of n) (leaves_of m) h.leaves k.leaves (sym (node_spelled n) ∙ e ∙ node_spelled m))
+one_tree n m h k e = one_file n m h.file k.file (one_lexing (leaves_of n) (leaves_of m) (leaves_legal n h) (leaves_legal m k) (sym (node_spelled n) ∙ e ∙ node_spelled m))
 
 -- a legal tree spells a text of characters
 pub legal_coded : (n : Node) → Legal n → IsUtf8 (spell_node n)
@@ -59,10 +57,10 @@ pub reads_within : (text : List ℕ) (n : Node) → Reads text n → Legal n × 
 reads_within text n r = (r.0, rw r.1 r.2)
 
 pub no_leaves : (text : List ℕ) → NoLeaves text → NoTree text
-no_leaves text h n r = h (leaves_of n) r.0.leaves (sym (node_spelled n) ∙ r.1)
+no_leaves text h n r = h (leaves_of n) (leaves_legal n r.0) (sym (node_spelled n) ∙ r.1)
 
 pub no_file : (text : List ℕ) (ls : List Leaf) → AreLeaves ls → spell_leaves ls ≡ text → NoFile ls → NoTree text
-no_file text ls h s bad n r = bad n (file_of_legal n ls r.0 (one_lexing (leaves_of n) ls r.0.leaves h (sym (node_spelled n) ∙ r.1 ∙ sym s)))
+no_file text ls h s bad n r = bad n (file_of_legal n ls r.0 (one_lexing (leaves_of n) ls (leaves_legal n r.0) h (sym (node_spelled n) ∙ r.1 ∙ sym s)))
 
 no_tree : (text : List ℕ) (ls : List Leaf) (fault : Option ReadFault) → Told text ls fault → NoFile ls → NoTree text
 no_tree text ls None h bad = no_file text ls h.0 h.1 bad

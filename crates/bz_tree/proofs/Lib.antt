@@ -16,6 +16,9 @@ pub mod Steps
 pub mod Moves
 pub mod Deepest
 pub mod Climbs
+pub mod Flat
+pub mod Balance
+pub mod Both
 pub mod Accepts
 pub mod Statements
 pub mod Alone

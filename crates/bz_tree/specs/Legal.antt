@@ -2,13 +2,14 @@
 use Rattle.std.specs.Prelude.{◌≡◌, ℕ, ◌≤◌, true, List, length}
 use Rattle.std.specs.List.{AllByRecursion}
 use Rattle.bz_lex.specs.declared.leaf.Leaf.{Leaf}
-use Rattle.bz_lex.specs.Leaves.{AreLeaves, AreCoded}
+use Rattle.bz_lex.specs.Leaves.{AreCoded}
 use Rattle.bz_tree.specs.declared.kind.Kind.TheVariants as k
 use Rattle.bz_tree.specs.declared.tree.Node.{Node}
 use Rattle.bz_tree.specs.declared.tree.Part.{Part, Row_of-Part, end_of-Part, more_of-Part, Node', items-the_row-Part}
 use Rattle.bz_tree.specs.declared.tree.Part as p
 use Rattle.bz_tree.specs.Spell.{spell_node, leaves_of, depth_of, limit}
 use Rattle.bz_tree.specs.Shapes.{Sort, has_sort, Fits, shape}
+use Rattle.bz_tree.specs.Spots.{Begins, AtParts, Stands, AreTokens}
 
 abbrev pub IsSort : Sort → Part → Type 0
 IsSort sort part = has_sort sort part ≡ true
@@ -43,7 +44,8 @@ pub record IsFileOf (leaves_there : List Leaf) (n : Node) : Type 0 where
 -- and its depth is at most 200.
 pub record Legal (n : Node) : Type 0 where
   pub file : IsFile n
-  pub leaves : AreLeaves (leaves_of n)
+  pub gaps : AtParts Stands Begins Begins n.parts
+  pub tokens : AreTokens (leaves_of n)
   pub coded : AreCoded (leaves_of n)
   pub depth : depth_of n ≤ 200
 

@@ -1,6 +1,7 @@
 pub mod Kinds
 pub mod Spell
 pub mod Shapes
+pub mod Spots
 pub mod Legal
 pub mod Reading
 pub mod Words

@@ -11,6 +11,7 @@ use Rattle.bz_lex.specs.declared.place.Place.{Place}
 use Rattle.bz_lex.specs.declared.place.Place.TheVariants as l
 use Rattle.bz_lex.specs.Places.{next, behind, behind_newline, May, end_at_once}
 use Rattle.bz_lex.specs.Leaves.{Stand}
+use Rattle.bz_tree.proofs.Both.{leaves_legal}
 use Rattle.bz_tree.specs.declared.kind.Kind.{Kind}
 use Rattle.bz_tree.specs.declared.kind.Kind.TheVariants as k
 use Rattle.bz_tree.specs.declared.tree.Part.{Part, Row_of-Part, end_of-Part, more_of-Part, Node', items-the_row-Part}
@@ -377,4 +378,4 @@ from_fresh (x ∷ ps) (inr h) g t i =
 pub hosts_by_place : HostsByPlace
 hosts_by_place n h t =
     let fits : Fits IsSort (shape k.File) n.parts = subst (λ kd. Fits IsSort (shape kd) n.parts) h.file.root h.file.shapes.0 in
-    from_fresh n.parts fits h.file.shapes.1 (and_parts (are_thin n.kind n.parts) (all_parts thin_part n.parts) t.nodes).1 h.leaves
+    from_fresh n.parts fits h.file.shapes.1 (and_parts (are_thin n.kind n.parts) (all_parts thin_part n.parts) t.nodes).1 (leaves_legal n h)

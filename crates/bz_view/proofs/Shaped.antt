@@ -12,6 +12,7 @@ use Rattle.bz_token.specs.declared.class.Class.TheVariants as c
 use Rattle.bz_token.specs.Lexemes.{IsLexeme}
 use Rattle.bz_lex.specs.declared.leaf.Leaf.{Leaf}
 use Rattle.bz_lex.specs.declared.place.Place.TheVariants.{Fresh}
+use Rattle.bz_tree.proofs.Both.{leaves_legal}
 use Rattle.bz_tree.specs.declared.kind.Kind.{Kind}
 use Rattle.bz_tree.specs.declared.kind.Kind.TheVariants as k
 use Rattle.bz_tree.specs.declared.tree.Node.{Node}
@@ -274,4 +275,4 @@ pub view_proper : (n : Node) → Legal n → IsThin n → IsProper (view_of n)
 view_proper n h t =
     let fits : Fits IsSort (shape k.File) n.parts = subst (λ kd. Fits IsSort (shape kd) n.parts) h.file.root h.file.shapes.0 in
     let thin = (and_parts (are_thin n.kind n.parts) (all_parts thin_part n.parts) t.nodes).1 in
-    All-from_recursion IsProperItem (view_of n) (the_lines n.parts fits (good_parts n.parts h.file.shapes.1 thin (fine_leaves Fresh (leaves_of n) h.leaves t.plain h.coded)))
+    All-from_recursion IsProperItem (view_of n) (the_lines n.parts fits (good_parts n.parts h.file.shapes.1 thin (fine_leaves Fresh (leaves_of n) (leaves_legal n h) t.plain h.coded)))

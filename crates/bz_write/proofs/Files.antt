@@ -16,9 +16,10 @@ use Rattle.bz_lex.specs.Leaves.{Stand, spell_leaves, IsCodedLeaf}
 use Rattle.bz_tree.specs.declared.kind.Kind.TheVariants as k
 use Rattle.bz_tree.specs.declared.tree.Part.{Part}
 use Rattle.bz_tree.specs.declared.tree.Part.TheVariants as p
+use Rattle.bz_tree.proofs.Both.{legal_leaves}
 use Rattle.bz_tree.specs.Spell.{leaves_part, deepest, depth_of}
 use Rattle.bz_tree.specs.Shapes.{Fits, shape}
-use Rattle.bz_tree.specs.Legal.{IsSort, LegalPart, Legal}
+use Rattle.bz_tree.specs.Legal.{IsSort, LegalPart, IsFile, Legal}
 use Rattle.bz_view.specs.declared.value.Expr.{Expr}
 use Rattle.bz_view.specs.declared.value.Item.{Item}
 use Rattle.bz_view.specs.declared.value.Item.TheVariants as i
@@ -115,9 +116,12 @@ drawn_stands xs h = lines_stand xs (recursion_from_All IsProperItem xs h) [] fre
 pub drawn_legal : (xs : List Item) → IsProper xs → Legal (drawn xs)
 drawn_legal xs h =
     let lines : LinesStand (lines_from [] xs) = drawn_stands xs h in
+    let file : IsFile (drawn xs) = record { root = refl; shapes = (lines.fits, lines.legal) } in
+    let w = legal_leaves (drawn xs) file (stand_tokens at.Fresh (flat_map leaves_part (lines_from [] xs)) lines.stand) in
     record {
-      file = record { root = refl; shapes = (lines.fits, lines.legal) };
-      leaves = stand_tokens at.Fresh (flat_map leaves_part (lines_from [] xs)) lines.stand;
+      file = file;
+      gaps = w.0;
+      tokens = w.1;
       coded = stand_coded at.Fresh (flat_map leaves_part (lines_from [] xs)) lines.stand;
       depth = omega (arith, lines.depth_at_most);
     }
