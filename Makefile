@@ -5,29 +5,34 @@
 
 PROGRAMS = bin/buildozer bin/measure
 
-.PHONY: all test bench corpus clean show rt
+# what the programs are made of; a second 'make' with nothing changed does nothing
+SOURCES = crates.txt $(shell find crates -name out -prune -o -path '*/must-fail' -prune -o -type f -print)
 
-all: $(PROGRAMS) show
+.PHONY: all test bench corpus clean rt
+
+all: bin/buildozer bin/measure bin/.shown
 
 rt:
 	@command -v rt > /dev/null || { \
 	    echo "rt was not found: install a Rattle kit (rattle-kit-13b or later) and put its bin folder on the PATH." >&2; exit 1; }
 
 # 'rt run' proves and builds the program before it runs it.
-bin/buildozer: rt
+bin/buildozer: $(SOURCES) | rt
 	@mkdir -p bin
 	cd crates/buildozer && rt run -- -- delete -:middle < ../../examples/BUILD > /dev/null
 	cp crates/buildozer/out/buildozer $@
 
-bin/measure: rt
+bin/measure: $(SOURCES) | rt
 	@mkdir -p bin
 	cd crates/measure && rt run -- copy < ../../examples/BUILD > /dev/null
 	cp crates/measure/out/measure $@
 
-show: $(PROGRAMS)
+# a first run, shown once for each program that was built
+bin/.shown: bin/buildozer examples/BUILD
 	@echo; echo "examples/BUILD:"; echo; cat examples/BUILD
 	@echo; echo "bin/buildozer -- delete -:middle < examples/BUILD"; echo
 	@bin/buildozer -- delete -:middle < examples/BUILD
+	@touch $@
 
 test: rt
 	@rt ci
