@@ -6,8 +6,6 @@ mod laws;
 mod refusal;
 mod rules;
 mod running;
-#[cfg(test)]
-mod tests;
 
 pub use command::{Command, Outcome, Target, Which};
 pub use laws::{worked_bodies, worked_deletes};

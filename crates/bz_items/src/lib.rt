@@ -4,8 +4,6 @@
 #![tactic(auto)]
 
 mod items;
-#[cfg(test)]
-mod tests;
 mod text;
 
 pub use items::{Items, at};

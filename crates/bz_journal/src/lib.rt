@@ -5,8 +5,6 @@ mod action;
 mod laws;
 mod meaning;
 mod session;
-#[cfg(test)]
-mod tests;
 
 pub use action::{Action, Reply};
 pub use laws::worked_histories;

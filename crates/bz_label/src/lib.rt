@@ -13,8 +13,6 @@ mod piece;
 mod short;
 mod table;
 mod target;
-#[cfg(test)]
-mod tests;
 
 pub use key::key_cmp;
 pub use label::{Label, LabelFault, same};

@@ -10,8 +10,6 @@ mod place;
 mod position;
 mod read;
 mod source;
-#[cfg(test)]
-mod tests;
 
 pub use bz_token::Class;
 pub use fault::ReadFault;

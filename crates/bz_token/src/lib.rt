@@ -4,8 +4,6 @@
 mod class;
 mod scan;
 mod state;
-#[cfg(test)]
-mod tests;
 mod theorems;
 
 pub use class::Class;

@@ -10,8 +10,6 @@ mod row;
 mod same;
 mod state;
 mod statement;
-#[cfg(test)]
-mod tests;
 mod token;
 mod tree;
 

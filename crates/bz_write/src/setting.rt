@@ -66,38 +66,3 @@ pub fn set(alloc: Global, file: &File) -> Result<Tree, SetFault>
         },
     })
 }
-
-#[cfg(test)]
-mod tests {
-    use super::*;
-    use crate::laws::{
-        flags_keep_layout, layout_is_accepted, layout_is_shallow, layout_reads_back, worked_rows,
-    };
-    use bz_tree::parse;
-    use bz_view::view;
-    use std::test::Fail;
-
-    // a Block, a comment above a broken call, lists of two and of none, and a second statement, where memory is ample
-    #[test]
-    fn sets(rt: HostRuntime) -> Result<(), Fail> {
-        let alloc = rt.alloc();
-        let text = b"# a\n\n\n# keep\ncc_binary( name=\"y\",srcs=[\"b\",\"a\"] , deps=[ ])\nf()";
-        let file = view(alloc, &parse(alloc, text)?)?;
-        let tree = set(alloc, &file)?;
-        let mut spelled = Vec::new(alloc);
-        tree.spell_into(&mut spelled)?;
-        let layout =
-            b"# a\n\n# keep\ncc_binary(\n    name = \"y\",\n    srcs = [\n        \"b\",\n        \"a\",\n    ],\n    deps = [],\n)\n\nf()\n";
-        assert_eq!(rt; spelled.as_slice(), layout.as_slice());
-        Ok(())
-    }
-
-    #[test]
-    fn laws(_rt: HostRuntime) {
-        flags_keep_layout();
-        layout_is_accepted();
-        layout_is_shallow();
-        layout_reads_back();
-        worked_rows();
-    }
-}

@@ -1,13 +1,14 @@
-//! The worked rows of the programs, and one call on its happy path of each public function below them.
+//! What no table of cases can show (the crate cases has these): the rows that the programs were worked out by, devices
+//! that fail, and calls of the libraries that no program makes, where memory is ample.
 #![tactic(auto)]
 
 #[cfg(test)]
 mod calls;
 #[cfg(test)]
-mod delete;
+mod laws;
 #[cfg(test)]
 mod ports;
 #[cfg(test)]
-mod row;
+mod run;
 #[cfg(test)]
-mod usage;
+mod worked;

@@ -1,0 +1,54 @@
+//! A case as the questions see it.
+use bz_items::{Memory, at};
+use std::alloc::Global;
+
+/// Why a case has no answer.
+#[derive(Drop)]
+pub(crate) enum CaseFault {
+    /// A growth was refused.
+    Memory,
+    /// The sheet is not written as it should be: why.
+    Sheet(&'static str),
+}
+
+impl From<Memory> for CaseFault {
+    fn from(_refused: Memory) -> CaseFault {
+        CaseFault::Memory
+    }
+}
+
+/// The texts of a case, their escapes taken away, and the argument of its question.
+#[derive(Drop)]
+pub(crate) struct Case {
+    pub(crate) alloc: Global,
+    pub(crate) argument: Vec<u8>,
+    pub(crate) texts: Vec<Vec<u8>>,
+}
+
+/// The text of bytes that have to be UTF-8.
+pub(crate) fn text_of(bytes: &[u8]) -> Result<&str, CaseFault> {
+    match str::from_utf8(bytes) {
+        Ok(text) => Ok(text),
+        Err(_) => Err(CaseFault::Sheet("a text is not UTF-8")),
+    }
+}
+
+impl Case {
+    /// The text at this place, from 0.
+    pub(crate) fn bytes(&self, place: usize) -> Result<&[u8], CaseFault> {
+        match at(self.texts.as_slice(), place) {
+            Some(text) => Ok(text.as_slice()),
+            None => Err(CaseFault::Sheet("a text is missing")),
+        }
+    }
+
+    /// The same of a text that has to be UTF-8.
+    pub(crate) fn text(&self, place: usize) -> Result<&str, CaseFault> {
+        text_of(self.bytes(place)?)
+    }
+
+    /// The argument of the question, which has to be UTF-8.
+    pub(crate) fn argument(&self) -> Result<&str, CaseFault> {
+        text_of(self.argument.as_slice())
+    }
+}

@@ -1,0 +1,79 @@
+//! Answers cases: texts of BUILD files, labels or command lines, and what the libraries make of each. A new case is a line or
+//! two of data, and costs no proof.
+//!
+//! Standard input is a sheet of cases, which is copied to standard output with the answers put in: the file `stdin` beside
+//! `src` holds the cases, and `stdout` the same sheet with the answers that are wanted, worked out by hand, so it can be
+//! read and checked by eye alone. `rt run < stdin | diff - stdout` compares them. The beginning of a line says what it is:
+//!
+//! - nothing or `#`: a remark;
+//! - `>`: a case, with its text; the answer comes behind the last line of the case;
+//! - `&`: a further text of the case; right below a question, a text that goes with each of its cases, behind their own;
+//! - `|`: the next line of the text above;
+//! - anything else: a question, which is asked of all cases below it, up to the next one, and behind a space its argument.
+//!
+//! Behind a mark stands a space and then the text; a mark alone is an empty line. The lines of a text are joined by
+//! newlines, so that a text ends in a newline where its last line is `|` alone. What cannot be seen or written stands
+//! between two backquotes, on the sheet and in answers: `n`, `r`, `t` and `s` are a newline, a carriage return, a tab, and a
+//! space at the end of a line, `xFF` is a byte and `uFEFF` a character by their numbers in hexadecimal, `197*TEXT` the
+//! text 197 times, and nothing at all a backquote.
+//!
+//! An answer begins with `=`. Behind `!` stands a line of standard error, and behind `<` a text on standard output or a
+//! layout, written as the texts of cases are. A line that begins with `?` says why there is no answer.
+//!
+//! The questions, with what they are asked of and what is answered:
+//!
+//! | Question | Asked of | Answer |
+//! |---|---|---|
+//! | `tree` | a text | its tree, or the number and the text of its fault |
+//! | `expression` | a text of one expression | the tree, without the File, Line and Bare around it |
+//! | `statement` | a text of one line without its newline, and with one | the tree, without the File and the Line around it |
+//! | `spelling` | a text | how many bytes its tree spells, or its fault |
+//! | `accepted` | a text | whether it has a tree |
+//! | `equal` | two texts | whether their trees are equal |
+//! | `lines` | a text | the line of each statement |
+//! | `kind`, `class` | a number | the kind of node or the class of leaf that has it, and its number |
+//! | `outside` | a text | the byte at which its tree leaves the thin grammar |
+//! | `view` | a text | its file value, an item a line |
+//! | `layout` | a text | the layout of its file value |
+//! | `token` | a text | the class and the bytes of the token that it begins with |
+//! | `tokens` | a text | its tokens, or its fault |
+//! | `leaves` | a text | class, gap and token of each leaf, and the fault |
+//! | `place OFFSET` | a text | line and column of the byte at the offset |
+//! | `label PACKAGE` | a text | repository, package and name of the label that it is in the package |
+//! | `same PACKAGE` | two texts | whether they mean the same in the package |
+//! | `shorten PACKAGE` | a text | its shorter form in the package, and in a package that isn't known |
+//! | `order` | keys | whether each comes before all that stand behind it |
+//! | `target` | a text | package and rules of the target that it is |
+//! | `priority` | an attribute | where it stands in a rule |
+//! | `sorted KIND` | an attribute | whether its lists are sorted in a rule of the kind |
+//! | `labels`, `lists` | an attribute | whether its texts are labels, whether one value of it becomes a list |
+//! | `session PACKAGE` | actions, and a text | the reply to each, the place in the history, and the present text |
+//! | `buildozer WORDS` | standard input | status, standard error and standard output |
+//! | `words` | words of buildozer, and standard input | the same |
+//! | `status` | the same | the status, and on which of the two something is written |
+//!
+//! An action is `delete NAME`, `undo N` or `redo N`. Words are separated by spaces; one that is empty or holds spaces stands in double quotes.
+#![tactic(auto)]
+
+mod case;
+mod escape;
+mod labels;
+mod page;
+mod query;
+mod runs;
+mod sessions;
+mod sheet;
+mod tokens;
+mod trees;
+mod values;
+
+use anyhow::Result;
+use std::io::{Read, Write};
+
+fn main(rt: HostRuntime) -> Result<()> {
+    let mut sheet = Vec::new(rt.alloc());
+    rt.stdin().read_to_end(&mut sheet)?;
+    let page = sheet::answered(rt.alloc(), str::from_utf8(&sheet)?)?;
+    rt.stdout().write_all(page.as_bytes())?;
+    Ok(())
+}

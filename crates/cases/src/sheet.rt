@@ -1,0 +1,169 @@
+//! Sheets: remarks, questions, and the cases of each.
+use crate::case::{Case, CaseFault};
+use crate::escape::unescaped;
+use crate::page::Page;
+use crate::query::Query;
+use bz_items::Memory;
+use std::alloc::{AllocError, Global};
+
+/// What a line of a sheet is, and what stands behind its mark.
+#[derive(Clone, Copy)]
+enum Line<'a> {
+    Remark,
+    Question(&'a str),
+    Case(&'a str),
+    Further(&'a str),
+    Next(&'a str),
+}
+
+/// What stands behind a mark and a space.
+fn behind(line: &str, mark: char) -> Option<&str> {
+    let text = line.strip_prefix(mark)?;
+    Some(text.strip_prefix(' ').unwrap_or(text))
+}
+
+impl<'a> Line<'a> {
+    fn read(line: &'a str) -> Line<'a> {
+        if let Some(text) = behind(line, '>') {
+            return Line::Case(text);
+        }
+        if let Some(text) = behind(line, '&') {
+            return Line::Further(text);
+        }
+        if let Some(text) = behind(line, '|') {
+            return Line::Next(text);
+        }
+        if line.is_empty() || line.starts_with('#') {
+            return Line::Remark;
+        }
+        Line::Question(line)
+    }
+}
+
+/// To what the last text belongs.
+#[derive(Clone, Copy, PartialEq, Eq)]
+enum Owner {
+    Nothing,
+    Question,
+    Case,
+}
+
+/// A sheet that is read line by line: the question that is asked, the case that is read, and the answers so far.
+#[derive(Drop)]
+struct Reader {
+    alloc: Global,
+    query: Option<Query>,
+    argument: String,
+    // Texts that go with each case.
+    shared: Vec<String>,
+    texts: Vec<String>,
+    owner: Owner,
+    page: Page,
+}
+
+/// The sheet with its answers put in. The error: a growth was refused.
+pub(crate) fn answered(alloc: Global, sheet: &str) -> Result<Page, Memory> {
+    let mut reader = Reader {
+        alloc,
+        query: None,
+        argument: String::new(alloc),
+        shared: Vec::new(alloc),
+        texts: Vec::new(alloc),
+        owner: Owner::Nothing,
+        page: Page::new(alloc),
+    };
+    for line in sheet.lines() {
+        reader.read(line)?;
+    }
+    reader.end_case()?;
+    Ok(reader.page)
+}
+
+/// Appends a line to the last text.
+fn append_line(texts: &mut Vec<String>, line: &str) -> Result<(), Memory> {
+    if let Some(text) = texts.last_mut() {
+        text.push_str("\n")?;
+        text.push_str(line)?;
+    }
+    Ok(())
+}
+
+impl Reader {
+    fn read(&mut self, line: &str) -> Result<(), Memory> {
+        let read = Line::read(line);
+        if !matches!(read, Line::Further(_) | Line::Next(_)) {
+            self.end_case()?;
+        }
+        self.page.copy(line)?;
+        match read {
+            Line::Remark => Ok(()),
+            Line::Question(question) => self.ask(question),
+            Line::Case(text) => {
+                self.owner = Owner::Case;
+                self.begin_text(text)
+            }
+            Line::Further(text) => self.begin_text(text),
+            Line::Next(text) => self.go_on(text),
+        }
+    }
+
+    fn ask(&mut self, question: &str) -> Result<(), Memory> {
+        let (name, argument) = question.split_once(' ').unwrap_or((question, ""));
+        self.query = Query::named(name);
+        self.argument = String::from_str(self.alloc, argument)?;
+        self.shared.clear();
+        self.owner = Owner::Question;
+        Ok(())
+    }
+
+    fn begin_text(&mut self, text: &str) -> Result<(), Memory> {
+        let text = String::from_str(self.alloc, text)?;
+        match self.owner {
+            Owner::Case => self.texts.push(text)?,
+            Owner::Question => self.shared.push(text)?,
+            Owner::Nothing => self.page.line("?", b"a text of no case")?,
+        }
+        Ok(())
+    }
+
+    fn go_on(&mut self, line: &str) -> Result<(), Memory> {
+        match self.owner {
+            Owner::Case => append_line(&mut self.texts, line),
+            Owner::Question if !self.shared.is_empty() => append_line(&mut self.shared, line),
+            _ => self.page.line("?", b"a line of no text"),
+        }
+    }
+
+    /// Answers the case that is read, where one is.
+    fn end_case(&mut self) -> Result<(), Memory> {
+        let is_case = self.owner == Owner::Case;
+        self.owner = Owner::Nothing;
+        if !is_case {
+            return Ok(());
+        }
+        let answer = self.answer();
+        self.texts.clear();
+        match answer {
+            Ok(()) => Ok(()),
+            Err(CaseFault::Memory) => Err(AllocError),
+            Err(CaseFault::Sheet(why)) => self.page.line("?", why.as_bytes()),
+        }
+    }
+
+    fn answer(&mut self) -> Result<(), CaseFault> {
+        let Some(query) = self.query else {
+            return Err(CaseFault::Sheet("no such question"));
+        };
+        let mut texts = Vec::new(self.alloc);
+        for text in self.texts.iter().chain(self.shared.iter()) {
+            let text = unescaped(self.alloc, text.as_str())?;
+            texts.push(text).map_err(Memory::from)?;
+        }
+        let case = Case {
+            alloc: self.alloc,
+            argument: unescaped(self.alloc, self.argument.as_str())?,
+            texts,
+        };
+        query.answer(&case, &mut self.page)
+    }
+}

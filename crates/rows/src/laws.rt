@@ -1,0 +1,81 @@
+//! The laws: functions that do nothing, whose contracts say something of all texts, labels, trees or values. A call shows
+//! that what a law requires can be met.
+use bz_label::{Label, LabelFault, Target, TargetFault, shorten, shorten_repeat};
+use bz_tree::{ReadFault, parse};
+use std::alloc::Global;
+use std::test::Fail;
+
+#[test]
+fn laws_that_require_nothing(_rt: HostRuntime) {
+    bz_token::one_token();
+    bz_token::begins();
+    bz_token::separated();
+    bz_token::single();
+    bz_token::each_mark();
+    bz_token::each_keyword();
+    bz_token::each_number();
+    bz_token::cuts();
+    bz_token::by_characters();
+    bz_lex::laws::one_lexing();
+    bz_lex::laws::coded_leaves();
+    bz_tree::laws::one_file();
+    bz_tree::laws::worked_lines();
+    bz_label::laws::path_law();
+    bz_label::laws::key_laws();
+    bz_view::worked_views();
+    bz_view::hosts_by_place();
+    bz_write::flags_keep_layout();
+    bz_write::layout_is_accepted();
+    bz_write::layout_is_shallow();
+    bz_write::layout_reads_back();
+    bz_write::worked_rows();
+    bz_command::worked_bodies();
+    bz_command::worked_deletes();
+    bz_journal::worked_histories();
+    bz_tools::worked_words();
+}
+
+fn one_label(alloc: Global) -> Result<(), LabelFault> {
+    let one = Label::read(alloc, "p", "//a:b")?;
+    let other = Label::read(alloc, "p", "//a:b")?;
+    bz_label::laws::one_label("p", "//a:b", &one, &other);
+    Ok(())
+}
+
+fn one_target(alloc: Global) -> Result<(), TargetFault> {
+    let one = Target::read(alloc, "//a:b")?;
+    let other = Target::read(alloc, "//a:b")?;
+    bz_label::laws::one_target("//a:b", &one, &other);
+    Ok(())
+}
+
+fn one_short(alloc: Global) -> Result<(), Fail> {
+    let short = shorten(alloc, "p", "//p:x")?;
+    let short = str::from_utf8(short.as_slice())?;
+    bz_label::laws::one_short("p", "//p:x", short, short);
+    Ok(())
+}
+
+fn one_repeat(alloc: Global) -> Result<(), Fail> {
+    let short = shorten_repeat(alloc, "//a/x:x")?;
+    let short = str::from_utf8(short.as_slice())?;
+    bz_label::laws::one_repeat("//a/x:x", short, short);
+    Ok(())
+}
+
+fn one_tree(alloc: Global) -> Result<(), ReadFault> {
+    let tree = parse(alloc, b"x = [1]\n")?;
+    let other = parse(alloc, b"x = [1]\n")?;
+    bz_tree::laws::one_tree(&tree, &other);
+    Ok(())
+}
+
+#[test]
+fn laws_that_require_something(rt: HostRuntime) -> Result<(), Fail> {
+    one_label(rt.alloc())?;
+    one_target(rt.alloc())?;
+    one_short(rt.alloc())?;
+    one_repeat(rt.alloc())?;
+    one_tree(rt.alloc())?;
+    Ok(())
+}
