@@ -21,4 +21,5 @@ pub mod Balance
 pub mod Both
 pub mod Accepts
 pub mod Statements
+pub mod AllLines
 pub mod Alone
