@@ -22,4 +22,5 @@ pub mod Both
 pub mod Accepts
 pub mod Statements
 pub mod AllLines
-pub mod Alone
+pub mod Rises
+pub mod Pushed

@@ -1,23 +1,19 @@
 //! Where a text nests too deep. It is told with the fault; no clause speaks of the place.
 ghost use Rattle.std.specs.Prelude.{◌≡◌};
 
-use crate::row::Deep;
 use crate::state::{Rung, Sort, rung_at};
 use crate::token::{Leaves, Token};
 use crate::tree::Part;
 
-/// Marks where the part holds the first node that is too deep, if it may be at most so deep.
-pub(crate) fn mark_part(deep: &Deep, depth: u32, leaves: &mut Leaves)
+/// Marks where the part, right before the next leaf, holds the first node inside more than so many levels.
+pub(crate) fn mark_part(part: &Part, depth: u32, leaves: &mut Leaves)
     ensures { leaves.new ≡ leaves.old }
 {
     let levels = depth as u64;
-    if deep.depth <= levels {
-        return;
-    }
     let mut length = 0;
-    let _ = finds_deeper(&deep.part, u64::MAX, &mut length);
+    let _ = finds_deeper(part, u64::MAX, &mut length);
     let mut at = leaves.offset().saturating_sub(length);
-    let _ = finds_deeper(&deep.part, levels, &mut at);
+    let _ = finds_deeper(part, levels, &mut at);
     leaves.mark_too_deep(at);
 }
 

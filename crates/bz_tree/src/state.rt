@@ -30,6 +30,14 @@ pub(crate) const TEST: Sort = Sort::Level(12);
 
 pub(crate) const EXPR: Sort = Sort::Level(13);
 
+/// The rank of a node of a sign, and of a node of `not`.
+pub(crate) const UNARY: u8 = 1;
+
+pub(crate) const NOT: u8 = 9;
+
+/// The rank below that in which commas bind.
+pub(crate) const COMMAS: u8 = 12;
+
 /// Where the parser stands in a node: what is left to read of it.
 #[derive(Clone, Copy)]
 pub(crate) enum State {

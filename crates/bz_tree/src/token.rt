@@ -1,10 +1,12 @@
-ghost use Rattle.std.specs.Prelude.{◌≡◌, ◌↔◌, ◌∷◌, [], drop, Some, None, IfOk, IsTrue};
+ghost use Rattle.std.specs.Prelude.{◌≡◌, ◌↔◌, ◌≤◌, ◌<◌, ◌&&◌, ◌∷◌, [], ℕ, nat_le, false, Some, None, IfOk, IsTrue};
 ghost use Rattle.bz_token.specs.declared.class.Class.TheVariants as c;
 ghost use Rattle.bz_tree.specs.Shapes.{this, is_class, is_terminal, is_one_of, simple, assigns, orders, products, line};
 ghost use Rattle.bz_tree.specs.Reading.{starts_with, starts};
 ghost use Rattle.bz_tree.specs.declared.token.Token.TheVariants as t;
-ghost use Rattle.bz_tree.specs.Words.{terminals_of, is_alone, token_at, Fails};
+ghost use Rattle.bz_tree.specs.Words.{terminals_of, token_at, Fails};
+ghost use Rattle.bz_tree.specs.States.{binds_at};
 
+use crate::state::COMMAS;
 use crate::tree::Part;
 use bz_lex::{Class, Leaf};
 use std::alloc::{AllocError, AllocFailed};
@@ -293,22 +295,23 @@ impl Leaves {
         }
     }
 
-    /// Whether the leaf behind the next one is this token.
-    #[tactic(auto, using(crate::proofs::Alone::second_starts, crate::proofs::Alone::no_second))]
-    fn goes_on(&self, token: Token) -> bool
-        ensures { result ≡ starts_with (terminals_of token) (drop 1 self.now) }
+    /// Whether the next leaf is this token, and a rank is no lower than the least.
+    pub(crate) fn starts_from(&self, least: u8, rank: u8, token: Token) -> bool
+        ensures { result ≡ (nat_le least rank && starts_with (terminals_of token) self.now) }
     {
-        match self.rest.get(1) {
-            Some(leaf) => token.is(leaf),
-            None => false,
-        }
+        least <= rank && self.starts(token)
     }
 
-    /// Whether the next leaf is a name, a number or a string, behind which an expression ends in which no comma binds.
-    pub(crate) fn is_alone(&self) -> bool
-        ensures { result ≡ is_alone self.now }
+    /// The next rank, from this one on, in which the next leaf may bind as an operator.
+    pub(crate) fn next_rank(&self, rank: u8) -> u8
+        ensures above { rank ≤ result }
+        ensures passes { (j : ℕ) → rank ≤ j → j < result → binds_at j self.now ≡ false }
     {
-        self.starts(Token::Simple) && self.goes_on(Token::Ends)
+        if rank < COMMAS && self.starts(Token::Ends) {
+            COMMAS
+        } else {
+            rank
+        }
     }
 
     /// Keeps that a node begins at this byte which would be nested too deep if it went on with the next leaf.
