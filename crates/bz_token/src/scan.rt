@@ -27,6 +27,19 @@ pub fn token(text: &[u8]) -> Option<Found>
     Some(Found { class, len })
 }
 
+/// Whether a string begins here, its prefix first where it has one, that is not closed. No clause speaks of it: it chooses
+/// among the faults that are told of a text.
+pub fn opens_string(text: &[u8]) -> bool {
+    let mut state = State::Start;
+    for byte in text {
+        match state.step(*byte) {
+            None => return state.is_in_string(),
+            Some(next) => state = next,
+        }
+    }
+    state.is_in_string()
+}
+
 /// Whether an empty string ends in this state and a third mark is next.
 fn before_third(state: State, rest: &[u8]) -> bool
     ensures { result ≡ before_third state rest.now }

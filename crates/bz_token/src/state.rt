@@ -99,6 +99,21 @@ impl State {
         self.class().is_some()
     }
 
+    /// Whether a string was begun that is not closed here.
+    pub fn is_in_string(self) -> bool {
+        matches!(
+            self,
+            State::Opened(_)
+                | State::Short(_)
+                | State::ShortTaken(_)
+                | State::ShortReturn(_)
+                | State::Long(_)
+                | State::LongOne(_)
+                | State::LongTwo(_)
+                | State::LongTaken(_)
+        )
+    }
+
     /// The state behind one more byte; `None` where no lexeme goes on with it.
     pub fn step(self, byte: u8) -> Option<State>
         ensures { result ≡ move self byte }

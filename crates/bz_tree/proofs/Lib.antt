@@ -24,3 +24,4 @@ pub mod Statements
 pub mod AllLines
 pub mod Rises
 pub mod Pushed
+pub mod Cutting

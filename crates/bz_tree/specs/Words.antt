@@ -1,5 +1,6 @@
 -- Reading as words that do not unfold by themselves: one for each function of the parser.
 use Rattle.std.specs.Prelude.{◌≡◌, ℕ, List, [], ◌∷◌, ◌++◌, Option, Some, None, Result, Ok, Err, codes}
+use Rattle.bz_token.specs.declared.class.Class.{Class}
 use Rattle.bz_lex.specs.declared.leaf.Leaf.{Leaf}
 use Rattle.bz_tree.specs.declared.tree.Part.{Part}
 use Rattle.bz_tree.specs.declared.token.Token.{Token}
@@ -51,6 +52,10 @@ terminals_of t.And = keyword (codes "and")
 terminals_of t.Not = keyword (codes "not")
 terminals_of t.In = keyword (codes "in")
 terminals_of t.For = keyword (codes "for")
+
+-- a token without its gap, which no terminal asks for
+abbrev pub bare : Class → List ℕ → Leaf
+bare class token = record { class = class; gap = []; token = token }
 
 -- what a halt says of what was to be read: nothing where memory was refused
 abbrev pub Halts : {X : Type 0} → Halt → Option X → Type 0

@@ -62,7 +62,7 @@ impl Stack {
         ensures { (x : Part) → slice_get self.now at ≡ Some x → result ≡ has_token name x }
     {
         match self.parts.get(at) {
-            Some(Part::Leaf(leaf)) => Token::Name.is(leaf),
+            Some(Part::Leaf(leaf)) => Token::Name.is(leaf.class, leaf.token.as_slice()),
             _ => false,
         }
     }
