@@ -11,16 +11,14 @@ ghost use Rattle.bz_tree.specs.declared.tree.Part.{Part};
 
 use crate::deep::{goes_on, mark_next, mark_part};
 use crate::kind::Kind;
+use crate::limits::DEPTH_LIMIT;
 use crate::row::{Stack, deeper};
-use crate::state::{Move, NOT, Rung, Sort, State, TEST, UNARY, rung_at};
+use crate::state::{COMMAS, Move, NOT, Rung, Sort, State, TEST, UNARY, rung_at};
 use crate::token::{Halt, Leaves, Token};
 use crate::tree::{Node, Part};
 use std::alloc::Global;
 
-/// How deep the parts of a file may be.
-const DEPTH: u32 = 199;
-
-/// The leaves as a file at most 200 nodes deep.
+/// The leaves as a file within the limit of depth.
 ///
 /// Errors: `Unexpected` where no such file has these leaves; `Memory` where a growth was refused.
 #[tactic(auto, using(crate::proofs::Files::file_read, crate::proofs::Files::no_file))]
@@ -28,16 +26,17 @@ pub fn file(alloc: Global, leaves: &mut Leaves) -> Result<Node, Halt>
     ensures ok { IfOk result (λ file. IsFileOf leaves.old file) }
     ensures err { (result ≡ Err h.Unexpected) → (file : Node) → IsFileOf leaves.old file → ⊥ }
 {
-    whole(alloc, leaves)
+    whole(alloc, DEPTH_LIMIT - 1, leaves)
 }
 
-/// All leaves as a file.
-fn whole(alloc: Global, leaves: &mut Leaves) -> Result<Node, Halt>
-    ensures ok { IfOk result (λ file. read_file 199 leaves.old ≡ Some file) }
-    ensures err { Fails result (read_file 199 leaves.old) }
+/// All leaves as a file of which the parts are at most so deep.
+pub fn whole(alloc: Global, depth: u32, leaves: &mut Leaves) -> Result<Node, Halt>
+    requires { depth < 1000 }
+    ensures ok { IfOk result (λ file. read_file depth leaves.old ≡ Some file) }
+    ensures err { Fails result (read_file depth leaves.old) }
 {
     let mut stack = Stack::new(alloc);
-    let _deep = begin(State::Lines, DEPTH, &mut stack, leaves)?;
+    let _deep = begin(State::Lines, depth, &mut stack, leaves)?;
     let part = stack.into_only()?;
     match part {
         Part::Leaf(_) => Err(Halt::Unexpected),
@@ -64,7 +63,7 @@ fn follow(
     requires from { from ≤ length stack.old }
     requires deep { deep ≡ deepest (drop from stack.old) }
     requires within { deep ≤ depth }
-    requires small { depth < 200 }
+    requires small { depth < 1000 }
     ensures ok { IfOk result (λ deep. Pushes (found_at depth (drop from stack.old) state leaves.old) (take from stack.old) stack.new leaves.new deep) }
     ensures err { Fails result (found_at depth (drop from stack.old) state leaves.old) }
 {
@@ -94,7 +93,7 @@ fn follow(
 /// A node from its first part on.
 #[cycle(parser)]
 fn begin(state: State, depth: u32, stack: &mut Stack, leaves: &mut Leaves) -> Result<u32, Halt>
-    requires small { depth < 200 }
+    requires small { depth < 1000 }
     ensures ok { IfOk result (λ deep. Pushes (found_at depth [] state leaves.old) stack.old stack.new leaves.new deep) }
     ensures err { Fails result (found_at depth [] state leaves.old) }
 {
@@ -114,7 +113,7 @@ fn go_on(
 ) -> Result<u32, Halt>
     requires from { from ≤ length stack.old }
     requires deep { deep ≡ deepest (drop from stack.old) }
-    requires small { depth < 200 }
+    requires small { depth < 1000 }
     ensures ok { IfOk result (λ after. Pushes (fitted_at depth deep (drop from stack.old) state leaves.old) (take from stack.old) stack.new leaves.new after) }
     ensures err { Fails result (fitted_at depth deep (drop from stack.old) state leaves.old) }
 {
@@ -130,7 +129,7 @@ fn go_on(
 /// A part of this sort that is at most so deep. Tells how deep it is.
 #[cycle(parser)]
 fn part(sort: Sort, depth: u32, stack: &mut Stack, leaves: &mut Leaves) -> Result<u32, Halt>
-    requires small { depth < 200 }
+    requires small { depth < 1000 }
     ensures ok { IfOk result (λ deep. Pushes (part_at depth (sort_of sort) leaves.old) stack.old stack.new leaves.new deep) }
     ensures err { Fails result (part_at depth (sort_of sort) leaves.old) }
 {
@@ -184,7 +183,7 @@ fn leaf_of(sort: Sort, stack: &mut Stack, leaves: &mut Leaves) -> Result<u32, Ha
 /// operators behind it, from those that bind tightest on.
 #[cycle(parser)]
 fn expression(n: u8, depth: u32, stack: &mut Stack, leaves: &mut Leaves) -> Result<u32, Halt>
-    requires small { depth < 200 }
+    requires small { depth < 1000 }
     ensures ok { IfOk result (λ deep. Pushes (level_at depth n leaves.old) stack.old stack.new leaves.new deep) }
     ensures err { Fails result (level_at depth n leaves.old) }
 {
@@ -209,7 +208,7 @@ struct Begun {
 /// What an expression of this rank begins with: the node of `not` or of a sign, or a primary.
 #[cycle(parser)]
 fn operand(n: u8, depth: u32, stack: &mut Stack, leaves: &mut Leaves) -> Result<Begun, Halt>
-    requires small { depth < 200 }
+    requires small { depth < 1000 }
     ensures ok { IfOk result (λ first. Rises depth first.rank n leaves.old leaves.new stack.old stack.new first.deep) }
     ensures err { Fails result (level_at depth n leaves.old) }
 {
@@ -239,7 +238,7 @@ fn raised(
 ) -> Result<u32, Halt>
     requires from { from ≤ length stack.old }
     requires deep { deep ≡ deepest (drop from stack.old) }
-    requires small { depth < 200 }
+    requires small { depth < 1000 }
     ensures ok { (a : Part) → drop from stack.old ≡ a ∷ [] → IfOk result (λ after. Pushes (bound_at depth rank a leaves.old) (take from stack.old) stack.new leaves.new after) }
     ensures err { (a : Part) → drop from stack.old ≡ a ∷ [] → Fails result (bound_at depth rank a leaves.old) }
 {
@@ -259,7 +258,7 @@ fn raised(
 /// A name, a number, a string or what stands in brackets, and what stands behind it.
 #[cycle(parser)]
 fn primary(depth: u32, stack: &mut Stack, leaves: &mut Leaves) -> Result<u32, Halt>
-    requires small { depth < 200 }
+    requires small { depth < 1000 }
     ensures ok { IfOk result (λ deep. Pushes (level_at depth 0 leaves.old) stack.old stack.new leaves.new deep) }
     ensures err { Fails result (level_at depth 0 leaves.old) }
 {
@@ -274,7 +273,7 @@ fn primary(depth: u32, stack: &mut Stack, leaves: &mut Leaves) -> Result<u32, Ha
 /// A name, a number, a string or what stands in brackets.
 #[cycle(parser)]
 fn atom(depth: u32, stack: &mut Stack, leaves: &mut Leaves) -> Result<u32, Halt>
-    requires small { depth < 200 }
+    requires small { depth < 1000 }
     ensures ok { IfOk result (λ deep. Pushes (atom_at depth leaves.old) stack.old stack.new leaves.new deep) }
     ensures err { Fails result (atom_at depth leaves.old) }
 {
@@ -292,7 +291,7 @@ fn atom(depth: u32, stack: &mut Stack, leaves: &mut Leaves) -> Result<u32, Halt>
 /// An argument of a call.
 #[cycle(parser)]
 fn argument(depth: u32, stack: &mut Stack, leaves: &mut Leaves) -> Result<u32, Halt>
-    requires small { depth < 200 }
+    requires small { depth < 1000 }
     ensures ok { IfOk result (λ deep. Pushes (argument_at depth leaves.old) stack.old stack.new leaves.new deep) }
     ensures err { Fails result (argument_at depth leaves.old) }
 {
@@ -301,7 +300,7 @@ fn argument(depth: u32, stack: &mut Stack, leaves: &mut Leaves) -> Result<u32, H
         return begin(star, depth, stack, leaves);
     }
     let from = stack.len();
-    let deep = expression(12, depth, stack, leaves)?;
+    let deep = expression(COMMAS, depth, stack, leaves)?;
     if !leaves.starts(Token::Equals) {
         return Ok(deep);
     }

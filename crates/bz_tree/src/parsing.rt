@@ -6,15 +6,14 @@ ghost use Rattle.bz_tree.specs.Legal.{Reads, NoTree};
 ghost use Rattle.bz_tree.specs.Spell.{limit};
 ghost use Rattle.bz_tree.specs.Faults.{IsOfText, IsOther};
 
-use crate::grammar::file;
+use crate::deep::deeper_at;
+use crate::grammar::{file, whole};
+use crate::limits::{DEPTH_LIMIT, LENGTH_LIMIT};
 use crate::token::{Halt, Leaves};
 use crate::tree::Tree;
 use bz_lex::{ReadFault, fault_at, place_of};
 use std::alloc::Global;
 use std::str::from_utf8;
-
-/// The most bytes that a text may have.
-const LIMIT: usize = 4194304;
 
 /// Reads a text as the legal tree that spells it.
 ///
@@ -27,7 +26,7 @@ pub fn parse(alloc: Global, text: &[u8]) -> Result<Tree, ReadFault>
     ensures not_utf8 { (at : ℕ) → ((result ≡ Err (ReadFault.NotUtf8 at)) ↔ ((length text.now ≤ limit) × IsValidUpTo text.now at)) }
     ensures refused { IfErr result (λ fault. IsOfText fault → NoTree text.now) }
 {
-    if text.len() > LIMIT {
+    if text.len() > LENGTH_LIMIT {
         return Err(ReadFault::TooLarge);
     }
     if let Err(fault) = from_utf8(text) {
@@ -50,20 +49,37 @@ fn tree_of(alloc: Global, text: &[u8]) -> Result<Tree, ReadFault>
     match file(alloc, &mut leaves) {
         Ok(root) => Ok(Tree { root }),
         Err(Halt::Memory) => Err(ReadFault::Memory),
-        Err(Halt::Unexpected) => Err(fault_before(text, &leaves)),
+        Err(Halt::Unexpected) => Err(fault_before(alloc, text, &leaves)),
     }
 }
 
 /// The fault for which no file goes on with the next of these leaves of a text.
-fn fault_before(text: &[u8], leaves: &Leaves) -> ReadFault
+fn fault_before(alloc: Global, text: &[u8], leaves: &Leaves) -> ReadFault
+    requires { length text.now ≤ limit }
     ensures { IsOther result }
 {
     match leaves.too_deep_at() {
-        Some(at) => too_deep(text, at),
+        Some(at) => match first_too_deep(alloc, text) {
+            Ok(first) => too_deep(text, first.unwrap_or(at)),
+            Err(_) => ReadFault::Memory,
+        },
         None => {
             let stop = leaves.stopped_at(text);
             fault_at(text, stop.at, stop.reason)
         }
+    }
+}
+
+/// The byte at which the first node begins that is too deep, where the text is a file of at most twice the depth. What
+/// stands behind a node may put it deeper, so the whole text decides. The error, `Memory` alone: a growth was refused.
+fn first_too_deep(alloc: Global, text: &[u8]) -> Result<Option<usize>, Halt>
+    requires { length text.now ≤ limit }
+{
+    let mut leaves = Leaves::new(alloc, text);
+    match whole(alloc, 2 * DEPTH_LIMIT, &mut leaves) {
+        Ok(file) => Ok(deeper_at(&file, DEPTH_LIMIT)),
+        Err(Halt::Memory) => Err(Halt::Memory),
+        Err(Halt::Unexpected) => Ok(None),
     }
 }
 
