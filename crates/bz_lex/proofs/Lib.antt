@@ -7,3 +7,5 @@ pub mod Characters
 pub mod Lists
 pub mod Lexing
 pub mod Coded
+pub mod Deciding
+pub mod Coming

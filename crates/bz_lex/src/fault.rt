@@ -2,7 +2,7 @@ use std::alloc::AllocError;
 use thiserror::Error;
 
 /// Why a text is not accepted. Lines and columns count from 1, columns in characters.
-#[derive(Debug, Drop, Error)]
+#[derive(Debug, PartialEq, Eq, Drop, Error)]
 pub enum ReadFault {
     /// The bytes are not UTF-8; `at` is the length of the longest beginning that is.
     #[error("NotUtf8 at {at}")]

@@ -1,13 +1,15 @@
-ghost use Rattle.std.specs.Prelude.{◌≡◌, ℕ, ◌≤◌, length, drop, MatchOption, MatchResult, nat_eq, ◌||◌, IfErr, true, false};
+ghost use Rattle.std.specs.Prelude.{◌≡◌, ℕ, ◌≤◌, ◌+◌, IfOk, length, drop, MatchOption, MatchResult, nat_eq, ◌||◌, IfErr, true, false};
 ghost use Rattle.bz_token.specs.Tokens.{NoToken, TokenAt};
-ghost use Rattle.bz_lex.specs.Fronts.{IsGapFront, IsLexemeFront, TellsFront};
+ghost use Rattle.bz_lex.specs.Fronts.{IsGapFront, IsLexemeFront, TellsFront, front_leaf, front_token, behind_front};
 ghost use Rattle.bz_lex.specs.Gaps.{IsGap, is_flush};
 ghost use Rattle.bz_lex.specs.Lexing.{NoLexemes};
 
 use crate::gap::{GapFront, gap_front};
+use crate::leaf::Leaf;
 use crate::place::Place;
-use bz_items::at;
-use bz_token::{Class, token};
+use bz_items::{Text, at};
+use bz_token::{Class, opens_string, token};
+use std::alloc::{AllocError, Global};
 
 /// The leaf at the front of a text: its class, and how long its gap and its token are.
 #[derive(Clone, Copy)]
@@ -22,6 +24,36 @@ impl Front {
         ensures { result ≡ record { class = class; gap = gap; token = token } }
     {
         Front { class, gap, token }
+    }
+
+    /// The leaf, cut off the text. The error: a growth was refused.
+    pub fn leaf(self, alloc: Global, text: &[u8]) -> Result<Leaf, AllocError>
+        requires { self.gap + self.token ≤ length text.now }
+        ensures { IfOk result (λ leaf. leaf ≡ front_leaf self text.now) }
+    {
+        let (gap, behind_gap) = text.split_at(self.gap);
+        let (token, _) = behind_gap.split_at(self.token);
+        Ok(Leaf {
+            class: self.class,
+            gap: Text::from_slice(alloc, gap)?,
+            token: Text::from_slice(alloc, token)?,
+        })
+    }
+
+    /// The token of the leaf.
+    pub fn token_of(self, text: &[u8]) -> &[u8]
+        requires { self.gap + self.token ≤ length text.now }
+        ensures { result.now ≡ front_token self text.now }
+    {
+        text.split_at(self.gap).1.split_at(self.token).0
+    }
+
+    /// What stands behind the leaf.
+    pub fn rest_of(self, text: &[u8]) -> &[u8]
+        requires { self.gap + self.token ≤ length text.now }
+        ensures { result.now ≡ behind_front self text.now }
+    {
+        text.split_at(self.gap).1.split_at(self.token).1
     }
 }
 
@@ -80,7 +112,19 @@ fn fresh(text: &[u8], gap: GapFront) -> Result<Front, Stop>
     if is_flush(&text[..gap.length]) {
         Ok(found)
     } else {
-        Err(Stop::new(Reason::Indented, gap.length))
+        Err(indented(text, gap.length))
+    }
+}
+
+/// Why no leaf stands behind a gap of this length that ends in a blank: a string that is not closed is told first.
+fn indented(text: &[u8], gap: usize) -> Stop
+    requires { gap ≤ length text.now }
+    ensures { result.at ≡ gap }
+{
+    if opens_string(&text[gap..]) {
+        Stop::new(Reason::OpenString, gap)
+    } else {
+        Stop::new(Reason::Indented, gap)
     }
 }
 
@@ -148,23 +192,9 @@ fn token_front(text: &[u8], gap: usize) -> Result<Front, Stop>
     let behind = &text[gap..];
     match token(behind) {
         Some(found) => Ok(Front::new(found.class, gap, found.len)),
-        None if begins_string(behind) => Err(Stop::new(Reason::OpenString, gap)),
+        None if opens_string(behind) => Err(Stop::new(Reason::OpenString, gap)),
         None => Err(Stop::new(Reason::BadCharacter, gap)),
     }
-}
-
-/// Whether a string begins here, closed or not.
-fn begins_string(text: &[u8]) -> bool {
-    let quoted = match text {
-        [b'r', b'b', rest @ ..] | [b'b', b'r', rest @ ..] | [b'r' | b'b', rest @ ..] => rest,
-        _ => text,
-    };
-    matches!(quoted, [b'"' | b'\'', ..])
-}
-
-/// Whether a token is a string's prefix, read as a name.
-pub fn is_prefix(token: &[u8]) -> bool {
-    matches!(token, [b'r' | b'b'] | [b'r', b'b'] | [b'b', b'r'])
 }
 
 /// Whether the byte right before what follows is neither a space nor a tab.

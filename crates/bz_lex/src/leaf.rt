@@ -5,7 +5,7 @@ use bz_token::Class;
 use std::alloc::AllocError;
 
 /// A token with the gap before it: spaces, newlines and comments.
-#[derive(Drop)]
+#[derive(Debug, Drop)]
 pub struct Leaf {
     pub class: Class,
     pub gap: Text,

@@ -13,7 +13,9 @@ mod source;
 
 pub use bz_token::Class;
 pub use fault::ReadFault;
+pub use front::{Front, Reason, Stop, leaf_front};
 pub use leaf::Leaf;
+pub use place::Place;
 pub use position::place_of;
-pub use read::{Reading, read_leaves};
+pub use read::{Reading, fault_at, read_leaves};
 pub use source::lex;

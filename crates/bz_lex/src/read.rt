@@ -1,14 +1,14 @@
 ghost use Rattle.std.specs.Prelude.{◌≡◌, ◌≤◌, ◌+◌, IfOk, IfSome, IsSome, MatchOption, length, true};
 ghost use Rattle.bz_lex.specs.Faults.{is_of_leaves};
-ghost use Rattle.bz_lex.specs.Fronts.{behind_front, front_leaf};
 ghost use Rattle.bz_lex.specs.Leaves.{AreLeaves, NoLeaves, spell_leaves};
 
 use crate::fault::ReadFault;
-use crate::front::{Front, Reason, Stop, is_prefix, leaf_front};
+use crate::front::{Reason, Stop, leaf_front};
 use crate::leaf::Leaf;
 use crate::place::Place;
 use crate::position::place_of;
-use bz_items::{Items, Text};
+use bz_items::Items;
+use bz_token::opens_string;
 use std::alloc::{AllocError, Global};
 
 /// The leaves of a text, up to the first fault where it has one.
@@ -33,37 +33,15 @@ pub fn read_leaves(alloc: Global, text: &[u8]) -> Result<Reading, AllocError>
             Ok(front) => front,
             Err(stop) => return Ok(refused(text, length - rest.len(), stop, leaves)),
         };
-        let leaf = copied_leaf(alloc, rest, front)?;
+        let leaf = front.leaf(alloc, rest)?;
         place = place.behind(leaf.class, leaf.token.as_slice());
         leaves.push(leaf)?;
-        rest = behind(rest, front);
+        rest = front.rest_of(rest);
     }
     Ok(Reading {
         leaves,
         fault: None,
     })
-}
-
-/// The leaf at the front of a text.
-fn copied_leaf(alloc: Global, text: &[u8], front: Front) -> Result<Leaf, AllocError>
-    requires { front.gap + front.token ≤ length text.now }
-    ensures { IfOk result (λ leaf. leaf ≡ front_leaf front text.now) }
-{
-    let (gap, behind_gap) = text.split_at(front.gap);
-    let (token, _) = behind_gap.split_at(front.token);
-    Ok(Leaf {
-        class: front.class,
-        gap: Text::from_slice(alloc, gap)?,
-        token: Text::from_slice(alloc, token)?,
-    })
-}
-
-/// What stands behind the leaf at the front of a text.
-fn behind(text: &[u8], front: Front) -> &[u8]
-    requires { front.gap + front.token ≤ length text.now }
-    ensures { result.now ≡ behind_front front text.now }
-{
-    text.split_at(front.gap).1.split_at(front.token).1
 }
 
 /// The leaves in front of a stop, where the text from `from` on was left to read, and the fault there.
@@ -74,28 +52,40 @@ fn refused(text: &[u8], from: usize, stop: Stop, mut leaves: Items<Leaf>) -> Rea
 {
     let mut at = from + stop.at;
     if matches!(stop.reason, Reason::OpenString) && stop.at == 0 {
-        at = at.saturating_sub(take_prefix(&mut leaves));
+        let prefix = prefix_length(text, from, &leaves);
+        if prefix != 0 {
+            at = at.saturating_sub(prefix);
+            let _ = leaves.pop();
+        }
     }
-    let (line, column) = place_of(text, at);
-    let fault = match stop.reason {
+    Reading {
+        leaves,
+        fault: Some(fault_at(text, at, stop.reason)),
+    }
+}
+
+/// The fault of this reason at the byte at `at` (past the last one: at the end), by line and column.
+pub fn fault_at(text: &[u8], at: usize, reason: Reason) -> ReadFault
+    ensures { is_of_leaves result ≡ true }
+{
+    let (line, column) = place_of(text, at.min(text.len()));
+    match reason {
         Reason::BadCharacter => ReadFault::BadCharacter { line, column },
         Reason::OpenString => ReadFault::OpenString { line, column },
         Reason::Indented => ReadFault::Indented { line, column },
         Reason::Unexpected => ReadFault::Unexpected { line, column },
-    };
-    Reading {
-        leaves,
-        fault: Some(fault),
     }
 }
 
-/// Takes away the last leaf if it is the prefix of a string that begins right behind it, and gives its length. Such a
-/// prefix was read as a name, since the string is not closed; the fault stands at the prefix.
-fn take_prefix(leaves: &mut Items<Leaf>) -> usize {
-    let length = match leaves.as_slice().last() {
-        Some(leaf) if is_prefix(leaf.token.as_slice()) => leaf.token.len(),
-        _ => return 0,
-    };
-    let _ = leaves.pop();
-    length
+/// How long the last leaf's token is, if it is the prefix of a string that begins right behind it, at `from`, else 0. Such
+/// a prefix was read as a name, since the string is not closed; the fault stands at the prefix.
+fn prefix_length(text: &[u8], from: usize, leaves: &Items<Leaf>) -> usize
+    requires { from ≤ length text.now }
+{
+    match leaves.as_slice().last() {
+        Some(leaf) if opens_string(&text[from.saturating_sub(leaf.token.len())..]) => leaf
+            .token
+            .len(),
+        _ => 0,
+    }
 }

@@ -4,9 +4,10 @@ ghost use Rattle.bz_lex.specs.Fronts.{IsLexemeFront, behind_front, front_token};
 ghost use Rattle.bz_lex.specs.Lexing.{AreLexemes, NoLexemes};
 
 use crate::fault::ReadFault;
-use crate::front::{Front, Reason, Stop, is_prefix, lexeme_front};
+use crate::front::{Front, Reason, Stop, lexeme_front};
 use crate::position::place_of;
 use bz_items::Items;
+use bz_token::opens_string;
 use std::alloc::Global;
 
 /// The tokens of a source in order, each the longest lexeme that begins at its place, as slices of the source. Between
@@ -61,7 +62,7 @@ fn lexical_fault(source: &[u8], from: usize, stop: Stop, tokens: &[&str]) -> Rea
         return ReadFault::BadCharacter { line, column };
     }
     let prefix = if stop.at == 0 {
-        prefix_length(tokens)
+        prefix_length(source, from, tokens)
     } else {
         0
     };
@@ -69,11 +70,13 @@ fn lexical_fault(source: &[u8], from: usize, stop: Stop, tokens: &[&str]) -> Rea
     ReadFault::OpenString { line, column }
 }
 
-/// The length of the last token if it is the prefix of a string that begins right behind it. Such a prefix was read as
-/// a name, since the string is not closed; the fault stands at the prefix.
-fn prefix_length(tokens: &[&str]) -> usize {
+/// The length of the last token if it is the prefix of a string that begins right behind it, at `from`, else 0. Such a
+/// prefix was read as a name, since the string is not closed; the fault stands at the prefix.
+fn prefix_length(source: &[u8], from: usize, tokens: &[&str]) -> usize
+    requires { from ≤ length source.now }
+{
     match tokens.last() {
-        Some(token) if is_prefix(token.as_bytes()) => token.len(),
+        Some(token) if opens_string(&source[from.saturating_sub(token.len())..]) => token.len(),
         _ => 0,
     }
 }

@@ -1,6 +1,6 @@
 -- The longest front that a machine takes is found.
-use Rattle.std.proofs.Common.{◌≡◌, ℕ, suc, ◌+◌, ◌≤◌, ◌<◌, Bool, true, false, List, [], ◌∷◌, ◌++◌, length, take, drop, get_or, ◌⊎◌, inl, inr, Option, Some, None, refl, sym, ap, ◌∙◌, arith, drop-cons, add-one}
-use Rattle.std.proofs.lemmas.Bool.{both_ways}
+use Rattle.std.proofs.Common.{◌≡◌, ℕ, zero, suc, ◌+◌, ◌-◌, ◌≤◌, ◌<◌, Bool, true, false, List, [], ◌∷◌, ◌++◌, length, take, drop, get_or, ◌⊎◌, inl, inr, Option, Some, None, refl, sym, ap, subst, ◌∙◌, arith, drop-cons, add-one}
+use Rattle.std.proofs.lemmas.Bool.{both_ways, cases_lt}
 use Rattle.std.proofs.Math.ListN.{drop_of_length-le}
 use Rattle.bz_token.specs.Machine.{after, takes, and_next, or_here, one_longer, longest, or_found, or_best}
 
@@ -95,3 +95,38 @@ sticks step final q i s best lt e = rw (drop-cons s i 0, e) (here_only (final q)
 pub ends_here : {S : Type 0} (step : S → ℕ → Option S) (final : S → Bool) (q : S) (i : ℕ) (s : List ℕ) (best : Option (S × ℕ)) → length s ≤ i
     → or_found best i (longest step final q (drop i s)) ≡ or_best (final q) q i best
 ends_here step final q i s best le = rw drop_of_length-le (here_only (final q) q i best)
+
+-- where a state may end, what was best before does not count
+ended_best : {S : Type 0} (q : S) (i : ℕ) (o best other : Option (S × ℕ)) → or_found best i (or_here true q o) ≡ or_found other i (or_here true q o)
+ended_best q i None best other = refl
+ended_best q i (Some x) best other = refl
+
+no_matter : {S : Type 0} (step : S → ℕ → Option S) (final : S → Bool) (q : S) (i j : ℕ) (s : List ℕ) (best : Option (S × ℕ)) (b : Bool) → final q ≡ b → or_found (or_best b q j best) i (longest step final q s) ≡ or_found best i (longest step final q s)
+no_matter step final q i j [] best true e = rw e (ended_best q i None (Some (q, j)) best)
+no_matter step final q i j (c ∷ s) best true e = rw e (ended_best q i (and_next (step q c) (λ r. one_longer (longest step final r s))) (Some (q, j)) best)
+no_matter step final q i j s best false e = refl
+
+-- bytes with which the state stays as it is
+pub stays_more : {S : Type 0} (step : S → ℕ → Option S) (final : S → Bool) (q : S) (i m : ℕ) (s : List ℕ) (best : Option (S × ℕ)) → i + m ≤ length s → ((k : ℕ) → i ≤ k → k < i + m → step q (get_or s k 0) ≡ Some q)
+    → or_found best i (longest step final q (drop i s)) ≡ or_found best (i + m) (longest step final q (drop (i + m) s))
+stays_more step final q i zero s best le h = let e : i ≡ i + 0 = omega arith in ap (λ (j : ℕ). or_found best j (longest step final q (drop j s))) e
+stays_more step final q i (suc m) s best le h =
+    let lt : i < length s = omega arith in
+    let e : i + 1 + m ≡ i + suc m = omega arith in
+    goes_on step final q q i s best lt (h i (omega arith) (omega arith)) ∙
+    no_matter step final q (i + 1) i (drop (i + 1) s) best (final q) refl ∙
+    stays_more step final q (i + 1) m s best (omega arith) (λ k a b. h k (omega arith) (omega arith)) ∙
+    ap (λ (j : ℕ). or_found best j (longest step final q (drop j s))) e
+
+pub ran : {S : Type 0} (step : S → ℕ → Option S) (final : S → Bool) (q : S) (i j : ℕ) (s : List ℕ) (best : Option (S × ℕ)) → i ≤ j → j ≤ length s → ((k : ℕ) → i ≤ k → k < j → step q (get_or s k 0) ≡ Some q)
+    → or_found best j (longest step final q (drop j s)) ≡ or_found best i (longest step final q (drop i s))
+ran step final q i j s best le within h =
+    let e : i + (j - i) ≡ j = omega arith in
+    sym (stays_more step final q i (j - i) s best (omega (arith, e)) (λ k a b. h k a (omega (arith, b, e))) ∙ ap (λ (n : ℕ). or_found best n (longest step final q (drop n s))) e)
+
+-- what holds of each number below one, and of that
+pub one_further : (P : ℕ → Type 0) (i j : ℕ) → ((k : ℕ) → i ≤ k → k < j → P k) → P j → (k : ℕ) → i ≤ k → k < j + 1 → P k
+one_further P i j h p k a b = elim (cases_lt k j) [
+  | inl lt ↦ h k a lt
+  | inr le ↦ let e : j ≡ k = omega arith in subst P e p
+]

@@ -7,7 +7,7 @@ mod state;
 mod theorems;
 
 pub use class::Class;
-pub use scan::{Found, token};
+pub use scan::{Found, opens_string, token};
 pub use theorems::{
     begins, by_characters, cuts, each_keyword, each_mark, each_number, one_token, separated, single,
 };

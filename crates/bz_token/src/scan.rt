@@ -1,6 +1,6 @@
-ghost use Rattle.std.specs.Prelude.{◌≡◌, Some, None, take, drop, length, MatchOption, IfSome, IsUtf8, IsCharBoundary};
+ghost use Rattle.std.specs.Prelude.{◌≡◌, ◌≤◌, ◌<◌, ℕ, Some, None, take, drop, length, get_or, MatchOption, IfSome, IsUtf8, IsCharBoundary};
 ghost use Rattle.bz_token.specs.Lexemes.{is_keyword};
-ghost use Rattle.bz_token.specs.Scanner.{longest_front, before_third, named};
+ghost use Rattle.bz_token.specs.Scanner.{move, longest_front, before_third, named};
 ghost use Rattle.bz_token.specs.Tokens.{NoToken, TokenAt};
 
 use crate::Class;
@@ -25,6 +25,19 @@ pub fn token(text: &[u8]) -> Option<Found>
     }
     let class = named(state.class()?, &text[..len]);
     Some(Found { class, len })
+}
+
+/// Whether a string begins here, its prefix first where it has one, that is not closed. No clause speaks of it: it chooses
+/// among the faults that are told of a text.
+pub fn opens_string(text: &[u8]) -> bool {
+    let mut state = State::Start;
+    for byte in text {
+        match state.step(*byte) {
+            None => return state.is_in_string(),
+            Some(next) => state = next,
+        }
+    }
+    state.is_in_string()
 }
 
 /// Whether an empty string ends in this state and a third mark is next.
@@ -53,13 +66,17 @@ fn longest_front(text: &[u8]) -> Option<(State, usize)>
 {
     let mut state = State::Start;
     let mut best = None;
-    for (i, byte) in text.iter().enumerate() {
+    let mut at = 0;
+    'bytes: while at < text.len() {
         if state.may_end() {
-            best = Some((state, i));
+            best = Some((state, at));
         }
-        match state.step(*byte) {
+        match state.step(text[at]) {
             None => return best,
-            Some(next) => state = next,
+            Some(next) => {
+                at = run(next, text, at + 1);
+                state = next;
+            }
         }
     }
     if state.may_end() {
@@ -67,6 +84,23 @@ fn longest_front(text: &[u8]) -> Option<(State, usize)>
     } else {
         best
     }
+}
+
+/// The first byte from this one on with which the state does not simply stay as it is, as in a name or a string, or the end.
+fn run(state: State, text: &[u8], from: usize) -> usize
+    requires { from ≤ length text.now }
+    ensures above { from ≤ result }
+    ensures within { result ≤ length text.now }
+    ensures stays { (k : ℕ) → from ≤ k → k < result → move state (get_or text.now k 0) ≡ Some state }
+{
+    let mut at = from;
+    'bytes: while at < text.len() {
+        if !state.stays(text[at]) {
+            return at;
+        }
+        at += 1;
+    }
+    at
 }
 
 fn is_keyword(text: &[u8]) -> bool

@@ -1,4 +1,4 @@
-ghost use Rattle.std.specs.Prelude.{◌≡◌, Some, None};
+ghost use Rattle.std.specs.Prelude.{◌≡◌, IsTrue, Some, None};
 ghost use Rattle.bz_token.specs.Bytes.{among, is_digit, is_hexadecimal, is_octal, is_e, is_x, is_o, is_sign, is_high, is_letter};
 ghost use Rattle.bz_token.specs.Scanner.{lone_marks, operator_marks, mark_start, number_start, text_start, quote_or_word, word_move, high_move, zero_move, whole_move, fraction_move, exponent_move, doubled_move, quote_byte, short_move, long_move, move, ends, may_end};
 
@@ -97,6 +97,33 @@ impl State {
         ensures { result ≡ may_end self }
     {
         self.class().is_some()
+    }
+
+    /// Whether a string was begun that is not closed here.
+    pub fn is_in_string(self) -> bool {
+        matches!(
+            self,
+            State::Opened(_)
+                | State::Short(_)
+                | State::ShortTaken(_)
+                | State::ShortReturn(_)
+                | State::Long(_)
+                | State::LongOne(_)
+                | State::LongTwo(_)
+                | State::LongTaken(_)
+        )
+    }
+
+    /// Whether the state behind one more byte is surely the same; of most states this is not known before the step.
+    pub fn stays(self, byte: u8) -> bool
+        ensures { IsTrue result → move self byte ≡ Some self }
+    {
+        match self {
+            State::Word => word_stays(byte),
+            State::Short(quote) => short_stays(quote, byte),
+            State::Long(quote) => long_stays(quote, byte),
+            _ => false,
+        }
     }
 
     /// The state behind one more byte; `None` where no lexeme goes on with it.
@@ -263,6 +290,24 @@ fn word_step(byte: u8) -> Option<State>
     } else {
         (letter(byte) || digit(byte)).then_some(State::Word)
     }
+}
+
+fn word_stays(byte: u8) -> bool
+    ensures { IsTrue result → word_move byte ≡ Some State.Word }
+{
+    byte != 0xEF && (letter(byte) || digit(byte))
+}
+
+fn short_stays(quote: Quote, byte: u8) -> bool
+    ensures { IsTrue result → short_move quote byte ≡ Some (State.Short quote) }
+{
+    byte != quote.byte() && byte != b'\\' && byte != b'\n'
+}
+
+fn long_stays(quote: Quote, byte: u8) -> bool
+    ensures { IsTrue result → long_move (State.LongOne quote) quote byte ≡ Some (State.Long quote) }
+{
+    byte != quote.byte() && byte != b'\\'
 }
 
 fn quote_or_word(byte: u8) -> Option<State>

@@ -1,24 +1,57 @@
 -- What the parser reads is a legal tree of the text, and what it refuses has none.
-use Rattle.std.proofs.Common.{◌≡◌, ℕ, ◌≤◌, ◌<◌, List, length, inl, inr, Option, Some, None, Result, Err, refl, sym, ap, ◌∙◌, subst, arith}
-use Rattle.std.specs.Prelude.{MatchOption, IfErr, IsUtf8}
+use Rattle.std.proofs.Common.{◌≡◌, ℕ, ◌≤◌, ◌<◌, true, false, List, [], ◌∷◌, ◌++◌, length, inl, inr, Result, Err, refl, sym, ap, ◌∙◌, subst, arith}
+use Rattle.std.specs.Prelude.{IfErr, IsUtf8}
 use Rattle.std.specs.Str.{IsValidUpTo}
 use Rattle.std.proofs.Math.Seq.{take-length}
-use Rattle.std.proofs.lemmas.Bool.{cases_lt}
+use Rattle.std.proofs.lemmas.Bool.{cases_lt, both_ways, or_right}
+use Rattle.std.specs.List.{flat_map}
 use Rattle.bz_lex.specs.declared.leaf.Leaf.{Leaf}
 use Rattle.bz_lex.specs.declared.fault.ReadFault.{ReadFault}
 use Rattle.bz_lex.specs.declared.fault.ReadFault.TheVariants as f
 use Rattle.bz_lex.specs.Leaves.{AreLeaves, AreCoded, NoLeaves, spell_leaves}
 use Rattle.bz_lex.proofs.Coded.{leaves_coded, coded_spelled}
 use Rattle.bz_lex.proofs.Unique.{one_lexing}
-use Rattle.bz_tree.specs.declared.parsing.Refusal.{Refusal}
-use Rattle.bz_tree.specs.declared.parsing.Refusal.TheVariants as r
+use Rattle.bz_lex.specs.declared.place.Place.TheVariants.{Fresh}
+use Rattle.bz_lex.proofs.Coming.{to_come, has_end, all_come}
+use Rattle.bz_token.specs.declared.class.Class.{Class}
+use Rattle.bz_token.specs.declared.class.Class.TheVariants as c
+use Rattle.bz_tree.specs.declared.kind.Kind.{Kind}
 use Rattle.bz_tree.specs.declared.tree.Node.{Node}
-use Rattle.bz_tree.specs.Spell.{spell_node, leaves_of, limit}
-use Rattle.bz_tree.specs.Legal.{IsFileOf, Legal, Reads, NoTree}
-use Rattle.bz_tree.specs.Faults.{NoFile, Refuses, IsPlace, IsOther}
+use Rattle.bz_tree.specs.declared.tree.Part.{Part}
+use Rattle.bz_tree.specs.Spell.{spell_node, leaves_part, leaves_of, limit}
+use Rattle.bz_tree.specs.Shapes.{is_one_of, has_token, end, line, Several, Fits, done, tok, shape}
+use Rattle.bz_tree.specs.Legal.{IsSort, IsFile, IsFileOf, Legal, Reads, NoTree}
+use Rattle.bz_tree.specs.Faults.{NoFile, IsOther}
+use Rattle.bz_tree.proofs.Exact.{token_leaf}
 use Rattle.bz_tree.proofs.Spells.{node_spelled}
 use Rattle.bz_tree.proofs.Files.{one_file}
 use Rattle.bz_tree.proofs.Both.{leaves_legal, legal_leaves}
+
+-- ---- the end of a file
+
+end_among : (x : Part) (ls : List Leaf) → has_token end x ≡ true → has_end (leaves_part x ++ ls) ≡ true
+end_among x ls h =
+    let w = token_leaf end x h in
+    subst (λ (y : Part). has_end (leaves_part y ++ ls) ≡ true) (sym w.1) (end_first w.0 ls w.2)
+  where
+    end_first : (l : Leaf) (ls : List Leaf) → is_one_of end l ≡ true → has_end (l ∷ ls) ≡ true
+    end_first l ls h = by_class l.class refl
+      where
+        by_class : (k : Class) → l.class ≡ k → has_end (l ∷ ls) ≡ true
+        by_class c.End e = rw e refl
+        by_class k e = absurd (both_ways false refl (rw e at h))
+
+end_behind : (ls ms : List Leaf) → has_end ms ≡ true → has_end (ls ++ ms) ≡ true
+end_behind [] ms h = h
+end_behind (l ∷ ls) ms h = or_right _ (has_end (ls ++ ms)) (end_behind ls ms h)
+
+end_in : (xs : List Part) → Several (IsSort line) (Fits IsSort (tok end done)) xs → has_end (flat_map leaves_part xs) ≡ true
+end_in [] h = absurd h
+end_in (x ∷ xs) (inl h) = end_among x (flat_map leaves_part xs) h.0
+end_in (x ∷ xs) (inr h) = end_behind (leaves_part x) (flat_map leaves_part xs) (end_in xs h.1)
+
+file_end : (n : Node) → IsFile n → has_end (leaves_of n) ≡ true
+file_end n h = end_in n.parts (subst (λ (kind : Kind). Fits IsSort (shape kind) n.parts) h.root h.shapes.0)
 
 -- ---- legal trees and their leaves
 
@@ -42,15 +75,15 @@ legal_coded n h = subst IsUtf8 (sym (node_spelled n)) (coded_spelled (leaves_of 
 
 -- ---- texts
 
--- what was read, where a fault is told or none
-abbrev pub Told : List ℕ → List Leaf → Option ReadFault → Type 0
-Told text ls fault = MatchOption fault (AreLeaves ls × (spell_leaves ls ≡ text)) (λ _. NoLeaves text)
-
 pub reads_of : (text : List ℕ) (ls : List Leaf) (n : Node) → AreLeaves ls → spell_leaves ls ≡ text → length text ≤ limit → IsUtf8 text → IsFileOf ls n → Reads text n
 reads_of text ls n h s le u e = (legal_of ls n e h (subst IsUtf8 (sym s) u), node_spelled n ∙ ap spell_leaves e.leaves ∙ s, le)
 
-pub tree_of_leaves : (text : List ℕ) (ls : List Leaf) (fault : Option ReadFault) (n : Node) → Told text ls fault → fault ≡ None → length text ≤ limit → IsUtf8 text → IsFileOf ls n → Reads text n
-tree_of_leaves text ls fault n h e le u w = let k : AreLeaves ls × (spell_leaves ls ≡ text) = rw e at h in reads_of text ls n k.0 k.1 le u w
+-- a file of the leaves that come is a tree of the text, since the end is among them
+pub tree_of_leaves : (text : List ℕ) (ls : List Leaf) (n : Node) → ls ≡ to_come Fresh text → length text ≤ limit → IsUtf8 text → IsFileOf ls n → Reads text n
+tree_of_leaves text ls n e le u w = elim (all_come text) [
+  | inl a ↦ reads_of text (to_come Fresh text) n a.0 a.1 le u (subst (λ (ms : List Leaf). IsFileOf ms n) e w)
+  | inr a ↦ absurd (both_ways (has_end (to_come Fresh text)) a.1 (ap has_end (sym (w.leaves ∙ e)) ∙ file_end n w.file))
+]
 
 -- the spelling of a tree that a text reads as is within the limit
 pub reads_within : (text : List ℕ) (n : Node) → Reads text n → Legal n × (length (spell_node n) ≤ limit)
@@ -62,19 +95,11 @@ no_leaves text h n r = h (leaves_of n) (leaves_legal n r.0) (sym (node_spelled n
 pub no_file : (text : List ℕ) (ls : List Leaf) → AreLeaves ls → spell_leaves ls ≡ text → NoFile ls → NoTree text
 no_file text ls h s bad n r = bad n (file_of_legal n ls r.0 (one_lexing (leaves_of n) ls (leaves_legal n r.0) h (sym (node_spelled n) ∙ r.1 ∙ sym s)))
 
-no_tree : (text : List ℕ) (ls : List Leaf) (fault : Option ReadFault) → Told text ls fault → NoFile ls → NoTree text
-no_tree text ls None h bad = no_file text ls h.0 h.1 bad
-no_tree text ls (Some fault) h bad = no_leaves text h
-
--- a refusal for another cause than memory says that there is none
-pub no_tree_refused : (text : List ℕ) (ls : List Leaf) (fault : Option ReadFault) (refusal : Refusal) → Told text ls fault → IsPlace refusal → Refuses refusal ls → NoTree text
-no_tree_refused text ls fault r.Memory h p w = absurd p
-no_tree_refused text ls fault (r.At at) h p w = no_tree text ls fault h w
-no_tree_refused text ls fault (r.Deep at) h p w = no_tree text ls fault h w
-no_tree_refused text ls fault r.Over h p w = no_tree text ls fault h w
-
-pub no_tree_told : (text : List ℕ) (ls : List Leaf) (fault : Option ReadFault) (one : ReadFault) → Told text ls fault → fault ≡ Some one → NoTree text
-no_tree_told text ls fault one h e = let k : NoLeaves text = rw e at h in no_leaves text k
+pub no_tree_refused : (text : List ℕ) (ls : List Leaf) → ls ≡ to_come Fresh text → NoFile ls → NoTree text
+no_tree_refused text ls e bad = elim (all_come text) [
+  | inl a ↦ no_file text (to_come Fresh text) a.0 a.1 (λ n w. bad n (subst (λ (ms : List Leaf). IsFileOf ms n) (sym e) w))
+  | inr a ↦ no_leaves text a.0
+]
 
 -- a text past the limit has none
 pub no_tree_so_long : (text : List ℕ) → limit < length text → NoTree text

@@ -1,9 +1,8 @@
 -- Parts, expressions and files as the parser reads them.
 use Rattle.std.proofs.Common.{◌≡◌, ℕ, zero, suc, ◌≤◌, ◌<◌, ◌-◌, Bool, true, false, cond, List, [], ◌∷◌, length, inl, inr, Option, Some, None, Result, Ok, Err, refl, sym, ap, ◌∙◌, arith, length-append}
 use Rattle.std.proofs.lemmas.Bool.{cases_Bool, cond-true, cond-false, le-leb}
-use Rattle.std.specs.Result.{IsErrAnd, IfOk}
+use Rattle.std.specs.Result.{IsErrAnd}
 use Rattle.std.proofs.lemmas.Option.{same_Some}
-use Rattle.bz_tree.specs.declared.row.Deep.{Deep}
 use Rattle.bz_tree.specs.declared.token.Halt.{Halt}
 use Rattle.bz_lex.specs.declared.leaf.Leaf.{Leaf}
 use Rattle.bz_tree.specs.declared.kind.Kind.{Kind}
@@ -33,7 +32,7 @@ use Rattle.bz_tree.proofs.Nodes.{wrap_found_some}
 use Rattle.bz_tree.proofs.Trees.{At}
 use Rattle.bz_tree.proofs.Levels.{begins, goes}
 use Rattle.bz_tree.proofs.ExactSorts.{reading_exact}
-use Rattle.bz_tree.proofs.Steps.{bind_same, halts, fails}
+use Rattle.bz_tree.proofs.Steps.{bind_same, halts}
 
 -- ---- nodes of an empty row, and of one part
 
@@ -57,16 +56,6 @@ found_one a (Some x) = refl
 
 pub row_same : (d : ℕ) (state : State) (ts : List Leaf) (ps ps' : List Part) → ps ≡ ps' → found_at d ps' state ts ≡ found_at d ps state ts
 row_same d state ts ps ps' e = ap (λ (z : List Part). found_at d z state ts) (sym e)
-
-pub leaves_same : (d : ℕ) (state : State) (ps : List Part) (ts ts' : List Leaf) → ts' ≡ ts → found_at d ps state ts ≡ found_at d ps state ts'
-leaves_same d state ps ts ts' e = ap (λ (z : List Leaf). found_at d ps state z) (sym e)
-
-pub carry_ok : (result : Result Deep Halt) (o o' : Option (Part × List Leaf)) (rest : List Leaf) → o ≡ o' → IfOk result (λ deep. o' ≡ Some (deep.part, rest)) → IfOk result (λ deep. o ≡ Some (deep.part, rest))
-carry_ok (Ok x) o o' rest e h = e ∙ h
-carry_ok (Err x) o o' rest e h = tt
-
-pub carry_err : (result : Result Deep Halt) (o o' : Option (Part × List Leaf)) → o ≡ o' → Fails result o' → Fails result o
-carry_err result o o' e h = fails result o' o h (λ n. e ∙ n)
 
 pub handed_on : {X Y Y' : Type 0} (e : Halt) (result : Result X Halt) (o : Option Y) (all : Option Y') → IsErrAnd result (λ f. f ≡ e) → Halts e o → (o ≡ None → all ≡ None) → Fails result all
 handed_on e (Ok x) o all is w f = tt

@@ -1,5 +1,5 @@
 -- What is read is the one file that the leaves are.
-use Rattle.std.proofs.Common.{◌≡◌, ℕ, suc, ◌≤◌, max, List, [], ◌∷◌, ◌++◌, Some, None, refl, sym, ap, subst, ◌∙◌, arith}
+use Rattle.std.proofs.Common.{◌≡◌, ℕ, suc, ◌-◌, ◌≤◌, max, List, [], ◌∷◌, ◌++◌, Some, None, refl, sym, ap, subst, ◌∙◌, arith}
 use Rattle.std.proofs.lemmas.List.{append-nil}
 use Rattle.std.proofs.lemmas.Option.{same_Some, none-some}
 use Rattle.bz_lex.specs.declared.leaf.Leaf.{Leaf}
@@ -7,7 +7,7 @@ use Rattle.bz_tree.specs.declared.kind.Kind.{Kind}
 use Rattle.bz_tree.specs.declared.kind.Kind.TheVariants as k
 use Rattle.bz_tree.specs.declared.tree.Node.{Node}
 use Rattle.bz_tree.specs.declared.tree.Part.{Part}
-use Rattle.bz_tree.specs.Spell.{leaves_of, depth_of}
+use Rattle.bz_tree.specs.Spell.{leaves_of, depth_of, depth_limit}
 use Rattle.bz_tree.specs.Shapes.{Fits, shape}
 use Rattle.bz_tree.specs.Legal.{IsFile, IsFileOf}
 use Rattle.bz_tree.specs.Laws.{OneFile}
@@ -42,11 +42,11 @@ read_sound d ts n e =
     let s = (file_shape d).sound ts x.0 x.1 in
     subst (λ (m : Node). IsFile m × (leaves_of m ≡ ts) × (depth_of m ≤ suc d)) w.1 (sound_file d ts x.0.0 s.0 (s.1 ∙ ap (λ (us : List Leaf). all_leaves x.0.0 ++ us) w.0))
 
-pub file_read : (ts : List Leaf) (n : Node) → read_file 199 ts ≡ Some n → IsFileOf ts n
-file_read ts n e = let w = read_sound 199 ts n e in record { file = w.0; leaves = w.1; depth = omega (arith, w.2) }
+pub file_read : (ts : List Leaf) (n : Node) → read_file (depth_limit - 1) ts ≡ Some n → IsFileOf ts n
+file_read ts n e = let w = read_sound (depth_limit - 1) ts n e in record { file = w.0; leaves = w.1; depth = omega (arith, w.2) }
 
-pub no_file : (ts : List Leaf) → read_file 199 ts ≡ None → (n : Node) → IsFileOf ts n → ⊥
-no_file ts e n h = let c = read_complete 199 n h.file (omega (arith, h.depth)) in none-some n (sym e ∙ ap (read_file 199) (sym h.leaves) ∙ c)
+pub no_file : (ts : List Leaf) → read_file (depth_limit - 1) ts ≡ None → (n : Node) → IsFileOf ts n → ⊥
+no_file ts e n h = let c = read_complete (depth_limit - 1) n h.file (omega (arith, h.depth)) in none-some n (sym e ∙ ap (read_file (depth_limit - 1)) (sym h.leaves) ∙ c)
 
 pub one_file : OneFile
 one_file m n f g e =

@@ -21,4 +21,7 @@ pub mod Balance
 pub mod Both
 pub mod Accepts
 pub mod Statements
-pub mod Alone
+pub mod AllLines
+pub mod Rises
+pub mod Pushed
+pub mod Cutting

@@ -13,9 +13,13 @@ use Rattle.bz_tree.specs.declared.state.Move.{Move}
 use Rattle.bz_tree.specs.declared.state.Move.TheVariants as m
 use Rattle.bz_tree.specs.Shapes.{Terminal, is_one_of, Sort, Shape, none, done, tok, sub, alt, list, each}
 use Rattle.bz_tree.specs.Reading.{◌>>=◌, Read, starts_with, starts, first, put, run, Plan, finish, one, piece, choose, first_of, Found, as_kind, put_found, follow, node, wrap_found, reading}
-use Rattle.bz_tree.specs.Words.{terminals_of, token_at, part_at, with_found, found_by, Adds}
+use Rattle.bz_tree.specs.Words.{terminals_of, token_at, part_at, with_found, found_by}
 use Rattle.bz_tree.specs.States.{sort_of, plan_at, next_of, turns, found_at, moved}
 use Rattle.bz_tree.proofs.Steps.{bind_same, token_run, token_parts, reading_takes, behind_at, list_step, each_step}
+
+-- one more part in a row: what a reader gives
+abbrev pub Adds : Read Part → List Part → List Leaf → List Part → List Leaf → Type 0
+Adds read front old all new = (x : Part) × (read old ≡ Some (x, new)) × (all ≡ front ++ (x ∷ []))
 
 -- ---- by the front of a plan
 

@@ -7,7 +7,7 @@ use Rattle.bz_tree.specs.declared.kind.Kind.TheVariants as k
 use Rattle.bz_tree.specs.declared.tree.Node.{Node}
 use Rattle.bz_tree.specs.declared.tree.Part.{Part, Row_of-Part, end_of-Part, more_of-Part, Node', items-the_row-Part}
 use Rattle.bz_tree.specs.declared.tree.Part as p
-use Rattle.bz_tree.specs.Spell.{spell_node, leaves_of, depth_of, limit}
+use Rattle.bz_tree.specs.Spell.{spell_node, leaves_of, depth_of, limit, depth_limit}
 use Rattle.bz_tree.specs.Shapes.{Sort, has_sort, Fits, shape}
 use Rattle.bz_tree.specs.Spots.{Begins, AtParts, Stands, AreTokens}
 
@@ -37,7 +37,7 @@ pub record IsFile (n : Node) : Type 0 where
 pub record IsFileOf (leaves_there : List Leaf) (n : Node) : Type 0 where
   pub file : IsFile n
   pub leaves : leaves_of n ≡ leaves_there
-  pub depth : depth_of n ≤ 200
+  pub depth : depth_of n ≤ depth_limit
 
 -- A tree is legal where it is a file by its shapes, its leaves cover its spelling as the leaves of a text do (so its
 -- tokens are the longest lexemes there, and comments and newlines stand where they may), they are texts of characters,
@@ -47,7 +47,7 @@ pub record Legal (n : Node) : Type 0 where
   pub gaps : AtParts Stands Begins Begins n.parts
   pub tokens : AreTokens (leaves_of n)
   pub coded : AreCoded (leaves_of n)
-  pub depth : depth_of n ≤ 200
+  pub depth : depth_of n ≤ depth_limit
 
 -- A text reads as a tree: the tree is legal, spells the text, and the text has at most 4,194,304 bytes.
 abbrev pub Reads : List ℕ → Node → Type 0

@@ -1,5 +1,6 @@
 -- The parser's table: what is left to read in each state, and its next move.
-use Rattle.std.specs.Prelude.{ℕ, zero, suc, true, false, List, [], ◌∷◌, ◌++◌, length, Some, None, if◌then◌else◌, codes}
+use Rattle.std.specs.Prelude.{◌≡◌, ℕ, zero, suc, ◌-◌, nat_le, Bool, true, false, List, [], ◌∷◌, ◌++◌, length, Some, None, if◌then◌else◌, codes}
+use Rattle.bz_lex.specs.declared.leaf.Leaf.{Leaf}
 use Rattle.bz_tree.specs.declared.kind.Kind.{Kind}
 use Rattle.bz_tree.specs.declared.kind.Kind.TheVariants as k
 use Rattle.bz_tree.specs.declared.tree.Part.{Part}
@@ -13,6 +14,7 @@ use Rattle.bz_tree.specs.declared.state.Move.{Move}
 use Rattle.bz_tree.specs.declared.state.Move.TheVariants as m
 use Rattle.bz_tree.specs.declared.state.Rung.{Rung}
 use Rattle.bz_tree.specs.declared.state.Rung.TheVariants as g
+use Rattle.bz_tree.specs.Spell.{depth_part}
 use Rattle.bz_tree.specs.Shapes.{Sort, level, argument, entry, clause, first_clause, loaded, small, line, primary, bitor, or_level, test, expr, Shape, done, tok, sub, alt, list, each, opt, items, slice_end, shape, string, orders, assigns, comma, colon, keyword, open_round, close_round, open_square, close_square}
 use Rattle.bz_tree.specs.Reading.{◌>>=◌, Read, starts_with, Plan, finish, one, piece, choose, round, square, curly, suffix, clause_plan, small_plan, more_items, clauses, node, fits_in, atom, suffixes, climb, read_argument, reading}
 use Rattle.bz_tree.specs.Words.{terminals_of, token_at, part_at, found_by}
@@ -251,6 +253,10 @@ rung_of _ = g.Same
 unfoldable pub begun_at : ℕ → Token → State → Part → Read Part
 begun_at d token state a ts = if starts_with (terminals_of token) ts then (if fits_in d a then found_at d (a ∷ []) state ts else None) else Some (a, ts)
 
+-- a node that begins with these parts, where their depth is at most that
+unfoldable pub fitted_at : ℕ → ℕ → List Part → State → Read Part
+fitted_at d deep ps state ts = if nat_le deep d then found_at d ps state ts else None
+
 -- an expression of a rank or a lower one
 unfoldable pub level_at : ℕ → ℕ → Read Part
 level_at d n ts = climb d (reading d) n ts
@@ -259,6 +265,35 @@ abbrev pub climbed : ℕ → Rung → Read Part → Read Part
 climbed d g.Same next ts = next ts
 climbed d (g.Prefix token state) next ts = if starts_with (terminals_of token) ts then found_at d [] state ts else next ts
 climbed d (g.Infix token state) next ts = next ts >>= λ a. begun_at d token state a.0 a.1
+
+-- what the operator of a rank makes of an operand
+abbrev pub bound : ℕ → Rung → Part → Read Part
+bound d (g.Infix token state) a ts = begun_at d token state a ts
+bound d _ a ts = Some (a, ts)
+
+unfoldable pub bound_at : ℕ → ℕ → Part → Read Part
+bound_at d n a ts = bound d (rung_of n) a ts
+
+-- whether the next leaf is such an operator
+abbrev pub binds : Rung → List Leaf → Bool
+binds (g.Infix token state) ts = starts_with (terminals_of token) ts
+binds _ ts = false
+
+abbrev pub binds_at : ℕ → List Leaf → Bool
+binds_at n ts = binds (rung_of n) ts
+
+-- what the operators of so many ranks, from one on, make of an operand
+abbrev pub rising : ℕ → ℕ → ℕ → Part → Read Part
+rising d n zero a ts = Some (a, ts)
+rising d n (suc more) a ts = bound d (rung_of n) a ts >>= λ x. rising d (suc n) more x.0 x.1
+
+-- the expression of a rank that begins with an operand of another
+unfoldable pub risen_at : ℕ → ℕ → ℕ → Part → Read Part
+risen_at d rank n a ts = rising d rank (n - rank) a ts
+
+-- A part was read and put behind the others, and an expression of rank n goes on with it from a rank on.
+abbrev pub Rises : ℕ → ℕ → ℕ → List Leaf → List Leaf → List Part → List Part → ℕ → Type 0
+Rises d rank n old new front all deep = (a : Part) × (risen_at d rank n a new ≡ level_at d n old) × (all ≡ front ++ (a ∷ [])) × (deep ≡ depth_part a)
 
 -- a primary that begins with a part
 unfoldable pub suffixes_at : ℕ → Part → Read Part

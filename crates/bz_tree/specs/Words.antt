@@ -1,13 +1,15 @@
 -- Reading as words that do not unfold by themselves: one for each function of the parser.
-use Rattle.std.specs.Prelude.{◌≡◌, ℕ, Bool, ◌&&◌, drop, List, [], ◌∷◌, ◌++◌, Option, Some, None, Result, Ok, Err, codes}
+use Rattle.std.specs.Prelude.{◌≡◌, ℕ, List, [], ◌∷◌, ◌++◌, Option, Some, None, Result, Ok, Err, codes}
+use Rattle.bz_token.specs.declared.class.Class.{Class}
 use Rattle.bz_lex.specs.declared.leaf.Leaf.{Leaf}
 use Rattle.bz_tree.specs.declared.tree.Part.{Part}
 use Rattle.bz_tree.specs.declared.token.Token.{Token}
 use Rattle.bz_tree.specs.declared.token.Token.TheVariants as t
 use Rattle.bz_tree.specs.declared.token.Halt.{Halt}
 use Rattle.bz_tree.specs.declared.token.Halt.TheVariants as h
+use Rattle.bz_tree.specs.Spell.{depth_part}
 use Rattle.bz_tree.specs.Shapes.{Terminal, Sort, name, string, simple, newline, end, open_round, close_round, open_square, close_square, open_curly, close_curly, comma, colon, semicolon, dot, equals, assigns, stars, signs, orders, shifts, sums, products, mark, keyword, clause, line}
-use Rattle.bz_tree.specs.Reading.{Read, starts_with, token_of, starts, reading, Plan, Found, follow, wrap_found, first_of, suffix}
+use Rattle.bz_tree.specs.Reading.{Read, token_of, starts, reading, Plan, Found, follow, wrap_found, first_of, suffix}
 
 abbrev pub terminals_of : Token → List Terminal
 terminals_of t.Name = name
@@ -51,6 +53,10 @@ terminals_of t.Not = keyword (codes "not")
 terminals_of t.In = keyword (codes "in")
 terminals_of t.For = keyword (codes "for")
 
+-- a token without its gap, which no terminal asks for
+abbrev pub bare : Class → List ℕ → Leaf
+bare class token = record { class = class; gap = []; token = token }
+
 -- what a halt says of what was to be read: nothing where memory was refused
 abbrev pub Halts : {X : Type 0} → Halt → Option X → Type 0
 Halts h.Memory read = Unit {0}
@@ -63,10 +69,6 @@ Fails (Err e) read = Halts e read
 -- one of these tokens
 unfoldable pub token_at : List Terminal → Read Part
 token_at terminals ts = token_of terminals ts
-
--- a name, a number or a string, behind which an expression in which no comma binds ends
-abbrev pub is_alone : List Leaf → Bool
-is_alone ts = starts_with simple ts && starts_with (terminals_of t.Ends) (drop 1 ts)
 
 -- a part of a sort of at most that depth
 unfoldable pub part_at : ℕ → Sort → Read Part
@@ -81,6 +83,6 @@ with_found front (Some x) = Some ((x.0.0, front ++ x.0.1), x.1)
 unfoldable pub found_by : ℕ → List Part → Plan → Read Part
 found_by d front plan ts = wrap_found (with_found front (follow (reading d) plan ts))
 
--- one more part in the row: what a reader gives
-abbrev pub Adds : Read Part → List Part → List Leaf → List Part → List Leaf → Type 0
-Adds read front old all new = (x : Part) × (read old ≡ Some (x, new)) × (all ≡ front ++ (x ∷ []))
+-- What was read is put behind other parts, and how deep it is.
+abbrev pub Pushes : Option (Part × List Leaf) → List Part → List Part → List Leaf → ℕ → Type 0
+Pushes read front all new deep = (x : Part) × (read ≡ Some (x, new)) × (all ≡ front ++ (x ∷ [])) × (deep ≡ depth_part x)

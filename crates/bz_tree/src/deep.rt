@@ -1,24 +1,31 @@
 //! Where a text nests too deep. It is told with the fault; no clause speaks of the place.
 ghost use Rattle.std.specs.Prelude.{◌≡◌};
 
-use crate::row::Deep;
-use crate::state::{Rung, Sort, rung_at};
+use crate::state::{COMMAS, NOT, Rung, Sort, UNARY, rung_at};
 use crate::token::{Leaves, Token};
-use crate::tree::Part;
+use crate::tree::{Node, Part};
 
-/// Marks where the part holds the first node that is too deep, if it may be at most so deep.
-pub(crate) fn mark_part(deep: &Deep, depth: u32, leaves: &mut Leaves)
+/// Marks where the part, right before the next leaf, holds the first node inside more than so many levels.
+pub(crate) fn mark_part(part: &Part, depth: u32, leaves: &mut Leaves)
     ensures { leaves.new ≡ leaves.old }
 {
     let levels = depth as u64;
-    if deep.depth <= levels {
-        return;
-    }
     let mut length = 0;
-    let _ = finds_deeper(&deep.part, u64::MAX, &mut length);
+    let _ = finds_deeper(part, u64::MAX, &mut length);
     let mut at = leaves.offset().saturating_sub(length);
-    let _ = finds_deeper(&deep.part, levels, &mut at);
+    let _ = finds_deeper(part, levels, &mut at);
     leaves.mark_too_deep(at);
+}
+
+/// The byte at which the first token of the first node begins that stands inside so many nodes of a file, if there is one.
+pub(crate) fn deeper_at(file: &Node, limit: u32) -> Option<usize> {
+    let mut at = 0;
+    let levels = limit as u64;
+    if levels > 0 && finds_deeper_in(file.parts.as_slice(), levels - 1, &mut at) {
+        Some(at)
+    } else {
+        None
+    }
 }
 
 /// Marks the next leaf where it begins a node of this sort, for which there is no room.
@@ -76,9 +83,9 @@ fn first_gap(parts: &[Part]) -> usize {
 fn begins_node(sort: Sort, leaves: &Leaves) -> bool {
     match sort {
         Sort::Level(n) => begins_level(n, leaves),
-        Sort::Argument => leaves.starts(Token::Stars) || begins_level(12, leaves),
+        Sort::Argument => leaves.starts(Token::Stars) || begins_level(COMMAS, leaves),
         Sort::Loaded => leaves.starts(Token::Name),
-        Sort::Entry => leaves.starts(Token::Simple) || begins_level(12, leaves),
+        Sort::Entry => leaves.starts(Token::Simple) || begins_level(COMMAS, leaves),
         Sort::Clause => leaves.starts(Token::Clauses),
         Sort::FirstClause => leaves.starts(Token::For),
         Sort::Small | Sort::Line => leaves.starts(Token::Lines),
@@ -89,15 +96,15 @@ fn begins_level(n: u8, leaves: &Leaves) -> bool {
     leaves.starts(Token::OpenRound)
         || leaves.starts(Token::OpenSquare)
         || leaves.starts(Token::OpenCurly)
-        || (n >= 1 && leaves.starts(Token::Signs))
-        || (n >= 9 && leaves.starts(Token::Not))
+        || (n >= UNARY && leaves.starts(Token::Signs))
+        || (n >= NOT && leaves.starts(Token::Not))
 }
 
 /// Whether a node of this sort goes on with the next leaf behind a leaf of it.
 pub(crate) fn goes_on(sort: Sort, leaves: &Leaves) -> bool {
     match sort {
         Sort::Level(n) => level_goes_on(n, leaves),
-        Sort::Argument => leaves.starts(Token::Equals) || level_goes_on(12, leaves),
+        Sort::Argument => leaves.starts(Token::Equals) || level_goes_on(COMMAS, leaves),
         _ => false,
     }
 }

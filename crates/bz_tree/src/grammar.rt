@@ -1,25 +1,24 @@
 //! The parser: nodes by the table of states, expressions by their ranks.
-ghost use Rattle.std.specs.Prelude.{◌≡◌, ◌∷◌, ◌≤◌, [], ℕ, Some, Err, IfOk};
+ghost use Rattle.std.specs.Prelude.{◌≡◌, ◌∷◌, ◌≤◌, ◌<◌, [], ℕ, Some, None, Err, IfOk, length, take, drop};
 ghost use Rattle.bz_tree.specs.declared.tree.Node.{Node};
 ghost use Rattle.bz_tree.specs.declared.token.Halt.TheVariants as h;
-ghost use Rattle.bz_tree.specs.Shapes.{name, has_token};
+ghost use Rattle.bz_tree.specs.Spell.{deepest};
 ghost use Rattle.bz_tree.specs.Legal.{IsFileOf};
 ghost use Rattle.bz_tree.specs.Reading.{read_file};
-ghost use Rattle.bz_tree.specs.Words.{terminals_of, token_at, part_at, Adds, Fails};
-ghost use Rattle.bz_tree.specs.States.{sort_of, found_at, begun_at, level_at, atom_at, argument_at};
+ghost use Rattle.bz_tree.specs.Words.{terminals_of, part_at, Pushes, Fails};
+ghost use Rattle.bz_tree.specs.States.{sort_of, found_at, fitted_at, bound_at, level_at, Rises, atom_at, argument_at};
+ghost use Rattle.bz_tree.specs.declared.tree.Part.{Part};
 
 use crate::deep::{goes_on, mark_next, mark_part};
 use crate::kind::Kind;
-use crate::row::{Deep, Row};
-use crate::state::{Move, Rung, Sort, State, TEST, rung_at};
+use crate::limits::DEPTH_LIMIT;
+use crate::row::{Stack, deeper};
+use crate::state::{COMMAS, Move, NOT, Rung, Sort, State, TEST, UNARY, rung_at};
 use crate::token::{Halt, Leaves, Token};
 use crate::tree::{Node, Part};
 use std::alloc::Global;
 
-/// How deep the parts of a file may be.
-const DEPTH: u32 = 199;
-
-/// The leaves as a file at most 200 nodes deep.
+/// The leaves as a file within the limit of depth.
 ///
 /// Errors: `Unexpected` where no such file has these leaves; `Memory` where a growth was refused.
 #[tactic(auto, using(crate::proofs::Files::file_read, crate::proofs::Files::no_file))]
@@ -27,15 +26,18 @@ pub fn file(alloc: Global, leaves: &mut Leaves) -> Result<Node, Halt>
     ensures ok { IfOk result (λ file. IsFileOf leaves.old file) }
     ensures err { (result ≡ Err h.Unexpected) → (file : Node) → IsFileOf leaves.old file → ⊥ }
 {
-    whole(alloc, leaves)
+    whole(alloc, DEPTH_LIMIT - 1, leaves)
 }
 
-/// All leaves as a file.
-fn whole(alloc: Global, leaves: &mut Leaves) -> Result<Node, Halt>
-    ensures ok { IfOk result (λ file. read_file 199 leaves.old ≡ Some file) }
-    ensures err { Fails result (read_file 199 leaves.old) }
+/// All leaves as a file of which the parts are at most so deep.
+pub fn whole(alloc: Global, depth: u32, leaves: &mut Leaves) -> Result<Node, Halt>
+    requires { depth < 1000 }
+    ensures ok { IfOk result (λ file. read_file depth leaves.old ≡ Some file) }
+    ensures err { Fails result (read_file depth leaves.old) }
 {
-    let Deep { part, .. } = follow(alloc, Row::new(alloc), State::Lines, DEPTH, leaves)?;
+    let mut stack = Stack::new(alloc);
+    let _deep = begin(State::Lines, depth, &mut stack, leaves)?;
+    let part = stack.into_only()?;
     match part {
         Part::Leaf(_) => Err(Halt::Unexpected),
         Part::Node(file) => {
@@ -48,53 +50,37 @@ fn whole(alloc: Global, leaves: &mut Leaves) -> Result<Node, Halt>
     }
 }
 
-/// The row and the next leaf, where it is this token.
-fn take(row: Row, token: Token, leaves: &mut Leaves) -> Result<Row, Halt>
-    ensures adds { IfOk result (λ all. Adds (token_at (terminals_of token)) row.parts.items leaves.old all.parts.items leaves.new) }
-    ensures err { Fails result (token_at (terminals_of token) leaves.old) }
-    ensures within { (d : ℕ) → row.depth ≤ d → IfOk result (λ all. all.depth ≤ d) }
-{
-    let leaf = Deep::leaf(token, leaves)?;
-    let row = row.with(leaf)?;
-    Ok(row)
-}
-
-/// The row and a part of this sort.
-#[cycle(parser)]
-fn read(alloc: Global, row: Row, sort: Sort, depth: u32, leaves: &mut Leaves) -> Result<Row, Halt>
-    ensures adds { IfOk result (λ all. Adds (part_at depth (sort_of sort)) row.parts.items leaves.old all.parts.items leaves.new) }
-    ensures err { Fails result (part_at depth (sort_of sort) leaves.old) }
-    ensures within { row.depth ≤ depth → IfOk result (λ all. all.depth ≤ depth) }
-{
-    let deep = part(alloc, sort, depth, leaves)?;
-    let row = row.with(deep)?;
-    Ok(row)
-}
-
-/// The node of a row and of what is left to read of it in a state.
+/// What is left to read in a state of a node whose parts stand on the stack from a place on. Tells how deep the node is.
 #[cycle(parser)]
 fn follow(
-    alloc: Global,
-    row: Row,
+    from: usize,
+    deep: u32,
     state: State,
     depth: u32,
+    stack: &mut Stack,
     leaves: &mut Leaves,
-) -> Result<Deep, Halt>
-    requires { row.depth ≤ depth }
-    ensures ok { IfOk result (λ deep. found_at depth row.parts.items state leaves.old ≡ Some (deep.part, leaves.new)) }
-    ensures err { Fails result (found_at depth row.parts.items state leaves.old) }
+) -> Result<u32, Halt>
+    requires from { from ≤ length stack.old }
+    requires deep { deep ≡ deepest (drop from stack.old) }
+    requires within { deep ≤ depth }
+    requires small { depth < 1000 }
+    ensures ok { IfOk result (λ deep. Pushes (found_at depth (drop from stack.old) state leaves.old) (take from stack.old) stack.new leaves.new deep) }
+    ensures err { Fails result (found_at depth (drop from stack.old) state leaves.old) }
 {
-    let mut row = row;
+    let mut deep = deep;
     let mut state = state;
     'moves: loop {
         match state.next() {
-            Move::Finish(kind) => return Ok(row.node(kind)),
+            Move::Finish(kind) => {
+                stack.close(kind, from)?;
+                return Ok(deep + 1);
+            }
             Move::Take(token, next) => {
-                row = take(row, token, leaves)?;
+                deep = deeper(deep, stack.take(token, leaves)?);
                 state = next;
             }
             Move::Read(sort, next) => {
-                row = read(alloc, row, sort, depth, leaves)?;
+                deep = deeper(deep, part(sort, depth, stack, leaves)?);
                 state = next;
             }
             Move::Choose(token, one, other) => {
@@ -104,51 +90,85 @@ fn follow(
     }
 }
 
-/// A part of this sort that is at most so deep.
+/// A node from its first part on.
 #[cycle(parser)]
-fn part(alloc: Global, sort: Sort, depth: u32, leaves: &mut Leaves) -> Result<Deep, Halt>
-    ensures ok { IfOk result (λ deep. part_at depth (sort_of sort) leaves.old ≡ Some (deep.part, leaves.new)) }
+fn begin(state: State, depth: u32, stack: &mut Stack, leaves: &mut Leaves) -> Result<u32, Halt>
+    requires small { depth < 1000 }
+    ensures ok { IfOk result (λ deep. Pushes (found_at depth [] state leaves.old) stack.old stack.new leaves.new deep) }
+    ensures err { Fails result (found_at depth [] state leaves.old) }
+{
+    let from = stack.len();
+    follow(from, 0, state, depth, stack, leaves)
+}
+
+/// A node that begins with the last part of the stack, which stands at `from` and is so deep.
+#[cycle(parser)]
+fn go_on(
+    from: usize,
+    deep: u32,
+    state: State,
+    depth: u32,
+    stack: &mut Stack,
+    leaves: &mut Leaves,
+) -> Result<u32, Halt>
+    requires from { from ≤ length stack.old }
+    requires deep { deep ≡ deepest (drop from stack.old) }
+    requires small { depth < 1000 }
+    ensures ok { IfOk result (λ after. Pushes (fitted_at depth deep (drop from stack.old) state leaves.old) (take from stack.old) stack.new leaves.new after) }
+    ensures err { Fails result (fitted_at depth deep (drop from stack.old) state leaves.old) }
+{
+    if deep > depth {
+        if let Some(part) = stack.get(from) {
+            mark_part(part, depth, leaves);
+        }
+        return Err(Halt::Unexpected);
+    }
+    follow(from, deep, state, depth, stack, leaves)
+}
+
+/// A part of this sort that is at most so deep. Tells how deep it is.
+#[cycle(parser)]
+fn part(sort: Sort, depth: u32, stack: &mut Stack, leaves: &mut Leaves) -> Result<u32, Halt>
+    requires small { depth < 1000 }
+    ensures ok { IfOk result (λ deep. Pushes (part_at depth (sort_of sort) leaves.old) stack.old stack.new leaves.new deep) }
     ensures err { Fails result (part_at depth (sort_of sort) leaves.old) }
 {
     if depth == 0 {
-        return leaf_of(sort, leaves);
+        return leaf_of(sort, stack, leaves);
     }
     let inner = depth - 1;
     match sort {
-        Sort::Level(n) => expression(alloc, n, inner, leaves),
-        Sort::Argument => argument(alloc, inner, leaves),
+        Sort::Level(n) => expression(n, inner, stack, leaves),
+        Sort::Argument => argument(inner, stack, leaves),
         Sort::Loaded => {
             if leaves.starts(Token::Name) {
-                follow(alloc, Row::new(alloc), State::Alias, inner, leaves)
+                begin(State::Alias, inner, stack, leaves)
             } else {
-                Deep::leaf(Token::String, leaves)
+                stack.take(Token::String, leaves)
             }
         }
-        Sort::Entry => follow(alloc, Row::new(alloc), State::Entry, inner, leaves),
-        Sort::Clause => follow(alloc, Row::new(alloc), State::AnyClause, inner, leaves),
-        Sort::FirstClause => follow(alloc, Row::new(alloc), State::For, inner, leaves),
-        Sort::Small => follow(alloc, Row::new(alloc), State::Small, inner, leaves),
-        Sort::Line => follow(
-            alloc,
-            Row::new(alloc),
-            State::Listed(Kind::Line, Sort::Small, Token::Semicolon, Token::Newline),
-            inner,
-            leaves,
-        ),
+        Sort::Entry => begin(State::Entry, inner, stack, leaves),
+        Sort::Clause => begin(State::AnyClause, inner, stack, leaves),
+        Sort::FirstClause => begin(State::For, inner, stack, leaves),
+        Sort::Small => begin(State::Small, inner, stack, leaves),
+        Sort::Line => {
+            let line = State::Listed(Kind::Line, Sort::Small, Token::Semicolon, Token::Newline);
+            begin(line, inner, stack, leaves)
+        }
     }
 }
 
 /// A leaf of this sort.
 #[tactic(auto, unfolding(crate::specs::Words::token_at, crate::specs::Words::part_at))]
-fn leaf_of(sort: Sort, leaves: &mut Leaves) -> Result<Deep, Halt>
-    ensures ok { IfOk result (λ deep. part_at 0 (sort_of sort) leaves.old ≡ Some (deep.part, leaves.new)) }
+fn leaf_of(sort: Sort, stack: &mut Stack, leaves: &mut Leaves) -> Result<u32, Halt>
+    ensures ok { IfOk result (λ deep. Pushes (part_at 0 (sort_of sort) leaves.old) stack.old stack.new leaves.new deep) }
     ensures err { Fails result (part_at 0 (sort_of sort) leaves.old) }
 {
     mark_next(sort, leaves);
     let at = leaves.next_at();
-    let leaf = match sort {
-        Sort::Level(_) | Sort::Argument => Deep::leaf(Token::Simple, leaves)?,
-        Sort::Loaded => Deep::leaf(Token::String, leaves)?,
+    let deep = match sort {
+        Sort::Level(_) | Sort::Argument => stack.take(Token::Simple, leaves)?,
+        Sort::Loaded => stack.take(Token::String, leaves)?,
         _ => return Err(Halt::Unexpected),
     };
     if let Some(at) = at
@@ -156,136 +176,137 @@ fn leaf_of(sort: Sort, leaves: &mut Leaves) -> Result<Deep, Halt>
     {
         leaves.mark_too_deep(at);
     }
-    Ok(leaf)
+    Ok(deep)
 }
 
-/// `left`, or the node that it begins where this token stands behind it.
+/// An expression of this rank or a lower one, of which the parts are at most so deep: what it begins with, and then the
+/// operators behind it, from those that bind tightest on.
 #[cycle(parser)]
-fn begun(
-    alloc: Global,
-    left: Deep,
-    token: Token,
-    state: State,
+fn expression(n: u8, depth: u32, stack: &mut Stack, leaves: &mut Leaves) -> Result<u32, Halt>
+    requires small { depth < 1000 }
+    ensures ok { IfOk result (λ deep. Pushes (level_at depth n leaves.old) stack.old stack.new leaves.new deep) }
+    ensures err { Fails result (level_at depth n leaves.old) }
+{
+    let from = stack.len();
+    let first = operand(n, depth, stack, leaves)?;
+    let mut deep = first.deep;
+    let mut rank = leaves.next_rank(first.rank);
+    'ranks: while rank < n {
+        deep = raised(from, deep, rank, depth, stack, leaves)?;
+        rank = leaves.next_rank(rank + 1);
+    }
+    Ok(deep)
+}
+
+/// What an expression begins with: its rank, and how deep it is.
+#[derive(Clone, Copy)]
+struct Begun {
+    rank: u8,
+    deep: u32,
+}
+
+/// What an expression of this rank begins with: the node of `not` or of a sign, or a primary.
+#[cycle(parser)]
+fn operand(n: u8, depth: u32, stack: &mut Stack, leaves: &mut Leaves) -> Result<Begun, Halt>
+    requires small { depth < 1000 }
+    ensures ok { IfOk result (λ first. Rises depth first.rank n leaves.old leaves.new stack.old stack.new first.deep) }
+    ensures err { Fails result (level_at depth n leaves.old) }
+{
+    if leaves.starts_from(NOT, n, Token::Not) {
+        let state = State::Ends(Kind::Not, Token::Not, Sort::Level(NOT));
+        let deep = begin(state, depth, stack, leaves)?;
+        return Ok(Begun { rank: NOT, deep });
+    }
+    if leaves.starts_from(UNARY, n, Token::Signs) {
+        let state = State::Ends(Kind::Unary, Token::Signs, Sort::Level(UNARY));
+        let deep = begin(state, depth, stack, leaves)?;
+        return Ok(Begun { rank: UNARY, deep });
+    }
+    let deep = primary(depth, stack, leaves)?;
+    Ok(Begun { rank: 0, deep })
+}
+
+/// The last part of the stack, which stands at `from` and is so deep, or the node that the operator of this rank makes of it.
+#[cycle(parser)]
+fn raised(
+    from: usize,
+    deep: u32,
+    rank: u8,
     depth: u32,
+    stack: &mut Stack,
     leaves: &mut Leaves,
-) -> Result<Deep, Halt>
-    ensures ok { IfOk result (λ deep. begun_at depth token state left.part leaves.old ≡ Some (deep.part, leaves.new)) }
-    ensures err { Fails result (begun_at depth token state left.part leaves.old) }
+) -> Result<u32, Halt>
+    requires from { from ≤ length stack.old }
+    requires deep { deep ≡ deepest (drop from stack.old) }
+    requires small { depth < 1000 }
+    ensures ok { (a : Part) → drop from stack.old ≡ a ∷ [] → IfOk result (λ after. Pushes (bound_at depth rank a leaves.old) (take from stack.old) stack.new leaves.new after) }
+    ensures err { (a : Part) → drop from stack.old ≡ a ∷ [] → Fails result (bound_at depth rank a leaves.old) }
 {
-    if !leaves.starts(token) {
-        return Ok(left);
-    }
-    mark_part(&left, depth, leaves);
-    let row = Row::first(alloc, left, depth)?;
-    follow(alloc, row, state, depth, leaves)
-}
-
-/// An expression of this rank or a lower one, of which the parts are at most so deep. Most are one leaf, for which no rank
-/// has to be looked at.
-#[cycle(parser)]
-fn expression(alloc: Global, n: u8, depth: u32, leaves: &mut Leaves) -> Result<Deep, Halt>
-    ensures ok { IfOk result (λ deep. level_at depth n leaves.old ≡ Some (deep.part, leaves.new)) }
-    ensures err { Fails result (level_at depth n leaves.old) }
-{
-    if n > 12 {
-        return level(alloc, n, depth, leaves);
-    }
-    if leaves.is_alone() {
-        return Deep::leaf(Token::Simple, leaves);
-    }
-    level(alloc, n, depth, leaves)
-}
-
-/// The same, rank by rank.
-#[cycle(parser)]
-fn level(alloc: Global, n: u8, depth: u32, leaves: &mut Leaves) -> Result<Deep, Halt>
-    ensures ok { IfOk result (λ deep. level_at depth n leaves.old ≡ Some (deep.part, leaves.new)) }
-    ensures err { Fails result (level_at depth n leaves.old) }
-{
-    if n == 0 {
-        return primary(alloc, depth, leaves);
-    }
-    let below = n - 1;
-    match rung_at(below) {
-        Rung::Same => level(alloc, below, depth, leaves),
-        Rung::Prefix(token, state) => {
+    match rung_at(rank) {
+        Rung::Infix(token, state) => {
             if leaves.starts(token) {
-                follow(alloc, Row::new(alloc), state, depth, leaves)
+                go_on(from, deep, state, depth, stack, leaves)
             } else {
-                level(alloc, below, depth, leaves)
+                Ok(deep)
             }
         }
-        Rung::Infix(token, state) => {
-            let left = level(alloc, below, depth, leaves)?;
-            begun(alloc, left, token, state, depth, leaves)
-        }
+        Rung::Prefix(_, _) => Ok(deep),
+        Rung::Same => Ok(deep),
     }
 }
 
 /// A name, a number, a string or what stands in brackets, and what stands behind it.
 #[cycle(parser)]
-fn primary(alloc: Global, depth: u32, leaves: &mut Leaves) -> Result<Deep, Halt>
-    ensures ok { IfOk result (λ deep. level_at depth 0 leaves.old ≡ Some (deep.part, leaves.new)) }
+fn primary(depth: u32, stack: &mut Stack, leaves: &mut Leaves) -> Result<u32, Halt>
+    requires small { depth < 1000 }
+    ensures ok { IfOk result (λ deep. Pushes (level_at depth 0 leaves.old) stack.old stack.new leaves.new deep) }
     ensures err { Fails result (level_at depth 0 leaves.old) }
 {
-    let mut left = atom(alloc, depth, leaves)?;
+    let from = stack.len();
+    let mut deep = atom(depth, stack, leaves)?;
     'suffixes: while leaves.starts(Token::Suffixes) {
-        mark_part(&left, depth, leaves);
-        let row = Row::first(alloc, left, depth)?;
-        left = follow(alloc, row, State::Suffix, depth, leaves)?;
+        deep = go_on(from, deep, State::Suffix, depth, stack, leaves)?;
     }
-    Ok(left)
+    Ok(deep)
 }
 
 /// A name, a number, a string or what stands in brackets.
 #[cycle(parser)]
-fn atom(alloc: Global, depth: u32, leaves: &mut Leaves) -> Result<Deep, Halt>
-    ensures ok { IfOk result (λ deep. atom_at depth leaves.old ≡ Some (deep.part, leaves.new)) }
+fn atom(depth: u32, stack: &mut Stack, leaves: &mut Leaves) -> Result<u32, Halt>
+    requires small { depth < 1000 }
+    ensures ok { IfOk result (λ deep. Pushes (atom_at depth leaves.old) stack.old stack.new leaves.new deep) }
     ensures err { Fails result (atom_at depth leaves.old) }
 {
     if leaves.starts(Token::OpenRound) {
-        follow(alloc, Row::new(alloc), State::Round, depth, leaves)
+        begin(State::Round, depth, stack, leaves)
     } else if leaves.starts(Token::OpenSquare) {
-        follow(alloc, Row::new(alloc), State::Square, depth, leaves)
+        begin(State::Square, depth, stack, leaves)
     } else if leaves.starts(Token::OpenCurly) {
-        follow(alloc, Row::new(alloc), State::Curly, depth, leaves)
+        begin(State::Curly, depth, stack, leaves)
     } else {
-        Deep::leaf(Token::Simple, leaves)
+        stack.take(Token::Simple, leaves)
     }
 }
 
 /// An argument of a call.
 #[cycle(parser)]
-fn argument(alloc: Global, depth: u32, leaves: &mut Leaves) -> Result<Deep, Halt>
-    ensures ok { IfOk result (λ deep. argument_at depth leaves.old ≡ Some (deep.part, leaves.new)) }
+fn argument(depth: u32, stack: &mut Stack, leaves: &mut Leaves) -> Result<u32, Halt>
+    requires small { depth < 1000 }
+    ensures ok { IfOk result (λ deep. Pushes (argument_at depth leaves.old) stack.old stack.new leaves.new deep) }
     ensures err { Fails result (argument_at depth leaves.old) }
 {
     if leaves.starts(Token::Stars) {
-        return follow(
-            alloc,
-            Row::new(alloc),
-            State::Ends(Kind::Star, Token::Stars, TEST),
-            depth,
-            leaves,
-        );
+        let star = State::Ends(Kind::Star, Token::Stars, TEST);
+        return begin(star, depth, stack, leaves);
     }
-    let left = expression(alloc, 12, depth, leaves)?;
+    let from = stack.len();
+    let deep = expression(COMMAS, depth, stack, leaves)?;
     if !leaves.starts(Token::Equals) {
-        return Ok(left);
+        return Ok(deep);
     }
-    if !is_name(&left.part) {
+    if !stack.has_name(from) {
         return Err(Halt::Unexpected);
     }
     let named = State::Ends(Kind::Named, Token::Equals, TEST);
-    begun(alloc, left, Token::Equals, named, depth, leaves)
-}
-
-/// Whether the part is a name.
-fn is_name(part: &Part) -> bool
-    ensures { result ≡ has_token name part.now }
-{
-    match part {
-        Part::Leaf(leaf) => Token::Name.is(leaf),
-        Part::Node(_) => false,
-    }
+    go_on(from, deep, named, depth, stack, leaves)
 }

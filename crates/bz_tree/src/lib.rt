@@ -5,6 +5,7 @@ mod deep;
 mod grammar;
 mod kind;
 pub mod laws;
+mod limits;
 mod parsing;
 mod row;
 mod same;
@@ -15,5 +16,6 @@ mod tree;
 
 pub use bz_lex::{Class, Leaf, ReadFault};
 pub use kind::Kind;
+pub use limits::{DEPTH_LIMIT, LENGTH_LIMIT};
 pub use parsing::{parse, unexpected_at};
 pub use tree::{Node, Part, Tree};

@@ -1,36 +1,19 @@
 //! Reading a text as the tree that spells it.
-ghost use Rattle.std.specs.Prelude.{◌≡◌, ◌↔◌, ◌≤◌, ◌<◌, ℕ, true, min, length, IfOk, IfErr, IfSome, IsUtf8, MatchOption};
+ghost use Rattle.std.specs.Prelude.{◌≡◌, ◌↔◌, ◌≤◌, ◌<◌, ℕ, min, length, IfOk, IfErr, IsUtf8};
 ghost use Rattle.std.specs.Str.{IsValidUpTo};
-ghost use Rattle.bz_lex.specs.Faults.{is_of_leaves};
 ghost use Rattle.bz_lex.specs.Positions.{line_of, column_of};
-ghost use Rattle.bz_lex.specs.Leaves.{AreLeaves, NoLeaves, spell_leaves};
-ghost use Rattle.bz_tree.specs.Legal.{IsFileOf, Reads, NoTree};
+ghost use Rattle.bz_tree.specs.Legal.{Reads, NoTree};
 ghost use Rattle.bz_tree.specs.Spell.{limit};
-ghost use Rattle.bz_tree.specs.Faults.{IsOfText, IsOther, Refuses, IsPlace};
+ghost use Rattle.bz_tree.specs.Faults.{IsOfText, IsOther};
 
-use crate::grammar::file;
+use crate::deep::deeper_at;
+use crate::grammar::{file, whole};
+use crate::limits::{DEPTH_LIMIT, LENGTH_LIMIT};
 use crate::token::{Halt, Leaves};
-use crate::tree::{Node, Tree};
-use bz_items::Items;
-use bz_lex::{Leaf, ReadFault, Reading, place_of, read_leaves};
+use crate::tree::Tree;
+use bz_lex::{ReadFault, fault_at, place_of};
 use std::alloc::Global;
 use std::str::from_utf8;
-
-/// The most bytes that a text may have.
-const LIMIT: usize = 4194304;
-
-/// Why leaves are no file.
-#[derive(Drop)]
-pub enum Refusal {
-    /// A growth was refused.
-    Memory,
-    /// No file goes on with the token that begins at this byte.
-    At(usize),
-    /// The node that begins at this byte is nested too deep.
-    Deep(usize),
-    /// The leaves break off.
-    Over,
-}
 
 /// Reads a text as the legal tree that spells it.
 ///
@@ -43,7 +26,7 @@ pub fn parse(alloc: Global, text: &[u8]) -> Result<Tree, ReadFault>
     ensures not_utf8 { (at : ℕ) → ((result ≡ Err (ReadFault.NotUtf8 at)) ↔ ((length text.now ≤ limit) × IsValidUpTo text.now at)) }
     ensures refused { IfErr result (λ fault. IsOfText fault → NoTree text.now) }
 {
-    if text.len() > LIMIT {
+    if text.len() > LENGTH_LIMIT {
         return Err(ReadFault::TooLarge);
     }
     if let Err(fault) = from_utf8(text) {
@@ -51,70 +34,57 @@ pub fn parse(alloc: Global, text: &[u8]) -> Result<Tree, ReadFault>
             at: fault.valid_up_to(),
         });
     }
-    tree_of(alloc, text, read_leaves(alloc, text)?)
+    tree_of(alloc, text)
 }
 
-/// The tree of the leaves of a text, or the fault that stands first in the text.
-fn tree_of(alloc: Global, text: &[u8], reading: Reading) -> Result<Tree, ReadFault>
+/// The tree of a text of characters within the limit, or the fault that stands first in it.
+fn tree_of(alloc: Global, text: &[u8]) -> Result<Tree, ReadFault>
     requires within { length text.now ≤ limit }
     requires coded { IsUtf8 text.now }
-    requires told { MatchOption reading.fault (AreLeaves reading.leaves × (spell_leaves reading.leaves ≡ text.now)) (λ _. NoLeaves text.now) }
-    requires kind { IfSome reading.fault (λ fault. is_of_leaves fault ≡ true) }
     ensures ok { IfOk result (λ tree. Reads text.now tree) }
     ensures other { IfErr result (λ fault. IsOther fault) }
     ensures refused { IfErr result (λ fault. IsOfText fault → NoTree text.now) }
 {
-    match file_of(alloc, reading.leaves) {
-        Ok(root) => match reading.fault {
-            None => Ok(Tree { root }),
-            Some(fault) => Err(fault),
+    let mut leaves = Leaves::new(alloc, text);
+    match file(alloc, &mut leaves) {
+        Ok(root) => Ok(Tree { root }),
+        Err(Halt::Memory) => Err(ReadFault::Memory),
+        Err(Halt::Unexpected) => Err(fault_before(alloc, text, &leaves)),
+    }
+}
+
+/// The fault for which no file goes on with the next of these leaves of a text.
+fn fault_before(alloc: Global, text: &[u8], leaves: &Leaves) -> ReadFault
+    requires { length text.now ≤ limit }
+    ensures { IsOther result }
+{
+    match leaves.too_deep_at() {
+        Some(at) => match first_too_deep(alloc, text) {
+            Ok(first) => too_deep(text, first.unwrap_or(at)),
+            Err(_) => ReadFault::Memory,
         },
-        Err(refusal) => Err(told(text, refusal, reading.fault)),
+        None => {
+            let stop = leaves.stopped_at(text);
+            fault_at(text, stop.at, stop.reason)
+        }
     }
 }
 
-/// The fault of leaves that are no file, in front of the fault behind them.
-fn told(text: &[u8], refusal: Refusal, fault: Option<ReadFault>) -> ReadFault
-    requires { IfSome fault (λ fault. is_of_leaves fault ≡ true) }
-    ensures other { IsOther result }
-    ensures place { IsOfText result → IsPlace refusal }
+/// The byte at which the first node begins that is too deep, where the text is a file of at most twice the depth. What
+/// stands behind a node may put it deeper, so the whole text decides. The error, `Memory` alone: a growth was refused.
+fn first_too_deep(alloc: Global, text: &[u8]) -> Result<Option<usize>, Halt>
+    requires { length text.now ≤ limit }
 {
-    match (refusal, fault) {
-        (Refusal::Memory, _) => ReadFault::Memory,
-        (Refusal::At(at), _) => unexpected_at(text, at),
-        (Refusal::Deep(at), _) => too_deep(text, at),
-        (Refusal::Over, Some(fault)) => fault,
-        (Refusal::Over, None) => unexpected_at(text, text.len()),
-    }
-}
-
-/// The leaves as a file.
-fn file_of(alloc: Global, leaves: Items<Leaf>) -> Result<Node, Refusal>
-    ensures ok { IfOk result (λ root. IsFileOf leaves root) }
-    ensures err { IfErr result (λ refusal. Refuses refusal leaves) }
-{
-    let mut rest = Leaves::new(leaves.into_vec());
-    match file(alloc, &mut rest) {
-        Ok(root) => Ok(root),
-        Err(Halt::Memory) => Err(Refusal::Memory),
-        Err(Halt::Unexpected) => Err(place_in(&rest)),
-    }
-}
-
-/// Where no file goes on with the leaves that are left.
-fn place_in(rest: &Leaves) -> Refusal
-    ensures { IsPlace result }
-{
-    match (rest.too_deep_at(), rest.next_at()) {
-        (Some(at), _) => Refusal::Deep(at),
-        (None, Some(at)) => Refusal::At(at),
-        (None, None) => Refusal::Over,
+    let mut leaves = Leaves::new(alloc, text);
+    match whole(alloc, 2 * DEPTH_LIMIT, &mut leaves) {
+        Ok(file) => Ok(deeper_at(&file, DEPTH_LIMIT)),
+        Err(Halt::Memory) => Err(Halt::Memory),
+        Err(Halt::Unexpected) => Ok(None),
     }
 }
 
 fn too_deep(text: &[u8], at: usize) -> ReadFault
-    ensures other { IsOther result }
-    ensures of_text { IsOfText result }
+    ensures { IsOther result }
 {
     let (line, column) = place_of(text, at.min(text.len()));
     ReadFault::TooDeep { line, column }

@@ -1,97 +1,116 @@
-//! Parts with their depth, so that no depth is counted twice.
-ghost use Rattle.std.specs.Prelude.{◌≡◌, ◌∷◌, ◌++◌, ◌<◌, ◌≤◌, ◌^◌, ◌+◌, ℕ, [], IfOk, OnOk, Some, None, if◌then◌else◌, true};
-ghost use Rattle.bz_tree.specs.Spell.{depth_part, deepest};
-ghost use Rattle.bz_tree.specs.Reading.{node, fits_in};
-ghost use Rattle.bz_tree.specs.Words.{terminals_of, token_at, Adds, Fails};
+//! The parts that stand in no node yet.
+ghost use Rattle.std.specs.Prelude.{◌≡◌, ◌∷◌, ◌++◌, ◌≤◌, ◌<◌, [], length, take, drop, max, Ok, Some, OnOk, IfOk, slice_get};
+ghost use Rattle.std.specs.Option.{option_copied};
+ghost use Rattle.bz_tree.specs.declared.tree.Part.{Part};
+ghost use Rattle.bz_tree.specs.Shapes.{name, has_token};
+ghost use Rattle.bz_tree.specs.Reading.{node};
+ghost use Rattle.bz_tree.specs.Words.{terminals_of, token_at, Pushes, Fails};
 
 use crate::kind::Kind;
 use crate::token::{Halt, Leaves, Token};
 use crate::tree::{Node, Part};
 use bz_items::{Items, Memory};
 use std::alloc::Global;
+use std::marker::Model;
 
-/// A part, and how deep it is.
+/// The parts that were read and stand in no node yet, in the order of the text: those of the outermost open node first.
+/// One list serves all open nodes; a node takes its own off the end, in a list of just their number.
 #[derive(Drop)]
-pub(crate) struct Deep {
-    pub part: Part,
-    pub depth: u64,
-    ghost counted: { depth ≡ depth_part part },
+pub(crate) struct Stack {
+    parts: Vec<Part>,
 }
 
-/// Parts of a node to be, and how deep the deepest is.
-#[derive(Drop)]
-pub(crate) struct Row {
-    pub parts: Vec<Part>,
-    pub depth: u64,
-    ghost counted: { depth ≡ deepest parts.items },
+impl Model for Stack {
+    ghost use Rattle.std.specs.Prelude.{List};
+    ghost use Rattle.std.specs.Coded.{coded_list};
+    ghost use Rattle.bz_tree.specs.declared.tree.Part.{Part};
+    ghost use Rattle.bz_tree.specs.contracts.tree.Part as e;
+
+    ghost Value = { List Part };
+
+    ghost coded = { coded_list e.the_row.coded };
+
+    ghost view = { λ stack. stack.parts.items };
 }
 
-impl Deep {
-    /// The next leaf, where it is this token.
-    pub fn leaf(token: Token, leaves: &mut Leaves) -> Result<Deep, Halt>
-        ensures ok { IfOk result (λ deep. token_at (terminals_of token) leaves.old ≡ Some (deep.part, leaves.new)) }
-        ensures flat { IfOk result (λ deep. deep.depth ≡ 0) }
+impl Stack {
+    /// No parts.
+    pub fn new(alloc: Global) -> Stack
+        ensures { result ≡ [] }
+    {
+        Stack {
+            parts: Vec::new(alloc),
+        }
+    }
+
+    /// How many parts there are.
+    pub fn len(&self) -> usize
+        ensures { result ≡ length self.now }
+    {
+        self.parts.len()
+    }
+
+    /// The part at a place.
+    pub fn get(&self, at: usize) -> Option<&Part>
+        ensures { option_copied result ≡ slice_get self.now at }
+    {
+        self.parts.get(at)
+    }
+
+    /// Whether the part at a place is a name.
+    pub fn has_name(&self, at: usize) -> bool
+        ensures { (x : Part) → slice_get self.now at ≡ Some x → result ≡ has_token name x }
+    {
+        match self.parts.get(at) {
+            Some(Part::Leaf(leaf)) => Token::Name.is(leaf.class, leaf.token.as_slice()),
+            _ => false,
+        }
+    }
+
+    /// One more part. The error: a growth was refused.
+    pub fn push(&mut self, part: Part) -> Result<(), Memory>
+        ensures { OnOk result (self.new ≡ self.old ++ part ∷ []) }
+    {
+        self.parts.push(part)?;
+        Ok(())
+    }
+
+    /// The part of a stack of one.
+    pub fn into_only(self) -> Result<Part, Halt>
+        ensures { (x : Part) → self ≡ x ∷ [] → result ≡ Ok x }
+    {
+        let Stack { mut parts } = self;
+        match parts.pop() {
+            Some(part) => Ok(part),
+            None => Err(Halt::Unexpected),
+        }
+    }
+
+    /// Puts the parts from a place on into a node of this kind. The error: a growth was refused.
+    pub fn close(&mut self, kind: Kind, from: usize) -> Result<(), Memory>
+        requires { from ≤ length self.old }
+        ensures { OnOk result (self.new ≡ take from self.old ++ node kind (drop from self.old) ∷ []) }
+    {
+        let _whole = self.parts.len();
+        let parts = Items::from_vec(self.parts.split_off(from)?);
+        self.parts.push(Part::Node(Node { kind, parts }))?;
+        Ok(())
+    }
+
+    /// The next leaf, where it is this token. Tells how deep it is: not at all.
+    pub fn take(&mut self, token: Token, leaves: &mut Leaves) -> Result<u32, Halt>
+        ensures ok { IfOk result (λ deep. Pushes (token_at (terminals_of token) leaves.old) self.old self.new leaves.new deep) }
         ensures err { Fails result (token_at (terminals_of token) leaves.old) }
     {
         let part = leaves.take(token)?;
-        Ok(Deep { part, depth: 0 })
+        self.push(part)?;
+        Ok(0)
     }
 }
 
-impl Row {
-    /// A row of one part, which may stand in a node at this depth.
-    pub fn first(alloc: Global, left: Deep, depth: u32) -> Result<Row, Halt>
-        ensures ok { IfOk result (λ row. row.parts.items ≡ left.part ∷ []) }
-        ensures fits { IfOk result (λ row. fits_in depth left.part ≡ true) }
-        ensures err { Fails result (if fits_in depth left.part then Some left.part else None) }
-        ensures within { IfOk result (λ row. row.depth ≤ depth) }
-    {
-        if left.depth > depth as u64 {
-            return Err(Halt::Unexpected);
-        }
-        let row = Row::new(alloc).with(left)?;
-        Ok(row)
-    }
-
-    /// A row of no parts.
-    pub fn new(alloc: Global) -> Row
-        ensures empty { result.parts.items ≡ [] }
-        ensures flat { result.depth ≡ 0 }
-    {
-        Row {
-            parts: Vec::new(alloc),
-            depth: 0,
-        }
-    }
-
-    /// The row and one more part.
-    #[tactic(auto, using(crate::proofs::Deepest::deepest_push))]
-    pub fn with(self, deep: Deep) -> Result<Row, Memory>
-        ensures ok { IfOk result (λ row. row.parts.items ≡ self.parts.items ++ deep.part ∷ []) }
-        ensures within { (d : ℕ) → self.depth ≤ d → deep.depth ≤ d → IfOk result (λ row. row.depth ≤ d) }
-    {
-        let Row { mut parts, depth } = self;
-        let Deep { part, depth: other } = deep;
-        parts.push(part)?;
-        let depth = if depth < other { other } else { depth };
-        Ok(Row { parts, depth })
-    }
-
-    /// A node of the row.
-    pub fn node(self, kind: Kind) -> Deep
-        requires { self.depth < 2 ^ 32 }
-        ensures part { result.part ≡ node kind self.parts.items }
-        ensures depth { result.depth ≡ self.depth + 1 }
-    {
-        let Row { mut parts, depth } = self;
-        // a tree lives long, and most nodes are small
-        parts.shrink_to_fit();
-        Deep {
-            part: Part::Node(Node {
-                kind,
-                parts: Items::from_vec(parts),
-            }),
-            depth: depth + 1,
-        }
-    }
+/// The greater of two depths.
+pub(crate) fn deeper(one: u32, other: u32) -> u32
+    ensures { result ≡ max one other }
+{
+    if one < other { other } else { one }
 }

@@ -26,9 +26,17 @@ pub(crate) const BITOR: Sort = Sort::Level(7);
 
 pub(crate) const OR: Sort = Sort::Level(11);
 
-pub(crate) const TEST: Sort = Sort::Level(12);
+pub(crate) const TEST: Sort = Sort::Level(COMMAS);
 
 pub(crate) const EXPR: Sort = Sort::Level(13);
+
+/// The rank of a node of a sign, and of a node of `not`.
+pub(crate) const UNARY: u8 = 1;
+
+pub(crate) const NOT: u8 = 9;
+
+/// The rank of a condition, the highest in which no comma binds; commas make an expression of the next one.
+pub(crate) const COMMAS: u8 = 12;
 
 /// Where the parser stands in a node: what is left to read of it.
 #[derive(Clone, Copy)]
@@ -324,7 +332,7 @@ pub(crate) fn rung_at(n: u8) -> Rung
     match n {
         0 => Rung::Prefix(
             Token::Signs,
-            State::Ends(Kind::Unary, Token::Signs, Sort::Level(1)),
+            State::Ends(Kind::Unary, Token::Signs, Sort::Level(UNARY)),
         ),
         1 => operator(Kind::Product, Sort::Level(1), Token::Products),
         2 => operator(Kind::Sum, Sort::Level(2), Token::Sums),
@@ -335,7 +343,7 @@ pub(crate) fn rung_at(n: u8) -> Rung
         7 => Rung::Infix(Token::Compares, State::Compare),
         8 => Rung::Prefix(
             Token::Not,
-            State::Ends(Kind::Not, Token::Not, Sort::Level(9)),
+            State::Ends(Kind::Not, Token::Not, Sort::Level(NOT)),
         ),
         9 => operator(Kind::And, Sort::Level(9), Token::And),
         10 => operator(Kind::Or, Sort::Level(10), Token::Or),

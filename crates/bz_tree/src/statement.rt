@@ -1,12 +1,14 @@
 //! The lines on which the statements of a file begin.
-ghost use Rattle.std.specs.Prelude.{◌≡◌, ◌+◌, ◌<◌, ◌^◌, ℕ, [], List, length, count_by, slice_get, option_map};
+ghost use Rattle.std.specs.Prelude.{◌≡◌, ◌+◌, ◌<◌, ◌^◌, ℕ, [], List, length, count_by, slice_get, option_map, map, IfOk, OnOk, ◌++◌, ◌∷◌};
 ghost use Rattle.std.specs.List.{flat_map};
 ghost use Rattle.std.specs.Option.{option_copied};
 ghost use Rattle.bz_tree.specs.Spell.{spell_leaf, spell_part, leaves_part};
-ghost use Rattle.bz_tree.specs.Statements.{is_node, parts_of, gap_of, newlines, fronts_in, fronts, line_behind, line_of};
+ghost use Rattle.bz_tree.specs.Statements.{is_node, parts_of, gap_of, newlines, fronts_in, fronts, line_behind, line_of, lines_of};
 
 use crate::tree::{Part, Tree};
+use bz_items::Memory;
 use bz_lex::Leaf;
+use std::alloc::Global;
 
 impl Tree {
     /// The line, from 1, on which the first token of a statement stands. Statements are counted from 0, in the order of
@@ -16,6 +18,69 @@ impl Tree {
         ensures { result ≡ line_of self.now statement }
     {
         line_among(self.root.parts.as_slice(), statement)
+    }
+
+    /// The lines of all statements, each as `line_of` tells it, in the order of the text. The text is read once. The error: a
+    /// growth was refused.
+    pub fn lines(&self, alloc: Global) -> Result<Vec<u32>, Memory>
+        ensures { IfOk result (λ lines. lines.items ≡ lines_of self.now) }
+    {
+        let mut lines = Vec::new(alloc);
+        push_lines_among(self.root.parts.as_slice(), &mut lines)?;
+        Ok(lines)
+    }
+}
+
+/// Appends the lines of all statements of a file that has these parts.
+fn push_lines_among(parts: &[Part], lines: &mut Vec<u32>) -> Result<(), Memory>
+    requires { 1 + length (flat_map spell_part parts.now) < 2 ^ 32 }
+    ensures { OnOk result (lines.new.items ≡ lines.old.items ++ map line_behind (fronts [] parts.now)) }
+{
+    let mut begins = 1;
+    for part in parts {
+        begins = part.push_lines(begins, lines)?;
+    }
+    Ok(())
+}
+
+/// Appends the lines of the statements of a Line that has these parts, whose spelling begins on line `first`, and tells
+/// the line behind it.
+fn push_lines_in(parts: &[Part], first: u32, lines: &mut Vec<u32>) -> Result<u32, Memory>
+    requires { first + length (flat_map spell_part parts.now) < 2 ^ 32 }
+    ensures behind { IfOk result (λ line. line ≡ first + newlines (flat_map spell_part parts.now)) }
+    ensures lines { (front : List ℕ) → line_behind front ≡ first → OnOk result (lines.new.items ≡ lines.old.items ++ map line_behind (fronts_in front parts.now)) }
+{
+    let mut line = first;
+    for part in parts {
+        part.push_line(line, lines)?;
+        line += part.newlines();
+    }
+    Ok(line)
+}
+
+impl Part {
+    /// Appends the lines of the statements in a part of a file that begins on line `first`, and tells the line behind it.
+    #[tactic(auto, using(crate::proofs::Spells::spell_Node))]
+    fn push_lines(&self, first: u32, lines: &mut Vec<u32>) -> Result<u32, Memory>
+        requires { first + length (spell_part self.now) < 2 ^ 32 }
+        ensures behind { IfOk result (λ line. line ≡ first + newlines (spell_part self.now)) }
+        ensures lines { (front : List ℕ) → line_behind front ≡ first → OnOk result (lines.new.items ≡ lines.old.items ++ map line_behind (fronts_in front (parts_of self.now))) }
+    {
+        match self {
+            Part::Leaf(leaf) => Ok(first + leaf_newlines(leaf)),
+            Part::Node(node) => push_lines_in(node.parts.as_slice(), first, lines),
+        }
+    }
+
+    /// Appends the line of a part of a Line that begins on line `first`, if it is a statement.
+    fn push_line(&self, first: u32, lines: &mut Vec<u32>) -> Result<(), Memory>
+        requires { first + length (spell_part self.now) < 2 ^ 32 }
+        ensures { (front : List ℕ) → line_behind front ≡ first → OnOk result (lines.new.items ≡ lines.old.items ++ map line_behind (fronts_in front (self.now ∷ []))) }
+    {
+        if self.is_node() {
+            lines.push(first + self.gap_newlines())?;
+        }
+        Ok(())
     }
 }
 

@@ -1,14 +1,18 @@
-ghost use Rattle.std.specs.Prelude.{◌≡◌, ◌↔◌, ◌∷◌, [], drop, Some, None, IfOk, IsTrue};
+ghost use Rattle.std.specs.Prelude.{◌≡◌, ◌↔◌, ◌≤◌, ◌<◌, ◌&&◌, ◌∷◌, [], ℕ, nat_le, false, Some, None, length, MatchOption, IfOk, IsTrue};
 ghost use Rattle.bz_token.specs.declared.class.Class.TheVariants as c;
 ghost use Rattle.bz_tree.specs.Shapes.{this, is_class, is_terminal, is_one_of, simple, assigns, orders, products, line};
 ghost use Rattle.bz_tree.specs.Reading.{starts_with, starts};
 ghost use Rattle.bz_tree.specs.declared.token.Token.TheVariants as t;
-ghost use Rattle.bz_tree.specs.Words.{terminals_of, is_alone, token_at, Fails};
+ghost use Rattle.bz_tree.specs.Spell.{limit};
+ghost use Rattle.bz_lex.proofs.Coming.{to_come};
+ghost use Rattle.bz_tree.specs.Words.{terminals_of, bare, token_at, Fails};
+ghost use Rattle.bz_tree.specs.States.{binds_at};
 
+use crate::state::COMMAS;
 use crate::tree::Part;
-use bz_lex::{Class, Leaf};
-use std::alloc::{AllocError, AllocFailed};
-use std::collections::VecDeque;
+use bz_lex::{Class, Front, Leaf, Place, Reason, Stop, leaf_front};
+use bz_token::opens_string;
+use std::alloc::{AllocError, AllocFailed, Global};
 use std::marker::Model;
 
 /// Why the leaves are no file.
@@ -101,137 +105,146 @@ pub(crate) enum Token {
     For,
 }
 
-fn has_class(leaf: &Leaf, class: Class) -> bool
-    ensures { result ≡ is_class leaf.now.class class }
+fn has_class(one: Class, class: Class) -> bool
+    ensures { result ≡ is_class one class }
 {
-    leaf.class.number() == class.number()
+    one.number() == class.number()
 }
 
-fn is_mark(leaf: &Leaf, text: &[u8]) -> bool
-    ensures { result ≡ is_terminal (this c.Mark text.now) leaf.now }
+fn is_mark(class: Class, token: &[u8], text: &[u8]) -> bool
+    ensures { result ≡ is_terminal (this c.Mark text.now) (bare class token.now) }
 {
-    has_class(leaf, Class::Mark) && leaf.token.as_slice() == text
+    has_class(class, Class::Mark) && token == text
 }
 
-fn is_keyword(leaf: &Leaf, text: &[u8]) -> bool
-    ensures { result ≡ is_terminal (this c.Keyword text.now) leaf.now }
+fn is_keyword(class: Class, token: &[u8], text: &[u8]) -> bool
+    ensures { result ≡ is_terminal (this c.Keyword text.now) (bare class token.now) }
 {
-    has_class(leaf, Class::Keyword) && leaf.token.as_slice() == text
+    has_class(class, Class::Keyword) && token == text
 }
 
-fn is_simple(leaf: &Leaf) -> bool
-    ensures { result ≡ is_one_of simple leaf.now }
+fn is_simple(class: Class) -> bool
+    ensures { result ≡ is_one_of simple (bare class []) }
 {
-    has_class(leaf, Class::Name) || has_class(leaf, Class::Number) || has_class(leaf, Class::String)
+    has_class(class, Class::Name)
+        || has_class(class, Class::Number)
+        || has_class(class, Class::String)
 }
 
-fn is_assign(leaf: &Leaf) -> bool
-    ensures { result ≡ is_one_of assigns leaf.now }
+fn is_assign(class: Class, token: &[u8]) -> bool
+    ensures { result ≡ is_one_of assigns (bare class token.now) }
 {
-    is_mark(leaf, b"=")
-        || is_mark(leaf, b"+=")
-        || is_mark(leaf, b"-=")
-        || is_mark(leaf, b"*=")
-        || is_mark(leaf, b"/=")
-        || is_mark(leaf, b"//=")
-        || is_mark(leaf, b"%=")
-        || is_mark(leaf, b"&=")
-        || is_mark(leaf, b"|=")
-        || is_mark(leaf, b"^=")
-        || is_mark(leaf, b"<<=")
-        || is_mark(leaf, b">>=")
+    is_mark(class, token, b"=")
+        || is_mark(class, token, b"+=")
+        || is_mark(class, token, b"-=")
+        || is_mark(class, token, b"*=")
+        || is_mark(class, token, b"/=")
+        || is_mark(class, token, b"//=")
+        || is_mark(class, token, b"%=")
+        || is_mark(class, token, b"&=")
+        || is_mark(class, token, b"|=")
+        || is_mark(class, token, b"^=")
+        || is_mark(class, token, b"<<=")
+        || is_mark(class, token, b">>=")
 }
 
-fn is_order(leaf: &Leaf) -> bool
-    ensures { result ≡ is_one_of orders leaf.now }
+fn is_order(class: Class, token: &[u8]) -> bool
+    ensures { result ≡ is_one_of orders (bare class token.now) }
 {
-    is_mark(leaf, b"==")
-        || is_mark(leaf, b"!=")
-        || is_mark(leaf, b"<")
-        || is_mark(leaf, b">")
-        || is_mark(leaf, b"<=")
-        || is_mark(leaf, b">=")
-        || is_keyword(leaf, b"in")
+    is_mark(class, token, b"==")
+        || is_mark(class, token, b"!=")
+        || is_mark(class, token, b"<")
+        || is_mark(class, token, b">")
+        || is_mark(class, token, b"<=")
+        || is_mark(class, token, b">=")
+        || is_keyword(class, token, b"in")
 }
 
-fn is_product(leaf: &Leaf) -> bool
-    ensures { result ≡ is_one_of products leaf.now }
+fn is_product(class: Class, token: &[u8]) -> bool
+    ensures { result ≡ is_one_of products (bare class token.now) }
 {
-    is_mark(leaf, b"*") || is_mark(leaf, b"/") || is_mark(leaf, b"//") || is_mark(leaf, b"%")
+    is_mark(class, token, b"*")
+        || is_mark(class, token, b"/")
+        || is_mark(class, token, b"//")
+        || is_mark(class, token, b"%")
 }
 
-fn is_end(leaf: &Leaf) -> bool
-    ensures { result ≡ is_one_of (terminals_of t.Ends) leaf.now }
+fn is_end(class: Class, token: &[u8]) -> bool
+    ensures { result ≡ is_one_of (terminals_of t.Ends) (bare class token.now) }
 {
-    is_mark(leaf, b",")
-        || is_mark(leaf, b")")
-        || is_mark(leaf, b"]")
-        || is_mark(leaf, b"}")
-        || is_mark(leaf, b":")
-        || is_mark(leaf, b"=")
-        || is_mark(leaf, b";")
-        || has_class(leaf, Class::Newline)
+    is_mark(class, token, b",")
+        || is_mark(class, token, b")")
+        || is_mark(class, token, b"]")
+        || is_mark(class, token, b"}")
+        || is_mark(class, token, b":")
+        || is_mark(class, token, b"=")
+        || is_mark(class, token, b";")
+        || has_class(class, Class::Newline)
 }
 
-fn is_line(leaf: &Leaf) -> bool
-    ensures { result ≡ is_one_of (starts line) leaf.now }
+fn is_line(class: Class, token: &[u8]) -> bool
+    ensures { result ≡ is_one_of (starts line) (bare class token.now) }
 {
-    is_keyword(leaf, b"load")
-        || is_keyword(leaf, b"not")
-        || is_mark(leaf, b"+")
-        || is_mark(leaf, b"-")
-        || is_mark(leaf, b"~")
-        || is_simple(leaf)
-        || is_mark(leaf, b"(")
-        || is_mark(leaf, b"[")
-        || is_mark(leaf, b"{")
+    is_keyword(class, token, b"load")
+        || is_keyword(class, token, b"not")
+        || is_mark(class, token, b"+")
+        || is_mark(class, token, b"-")
+        || is_mark(class, token, b"~")
+        || is_simple(class)
+        || is_mark(class, token, b"(")
+        || is_mark(class, token, b"[")
+        || is_mark(class, token, b"{")
 }
 
 impl Token {
-    pub fn is(self, leaf: &Leaf) -> bool
-        ensures { result ≡ is_one_of (terminals_of self) leaf.now }
+    pub fn is(self, class: Class, token: &[u8]) -> bool
+        ensures { result ≡ is_one_of (terminals_of self) (bare class token.now) }
     {
         match self {
-            Token::Name => has_class(leaf, Class::Name),
-            Token::String => has_class(leaf, Class::String),
-            Token::Simple => is_simple(leaf),
-            Token::Newline => has_class(leaf, Class::Newline),
-            Token::End => has_class(leaf, Class::End),
-            Token::OpenRound => is_mark(leaf, b"("),
-            Token::CloseRound => is_mark(leaf, b")"),
-            Token::OpenSquare => is_mark(leaf, b"["),
-            Token::CloseSquare => is_mark(leaf, b"]"),
-            Token::OpenCurly => is_mark(leaf, b"{"),
-            Token::CloseCurly => is_mark(leaf, b"}"),
-            Token::Comma => is_mark(leaf, b","),
-            Token::Colon => is_mark(leaf, b":"),
-            Token::Semicolon => is_mark(leaf, b";"),
-            Token::Dot => is_mark(leaf, b"."),
-            Token::Equals => is_mark(leaf, b"="),
-            Token::Assigns => is_assign(leaf),
-            Token::Stars => is_mark(leaf, b"*") || is_mark(leaf, b"**"),
-            Token::Signs => is_mark(leaf, b"+") || is_mark(leaf, b"-") || is_mark(leaf, b"~"),
-            Token::Orders => is_order(leaf),
-            Token::Compares => is_order(leaf) || is_keyword(leaf, b"not"),
-            Token::Suffixes => is_mark(leaf, b".") || is_mark(leaf, b"(") || is_mark(leaf, b"["),
-            Token::Clauses => is_keyword(leaf, b"for") || is_keyword(leaf, b"if"),
-            Token::Lines => is_line(leaf),
-            Token::SliceStops => is_mark(leaf, b"]") || is_mark(leaf, b":"),
-            Token::Ends => is_end(leaf),
-            Token::Bar => is_mark(leaf, b"|"),
-            Token::Caret => is_mark(leaf, b"^"),
-            Token::Ampersand => is_mark(leaf, b"&"),
-            Token::Shifts => is_mark(leaf, b"<<") || is_mark(leaf, b">>"),
-            Token::Sums => is_mark(leaf, b"+") || is_mark(leaf, b"-"),
-            Token::Products => is_product(leaf),
-            Token::Load => is_keyword(leaf, b"load"),
-            Token::If => is_keyword(leaf, b"if"),
-            Token::Else => is_keyword(leaf, b"else"),
-            Token::Or => is_keyword(leaf, b"or"),
-            Token::And => is_keyword(leaf, b"and"),
-            Token::Not => is_keyword(leaf, b"not"),
-            Token::In => is_keyword(leaf, b"in"),
-            Token::For => is_keyword(leaf, b"for"),
+            Token::Name => has_class(class, Class::Name),
+            Token::String => has_class(class, Class::String),
+            Token::Simple => is_simple(class),
+            Token::Newline => has_class(class, Class::Newline),
+            Token::End => has_class(class, Class::End),
+            Token::OpenRound => is_mark(class, token, b"("),
+            Token::CloseRound => is_mark(class, token, b")"),
+            Token::OpenSquare => is_mark(class, token, b"["),
+            Token::CloseSquare => is_mark(class, token, b"]"),
+            Token::OpenCurly => is_mark(class, token, b"{"),
+            Token::CloseCurly => is_mark(class, token, b"}"),
+            Token::Comma => is_mark(class, token, b","),
+            Token::Colon => is_mark(class, token, b":"),
+            Token::Semicolon => is_mark(class, token, b";"),
+            Token::Dot => is_mark(class, token, b"."),
+            Token::Equals => is_mark(class, token, b"="),
+            Token::Assigns => is_assign(class, token),
+            Token::Stars => is_mark(class, token, b"*") || is_mark(class, token, b"**"),
+            Token::Signs => is_mark(class, token, b"+")
+                || is_mark(class, token, b"-")
+                || is_mark(class, token, b"~"),
+            Token::Orders => is_order(class, token),
+            Token::Compares => is_order(class, token) || is_keyword(class, token, b"not"),
+            Token::Suffixes => is_mark(class, token, b".")
+                || is_mark(class, token, b"(")
+                || is_mark(class, token, b"["),
+            Token::Clauses => is_keyword(class, token, b"for") || is_keyword(class, token, b"if"),
+            Token::Lines => is_line(class, token),
+            Token::SliceStops => is_mark(class, token, b"]") || is_mark(class, token, b":"),
+            Token::Ends => is_end(class, token),
+            Token::Bar => is_mark(class, token, b"|"),
+            Token::Caret => is_mark(class, token, b"^"),
+            Token::Ampersand => is_mark(class, token, b"&"),
+            Token::Shifts => is_mark(class, token, b"<<") || is_mark(class, token, b">>"),
+            Token::Sums => is_mark(class, token, b"+") || is_mark(class, token, b"-"),
+            Token::Products => is_product(class, token),
+            Token::Load => is_keyword(class, token, b"load"),
+            Token::If => is_keyword(class, token, b"if"),
+            Token::Else => is_keyword(class, token, b"else"),
+            Token::Or => is_keyword(class, token, b"or"),
+            Token::And => is_keyword(class, token, b"and"),
+            Token::Not => is_keyword(class, token, b"not"),
+            Token::In => is_keyword(class, token, b"in"),
+            Token::For => is_keyword(class, token, b"for"),
         }
     }
 }
@@ -243,36 +256,52 @@ struct TooDeep {
     until: usize,
 }
 
-/// The leaves that are not in the tree yet, how many bytes those in front of them spell, and the last node that was seen
-/// to be nested too deep. A contract sees the list of leaves that are left.
+/// The leaves of a text that are not in the tree yet. Each is cut off the text when it is taken; of the next one alone is
+/// known what it is. A contract sees the list of leaves that come, up to where no leaf stands.
 #[derive(Drop)]
-pub struct Leaves {
-    rest: VecDeque<Leaf>,
+pub struct Leaves<'a> {
+    alloc: Global,
+    /// The text from the gap of the next leaf on, and where that stands in a file.
+    rest: &'a [u8],
+    place: Place,
+    next: Result<Front, Stop>,
+    /// How many bytes of the text are not left, and how many stand before the last token that was taken.
     offset: usize,
+    last: usize,
     too_deep: Option<TooDeep>,
 }
 
-impl Model for Leaves {
-    ghost use Rattle.std.specs.Prelude.{List};
+impl<'a> Model for Leaves<'a> {
+    ghost use Rattle.std.specs.Prelude.{◌<◌, ◌+◌, ◌^◌, List, length};
     ghost use Rattle.std.specs.Coded.{coded_list};
     ghost use Rattle.bz_lex.specs.declared.leaf.Leaf.{Leaf};
     ghost use Rattle.bz_lex.specs.contracts.leaf.Leaf as e;
+    ghost use Rattle.bz_lex.specs.Places.{open_brackets};
+    ghost use Rattle.bz_lex.specs.Fronts.{TellsFront};
+    ghost use Rattle.bz_lex.proofs.Coming.{to_come};
 
     ghost Value = { List Leaf };
 
     ghost coded = { coded_list e.the_row.coded };
 
-    ghost view = { λ leaves. leaves.rest.items };
+    ghost view = { λ leaves. to_come leaves.place leaves.rest.now };
+
+    ghost invariant = { λ leaves. TellsFront leaves.place leaves.rest.now leaves.next × (open_brackets leaves.place + length leaves.rest.now < 2 ^ 64) };
 }
 
-impl Leaves {
-    /// All these leaves, from the first on.
-    pub fn new(leaves: Vec<Leaf>) -> Leaves
-        ensures { result ≡ leaves.items }
+impl<'a> Leaves<'a> {
+    /// The leaves of a text.
+    pub fn new(alloc: Global, text: &'a [u8]) -> Leaves<'a>
+        requires { length text.now ≤ limit }
+        ensures { result ≡ to_come Place.Fresh text.now }
     {
         Leaves {
-            rest: VecDeque::from_vec(leaves),
+            alloc,
+            rest: text,
+            place: Place::Fresh,
+            next: leaf_front(text, Place::Fresh),
             offset: 0,
+            last: 0,
             too_deep: None,
         }
     }
@@ -280,35 +309,39 @@ impl Leaves {
     pub(crate) fn is_empty(&self) -> bool
         ensures { IsTrue result ↔ (self.now ≡ []) }
     {
-        self.rest.is_empty()
+        match self.next {
+            Ok(_) => false,
+            Err(_) => true,
+        }
     }
 
     /// Whether the next leaf is this token.
     pub(crate) fn starts(&self, token: Token) -> bool
         ensures { result ≡ starts_with (terminals_of token) self.now }
     {
-        match self.rest.front() {
-            Some(leaf) => token.is(leaf),
-            None => false,
+        match self.next {
+            Ok(front) => token.is(front.class, front.token_of(self.rest)),
+            Err(_) => false,
         }
     }
 
-    /// Whether the leaf behind the next one is this token.
-    #[tactic(auto, using(crate::proofs::Alone::second_starts, crate::proofs::Alone::no_second))]
-    fn goes_on(&self, token: Token) -> bool
-        ensures { result ≡ starts_with (terminals_of token) (drop 1 self.now) }
+    /// Whether the next leaf is this token, and a rank is no lower than the least.
+    pub(crate) fn starts_from(&self, least: u8, rank: u8, token: Token) -> bool
+        ensures { result ≡ (nat_le least rank && starts_with (terminals_of token) self.now) }
     {
-        match self.rest.get(1) {
-            Some(leaf) => token.is(leaf),
-            None => false,
-        }
+        least <= rank && self.starts(token)
     }
 
-    /// Whether the next leaf is a name, a number or a string, behind which an expression ends in which no comma binds.
-    pub(crate) fn is_alone(&self) -> bool
-        ensures { result ≡ is_alone self.now }
+    /// The next rank, from this one on, in which the next leaf may bind as an operator.
+    pub(crate) fn next_rank(&self, rank: u8) -> u8
+        ensures above { rank ≤ result }
+        ensures passes { (j : ℕ) → rank ≤ j → j < result → binds_at j self.now ≡ false }
     {
-        self.starts(Token::Simple) && self.goes_on(Token::Ends)
+        if rank < COMMAS && self.starts(Token::Ends) {
+            COMMAS
+        } else {
+            rank
+        }
     }
 
     /// Keeps that a node begins at this byte which would be nested too deep if it went on with the next leaf.
@@ -335,10 +368,53 @@ impl Leaves {
     }
 
     /// The byte at which the token of the next leaf begins.
-    pub fn next_at(&self) -> Option<usize> {
-        self.rest
-            .front()
-            .map(|leaf| self.offset.saturating_add(leaf.gap.len()))
+    pub(crate) fn next_at(&self) -> Option<usize> {
+        match self.next {
+            Ok(front) => Some(self.offset.saturating_add(front.gap)),
+            Err(_) => None,
+        }
+    }
+
+    /// Why the next leaf is no part of a file, and the byte of the whole text at which that shows: no leaf stands there, or
+    /// it is a string that is not closed, from its prefix on, or it stands where no file goes on with it.
+    pub fn stopped_at(&self, text: &[u8]) -> Stop {
+        let (reason, at) = match self.next {
+            Ok(front) => (Reason::Unexpected, self.offset.saturating_add(front.gap)),
+            Err(stop) => (stop.reason, self.offset.saturating_add(stop.at)),
+        };
+        let begins_here = matches!(reason, Reason::OpenString) && at == self.offset;
+        if begins_here && opens_string(from(text, self.last)) {
+            return Stop {
+                reason,
+                at: self.last,
+            };
+        }
+        if matches!(reason, Reason::Unexpected) && opens_string(from(text, at)) {
+            return Stop {
+                reason: Reason::OpenString,
+                at,
+            };
+        }
+        Stop { reason, at }
+    }
+
+    /// Cuts off the next leaf, if there is one. The error: a growth was refused; the leaves are then as before.
+    fn cut(&mut self) -> Result<Option<Leaf>, AllocError>
+        ensures { IfOk result (λ leaf. MatchOption leaf (self.old ≡ []) (λ leaf. self.old ≡ leaf ∷ self.new)) }
+    {
+        let front = match self.next {
+            Ok(front) => front,
+            Err(_) => return Ok(None),
+        };
+        let leaf = front.leaf(self.alloc, self.rest)?;
+        let place = self.place.behind(leaf.class, leaf.token.as_slice());
+        let rest = front.rest_of(self.rest);
+        self.last = self.offset.saturating_add(front.gap);
+        self.offset = self.last.saturating_add(front.token);
+        self.next = leaf_front(rest, place);
+        self.place = place;
+        self.rest = rest;
+        Ok(Some(leaf))
     }
 
     /// The next leaf, where it is this token.
@@ -350,13 +426,14 @@ impl Leaves {
         if !self.starts(token) {
             return Err(Halt::Unexpected);
         }
-        match self.rest.pop_front() {
-            Some(leaf) => {
-                let length = leaf.gap.len().saturating_add(leaf.token.len());
-                self.offset = self.offset.saturating_add(length);
-                Ok(Part::Leaf(leaf))
-            }
+        match self.cut()? {
+            Some(leaf) => Ok(Part::Leaf(leaf)),
             None => Err(Halt::Unexpected),
         }
     }
+}
+
+/// What stands from a byte of a text on.
+fn from(text: &[u8], at: usize) -> &[u8] {
+    text.split_at(at.min(text.len())).1
 }

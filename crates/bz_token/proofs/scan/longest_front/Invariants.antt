@@ -1,8 +1,14 @@
-use Rattle.std.proofs.Common.{◌≡◌, drop}
+use Rattle.std.proofs.Common.{◌≡◌, ◌≤◌, ◌-◌, drop, length}
 use Rattle.bz_token.specs.declared.state.State.TheVariants.{Start}
 use Rattle.bz_token.specs.Machine.{longest, or_found}
 use Rattle.bz_token.specs.Scanner.{move, may_end}
 use Rattle.bz_token.proofs.scan.longest_front.Given as goal
 
-abbrev pub invariant-loop-i : goal.invariant-loop-i
-invariant-loop-i l = or_found l.best l.i (longest move may_end l.state (drop l.i l.text)) ≡ longest move may_end Start l.text
+abbrev pub invariant-bytes : goal.invariant-bytes
+invariant-bytes l = record {
+  found : or_found l.best l.at (longest move may_end l.state (drop l.at l.text)) ≡ longest move may_end Start l.text;
+  within : l.at ≤ length l.text;
+}
+
+abbrev pub decreases-bytes : goal.decreases-bytes
+decreases-bytes l = length l.text - l.at

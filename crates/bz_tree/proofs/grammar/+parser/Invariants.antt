@@ -1,47 +1,67 @@
-use Rattle.std.proofs.Common.{◌≡◌, ◌+◌, ◌*◌, ◌≤◌, length}
-use Rattle.bz_tree.specs.States.{turns, found_at, suffixes_at, level_at}
+use Rattle.std.proofs.Common.{◌≡◌, ◌+◌, ◌*◌, ◌-◌, ◌≤◌, ◌++◌, ◌∷◌, [], length, take, drop}
+use Rattle.bz_tree.specs.declared.tree.Part.{Part}
+use Rattle.bz_tree.specs.Spell.{depth_part, deepest}
+use Rattle.bz_tree.specs.States.{turns, found_at, suffixes_at, level_at, Rises}
 use Rattle.bz_tree.proofs.grammar.+parser.Given as goal
 
 -- each part inside is one deeper; the functions of one depth in the order in which they call each other
 abbrev pub decreases-part : goal.decreases-part
-decreases-part l = 2000 * l.depth
-
-abbrev pub decreases-read : goal.decreases-read
-decreases-read l = 2000 * l.depth + 1
+decreases-part l = 20 * l.depth
 
 abbrev pub decreases-follow : goal.decreases-follow
-decreases-follow l = 2000 * l.depth + 2
+decreases-follow l = 20 * l.depth + 1
 
-abbrev pub decreases-begun : goal.decreases-begun
-decreases-begun l = 2000 * l.depth + 3
+abbrev pub decreases-begin : goal.decreases-begin
+decreases-begin l = 20 * l.depth + 2
+
+abbrev pub decreases-go_on : goal.decreases-go_on
+decreases-go_on l = 20 * l.depth + 2
+
+abbrev pub decreases-raised : goal.decreases-raised
+decreases-raised l = 20 * l.depth + 3
 
 abbrev pub decreases-atom : goal.decreases-atom
-decreases-atom l = 2000 * l.depth + 3
+decreases-atom l = 20 * l.depth + 3
 
 abbrev pub decreases-primary : goal.decreases-primary
-decreases-primary l = 2000 * l.depth + 4
+decreases-primary l = 20 * l.depth + 4
 
-abbrev pub decreases-level : goal.decreases-level
-decreases-level l = 2000 * l.depth + 5 + l.n
+abbrev pub decreases-operand : goal.decreases-operand
+decreases-operand l = 20 * l.depth + 5
 
 abbrev pub decreases-expression : goal.decreases-expression
-decreases-expression l = 2000 * l.depth + 6 + l.n
+decreases-expression l = 20 * l.depth + 6
 
 abbrev pub decreases-argument : goal.decreases-argument
-decreases-argument l = 2000 * l.depth + 300
+decreases-argument l = 20 * l.depth + 7
 
 abbrev pub invariant-follow-moves : goal.invariant-follow-moves
 invariant-follow-moves l = record {
-  rest : found_at l.depth l.row.parts.items l.state l.leaves ≡ found_at l.fn.depth l.fn.row.parts.items l.fn.state l.fn.leaves;
-  within : l.row.depth ≤ l.depth;
+  rest : found_at l.depth (drop l.from l.stack) l.state l.leaves ≡ found_at l.fn.depth (drop l.fn.from l.fn.stack) l.fn.state l.fn.leaves;
+  below : take l.from l.stack ≡ take l.fn.from l.fn.stack;
+  from : l.from ≤ length l.stack;
+  deep : l.deep ≡ deepest (drop l.from l.stack);
+  within : l.deep ≤ l.depth;
 }
 
 -- each move takes a leaf or leaves fewer choices
 abbrev pub decreases-follow-moves : goal.decreases-follow-moves
 decreases-follow-moves l = 8 * length l.leaves + turns l.state
 
+abbrev pub invariant-expression-ranks : goal.invariant-expression-ranks
+invariant-expression-ranks l = record {
+  from : l.from ≡ length l.fn.stack;
+  rises : Rises l.depth l.rank l.n l.fn.leaves l.leaves l.fn.stack l.stack l.deep;
+}
+
+abbrev pub decreases-expression-ranks : goal.decreases-expression-ranks
+decreases-expression-ranks l = l.n - l.rank
+
 abbrev pub invariant-primary-suffixes : goal.invariant-primary-suffixes
-invariant-primary-suffixes l = suffixes_at l.depth l.left.part l.leaves ≡ level_at l.fn.depth 0 l.fn.leaves
+invariant-primary-suffixes l = record {
+  from : l.from ≡ length l.fn.stack;
+  goes : (a : Part) × (suffixes_at l.depth a l.leaves ≡ level_at l.fn.depth 0 l.fn.leaves) × (l.stack ≡ l.fn.stack ++ (a ∷ [])) × (l.deep ≡ depth_part a);
+}
 
 abbrev pub decreases-primary-suffixes : goal.decreases-primary-suffixes
 decreases-primary-suffixes l = length l.leaves

@@ -1,5 +1,4 @@
 use Rattle.std.proofs.Common.{◌≤◌, length, arith}
-use Rattle.std.proofs.lemmas.Result.{err_from_is_err_and}
 use Rattle.bz_tree.specs.Spell.{limit}
 use Rattle.bz_tree.proofs.Accepts.{told_not_utf8, not_told, no_tree_coded}
 use Rattle.bz_tree.proofs.parsing.parse.Goals as goal
@@ -8,11 +7,6 @@ pub returns-in-Err-clause-not_utf8 : goal.returns-in-Err-clause-not_utf8
 returns-in-Err-clause-not_utf8 c at =
     let le : length c.args.text.now ≤ limit = omega arith in
     told_not_utf8 c.args.text.now _ at le (rw c.valid_up_to.ensures c.in-Err.ensures.cases.1)
-
-pub returns-in_err-read_leaves-clause-not_utf8 : goal.returns-in_err-read_leaves-clause-not_utf8
-returns-in_err-read_leaves-clause-not_utf8 c at =
-    let p = err_from_is_err_and c.from_residual.result c.from_residual.ensures.1 in
-    not_told c.from_residual.result c.args.text.now at c.in_default.ensures.cases.1 (rw (p.1, p.2) tt)
 
 pub returns-clause-not_utf8 : goal.returns-clause-not_utf8
 returns-clause-not_utf8 c at = not_told c.tree_of.result c.args.text.now at c.in_default.ensures.cases.1 c.tree_of.ensures.other
