@@ -165,14 +165,15 @@ fn lines_of(alloc: Global, text: &[u8]) -> Result<String, Memory> {
         Err(fault) => return told(alloc, &fault),
     };
     let mut lines = String::new(alloc);
-    for place in 0..=text.len() {
-        let Some(line) = tree.line_of(place) else {
-            break;
-        };
+    let all = tree.lines(alloc)?;
+    for (place, line) in all.iter().enumerate() {
         let blank = if place == 0 { "" } else { " " };
         write!(&mut lines, "{blank}{line}")?;
+        if tree.line_of(place) != Some(*line) {
+            lines.push_str(" or another")?;
+        }
     }
-    if tree.line_of(usize::MAX).is_some() {
+    if tree.line_of(all.len()).is_some() || tree.line_of(usize::MAX).is_some() {
         lines.push_str(" and one past the end")?;
     }
     Ok(lines)
