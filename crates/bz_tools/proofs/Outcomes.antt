@@ -1,6 +1,6 @@
 -- A run of steps on a session, and the outcome of a run of the program.
 use Rattle.std.proofs.Common.{◌≡◌, ◌⊎◌, ◌↔◌, inl, inr, ℕ, ◌≤◌, ◌<◌, List, [], ◌∷◌, length, take, Option, Some, None, Result, Ok, Err, arith, refl, sym, ap, subst, length-take}
-use Rattle.std.specs.Prelude.{IfSome}
+use Rattle.std.specs.Prelude.{IfSome, is_some, option_map}
 use Rattle.std.specs.Io.KnownBytes.{Appends}
 use Rattle.std.specs.Str.{IsValidUpTo}
 use Rattle.std.proofs.lemmas.List.{take_all, append-nil}
@@ -41,6 +41,10 @@ run_halts h after step left rest refusal split acts other = rw (split) (inl (ref
     leads : Acts step.action h (Err refusal) after → Leads step.action h (Err refusal) after
     leads (inl done) = done
     leads (inr wanting) = let e = wanting.1 in absurd (other (cc))
+
+pub is_some-mapped : {A B : Type 0} (f : A → B) (o : Option A) → is_some (option_map f o) ≡ is_some o
+is_some-mapped f None = refl
+is_some-mapped f (Some x) = refl
 
 -- a fault of the text says that it is not taken
 pub refused_text : (text : List ℕ) (fault : ReadFault) → (IsOfText fault → Taken text → ⊥) → (fault ≡ f.Memory → ⊥) → Taken text → ⊥

@@ -146,12 +146,40 @@ fn edit<E: Sink>(
     Ok(Edited { text, status })
 }
 
+// A run that is cut has the status of a refusal.
 fn cut_by(cut: Cut) -> Exit
     ensures { result ≡ record { status = 2; cut = cut } }
 {
     Exit {
         status: REFUSED,
         cut,
+    }
+}
+
+// The input was not read.
+fn cut_by_input(fault: InputFault) -> Exit
+    ensures memory { fault ≡ InputFault.Memory → result ≡ record { status = 2; cut = Cut.Memory } }
+    ensures read { fault ≡ InputFault.Read → result ≡ record { status = 2; cut = Cut.Read } }
+{
+    match fault {
+        InputFault::Memory => cut_by(Cut::Memory),
+        InputFault::Read => cut_by(Cut::Read),
+    }
+}
+
+// Writes the text of a run that comes to its end.
+fn finish<W: Sink>(out: &mut W, edited: &Edited) -> Exit
+    ensures whole { result.cut ≡ Cut.Whole → (result.status ≡ edited.now.status)
+        × Appends (W.contents out.old) (W.contents out.new) edited.now.text.items × (W.faults out.new ≡ W.faults out.old) }
+    ensures write { result.cut ≢ Cut.Whole → (result ≡ record { status = 2; cut = Cut.Write })
+        × AppendsSome (W.contents out.old) (W.contents out.new) edited.now.text.items × Rises (W.faults out.old) (W.faults out.new) }
+{
+    match write_whole(out, &edited.text) {
+        Ok(()) => Exit {
+            status: edited.status,
+            cut: Cut::Whole,
+        },
+        Err(_) => cut_by(Cut::Write),
     }
 }
 
@@ -217,18 +245,10 @@ pub fn buildozer<S: AsStr, R: Source, W: Sink, E: Sink>(
     };
     let bytes = match read_most(alloc, input, MOST) {
         Ok(bytes) => bytes,
-        Err(InputFault::Memory) => return cut_by(Cut::Memory),
-        Err(InputFault::Read) => return cut_by(Cut::Read),
+        Err(fault) => return cut_by_input(fault),
     };
-    let edited = match edit(alloc, &steps, &bytes, err) {
-        Ok(edited) => edited,
-        Err(_) => return cut_by(Cut::Memory),
-    };
-    match write_whole(out, &edited.text) {
-        Ok(()) => Exit {
-            status: edited.status,
-            cut: Cut::Whole,
-        },
-        Err(_) => cut_by(Cut::Write),
+    match edit(alloc, &steps, &bytes, err) {
+        Ok(edited) => finish(out, &edited),
+        Err(_) => cut_by(Cut::Memory),
     }
 }

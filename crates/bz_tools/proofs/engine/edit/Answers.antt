@@ -1,11 +1,12 @@
-use Rattle.std.proofs.Common.{◌≡◌, List, ℕ, [], inr, refl}
+use Rattle.std.proofs.Common.{◌≡◌, List, ℕ, [], inl, inr, refl, subst, option_map}
 use Rattle.std.proofs.lemmas.Result.{IfOk-weaker}
 use Rattle.bz_lex.specs.declared.fault.ReadFault.TheVariants as f
 use Rattle.bz_tools.specs.Told.{fault_line}
 use Rattle.bz_tools.specs.Faults.{AppendsUnlessFailed}
-use Rattle.bz_tools.specs.Outcome.{Edits}
-use Rattle.bz_tools.specs.Shown.{steps_in}
-use Rattle.bz_tools.proofs.Outcomes.{refused_text, fault_of_text}
+use Rattle.bz_journal.specs.History.{History}
+use Rattle.bz_tools.specs.Outcome.{Edits, RunsToRefusal, halt_line}
+use Rattle.bz_tools.specs.Shown.{halt_in, steps_in}
+use Rattle.bz_tools.proofs.Outcomes.{refused_text, fault_of_text, is_some-mapped}
 use Rattle.bz_tools.proofs.engine.edit.Goals as goal
 
 pub returns-in-Err-clause-ok : goal.returns-in-Err-clause-ok
@@ -30,3 +31,20 @@ returns-in-Err-clause-ok g c =
       told.3,
     ))
     c.unread.ensures.ok
+
+pub returns-clause-ok : goal.returns-clause-ok
+returns-clause-ok g c =
+    let halt = option_map halt_in c.in_ok-halt.halt in (
+      halt_line halt,
+      inl (record {
+        taken = c.in-Ok.ensures.taken;
+        halt = halt;
+        after = c.run.new.session;
+        runs = (let P : History → Type 0 = λ h. RunsToRefusal h (steps_in c.args.steps.now) halt c.run.new.session in
+            subst P c.in-Ok.ensures.ok c.in_ok-halt.ensures.ok);
+        written = rw (c.new-text.ensures.items) at c.in_ok-text_into.ensures.ok;
+        told = refl;
+        ended = rw (is_some-mapped halt_in c.in_ok-halt.halt) (rw (c.deref.ensures.value, c.is_some.ensures) at c.status_of-status.ensures);
+      }),
+      c.tell_halt.ensures.told,
+    )
