@@ -1,5 +1,5 @@
 # make        proves and builds every program, leaves it in bin/, and shows a first run
-# make test   the tests: every proof from nothing, the edits that the prover must refuse, each program and each test
+# make test   the tests: runs of the program (tests/), every proof from nothing, the edits that the prover must refuse, each program and each test
 # make bench  the time and the memory of a delete in a large file, and of reading one; with FOLDER=.. of the BUILD files there
 # make corpus FOLDER=..   reads each BUILD file below the folder, and spells it back byte for byte
 
@@ -35,7 +35,7 @@ bin/.shown: bin/buildozer examples/BUILD
 	@touch $@
 
 test: rt
-	@rt ci
+	@tests/programs.py rt ci
 
 bench: $(PROGRAMS)
 	@bench/delete.sh

@@ -33,6 +33,7 @@ fn laws_that_require_nothing(_rt: HostRuntime) {
     bz_command::worked_deletes();
     bz_journal::worked_histories();
     bz_tools::worked_words();
+    bz_tools::worked_refusals();
 }
 
 fn one_label(alloc: Global) -> Result<(), LabelFault> {
