@@ -123,7 +123,7 @@ impl Part {
 
 /// The first leaf of these parts.
 #[cycle(first)]
-fn first_of(parts: &[Part]) -> Option<&Leaf>
+pub(crate) fn first_of(parts: &[Part]) -> Option<&Leaf>
     ensures { option_copied result ≡ slice_get (flat_map leaves_part parts.now) 0 }
 {
     for part in parts {
