@@ -14,13 +14,13 @@ OneTree tree other = spell_node tree ≡ spell_node other → tree ≡ other
 abbrev pub OneFile : Type 0
 OneFile = (m n : Node) → IsFile m → IsFile n → leaves_of m ≡ leaves_of n → m ≡ n
 
--- The gaps of a file stand where the nodes say that they may, and its tokens are those of its spelling, exactly where its
--- leaves stand in a row as the leaves of a text do.
+-- The gaps of a file by its shapes stand where the nodes let them, and its tokens are those of its spelling, exactly where
+-- its leaves, in a row, stand as the leaves of a text do.
 abbrev pub GapsByNodes : Type 0
 GapsByNodes = (n : Node) → IsFile n → (AtParts Stands Begins Begins n.parts × AreTokens (leaves_of n)) ↔ AreLeaves (leaves_of n)
 
--- a legal tree, said without nodes: a file by its shapes, whose leaves stand in a row as the leaves of a text do, are
--- texts of characters, and of a depth of at most 200
+-- A legal tree by its leaves: a file by its shapes, at most 200 nodes deep, whose leaves, in a row, stand as the leaves of
+-- a text do and are texts of characters.
 pub record IsLegalByLeaves (n : Node) : Type 0 where
   pub file : IsFile n
   pub leaves : AreLeaves (leaves_of n)

@@ -82,6 +82,7 @@ fn one_text_has_one_tree(rt: HostRuntime) -> Result<(), Fail> {
     let again = parse(rt.alloc(), TEXT.as_bytes())?;
     laws::one_tree(&tree, &again);
     laws::one_file();
+    laws::legal_by_nodes();
     assert!(rt; Part::Node(tree.root.copy()?).equals(&Part::Node(again.root.copy()?)));
     let other = parse(rt.alloc(), b"# \xc3\xa9\nload('a', b = 'c')")?;
     assert!(rt; !Part::Node(tree.root.copy()?).equals(&Part::Node(other.root.copy()?)));
