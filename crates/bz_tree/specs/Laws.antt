@@ -1,8 +1,10 @@
 -- Laws of legal trees.
-use Rattle.std.specs.Prelude.{◌≡◌}
+use Rattle.std.specs.Prelude.{◌≡◌, ◌≤◌, ◌↔◌}
+use Rattle.bz_lex.specs.Leaves.{AreLeaves, AreCoded}
 use Rattle.bz_tree.specs.declared.tree.Node.{Node}
-use Rattle.bz_tree.specs.Spell.{spell_node, leaves_of}
-use Rattle.bz_tree.specs.Legal.{IsFile}
+use Rattle.bz_tree.specs.Spell.{spell_node, leaves_of, depth_of}
+use Rattle.bz_tree.specs.Spots.{Begins, AtParts, Stands, AreTokens}
+use Rattle.bz_tree.specs.Legal.{IsFile, Legal}
 
 -- trees that spell the same are the same
 abbrev pub OneTree : Node → Node → Type 0
@@ -11,3 +13,20 @@ OneTree tree other = spell_node tree ≡ spell_node other → tree ≡ other
 -- equal leaves have one shape: no leaves are those of two files
 abbrev pub OneFile : Type 0
 OneFile = (m n : Node) → IsFile m → IsFile n → leaves_of m ≡ leaves_of n → m ≡ n
+
+-- The gaps of a file by its shapes stand where the nodes let them, and its tokens are those of its spelling, exactly where
+-- its leaves, in a row, stand as the leaves of a text do.
+abbrev pub GapsByNodes : Type 0
+GapsByNodes = (n : Node) → IsFile n → (AtParts Stands Begins Begins n.parts × AreTokens (leaves_of n)) ↔ AreLeaves (leaves_of n)
+
+-- A legal tree by its leaves: a file by its shapes, at most 200 nodes deep, whose leaves, in a row, stand as the leaves of
+-- a text do and are texts of characters.
+pub record IsLegalByLeaves (n : Node) : Type 0 where
+  pub file : IsFile n
+  pub leaves : AreLeaves (leaves_of n)
+  pub coded : AreCoded (leaves_of n)
+  pub depth : depth_of n ≤ 200
+
+-- legal by nodes is legal by leaves
+abbrev pub LegalByNodes : Type 0
+LegalByNodes = (n : Node) → Legal n ↔ IsLegalByLeaves n

@@ -39,9 +39,9 @@ pub record IsFileOf (leaves_there : List Leaf) (n : Node) : Type 0 where
   pub leaves : leaves_of n ≡ leaves_there
   pub depth : depth_of n ≤ depth_limit
 
--- A tree is legal where it is a file by its shapes, its leaves cover its spelling as the leaves of a text do (so its
--- tokens are the longest lexemes there, and comments and newlines stand where they may), they are texts of characters,
--- and its depth is at most 200.
+-- A tree is legal where it is a file by its shapes, its gaps stand where they may (said on the nodes: where newlines,
+-- comments and indents stand), its tokens are the longest lexemes of its spelling, gaps and tokens are texts of
+-- characters, and its depth is at most 200.
 pub record Legal (n : Node) : Type 0 where
   pub file : IsFile n
   pub gaps : AtParts Stands Begins Begins n.parts

@@ -2,6 +2,7 @@
 ghost use Rattle.std.specs.Prelude.{◌≡◌};
 
 use crate::state::{COMMAS, NOT, Rung, Sort, UNARY, rung_at};
+use crate::statement::first_of;
 use crate::token::{Leaves, Token};
 use crate::tree::{Node, Part};
 
@@ -72,11 +73,7 @@ fn finds_deeper_in(parts: &[Part], levels: u64, at: &mut usize) -> bool {
 
 /// How long the gap is before the first token of the parts.
 fn first_gap(parts: &[Part]) -> usize {
-    match parts.first() {
-        Some(Part::Leaf(leaf)) => leaf.gap.len(),
-        Some(Part::Node(node)) => first_gap(node.parts.as_slice()),
-        None => 0,
-    }
+    first_of(parts).map_or(0, |leaf| leaf.gap.len())
 }
 
 /// Whether a node of this sort begins with the next leaf and not with a leaf of it.

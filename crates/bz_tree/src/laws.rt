@@ -1,5 +1,5 @@
 //! Laws of legal trees: the contract of each function is a law, and there is nothing to run.
-ghost use Rattle.bz_tree.specs.Laws.{OneTree, OneFile};
+ghost use Rattle.bz_tree.specs.Laws.{GapsByNodes, LegalByNodes, OneFile, OneTree};
 ghost use Rattle.bz_tree.specs.Worked.{WorkedLines};
 
 use crate::tree::Tree;
@@ -15,6 +15,12 @@ pub fn one_tree(tree: &Tree, other: &Tree)
 /// No leaves are those of two files.
 pub fn one_file()
     ensures { OneFile }
+{}
+
+/// A tree is legal by its nodes exactly where it is legal by its leaves in a row.
+pub fn legal_by_nodes()
+    ensures gaps { GapsByNodes }
+    ensures legal { LegalByNodes }
 {}
 
 /// The lines of the statements of one small text.
