@@ -19,6 +19,7 @@ fn laws_that_require_nothing(_rt: HostRuntime) {
     bz_lex::laws::one_lexing();
     bz_lex::laws::coded_leaves();
     bz_tree::laws::one_file();
+    bz_tree::laws::legal_by_nodes();
     bz_tree::laws::worked_lines();
     bz_label::laws::path_law();
     bz_label::laws::key_laws();
