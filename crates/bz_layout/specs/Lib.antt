@@ -1,0 +1,6 @@
+pub mod Spaces
+pub mod Layout
+pub mod Written
+pub mod Drawn
+pub mod Flags
+pub mod Laws

@@ -1,0 +1,6 @@
+pub mod Characters
+pub mod Comments
+pub mod Frames
+pub mod Gaps
+pub mod Proper
+pub mod Roots

@@ -1,0 +1,74 @@
+//! The types of file values.
+use crate::comments::Comments;
+use bz_items::{Items, Text};
+use bz_tree::{Class, Kind};
+use std::marker::Model;
+
+/// A token. `break_`: of a binary operator, that the operand after it begins on a new line.
+#[derive(Drop)]
+pub struct Token {
+    pub class: Class,
+    pub text: Text,
+    pub break_: bool,
+    pub comments: Comments,
+}
+
+/// A statement, an item of a sequence, or a part of one.
+#[cycle(expr)]
+#[derive(Drop)]
+pub enum Expr {
+    Token(Token),
+    Form(Form),
+}
+
+/// What stands between the brackets of a call, list, dict, tuple or load, without brackets and commas: the items, the
+/// comments below the last one, and whether a newline stood before an item, a comma or the closing bracket.
+#[cycle(expr)]
+#[derive(Drop)]
+pub struct Seq {
+    pub items: Items<Expr>,
+    pub end_: Items<Text>,
+    pub split: bool,
+}
+
+/// A node without gaps. With a sequence: `parts` is what stands before its opening bracket (the function of a call, the
+/// word of a load). Without one: `parts` is the whole row of the node, marks too, and `seq` is empty. `open_`: of a
+/// comprehension, that a newline stood right behind its bracket.
+#[cycle(expr)]
+#[derive(Drop)]
+pub struct Form {
+    pub kind: Kind,
+    pub parts: Items<Expr>,
+    pub seq: Seq,
+    pub open_: bool,
+    pub comments: Comments,
+}
+
+/// An item of a file: comment lines that stand by themselves, or a statement.
+#[derive(Drop)]
+pub enum Item {
+    Block(Items<Text>),
+    Stmt(Expr),
+}
+
+/// What a BUILD file says: its items, which are proper.
+#[derive(Drop)]
+pub struct File {
+    pub items: Items<Item>,
+}
+
+impl Model for File {
+    ghost use Rattle.std.specs.Prelude.{List};
+    ghost use Rattle.std.specs.Coded.{codes};
+    ghost use Rattle.bz_value.specs.contracts.value.Expr as e;
+    ghost use Rattle.bz_value.specs.declared.value.Item.{Item};
+    ghost use Rattle.bz_value.specs.Proper.{IsProper};
+
+    ghost Value = { List Item };
+
+    ghost coded = { Prim.hlevel (codes, e.the_row.coded) };
+
+    ghost view = { λ file. file.items };
+
+    ghost invariant = { λ file. IsProper file.items };
+}
