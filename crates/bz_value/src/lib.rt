@@ -2,6 +2,9 @@
 #![tactic(auto)]
 
 mod comments;
+mod copy;
+mod same;
+mod texts;
 mod value;
 
 pub use comments::Comments;
