@@ -4,3 +4,4 @@ pub mod Frames
 pub mod Gaps
 pub mod Proper
 pub mod Roots
+pub mod Worked

@@ -38,11 +38,7 @@ impl Comments {
     }
 
     /// These comments. The error: memory was refused.
-    pub fn new(
-        alloc: Global,
-        before: Items<Text>,
-        suffix: Option<Text>,
-    ) -> Result<Comments, Memory>
+    pub fn new(alloc: Global, before: Items<Text>, suffix: Option<Text>) -> Result<Comments, Memory>
         ensures { IfOk result (λ comments. comments ≡ record { before = before; suffix = suffix }) }
     {
         if before.is_empty() && suffix.is_none() {

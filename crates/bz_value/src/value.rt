@@ -1,4 +1,6 @@
 //! The types of file values.
+ghost use Rattle.std.specs.Prelude.{◌≡◌};
+
 use crate::comments::Comments;
 use bz_items::{Items, Text};
 use bz_tree::{Class, Kind};
@@ -19,6 +21,20 @@ pub struct Token {
 pub enum Expr {
     Token(Token),
     Form(Form),
+}
+
+impl Expr {
+    ghost use Rattle.bz_value.specs.Proper.{comments_of};
+
+    /// The comments of the expression: none, unless it is a statement or an item of a sequence.
+    pub fn comments(&self) -> &Comments
+        ensures { result.now ≡ comments_of self.now }
+    {
+        match self {
+            Expr::Token(token) => &token.comments,
+            Expr::Form(form) => &form.comments,
+        }
+    }
 }
 
 /// What stands between the brackets of a call, list, dict, tuple or load, without brackets and commas: the items, the
