@@ -1,4 +1,5 @@
 pub mod Characters
+pub mod Commented
 pub mod Comments
 pub mod Frames
 pub mod Gaps

@@ -1,8 +1,9 @@
-//! How the nodes of each kind are kept.
+//! How the nodes of each kind are kept, and which tokens are operators.
 ghost use Rattle.std.specs.Prelude.{◌≡◌, ◌≤◌};
 ghost use Rattle.bz_value.specs.Frames.{frame, has_brackets, is_binary, is_comprehension, is_statement, lead};
+ghost use Rattle.bz_value.specs.Proper.{is_sign};
 
-use bz_tree::Kind;
+use bz_tree::{Class, Kind};
 
 /// Whether a node of the kind holds a sequence between brackets.
 pub fn is_sequence(kind: Kind) -> bool
@@ -55,4 +56,11 @@ pub fn is_statement(kind: Kind) -> bool
     ensures { result ≡ is_statement kind }
 {
     matches!(kind, Kind::Bare | Kind::Assign | Kind::Load)
+}
+
+/// Whether a token of the class is an operator, in a row of operands and operators.
+pub fn is_sign(class: Class) -> bool
+    ensures { result ≡ is_sign class }
+{
+    matches!(class, Class::Mark | Class::Keyword)
 }

@@ -11,7 +11,7 @@ mod texts;
 mod value;
 
 pub use comments::Comments;
-pub use frame::{is_binary, is_comprehension, is_sequence, is_statement, lead_of};
+pub use frame::{is_binary, is_comprehension, is_sequence, is_sign, is_statement, lead_of};
 pub use gap::{Line, behind_first_line, first_line, has_newline, push_all, push_others, suffix_in};
 pub use laws::worked_gaps;
 pub use value::{Expr, File, Form, Item, Seq, Token};

@@ -24,6 +24,7 @@ pub enum Expr {
 }
 
 impl Expr {
+    ghost use Rattle.bz_value.specs.Commented.{with_comments};
     ghost use Rattle.bz_value.specs.Proper.{comments_of};
 
     /// The comments of the expression: none, unless it is a statement or an item of a sequence.
@@ -33,6 +34,22 @@ impl Expr {
         match self {
             Expr::Token(token) => &token.comments,
             Expr::Form(form) => &form.comments,
+        }
+    }
+
+    /// The same expression with these comments in place of its own.
+    pub fn with_comments(self, comments: Comments) -> Expr
+        ensures { result ≡ with_comments self comments }
+    {
+        match self {
+            Expr::Token(mut token) => {
+                token.comments = comments;
+                Expr::Token(token)
+            }
+            Expr::Form(mut form) => {
+                form.comments = comments;
+                Expr::Form(form)
+            }
         }
     }
 }
