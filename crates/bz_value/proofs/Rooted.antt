@@ -109,3 +109,52 @@ module _ (close : List Terminal) (closer : Part) (closes : has_token close close
   items_closed q [] (inl h) = absurd h
   items_closed q (x ∷ xs) (inl h) = inl (ends_same x xs h)
   items_closed q xs (inr h) = inr (listed_closed q xs h)
+
+-- of the parts of a node, those that a form of its kind keeps: its parts and its items
+abbrev pub kept_parts : {X : Type 0} → Frame → Kind → List X → List X
+kept_parts row kind xs = xs
+kept_parts (sequence opener closer) kind xs = take (lead kind) xs
+
+abbrev pub kept_items : {X : Type 0} → Frame → Kind → List X → List X
+kept_items row kind xs = []
+kept_items (sequence opener closer) kind xs = places (drop (suc (lead kind)) xs)
+
+call_fits : (ps : List Part) → Fits IsSort (shape k.Call) ps → Fits IsSort (shape k.Call) (row_in (frame k.Call) (kept_parts (frame k.Call) k.Call ps) (kept_items (frame k.Call) k.Call ps))
+call_fits [] h = absurd h
+call_fits (x ∷ []) h = absurd h.1
+call_fits (x ∷ y ∷ ps) h = (h.0, (refl, items_closed s.close_round (mark 41) refl s.argument ps h.1.1))
+
+load_fits : (ps : List Part) → Fits IsSort (shape k.Load) ps → Fits IsSort (shape k.Load) (row_in (frame k.Load) (kept_parts (frame k.Load) k.Load ps) (kept_items (frame k.Load) k.Load ps))
+load_fits [] h = absurd h
+load_fits (w ∷ []) h = absurd h.1
+load_fits (w ∷ y ∷ []) h = absurd h.1.1
+load_fits (w ∷ y ∷ x ∷ []) (a, (b, (d, inl i))) = absurd i
+load_fits (w ∷ y ∷ x ∷ []) (a, (b, (d, inr i))) = absurd i
+load_fits (w ∷ y ∷ x ∷ z ∷ []) (a, (b, (d, inl i))) = (a, (refl, (d, inr (refl, inl (refl, tt)))))
+load_fits (w ∷ y ∷ x ∷ z ∷ u ∷ ps) (a, (b, (d, inl i))) = absurd i.1
+load_fits (w ∷ y ∷ x ∷ z ∷ ps) (a, (b, (d, inr i))) = (a, (refl, (d, inr (refl, items_closed s.close_round (mark 41) refl s.loaded ps i.1))))
+
+tuple_fits : (ps : List Part) → Fits IsSort (shape k.Tuple) ps → Fits IsSort (shape k.Tuple) (row_in (frame k.Tuple) (kept_parts (frame k.Tuple) k.Tuple ps) (kept_items (frame k.Tuple) k.Tuple ps))
+tuple_fits [] h = absurd h
+tuple_fits (y ∷ []) (a, inl i) = absurd i
+tuple_fits (y ∷ x ∷ ps) (a, inl i) = (refl, inl (ends_same s.close_round (mark 41) refl x ps i))
+tuple_fits (y ∷ []) (a, inr i) = absurd i
+tuple_fits (y ∷ x ∷ []) (a, inr i) = absurd i.1
+tuple_fits (y ∷ x ∷ z ∷ ps) (a, inr i) = (refl, inr (i.0, (refl, items_closed s.close_round (mark 41) refl s.test ps i.1.1)))
+
+list_fits : (ps : List Part) → Fits IsSort (shape k.List) ps → Fits IsSort (shape k.List) (row_in (frame k.List) (kept_parts (frame k.List) k.List ps) (kept_items (frame k.List) k.List ps))
+list_fits [] h = absurd h
+list_fits (y ∷ ps) h = (refl, items_closed s.close_square (mark 93) refl s.test ps h.1)
+
+dict_fits : (ps : List Part) → Fits IsSort (shape k.Dict) ps → Fits IsSort (shape k.Dict) (row_in (frame k.Dict) (kept_parts (frame k.Dict) k.Dict ps) (kept_items (frame k.Dict) k.Dict ps))
+dict_fits [] h = absurd h
+dict_fits (y ∷ ps) h = (refl, items_closed s.close_curly (mark 125) refl s.entry ps h.1)
+
+-- What a form keeps of a node's parts has the shape of its kind again, with brackets and commas put back.
+pub kind_fits : (kind : Kind) (ps : List Part) → Fits IsSort (shape kind) ps → Fits IsSort (shape kind) (row_in (frame kind) (kept_parts (frame kind) kind ps) (kept_items (frame kind) kind ps))
+kind_fits k.Call ps h = call_fits ps h
+kind_fits k.Load ps h = load_fits ps h
+kind_fits k.Tuple ps h = tuple_fits ps h
+kind_fits k.List ps h = list_fits ps h
+kind_fits k.Dict ps h = dict_fits ps h
+kind_fits _ ps h = h
