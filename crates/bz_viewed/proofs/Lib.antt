@@ -1,0 +1,2 @@
+pub mod InnerParts
+pub mod SeenParts
