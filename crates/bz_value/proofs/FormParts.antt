@@ -87,7 +87,7 @@ AsRow here f =
 abbrev pub AsSequence : Spot → Form → Type 0
 AsSequence here f = AreHead here f.parts × AreItems f.seq.items × All IsComment f.seq.end_ × (f.open_ ≡ false)
 
-framed : (f : Frame) {A A' B B' : Type 0} → (A → A') → (B → B') → in_frame f A B → in_frame f A' B'
+pub framed : (f : Frame) {A A' B B' : Type 0} → (A → A') → (B → B') → in_frame f A B → in_frame f A' B'
 framed row a b h = a h
 framed (sequence opener closer) a b h = b h
 

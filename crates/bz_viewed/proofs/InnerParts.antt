@@ -14,7 +14,7 @@ use Rattle.bz_tree.specs.declared.tree.Part.TheVariants as p
 use Rattle.bz_tree.specs.Shapes as s
 use Rattle.bz_tree.specs.Shapes.{Sort, Terminal, Shape, Fits, Listed, Behind, Several, shape, has_token, is_one_of, is_terminal, has_kind, leaves_at}
 use Rattle.bz_tree.specs.Legal.{IsSort}
-use Rattle.bz_tree.specs.Spots.{Spot, on, Turn, plain, turn, behind_token, behind_node, behind_part}
+use Rattle.bz_tree.specs.Spots.{Spot, Within, on, Turn, opens, closes, ends, plain, turn, behind_token, behind_node, behind_part}
 use Rattle.bz_tree.proofs.Balance.{no_such, same_class}
 use Rattle.bz_value.specs.Frames.{is_binary, is_statement}
 use Rattle.bz_value.specs.Proper.{is_sign}
@@ -141,40 +141,58 @@ inner_parts kind h xs i = every_part (λ x. is_inner x ≡ true) inner_tokens in
 
 -- ---- parts that neither open nor close brackets
 
-abbrev is_plain : Turn → Bool
-is_plain plain = true
-is_plain _ = false
+abbrev is_turn : Turn → Turn → Bool
+is_turn opens opens = true
+is_turn closes closes = true
+is_turn ends ends = true
+is_turn plain plain = true
+is_turn _ _ = false
 
-plain_is : (t : Turn) → is_plain t ≡ true → t ≡ plain
-plain_is plain h = refl
-plain_is _ h = no_such h
+turn_is : (a b : Turn) → is_turn a b ≡ true → a ≡ b
+turn_is opens opens h = refl
+turn_is closes closes h = refl
+turn_is ends ends h = refl
+turn_is plain plain h = refl
+turn_is _ _ h = no_such h
 
-abbrev plain_terminal : Terminal → Bool
-plain_terminal (s.any c.Mark) = false
-plain_terminal (s.any class) = not (ends_line class)
-plain_terminal (s.this class token) = is_plain (turn class token)
+-- whether each leaf that is this terminal is that to those behind it
+abbrev turns : Turn → Terminal → Bool
+turns t (s.any c.Mark) = false
+turns t (s.any class) = is_turn (turn class []) t
+turns t (s.this class token) = is_turn (turn class token) t
+
+abbrev pub all_turn : Turn → List Terminal → Bool
+all_turn t [] = true
+all_turn t (x ∷ xs) = turns t x && all_turn t xs
+
+of_class : (t : Turn) (class : Class) (token : List ℕ) → turns t (s.any class) ≡ true → turn class token ≡ t
+of_class t c.Mark token h = no_such h
+of_class t c.Newline token h = turn_is ends t h
+of_class t c.End token h = turn_is ends t h
+of_class t _ token h = turn_is plain t h
+
+of_terminal : (t : Turn) (x : Terminal) (l : Leaf) → turns t x ≡ true → is_terminal x l ≡ true → turn l.class l.token ≡ t
+of_terminal t (s.any class) l h i = ap (λ z. turn z l.token) (same_class l.class class i) ∙ of_class t class l.token h
+of_terminal t (s.this class token) l h i =
+    let w = and_parts _ _ i in
+    ap (λ z. turn z l.token) (same_class l.class class w.0) ∙ (ap (turn class) ((bytes_eq-Decides l.token token).0 w.1) ∙ turn_is (turn class token) t h)
+
+of_terminals : (t : Turn) (xs : List Terminal) (l : Leaf) → all_turn t xs ≡ true → is_one_of xs l ≡ true → turn l.class l.token ≡ t
+of_terminals t [] l h i = no_such i
+of_terminals t (x ∷ xs) l h i =
+    let w = and_parts (turns t x) (all_turn t xs) h in
+    elim (or_cases (is_terminal x l) (is_one_of xs l) i) [ inl e ↦ of_terminal t x l w.0 e | inr e ↦ of_terminals t xs l w.1 e ]
 
 abbrev pub plain_tokens : List Terminal → Bool
-plain_tokens [] = true
-plain_tokens (x ∷ xs) = plain_terminal x && plain_tokens xs
-
-class_plain : (class : Class) (token : List ℕ) → plain_terminal (s.any class) ≡ true → turn class token ≡ plain
-class_plain c.Mark token h = no_such h
-class_plain c.Newline token h = no_such h
-class_plain c.End token h = no_such h
-class_plain _ token h = refl
-
-terminal_plain : (x : Terminal) (l : Leaf) → plain_terminal x ≡ true → is_terminal x l ≡ true → turn l.class l.token ≡ plain
-terminal_plain (s.any class) l h i = ap (λ z. turn z l.token) (same_class l.class class i) ∙ class_plain class l.token h
-terminal_plain (s.this class token) l h i =
-    let w = and_parts _ _ i in
-    ap (λ z. turn z l.token) (same_class l.class class w.0) ∙ (ap (turn class) ((bytes_eq-Decides l.token token).0 w.1) ∙ plain_is (turn class token) h)
+plain_tokens ts = all_turn plain ts
 
 tokens_plain : (xs : List Terminal) (l : Leaf) → plain_tokens xs ≡ true → is_one_of xs l ≡ true → turn l.class l.token ≡ plain
-tokens_plain [] l h i = no_such i
-tokens_plain (x ∷ xs) l h i =
-    let w = and_parts (plain_terminal x) (plain_tokens xs) h in
-    elim (or_cases (is_terminal x l) (is_one_of xs l) i) [ inl e ↦ terminal_plain x l w.0 e | inr e ↦ tokens_plain xs l w.1 e ]
+tokens_plain xs l h i = of_terminals plain xs l h i
+
+-- behind an opening bracket
+pub token_opens : (ts : List Terminal) (x : Part) (outer here : Spot) → all_turn opens ts ≡ true → has_token ts x ≡ true → behind_part outer here x ≡ Within
+token_opens ts (p.Leaf l) outer here h i = ap (λ t. behind_token t outer here) (of_terminals opens ts l h i)
+token_opens ts (Node' kind z r) outer here h i = no_such i
 
 -- what follows the part stands where the part does, but for the first place of a line
 abbrev pub GoesOn : Part → Type 0

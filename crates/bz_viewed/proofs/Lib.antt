@@ -1,2 +1,3 @@
 pub mod InnerParts
+pub mod RowParts
 pub mod SeenParts
