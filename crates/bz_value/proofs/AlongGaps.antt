@@ -1,11 +1,11 @@
 -- A gap in which no unescaped newline may stand has none.
-use Rattle.std.proofs.Common.{ℕ, eqb, ◌≡◌, Bool, true, false, List, [], ◌∷◌, refl, ap, arith}
+use Rattle.std.proofs.Common.{ℕ, eqb, ◌≡◌, Bool, true, false, [], ◌∷◌, refl, ap, arith}
 use Rattle.std.proofs.lemmas.Bool.{both_ways, ne_eqb}
 use Rattle.std.proofs.lemmas.Bool.Decides.{nat_tests}
 use Rattle.bz_token.specs.Bytes.{is_blank}
 use Rattle.bz_lex.specs.Gaps.{IsGap, IsOneLine, nothing, blank, escaped, escaped_return, unescaped, comment, last_comment}
 use Rattle.bz_value.specs.Characters.{line_feed, number_sign, backslash}
-use Rattle.bz_value.specs.Gaps.{Bytes, CommentRest, in_comment, lines_of, has_newline}
+use Rattle.bz_value.specs.Gaps.{Bytes, in_comment, lines_of, has_newline}
 
 -- a blank says nothing
 blank_silent : (c : ℕ) (g : Bytes) → is_blank c ≡ true → lines_of (c ∷ g) ≡ lines_of g

@@ -28,9 +28,9 @@ mutual
   moved_expr (Form' kind s parts s' items end_ split open_ comments) here here' f h = (
     h.0,
     framed (frame kind)
-    (λ g. (moved_row _ parts (is_binary kind) here here' here here' f f g.0, g.1, g.2, g.3, g.4))
-    (λ g. (moved_head _ parts here here' f g.0, g.1, g.2, g.3))
-    h.1,
+        (λ g. (moved_row _ parts (is_binary kind) here here' here here' f f g.0, g.1, g.2, g.3, g.4))
+        (λ g. (moved_head _ parts here here' f g.0, g.1, g.2, g.3))
+        h.1,
   )
 
   moved_row : (m : _) (r : Row_of-Expr m) (binary : Bool) (outer outer' here here' : Spot) → on outer ≡ on outer' → on here ≡ on here' → ProperRow binary outer here r → ProperRow binary outer' here' r

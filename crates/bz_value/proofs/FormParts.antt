@@ -1,17 +1,15 @@
 -- A form is proper where its parts are, told of lists.
-use Rattle.std.proofs.Common.{◌≡◌, ◌≢◌, Bool, true, false, not, ◌&&◌, List, [], ◌∷◌, map, refl, sym, ap, ◌∙◌, subst}
+use Rattle.std.proofs.Common.{◌≡◌, Bool, true, false, not, ◌&&◌, List, [], ◌∷◌, map, refl, sym, ap, ◌∙◌, subst}
 use Rattle.std.specs.List.{All}
 use mathlib.Core.Former.{Count}
-use Rattle.bz_tree.specs.declared.tree.Part.{Part}
 use Rattle.bz_tree.specs.Shapes.{Fits, shape}
 use Rattle.bz_tree.specs.Legal.{IsSort}
-use Rattle.bz_tree.specs.Spots.{Spot, Within, on}
+use Rattle.bz_tree.specs.Spots.{Spot, Within}
 use Rattle.bz_value.specs.declared.value.Form.{Form}
 use Rattle.bz_value.specs.declared.value.Expr.{Expr, Token, Form', Row_of-Expr, end_of-Expr, more_of-Expr, items-the_row-Expr, items_hidden-the_row-Expr-0}
 use Rattle.bz_value.specs.declared.value.Expr.TheVariants as e
-use Rattle.bz_value.specs.Comments.{HostComments, no_comments}
+use Rattle.bz_value.specs.Comments.{no_comments}
 use Rattle.bz_value.specs.Frames.{Frame, row, sequence, frame, is_binary, is_comprehension}
-use Rattle.bz_value.specs.Gaps.{Bytes}
 use Rattle.bz_value.specs.Roots.{root, row_in}
 use Rattle.bz_value.specs.Proper.{IsComment, AreComments, comments_of, has_break, is_operator, begins_operator, behind_expr, roots, IsEmptyRow, IsBare, in_frame, ProperExpr, ProperRow, ProperHead, ProperItems}
 
@@ -101,7 +99,7 @@ form_proper here f h i =
     let then_ : roots qs.1 ≡ map root f.seq.items = roots_of qs.0 qs.1 ∙ ap (map root) items in (
       subst (λ xs. Fits IsSort (shape f.kind) (row_in (frame f.kind) xs (roots qs.1))) (sym first) (subst (λ ys. Fits IsSort (shape f.kind) (row_in (frame f.kind) (map root f.parts) ys)) (sym then_) h),
       framed (frame f.kind)
-      (λ g. (row_of (is_binary f.kind) here here ps.0 ps.1 (subst (AreParts (is_binary f.kind) here here) (sym parts) g.0), none_of qs.0 qs.1 (subst IsNone (sym items) g.1), g.2, g.3, g.4))
-      (λ g. (head_of here ps.0 ps.1 (subst (AreHead here) (sym parts) g.0), items_of qs.0 qs.1 (subst AreItems (sym items) g.1), g.2, g.3))
-      i,
+          (λ g. (row_of (is_binary f.kind) here here ps.0 ps.1 (subst (AreParts (is_binary f.kind) here here) (sym parts) g.0), none_of qs.0 qs.1 (subst IsNone (sym items) g.1), g.2, g.3, g.4))
+          (λ g. (head_of here ps.0 ps.1 (subst (AreHead here) (sym parts) g.0), items_of qs.0 qs.1 (subst AreItems (sym items) g.1), g.2, g.3))
+          i,
     )

@@ -9,7 +9,7 @@ use Rattle.std.proofs.lemmas.Bool.{cases_Bool, eqb-true, eqb-false}
 use Rattle.std.proofs.lemmas.Bool.Decides.{nat_tests}
 use Rattle.bz_token.specs.Bytes.{is_blank}
 use Rattle.bz_value.specs.Characters.{line_feed, number_sign, backslash}
-use Rattle.bz_value.specs.Gaps.{Bytes, GapLine, CommentRest, with_first, trimmed, in_comment, behind_backslash, lines_of, listed, comments_in, first_comment, behind_first, suffix_in, others_in, all_in, on_first, before_groups, groups_of, all_but_last, last_group}
+use Rattle.bz_value.specs.Gaps.{Bytes, GapLine, with_first, trimmed, in_comment, behind_backslash, lines_of, listed, comments_in, first_comment, behind_first, suffix_in, others_in, all_in, on_first, before_groups, groups_of, all_but_last, last_group}
 use Rattle.bz_value.specs.Proper.{IsComment, MaybeComment}
 
 abbrev OneLine : Bytes → Type 0
@@ -136,9 +136,9 @@ fine_lines g u = (fine_from g [] u).lines
 abbrev pub Group : List Bytes → Type 0
 Group group = AllByRecursion IsComment group
 
-pub joined : {X : Type 0} (P : X → Type 0) (xs ys : List X) → AllByRecursion P xs → AllByRecursion P ys → AllByRecursion P (xs ++ ys)
-joined P [] ys h i = i
-joined P (x ∷ xs) ys h i = (h.0, joined P xs ys h.1 i)
+pub all_joined : {X : Type 0} (P : X → Type 0) (xs ys : List X) → AllByRecursion P xs → AllByRecursion P ys → AllByRecursion P (xs ++ ys)
+all_joined P [] ys h i = i
+all_joined P (x ∷ xs) ys h i = (h.0, all_joined P xs ys h.1 i)
 
 fine_listed : (o : Option Bytes) → MaybeComment o → Group (listed o)
 fine_listed None h = tt
@@ -146,7 +146,7 @@ fine_listed (Some text) h = (h, tt)
 
 fine_comments : (ls : List GapLine) → AreFine ls → Group (comments_in ls)
 fine_comments [] h = tt
-fine_comments (line ∷ ls) h = joined IsComment (listed line.comment) (comments_in ls) (fine_listed line.comment h.0) (fine_comments ls h.1)
+fine_comments (line ∷ ls) h = all_joined IsComment (listed line.comment) (comments_in ls) (fine_listed line.comment h.0) (fine_comments ls h.1)
 
 fine_first : (ls : List GapLine) → AreFine ls → MaybeComment (first_comment ls)
 fine_first [] h = tt

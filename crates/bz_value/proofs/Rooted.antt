@@ -1,6 +1,5 @@
 -- All that the table of shapes sees of a part is its root: parts of equal roots fit equal shapes.
-use Rattle.std.proofs.Common.{Bool, true, ◌≡◌, ℕ, suc, List, [], ◌∷◌, ◌++◌, inl, inr, refl, sym, ap, ◌∙◌, take, drop}
-use Rattle.bz_token.specs.declared.class.Class.TheVariants as c
+use Rattle.std.proofs.Common.{Bool, true, ◌≡◌, suc, List, [], ◌∷◌, ◌++◌, inl, inr, refl, sym, ◌∙◌, take, drop}
 use Rattle.bz_lex.specs.declared.leaf.Leaf.{Leaf}
 use Rattle.bz_tree.specs.declared.kind.Kind.{Kind}
 use Rattle.bz_tree.specs.declared.kind.Kind.TheVariants as k

@@ -1,5 +1,5 @@
 -- What is seen of a part of a legal tree is proper where the part stands.
-use Rattle.std.proofs.Common.{◌≡◌, ℕ, zero, suc, Bool, true, false, not, ◌&&◌, List, [], ◌∷◌, ◌++◌, refl, sym, ap, ◌∙◌, subst, map, take, drop, if◌then◌else◌}
+use Rattle.std.proofs.Common.{◌≡◌, ℕ, zero, suc, Bool, true, false, not, ◌&&◌, List, [], ◌∷◌, refl, sym, subst, map, take, drop, if◌then◌else◌}
 use Rattle.std.specs.List.{AllByRecursion}
 use Rattle.std.proofs.lemmas.Bool.{and_parts}
 use Rattle.std.proofs.lemmas.List.{drop-map}
@@ -13,7 +13,7 @@ use Rattle.bz_tree.specs.declared.tree.Part.TheVariants as p
 use Rattle.bz_tree.specs.Spell.{leaves_part, leaves_row}
 use Rattle.bz_tree.specs.Shapes.{Fits, shape}
 use Rattle.bz_tree.specs.Legal.{IsSort, LegalPart, LegalRow}
-use Rattle.bz_tree.specs.Spots.{Spot, Within, Stands, AtLeaves, AtRow, AtParts}
+use Rattle.bz_tree.specs.Spots.{Spot, Within, Stands, AtParts}
 use Rattle.bz_tree.proofs.Balance.{parts_of_row}
 use Rattle.bz_value.specs.declared.value.Expr.{Expr}
 use Rattle.bz_value.specs.declared.value.Form.{Form}
@@ -25,9 +25,9 @@ use Rattle.bz_value.specs.Proper.{IsComment, is_operator, in_frame, ProperExpr}
 use Rattle.bz_value.proofs.FormParts.{AsRow, AsSequence, form_proper}
 use Rattle.bz_value.proofs.GapComments.{all_fine}
 use Rattle.bz_value.proofs.Rooted.{Same, over, more, fits_same, row_same, places, kept_parts, kept_items, kind_fits}
-use Rattle.bz_viewed.specs.View.{Seen, seen, seen_row, node_in, plain, first_gap, row_exprs, items_in, is_split, is_open}
-use Rattle.bz_viewed.proofs.InnerParts.{ends_line, is_inner, inner_kind, inner_parts}
-use Rattle.bz_viewed.proofs.SeenParts.{seen_rows, Told, AllTold, gap_told, parted, root_made, row_told}
+use Rattle.bz_viewed.specs.View.{Seen, seen, node_in, plain, first_gap, row_exprs, items_in, is_split, is_open}
+use Rattle.bz_viewed.proofs.InnerParts.{ends_line, is_inner, inner_parts}
+use Rattle.bz_viewed.proofs.SeenParts.{seen_rows, Told, AllTold, gap_told, all_parted, root_made, row_told}
 use Rattle.bz_viewed.proofs.RowParts.{Fit, AllFit, row_proper}
 use Rattle.bz_viewed.proofs.SequenceParts.{SequenceStands, sequence_stands, head_proper, head_roots, Alternate, ItemsProper, items_proper, items_roots}
 
@@ -109,6 +109,6 @@ mutual
   pub row_ready : (m : _) (r : Row_of-Part m) → LegalRow r → AllByRecursion IsLexed (leaves_row r) → AllByRecursion IsCodedLeaf (leaves_row r) → AllByRecursion Ready (items-the_row-Part m r)
   row_ready m end_of-Part h l c = tt
   row_ready m (more_of-Part x rest) h l c =
-      let v = parted IsLexed (leaves_part x) (leaves_row rest) l in
-      let w = parted IsCodedLeaf (leaves_part x) (leaves_row rest) c in
+      let v = all_parted IsLexed (leaves_part x) (leaves_row rest) l in
+      let w = all_parted IsCodedLeaf (leaves_part x) (leaves_row rest) c in
       (part_proper x (h.0, v.0, w.0), row_ready _ rest h.1 v.1 w.1)

@@ -12,10 +12,10 @@ use Rattle.bz_tree.proofs.Balance.{no_such}
 use Rattle.bz_value.specs.Comments.{HostComments, no_comments}
 use Rattle.bz_value.specs.Frames.{frame, is_binary}
 use Rattle.bz_value.specs.Gaps.{has_newline}
-use Rattle.bz_value.specs.Proper.{is_operator, has_break, behind_expr, ProperExpr}
+use Rattle.bz_value.specs.Proper.{is_operator, behind_expr, ProperExpr}
 use Rattle.bz_value.proofs.FormParts.{operator_first, AreParts}
-use Rattle.bz_viewed.specs.View.{Seen, seen, seen_row, plain, first_gap, begins_operator, row_exprs}
-use Rattle.bz_viewed.proofs.InnerParts.{is_inner, GoesOn, binary_goes, binary_begins, sort_unsigned}
+use Rattle.bz_viewed.specs.View.{seen, seen_row, plain, first_gap, begins_operator, row_exprs}
+use Rattle.bz_viewed.proofs.InnerParts.{GoesOn, binary_goes, binary_begins, sort_unsigned}
 use Rattle.bz_viewed.proofs.SeenParts.{node_operator, comments_made, break_made, no_break_made, operator_made, behind_made, part_along}
 
 -- the part is proper where it stands, for any comments and break
@@ -34,9 +34,9 @@ plain_row inside newline outer here (x ∷ xs) h at_ = (
   comments_made x no_comments false,
   λ b. no_such (sym (no_break_made x no_comments) ∙ b),
   subst
-  (λ z. AreParts false outer z (row_exprs false false (if inside then newline else has_newline (seen x).gap) (map seen xs)))
-  (sym (behind_made outer here x no_comments false))
-  (plain_row false (if inside then newline else has_newline (seen x).gap) outer (behind_part outer here x) xs h.1 at_.1),
+      (λ z. AreParts false outer z (row_exprs false false (if inside then newline else has_newline (seen x).gap) (map seen xs)))
+      (sym (behind_made outer here x no_comments false))
+      (plain_row false (if inside then newline else has_newline (seen x).gap) outer (behind_part outer here x) xs h.1 at_.1),
 )
 
 -- ---- binary operations

@@ -1,27 +1,25 @@
 -- What is seen of a part, whatever its kind: its root, where what follows it stands, its comments and its gap.
-use Rattle.std.proofs.Common.{◌≡◌, ℕ, zero, suc, Bool, true, false, List, [], ◌∷◌, ◌++◌, refl, sym, ap, ◌∙◌, subst, map, take}
-use Rattle.std.specs.List.{AllByRecursion, flat_map}
+use Rattle.std.proofs.Common.{◌≡◌, ℕ, zero, suc, Bool, true, false, List, [], ◌∷◌, ◌++◌, refl, sym, ap, ◌∙◌, map, take}
+use Rattle.std.specs.List.{AllByRecursion}
 use Rattle.std.specs.Str.{IsUtf8}
 use Rattle.std.proofs.lemmas.Str.{IsUtf8-nil}
 use Rattle.bz_token.specs.declared.class.Class.{Class}
 use Rattle.bz_token.specs.declared.class.Class.TheVariants as c
-use Rattle.bz_lex.specs.declared.leaf.Leaf.{Leaf}
 use Rattle.bz_lex.specs.Leaves.{IsCodedLeaf}
 use Rattle.bz_tree.specs.declared.kind.Kind.{Kind}
 use Rattle.bz_tree.specs.declared.tree.Part.{Part, Row_of-Part, end_of-Part, more_of-Part, Node', items-the_row-Part}
 use Rattle.bz_tree.specs.declared.tree.Part.TheVariants as p
-use Rattle.bz_tree.specs.Shapes.{Sort, Terminal, has_token, has_sort, leaves_at}
+use Rattle.bz_tree.specs.Shapes.{has_token, has_sort, leaves_at}
 use Rattle.bz_tree.specs.Spell.{leaves_part, leaves_row}
 use Rattle.bz_tree.specs.Spots.{Spot, Along, behind_node, behind_part, GapStands, Stands, AtLeaves, AtRow}
 use Rattle.bz_tree.proofs.Balance.{no_such}
-use Rattle.bz_value.specs.declared.value.Expr.{Expr}
 use Rattle.bz_value.specs.Comments.{HostComments, no_comments}
 use Rattle.bz_value.specs.Frames.{Frame, row, sequence, frame, lead}
 use Rattle.bz_value.specs.Gaps.{Bytes, all_in, has_newline}
 use Rattle.bz_value.specs.Roots.{root}
 use Rattle.bz_value.specs.Proper.{IsComment, comments_of, has_break, is_operator, behind_expr}
 use Rattle.bz_value.proofs.AlongGaps.{along_quiet}
-use Rattle.bz_value.proofs.GapComments.{Group, joined, all_fine}
+use Rattle.bz_value.proofs.GapComments.{Group, all_joined, all_fine}
 use Rattle.bz_value.proofs.Rooted.{SameRoot, one_of_same}
 use Rattle.bz_viewed.specs.View.{Seen, seen, seen_row, node_in, plain, first_gap, loose_in, loose_behind}
 
@@ -109,9 +107,9 @@ pub record Told (s : Seen) : Type 0 where
 abbrev pub AllTold : List Seen → Type 0
 AllTold ss = AllByRecursion Told ss
 
-pub parted : {X : Type 0} (P : X → Type 0) (xs ys : List X) → AllByRecursion P (xs ++ ys) → AllByRecursion P xs × AllByRecursion P ys
-parted P [] ys h = (tt, h)
-parted P (x ∷ xs) ys h = let w = parted P xs ys h.1 in ((h.0, w.0), w.1)
+pub all_parted : {X : Type 0} (P : X → Type 0) (xs ys : List X) → AllByRecursion P (xs ++ ys) → AllByRecursion P xs × AllByRecursion P ys
+all_parted P [] ys h = (tt, h)
+all_parted P (x ∷ xs) ys h = let w = all_parted P xs ys h.1 in ((h.0, w.0), w.1)
 
 pub gap_told : (ss : List Seen) → AllTold ss → IsUtf8 (first_gap ss)
 gap_told [] h = IsUtf8-nil
@@ -119,11 +117,11 @@ gap_told (s ∷ ss) h = h.0.coded
 
 behind_told : (ss : List Seen) → AllTold ss → Group (loose_behind ss)
 behind_told [] h = tt
-behind_told (s ∷ ss) h = joined IsComment (all_in s.gap ++ s.loose) (loose_behind ss) (joined IsComment (all_in s.gap) s.loose (all_fine s.gap h.0.coded) h.0.loose) (behind_told ss h.1)
+behind_told (s ∷ ss) h = all_joined IsComment (all_in s.gap ++ s.loose) (loose_behind ss) (all_joined IsComment (all_in s.gap) s.loose (all_fine s.gap h.0.coded) h.0.loose) (behind_told ss h.1)
 
 in_told : (ss : List Seen) → AllTold ss → Group (loose_in ss)
 in_told [] h = tt
-in_told (s ∷ ss) h = joined IsComment s.loose (loose_behind ss) h.0.loose (behind_told ss h.1)
+in_told (s ∷ ss) h = all_joined IsComment s.loose (loose_behind ss) h.0.loose (behind_told ss h.1)
 
 take_told : (n : ℕ) (ss : List Seen) → AllTold ss → AllTold (take n ss)
 take_told zero [] h = tt
@@ -142,4 +140,4 @@ mutual
 
   pub row_told : (m : _) (r : Row_of-Part m) → AllByRecursion IsCodedLeaf (leaves_row r) → AllTold (seen_row r)
   row_told m end_of-Part h = tt
-  row_told m (more_of-Part x rest) h = let w = parted IsCodedLeaf (leaves_part x) (leaves_row rest) h in (part_told x w.0, row_told _ rest w.1)
+  row_told m (more_of-Part x rest) h = let w = all_parted IsCodedLeaf (leaves_part x) (leaves_row rest) h in (part_told x w.0, row_told _ rest w.1)

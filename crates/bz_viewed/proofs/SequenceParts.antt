@@ -1,5 +1,5 @@
 -- Sequences: what stands before the bracket is proper where the node stands, each item inside the brackets.
-use Rattle.std.proofs.Common.{◌≡◌, ℕ, zero, suc, Bool, true, false, List, [], ◌∷◌, ◌++◌, inl, inr, refl, sym, ap, ◌∙◌, subst, map, take, drop}
+use Rattle.std.proofs.Common.{◌≡◌, ℕ, zero, suc, true, false, List, [], ◌∷◌, ◌++◌, inl, inr, refl, sym, ap, ◌∙◌, subst, map, take, drop}
 use Rattle.std.specs.List.{AllByRecursion}
 use Rattle.std.proofs.lemmas.List.Elements.{All-from_recursion}
 use Rattle.bz_tree.specs.declared.kind.Kind.{Kind}
@@ -8,7 +8,7 @@ use Rattle.bz_tree.specs.declared.tree.Part.{Part}
 use Rattle.bz_tree.specs.Shapes as s
 use Rattle.bz_tree.specs.Shapes.{Sort, Terminal, Fits, Listed, shape, items, tok, done, has_token}
 use Rattle.bz_tree.specs.Legal.{IsSort}
-use Rattle.bz_tree.specs.Spots.{Spot, Within, on, opens, behind_part, Stands, AtLeaves, AtParts}
+use Rattle.bz_tree.specs.Spots.{Spot, Within, behind_part, Stands, AtLeaves, AtParts}
 use Rattle.bz_value.specs.declared.value.Expr.{Expr}
 use Rattle.bz_value.specs.Comments.{HostComments, no_comments}
 use Rattle.bz_value.specs.Frames.{Frame, row, sequence, frame, lead}
@@ -16,10 +16,10 @@ use Rattle.bz_value.specs.Gaps.{Bytes, suffix_in, others_in, all_in}
 use Rattle.bz_value.specs.Roots.{root}
 use Rattle.bz_value.specs.Proper.{IsComment, MaybeComment, AreComments, comments_of}
 use Rattle.bz_value.proofs.FormParts.{AreHead, AreItems}
-use Rattle.bz_value.proofs.GapComments.{Group, joined, suffix_fine, others_fine, all_fine}
+use Rattle.bz_value.proofs.GapComments.{Group, all_joined, suffix_fine, others_fine, all_fine}
 use Rattle.bz_value.proofs.Rooted.{Same, over, more, places}
 use Rattle.bz_viewed.specs.View.{Seen, seen, plain, items_in}
-use Rattle.bz_viewed.proofs.InnerParts.{inner_sort, GoesOn, plain_tokens, all_turn, token_goes, sort_goes, token_opens}
+use Rattle.bz_viewed.proofs.InnerParts.{inner_sort, GoesOn, token_goes, sort_goes, token_opens}
 use Rattle.bz_viewed.proofs.SeenParts.{Told, AllTold, comments_made, no_break_made, root_made}
 use Rattle.bz_viewed.proofs.RowParts.{AllFit}
 
@@ -148,7 +148,7 @@ host above s gap = record { before = above ++ s.loose; suffix = suffix_in gap }
 
 host_fine : (above : List Bytes) (x : Part) (gap : Bytes) → Group above → Told (seen x) → MaybeComment (suffix_in gap) → AreComments (comments_of ((seen x).make (host above (seen x) gap) false))
 host_fine above x gap a h m =
-    subst AreComments (sym (comments_made x (host above (seen x) gap) false)) (All-from_recursion IsComment (above ++ (seen x).loose) (joined IsComment above (seen x).loose a h.loose), m)
+    subst AreComments (sym (comments_made x (host above (seen x) gap) false)) (All-from_recursion IsComment (above ++ (seen x).loose) (all_joined IsComment above (seen x).loose a h.loose), m)
 
 -- items, and the comments below the last one
 abbrev pub ItemsProper : List Expr × List Bytes → Type 0
@@ -158,18 +158,16 @@ pub items_proper : (above : List Bytes) (outer : Spot) (xs : List Part) → Grou
 items_proper above outer [] a t h at_ g = (tt, a)
 items_proper above outer (x ∷ []) a t h at_ g = (tt, a)
 items_proper above outer (x ∷ y ∷ []) a t h at_ g =
-    let gap : Bytes = (seen y).gap in
-    (
+    let gap : Bytes = (seen y).gap in (
       (h.0 Within at_.0 (host above (seen x) gap) false, host_fine above x gap a t.0 (suffix_fine gap t.1.0.coded), no_break_made x (host above (seen x) gap), tt),
       others_fine gap t.1.0.coded,
     )
 items_proper above outer (x ∷ y ∷ z ∷ xs) a t h at_ g =
     let gap : Bytes = (seen z).gap in
     let next : List Bytes = all_in (seen y).gap ++ others_in gap in
-    let next_fine : Group next = joined IsComment (all_in (seen y).gap) (others_in gap) (all_fine (seen y).gap t.1.0.coded) (others_fine gap t.1.1.0.coded) in
+    let next_fine : Group next = all_joined IsComment (all_in (seen y).gap) (others_in gap) (all_fine (seen y).gap t.1.0.coded) (others_fine gap t.1.1.0.coded) in
     let there : behind_part outer (behind_part outer Within x) y ≡ Within = ap (λ q. behind_part outer q y) (g.0 outer Within) ∙ g.1 outer Within in
-    let rest : ItemsProper (items_in next (map seen (z ∷ xs))) = items_proper next outer (z ∷ xs) next_fine t.1.1 h.1.1 (subst (λ q. AtParts Stands outer q (z ∷ xs)) there at_.1.1) g.2 in
-    (
+    let rest : ItemsProper (items_in next (map seen (z ∷ xs))) = items_proper next outer (z ∷ xs) next_fine t.1.1 h.1.1 (subst (λ q. AtParts Stands outer q (z ∷ xs)) there at_.1.1) g.2 in (
       (h.0 Within at_.0 (host above (seen x) gap) false, host_fine above x gap a t.0 (suffix_fine gap t.1.1.0.coded), no_break_made x (host above (seen x) gap), rest.0),
       rest.1,
     )
