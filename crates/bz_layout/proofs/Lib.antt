@@ -1,0 +1,4 @@
+pub mod Neighbours
+pub mod Stops
+pub mod Spacing
+pub mod Touching
