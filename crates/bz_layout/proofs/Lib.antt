@@ -2,3 +2,5 @@ pub mod Neighbours
 pub mod Stops
 pub mod Spacing
 pub mod Touching
+pub mod Elements
+pub mod Joined

@@ -54,7 +54,7 @@ never_leaf (t ∷ ts) l h i =
     elim (or_cases (is_terminal t l) (is_one_of ts l) i) [ inl e ↦ never_terminal t l w.0 e | inr e ↦ never_leaf ts l w.1 e ]
 
 -- the leaves that have a sort are names, numbers and strings
-abbrev word_terminal : Terminal → Bool
+abbrev pub word_terminal : Terminal → Bool
 word_terminal (s.any class) = is_word class
 word_terminal (s.this class t) = false
 
@@ -62,7 +62,7 @@ sort_words : (a : Sort) → all_in word_terminal (leaves_at a) ≡ true
 sort_words (s.level n) = refl
 sort_words _ = refl
 
-word_leaf : (ts : List Terminal) (l : Leaf) → all_in word_terminal ts ≡ true → is_one_of ts l ≡ true → is_word l.class ≡ true
+pub word_leaf : (ts : List Terminal) (l : Leaf) → all_in word_terminal ts ≡ true → is_one_of ts l ≡ true → is_word l.class ≡ true
 word_leaf [] l h i = no_such i
 word_leaf (t ∷ ts) l h i =
     let w = and_parts (word_terminal t) _ h in
@@ -72,7 +72,7 @@ word_leaf (t ∷ ts) l h i =
     of_word (s.any class) l h i = ap is_word (same_class l.class class i) ∙ h
     of_word (s.this class t) l h i = no_such h
 
-value_of : (a : Sort) (x : Part) → IsSort a x → is_value x ≡ true
+pub value_of : (a : Sort) (x : Part) → IsSort a x → is_value x ≡ true
 value_of a (p.Leaf l) h = word_leaf (leaves_at a) l (sort_words a) h
 value_of a (Node' k z r) h = refl
 
