@@ -4,3 +4,4 @@ pub mod Spacing
 pub mod Touching
 pub mod Elements
 pub mod Joined
+pub mod Fitted
