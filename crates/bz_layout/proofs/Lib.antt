@@ -5,3 +5,4 @@ pub mod Touching
 pub mod Elements
 pub mod Joined
 pub mod Fitted
+pub mod Rows
