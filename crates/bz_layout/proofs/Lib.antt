@@ -6,3 +6,4 @@ pub mod Elements
 pub mod Joined
 pub mod Fitted
 pub mod Rows
+pub mod Margins
