@@ -7,3 +7,5 @@ pub mod Joined
 pub mod Fitted
 pub mod Rows
 pub mod Margins
+pub mod Spots
+pub mod Standing

@@ -71,6 +71,9 @@ inner_append a b g h = (IsGap-append true false a b g.0 h.0, IsUtf8-append a b g
 inner_blank : (g : Bytes) → FitsAt Within g → FitsAt Within (space ∷ g)
 inner_blank g h = (blank space g refl refl h.0, coded_first space g (omega arith) h.1)
 
+pub inner_space : FitsAt Within (space ∷ [])
+inner_space = inner_blank [] inner_nothing
+
 inner_spaces : (n : ℕ) → FitsAt Within (replicate n space)
 inner_spaces zero = inner_nothing
 inner_spaces (suc n) = inner_blank (replicate n space) (inner_spaces n)
@@ -132,7 +135,7 @@ none_fits Along h = (nothing refl, IsUtf8-nil)
 
 space_fits : (here : Spot) → is_begins here ≡ false → FitsAt here (space ∷ [])
 space_fits Begins h = no_such (sym h)
-space_fits Within h = inner_blank [] inner_nothing
+space_fits Within h = inner_space
 space_fits Along h = (blank space [] refl refl (nothing refl), coded_byte space (omega arith))
 
 row_fits : (o b d : Bool) (j k : ℕ) (here : Spot) → is_begins here ≡ false → ((o || b) ≡ true → here ≡ Within) → FitsAt here (if o then line j else (if b then line k else (if d then space ∷ [] else [])))
