@@ -9,3 +9,4 @@ pub mod Rows
 pub mod Margins
 pub mod Spots
 pub mod Standing
+pub mod LegalParts

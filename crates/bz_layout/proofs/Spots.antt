@@ -55,7 +55,7 @@ in_line_by : (f : Frame) (kind : Kind) (here : Spot) (m n : _) (parts : Row_of-E
 in_line_by row kind here m n parts items end_ split open_ b h i = within_line kind (roots parts) h (row_in_line (is_binary kind) here here m parts i.0)
 in_line_by (sequence opener closer) kind here m n parts items end_ split open_ b h i = b refl
 
-abbrev NoLine : Expr → Type 0
+abbrev pub NoLine : Expr → Type 0
 NoLine (Token t) = Unit {0}
 NoLine (Form' kind z parts z' items end_ split open_ comments) = in_a_line kind ≡ true
 
