@@ -10,3 +10,4 @@ pub mod Margins
 pub mod Spots
 pub mod Standing
 pub mod LegalParts
+pub mod LegalFiles
