@@ -1,0 +1,13 @@
+pub mod Neighbours
+pub mod Stops
+pub mod Spacing
+pub mod Touching
+pub mod Elements
+pub mod Joined
+pub mod Fitted
+pub mod Rows
+pub mod Margins
+pub mod Spots
+pub mod Standing
+pub mod LegalParts
+pub mod LegalFiles
