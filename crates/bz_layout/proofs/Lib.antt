@@ -1,1 +1,2 @@
 pub mod Gapped
+pub mod Made
