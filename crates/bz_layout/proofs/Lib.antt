@@ -1,3 +1,4 @@
 pub mod Framed
 pub mod Gapped
 pub mod Made
+pub mod Readable
