@@ -2,3 +2,4 @@ pub mod Framed
 pub mod Gapped
 pub mod Made
 pub mod Readable
+pub mod Spelled
