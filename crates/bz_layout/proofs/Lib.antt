@@ -3,3 +3,4 @@ pub mod Gapped
 pub mod Made
 pub mod Readable
 pub mod Spelled
+pub mod Viewed
