@@ -104,7 +104,7 @@ gap_lines kind open_ m x (y ∷ ys) = one_gap open_ (has_break x) (is_spaced kin
 gap_newline : (kind : Kind) (open_ : Bool) (m : ℕ) (x : Expr) (ys : List Expr) → has_newline (gap_behind kind open_ m x ys) ≡ ((open_ || has_break x) && not (is_empty ys))
 gap_newline kind open_ m x ys = ap some_newline (gap_lines kind open_ m x ys) ∙ newline_if _
 
-gap_bare : (kind : Kind) (open_ : Bool) (m : ℕ) (x : Expr) (ys : List Expr) → all_in (gap_behind kind open_ m x ys) ≡ []
+pub gap_bare : (kind : Kind) (open_ : Bool) (m : ℕ) (x : Expr) (ys : List Expr) → all_in (gap_behind kind open_ m x ys) ≡ []
 gap_bare kind open_ m x ys = ap comments_in (gap_lines kind open_ m x ys) ∙ comments_if _
 
 -- the row behind a part
