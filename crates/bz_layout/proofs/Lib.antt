@@ -1,8 +1,10 @@
 pub mod Framed
 pub mod Gapped
+pub mod LinesBack
 pub mod Made
 pub mod ReadBack
 pub mod Readable
 pub mod Spelled
 pub mod Viewed
 pub mod ViewedItems
+pub mod Waiting

@@ -23,7 +23,7 @@ use Rattle.bz_layout.proofs.ViewedItems.{body_of, body_back, headed_gap, headed_
 
 -- ---- nodes
 
-seen_rows : (n : _) (r : Row_of-Part n) → seen_row r ≡ map seen (items-the_row-Part n r)
+pub seen_rows : (n : _) (r : Row_of-Part n) → seen_row r ≡ map seen (items-the_row-Part n r)
 seen_rows n end_of-Part = refl
 seen_rows n (more_of-Part x rest) = ap (λ t. seen x ∷ t) (seen_rows _ rest)
 
