@@ -1,3 +1,5 @@
+pub mod Flagged
+pub mod FlaggedProper
 pub mod Framed
 pub mod Gapped
 pub mod LinesBack

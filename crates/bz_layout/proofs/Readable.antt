@@ -102,7 +102,7 @@ length_same (x ∷ xs) = ap suc (length_same xs)
 
 -- ---- rows and lists
 
-begins_row : (m : _) (r : Row_of-Expr m) → begins_operator r ≡ begins (items-the_row-Expr m r)
+pub begins_row : (m : _) (r : Row_of-Expr m) → begins_operator r ≡ begins (items-the_row-Expr m r)
 begins_row m end_of-Expr = refl
 begins_row m (more_of-Expr x rest) = refl
 
