@@ -11,3 +11,15 @@ pub mod Spots
 pub mod Standing
 pub mod LegalParts
 pub mod LegalFiles
+pub mod Flagged
+pub mod FlaggedProper
+pub mod Framed
+pub mod Gapped
+pub mod LinesBack
+pub mod Made
+pub mod ReadBack
+pub mod Readable
+pub mod Spelled
+pub mod Viewed
+pub mod ViewedItems
+pub mod Waiting
