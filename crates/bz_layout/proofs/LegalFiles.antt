@@ -200,5 +200,5 @@ drawn_legal items h d =
     }
 
 -- so the layout is accepted, where it is what the tree spells
-pub accepted : ((items : List Item) → spell_node (drawn items) ≡ layout items) → LayoutIsAccepted
-accepted spelled items h n d = (drawn_legal items h d, spelled items, n)
+pub accepted : ((items : List Item) → IsProper items → spell_node (drawn items) ≡ layout items) → LayoutIsAccepted
+accepted spelled items h n d = (drawn_legal items h d, spelled items h, n)

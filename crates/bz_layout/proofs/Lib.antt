@@ -16,6 +16,7 @@ pub mod FlaggedProper
 pub mod Framed
 pub mod Gapped
 pub mod LinesBack
+pub mod Loops
 pub mod Made
 pub mod ReadBack
 pub mod Readable

@@ -1,5 +1,5 @@
 -- The pass over the flags: split becomes whether the sequence is broken.
-use Rattle.std.specs.Prelude.{Bool, List, [], ◌∷◌, map}
+use Rattle.std.specs.Prelude.{◌≡◌, Bool, List, [], ◌∷◌, map}
 use Rattle.bz_tree.specs.declared.kind.Kind.{Kind}
 use Rattle.bz_value.specs.declared.value.Expr.{Expr, Form', Row_of-Expr, end_of-Expr, more_of-Expr, items-the_row-Expr}
 use Rattle.bz_value.specs.declared.value.Expr.TheVariants as e
@@ -39,3 +39,7 @@ item_with_flags (i.Stmt x) = i.Stmt (with_flags x)
 -- the file value with its flags settled
 abbrev pub flags : List Item → List Item
 flags items = map item_with_flags items
+
+-- A file value is settled where each of its sequences is split exactly where the layout breaks it.
+abbrev pub IsSettled : List Item → Type 0
+IsSettled items = flags items ≡ items

@@ -5,3 +5,5 @@ pub mod Drawn
 pub mod Flags
 pub mod Laws
 pub mod Rows
+pub mod Brackets
+pub mod RowGaps

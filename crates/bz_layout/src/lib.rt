@@ -1,6 +1,13 @@
 //! The layout of a file value, as text and as the legal tree that spells it.
 #![tactic(auto)]
 
+mod brackets;
+mod breaks;
+mod gaps;
+mod drawing;
 mod laws;
+mod lines;
+mod row_gaps;
+mod spaces;
 
-pub use laws::{flags_keep_layout, layout_reads_back, worked_rows};
+pub use laws::{flags_keep_layout, layout_is_accepted, layout_reads_back, worked_rows};
