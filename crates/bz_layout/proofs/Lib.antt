@@ -5,6 +5,9 @@ pub mod Touching
 pub mod Elements
 pub mod Joined
 pub mod Fitted
+pub mod PendingForms
+pub mod Rooms
+pub mod Sized
 pub mod Rows
 pub mod Margins
 pub mod Spots

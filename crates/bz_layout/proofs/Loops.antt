@@ -25,7 +25,7 @@ module _ {X : Type 0} where
   stacked_behind m gap closer end_ (x ∷ xs) =
       part (gap ++ (line (m + 4) ++ above (m + 4) (comments_of x.0).before)) (m + 4) x.1 ∷ mark [] (comma ∷ []) ∷ stacked_behind m (behind (comments_of x.0).suffix) closer end_ xs
 
-  stacked_so : (m : ℕ) (suffix : Option Bytes) (closer : ℕ) (end_ : List Bytes) (xs : List (Expr × X)) → stacked m suffix closer end_ xs ≡ stacked_behind m (behind suffix) closer end_ xs
+  pub stacked_so : (m : ℕ) (suffix : Option Bytes) (closer : ℕ) (end_ : List Bytes) (xs : List (Expr × X)) → stacked m suffix closer end_ xs ≡ stacked_behind m (behind suffix) closer end_ xs
   stacked_so m suffix closer end_ [] = refl
   stacked_so m suffix closer end_ (x ∷ xs) = ap (λ ps. part (behind suffix ++ (line (m + 4) ++ above (m + 4) (comments_of x.0).before)) (m + 4) x.1 ∷ mark [] (comma ∷ []) ∷ ps) (stacked_so m (comments_of x.0).suffix closer end_ xs)
 

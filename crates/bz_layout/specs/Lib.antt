@@ -7,3 +7,5 @@ pub mod Laws
 pub mod Rows
 pub mod Brackets
 pub mod RowGaps
+pub mod Sizes
+pub mod Pending

@@ -7,6 +7,8 @@ mod gaps;
 mod drawing;
 mod laws;
 mod lines;
+mod measure;
+mod room;
 mod row_gaps;
 mod spaces;
 
