@@ -2,6 +2,7 @@ pub mod Neighbours
 pub mod Stops
 pub mod Spacing
 pub mod Touching
+pub mod Deep
 pub mod Elements
 pub mod Joined
 pub mod Fitted
@@ -18,6 +19,7 @@ pub mod Flagged
 pub mod FlaggedProper
 pub mod Framed
 pub mod Gapped
+pub mod Measured
 pub mod LinesBack
 pub mod Loops
 pub mod Made

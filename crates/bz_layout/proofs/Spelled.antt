@@ -127,7 +127,7 @@ mutual
 -- ---- the file
 
 -- the layout behind an item: the blank line, and the layout of the rest
-next_behind : (x : Item) (ys : List Item) → before_next x ys ++ layout ys ≡ behind_item x ys
+pub next_behind : (x : Item) (ys : List Item) → before_next x ys ++ layout ys ≡ behind_item x ys
 next_behind x [] = refl
 next_behind x (y ∷ ys) = refl
 

@@ -9,3 +9,4 @@ pub mod Brackets
 pub mod RowGaps
 pub mod Sizes
 pub mod Pending
+pub mod Depths

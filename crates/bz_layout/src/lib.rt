@@ -4,8 +4,10 @@
 mod brackets;
 mod breaks;
 mod gaps;
+mod depth;
 mod drawing;
 mod laws;
+mod limits;
 mod lines;
 mod measure;
 mod room;

@@ -38,19 +38,24 @@ fn is_close(above: &Expr, below: &Expr) -> bool
     is_load(above) && is_load(below) || is_assign(above) && is_assign(below)
 }
 
+/// Whether a blank line stands between an item and those that follow.
+pub fn is_apart(item: &Item, others: &[Item]) -> bool
+    ensures { (if result then (line_feed ∷ []) else []) ≡ before_next item.now others.now }
+{
+    match (item, others) {
+        (_, []) => false,
+        (Item::Stmt(above), [Item::Stmt(below), ..]) => !is_close(above, below),
+        _ => true,
+    }
+}
+
 /// Appends what stands between an item and those that follow.
 fn push_between(gap: &mut Vec<u8>, item: &Item, others: &[Item]) -> Result<(), Memory>
     ensures { OnOk result (gap.new.items ≡ gap.old.items ++ before_next item.now others.now) }
 {
-    let [next, ..] = others else {
-        return Ok(());
-    };
-    if let (Item::Stmt(above), Item::Stmt(below)) = (item, next) {
-        if is_close(above, below) {
-            return Ok(());
-        }
+    if is_apart(item, others) {
+        gap.push(b'\n')?;
     }
-    gap.push(b'\n')?;
     Ok(())
 }
 
