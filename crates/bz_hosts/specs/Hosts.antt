@@ -1,0 +1,249 @@
+-- Hosts of comments by their places in the whole text. The leaves of a tree are numbered from 0, in the order of the text.
+-- A host is a statement or an item of a sequence; a sequence is what stands between the brackets of a Call, List, Dict,
+-- Tuple or Load. Both are told by the numbers of their leaves alone.
+use Rattle.std.specs.Prelude.{ℕ, suc, ◌+◌, Bool, true, false, ◌&&◌, List, [], ◌∷◌, ◌++◌, Option, Some, None, length, map, take, drop, nat_eq, nat_lt, nat_le, if◌then◌else◌}
+use Rattle.std.specs.List.{flat_map}
+use Rattle.bz_token.specs.declared.class.Class.{Class}
+use Rattle.bz_token.specs.declared.class.Class.TheVariants as c
+use Rattle.bz_lex.specs.declared.leaf.Leaf.{Leaf}
+use Rattle.bz_tree.specs.declared.kind.Kind.{Kind}
+use Rattle.bz_tree.specs.declared.tree.Node.{Node}
+use Rattle.bz_tree.specs.declared.tree.Part.{Part, Row_of-Part, end_of-Part, more_of-Part, Node'}
+use Rattle.bz_tree.specs.declared.tree.Part.TheVariants as p
+use Rattle.bz_tree.specs.Spell.{leaves_part, leaves_of}
+use Rattle.bz_tree.specs.Shapes as s
+use Rattle.bz_tree.specs.Shapes.{Terminal, has_token}
+use Rattle.bz_value.specs.declared.value.Expr.{Expr, Token, Form', Row_of-Expr, end_of-Expr, more_of-Expr}
+use Rattle.bz_value.specs.declared.value.Item.{Item}
+use Rattle.bz_value.specs.declared.value.Item.TheVariants as i
+use Rattle.bz_value.specs.Comments.{HostComments}
+use Rattle.bz_value.specs.Frames.{Frame, row, sequence, frame, lead}
+use Rattle.bz_value.specs.Gaps.{Bytes, GapLine, lines_of, listed, behind_first, comments_in, first_comment, groups_of, all_but_last, last_group}
+use Rattle.bz_value.specs.Proper.{comments_of}
+
+-- ---- comments
+
+-- a comment in the gap of a leaf; on_line: only blanks stand before it in that gap
+pub record Comment : Type 0 where
+  pub leaf : ℕ
+  pub on_line : Bool
+  pub text : Bytes
+
+abbrev pub comments_at : ℕ → Bytes → List Comment
+comments_at n gap =
+    map (λ text. record { leaf = n; on_line = true; text = text }) (listed (first_comment (lines_of gap)))
+    ++ map (λ text. record { leaf = n; on_line = false; text = text }) (comments_in (behind_first (lines_of gap)))
+
+-- the comments of leaves, the first of which has this number
+abbrev pub comments_from : ℕ → List Leaf → List Comment
+comments_from n [] = []
+comments_from n (leaf ∷ leaves) = comments_at n leaf.gap ++ comments_from (suc n) leaves
+
+-- ---- hosts and sequences
+
+-- A host: the numbers of its first leaf, of the leaf behind its last one, and of the leaf behind its end, which is its own
+-- comma or semicolon where it has one. A sequence: the number of its opening bracket, and of the leaf behind the closing one.
+pub data Region : Type 0 where
+  host : ℕ → ℕ → ℕ → Region
+  between : ℕ → ℕ → Region
+
+-- A part: how many leaves it has, and what stands in it where its first leaf has a number.
+pub record Measured : Type 0 where
+  pub part : Part
+  pub size : ℕ
+  pub inside : ℕ → List Region
+
+abbrev pub sizes : List Measured → ℕ
+sizes [] = 0
+sizes (x ∷ xs) = x.size + sizes xs
+
+-- a node, a name, a number or a string: no comma, bracket, semicolon or newline
+abbrev pub is_word : Class → Bool
+is_word c.Name = true
+is_word c.Number = true
+is_word c.String = true
+is_word _ = false
+
+abbrev pub is_item : Part → Bool
+is_item (p.Leaf l) = is_word l.class
+is_item (Node' kind _ r) = true
+
+abbrev pub begins_with : List Terminal → List Measured → Bool
+begins_with terminals [] = false
+begins_with terminals (x ∷ xs) = has_token terminals x.part
+
+-- what stands in the parts of a row
+abbrev pub in_row : ℕ → List Measured → List Region
+in_row n [] = []
+in_row n (x ∷ xs) = x.inside n ++ in_row (n + x.size) xs
+
+-- parts with separators: each item is a host, whose end is the separator behind it where there is one
+abbrev pub hosts_from : List Terminal → ℕ → List Measured → List Region
+hosts_from separators n [] = []
+hosts_from separators n (x ∷ xs) =
+    let behind : ℕ = n + x.size in
+    (if is_item x.part then host n behind (if begins_with separators xs then suc behind else behind) ∷ x.inside n else []) ++ hosts_from separators behind xs
+
+-- a node by its frame; of a sequence what stands before its bracket, the sequence itself and its items
+abbrev pub in_node : Frame → Kind → ℕ → List Measured → List Region
+in_node row kind n xs = in_row n xs
+in_node (sequence opener closer) kind n xs =
+    let open_ : ℕ = n + sizes (take (lead kind) xs) in
+    in_row n (take (lead kind) xs) ++ between open_ (n + sizes xs) ∷ hosts_from s.comma (suc open_) (drop (suc (lead kind)) xs)
+
+abbrev mutual
+  pub measured : Part → Measured
+  measured (p.Leaf l) = record { part = p.Leaf l; size = 1; inside = λ n. [] }
+  measured (Node' kind z r) =
+      let xs : List Measured = measured_row r in
+      record { part = Node' kind z r; size = sizes xs; inside = λ n. in_node (frame kind) kind n xs }
+
+  pub measured_row : {m : _} → Row_of-Part m → List Measured
+  measured_row end_of-Part = []
+  measured_row (more_of-Part x rest) = measured x ∷ measured_row rest
+
+-- the hosts and sequences of a line, whose statements semicolons separate; the end of a file has none
+abbrev pub in_line : ℕ → Part → List Region
+in_line n (p.Leaf l) = []
+in_line n (Node' kind _ r) = hosts_from s.semicolon n (measured_row r)
+
+abbrev pub regions_from : ℕ → List Part → List Region
+regions_from n [] = []
+regions_from n (x ∷ xs) = in_line n x ++ regions_from (n + (measured x).size) xs
+
+-- ---- places
+
+-- A comment is the suffix of the host, stands above the host, or at the end of the sequence, that begins with this leaf; or
+-- it stands in none of them.
+pub data Place : Type 0 where
+  suffix_of above end_of : ℕ → Place
+  outside : Place
+
+-- the host at whose end the comment stands
+abbrev pub ending_at : ℕ → List Region → Option ℕ
+ending_at leaf [] = None
+ending_at leaf (host first behind next ∷ rs) = if nat_eq next leaf then Some first else ending_at leaf rs
+ending_at leaf (between open_ behind ∷ rs) = ending_at leaf rs
+
+-- the item that begins next in a sequence
+abbrev pub beginning_in : ℕ → ℕ → List Region → Option ℕ
+beginning_in leaf behind [] = None
+beginning_in leaf behind (host first b next ∷ rs) = if nat_le leaf first && nat_lt first behind then Some first else beginning_in leaf behind rs
+beginning_in leaf behind (between open_ b ∷ rs) = beginning_in leaf behind rs
+
+-- the gap of the leaf stands in the region
+abbrev pub holds : ℕ → Region → Bool
+holds leaf (host first behind next) = nat_lt first leaf && nat_lt leaf behind
+holds leaf (between open_ behind) = nat_lt open_ leaf && nat_lt leaf behind
+
+-- Regions stand in one another or apart, in the order in which they begin: the innermost around a gap is the last that
+-- holds it.
+abbrev pub innermost : ℕ → Option Region → List Region → Option Region
+innermost leaf found [] = found
+innermost leaf found (r ∷ rs) = innermost leaf (if holds leaf r then Some r else found) rs
+
+abbrev pub place_at_end : ℕ → Option ℕ → Place
+place_at_end open_ (Some first) = above first
+place_at_end open_ None = end_of open_
+
+-- In a host: above it. In a sequence: above the item that begins next, or at its end where none does.
+abbrev pub place_in : ℕ → List Region → Option Region → Place
+place_in leaf rs None = outside
+place_in leaf rs (Some (host first behind next)) = above first
+place_in leaf rs (Some (between open_ behind)) = place_at_end open_ (beginning_in leaf behind rs)
+
+abbrev pub place_unless : Option ℕ → Place → Place
+place_unless (Some first) place = suffix_of first
+place_unless None place = place
+
+-- A comment that follows a host's end with only blanks between is its suffix. Any other belongs to the innermost host or
+-- sequence that it stands in.
+abbrev pub place_of : List Region → Comment → Place
+place_of rs c = place_unless (if c.on_line then ending_at c.leaf rs else None) (place_in c.leaf rs (innermost c.leaf None rs))
+
+-- ---- the comments of each host and sequence
+
+abbrev pub same_place : Place → Place → Bool
+same_place (suffix_of n) (suffix_of m) = nat_eq n m
+same_place (above n) (above m) = nat_eq n m
+same_place (end_of n) (end_of m) = nat_eq n m
+same_place outside outside = true
+same_place _ _ = false
+
+-- the texts of the comments that have this place, in the order of the text
+abbrev pub texts_at : List Region → Place → List Comment → List Bytes
+texts_at rs place [] = []
+texts_at rs place (c ∷ cs) = if same_place (place_of rs c) place then c.text ∷ texts_at rs place cs else texts_at rs place cs
+
+-- comment lines that stand by themselves; the comments above a host and its suffix; the end comments of a sequence
+pub data Hosted : Type 0 where
+  block : List Bytes → Hosted
+  hosted : List Bytes → List Bytes → Hosted
+  ended : List Bytes → Hosted
+
+abbrev pub hosted_at : List Region → List Comment → Region → Hosted
+hosted_at rs cs (host first behind next) = hosted (texts_at rs (above first) cs) (texts_at rs (suffix_of first) cs)
+hosted_at rs cs (between open_ behind) = ended (texts_at rs (end_of open_) cs)
+
+-- groups that stand by themselves; an empty one is none
+abbrev pub alone : List (List Bytes) → List Hosted
+alone [] = []
+alone ([] ∷ groups) = alone groups
+alone ((text ∷ group) ∷ groups) = block (text ∷ group) ∷ alone groups
+
+-- the group right above a line stands above its first statement
+abbrev pub with_group : List Bytes → List Hosted → List Hosted
+with_group group (hosted before suffix ∷ hs) = hosted (group ++ before) suffix ∷ hs
+with_group group hs = hs
+
+abbrev pub gap_of : List Leaf → Bytes
+gap_of [] = []
+gap_of (l ∷ ls) = l.gap
+
+abbrev pub last_gap : List Leaf → Bytes
+last_gap [] = []
+last_gap (l ∷ []) = l.gap
+last_gap (l ∷ m ∷ ls) = last_gap (m ∷ ls)
+
+-- At file level comment lines that follow each other form a group. A group whose last line is followed by a line without
+-- token and comment, or by no token at all, stands by itself; otherwise it stands above the next statement. left: the lines
+-- in the gap of the Newline before, behind its first.
+abbrev pub hosted_from : List Region → List Comment → List GapLine → ℕ → List Part → List Hosted
+hosted_from rs cs left n [] = []
+hosted_from rs cs left n (p.Leaf l ∷ xs) = alone (groups_of (left ++ lines_of l.gap)) ++ hosted_from rs cs [] (suc n) xs
+hosted_from rs cs left n (Node' kind z r ∷ xs) =
+    let ls : List Leaf = leaves_part (Node' kind z r) in
+    let groups : List (List Bytes) = groups_of (left ++ lines_of (gap_of ls)) in
+    alone (all_but_last groups)
+    ++ with_group (last_group groups) (map (hosted_at rs cs) (in_line n (Node' kind z r)))
+    ++ hosted_from rs cs (behind_first (lines_of (last_gap ls))) (n + length ls) xs
+
+-- the comments of a tree with their hosts, in the order in which the hosts begin
+abbrev pub hosted_in : Node → List Hosted
+hosted_in n = hosted_from (regions_from 0 n.parts) (comments_from 0 (leaves_of n)) [] 0 n.parts
+
+-- ---- the comments in a file value, in the same order
+
+abbrev pub hosted_by : HostComments → Hosted
+hosted_by comments = hosted comments.before (listed comments.suffix)
+
+abbrev pub by_frame : Frame → List Hosted → List Hosted → Hosted → List Hosted
+by_frame row parts items end_ = parts
+by_frame (sequence opener closer) parts items end_ = parts ++ end_ ∷ items
+
+abbrev mutual
+  pub inside_expr : Expr → List Hosted
+  inside_expr (Token t) = []
+  inside_expr (Form' kind _ parts _ items end_ split open_ comments) = by_frame (frame kind) (inside_row parts) (inside_items items) (ended end_)
+
+  pub inside_row : {m : _} → Row_of-Expr m → List Hosted
+  inside_row end_of-Expr = []
+  inside_row (more_of-Expr x rest) = inside_expr x ++ inside_row rest
+
+  pub inside_items : {m : _} → Row_of-Expr m → List Hosted
+  inside_items end_of-Expr = []
+  inside_items (more_of-Expr x rest) = hosted_by (comments_of x) ∷ (inside_expr x ++ inside_items rest)
+
+abbrev pub inside_item : Item → List Hosted
+inside_item (i.Block lines) = block lines ∷ []
+inside_item (i.Stmt x) = hosted_by (comments_of x) ∷ inside_expr x

@@ -1,0 +1,4 @@
+//! Hosts of comments by their places in the text, and the law that the view has each comment there.
+#![tactic(auto)]
+
+pub fn nothing() {}

@@ -1,0 +1,12 @@
+pub mod Spaces
+pub mod Layout
+pub mod Written
+pub mod Drawn
+pub mod Flags
+pub mod Laws
+pub mod Rows
+pub mod Brackets
+pub mod RowGaps
+pub mod Sizes
+pub mod Pending
+pub mod Depths

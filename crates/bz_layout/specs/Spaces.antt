@@ -1,0 +1,93 @@
+-- The single spaces of the layout, told by a part and the one behind it: their kinds, or their tokens.
+use Rattle.std.specs.Prelude.{ℕ, Bool, true, false, not, ◌&&◌, ◌||◌, List, [], ◌∷◌, codes, bytes_eq}
+use Rattle.bz_token.specs.declared.class.Class.{Class}
+use Rattle.bz_token.specs.declared.class.Class.TheVariants as c
+use Rattle.bz_token.specs.Lexemes.{in_table}
+use Rattle.bz_tree.specs.declared.kind.Kind.{Kind}
+use Rattle.bz_tree.specs.declared.kind.Kind.TheVariants as k
+use Rattle.bz_tree.specs.declared.tree.Part.{Part, Node'}
+use Rattle.bz_tree.specs.declared.tree.Part.TheVariants as p
+use Rattle.bz_tree.specs.Shapes as s
+use Rattle.bz_tree.specs.Shapes.{Terminal, has_token}
+
+-- ---- tokens
+
+abbrev pub from_table : List (List ℕ) → Terminal → Bool
+from_table us (s.this c.Mark t) = in_table t us
+from_table us _ = false
+
+-- brackets, comma, colon
+abbrev pub brackets_and_separators : List (List ℕ)
+brackets_and_separators = codes "(" ∷ codes ")" ∷ codes "[" ∷ codes "]" ∷ codes "{" ∷ codes "}" ∷ codes "," ∷ codes ":" ∷ []
+
+abbrev pub lone : Terminal → Bool
+lone t = from_table brackets_and_separators t
+
+abbrev pub dotted : Terminal → Bool
+dotted t = from_table (codes "." ∷ []) t
+
+-- the kinds whose mark stands right before its operand: `-x`, `*x`
+abbrev pub is_prefix_kind : Kind → Bool
+is_prefix_kind k.Unary = true
+is_prefix_kind k.Star = true
+is_prefix_kind _ = false
+
+abbrev pub is_entry : Kind → Bool
+is_entry k.Entry = true
+is_entry _ = false
+
+-- One space stands around operators, `=`, augmented forms and keywords, behind a comma, and behind the colon of an Entry.
+abbrev pub space_behind : Kind → Terminal → Bool
+space_behind kind (s.this c.Mark t) = bytes_eq t (codes ",") || ((bytes_eq t (codes ":") && is_entry kind) || not (lone (s.this c.Mark t) || (dotted (s.this c.Mark t) || is_prefix_kind kind)))
+space_behind kind (s.this c.Keyword t) = not (bytes_eq t (codes "load"))
+space_behind kind _ = false
+
+abbrev pub space_before : Kind → Terminal → Bool
+space_before kind (s.this c.Mark t) = not (lone (s.this c.Mark t) || (dotted (s.this c.Mark t) || is_prefix_kind kind))
+space_before kind (s.this c.Keyword t) = true
+space_before kind _ = false
+
+-- ---- parts
+
+abbrev pub is_word : Class → Bool
+is_word c.Name = true
+is_word c.Number = true
+is_word c.String = true
+is_word _ = false
+
+abbrev pub is_number : Class → Bool
+is_number c.Number = true
+is_number _ = false
+
+-- a node, or a leaf that is a name, a number or a string
+abbrev pub is_value : Part → Bool
+is_value (p.Leaf l) = is_word l.class
+is_value (Node' kind z r) = true
+
+abbrev pub behind : Kind → Part → Bool
+behind kind (p.Leaf l) = space_behind kind (s.this l.class l.token)
+behind kind (Node' k z r) = false
+
+abbrev pub before : Kind → Part → Bool
+before kind (p.Leaf l) = space_before kind (s.this l.class l.token)
+before kind (Node' k z r) = false
+
+abbrev pub is_lone : Part → Bool
+is_lone (p.Leaf l) = lone (s.this l.class l.token)
+is_lone (Node' k z r) = false
+
+abbrev pub is_number_leaf : Part → Bool
+is_number_leaf (p.Leaf l) = is_number l.class
+is_number_leaf (Node' kind z r) = false
+
+-- One space stands between two neighbours in a node of a kind: behind a token that has one behind it, but not before a
+-- bracket, a comma or a colon; before a token that has one before it; and between two parts that are no tokens of their row.
+abbrev pub apart : Kind → Part → Part → Bool
+apart kind x y = (behind kind x && not (is_lone y)) || (before kind y || (is_value x && is_value y))
+
+-- a number right before a dot has a space behind it, since `1.` is a number
+abbrev pub number_dot : Part → Part → Bool
+number_dot x y = is_number_leaf x && has_token s.dot y
+
+abbrev pub is_spaced : Kind → Part → Part → Bool
+is_spaced kind x y = apart kind x y || number_dot x y

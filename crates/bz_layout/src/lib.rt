@@ -1,0 +1,17 @@
+//! The layout of a file value, as text and as the legal tree that spells it.
+#![tactic(auto)]
+
+mod brackets;
+mod breaks;
+mod gaps;
+mod depth;
+mod drawing;
+mod laws;
+mod limits;
+mod lines;
+mod measure;
+mod room;
+mod row_gaps;
+mod spaces;
+
+pub use laws::{flags_keep_layout, layout_is_accepted, layout_reads_back, worked_rows};

@@ -1,0 +1,62 @@
+-- Lines of a gap, read from the left.
+use Rattle.std.proofs.Common.{ℕ, zero, suc, true, false, eqb, ◌≡◌, ◌≢◌, ◌<◌, ◌≤◌, ◌+◌, ◌-◌, add-one, [], ◌∷◌, ◌++◌, refl, sym, ap, ◌∙◌, length, take, drop, get_or, arith}
+use Rattle.std.proofs.lemmas.Bool.{ne_eqb}
+use Rattle.std.proofs.lemmas.List.{take_more, drop_all}
+use Rattle.bz_token.specs.Bytes.{is_blank}
+use Rattle.bz_value.specs.Characters.{line_feed}
+use Rattle.bz_value.specs.Gaps.{Bytes, with_first, trimmed, in_comment, behind_backslash, lines_of}
+
+abbrev pub NoneBefore : ℕ → Bytes → Type 0
+NoneBefore n text = (k : ℕ) → k < n → get_or text k 0 ≢ line_feed
+
+not_first : (c n : ℕ) (g : Bytes) → NoneBefore (suc n) (c ∷ g) → eqb c line_feed ≡ false
+not_first c n g h = ne_eqb c line_feed (h 0 (omega arith))
+
+-- a comment, and what a backslash escapes, end at the first newline
+pub comment_breaks : (text : Bytes) (n : ℕ) → NoneBefore n text → n < length text → get_or text n 0 ≡ line_feed → in_comment text ≡ record { words = take n text; newline = true; lines = lines_of (drop (suc n) text) }
+comment_breaks [] n h l e = absurd (omega arith)
+comment_breaks (c ∷ g) zero h l e = rw e refl
+comment_breaks (c ∷ g) (suc n) h l e =
+    rw (not_first c n g h) (ap (λ r. record { words = c ∷ r.words; newline = r.newline; lines = r.lines }) (comment_breaks g n (λ k i. h (suc k) (omega arith)) (omega arith) e))
+
+pub escape_breaks : (text : Bytes) (n : ℕ) → NoneBefore n text → n < length text → get_or text n 0 ≡ line_feed → behind_backslash text ≡ lines_of (drop (suc n) text)
+escape_breaks [] n h l e = absurd (omega arith)
+escape_breaks (c ∷ g) zero h l e = rw e refl
+escape_breaks (c ∷ g) (suc n) h l e = rw (not_first c n g h) (escape_breaks g n (λ k i. h (suc k) (omega arith)) (omega arith) e)
+
+-- or at the end
+pub comment_stops : (text : Bytes) → NoneBefore (length text) text → in_comment text ≡ record { words = text; newline = false; lines = [] }
+comment_stops [] h = refl
+comment_stops (c ∷ g) h =
+    rw (not_first c (length g) g h) (ap (λ r. record { words = c ∷ r.words; newline = r.newline; lines = r.lines }) (comment_stops g (λ k i. h (suc k) (omega arith))))
+
+pub escape_stops : (text : Bytes) → NoneBefore (length text) text → behind_backslash text ≡ []
+escape_stops [] h = refl
+escape_stops (c ∷ g) h = rw (not_first c (length g) g h) (escape_stops g (λ k i. h (suc k) (omega arith)))
+
+pub none_left : (text : Bytes) → [] ≡ lines_of (drop (length text + 1) text)
+none_left text = ap lines_of (sym (drop_all (length text + 1) text (omega arith)))
+
+-- ---- blanks at the end
+
+pub blank_off : (s : Bytes) (c : ℕ) → is_blank c ≡ true → trimmed (s ++ c ∷ []) ≡ trimmed s
+blank_off [] c h = rw h refl
+blank_off (d ∷ s) c h = ap (with_first d) (blank_off s c h)
+
+not_blank : (s : Bytes) (c : ℕ) → is_blank c ≡ false → trimmed (s ++ c ∷ []) ≡ s ++ c ∷ []
+not_blank [] c h = rw h refl
+not_blank (d ∷ []) c h = ap (with_first d) (not_blank [] c h)
+not_blank (d ∷ e ∷ s) c h = ap (with_first d) (not_blank (e ∷ s) c h)
+
+last_of : (text : Bytes) (n : ℕ) → 0 < n → n ≤ length text → take n text ≡ take (n - 1) text ++ get_or text (n - 1) 0 ∷ []
+last_of text zero p l = absurd (omega arith)
+last_of text (suc n) p l =
+    let e : suc n - 1 ≡ n = omega arith in
+    ap (λ k. take k text) (sym (add-one n)) ∙ (take_more text n 0 (omega arith) ∙ ap (λ k. take k text ++ get_or text k 0 ∷ []) (sym e))
+
+-- the byte at the end of a front is blank, or not
+pub blank_last : (text : Bytes) (n : ℕ) → 0 < n → n ≤ length text → is_blank (get_or text (n - 1) 0) ≡ true → trimmed (take (n - 1) text) ≡ trimmed (take n text)
+blank_last text n p l b = sym (ap trimmed (last_of text n p l) ∙ blank_off (take (n - 1) text) (get_or text (n - 1) 0) b)
+
+pub solid_last : (text : Bytes) (n : ℕ) → 0 < n → n ≤ length text → is_blank (get_or text (n - 1) 0) ≡ false → take n text ≡ trimmed (take n text)
+solid_last text n p l b = last_of text n p l ∙ (sym (not_blank (take (n - 1) text) (get_or text (n - 1) 0) b) ∙ ap trimmed (sym (last_of text n p l)))

@@ -1,0 +1,112 @@
+-- What a gap says: its lines, each with a comment or without one. Every reader of gaps stands on this one: the comments,
+-- the newlines, and the groups of comment lines at file level.
+use Rattle.std.specs.Prelude.{ℕ, Bool, true, false, ◌||◌, List, [], ◌∷◌, ◌++◌, Option, Some, None, if◌then◌else◌, nat_eq}
+use Rattle.bz_token.specs.Bytes.{is_blank}
+use Rattle.bz_value.specs.Characters.{line_feed, number_sign, backslash}
+
+abbrev pub Bytes : Type 0
+Bytes = List ℕ
+
+-- A comment's text is kept without spaces, tabs and carriage returns at its end.
+abbrev pub with_first : ℕ → Bytes → Bytes
+with_first c [] = if is_blank c then [] else (c ∷ [])
+with_first c (d ∷ s) = c ∷ d ∷ s
+
+abbrev pub trimmed : Bytes → Bytes
+trimmed [] = []
+trimmed (c ∷ s) = with_first c (trimmed s)
+
+-- A line of a gap: its comment, and whether an unescaped newline ends it (an escaped one, or the end of the gap, is none).
+pub record GapLine : Type 0 where
+  pub comment : Option Bytes
+  pub newline : Bool
+
+-- A gap is blanks, newlines, backslashes right before a newline (or before a carriage return and a newline), and comments
+-- up to a newline. Behind a `#`: the rest of the comment, whether a newline ends it, and the lines after it. A last line
+-- without newline counts only with a comment.
+pub record CommentRest : Type 0 where
+  pub words : Bytes
+  pub newline : Bool
+  pub lines : List GapLine
+
+abbrev mutual
+  pub lines_of : Bytes → List GapLine
+  lines_of [] = []
+  lines_of (c ∷ g) =
+      if nat_eq c number_sign then record { comment = Some (trimmed (number_sign ∷ (in_comment g).words)); newline = (in_comment g).newline } ∷ (in_comment g).lines
+      else (if nat_eq c line_feed then record { comment = None; newline = true } ∷ lines_of g
+      else (if nat_eq c backslash then record { comment = None; newline = false } ∷ behind_backslash g else lines_of g))
+
+  pub in_comment : Bytes → CommentRest
+  in_comment [] = record { words = []; newline = false; lines = [] }
+  in_comment (c ∷ g) =
+      if nat_eq c line_feed then record { words = []; newline = true; lines = lines_of g }
+      else record { words = c ∷ (in_comment g).words; newline = (in_comment g).newline; lines = (in_comment g).lines }
+
+  -- behind the newline that a backslash escapes
+  pub behind_backslash : Bytes → List GapLine
+  behind_backslash [] = []
+  behind_backslash (c ∷ g) = if nat_eq c line_feed then lines_of g else behind_backslash g
+
+abbrev pub listed : Option Bytes → List Bytes
+listed None = []
+listed (Some text) = text ∷ []
+
+-- the comments of lines, in their order
+abbrev pub comments_in : List GapLine → List Bytes
+comments_in [] = []
+comments_in (line ∷ lines) = listed line.comment ++ comments_in lines
+
+-- the comment of the first line: only blanks stand before it
+abbrev pub first_comment : List GapLine → Option Bytes
+first_comment [] = None
+first_comment (line ∷ lines) = line.comment
+
+-- the lines behind the first
+abbrev pub behind_first : List GapLine → List GapLine
+behind_first [] = []
+behind_first (line ∷ lines) = lines
+
+-- an unescaped newline stands in the gap
+abbrev pub some_newline : List GapLine → Bool
+some_newline [] = false
+some_newline (line ∷ lines) = line.newline || some_newline lines
+
+-- What a gap says to the parts around it: the comment on the line that it begins on, its other comments, and whether an
+-- unescaped newline stands in it.
+abbrev pub suffix_in : Bytes → Option Bytes
+suffix_in gap = first_comment (lines_of gap)
+
+abbrev pub others_in : Bytes → List Bytes
+others_in gap = comments_in (behind_first (lines_of gap))
+
+abbrev pub all_in : Bytes → List Bytes
+all_in gap = comments_in (lines_of gap)
+
+abbrev pub has_newline : Bytes → Bool
+has_newline gap = some_newline (lines_of gap)
+
+-- Comment lines that follow each other form a group: the lines cut at each one without a comment. The last group is what
+-- stands right above what follows the lines.
+abbrev pub on_first : Bytes → List (List Bytes) → List (List Bytes)
+on_first text [] = (text ∷ []) ∷ []
+on_first text (group ∷ groups) = (text ∷ group) ∷ groups
+
+abbrev pub before_groups : Option Bytes → List (List Bytes) → List (List Bytes)
+before_groups None groups = [] ∷ groups
+before_groups (Some text) groups = on_first text groups
+
+abbrev pub groups_of : List GapLine → List (List Bytes)
+groups_of [] = [] ∷ []
+groups_of (line ∷ lines) = before_groups line.comment (groups_of lines)
+
+-- the groups that a line without token and comment, or nothing, follows
+abbrev pub all_but_last : List (List Bytes) → List (List Bytes)
+all_but_last [] = []
+all_but_last (group ∷ []) = []
+all_but_last (group ∷ next ∷ groups) = group ∷ all_but_last (next ∷ groups)
+
+abbrev pub last_group : List (List Bytes) → List Bytes
+last_group [] = []
+last_group (group ∷ []) = group
+last_group (group ∷ next ∷ groups) = last_group (next ∷ groups)

@@ -1,0 +1,125 @@
+-- Proper file values: those that the layout can write and the grammar reads back.
+use Rattle.std.specs.Prelude.{◌≡◌, ◌≢◌, Bool, true, false, not, ◌&&◌, List, [], ◌∷◌, Option, Some, None, All, IsUtf8}
+use Rattle.bz_token.specs.declared.class.Class.{Class}
+use Rattle.bz_token.specs.declared.class.Class.TheVariants as c
+use Rattle.bz_token.specs.Lexemes.{IsLexeme}
+use Rattle.bz_tree.specs.declared.tree.Part.{Part}
+use Rattle.bz_tree.specs.Shapes.{Fits, shape}
+use Rattle.bz_tree.specs.Legal.{IsSort}
+use Rattle.bz_tree.specs.Spots.{Spot, Begins, Within, turn, behind_token, behind_node}
+use Rattle.bz_value.specs.declared.value.Expr.{Expr, Token, Form', Row_of-Expr, end_of-Expr, more_of-Expr}
+use Rattle.bz_value.specs.declared.value.Item.{Item}
+use Rattle.bz_value.specs.declared.value.Item.TheVariants as i
+use Rattle.bz_value.specs.Characters.{line_feed, number_sign}
+use Rattle.bz_value.specs.Comments.{HostComments, no_comments}
+use Rattle.bz_value.specs.Frames.{Frame, row, sequence, frame, is_binary, is_comprehension, is_statement}
+use Rattle.bz_value.specs.Gaps.{Bytes, trimmed}
+use Rattle.bz_value.specs.Roots.{root, row_in}
+
+-- ---- comments
+
+-- a comment: a text of characters that begins with `#`, holds no newline, and doesn't end with a space, tab or carriage
+-- return
+pub record IsComment (text : Bytes) : Type 0 where
+  pub begins : (rest : Bytes) × (text ≡ number_sign ∷ rest)
+  pub one_line : All (λ c. c ≢ line_feed) text
+  pub no_blank_end : trimmed text ≡ text
+  pub coded : IsUtf8 text
+
+abbrev pub MaybeComment : Option Bytes → Type 0
+MaybeComment None = Unit {0}
+MaybeComment (Some text) = IsComment text
+
+abbrev pub AreComments : HostComments → Type 0
+AreComments cs = All IsComment cs.before × MaybeComment cs.suffix
+
+-- ---- expressions
+
+-- the comments of an expression
+abbrev pub comments_of : Expr → HostComments
+comments_of (Token t) = t.comments
+comments_of (Form' kind s parts s' items end_ split open_ comments) = comments
+
+abbrev pub has_break : Expr → Bool
+has_break (Token t) = t.break_
+has_break (Form' kind s parts s' items end_ split open_ comments) = false
+
+-- a mark or a keyword: in a binary operation, a token of an operator
+abbrev pub is_sign : Class → Bool
+is_sign c.Mark = true
+is_sign c.Keyword = true
+is_sign _ = false
+
+abbrev pub is_operator : Expr → Bool
+is_operator (Token t) = is_sign t.class
+is_operator (Form' kind s parts s' items end_ split open_ comments) = false
+
+-- the first expression of a row is a token of an operator
+abbrev pub begins_operator : {m : _} → Row_of-Expr m → Bool
+begins_operator end_of-Expr = false
+begins_operator (more_of-Expr x rest) = is_operator x
+
+-- where what follows an expression stands
+abbrev pub behind_expr : Spot → Spot → Expr → Spot
+behind_expr outer here (Token t) = behind_token (turn t.class t.text) outer here
+behind_expr outer here (Form' kind s parts s' items end_ split open_ comments) = behind_node kind here
+
+-- the roots of the expressions of a row
+abbrev pub roots : {m : _} → Row_of-Expr m → List Part
+roots end_of-Expr = []
+roots (more_of-Expr x rest) = root x ∷ roots rest
+
+abbrev pub IsEmptyRow : {m : _} → Row_of-Expr m → Type 0
+IsEmptyRow end_of-Expr = Unit {0}
+IsEmptyRow (more_of-Expr x rest) = ⊥
+
+-- no host, so no comments; and no break
+abbrev pub IsBare : Expr → Type 0
+IsBare x = (comments_of x ≡ no_comments) × (has_break x ≡ false)
+
+-- by the frame
+abbrev pub in_frame : Frame → Type 0 → Type 0 → Type 0
+in_frame row as_row as_sequence = as_row
+in_frame (sequence opener closer) as_row as_sequence = as_sequence
+
+-- An expression is proper at a spot where each node has the shape that the grammar gives its kind, with its brackets and
+-- commas put back; each token is a lexeme of its class; only statements and the items of sequences have comments; a break
+-- stands only behind an operator and inside brackets; only a comprehension is open.
+abbrev mutual
+  pub ProperExpr : Spot → Expr → Type 0
+  ProperExpr here (Token t) = IsLexeme t.class t.text × IsUtf8 t.text
+  ProperExpr here (Form' kind s parts s' items end_ split open_ comments) =
+      Fits IsSort (shape kind) (row_in (frame kind) (roots parts) (roots items))
+      × in_frame (frame kind)
+      (ProperRow (is_binary kind) here here parts × IsEmptyRow items × (end_ ≡ []) × (split ≡ false) × (open_ ≡ true → is_comprehension kind ≡ true))
+      (ProperHead here parts × ProperItems items × All IsComment end_ × (open_ ≡ false))
+
+  -- the parts of a row, from one on that stands here
+  pub ProperRow : Bool → Spot → Spot → {m : _} → Row_of-Expr m → Type 0
+  ProperRow binary outer here end_of-Expr = Unit {0}
+  ProperRow binary outer here (more_of-Expr x rest) =
+      ProperExpr here x × (comments_of x ≡ no_comments)
+      × (has_break x ≡ true → ((binary && (is_operator x && not (begins_operator rest))) ≡ true) × (behind_expr outer here x ≡ Within))
+      × ProperRow binary outer (behind_expr outer here x) rest
+
+  -- what stands before the opening bracket
+  pub ProperHead : Spot → {m : _} → Row_of-Expr m → Type 0
+  ProperHead here end_of-Expr = Unit {0}
+  ProperHead here (more_of-Expr x rest) = ProperExpr here x × IsBare x × ProperHead here rest
+
+  pub ProperItems : {m : _} → Row_of-Expr m → Type 0
+  ProperItems end_of-Expr = Unit {0}
+  ProperItems (more_of-Expr x rest) = ProperExpr Within x × AreComments (comments_of x) × (has_break x ≡ false) × ProperItems rest
+
+-- ---- files
+
+abbrev pub has_statement_kind : Expr → Bool
+has_statement_kind (Token t) = false
+has_statement_kind (Form' kind s parts s' items end_ split open_ comments) = is_statement kind
+
+abbrev pub IsProperItem : Item → Type 0
+IsProperItem (i.Block lines) = (lines ≢ []) × All IsComment lines
+IsProperItem (i.Stmt x) = (has_statement_kind x ≡ true) × ProperExpr Begins x × AreComments (comments_of x)
+
+abbrev pub IsProper : List Item → Type 0
+IsProper items = All IsProperItem items

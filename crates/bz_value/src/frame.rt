@@ -1,0 +1,66 @@
+//! How the nodes of each kind are kept, and which tokens are operators.
+ghost use Rattle.std.specs.Prelude.{◌≡◌, ◌≤◌};
+ghost use Rattle.bz_value.specs.Frames.{frame, has_brackets, is_binary, is_comprehension, is_statement, lead};
+ghost use Rattle.bz_value.specs.Proper.{is_sign};
+
+use bz_tree::{Class, Kind};
+
+/// Whether a node of the kind holds a sequence between brackets.
+pub fn is_sequence(kind: Kind) -> bool
+    ensures { result ≡ has_brackets (frame kind) }
+{
+    matches!(
+        kind,
+        Kind::Call | Kind::Load | Kind::Tuple | Kind::List | Kind::Dict
+    )
+}
+
+/// How many parts stand before the opening bracket of a sequence.
+pub fn lead_of(kind: Kind) -> usize
+    ensures value { result ≡ lead kind }
+    ensures small { result ≤ 1 }
+{
+    match kind {
+        Kind::Call | Kind::Load => 1,
+        _ => 0,
+    }
+}
+
+/// Whether a node of the kind has operators that may break.
+pub fn is_binary(kind: Kind) -> bool
+    ensures { result ≡ is_binary kind }
+{
+    matches!(
+        kind,
+        Kind::Or
+            | Kind::And
+            | Kind::Compare
+            | Kind::BitOr
+            | Kind::Xor
+            | Kind::BitAnd
+            | Kind::Shift
+            | Kind::Sum
+            | Kind::Product
+    )
+}
+
+/// Whether a node of the kind is a comprehension, which may be open.
+pub fn is_comprehension(kind: Kind) -> bool
+    ensures { result ≡ is_comprehension kind }
+{
+    matches!(kind, Kind::ListComp | Kind::DictComp)
+}
+
+/// Whether a node of the kind is a statement.
+pub fn is_statement(kind: Kind) -> bool
+    ensures { result ≡ is_statement kind }
+{
+    matches!(kind, Kind::Bare | Kind::Assign | Kind::Load)
+}
+
+/// Whether a token of the class is an operator, in a row of operands and operators.
+pub fn is_sign(class: Class) -> bool
+    ensures { result ≡ is_sign class }
+{
+    matches!(class, Class::Mark | Class::Keyword)
+}

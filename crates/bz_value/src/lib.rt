@@ -1,0 +1,17 @@
+//! File values: what a BUILD file says, without its gaps, each comment at its host.
+#![tactic(auto)]
+
+mod comments;
+mod copy;
+mod frame;
+mod gap;
+mod laws;
+mod same;
+mod texts;
+mod value;
+
+pub use comments::Comments;
+pub use frame::{is_binary, is_comprehension, is_sequence, is_sign, is_statement, lead_of};
+pub use gap::{Line, behind_first_line, first_line, has_newline, push_all, push_others, suffix_in};
+pub use laws::worked_gaps;
+pub use value::{Expr, File, Form, Item, Seq, Token};

@@ -1,0 +1,107 @@
+//! The types of file values.
+ghost use Rattle.std.specs.Prelude.{◌≡◌};
+
+use crate::comments::Comments;
+use bz_items::{Items, Text};
+use bz_tree::{Class, Kind};
+use std::marker::Model;
+
+/// A token. `break_`: of a binary operator, that the operand after it begins on a new line.
+#[derive(Drop)]
+pub struct Token {
+    pub class: Class,
+    pub text: Text,
+    pub break_: bool,
+    pub comments: Comments,
+}
+
+/// A statement, an item of a sequence, or a part of one.
+#[cycle(expr)]
+#[derive(Drop)]
+pub enum Expr {
+    Token(Token),
+    Form(Form),
+}
+
+impl Expr {
+    ghost use Rattle.bz_value.specs.Commented.{with_comments};
+    ghost use Rattle.bz_value.specs.Proper.{comments_of};
+
+    /// The comments of the expression: none, unless it is a statement or an item of a sequence.
+    pub fn comments(&self) -> &Comments
+        ensures { result.now ≡ comments_of self.now }
+    {
+        match self {
+            Expr::Token(token) => &token.comments,
+            Expr::Form(form) => &form.comments,
+        }
+    }
+
+    /// The same expression with these comments in place of its own.
+    pub fn with_comments(self, comments: Comments) -> Expr
+        ensures { result ≡ with_comments self comments }
+    {
+        match self {
+            Expr::Token(mut token) => {
+                token.comments = comments;
+                Expr::Token(token)
+            }
+            Expr::Form(mut form) => {
+                form.comments = comments;
+                Expr::Form(form)
+            }
+        }
+    }
+}
+
+/// What stands between the brackets of a call, list, dict, tuple or load, without brackets and commas: the items, the
+/// comments below the last one, and whether a newline stood before an item, a comma or the closing bracket.
+#[cycle(expr)]
+#[derive(Drop)]
+pub struct Seq {
+    pub items: Items<Expr>,
+    pub end_: Items<Text>,
+    pub split: bool,
+}
+
+/// A node without gaps. With a sequence: `parts` is what stands before its opening bracket (the function of a call, the
+/// word of a load). Without one: `parts` is the whole row of the node, marks too, and `seq` is empty. `open_`: of a
+/// comprehension, that a newline stood right behind its bracket.
+#[cycle(expr)]
+#[derive(Drop)]
+pub struct Form {
+    pub kind: Kind,
+    pub parts: Items<Expr>,
+    pub seq: Seq,
+    pub open_: bool,
+    pub comments: Comments,
+}
+
+/// An item of a file: comment lines that stand by themselves, or a statement.
+#[derive(Drop)]
+pub enum Item {
+    Block(Items<Text>),
+    Stmt(Expr),
+}
+
+/// What a BUILD file says: its items, which are proper.
+#[derive(Drop)]
+pub struct File {
+    pub items: Items<Item>,
+}
+
+impl Model for File {
+    ghost use Rattle.std.specs.Prelude.{List};
+    ghost use Rattle.std.specs.Coded.{codes};
+    ghost use Rattle.bz_value.specs.contracts.value.Expr as e;
+    ghost use Rattle.bz_value.specs.declared.value.Item.{Item};
+    ghost use Rattle.bz_value.specs.Proper.{IsProper};
+
+    ghost Value = { List Item };
+
+    ghost coded = { Prim.hlevel (codes, e.the_row.coded) };
+
+    ghost view = { λ file. file.items };
+
+    ghost invariant = { λ file. IsProper file.items };
+}
