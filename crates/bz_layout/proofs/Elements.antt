@@ -14,7 +14,7 @@ use Rattle.bz_tree.specs.declared.tree.Part.TheVariants as p
 use Rattle.bz_tree.specs.Shapes as s
 use Rattle.bz_tree.specs.Shapes.{Sort, Terminal, Shape, Fits, shape, has_sort, has_token, is_one_of, is_terminal}
 use Rattle.bz_tree.specs.Legal.{IsSort}
-use Rattle.bz_tree.specs.Spots.{opens, turn}
+use Rattle.bz_tree.specs.Spots.{opens, role}
 use Rattle.bz_tree.proofs.Balance.{same_class, no_such}
 use Rattle.bz_value.specs.Characters.{comma}
 use Rattle.bz_value.specs.Frames.{Frame, row, sequence, frame, has_brackets, is_comprehension}
@@ -106,7 +106,7 @@ Inside (x ∷ []) = Unit {0}
 Inside (x ∷ y ∷ ys) = (is_value x ≡ true) × Inside (y ∷ ys)
 
 abbrev pub IsOpening : Part → Type 0
-IsOpening (p.Leaf l) = turn l.class l.token ≡ opens
+IsOpening (p.Leaf l) = role l.class l.token ≡ opens
 IsOpening (Node' kind z r) = ⊥
 
 abbrev pub Opened : List Part → Type 0
@@ -131,8 +131,8 @@ this_leaf class t l h =
       | inr e ↦ no_such e
     ]
 
-opening : (t : List ℕ) → turn c.Mark t ≡ opens → (x : Part) → has_token (s.mark t) x ≡ true → IsOpening x
-opening t o (p.Leaf l) h = let w = this_leaf c.Mark t l h in subst (λ z. turn z l.token ≡ opens) (sym w.0) (subst (λ z. turn c.Mark z ≡ opens) (sym w.1) o)
+opening : (t : List ℕ) → role c.Mark t ≡ opens → (x : Part) → has_token (s.mark t) x ≡ true → IsOpening x
+opening t o (p.Leaf l) h = let w = this_leaf c.Mark t l h in subst (λ z. role z l.token ≡ opens) (sym w.0) (subst (λ z. role c.Mark z ≡ opens) (sym w.1) o)
 opening t o (Node' kind z r) h = no_such h
 
 pub comprehension : (kind : Kind) → is_comprehension kind ≡ true → (xs : List Part) → Fits IsSort (shape kind) xs → Opened xs

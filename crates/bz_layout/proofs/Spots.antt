@@ -8,7 +8,7 @@ use Rattle.bz_tree.specs.declared.kind.Kind.{Kind}
 use Rattle.bz_tree.specs.declared.kind.Kind.TheVariants as k
 use Rattle.bz_tree.specs.Shapes.{Fits, shape}
 use Rattle.bz_tree.specs.Legal.{IsSort}
-use Rattle.bz_tree.specs.Spots.{Spot, Begins, Within, Along, on, opens, closes, plain, turn, behind_token, behind_node}
+use Rattle.bz_tree.specs.Spots.{Spot, Begins, Within, Along, onward, opens, closes, plain, role, behind_token, behind_node}
 use Rattle.bz_tree.proofs.Balance.{no_such}
 use Rattle.bz_value.specs.declared.value.Expr.{Expr, Token, Form', Row_of-Expr, end_of-Expr, more_of-Expr}
 use Rattle.bz_value.specs.Frames.{Frame, row, sequence, frame, has_brackets, is_binary, is_comprehension}
@@ -66,12 +66,12 @@ no_line here (Form' kind z parts z' items end_ split open_ comments) h = in_line
 
 -- ---- where what follows stands
 
-token_goes_on : (class : Class) (text : Bytes) (outer here : Spot) → in_line_class class ≡ true → is_begins (behind_token (turn class text) outer here) ≡ false
+token_goes_on : (class : Class) (text : Bytes) (outer here : Spot) → in_line_class class ≡ true → is_begins (behind_token (role class text) outer here) ≡ false
 token_goes_on c.Newline text outer here h = no_such h
 token_goes_on c.End text outer here h = no_such h
 token_goes_on c.Mark text outer here h = by_turn _ _ outer here
   where
-    on_first : (here : Spot) → is_begins (on here) ≡ false
+    on_first : (here : Spot) → is_begins (onward here) ≡ false
     on_first Within = refl
     on_first _ = refl
 
@@ -97,7 +97,7 @@ goes_on_by outer here (Form' kind z parts z' items end_ split open_ comments) h 
 pub goes_on : (outer here : Spot) (x : Expr) → ProperExpr here x → is_begins (behind_expr outer here x) ≡ false
 goes_on outer here x h = goes_on_by outer here x h (no_line here x h)
 
-word_within : (class : Class) (text : Bytes) (outer : Spot) → is_word class ≡ true → behind_token (turn class text) outer Within ≡ Within
+word_within : (class : Class) (text : Bytes) (outer : Spot) → is_word class ≡ true → behind_token (role class text) outer Within ≡ Within
 word_within c.Name text outer h = refl
 word_within c.Number text outer h = refl
 word_within c.String text outer h = refl

@@ -16,7 +16,7 @@ use Rattle.bz_tree.specs.declared.tree.Part.{Part}
 use Rattle.bz_tree.specs.declared.tree.Part.TheVariants as p
 use Rattle.bz_tree.specs.Shapes.{Fits, shape}
 use Rattle.bz_tree.specs.Legal.{IsSort}
-use Rattle.bz_tree.specs.Spots.{Spot, Within, Turn, opens, closes, turn, behind_token, behind_part, AtLeaves, AtParts, Stands}
+use Rattle.bz_tree.specs.Spots.{Spot, Within, Role, opens, closes, role, behind_token, behind_part, AtLeaves, AtParts, Stands}
 use Rattle.bz_tree.proofs.Nested.{row_of, items_of_row}
 use Rattle.bz_tree.proofs.Balance.{row_of_parts}
 use Rattle.bz_value.specs.declared.value.Expr.{Expr, Token, Form', Row_of-Expr, end_of-Expr, more_of-Expr}
@@ -72,8 +72,8 @@ rowed_at kind open_ m outer here gap n (x ∷ xs) g h b =
     (rowed_at kind open_ m outer (behind_expr outer here x.0) (gap_behind kind open_ m x.0 (firsts xs)) (margin_behind open_ m x.0) xs (behind_fits kind open_ m x.0 (firsts xs) (behind_expr outer here x.0) h.0.no_first b.0) h.1 b.1)
 
 -- a bracket: what it is to those behind it, and that it is a token
-record IsBracket (t : Turn) (n : ℕ) : Type 0 where
-  turns : turn c.Mark (n ∷ []) ≡ t
+record IsBracket (t : Role) (n : ℕ) : Type 0 where
+  turns : role c.Mark (n ∷ []) ≡ t
   is_token : is_mark (n ∷ []) ≡ true
   coded : IsUtf8 (n ∷ [])
 

@@ -6,7 +6,7 @@ use Rattle.bz_token.specs.Lexemes.{IsLexeme}
 use Rattle.bz_tree.specs.declared.tree.Part.{Part}
 use Rattle.bz_tree.specs.Shapes.{Fits, shape}
 use Rattle.bz_tree.specs.Legal.{IsSort}
-use Rattle.bz_tree.specs.Spots.{Spot, Begins, Within, turn, behind_token, behind_node}
+use Rattle.bz_tree.specs.Spots.{Spot, Begins, Within, role, behind_token, behind_node}
 use Rattle.bz_value.specs.declared.value.Expr.{Expr, Token, Form', Row_of-Expr, end_of-Expr, more_of-Expr}
 use Rattle.bz_value.specs.declared.value.Item.{Item}
 use Rattle.bz_value.specs.declared.value.Item.TheVariants as i
@@ -61,7 +61,7 @@ begins_operator (more_of-Expr x rest) = is_operator x
 
 -- where what follows an expression stands
 abbrev pub behind_expr : Spot → Spot → Expr → Spot
-behind_expr outer here (Token t) = behind_token (turn t.class t.text) outer here
+behind_expr outer here (Token t) = behind_token (role t.class t.text) outer here
 behind_expr outer here (Form' kind s parts s' items end_ split open_ comments) = behind_node kind here
 
 -- the roots of the expressions of a row

@@ -67,11 +67,11 @@ impl Form {
 fn copy_exprs(alloc: Global, exprs: &[Expr]) -> Result<Items<Expr>, Memory>
     ensures { IfOk result (λ copied. copied ≡ exprs.now) }
 {
-    let mut copied = Items::new(alloc);
+    let mut copied = Vec::with_capacity(alloc, exprs.len())?;
     for expr in exprs {
         copied.push(expr.copy()?)?;
     }
-    Ok(copied)
+    Ok(Items::from_vec(copied))
 }
 
 impl Item {
@@ -89,11 +89,11 @@ impl Item {
 fn copy_items(alloc: Global, items: &[Item]) -> Result<Items<Item>, Memory>
     ensures { IfOk result (λ copied. copied ≡ items.now) }
 {
-    let mut copied = Items::new(alloc);
+    let mut copied = Vec::with_capacity(alloc, items.len())?;
     for item in items {
         copied.push(item.copy()?)?;
     }
-    Ok(copied)
+    Ok(Items::from_vec(copied))
 }
 
 impl File {

@@ -8,11 +8,11 @@ use std::alloc::Global;
 pub fn copy_texts(alloc: Global, texts: &[Text]) -> Result<Items<Text>, Memory>
     ensures { IfOk result (λ copied. copied ≡ texts.now) }
 {
-    let mut copied = Items::new(alloc);
+    let mut copied = Vec::with_capacity(alloc, texts.len())?;
     for text in texts {
         copied.push(text.copy()?)?;
     }
-    Ok(copied)
+    Ok(Items::from_vec(copied))
 }
 
 /// Whether both lists have the same texts in the same places.

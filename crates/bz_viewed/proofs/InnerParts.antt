@@ -14,7 +14,7 @@ use Rattle.bz_tree.specs.declared.tree.Part.TheVariants as p
 use Rattle.bz_tree.specs.Shapes as s
 use Rattle.bz_tree.specs.Shapes.{Sort, Terminal, Shape, Fits, Listed, Behind, Several, shape, has_token, is_one_of, is_terminal, has_kind, leaves_at}
 use Rattle.bz_tree.specs.Legal.{IsSort}
-use Rattle.bz_tree.specs.Spots.{Spot, Within, on, Turn, opens, closes, ends, plain, turn, behind_token, behind_node, behind_part}
+use Rattle.bz_tree.specs.Spots.{Spot, Within, onward, Role, opens, closes, ends, plain, role, behind_token, behind_node, behind_part}
 use Rattle.bz_tree.proofs.Balance.{no_such, same_class}
 use Rattle.bz_value.specs.Frames.{is_binary, is_statement}
 use Rattle.bz_value.specs.Proper.{is_sign}
@@ -141,14 +141,14 @@ inner_parts kind h xs i = every_part (λ x. is_inner x ≡ true) inner_tokens in
 
 -- ---- parts that neither open nor close brackets
 
-abbrev is_turn : Turn → Turn → Bool
+abbrev is_turn : Role → Role → Bool
 is_turn opens opens = true
 is_turn closes closes = true
 is_turn ends ends = true
 is_turn plain plain = true
 is_turn _ _ = false
 
-turn_is : (a b : Turn) → is_turn a b ≡ true → a ≡ b
+turn_is : (a b : Role) → is_turn a b ≡ true → a ≡ b
 turn_is opens opens h = refl
 turn_is closes closes h = refl
 turn_is ends ends h = refl
@@ -156,28 +156,28 @@ turn_is plain plain h = refl
 turn_is _ _ h = no_such h
 
 -- whether each leaf that is this terminal is that to those behind it
-abbrev turns : Turn → Terminal → Bool
+abbrev turns : Role → Terminal → Bool
 turns t (s.any c.Mark) = false
-turns t (s.any class) = is_turn (turn class []) t
-turns t (s.this class token) = is_turn (turn class token) t
+turns t (s.any class) = is_turn (role class []) t
+turns t (s.this class token) = is_turn (role class token) t
 
-abbrev pub all_turn : Turn → List Terminal → Bool
+abbrev pub all_turn : Role → List Terminal → Bool
 all_turn t [] = true
 all_turn t (x ∷ xs) = turns t x && all_turn t xs
 
-of_class : (t : Turn) (class : Class) (token : List ℕ) → turns t (s.any class) ≡ true → turn class token ≡ t
+of_class : (t : Role) (class : Class) (token : List ℕ) → turns t (s.any class) ≡ true → role class token ≡ t
 of_class t c.Mark token h = no_such h
 of_class t c.Newline token h = turn_is ends t h
 of_class t c.End token h = turn_is ends t h
 of_class t _ token h = turn_is plain t h
 
-of_terminal : (t : Turn) (x : Terminal) (l : Leaf) → turns t x ≡ true → is_terminal x l ≡ true → turn l.class l.token ≡ t
-of_terminal t (s.any class) l h i = ap (λ z. turn z l.token) (same_class l.class class i) ∙ of_class t class l.token h
+of_terminal : (t : Role) (x : Terminal) (l : Leaf) → turns t x ≡ true → is_terminal x l ≡ true → role l.class l.token ≡ t
+of_terminal t (s.any class) l h i = ap (λ z. role z l.token) (same_class l.class class i) ∙ of_class t class l.token h
 of_terminal t (s.this class token) l h i =
     let w = and_parts _ _ i in
-    ap (λ z. turn z l.token) (same_class l.class class w.0) ∙ (ap (turn class) ((bytes_eq-Decides l.token token).0 w.1) ∙ turn_is (turn class token) t h)
+    ap (λ z. role z l.token) (same_class l.class class w.0) ∙ (ap (role class) ((bytes_eq-Decides l.token token).0 w.1) ∙ turn_is (role class token) t h)
 
-of_terminals : (t : Turn) (xs : List Terminal) (l : Leaf) → all_turn t xs ≡ true → is_one_of xs l ≡ true → turn l.class l.token ≡ t
+of_terminals : (t : Role) (xs : List Terminal) (l : Leaf) → all_turn t xs ≡ true → is_one_of xs l ≡ true → role l.class l.token ≡ t
 of_terminals t [] l h i = no_such i
 of_terminals t (x ∷ xs) l h i =
     let w = and_parts (turns t x) (all_turn t xs) h in
@@ -186,7 +186,7 @@ of_terminals t (x ∷ xs) l h i =
 abbrev pub plain_tokens : List Terminal → Bool
 plain_tokens ts = all_turn plain ts
 
-tokens_plain : (xs : List Terminal) (l : Leaf) → plain_tokens xs ≡ true → is_one_of xs l ≡ true → turn l.class l.token ≡ plain
+tokens_plain : (xs : List Terminal) (l : Leaf) → plain_tokens xs ≡ true → is_one_of xs l ≡ true → role l.class l.token ≡ plain
 tokens_plain xs l h i = of_terminals plain xs l h i
 
 -- behind an opening bracket
@@ -196,16 +196,16 @@ token_opens ts (Node' kind z r) outer here h i = no_such i
 
 -- what follows the part stands where the part does, but for the first place of a line
 abbrev pub GoesOn : Part → Type 0
-GoesOn x = (outer here : Spot) → behind_part outer here x ≡ on here
+GoesOn x = (outer here : Spot) → behind_part outer here x ≡ onward here
 
-leaf_goes : (l : Leaf) → turn l.class l.token ≡ plain → GoesOn (p.Leaf l)
+leaf_goes : (l : Leaf) → role l.class l.token ≡ plain → GoesOn (p.Leaf l)
 leaf_goes l e outer here = ap (λ t. behind_token t outer here) e
 
 pub token_goes : (ts : List Terminal) (x : Part) → plain_tokens ts ≡ true → has_token ts x ≡ true → GoesOn x
 token_goes ts (p.Leaf l) h i = leaf_goes l (tokens_plain ts l h i)
 token_goes ts (Node' kind z r) h i = no_such i
 
-kind_goes : (kind : Kind) (here : Spot) → inner_kind kind ≡ true → behind_node kind here ≡ on here
+kind_goes : (kind : Kind) (here : Spot) → inner_kind kind ≡ true → behind_node kind here ≡ onward here
 kind_goes k.Line here h = no_such h
 kind_goes _ here h = refl
 

@@ -1,6 +1,10 @@
+pub mod GroupSteps
 pub mod InnerParts
+pub mod LineSteps
+pub mod NodeViews
 pub mod ProperFiles
 pub mod ProperParts
 pub mod RowParts
+pub mod RowSteps
 pub mod SeenParts
 pub mod SequenceParts

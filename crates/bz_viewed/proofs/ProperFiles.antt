@@ -19,7 +19,7 @@ use Rattle.bz_tree.specs.Spell.{leaves_part, leaves_row, leaves_of}
 use Rattle.bz_tree.specs.Shapes as s
 use Rattle.bz_tree.specs.Shapes.{Fits, Listed, Behind, Several, shape, tok, done}
 use Rattle.bz_tree.specs.Legal.{IsSort, LegalPart, Legal}
-use Rattle.bz_tree.specs.Spots.{Spot, Begins, on, behind_part, behind_node, Stands, AtLeaves, AtParts, TokenStands, AreTokens}
+use Rattle.bz_tree.specs.Spots.{Spot, Begins, onward, behind_part, behind_node, Stands, AtLeaves, AtParts, TokenStands, AreTokens}
 use Rattle.bz_tree.proofs.Balance.{no_such, parts_of_row}
 use Rattle.bz_tree.proofs.Numbers.{same_kind}
 use Rattle.bz_value.specs.declared.value.Item.{Item}
@@ -55,7 +55,7 @@ statement_made : (x : Part) (cs : HostComments) → IsSort s.small x → has_sta
 statement_made (p.Leaf l) cs h = no_such h
 statement_made (Node' kind n r) cs h = node_statement kind (seen_row r) cs (frame kind) ∙ small_statement kind h
 
-statement_proper : (here : Spot) (x : Part) (above : List Bytes) (suffix : Option Bytes) → on here ≡ on Begins → IsSort s.small x → Ready x → Told (seen x) → AtLeaves Stands here x → Group above → MaybeComment suffix →
+statement_proper : (here : Spot) (x : Part) (above : List Bytes) (suffix : Option Bytes) → onward here ≡ onward Begins → IsSort s.small x → Ready x → Told (seen x) → AtLeaves Stands here x → Group above → MaybeComment suffix →
     IsProperItem (statement above suffix (seen x))
 statement_proper here x above suffix e h g t at_ a m =
     let cs : HostComments = record { before = above ++ (seen x).loose; suffix = suffix } in (
@@ -68,7 +68,7 @@ abbrev EndsLine : List Part → Type 0
 EndsLine xs = Fits IsSort (tok s.newline done) xs
 
 -- the statements of a line, from one on that stands here
-statements_proper : (outer here : Spot) (above : List Bytes) (xs : List Part) → on here ≡ on Begins → Listed (IsSort s.small) s.semicolon true EndsLine xs → AllByRecursion Ready xs → AllTold (map seen xs) → AtParts Stands outer here xs → Group above →
+statements_proper : (outer here : Spot) (above : List Bytes) (xs : List Part) → onward here ≡ onward Begins → Listed (IsSort s.small) s.semicolon true EndsLine xs → AllByRecursion Ready xs → AllTold (map seen xs) → AtParts Stands outer here xs → Group above →
     AreProper (statements_in above (map seen xs))
 statements_proper outer here above [] e h g t at_ a = tt
 statements_proper outer here above (x ∷ []) e h g t at_ a = tt
@@ -77,9 +77,9 @@ statements_proper outer here above (x ∷ y ∷ z ∷ []) e h g t at_ a = (state
 statements_proper outer here above (x ∷ y ∷ z ∷ u ∷ xs) e (h, inl j) g t at_ a = absurd j.1
 statements_proper outer here above (x ∷ y ∷ z ∷ u ∷ xs) e (h, inr (m, inr j)) g t at_ a = absurd j.1.1
 statements_proper outer here above (x ∷ y ∷ z ∷ u ∷ xs) e (h, inr (m, inl j)) g t at_ a =
-    let there : behind_part outer (behind_part outer here x) y ≡ on here = token_goes s.semicolon y refl m outer (behind_part outer here x) ∙ (ap on (sort_goes s.small x refl h outer here) ∙ on_twice here) in (
+    let there : behind_part outer (behind_part outer here x) y ≡ onward here = token_goes s.semicolon y refl m outer (behind_part outer here x) ∙ (ap onward (sort_goes s.small x refl h outer here) ∙ on_twice here) in (
       statement_proper here x above None e h g.0 t.0 at_.0 a tt,
-      statements_proper outer (on here) [] (z ∷ u ∷ xs) (on_twice here ∙ e) j g.1.1 t.1.1 (subst (λ q. AtParts Stands outer q (z ∷ u ∷ xs)) there at_.1.1) tt,
+      statements_proper outer (onward here) [] (z ∷ u ∷ xs) (on_twice here ∙ e) j g.1.1 t.1.1 (subst (λ q. AtParts Stands outer q (z ∷ u ∷ xs)) there at_.1.1) tt,
     )
 
 -- ---- lines

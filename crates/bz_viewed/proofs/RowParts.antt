@@ -7,7 +7,7 @@ use Rattle.bz_tree.specs.declared.tree.Part.{Part, Node'}
 use Rattle.bz_tree.specs.declared.tree.Part.TheVariants as p
 use Rattle.bz_tree.specs.Shapes.{Sort, Fits, shape}
 use Rattle.bz_tree.specs.Legal.{IsSort}
-use Rattle.bz_tree.specs.Spots.{Spot, Begins, Within, Along, on, behind_part, Stands, AtLeaves, AtParts}
+use Rattle.bz_tree.specs.Spots.{Spot, Begins, Within, Along, onward, behind_part, Stands, AtLeaves, AtParts}
 use Rattle.bz_tree.proofs.Balance.{no_such}
 use Rattle.bz_value.specs.Comments.{HostComments, no_comments}
 use Rattle.bz_value.specs.Frames.{frame, is_binary}
@@ -41,25 +41,25 @@ plain_row inside newline outer here (x ∷ xs) h at_ = (
 
 -- ---- binary operations
 
-pub on_twice : (here : Spot) → on (on here) ≡ on here
+pub on_twice : (here : Spot) → onward (onward here) ≡ onward here
 on_twice Within = refl
 on_twice _ = refl
 
 -- behind the first part of a line, what isn't along it is inside brackets
-within_by : (here : Spot) (b : Bool) → on here ≡ here → (here ≡ Along → b ≡ false) → b ≡ true → here ≡ Within
+within_by : (here : Spot) (b : Bool) → onward here ≡ here → (here ≡ Along → b ≡ false) → b ≡ true → here ≡ Within
 within_by Begins b e f h = cc
 within_by Within b e f h = refl
 within_by Along b e f h = no_such (sym (f refl) ∙ h)
 
-part_within : (here : Spot) (x : Part) → on here ≡ here → AtLeaves Stands here x → has_newline (seen x).gap ≡ true → here ≡ Within
+part_within : (here : Spot) (x : Part) → onward here ≡ here → AtLeaves Stands here x → has_newline (seen x).gap ≡ true → here ≡ Within
 part_within here x e h n = within_by here (has_newline (seen x).gap) e (λ a. part_along x (subst (λ z. AtLeaves Stands z x) a h)) n
 
-before_within : (inside newline : Bool) (here : Spot) (x : Part) → on here ≡ here → (inside ≡ true → newline ≡ true → here ≡ Within) → AtLeaves Stands here x →
+before_within : (inside newline : Bool) (here : Spot) (x : Part) → onward here ≡ here → (inside ≡ true → newline ≡ true → here ≡ Within) → AtLeaves Stands here x →
     (if inside then newline else has_newline (seen x).gap) ≡ true → here ≡ Within
 before_within true newline here x e w h n = w refl n
 before_within false newline here x e w h n = part_within here x e h n
 
-first_within : (outer here : Spot) (xs : List Part) → on here ≡ here → AtParts Stands outer here xs → has_newline (first_gap (map seen xs)) ≡ true → here ≡ Within
+first_within : (outer here : Spot) (xs : List Part) → onward here ≡ here → AtParts Stands outer here xs → has_newline (first_gap (map seen xs)) ≡ true → here ≡ Within
 first_within outer here [] e h n = no_such n
 first_within outer here (x ∷ xs) e h n = part_within here x e h.0 n
 
@@ -67,7 +67,7 @@ first_operator : (binary inside newline : Bool) (xs : List Part) → operator_fi
 first_operator binary inside newline [] = refl
 first_operator binary inside newline (x ∷ xs) = operator_made x no_comments _
 
-behind_first : (inside newline : Bool) (outer here : Spot) → on here ≡ here → (inside ≡ true → newline ≡ true → here ≡ Within) →
+behind_first : (inside newline : Bool) (outer here : Spot) → onward here ≡ here → (inside ≡ true → newline ≡ true → here ≡ Within) →
     (xs : List Part) → AllFit xs → AllByRecursion GoesOn xs → AtParts Stands outer here xs → AreParts true outer here (row_exprs true inside newline (map seen xs))
 behind_first inside newline outer here e w [] h g at_ = tt
 behind_first inside newline outer here e w (x ∷ xs) h g at_ =
@@ -98,13 +98,13 @@ binary_row kind k outer here [] f h at_ = tt
 binary_row kind k outer here (x ∷ xs) f h at_ =
     let w = binary_begins kind k x xs f in
     let g : AllByRecursion GoesOn (x ∷ xs) = binary_goes kind k (x ∷ xs) f in
-    let there : behind_part outer here x ≡ on here = g.0 outer here in
+    let there : behind_part outer here x ≡ onward here = g.0 outer here in
     begun (is_operator (plain (seen x))) (part_unsigned w.0 x w.1) (not (begins_operator (map seen xs))) (has_newline (seen x).gap || has_newline (first_gap (map seen xs))) (has_newline (seen x).gap)
     (behind_made outer here x no_comments false ∙ there)
-    (behind_first false (has_newline (seen x).gap) outer (on here) (on_twice here) (λ i n. no_such i) xs h.1 g.1 (subst (λ z. AtParts Stands outer z xs) there at_.1))
+    (behind_first false (has_newline (seen x).gap) outer (onward here) (on_twice here) (λ i n. no_such i) xs h.1 g.1 (subst (λ z. AtParts Stands outer z xs) there at_.1))
   where
-    begun : (sign : Bool) → sign ≡ false → (last newline before : Bool) → behind_expr outer here ((seen x).make no_comments false) ≡ on here →
-        AreParts true outer (on here) (row_exprs true false before (map seen xs)) → AreParts true outer here ((seen x).make no_comments ((sign && last) && newline) ∷ row_exprs true sign before (map seen xs))
+    begun : (sign : Bool) → sign ≡ false → (last newline before : Bool) → behind_expr outer here ((seen x).make no_comments false) ≡ onward here →
+        AreParts true outer (onward here) (row_exprs true false before (map seen xs)) → AreParts true outer here ((seen x).make no_comments ((sign && last) && newline) ∷ row_exprs true sign before (map seen xs))
     begun true e last newline before m rest = no_such (sym e)
     begun false e last newline before m rest = (
       h.0 here at_.0 no_comments false,

@@ -1,4 +1,12 @@
 //! The view of a tree as a file value, and the hosts of comments by their places.
 #![tactic(auto)]
 
-pub fn nothing() {}
+mod before;
+mod expr;
+mod groups;
+mod laws;
+mod marks;
+mod viewing;
+
+pub use laws::worked_views;
+pub use viewing::view;
