@@ -8,6 +8,7 @@ pub mod Joined
 pub mod Fitted
 pub mod PendingForms
 pub mod Rooms
+pub mod Settings
 pub mod Sized
 pub mod Rows
 pub mod Margins

@@ -12,6 +12,8 @@ mod lines;
 mod measure;
 mod room;
 mod row_gaps;
+mod setting;
 mod spaces;
 
 pub use laws::{flags_keep_layout, layout_is_accepted, layout_reads_back, worked_rows};
+pub use setting::{SetFault, set};

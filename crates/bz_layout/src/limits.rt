@@ -8,8 +8,9 @@ use crate::depth::is_within;
 use crate::lines::is_apart;
 use crate::measure::left_behind;
 use crate::room::{NoRoom, less, less_behind, less_comments};
+use bz_items::Memory;
 use bz_value::{Expr, Item};
-use std::alloc::Global;
+use std::alloc::{AllocError, Global};
 
 /// What is left of the room behind the lines of a statement.
 #[tactic(auto, using(crate::proofs::Measured::statement_length))]
@@ -46,7 +47,7 @@ fn less_between(item: &Item, others: &[Item], room: usize) -> Result<usize, NoRo
 /// What is left of so much room behind the layout of the items. Errors: `Longer`: the layout is longer; `Memory`: a growth was
 /// refused.
 #[tactic(auto, using(crate::proofs::Measured::layout_next))]
-pub fn less_items(alloc: Global, items: &[Item], room: usize) -> Result<usize, NoRoom>
+fn less_items(alloc: Global, items: &[Item], room: usize) -> Result<usize, NoRoom>
     ensures ok { IfOk result (λ left. length (layout items.now) + left ≡ room) }
     ensures longer { result ≡ Err NoRoom.Longer → room < length (layout items.now) }
 {
@@ -79,4 +80,15 @@ pub fn are_items_within(items: &[Item], depth: usize) -> bool
         }
     }
     true
+}
+
+/// Whether the layout of the items has at most so many bytes. The error: a growth was refused.
+pub fn is_layout_within(alloc: Global, items: &[Item], limit: usize) -> Result<bool, Memory>
+    ensures { IfOk result (λ within. IsTrue within ↔ (length (layout items.now) ≤ limit)) }
+{
+    match less_items(alloc, items, limit) {
+        Ok(_left) => Ok(true),
+        Err(NoRoom::Longer) => Ok(false),
+        Err(NoRoom::Memory) => Err(AllocError),
+    }
 }
