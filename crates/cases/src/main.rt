@@ -35,6 +35,7 @@
 //! | `outside` | a text | the byte at which its tree leaves the thin grammar |
 //! | `view` | a text | its file value, an item a line |
 //! | `layout` | a text | the layout of its file value |
+//! | `format` | a text of the whole grammar | its layout, or why it has none |
 //! | `token` | a text | the class and the bytes of the token that it begins with |
 //! | `tokens` | a text | its tokens, or its fault |
 //! | `leaves` | a text | class, gap and token of each leaf, and the fault |
@@ -57,6 +58,7 @@
 
 mod case;
 mod escape;
+mod formats;
 mod labels;
 mod page;
 mod query;

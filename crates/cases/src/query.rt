@@ -1,5 +1,6 @@
 //! The questions that a sheet asks of its cases.
 use crate::case::{Case, CaseFault};
+use crate::formats;
 use crate::labels::LabelQuery;
 use crate::page::Page;
 use crate::runs::RunQuery;
@@ -15,6 +16,7 @@ pub(crate) enum Query {
     Tree(TreeQuery),
     Value(ValueQuery),
     Label(LabelQuery),
+    Format,
     Session,
     Run(RunQuery),
 }
@@ -34,10 +36,11 @@ impl Query {
         if let Some(query) = LabelQuery::named(name) {
             return Some(Query::Label(query));
         }
-        if name == "session" {
-            return Some(Query::Session);
+        match name {
+            "format" => Some(Query::Format),
+            "session" => Some(Query::Session),
+            _ => RunQuery::named(name).map(Query::Run),
         }
-        RunQuery::named(name).map(Query::Run)
     }
 
     /// Writes the answer at the case.
@@ -47,6 +50,7 @@ impl Query {
             Query::Tree(query) => query.answer(case, page),
             Query::Value(query) => query.answer(case, page),
             Query::Label(query) => query.answer(case, page),
+            Query::Format => formats::answer(case, page),
             Query::Session => sessions::answer(case, page),
             Query::Run(query) => query.answer(case, page),
         }
