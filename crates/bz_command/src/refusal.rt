@@ -1,33 +1,42 @@
 ghost use Rattle.std.specs.Prelude.{◌≡◌};
-ghost use Rattle.bz_command.specs.Refusals.{refusal_number};
+ghost use Rattle.bz_command.specs.Refusals.{refusal_name, refusal_number};
 
 use std::alloc::AllocError;
-use thiserror::Error;
+use std::error::Error;
+use std::fmt;
 
 /// Why an action on a BUILD file is refused. The file is then as before.
-#[derive(Clone, Copy, Debug, Error)]
+#[derive(Clone, Copy, Debug)]
 pub enum Refusal {
     /// A growth was refused.
-    #[error("Memory")]
     Memory,
     /// The new text would be longer than 4,194,304 bytes.
-    #[error("TooLarge")]
     TooLarge,
     /// The new tree would be deeper than 200.
-    #[error("TooDeep")]
     TooDeep,
     /// The target means no rule.
-    #[error("NoTarget")]
     NoTarget,
     /// Undo or redo by more steps than there are.
-    #[error("TooFar")]
     TooFar,
     /// A command would change the text behind which there are 100,000 steps.
-    #[error("Full")]
     Full,
 }
 
 impl Refusal {
+    /// The name by which the refusal is told.
+    pub fn name(&self) -> &'static str
+        ensures { result.now ≡ refusal_name self.now }
+    {
+        match self {
+            Refusal::Memory => "Memory",
+            Refusal::TooLarge => "TooLarge",
+            Refusal::TooDeep => "TooDeep",
+            Refusal::NoTarget => "NoTarget",
+            Refusal::TooFar => "TooFar",
+            Refusal::Full => "Full",
+        }
+    }
+
     /// The number by which the refusal is told.
     pub fn number(&self) -> u8
         ensures { result ≡ refusal_number self.now }
@@ -42,6 +51,19 @@ impl Refusal {
         }
     }
 }
+
+// The refusal's name.
+impl fmt::Display for Refusal {
+    ghost use Rattle.std.specs.Prelude.{Some};
+
+    ghost output = { λ refusal. Some (refusal_name refusal) };
+
+    fn fmt<W: fmt::Write>(&self, f: &mut fmt::Formatter<W>) -> fmt::Result {
+        f.write_str(self.name())
+    }
+}
+
+impl Error for Refusal {}
 
 impl From<AllocError> for Refusal {
     ghost use Rattle.std.specs.Prelude.{◌≡◌};

@@ -15,7 +15,7 @@ use Rattle.bz_journal.specs.History.{History, Answer, present, after_text, Acts}
 pub acts_refused : (command : Command) (target : Target) (h : History) (here : Bytes) (refusal : Refusal) → here ≡ present h
     → Means command target here (refuses refusal) ⊎ (refusal ≡ Memory) → Acts (Do command target) h (Err refusal) h
 acts_refused command target h here refusal is (inl means) = inl (refuses refusal, subst (λ (text : Bytes). Means command target text (refuses refusal)) is means, refl)
-acts_refused command target h here refusal is (inr memory) = inr (ap Err memory, refl)
+acts_refused command target h here refusal is (inr memory) = inr (λ none. none, ap Err memory, refl)
 
 pub acts_same : (command : Command) (target : Target) (h : History) (here : Bytes) → here ≡ present h → Means command target here (gives here) → Acts (Do command target) h (Ok Same) h
 acts_same command target h here is means =
@@ -25,4 +25,4 @@ acts_same command target h here is means =
 pub acts_given : (command : Command) (target : Target) (h : History) (here text : Bytes) (answer : Answer) (after : History) → here ≡ present h
     → Means command target here (gives text) → ((answer, after) ≡ after_text h text) ⊎ ((answer ≡ Err Memory) × (after ≡ h)) → Acts (Do command target) h answer after
 acts_given command target h here text answer after is means (inl led) = inl (gives text, subst (λ (t : Bytes). Means command target t (gives text)) is means, led)
-acts_given command target h here text answer after is means (inr memory) = inr memory
+acts_given command target h here text answer after is means (inr memory) = inr (λ none. none, memory.0, memory.1)

@@ -68,9 +68,15 @@ Leads (Do command target) h answer after = (m : Meaning) × Means command target
 Leads (Undo n) h answer after = (answer, after) ≡ undone n h
 Leads (Redo n) h answer after = (answer, after) ≡ redone n h
 
--- Memory may be refused, and then nothing changes.
+-- Going by no step takes no memory, and going by more steps than there are takes none.
+abbrev pub TakesNone : Action → History → Type 0
+TakesNone (Do command target) h = ⊥
+TakesNone (Undo n) h = (n ≡ 0) ⊎ (h.cursor < n)
+TakesNone (Redo n) h = (n ≡ 0) ⊎ (length h.texts ≤ h.cursor + n)
+
+-- Memory may be refused to an action that takes some, and then nothing changes.
 abbrev pub Acts : Action → History → Answer → History → Type 0
-Acts action h answer after = Leads action h answer after ⊎ ((answer ≡ Err Memory) × (after ≡ h))
+Acts action h answer after = Leads action h answer after ⊎ ((TakesNone action h → ⊥) × (answer ≡ Err Memory) × (after ≡ h))
 
 -- An action that only moves the cursor takes no memory.
 abbrev pub IsMove : Action → Type 0

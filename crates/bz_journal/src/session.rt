@@ -1,4 +1,4 @@
-ghost use Rattle.std.specs.Prelude.{◌≡◌, ◌≤◌, ◌<◌, ◌+◌, ◌++◌, ◌↔◌, ◌⊎◌, [], ◌∷◌, take, vec_len, Err, ℕ, List, IfOk, IfErr, OnOk, OnErr, length, Result};
+ghost use Rattle.std.specs.Prelude.{◌≡◌, ◌≤◌, ◌<◌, ◌+◌, ◌++◌, ◌↔◌, ◌⊎◌, [], ◌∷◌, take, vec_len, vec_capacity, Err, ℕ, List, IfOk, IfErr, OnOk, OnErr, IsOk, length, Result};
 ghost use Rattle.bz_tree.specs.Spell.{limit};
 ghost use Rattle.std.specs.Str.{IsValidUpTo};
 ghost use Rattle.bz_view.specs.Thin.{Taken};
@@ -176,7 +176,7 @@ impl Session {
     }
 
     /// Does actions in order, and appends a reply for each to `replies`; a refused action doesn't stop the run.
-    /// Room for all replies is taken first. The error: it was refused; no action has then run.
+    /// Room for all replies is taken first, unless it is there. The error: it was refused; no action has then run.
     pub fn run(
         &mut self,
         actions: &[Action],
@@ -185,6 +185,7 @@ impl Session {
         ensures ok { OnOk result ((added : List (Result Reply Refusal)) × (replies.new.items ≡ replies.old.items ++ added)
             × Runs self.old actions.now added self.new) }
         ensures err { OnErr result ((replies.new.items ≡ replies.old.items) × (self.new ≡ self.old)) }
+        ensures room { vec_len replies.old + length actions.now ≤ vec_capacity replies.old → IsOk result }
     {
         replies.reserve(actions.len())?;
         for action in actions {

@@ -5,26 +5,26 @@ use Rattle.std.proofs.lemmas.Bool.{eqb-false}
 use Rattle.std.proofs.lemmas.List.{append-nil}
 use Rattle.bz_command.specs.declared.command.Target.{Target}
 use Rattle.bz_tools.specs.declared.verb.Verb.{Verb}
-use Rattle.bz_tools.specs.declared.verb.OperandFault.{OperandFault}
-use Rattle.bz_tools.specs.Asked.{Asked, aimed, wanted, joined, asked_by, asked_of, actions_of, actions_for, complete}
+use Rattle.bz_tools.specs.Asked.{Asked, Asking, Refused, aimed, wanted, joined, asked_by, asked_of, steps_asked, steps_for, complete}
 use Rattle.bz_tools.specs.Line.{operands_of}
 
-pub joined-target : (verbs : List Verb) (targets more : List Target) (target : Target) → more ≡ targets ++ target ∷ []
-    → joined (Ok (record { verbs = verbs; targets = targets })) (aimed (Ok target)) ≡ Ok (record { verbs = verbs; targets = more })
-joined-target verbs targets more target e = rw (append-nil verbs, e) refl
+pub joined-target : (commands : List Asking) (targets more : List Target) (operand : List ℕ) (target : Target) → more ≡ targets ++ target ∷ []
+    → joined (Ok (record { commands = commands; targets = targets })) (aimed operand (Ok target)) ≡ Ok (record { commands = commands; targets = more })
+joined-target commands targets more operand target e = rw (append-nil commands, e) refl
 
-pub joined-verb : (verbs more : List Verb) (targets : List Target) (verb : Verb) → more ≡ verbs ++ verb ∷ []
-    → joined (Ok (record { verbs = verbs; targets = targets })) (wanted (Ok verb)) ≡ Ok (record { verbs = more; targets = targets })
-joined-verb verbs more targets verb e = rw (append-nil targets, e) refl
+pub joined-verb : (commands more : List Asking) (targets : List Target) (operand : List ℕ) (verb : Verb)
+    → more ≡ commands ++ record { verb = verb; text = operand } ∷ []
+    → joined (Ok (record { commands = commands; targets = targets })) (wanted operand (Ok verb)) ≡ Ok (record { commands = more; targets = targets })
+joined-verb commands more targets operand verb e = rw (append-nil targets, e) refl
 
-joined-assoc : (a b c : Result Asked OperandFault) → joined (joined a b) c ≡ joined a (joined b c)
-joined-assoc (Err fault) b c = refl
-joined-assoc (Ok first) (Err fault) c = refl
-joined-assoc (Ok first) (Ok more) (Err fault) = refl
-joined-assoc (Ok first) (Ok more) (Ok last) = rw (append_assoc first.verbs more.verbs last.verbs, append_assoc first.targets more.targets last.targets) refl
+joined-assoc : (a b c : Result Asked Refused) → joined (joined a b) c ≡ joined a (joined b c)
+joined-assoc (Err refused) b c = refl
+joined-assoc (Ok first) (Err refused) c = refl
+joined-assoc (Ok first) (Ok more) (Err refused) = refl
+joined-assoc (Ok first) (Ok more) (Ok last) = rw (append_assoc first.commands more.commands last.commands, append_assoc first.targets more.targets last.targets) refl
 
 -- one operand more is read
-pub asked_turn : (asked more : Asked) (operand : List ℕ) (left rest : List (List ℕ)) (full : Result Asked OperandFault) → left ≡ operand ∷ rest
+pub asked_turn : (asked more : Asked) (operand : List ℕ) (left rest : List (List ℕ)) (full : Result Asked Refused) → left ≡ operand ∷ rest
     → joined (Ok asked) (asked_of left) ≡ full → joined (Ok asked) (asked_by operand) ≡ Ok more → joined (Ok more) (asked_of rest) ≡ full
 asked_turn asked more operand left rest full split so_far one =
     ap (λ first. joined first (asked_of rest)) (sym one) ∙ joined-assoc (Ok asked) (asked_by operand) (asked_of rest)
@@ -35,14 +35,14 @@ pub left-cons : {A : Type 0} (items : List A) (at : ℕ) (default : A) → at < 
 left-cons items at default within = rw (add-one) (drop-cons items at default within)
 
 -- words without a fault, with a command and a target
-pub actions_of-some : (words operands : List (List ℕ)) (asked : Asked) → operands_of words ≡ Some operands → asked_of operands ≡ Ok asked
-    → 0 < length asked.verbs → 0 < length asked.targets → actions_of words ≡ Some (actions_for asked.verbs asked.targets)
-actions_of-some words operands asked line read some any = rw (line, read) (full asked.verbs asked.targets some any)
+pub steps_asked-some : (words operands : List (List ℕ)) (asked : Asked) → operands_of words ≡ Some operands → asked_of operands ≡ Ok asked
+    → 0 < length asked.commands → 0 < length asked.targets → steps_asked words ≡ Ok (steps_for asked.commands asked.targets)
+steps_asked-some words operands asked line read some any = rw (line, read) (full asked.commands asked.targets some any)
   where
-    full : (verbs : List Verb) (targets : List Target) → 0 < length verbs → 0 < length targets → complete verbs targets ≡ Some (actions_for verbs targets)
+    full : (commands : List Asking) (targets : List Target) → 0 < length commands → 0 < length targets → complete commands targets ≡ Ok (steps_for commands targets)
     full [] targets h k = absurd (omega arith)
-    full (verb ∷ verbs) [] h k = absurd (omega arith)
-    full (verb ∷ verbs) (target ∷ targets) h k = refl
+    full (command ∷ commands) [] h k = absurd (omega arith)
+    full (command ∷ commands) (target ∷ targets) h k = refl
 
 -- a list that its test finds not empty
 pub some-items : (empty : Bool) (count : ℕ) → empty ≡ (count == 0) → empty ≡ false → 0 < count

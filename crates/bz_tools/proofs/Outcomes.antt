@@ -1,7 +1,8 @@
--- A run of actions on a session, and the outcome of a run of the program.
-use Rattle.std.proofs.Common.{◌≡◌, ◌⊎◌, inl, inr, ℕ, ◌≤◌, ◌<◌, List, [], ◌∷◌, length, take, Bool, true, Option, Some, None, Ok, Err, arith, refl, sym, subst, length-take}
+-- A run of steps on a session, and the outcome of a run of the program.
+use Rattle.std.proofs.Common.{◌≡◌, ◌⊎◌, ◌↔◌, inl, inr, ℕ, ◌≤◌, ◌<◌, List, [], ◌∷◌, length, take, Option, Some, None, Result, Ok, Err, arith, refl, sym, ap, subst, length-take}
 use Rattle.std.specs.Prelude.{IfSome}
 use Rattle.std.specs.Io.KnownBytes.{Appends}
+use Rattle.std.specs.Str.{IsValidUpTo}
 use Rattle.std.proofs.lemmas.List.{take_all, append-nil}
 use Rattle.std.proofs.lemmas.Bool.{cases_lt}
 use Rattle.bz_lex.specs.declared.fault.ReadFault.{ReadFault}
@@ -13,65 +14,103 @@ use Rattle.bz_command.specs.declared.refusal.Refusal.TheVariants.{Memory}
 use Rattle.bz_journal.specs.declared.action.Action.{Action}
 use Rattle.bz_journal.specs.declared.action.Reply.{Reply}
 use Rattle.bz_journal.specs.History.{History, Acts, Leads}
-use Rattle.bz_tools.specs.Outcome.{RunsToRefusal, Edits, Outcome, IsInput}
+use Rattle.bz_tools.specs.Asked.{Step, Usage, steps_asked}
+use Rattle.bz_tools.specs.Told.{IsUsageLine}
+use Rattle.bz_tools.specs.Outcome.{Halt, RunsToRefusal, RunsToMemory, IsFaultOf, Edits, Outcome, IsInput}
 use Rattle.bz_view.specs.Thin.{Taken}
-use Rattle.bz_tools.specs.Asked.{actions_of}
 
--- an action that is not refused, and what the run makes of the rest
-pub run_goes_on : (h mid : History) (action : Action) (left rest : List Action) (reply : Reply) → left ≡ action ∷ rest → Acts action h (Ok reply) mid
-    → (refused : Bool) (after : History) → RunsToRefusal mid rest refused after → RunsToRefusal h left refused after
-run_goes_on h mid action left rest reply split acts refused after more = rw (split) (inr (reply, mid, leads acts, more))
-  where
-    leads : Acts action h (Ok reply) mid → Leads action h (Ok reply) mid
-    leads (inl done) = done
-    leads (inr wanting) = let e = wanting.0 in absurd (cc)
+-- a step that is not refused
+led : (h mid : History) (action : Action) (reply : Reply) → Acts action h (Ok reply) mid → Leads action h (Ok reply) mid
+led h mid action reply (inl done) = done
+led h mid action reply (inr wanting) = let e = wanting.1 in absurd (cc)
 
--- an action that is refused, for another cause than memory, ends the run
-pub run_halts : (h after : History) (action : Action) (left rest : List Action) (refusal : Refusal) → left ≡ action ∷ rest
-    → Acts action h (Err refusal) after → (refusal ≡ Memory → ⊥) → RunsToRefusal h left true after
-run_halts h after action left rest refusal split acts other = rw (split) (inl (refusal, leads acts, refl))
+pub run_goes_on : (h mid : History) (step : Step) (left rest : List Step) (reply : Reply) → left ≡ step ∷ rest → Acts step.action h (Ok reply) mid
+    → (halt : Option Halt) (after : History) → RunsToRefusal mid rest halt after → RunsToRefusal h left halt after
+run_goes_on h mid step left rest reply split acts halt after more = rw (split) (inr (reply, mid, led h mid step.action reply acts, more))
+
+pub wanting_goes_on : (h mid : History) (step : Step) (left rest : List Step) (reply : Reply) → left ≡ step ∷ rest → Acts step.action h (Ok reply) mid
+    → RunsToMemory mid rest → RunsToMemory h left
+wanting_goes_on h mid step left rest reply split acts more = rw (split) (inr (reply, mid, led h mid step.action reply acts, more))
+
+-- a step that is refused, for another cause than memory, ends the run
+pub run_halts : (h after : History) (step : Step) (left rest : List Step) (refusal : Refusal) → left ≡ step ∷ rest
+    → Acts step.action h (Err refusal) after → (refusal ≡ Memory → ⊥)
+    → RunsToRefusal h left (Some (record { command = step.command; refusal = refusal })) after
+run_halts h after step left rest refusal split acts other = rw (split) (inl (refusal, leads acts, refl))
   where
-    leads : Acts action h (Err refusal) after → Leads action h (Err refusal) after
+    leads : Acts step.action h (Err refusal) after → Leads step.action h (Err refusal) after
     leads (inl done) = done
-    leads (inr wanting) = let e = wanting.0 in absurd (other (cc))
+    leads (inr wanting) = let e = wanting.1 in absurd (other (cc))
 
 -- a fault of the text says that it is not taken
 pub refused_text : (text : List ℕ) (fault : ReadFault) → (IsOfText fault → Taken text → ⊥) → (fault ≡ f.Memory → ⊥) → Taken text → ⊥
 refused_text text f.Memory none memory taken = memory refl
 refused_text text _ none memory taken = none tt taken
 
+-- the fault that is told where a text is not opened
+pub fault_of_text : (A : Type 0) (text : List ℕ) (fault : ReadFault)
+    → (◌≡◌ {A = Result A ReadFault} (Err fault) (Err f.TooLarge) ↔ (limit < length text))
+    → ((at : ℕ) → (◌≡◌ {A = Result A ReadFault} (Err fault) (Err (f.NotUtf8 at)) ↔ ((length text ≤ limit) × IsValidUpTo text at)))
+    → (fault ≡ f.Memory → ⊥) → IsFaultOf text fault
+fault_of_text A text fault large coding other = record {
+  too_large = (λ is. large.0 (ap Err is), λ long. let e = large.1 long in cc);
+  not_utf8 = λ at. ((λ is. (coding at).0 (ap Err is)), λ short. let e = (coding at).1 short in cc);
+  other = other;
+}
+
 within_limit : (text : List ℕ) → Taken text → length text ≤ limit
 within_limit text (tree, (reads, thin)) = reads.2
 
--- the first bytes of an input, one more than a text may have, tell what becomes of it
-edits_of_front : (actions : List Action) (all output : List ℕ) (status : ℕ) → Edits actions (take 4194305 all) output status → Edits actions all output status
-edits_of_front actions all output status edits = go (cases_lt limit (length all)) edits
+-- ---- the first bytes of an input, one more than a text may have, tell what becomes of it
+
+fault_of_front : (all : List ℕ) (fault : ReadFault) → limit < length all → IsFaultOf (take 4194305 all) fault → IsFaultOf all fault
+fault_of_front all fault long of_front =
+    let len = length-take 4194305 all in
+    let large : fault ≡ f.TooLarge = of_front.too_large.1 (omega arith) in
+    record {
+      too_large = (λ _. long, λ _. large);
+      not_utf8 = λ at. (λ is. absurd (cc), λ short. let fits = short.0 in absurd (omega arith));
+      other = of_front.other;
+    }
+
+edits_of_front : (steps : List Step) (all output line : List ℕ) (status : ℕ) → Edits steps (take 4194305 all) output line status
+    → Edits steps all output line status
+edits_of_front steps all output line status edits = go (cases_lt limit (length all)) edits
   where
-    go : (limit < length all) ⊎ (length all ≤ limit) → Edits actions (take 4194305 all) output status → Edits actions all output status
+    go : (limit < length all) ⊎ (length all ≤ limit) → Edits steps (take 4194305 all) output line status → Edits steps all output line status
     go (inr short) e =
         let whole : take 4194305 all ≡ all = take_all 4194305 all (omega arith) in
-        let P : List ℕ → Type 0 = λ text. Edits actions text output status in subst P whole e
+        let P : List ℕ → Type 0 = λ text. Edits steps text output line status in subst P whole e
     go (inl long) (inl edited) =
         let le = within_limit (take 4194305 all) edited.taken in
         let len = length-take 4194305 all in absurd (omega arith)
     go (inl long) (inr unread) =
-        inr (record { refused = λ taken. let le = within_limit all taken in omega arith; nothing = unread.nothing; told = unread.told })
+        inr (record {
+          refused = λ taken. let le = within_limit all taken in omega arith;
+          fault = unread.fault;
+          of_text = fault_of_front all unread.fault long unread.of_text;
+          nothing = unread.nothing;
+          told = unread.told;
+          ended = unread.ended;
+        })
 
-pub outcome_of_front : (known : Option (List ℕ)) (front : List ℕ) (words : List (List ℕ)) (actions : List Action) (output : List ℕ) (status : ℕ)
-    → IfSome known (λ all. front ≡ take 4194305 all) → actions_of words ≡ Some actions → Edits actions front output status
-    → (input : List ℕ) × IsInput known input × Outcome words input output status
-outcome_of_front None front words actions output status read line edits = (front, tt, rw (line) edits)
-outcome_of_front (Some all) front words actions output status read line edits =
-    (all, refl, rw (line) (edits_of_front actions all output status (rw (read) at edits)))
+pub outcome_of_front : (known : Option (List ℕ)) (front : List ℕ) (words : List (List ℕ)) (steps : List Step) (output line : List ℕ) (status : ℕ)
+    → IfSome known (λ all. front ≡ take 4194305 all) → steps_asked words ≡ Ok steps → Edits steps front output line status
+    → (input : List ℕ) × IsInput known input × Outcome words input output line status
+outcome_of_front None front words steps output line status read asked edits = (front, tt, rw (asked) edits)
+outcome_of_front (Some all) front words steps output line status read asked edits =
+    (all, refl, rw (asked) (edits_of_front steps all output line status (rw (read) at edits)))
 
 pub some_input : (known : Option (List ℕ)) → (input : List ℕ) × IsInput known input
 some_input None = ([], tt)
 some_input (Some all) = (all, refl)
 
 -- words that are no line of the program's
-pub outcome_of_none : (known : Option (List ℕ)) (words : List (List ℕ)) (status : ℕ) → actions_of words ≡ None → status ≡ 1
-    → (input : List ℕ) × IsInput known input × Outcome words input [] status
-outcome_of_none known words status none told = let some = some_input known in (some.0, some.1, rw (none) (refl, told))
+pub outcome_of_none : (known : Option (List ℕ)) (words : List (List ℕ)) (usage : Usage) (line : List ℕ) (status : ℕ)
+    → steps_asked words ≡ Err usage → IsUsageLine usage line → status ≡ 1
+    → (input : List ℕ) × IsInput known input × Outcome words input [] line status
+outcome_of_none known words usage line status none told ended =
+    let some = some_input known in (some.0, some.1, rw (none) (refl, told, ended))
 
 pub appends_nothing : (held : Option (List ℕ)) → Appends held held []
 appends_nothing None = tt

@@ -1,9 +1,9 @@
 -- A loop that writes the rest of some bytes.
-use Rattle.std.proofs.Common.{◌≡◌, ◌≤◌, ◌+◌, ◌-◌, ◌++◌, ℕ, List, length, take, drop, Option, Some, None, arith, refl, ap, ◌∙◌, append_assoc, length-drop}
+use Rattle.std.proofs.Common.{◌≡◌, ◌≤◌, ◌+◌, ◌-◌, ◌++◌, ℕ, List, [], length, take, drop, Option, Some, None, arith, refl, ap, sym, subst, ◌∙◌, append_assoc, length-append, length-drop}
 use Rattle.std.specs.Io.KnownBytes.{Appends}
 use Rattle.std.proofs.lemmas.Grind.{common_steps}
-use Rattle.std.proofs.Math.Seq.{take-add}
-use Rattle.std.proofs.lemmas.List.{drop-drop}
+use Rattle.std.proofs.Math.Seq.{take-add, take-append_seam, drop-append_seam}
+use Rattle.std.proofs.lemmas.List.{drop-drop, take_all, take-append-le}
 use Rattle.bz_tools.specs.Faults.{AppendsSome}
 
 pub record SoFar (old now : Option (List ℕ)) (bytes rest : List ℕ) : Type 0 where
@@ -36,3 +36,28 @@ goes_on old mid now bytes rest n so le a = record {
     go (Some xs) (Some ys) None x y = absurd y
     go (Some xs) (Some ys) (Some zs) x y =
         y ∙ ap (λ ws. ws ++ take n rest) x ∙ rw (so.rest_is, take-add so.some.count n bytes) (append_assoc xs _ _)
+
+-- a piece of what is left was written
+pub piece_written : (old mid now : Option (List ℕ)) (bytes left piece rest : List ℕ) → left ≡ piece ++ rest → SoFar old mid bytes left
+    → Appends mid now piece → SoFar old now bytes rest
+piece_written old mid now bytes left piece rest split so a =
+    let fits : length piece ≤ length left = rw (split, length-append piece rest) (omega arith) in
+    let front : take (length piece) left ≡ piece = ap (take (length piece)) split ∙ take-append_seam piece rest in
+    let back : drop (length piece) left ≡ rest = ap (drop (length piece)) split ∙ drop-append_seam piece rest in
+    subst (SoFar old now bytes) back (goes_on old mid now bytes left (length piece) so fits (subst (Appends mid now) (sym front) a))
+
+-- a beginning of a piece of what is left was written
+pub piece_begun : (old mid now : Option (List ℕ)) (bytes left piece rest : List ℕ) → left ≡ piece ++ rest → SoFar old mid bytes left
+    → AppendsSome mid now piece → AppendsSome old now bytes
+piece_begun old mid now bytes left piece rest split so some =
+    let n = some.count in
+    let within = some.within in
+    let fits : n ≤ length left = rw (split, length-append piece rest) (omega arith) in
+    let front : take n left ≡ take n piece = ap (take n) split ∙ take-append-le n piece rest within in
+    (goes_on old mid now bytes left n so fits (subst (Appends mid now) (sym front) some.appends)).some
+
+-- nothing is left
+pub all_written : (old now : Option (List ℕ)) (bytes : List ℕ) → SoFar old now bytes [] → Appends old now bytes
+all_written old now bytes so =
+    let len : 0 ≡ length bytes - so.some.count = ap length so.rest_is ∙ length-drop so.some.count bytes in
+    subst (Appends old now) (take_all so.some.count bytes (omega arith)) so.some.appends

@@ -1,5 +1,5 @@
--- What the words of a line ask for: the actions, in order.
-use Rattle.std.specs.Prelude.{List, [], ◌∷◌, ◌++◌, map, if◌then◌else◌, Option, Some, None, Result, Ok, Err, option_and_then}
+-- What the words of a line ask for: actions, in order, each with the text of its command.
+use Rattle.std.specs.Prelude.{List, [], ◌∷◌, ◌++◌, map, if◌then◌else◌, Option, Some, None, Result, Ok, Err}
 use Rattle.std.specs.List.{flat_map}
 use Rattle.bz_view.specs.Gaps.{Bytes}
 use Rattle.bz_command.specs.declared.command.Command.TheVariants as c
@@ -14,60 +14,88 @@ use Rattle.bz_tools.specs.declared.verb.OperandFault.{OperandFault}
 
 -- ---- the commands and the targets of a line
 
+-- a command, and its text
+pub record Asking : Type 0 where
+  pub verb : Verb
+  pub text : Bytes
+
 pub record Asked : Type 0 where
-  pub verbs : List Verb
+  pub commands : List Asking
   pub targets : List Target
 
+-- an operand that is refused
+pub record Refused : Type 0 where
+  pub operand : Bytes
+  pub fault : OperandFault
+
 abbrev pub nothing : Asked
-nothing = record { verbs = []; targets = [] }
+nothing = record { commands = []; targets = [] }
 
 abbrev pub both : Asked → Asked → Asked
-both first more = record { verbs = first.verbs ++ more.verbs; targets = first.targets ++ more.targets }
+both first more = record { commands = first.commands ++ more.commands; targets = first.targets ++ more.targets }
 
-abbrev pub wanted : Result Verb OperandFault → Result Asked OperandFault
-wanted (Ok verb) = Ok (record { verbs = verb ∷ []; targets = [] })
-wanted (Err fault) = Err fault
+abbrev pub wanted : Bytes → Result Verb OperandFault → Result Asked Refused
+wanted operand (Ok verb) = Ok (record { commands = record { verb = verb; text = operand } ∷ []; targets = [] })
+wanted operand (Err fault) = Err (record { operand = operand; fault = fault })
 
-abbrev pub aimed : Result Target OperandFault → Result Asked OperandFault
-aimed (Ok target) = Ok (record { verbs = []; targets = target ∷ [] })
-aimed (Err fault) = Err fault
+abbrev pub aimed : Bytes → Result Target OperandFault → Result Asked Refused
+aimed operand (Ok target) = Ok (record { commands = []; targets = target ∷ [] })
+aimed operand (Err fault) = Err (record { operand = operand; fault = fault })
 
 -- what one operand asks for
-abbrev pub asked_by : Bytes → Result Asked OperandFault
-asked_by operand = if is_target operand then aimed (target_of operand) else wanted (verb_of operand)
+abbrev pub asked_by : Bytes → Result Asked Refused
+asked_by operand = if is_target operand then aimed operand (target_of operand) else wanted operand (verb_of operand)
 
--- The first fault, in order, is told.
-abbrev pub joined : Result Asked OperandFault → Result Asked OperandFault → Result Asked OperandFault
+-- The first refused operand, in order, is told.
+abbrev pub joined : Result Asked Refused → Result Asked Refused → Result Asked Refused
 joined (Ok first) (Ok more) = Ok (both first more)
-joined (Ok first) (Err fault) = Err fault
-joined (Err fault) more = Err fault
+joined (Ok first) (Err refused) = Err refused
+joined (Err refused) more = Err refused
 
-abbrev pub asked_of : List Bytes → Result Asked OperandFault
+abbrev pub asked_of : List Bytes → Result Asked Refused
 asked_of [] = Ok nothing
 asked_of (operand ∷ operands) = joined (asked_by operand) (asked_of operands)
 
--- ---- actions
+-- ---- steps
+
+-- an action, and the text of its command
+pub record Step : Type 0 where
+  pub action : Action
+  pub command : Bytes
 
 abbrev pub action_of : Target → Verb → Action
 action_of target Delete = a.Do c.Delete target
 action_of target (Undo count) = a.Undo count
 action_of target (Redo count) = a.Redo count
 
+abbrev pub step_of : Target → Asking → Step
+step_of target asking = record { action = action_of target asking.verb; command = asking.text }
+
 -- Each target gets all commands, in order.
-abbrev pub actions_for : List Verb → List Target → List Action
-actions_for verbs targets = flat_map (λ target. map (action_of target) verbs) targets
+abbrev pub steps_for : List Asking → List Target → List Step
+steps_for commands targets = flat_map (λ target. map (step_of target) commands) targets
+
+-- Why words are no line of the program's: a fault that clap finds, a refused operand, no command, no target.
+pub data Usage : Type 0 where
+  of_clap : Usage
+  of_operand : Refused → Usage
+  no_command : Usage
+  no_target : Usage
 
 -- A line has a command and a target.
-abbrev pub complete : List Verb → List Target → Option (List Action)
-complete [] targets = None
-complete (verb ∷ verbs) [] = None
-complete (verb ∷ verbs) (target ∷ targets) = Some (actions_for (verb ∷ verbs) (target ∷ targets))
+abbrev pub complete : List Asking → List Target → Result (List Step) Usage
+complete [] targets = Err no_command
+complete (command ∷ commands) [] = Err no_target
+complete (command ∷ commands) (target ∷ targets) = Ok (steps_for (command ∷ commands) (target ∷ targets))
 
-abbrev pub accepted : Result Asked OperandFault → Option (List Action)
-accepted (Ok asked) = complete asked.verbs asked.targets
-accepted (Err fault) = None
+abbrev pub accepted : Result Asked Refused → Result (List Step) Usage
+accepted (Ok asked) = complete asked.commands asked.targets
+accepted (Err refused) = Err (of_operand refused)
 
--- the actions of the words, or none where they are no line of the program's: at a fault of clap's, without a command,
--- without a target, and where an operand is refused
-abbrev pub actions_of : List Bytes → Option (List Action)
-actions_of words = option_and_then (λ operands. accepted (asked_of operands)) (operands_of words)
+abbrev pub steps_read : Option (List Bytes) → Result (List Step) Usage
+steps_read None = Err of_clap
+steps_read (Some operands) = accepted (asked_of operands)
+
+-- the steps that the words ask for, or why they are no line of the program's
+abbrev pub steps_asked : List Bytes → Result (List Step) Usage
+steps_asked words = steps_read (operands_of words)

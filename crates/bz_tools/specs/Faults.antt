@@ -11,3 +11,7 @@ pub record AppendsSome (old new : Option (List ℕ)) (bytes : List ℕ) : Type 0
   pub count : ℕ
   pub within : count ≤ length bytes
   pub appends : Appends old new (take count bytes)
+
+-- By a writer with this count of faults before and after, all of these bytes were written; or it failed, and a beginning was.
+abbrev pub AppendsUnlessFailed : ℕ → ℕ → Option (List ℕ) → Option (List ℕ) → List ℕ → Type 0
+AppendsUnlessFailed faults faults' old new bytes = Appends old new bytes ⊎ (Rises faults faults' × AppendsSome old new bytes)

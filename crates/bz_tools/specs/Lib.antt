@@ -6,6 +6,7 @@ pub mod Operands
 pub mod Outcome
 pub mod Ports
 pub mod Shown
+pub mod Told
 pub mod Verbs
 pub mod Words
 pub mod Worked

@@ -1,9 +1,17 @@
--- The numbers of refused operands.
-use Rattle.std.specs.Prelude.{ℕ}
+-- The names and the numbers of refused operands.
+use Rattle.std.specs.Prelude.{ℕ, codes}
+use Rattle.bz_view.specs.Gaps.{Bytes}
 use Rattle.bz_tools.specs.declared.verb.OperandFault.{OperandFault}
 use Rattle.bz_tools.specs.declared.verb.OperandFault.TheVariants.{Memory, BadTarget, Unknown, Arguments}
 
--- the table of refusals
+-- the table of refusals: names
+abbrev pub fault_name : OperandFault → Bytes
+fault_name Memory = codes "Memory"
+fault_name BadTarget = codes "BadTarget"
+fault_name Unknown = codes "Unknown"
+fault_name Arguments = codes "Arguments"
+
+-- the table of refusals: numbers
 abbrev pub fault_number : OperandFault → ℕ
 fault_number Memory = 8
 fault_number BadTarget = 12

@@ -1,13 +1,16 @@
--- Worked words: what lines of words ask for.
-use Rattle.std.specs.Prelude.{◌≡◌, [], ◌∷◌, codes, Some, None, Err}
+-- Worked rows: what lines of words ask for, and how refusals are told.
+use Rattle.std.specs.Prelude.{◌≡◌, [], ◌∷◌, codes, Ok, Err}
 use Rattle.bz_command.specs.declared.command.Command.TheVariants as c
 use Rattle.bz_command.specs.declared.command.Target.{Target}
 use Rattle.bz_command.specs.declared.command.Which.{Which}
 use Rattle.bz_command.specs.declared.command.Which.TheVariants.{Name, Package}
+use Rattle.bz_command.specs.declared.refusal.Refusal.TheVariants.{TooFar}
+use Rattle.bz_lex.specs.declared.fault.ReadFault.TheVariants.{NotUtf8, Unexpected}
 use Rattle.bz_journal.specs.declared.action.Action.TheVariants.{Do, Undo, Redo}
 use Rattle.bz_tools.specs.Words.{words_of}
 use Rattle.bz_tools.specs.Operands.{verb_of}
-use Rattle.bz_tools.specs.Asked.{asked_of, actions_of}
+use Rattle.bz_tools.specs.Asked.{Step, asked_of, of_clap, no_command, no_target, steps_asked}
+use Rattle.bz_tools.specs.Told.{fault_line, refusal_line, operand_line}
 use Rattle.bz_tools.specs.declared.verb.OperandFault.TheVariants.{BadTarget, Unknown, Arguments}
 
 -- of standard input
@@ -23,14 +26,23 @@ abbrev Faults : Type 0
 Faults = (verb_of (codes "grow") ≡ Err Unknown) × (verb_of [] ≡ Err Unknown) × (verb_of (codes "delete x") ≡ Err Arguments)
     × (verb_of (codes "undo 0") ≡ Err Arguments) × (verb_of (codes "undo +1") ≡ Err Arguments)
     × (verb_of (codes "redo 4294967296") ≡ Err Arguments)
-    × (asked_of (codes "delete" ∷ codes "-:all" ∷ codes "grow" ∷ []) ≡ Err BadTarget)
+    × (asked_of (codes "delete" ∷ codes "-:all" ∷ codes "grow" ∷ []) ≡ Err (record { operand = codes "-:all"; fault = BadTarget }))
 
 abbrev Lines : Type 0
-Lines = (actions_of (codes "--" ∷ codes "delete" ∷ codes "undo 007" ∷ codes "-:x" ∷ codes "-:__pkg__" ∷ [])
-    ≡ Some (Do c.Delete (meant (Name (codes "x"))) ∷ Undo 7 ∷ Do c.Delete (meant Package) ∷ Undo 7 ∷ []))
-    × (actions_of (codes "--" ∷ codes "-:x" ∷ codes "redo" ∷ []) ≡ Some (Redo 1 ∷ []))
-    × (actions_of (codes "delete" ∷ codes "-:x" ∷ []) ≡ None) × (actions_of (codes "--help" ∷ []) ≡ None)
-    × (actions_of (codes "--" ∷ codes "delete" ∷ []) ≡ None) × (actions_of (codes "--" ∷ codes "-:x" ∷ []) ≡ None)
+Lines =
+    let delete : Which → Step = λ which. record { action = Do c.Delete (meant which); command = codes "delete" } in
+    let back : Step = record { action = Undo 7; command = codes "undo 007" } in
+    (steps_asked (codes "--" ∷ codes "delete" ∷ codes "undo 007" ∷ codes "-:x" ∷ codes "-:__pkg__" ∷ [])
+    ≡ Ok (delete (Name (codes "x")) ∷ back ∷ delete Package ∷ back ∷ []))
+    × (steps_asked (codes "--" ∷ codes "-:x" ∷ codes "redo" ∷ []) ≡ Ok (record { action = Redo 1; command = codes "redo" } ∷ []))
+    × (steps_asked (codes "delete" ∷ codes "-:x" ∷ []) ≡ Err of_clap) × (steps_asked (codes "--help" ∷ []) ≡ Err of_clap)
+    × (steps_asked (codes "--" ∷ codes "delete" ∷ []) ≡ Err no_target) × (steps_asked (codes "--" ∷ codes "-:x" ∷ []) ≡ Err no_command)
 
 abbrev pub WorkedWords : Type 0
 WorkedWords = Spaces × Faults × Lines
+
+abbrev pub WorkedRefusals : Type 0
+WorkedRefusals = (fault_line (Unexpected 12 305) ≡ codes "<stdin>:12:305: Unexpected\n")
+    × (fault_line (NotUtf8 4194303) ≡ codes "<stdin>: NotUtf8 at 4194303\n")
+    × (refusal_line (codes "undo 3") TooFar ≡ codes "buildozer: <stdin>: undo 3: TooFar (61)\n")
+    × (operand_line (record { operand = codes "-:all"; fault = BadTarget }) ≡ codes "buildozer: -:all: BadTarget (12)\n")

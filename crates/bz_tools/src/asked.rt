@@ -2,7 +2,7 @@
 ghost use Rattle.std.specs.Prelude.{◌≡◌, ◌≢◌, ◌⊎◌, [], ◌∷◌, ◌++◌, List, Result, Ok, Err, IfOk, IfErr, OnOk, map};
 ghost use Rattle.bz_tools.specs.Asked as a;
 ghost use Rattle.bz_tools.specs.Operands.{target_of, verb_of};
-ghost use Rattle.bz_tools.specs.Shown.{asked_in};
+ghost use Rattle.bz_tools.specs.Shown.{asked_in, refused_in};
 ghost use Rattle.bz_tools.specs.declared.verb.OperandFault.{OperandFault};
 
 use crate::target::{is_target, read_target};
@@ -32,8 +32,8 @@ pub(crate) struct Refused<'a> {
 }
 
 fn add_target(alloc: Global, asked: &mut Asked<'_>, operand: &str) -> Result<(), OperandFault>
-    ensures ok { OnOk result (a.joined (Ok (asked_in asked.old)) (a.aimed (target_of operand.now)) ≡ Ok (asked_in asked.new)) }
-    ensures err { IfErr result (λ fault. (a.aimed (target_of operand.now) ≡ Err fault) ⊎ (fault ≡ OperandFault.Memory)) }
+    ensures ok { OnOk result (a.joined (Ok (asked_in asked.old)) (a.aimed operand.now (target_of operand.now)) ≡ Ok (asked_in asked.new)) }
+    ensures err { IfErr result (λ fault. (target_of operand.now ≡ Err fault) ⊎ (fault ≡ OperandFault.Memory)) }
 {
     let target = read_target(alloc, operand.as_bytes())?;
     if asked.targets.push(target).is_err() {
@@ -47,8 +47,8 @@ fn add_command<'a>(
     asked: &mut Asked<'a>,
     operand: &'a str,
 ) -> Result<(), OperandFault>
-    ensures ok { OnOk result (a.joined (Ok (asked_in asked.old)) (a.wanted (verb_of operand.entry.now)) ≡ Ok (asked_in asked.new)) }
-    ensures err { IfErr result (λ fault. (a.wanted (verb_of operand.entry.now) ≡ Err fault) ⊎ (fault ≡ OperandFault.Memory)) }
+    ensures ok { OnOk result (a.joined (Ok (asked_in asked.old)) (a.wanted operand.entry.now (verb_of operand.entry.now)) ≡ Ok (asked_in asked.new)) }
+    ensures err { IfErr result (λ fault. (verb_of operand.entry.now ≡ Err fault) ⊎ (fault ≡ OperandFault.Memory)) }
 {
     let verb = read_verb(alloc, operand.as_bytes())?;
     if asked
@@ -66,7 +66,8 @@ fn add_command<'a>(
 
 fn add<'a>(alloc: Global, asked: &mut Asked<'a>, operand: &'a str) -> Result<(), OperandFault>
     ensures ok { OnOk result (a.joined (Ok (asked_in asked.old)) (a.asked_by operand.entry.now) ≡ Ok (asked_in asked.new)) }
-    ensures err { IfErr result (λ fault. (a.asked_by operand.entry.now ≡ Err fault) ⊎ (fault ≡ OperandFault.Memory)) }
+    ensures err { IfErr result (λ fault. (a.asked_by operand.entry.now ≡ Err (record { operand = operand.entry.now; fault = fault }))
+        ⊎ (fault ≡ OperandFault.Memory)) }
 {
     if is_target(operand.as_bytes()) {
         add_target(alloc, asked, operand)
@@ -78,7 +79,7 @@ fn add<'a>(alloc: Global, asked: &mut Asked<'a>, operand: &'a str) -> Result<(),
 /// What the operands ask for. The error is the first operand that is refused, in order, or memory.
 pub(crate) fn read_asked<'a>(alloc: Global, operands: &[&'a str]) -> Result<Asked<'a>, Refused<'a>>
     ensures ok { IfOk result (λ asked. a.asked_of (map (λ s. s.now) operands.now) ≡ Ok (asked_in asked)) }
-    ensures err { IfErr result (λ refused. (a.asked_of (map (λ s. s.now) operands.now) ≡ Err refused.fault)
+    ensures err { IfErr result (λ refused. (a.asked_of (map (λ s. s.now) operands.now) ≡ Err (refused_in refused))
         ⊎ (refused.fault ≡ OperandFault.Memory)) }
 {
     let mut asked = Asked {

@@ -1,7 +1,8 @@
 //! Any reader or writer of std's.
-ghost use Rattle.std.specs.Prelude.{◌≡◌, ◌≤◌};
+ghost use Rattle.std.specs.Prelude.{◌≡◌, ◌≤◌, Ok, IsErr, MatchResult};
 
 use crate::{PortFault, Sink, Source};
+use std::io;
 use std::io::{Read, Write};
 
 /// A reader or a writer of std's, with the count of its faults.
@@ -32,6 +33,19 @@ impl<T> Device<T> {
         self.faults = self.faults.saturating_add(1);
         PortFault
     }
+
+    // A failure of the device's is counted; all else that it gives, an end too, is passed on.
+    fn counted(&mut self, given: io::Result<usize>) -> Result<usize, PortFault>
+        ensures given { MatchResult given (λ n. (result ≡ Ok n) × (self.new ≡ self.old))
+            (λ _. IsErr result × Rises (device_faults self.old) (device_faults self.new)) }
+        ensures held { device_in self.new ≡ device_in self.old }
+        ensures count { device_faults self.old ≤ device_faults self.new }
+    {
+        match given {
+            Ok(n) => Ok(n),
+            Err(_) => Err(self.failed()),
+        }
+    }
 }
 
 impl<R: Read> Source for Device<R> {
@@ -40,10 +54,8 @@ impl<R: Read> Source for Device<R> {
     ghost faults = { λ d. d.faults };
 
     fn read(&mut self, into: &mut [u8]) -> Result<usize, PortFault> {
-        match self.device.read(into) {
-            Ok(n) => Ok(n),
-            Err(_) => Err(self.failed()),
-        }
+        let given = self.device.read(into);
+        self.counted(given)
     }
 }
 

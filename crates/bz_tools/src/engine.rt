@@ -1,10 +1,11 @@
 //! The program buildozer over any reader and writers.
-ghost use Rattle.std.specs.Prelude.{◌≡◌, ◌≢◌, [], List, ℕ, IfOk, map, is_some, None};
-ghost use Rattle.std.specs.Io.KnownBytes.{Appends, Keeps};
-ghost use Rattle.bz_tools.specs.Faults.{Rises, AppendsSome};
-ghost use Rattle.bz_tools.specs.Shown.{actions_in};
-ghost use Rattle.bz_tools.specs.Asked.{actions_of};
-ghost use Rattle.bz_tools.specs.Outcome.{RunsToRefusal, Edits, Outcome, IsInput, status_of};
+ghost use Rattle.std.specs.Prelude.{◌≡◌, ◌≢◌, ◌⊎◌, [], List, ℕ, IfOk, OnErr, IsErr, IsNone, Some, map, option_map};
+ghost use Rattle.std.specs.Io.KnownBytes.{Appends};
+ghost use Rattle.bz_tools.specs.Faults.{Rises, AppendsSome, AppendsUnlessFailed};
+ghost use Rattle.bz_tools.specs.Shown.{halt_in, steps_in, usage_in};
+ghost use Rattle.bz_tools.specs.Asked.{Usage, steps_asked};
+ghost use Rattle.bz_tools.specs.Told.{fault_line, IsUsageLine};
+ghost use Rattle.bz_tools.specs.Outcome.{RunsToRefusal, RunsToMemory, Edits, Outcome, IsInput, halt_line, status_of};
 
 use crate::sink::write_whole;
 use crate::source::{InputFault, read_most};
@@ -65,9 +66,10 @@ struct Edited {
     status: u8,
 }
 
-// Runs the actions in order up to the first that is refused, which is answered. The error: memory was refused.
+// Runs the steps in order up to the first that is refused, which is answered. The error: memory was refused.
 fn run<'a>(session: &mut Session, steps: &[Step<'a>]) -> Result<Option<Halt<'a>>, AllocError>
-    ensures { IfOk result (λ halt. RunsToRefusal session.old (actions_in steps.now) (is_some halt) session.new) }
+    ensures ok { IfOk result (λ halt. RunsToRefusal session.old (steps_in steps.now) (option_map halt_in halt) session.new) }
+    ensures err { OnErr result (RunsToMemory session.old (steps_in steps.now)) }
 {
     for step in steps {
         if let Err(refusal) = session.act(&step.action) {
@@ -83,7 +85,9 @@ fn run<'a>(session: &mut Session, steps: &[Step<'a>]) -> Result<Option<Halt<'a>>
 
 // Nothing is written of a text that is not accepted, which is told. The error: memory was refused.
 fn unread<E: Sink>(alloc: Global, fault: &ReadFault, err: &mut E) -> Result<Edited, AllocError>
-    ensures { IfOk result (λ edited. (fault.now ≢ ReadFault.Memory) × (edited.text.items ≡ []) × (edited.status ≡ 2)) }
+    ensures ok { IfOk result (λ edited. (fault.now ≢ ReadFault.Memory) × (edited.text.items ≡ []) × (edited.status ≡ 2)
+        × AppendsUnlessFailed (E.faults err.old) (E.faults err.new) (E.contents err.old) (E.contents err.new) (fault_line fault.now)) }
+    ensures err { OnErr result (err.new ≡ err.old) }
 {
     match fault {
         ReadFault::Memory => Err(AllocError),
@@ -107,14 +111,28 @@ fn status_of(refused: bool, read: &[u8], written: &[u8]) -> u8
     if written == read { SAME } else { CHANGED }
 }
 
-// Runs the actions on a text, and tells what is refused.
+// Tells the command that is refused, if one is.
+fn tell_halt<E: Sink>(err: &mut E, halt: &Option<Halt<'_>>)
+    ensures told { AppendsUnlessFailed (E.faults err.old) (E.faults err.new) (E.contents err.old) (E.contents err.new)
+        (halt_line (option_map halt_in halt.now)) }
+    ensures silent { IsNone halt.now → err.new ≡ err.old }
+{
+    if let Some(halt) = halt {
+        tell_refusal(err, halt.command, halt.refusal);
+    }
+}
+
+// Runs the steps on a text, and tells what is refused.
 fn edit<E: Sink>(
     alloc: Global,
     steps: &[Step<'_>],
     input: &[u8],
     err: &mut E,
 ) -> Result<Edited, AllocError>
-    ensures { IfOk result (λ edited. Edits (actions_in steps.now) input.now edited.text.items edited.status) }
+    ensures ok { IfOk result (λ edited. (line : List ℕ) × Edits (steps_in steps.now) input.now edited.text.items line edited.status
+        × AppendsUnlessFailed (E.faults err.old) (E.faults err.new) (E.contents err.old) (E.contents err.new) line) }
+    ensures silent { IfOk result (λ edited. edited.status ≢ 2 → err.new ≡ err.old) }
+    ensures err { OnErr result (err.new ≡ err.old) }
 {
     let mut session = match Session::open(alloc, "-", input) {
         Ok(session) => session,
@@ -123,9 +141,7 @@ fn edit<E: Sink>(
     let halt = run(&mut session, steps)?;
     let mut text = Vec::new(alloc);
     session.text_into(&mut text)?;
-    if let Some(halt) = &halt {
-        tell_refusal(err, halt.command, halt.refusal);
-    }
+    tell_halt(err, &halt);
     let status = status_of(halt.is_some(), input, &text);
     Ok(Edited { text, status })
 }
@@ -139,27 +155,29 @@ fn cut_by(cut: Cut) -> Exit
     }
 }
 
-// The words ask for nothing, which is told; or memory was refused.
-fn unasked<E: Sink>(fault: &UsageFault<'_>, err: &mut E) -> Exit
-    ensures whole { result.cut ≡ Cut.Whole → (fault.now ≢ UsageFault.Memory) × (result.status ≡ 1) }
-    ensures cut { result.cut ≢ Cut.Whole → result ≡ record { status = 2; cut = Cut.Memory } }
+// The words are no line of the program's, which is told; or memory was refused.
+fn unasked<E: Sink>(alloc: Global, fault: &UsageFault<'_>, err: &mut E) -> Exit
+    ensures whole { result.cut ≡ Cut.Whole → (usage : Usage) × (line : List ℕ) × (usage_in fault.now ≡ Some usage) × IsUsageLine usage line
+        × AppendsUnlessFailed (E.faults err.old) (E.faults err.new) (E.contents err.old) (E.contents err.new) line × (result.status ≡ 1) }
+    ensures cut { result.cut ≢ Cut.Whole → (result ≡ record { status = 2; cut = Cut.Memory }) × (err.new ≡ err.old) }
 {
-    match fault {
-        UsageFault::Memory => cut_by(Cut::Memory),
-        _ => {
-            tell_usage(err, fault);
-            Exit {
-                status: USAGE,
-                cut: Cut::Whole,
-            }
-        }
+    if let UsageFault::Memory = fault {
+        return cut_by(Cut::Memory);
+    }
+    match tell_usage(alloc, err, fault) {
+        Ok(()) => Exit {
+            status: USAGE,
+            cut: Cut::Whole,
+        },
+        Err(_) => cut_by(Cut::Memory),
     }
 }
 
 /// Reads the words of a line and standard input, runs the commands on each target in order, up to the first that is
-/// refused, and writes the text that is then present. Statuses: 1 where the words are no line of the program's (nothing
-/// is then read or written), 2 where the text or a command is refused or the run is cut, 0 where the text is another
-/// one than was read, 3 where it is the same. Refusals are told on `err`, whose faults are passed over.
+/// refused, and writes the text that is then present to `out`. Statuses: 1 where the words are no line of the program's
+/// (nothing is then read or written), 2 where the text or a command is refused or the run is cut, 0 where the text is
+/// another one than was read, 3 where it is the same. Each refusal is told by one line on `err`, whose faults are passed
+/// over; where nothing is refused, and where memory or the reader cuts the run, nothing is told.
 pub fn buildozer<S: AsStr, R: Source, W: Sink, E: Sink>(
     alloc: Global,
     words: &[S],
@@ -168,24 +186,34 @@ pub fn buildozer<S: AsStr, R: Source, W: Sink, E: Sink>(
     err: &mut E,
 ) -> Exit
     // A whole run writes the outcome of the words and the bytes of the input.
-    ensures whole { result.cut ≡ Cut.Whole → (bytes : List ℕ) × (text : List ℕ) × IsInput (R.remaining input.old) bytes
-        × Outcome (map S.text words.now) bytes text result.status × Appends (W.contents out.old) (W.contents out.new) text }
+    ensures whole { result.cut ≡ Cut.Whole → (bytes : List ℕ) × (text : List ℕ) × (line : List ℕ) × IsInput (R.remaining input.old) bytes
+        × Outcome (map S.text words.now) bytes text line result.status × Appends (W.contents out.old) (W.contents out.new) text
+        × AppendsUnlessFailed (E.faults err.old) (E.faults err.new) (E.contents err.old) (E.contents err.new) line }
 
     ensures cut { result.cut ≢ Cut.Whole → result.status ≡ 2 }
-    ensures read { result.cut ≡ Cut.Read → Keeps (W.contents out.old) (W.contents out.new) }
-    ensures write { result.cut ≡ Cut.Write → (bytes : List ℕ) × (text : List ℕ) × (status : ℕ) × IsInput (R.remaining input.old) bytes
-        × Outcome (map S.text words.now) bytes text status × AppendsSome (W.contents out.old) (W.contents out.new) text }
+    ensures write { result.cut ≡ Cut.Write → (bytes : List ℕ) × (text : List ℕ) × (line : List ℕ) × (status : ℕ)
+        × IsInput (R.remaining input.old) bytes × Outcome (map S.text words.now) bytes text line status
+        × AppendsSome (W.contents out.old) (W.contents out.new) text
+        × AppendsUnlessFailed (E.faults err.old) (E.faults err.new) (E.contents err.old) (E.contents err.new) line }
+
+    // Where memory or the reader cuts the run, nothing is written.
+    ensures untouched { (result.cut ≡ Cut.Memory) ⊎ (result.cut ≡ Cut.Read) → (out.new ≡ out.old) × (err.new ≡ err.old) }
 
     // Words that are no line of the program's leave the input unread.
-    ensures unread { actions_of (map S.text words.now) ≡ None → input.new ≡ input.old }
+    ensures unread { IsErr (steps_asked (map S.text words.now)) → input.new ≡ input.old }
 
-    // A reader or a writer that failed has counted it.
+    // Where nothing is refused, nothing is told.
+    ensures silent { result.status ≢ 1 → result.status ≢ 2 → err.new ≡ err.old }
+
+    // A run is cut by the reader or the writer where that counted a fault, and there alone.
     ensures read_cause { result.cut ≡ Cut.Read → Rises (R.faults input.old) (R.faults input.new) }
     ensures write_cause { result.cut ≡ Cut.Write → Rises (W.faults out.old) (W.faults out.new) }
+    ensures reader { result.cut ≢ Cut.Read → R.faults input.new ≡ R.faults input.old }
+    ensures writer { result.cut ≢ Cut.Write → W.faults out.new ≡ W.faults out.old }
 {
     let steps = match read_steps(alloc, words) {
         Ok(steps) => steps,
-        Err(fault) => return unasked(&fault, err),
+        Err(fault) => return unasked(alloc, &fault, err),
     };
     let bytes = match read_most(alloc, input, MOST) {
         Ok(bytes) => bytes,

@@ -18,7 +18,7 @@ mod words;
 
 pub use device::Device;
 pub use engine::{Cut, Exit, buildozer};
-pub use laws::worked_words;
+pub use laws::{worked_refusals, worked_words};
 pub use memory::{MemorySink, MemorySource};
 pub use sink::Sink;
 pub use source::{PortFault, Source};

@@ -1,5 +1,5 @@
 //! Writers that count their faults.
-ghost use Rattle.std.specs.Prelude.{◌≡◌, ◌≤◌, ◌<◌, ℕ, List, Option, IfOk, OnOk, OnErr, IsErr, length, drop};
+ghost use Rattle.std.specs.Prelude.{◌≡◌, ◌≤◌, ◌<◌, ℕ, List, Option, IfOk, OnOk, OnErr, IsOk, IsErr, length, drop};
 ghost use Rattle.std.specs.Io.{WritesAtMost};
 ghost use Rattle.std.specs.Io.KnownBytes.{WriteAppends, Appends};
 ghost use Rattle.bz_tools.specs.Faults.{Rises, AppendsSome};
@@ -20,6 +20,7 @@ pub trait Sink {
         ensures goes_on { 0 < length bytes.now → IfOk result (λ n. 0 < n) }
         ensures bytes { WriteAppends (contents self.old) (contents self.new) result bytes.now }
         ensures cause { IsErr result → Rises (faults self.old) (faults self.new) }
+        ensures steady { IsOk result → faults self.new ≡ faults self.old }
         ensures count { faults self.old ≤ faults self.new };
 }
 
@@ -35,7 +36,7 @@ pub(crate) fn write_whole<S: Sink>(sink: &mut S, bytes: &[u8]) -> Result<(), Por
     ensures ok { OnOk result (Appends (S.contents sink.old) (S.contents sink.new) bytes.now) }
     ensures err { OnErr result (AppendsSome (S.contents sink.old) (S.contents sink.new) bytes.now) }
     ensures cause { IsErr result → Rises (S.faults sink.old) (S.faults sink.new) }
-    ensures count { S.faults sink.old ≤ S.faults sink.new }
+    ensures steady { IsOk result → S.faults sink.new ≡ S.faults sink.old }
 {
     let mut rest = bytes;
     while !rest.is_empty() {

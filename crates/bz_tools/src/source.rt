@@ -1,5 +1,5 @@
 //! Readers that count their faults.
-ghost use Rattle.std.specs.Prelude.{◌≡◌, ◌≤◌, ◌+◌, ◌<◌, ◌++◌, ℕ, List, Option, IfOk, IfSome, IsErr, IsErrOf, take, length, vec_len};
+ghost use Rattle.std.specs.Prelude.{◌≡◌, ◌≤◌, ◌+◌, ◌<◌, ◌++◌, ℕ, List, Option, IfOk, IfSome, IsOk, IsErr, IsErrOf, take, length, vec_len};
 ghost use Rattle.std.specs.Io.{ReadsAtMost};
 ghost use Rattle.std.specs.Io.KnownBytes.{ReadConsumes, Consumes, IsAtEnd};
 ghost use Rattle.bz_tools.specs.Faults.{Rises};
@@ -23,6 +23,7 @@ pub trait Source {
         ensures bound { ReadsAtMost result into.new }
         ensures bytes { ReadConsumes (remaining self.old) (remaining self.new) result into.new }
         ensures cause { IsErr result → Rises (faults self.old) (faults self.new) }
+        ensures steady { IsOk result → faults self.new ≡ faults self.old }
         ensures count { faults self.old ≤ faults self.new };
 }
 
@@ -50,7 +51,7 @@ fn read_part<S: Source>(
         × (length got ≡ n) × Consumes (S.remaining source.old) (S.remaining source.new) got) }
     ensures end { IfOk result (λ n. n ≡ 0 → vec_len bytes.old < most → IsAtEnd (S.remaining source.new)) }
     ensures fault { IsErrOf result InputFault.Read → Rises (S.faults source.old) (S.faults source.new) }
-    ensures count { S.faults source.old ≤ S.faults source.new }
+    ensures steady { (IsErrOf result InputFault.Read → ⊥) → S.faults source.new ≡ S.faults source.old }
 {
     let mut chunk = [0u8; CHUNK];
     let room = (most - bytes.len()).min(CHUNK);
@@ -71,6 +72,7 @@ pub(crate) fn read_most<S: Source>(
 ) -> Result<Vec<u8>, InputFault>
     ensures ok { IfOk result (λ bytes. IfSome (S.remaining source.old) (λ all. bytes.items ≡ take most all)) }
     ensures fault { IsErrOf result InputFault.Read → Rises (S.faults source.old) (S.faults source.new) }
+    ensures steady { (IsErrOf result InputFault.Read → ⊥) → S.faults source.new ≡ S.faults source.old }
 {
     let mut bytes = Vec::new(alloc);
     while bytes.len() < most {

@@ -1,7 +1,7 @@
 //! The actions of a line, in order.
-ghost use Rattle.std.specs.Prelude.{◌≡◌, ◌≢◌, ◌++◌, Some, None, IfOk, IfErr, OnOk, map};
+ghost use Rattle.std.specs.Prelude.{◌≡◌, ◌≢◌, ◌⊎◌, ◌++◌, Ok, Err, IfOk, IfErr, IfSome, OnOk, map, Some, None};
 ghost use Rattle.bz_tools.specs.Asked as a;
-ghost use Rattle.bz_tools.specs.Shown.{actions_in};
+ghost use Rattle.bz_tools.specs.Shown.{asking_in, steps_in, refused_in, usage_in};
 
 use crate::asked::{Asking, Refused, read_asked};
 use crate::line::{LineFault, read_operands};
@@ -66,8 +66,7 @@ fn add_steps<'a>(
     commands: &[Asking<'a>],
     target: &Target,
 ) -> Result<(), AllocError>
-    ensures { OnOk result (actions_in steps.new.items
-        ≡ actions_in steps.old.items ++ map (a.action_of target.now) (map (λ command. command.verb) commands.now)) }
+    ensures { OnOk result (steps_in steps.new.items ≡ steps_in steps.old.items ++ map (a.step_of target.now) (map asking_in commands.now)) }
 {
     for command in commands {
         let action = action_of(command.verb, target)?;
@@ -83,7 +82,7 @@ fn steps_of<'a>(
     commands: &[Asking<'a>],
     targets: &[Target],
 ) -> Result<Vec<Step<'a>>, AllocError>
-    ensures { IfOk result (λ steps. actions_in steps.items ≡ a.actions_for (map (λ command. command.verb) commands.now) targets.now) }
+    ensures { IfOk result (λ steps. steps_in steps.items ≡ a.steps_for (map asking_in commands.now) targets.now) }
 {
     let mut steps = Vec::new(alloc);
     for target in targets {
@@ -98,8 +97,8 @@ pub(crate) fn read_steps<'a, S: AsStr>(
     alloc: Global,
     words: &'a [S],
 ) -> Result<Vec<Step<'a>>, UsageFault<'a>>
-    ensures ok { IfOk result (λ steps. a.actions_of (map S.text words.entry.now) ≡ Some (actions_in steps.items)) }
-    ensures err { IfErr result (λ fault. fault ≢ UsageFault.Memory → a.actions_of (map S.text words.entry.now) ≡ None) }
+    ensures ok { IfOk result (λ steps. a.steps_asked (map S.text words.entry.now) ≡ Ok (steps_in steps.items)) }
+    ensures err { IfErr result (λ fault. IfSome (usage_in fault) (λ usage. a.steps_asked (map S.text words.entry.now) ≡ Err usage)) }
 {
     let operands = match read_operands(alloc, words) {
         Ok(operands) => operands,
@@ -123,7 +122,8 @@ pub(crate) fn read_steps<'a, S: AsStr>(
 }
 
 fn usage_fault(refused: Refused<'_>) -> UsageFault<'_>
-    ensures { result ≢ UsageFault.Memory → refused.entry.fault ≢ OperandFault.Memory }
+    ensures { (usage_in result ≡ Some (a.of_operand (refused_in refused.entry))) × (refused.entry.fault ≢ OperandFault.Memory)
+        ⊎ (usage_in result ≡ None) }
 {
     match refused.fault {
         OperandFault::Memory => UsageFault::Memory,

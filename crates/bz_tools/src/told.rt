@@ -1,60 +1,141 @@
 //! The lines on standard error. Its faults are passed over.
+ghost use Rattle.std.specs.Prelude.{◌≡◌, List, ℕ, IfSome, OnOk, OnErr, map};
+ghost use Rattle.std.specs.List.{concat};
+ghost use Rattle.bz_tools.specs.Faults.{AppendsUnlessFailed};
+ghost use Rattle.bz_tools.specs.Shown.{refused_in, usage_in};
+ghost use Rattle.bz_tools.specs.Told.{place_line, fault_line, numbered_line, refusal_line, operand_line, IsUsageLine};
+
 use crate::Sink;
 use crate::asked::Refused;
 use crate::sink::write_whole;
 use crate::steps::UsageFault;
 use bz_command::Refusal;
 use bz_tree::ReadFault;
-use std::fmt;
-use std::fmt::Write;
+use itoa::Buffer;
+use std::alloc::{AllocError, Global};
 
-// What is printed goes to a sink.
-#[derive(Drop)]
-struct Printed<'a, S> {
-    sink: &'a mut S,
-}
-
-impl<S: Sink> fmt::Write for Printed<'_, S> {
-    fn write_str(&mut self, text: &str) -> fmt::Result {
-        match write_whole(self.sink, text.as_bytes()) {
-            Ok(()) => Ok(()),
-            Err(_) => Err(fmt::Error),
+// Writes these pieces, one behind the other, up to a fault.
+fn tell<E: Sink>(err: &mut E, pieces: &[&str])
+    ensures { AppendsUnlessFailed (E.faults err.old) (E.faults err.new) (E.contents err.old) (E.contents err.new)
+        (concat (map (λ piece. piece.now) pieces.now)) }
+{
+    for &piece in pieces {
+        match write_whole(err, piece.as_bytes()) {
+            Ok(()) => {}
+            Err(_) => return,
         }
     }
 }
 
-/// Tells why the words ask for nothing.
-pub(crate) fn tell_usage<S: Sink>(err: &mut S, fault: &UsageFault<'_>) {
-    let mut printed = Printed { sink: err };
-    let _ = match fault {
-        UsageFault::Line(error) => write!(printed, "{error}"),
-        UsageFault::Operand(Refused { operand, fault }) => {
-            let number = fault.number();
-            writeln!(printed, "buildozer: {operand}: {fault} ({number})")
-        }
-        UsageFault::NoCommand => writeln!(printed, "buildozer: no command"),
-        UsageFault::NoTarget => writeln!(printed, "buildozer: no target"),
-        UsageFault::Memory => Ok(()),
-    };
+// Tells where the text of standard input is not accepted, and why.
+fn tell_place<E: Sink>(err: &mut E, line: u32, column: u32, name: &str)
+    ensures { AppendsUnlessFailed (E.faults err.old) (E.faults err.new) (E.contents err.old) (E.contents err.new)
+        (place_line line column name.now) }
+{
+    let mut lines = Buffer::new();
+    let mut columns = Buffer::new();
+    let line = lines.format(line);
+    let column = columns.format(column);
+    tell(err, &["<stdin>:", line, ":", column, ": ", name, "\n"]);
+}
+
+fn tell_not_utf8<E: Sink>(err: &mut E, at: usize)
+    ensures { AppendsUnlessFailed (E.faults err.old) (E.faults err.new) (E.contents err.old) (E.contents err.new)
+        (fault_line (ReadFault.NotUtf8 at)) }
+{
+    let mut places = Buffer::new();
+    let at = places.format(at);
+    tell(err, &["<stdin>: NotUtf8 at ", at, "\n"]);
 }
 
 /// Tells why the text of standard input is not accepted.
-pub(crate) fn tell_fault<S: Sink>(err: &mut S, fault: &ReadFault) {
-    let mut printed = Printed { sink: err };
-    let _ = match fault {
-        ReadFault::NotUtf8 { .. } | ReadFault::TooLarge | ReadFault::Memory => {
-            writeln!(printed, "<stdin>: {fault}")
-        }
-        _ => writeln!(printed, "<stdin>:{fault}"),
-    };
+pub(crate) fn tell_fault<E: Sink>(err: &mut E, fault: &ReadFault)
+    ensures { AppendsUnlessFailed (E.faults err.old) (E.faults err.new) (E.contents err.old) (E.contents err.new)
+        (fault_line fault.now) }
+{
+    match fault {
+        ReadFault::NotUtf8 { at } => tell_not_utf8(err, *at),
+        ReadFault::TooLarge => tell(err, &["<stdin>: TooLarge\n"]),
+        ReadFault::BadCharacter { line, column } => tell_place(err, *line, *column, "BadCharacter"),
+        ReadFault::OpenString { line, column } => tell_place(err, *line, *column, "OpenString"),
+        ReadFault::Indented { line, column } => tell_place(err, *line, *column, "Indented"),
+        ReadFault::Unexpected { line, column } => tell_place(err, *line, *column, "Unexpected"),
+        ReadFault::TooDeep { line, column } => tell_place(err, *line, *column, "TooDeep"),
+        ReadFault::Memory => tell(err, &["<stdin>: Memory\n"]),
+    }
 }
 
-/// Tells that a command is refused.
-pub(crate) fn tell_refusal<S: Sink>(err: &mut S, command: &str, refusal: Refusal) {
-    let number = refusal.number();
-    let mut printed = Printed { sink: err };
-    let _ = writeln!(
-        printed,
-        "buildozer: <stdin>: {command}: {refusal} ({number})"
+// Tells what is refused, behind this front, with the name and the number of the refusal.
+fn tell_numbered<'a, E: Sink>(
+    err: &mut E,
+    front: &'a str,
+    refused: &'a str,
+    name: &'a str,
+    number: u8,
+)
+    ensures { AppendsUnlessFailed (E.faults err.old) (E.faults err.new) (E.contents err.old) (E.contents err.new)
+        (numbered_line front.entry.now refused.entry.now name.entry.now number) }
+{
+    let mut numbers = Buffer::new();
+    let number = numbers.format(number);
+    tell(err, &[front, refused, ": ", name, " (", number, ")\n"]);
+}
+
+/// Tells that the command of this text is refused.
+pub(crate) fn tell_refusal<E: Sink>(err: &mut E, command: &str, refusal: Refusal)
+    ensures { AppendsUnlessFailed (E.faults err.old) (E.faults err.new) (E.contents err.old) (E.contents err.new)
+        (refusal_line command.now refusal) }
+{
+    tell_numbered(
+        err,
+        "buildozer: <stdin>: ",
+        command,
+        refusal.name(),
+        refusal.number(),
     );
+}
+
+fn tell_operand<E: Sink>(err: &mut E, refused: &Refused<'_>)
+    ensures { AppendsUnlessFailed (E.faults err.old) (E.faults err.new) (E.contents err.old) (E.contents err.new)
+        (operand_line (refused_in refused.now)) }
+{
+    let fault = refused.fault;
+    tell_numbered(
+        err,
+        "buildozer: ",
+        refused.operand,
+        fault.name(),
+        fault.number(),
+    );
+}
+
+fn tell_clap<E: Sink>(alloc: Global, err: &mut E, error: &clap::Error) -> Result<(), AllocError>
+    ensures ok { OnOk result ((line : List ℕ) × AppendsUnlessFailed (E.faults err.old) (E.faults err.new)
+        (E.contents err.old) (E.contents err.new) line) }
+    ensures err { OnErr result (err.new ≡ err.old) }
+{
+    let line = error.to_string(alloc)?;
+    tell(err, &[line.as_str()]);
+    Ok(())
+}
+
+/// Tells why the words are no line of the program's; of memory that was refused nothing is told. The error: there was
+/// no memory for the text of a fault that clap finds; nothing is then told.
+pub(crate) fn tell_usage<E: Sink>(
+    alloc: Global,
+    err: &mut E,
+    fault: &UsageFault<'_>,
+) -> Result<(), AllocError>
+    ensures ok { OnOk result (IfSome (usage_in fault.now) (λ usage. (line : List ℕ) × IsUsageLine usage line
+        × AppendsUnlessFailed (E.faults err.old) (E.faults err.new) (E.contents err.old) (E.contents err.new) line)) }
+    ensures err { OnErr result (err.new ≡ err.old) }
+{
+    match fault {
+        UsageFault::Line(error) => return tell_clap(alloc, err, error),
+        UsageFault::Operand(refused) => tell_operand(err, refused),
+        UsageFault::NoCommand => tell(err, &["buildozer: no command\n"]),
+        UsageFault::NoTarget => tell(err, &["buildozer: no target\n"]),
+        UsageFault::Memory => {}
+    }
+    Ok(())
 }

@@ -1,12 +1,11 @@
 //! What a command's text asks for.
 ghost use Rattle.std.specs.Prelude.{◌≡◌, ◌⊎◌, Err, codes, map};
 ghost use Rattle.bz_tools.specs.Operands.{verb_of, verb_in, delete_of, steps_of, count_of};
-ghost use Rattle.bz_tools.specs.Verbs.{fault_number};
+ghost use Rattle.bz_tools.specs.Verbs.{fault_name, fault_number};
 
 use crate::words::read_words;
 use bz_items::Text;
 use std::alloc::Global;
-use thiserror::Error;
 
 /// What a command asks for.
 #[derive(Clone, Copy, Debug)]
@@ -20,23 +19,31 @@ pub(crate) enum Verb {
 }
 
 /// Why an operand is refused.
-#[derive(Clone, Copy, Debug, Error)]
+#[derive(Clone, Copy, Debug)]
 pub(crate) enum OperandFault {
     /// A growth was refused.
-    #[error("Memory")]
     Memory,
     /// Not a target of the program's.
-    #[error("BadTarget")]
     BadTarget,
     /// No command of that name.
-    #[error("Unknown")]
     Unknown,
     /// The number or the form of a command's arguments is wrong, or the command is longer than 65,536 bytes.
-    #[error("Arguments")]
     Arguments,
 }
 
 impl OperandFault {
+    /// The name by which the fault is told.
+    pub(crate) fn name(&self) -> &'static str
+        ensures { result.now ≡ fault_name self.now }
+    {
+        match self {
+            OperandFault::Memory => "Memory",
+            OperandFault::BadTarget => "BadTarget",
+            OperandFault::Unknown => "Unknown",
+            OperandFault::Arguments => "Arguments",
+        }
+    }
+
     /// The number by which the fault is told.
     pub(crate) fn number(&self) -> u8
         ensures { result ≡ fault_number self.now }

@@ -1,10 +1,13 @@
-use Rattle.std.proofs.Common.{Bool, drop}
+use Rattle.std.proofs.Common.{Option, drop}
 use Rattle.bz_journal.specs.History.{History}
-use Rattle.bz_tools.specs.Outcome.{RunsToRefusal}
-use Rattle.bz_tools.specs.Shown.{actions_in}
+use Rattle.bz_tools.specs.Outcome.{Halt, RunsToRefusal, RunsToMemory}
+use Rattle.bz_tools.specs.Shown.{steps_in}
 use Rattle.bz_tools.proofs.engine.run.Given as goal
 
 -- what the rest of the run makes is what the whole run makes
 abbrev pub invariant-loop-step : goal.invariant-loop-step
-invariant-loop-step l = (refused : Bool) (after : History) → RunsToRefusal l.session (actions_in (drop l.step-index l.steps)) refused after
-    → RunsToRefusal l.fn.session (actions_in l.steps) refused after
+invariant-loop-step l = record {
+  runs : (halt : Option Halt) (after : History) → RunsToRefusal l.session (steps_in (drop l.step-index l.steps)) halt after
+      → RunsToRefusal l.fn.session (steps_in l.steps) halt after;
+  wants : RunsToMemory l.session (steps_in (drop l.step-index l.steps)) → RunsToMemory l.fn.session (steps_in l.steps);
+}

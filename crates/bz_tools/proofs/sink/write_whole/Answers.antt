@@ -1,11 +1,11 @@
-use Rattle.std.proofs.Common.{arith}
+use Rattle.std.proofs.Common.{refl, rules}
 use Rattle.bz_tools.proofs.Written.{begins, goes_on}
 use Rattle.bz_tools.proofs.sink.write_whole.Goals as goal
 
 pub loop-rest-init : goal.loop-rest-init
 loop-rest-init g c = record {
   so_far = begins (g.S.Sink.contents c.args.sink.now) c.args.bytes.now;
-  count = omega arith;
+  steady = refl;
 }
 
 pub loop-rest-preserved : goal.loop-rest-preserved
@@ -14,5 +14,5 @@ loop-rest-preserved g c =
     record {
       so_far = rw (c.after-rest.ensures) (goes_on (contents c.args.sink.now) (contents c.loop-rest.sink) (contents c.write.new.self)
           c.args.bytes.now c.loop-rest.rest.now c.in-Ok.written c.loop-rest.invariant.so_far c.in-Ok.ensures.bound c.in-Ok.ensures.bytes);
-      count = let before = c.loop-rest.invariant.count in let now = c.in-Ok.ensures.count in omega arith;
+      steady = search rules;
     }
