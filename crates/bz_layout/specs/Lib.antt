@@ -4,3 +4,4 @@ pub mod Written
 pub mod Drawn
 pub mod Flags
 pub mod Laws
+pub mod Rows

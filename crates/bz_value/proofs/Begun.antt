@@ -1,0 +1,48 @@
+-- An expression that is proper along a line is proper at its start: neither is inside brackets.
+use Rattle.std.proofs.Common.{◌≡◌, Bool, refl, sym, ap, ◌∙◌}
+use Rattle.bz_tree.specs.declared.kind.Kind.{Kind}
+use Rattle.bz_tree.specs.declared.kind.Kind.TheVariants as k
+use Rattle.bz_tree.specs.Spots.{Spot, on, Turn, opens, closes, ends, plain, turn, behind_token, behind_node}
+use Rattle.bz_value.specs.declared.value.Expr.{Expr, Token, Form', Row_of-Expr, end_of-Expr, more_of-Expr}
+use Rattle.bz_value.specs.Frames.{frame, is_binary}
+use Rattle.bz_value.specs.Proper.{behind_expr, ProperExpr, ProperRow, ProperHead}
+use Rattle.bz_value.proofs.FormParts.{framed}
+
+token_same : (t : Turn) (outer outer' here here' : Spot) → on outer ≡ on outer' → on here ≡ on here' → behind_token t outer here ≡ behind_token t outer' here'
+token_same opens outer outer' here here' e f = refl
+token_same closes outer outer' here here' e f = e
+token_same ends outer outer' here here' e f = refl
+token_same plain outer outer' here here' e f = f
+
+node_same : (kind : Kind) (here here' : Spot) → on here ≡ on here' → behind_node kind here ≡ behind_node kind here'
+node_same k.Line here here' f = refl
+node_same _ here here' f = f
+
+behind_same : (x : Expr) (outer outer' here here' : Spot) → on outer ≡ on outer' → on here ≡ on here' → behind_expr outer here x ≡ behind_expr outer' here' x
+behind_same (Token t) outer outer' here here' e f = token_same (turn t.class t.text) outer outer' here here' e f
+behind_same (Form' kind s parts s' items end_ split open_ comments) outer outer' here here' e f = node_same kind here here' f
+
+mutual
+  pub moved_expr : (x : Expr) (here here' : Spot) → on here ≡ on here' → ProperExpr here x → ProperExpr here' x
+  moved_expr (Token t) here here' f h = h
+  moved_expr (Form' kind s parts s' items end_ split open_ comments) here here' f h = (
+    h.0,
+    framed (frame kind)
+        (λ g. (moved_row _ parts (is_binary kind) here here' here here' f f g.0, g.1, g.2, g.3, g.4))
+        (λ g. (moved_head _ parts here here' f g.0, g.1, g.2, g.3))
+        h.1,
+  )
+
+  moved_row : (m : _) (r : Row_of-Expr m) (binary : Bool) (outer outer' here here' : Spot) → on outer ≡ on outer' → on here ≡ on here' → ProperRow binary outer here r → ProperRow binary outer' here' r
+  moved_row m end_of-Expr binary outer outer' here here' e f h = tt
+  moved_row m (more_of-Expr x rest) binary outer outer' here here' e f h =
+      let same = behind_same x outer outer' here here' e f in (
+        moved_expr x here here' f h.0,
+        h.1,
+        λ b. ((h.2 b).0, sym same ∙ (h.2 b).1),
+        moved_row _ rest binary outer outer' (behind_expr outer here x) (behind_expr outer' here' x) e (ap on same) h.3,
+      )
+
+  moved_head : (m : _) (r : Row_of-Expr m) (here here' : Spot) → on here ≡ on here' → ProperHead here r → ProperHead here' r
+  moved_head m end_of-Expr here here' f h = tt
+  moved_head m (more_of-Expr x rest) here here' f h = (moved_expr x here here' f h.0, h.1, moved_head _ rest here here' f h.2)

@@ -1,0 +1,278 @@
+-- What the table of shapes says of each part of a node: no part of a line ends it, and the operators of a binary operation
+-- are no brackets.
+use Rattle.std.proofs.Common.{◌≡◌, ℕ, Bool, true, false, not, ◌&&◌, List, [], ◌∷◌, inl, inr, refl, sym, ap, ◌∙◌}
+use Rattle.std.specs.List.{AllByRecursion}
+use Rattle.std.proofs.lemmas.Bool.{and_parts, or_cases, not-true}
+use Rattle.std.proofs.lemmas.Slice.Eq.{bytes_eq-Decides}
+use Rattle.bz_token.specs.declared.class.Class.{Class}
+use Rattle.bz_token.specs.declared.class.Class.TheVariants as c
+use Rattle.bz_lex.specs.declared.leaf.Leaf.{Leaf}
+use Rattle.bz_tree.specs.declared.kind.Kind.{Kind}
+use Rattle.bz_tree.specs.declared.kind.Kind.TheVariants as k
+use Rattle.bz_tree.specs.declared.tree.Part.{Part, Node'}
+use Rattle.bz_tree.specs.declared.tree.Part.TheVariants as p
+use Rattle.bz_tree.specs.Shapes as s
+use Rattle.bz_tree.specs.Shapes.{Sort, Terminal, Shape, Fits, Listed, Behind, Several, shape, has_token, is_one_of, is_terminal, has_kind, leaves_at}
+use Rattle.bz_tree.specs.Legal.{IsSort}
+use Rattle.bz_tree.specs.Spots.{Spot, Within, on, Turn, opens, closes, ends, plain, turn, behind_token, behind_node, behind_part}
+use Rattle.bz_tree.proofs.Balance.{no_such, same_class}
+use Rattle.bz_value.specs.Frames.{is_binary, is_statement}
+use Rattle.bz_value.specs.Proper.{is_sign}
+
+-- ---- a test on shapes for a fact of all their parts
+
+-- every list of tokens passes t, and every sort q
+abbrev pub every : (List Terminal → Bool) → (Sort → Bool) → Shape → Bool
+every t q s.none = true
+every t q s.done = true
+every t q (s.tok ts r) = t ts && every t q r
+every t q (s.sub a r) = q a && every t q r
+every t q (s.alt r r') = every t q r && every t q r'
+every t q (s.list a ts last r) = q a && (t ts && every t q r)
+every t q (s.each a r) = q a && every t q r
+
+module _ (P : Part → Type 0) (t : List Terminal → Bool) (q : Sort → Bool) (of_token : (ts : List Terminal) (x : Part) → t ts ≡ true → has_token ts x ≡ true → P x) (of_sort : (a : Sort) (x : Part) → q a ≡ true → IsSort a x → P x) where
+  module _ (a : Sort) (passes : q a ≡ true) (K : List Part → Type 0) (rest : (xs : List Part) → K xs → AllByRecursion P xs) where
+    mutual
+      listed_all : (ts : List Terminal) (last : Bool) → t ts ≡ true → (xs : List Part) → Listed (IsSort a) ts last K xs → AllByRecursion P xs
+      listed_all ts last o [] h = absurd h
+      listed_all ts last o (x ∷ xs) h = (of_sort a x passes h.0, behind_all ts last o xs h.1)
+
+      behind_all : (ts : List Terminal) (last : Bool) → t ts ≡ true → (xs : List Part) → Behind (IsSort a) ts last K xs → AllByRecursion P xs
+      behind_all ts last o [] h = tt
+      behind_all ts last o (x ∷ xs) (inl h) = rest (x ∷ xs) h
+      behind_all ts last o (x ∷ xs) (inr (m, inl h)) = (of_token ts x o m, listed_all ts last o xs h)
+      behind_all ts last o (x ∷ xs) (inr (m, inr h)) = (of_token ts x o m, rest xs h.1)
+
+    several_all : (xs : List Part) → Several (IsSort a) K xs → AllByRecursion P xs
+    several_all [] h = tt
+    several_all (x ∷ xs) (inl h) = rest (x ∷ xs) h
+    several_all (x ∷ xs) (inr h) = (of_sort a x passes h.0, several_all xs h.1)
+
+  pub every_part : (r : Shape) → every t q r ≡ true → (xs : List Part) → Fits IsSort r xs → AllByRecursion P xs
+  every_part s.none b xs h = absurd h
+  every_part s.done b [] h = tt
+  every_part s.done b (x ∷ xs) h = absurd h
+  every_part (s.tok ts r) b [] h = absurd h
+  every_part (s.tok ts r) b (x ∷ xs) h = let v = and_parts (t ts) (every t q r) b in (of_token ts x v.0 h.0, every_part r v.1 xs h.1)
+  every_part (s.sub a r) b [] h = absurd h
+  every_part (s.sub a r) b (x ∷ xs) h = let v = and_parts (q a) (every t q r) b in (of_sort a x v.0 h.0, every_part r v.1 xs h.1)
+  every_part (s.alt r r') b xs (inl h) = every_part r (and_parts (every t q r) (every t q r') b).0 xs h
+  every_part (s.alt r r') b xs (inr h) = every_part r' (and_parts (every t q r) (every t q r') b).1 xs h
+  every_part (s.list a ts last r) b xs h =
+      let v = and_parts (q a) _ b in
+      let u = and_parts (t ts) _ v.1 in
+      listed_all a v.0 (Fits IsSort r) (every_part r u.1) ts last u.0 xs h
+  every_part (s.each a r) b xs h = let v = and_parts (q a) _ b in several_all a v.0 (Fits IsSort r) (every_part r v.1) xs h
+
+-- ---- parts inside a line
+
+abbrev pub ends_line : Class → Bool
+ends_line c.Newline = true
+ends_line c.End = true
+ends_line _ = false
+
+abbrev pub inner_kind : Kind → Bool
+inner_kind k.File = false
+inner_kind k.Line = false
+inner_kind _ = true
+
+-- neither a line's newline nor the end, and no line
+abbrev pub is_inner : Part → Bool
+is_inner (p.Leaf l) = not (ends_line l.class)
+is_inner (Node' kind z r) = inner_kind kind
+
+abbrev inner_terminal : Terminal → Bool
+inner_terminal (s.any class) = not (ends_line class)
+inner_terminal (s.this class token) = not (ends_line class)
+
+abbrev pub inner_tokens : List Terminal → Bool
+inner_tokens [] = true
+inner_tokens (x ∷ xs) = inner_terminal x && inner_tokens xs
+
+abbrev pub inner_sort : Sort → Bool
+inner_sort s.line = false
+inner_sort _ = true
+
+terminal_inner : (x : Terminal) (l : Leaf) → inner_terminal x ≡ true → is_terminal x l ≡ true → not (ends_line l.class) ≡ true
+terminal_inner (s.any class) l h i = ap (λ z. not (ends_line z)) (same_class l.class class i) ∙ h
+terminal_inner (s.this class token) l h i = ap (λ z. not (ends_line z)) (same_class l.class class (and_parts _ _ i).0) ∙ h
+
+tokens_inner : (xs : List Terminal) (l : Leaf) → inner_tokens xs ≡ true → is_one_of xs l ≡ true → not (ends_line l.class) ≡ true
+tokens_inner [] l h i = no_such i
+tokens_inner (x ∷ xs) l h i =
+    let w = and_parts (inner_terminal x) (inner_tokens xs) h in
+    elim (or_cases (is_terminal x l) (is_one_of xs l) i) [ inl e ↦ terminal_inner x l w.0 e | inr e ↦ tokens_inner xs l w.1 e ]
+
+token_inner : (ts : List Terminal) (x : Part) → inner_tokens ts ≡ true → has_token ts x ≡ true → is_inner x ≡ true
+token_inner ts (p.Leaf l) h i = tokens_inner ts l h i
+token_inner ts (Node' kind z r) h i = no_such i
+
+not_file : (a : Sort) → has_kind a k.File ≡ false
+not_file (s.level n) = refl
+not_file _ = refl
+
+not_line : (a : Sort) → inner_sort a ≡ true → has_kind a k.Line ≡ false
+not_line s.line h = no_such h
+not_line (s.level n) h = refl
+not_line _ h = refl
+
+sort_kind : (a : Sort) (kind : Kind) → inner_sort a ≡ true → has_kind a kind ≡ true → inner_kind kind ≡ true
+sort_kind a k.File h i = no_such (sym (not_file a) ∙ i)
+sort_kind a k.Line h i = no_such (sym (not_line a h) ∙ i)
+sort_kind a _ h i = refl
+
+leaves_inner : (a : Sort) → inner_sort a ≡ true → inner_tokens (leaves_at a) ≡ true
+leaves_inner s.line h = no_such h
+leaves_inner _ h = refl
+
+pub sort_inner : (a : Sort) (x : Part) → inner_sort a ≡ true → IsSort a x → is_inner x ≡ true
+sort_inner a (p.Leaf l) h i = tokens_inner (leaves_at a) l (leaves_inner a h) i
+sort_inner a (Node' kind z r) h i = sort_kind a kind h i
+
+kind_inner : (kind : Kind) → inner_kind kind ≡ true → every inner_tokens inner_sort (shape kind) ≡ true
+kind_inner k.File h = no_such h
+kind_inner k.Line h = no_such h
+kind_inner _ h = refl
+
+-- so are all parts of a node inside a line
+pub inner_parts : (kind : Kind) → inner_kind kind ≡ true → (xs : List Part) → Fits IsSort (shape kind) xs → AllByRecursion (λ x. is_inner x ≡ true) xs
+inner_parts kind h xs i = every_part (λ x. is_inner x ≡ true) inner_tokens inner_sort token_inner sort_inner (shape kind) (kind_inner kind h) xs i
+
+-- ---- parts that neither open nor close brackets
+
+abbrev is_turn : Turn → Turn → Bool
+is_turn opens opens = true
+is_turn closes closes = true
+is_turn ends ends = true
+is_turn plain plain = true
+is_turn _ _ = false
+
+turn_is : (a b : Turn) → is_turn a b ≡ true → a ≡ b
+turn_is opens opens h = refl
+turn_is closes closes h = refl
+turn_is ends ends h = refl
+turn_is plain plain h = refl
+turn_is _ _ h = no_such h
+
+-- whether each leaf that is this terminal is that to those behind it
+abbrev turns : Turn → Terminal → Bool
+turns t (s.any c.Mark) = false
+turns t (s.any class) = is_turn (turn class []) t
+turns t (s.this class token) = is_turn (turn class token) t
+
+abbrev pub all_turn : Turn → List Terminal → Bool
+all_turn t [] = true
+all_turn t (x ∷ xs) = turns t x && all_turn t xs
+
+of_class : (t : Turn) (class : Class) (token : List ℕ) → turns t (s.any class) ≡ true → turn class token ≡ t
+of_class t c.Mark token h = no_such h
+of_class t c.Newline token h = turn_is ends t h
+of_class t c.End token h = turn_is ends t h
+of_class t _ token h = turn_is plain t h
+
+of_terminal : (t : Turn) (x : Terminal) (l : Leaf) → turns t x ≡ true → is_terminal x l ≡ true → turn l.class l.token ≡ t
+of_terminal t (s.any class) l h i = ap (λ z. turn z l.token) (same_class l.class class i) ∙ of_class t class l.token h
+of_terminal t (s.this class token) l h i =
+    let w = and_parts _ _ i in
+    ap (λ z. turn z l.token) (same_class l.class class w.0) ∙ (ap (turn class) ((bytes_eq-Decides l.token token).0 w.1) ∙ turn_is (turn class token) t h)
+
+of_terminals : (t : Turn) (xs : List Terminal) (l : Leaf) → all_turn t xs ≡ true → is_one_of xs l ≡ true → turn l.class l.token ≡ t
+of_terminals t [] l h i = no_such i
+of_terminals t (x ∷ xs) l h i =
+    let w = and_parts (turns t x) (all_turn t xs) h in
+    elim (or_cases (is_terminal x l) (is_one_of xs l) i) [ inl e ↦ of_terminal t x l w.0 e | inr e ↦ of_terminals t xs l w.1 e ]
+
+abbrev pub plain_tokens : List Terminal → Bool
+plain_tokens ts = all_turn plain ts
+
+tokens_plain : (xs : List Terminal) (l : Leaf) → plain_tokens xs ≡ true → is_one_of xs l ≡ true → turn l.class l.token ≡ plain
+tokens_plain xs l h i = of_terminals plain xs l h i
+
+-- behind an opening bracket
+pub token_opens : (ts : List Terminal) (x : Part) (outer here : Spot) → all_turn opens ts ≡ true → has_token ts x ≡ true → behind_part outer here x ≡ Within
+token_opens ts (p.Leaf l) outer here h i = ap (λ t. behind_token t outer here) (of_terminals opens ts l h i)
+token_opens ts (Node' kind z r) outer here h i = no_such i
+
+-- what follows the part stands where the part does, but for the first place of a line
+abbrev pub GoesOn : Part → Type 0
+GoesOn x = (outer here : Spot) → behind_part outer here x ≡ on here
+
+leaf_goes : (l : Leaf) → turn l.class l.token ≡ plain → GoesOn (p.Leaf l)
+leaf_goes l e outer here = ap (λ t. behind_token t outer here) e
+
+pub token_goes : (ts : List Terminal) (x : Part) → plain_tokens ts ≡ true → has_token ts x ≡ true → GoesOn x
+token_goes ts (p.Leaf l) h i = leaf_goes l (tokens_plain ts l h i)
+token_goes ts (Node' kind z r) h i = no_such i
+
+kind_goes : (kind : Kind) (here : Spot) → inner_kind kind ≡ true → behind_node kind here ≡ on here
+kind_goes k.Line here h = no_such h
+kind_goes _ here h = refl
+
+leaves_plain : (a : Sort) → plain_tokens (leaves_at a) ≡ true
+leaves_plain (s.level n) = refl
+leaves_plain _ = refl
+
+pub sort_goes : (a : Sort) (x : Part) → inner_sort a ≡ true → IsSort a x → GoesOn x
+sort_goes a (p.Leaf l) h i = leaf_goes l (tokens_plain (leaves_at a) l (leaves_plain a) i)
+sort_goes a (Node' kind z r) h i = λ outer here. kind_goes kind here (sort_kind a kind h i)
+
+-- ---- binary operations
+
+abbrev begins_sort : Shape → Bool
+begins_sort (s.sub a r) = true
+begins_sort _ = false
+
+kind_binary : (kind : Kind) → is_binary kind ≡ true → (begins_sort (shape kind) && every plain_tokens inner_sort (shape kind)) ≡ true
+kind_binary k.Or h = refl
+kind_binary k.And h = refl
+kind_binary k.Compare h = refl
+kind_binary k.BitOr h = refl
+kind_binary k.Xor h = refl
+kind_binary k.BitAnd h = refl
+kind_binary k.Shift h = refl
+kind_binary k.Sum h = refl
+kind_binary k.Product h = refl
+kind_binary _ h = no_such h
+
+-- no part of one is a bracket
+pub binary_goes : (kind : Kind) → is_binary kind ≡ true → (xs : List Part) → Fits IsSort (shape kind) xs → AllByRecursion GoesOn xs
+binary_goes kind h xs i = every_part GoesOn plain_tokens inner_sort token_goes sort_goes (shape kind) (and_parts _ _ (kind_binary kind h)).1 xs i
+
+-- and it begins with an operand
+pub binary_begins : (kind : Kind) → is_binary kind ≡ true → (x : Part) (xs : List Part) → Fits IsSort (shape kind) (x ∷ xs) → (a : Sort) × IsSort a x
+binary_begins kind h x xs i = front (shape kind) (and_parts _ _ (kind_binary kind h)).0 i
+  where
+    front : (r : Shape) → begins_sort r ≡ true → Fits IsSort r (x ∷ xs) → (a : Sort) × IsSort a x
+    front (s.sub a r) b j = (a, j.0)
+    front _ b j = no_such b
+
+abbrev unsigned : List Terminal → Bool
+unsigned [] = true
+unsigned (s.any class ∷ xs) = not (is_sign class) && unsigned xs
+unsigned (s.this class token ∷ xs) = not (is_sign class) && unsigned xs
+
+leaf_unsigned : (xs : List Terminal) (l : Leaf) → unsigned xs ≡ true → is_one_of xs l ≡ true → is_sign l.class ≡ false
+leaf_unsigned [] l h i = no_such i
+leaf_unsigned (s.any class ∷ xs) l h i =
+    let w = and_parts (not (is_sign class)) (unsigned xs) h in
+    elim (or_cases (is_terminal (s.any class) l) (is_one_of xs l) i) [ inl e ↦ ap is_sign (same_class l.class class e) ∙ not-true (is_sign class) w.0 | inr e ↦ leaf_unsigned xs l w.1 e ]
+leaf_unsigned (s.this class token ∷ xs) l h i =
+    let w = and_parts (not (is_sign class)) (unsigned xs) h in
+    elim (or_cases (is_terminal (s.this class token) l) (is_one_of xs l) i) [ inl e ↦ ap is_sign (same_class l.class class (and_parts _ _ e).0) ∙ not-true (is_sign class) w.0 | inr e ↦ leaf_unsigned xs l w.1 e ]
+
+leaves_unsigned : (a : Sort) → unsigned (leaves_at a) ≡ true
+leaves_unsigned (s.level n) = refl
+leaves_unsigned _ = refl
+
+-- a leaf that has a sort is no sign
+pub sort_unsigned : (a : Sort) (l : Leaf) → IsSort a (p.Leaf l) → is_sign l.class ≡ false
+sort_unsigned a l i = leaf_unsigned (leaves_at a) l (leaves_unsigned a) i
+
+-- ---- statements
+
+pub small_statement : (kind : Kind) → has_kind s.small kind ≡ true → is_statement kind ≡ true
+small_statement k.Bare h = refl
+small_statement k.Assign h = refl
+small_statement k.Load h = refl
+small_statement _ h = no_such h
