@@ -1,7 +1,7 @@
 use crate::{Command, Refusal, Target, Which, run};
 use bz_items::Text;
 use bz_tree::parse;
-use bz_view::view;
+use bz_viewed::view;
 use std::test::Fail;
 
 #[test]
