@@ -9,5 +9,5 @@ mod session;
 mod tests;
 
 pub use action::{Action, Reply};
-pub use laws::worked_histories;
+pub use laws::{formatted_once, worked_histories};
 pub use session::Session;

@@ -8,6 +8,8 @@ static INPUT: &[u8; 52] = b"cc_library( name=\"x\" )\n# keep\ncc_binary( name=\"
 
 static WITHOUT_X: &[u8; 29] = b"# keep\ncc_binary(name = \"y\")\n";
 
+static FORMATTED: &[u8; 53] = b"cc_library(name = \"x\")\n\n# keep\ncc_binary(name = \"y\")\n";
+
 fn delete(alloc: Global, which: Which) -> Result<Action, Memory> {
     let package = Text::from_slice(alloc, b"-")?;
     Ok(Action::Do(Command::Delete, Target { package, which }))
@@ -63,5 +65,21 @@ fn a_run(rt: HostRuntime) -> Result<(), Fail> {
     assert!(rt; matches!(&replies[4], Ok(Reply::Changed)));
     assert!(rt; text_of(alloc, &session)?.is_empty());
     assert_eq!(rt; session.cursor(), 2);
+    Ok(())
+}
+
+// A formatted text is formatted to itself; undo gives back the text as it was.
+#[test]
+fn formatting(rt: HostRuntime) -> Result<(), Fail> {
+    let alloc = rt.alloc();
+    let mut session = Session::open(alloc, "", INPUT)?;
+    let reply = session.act(&Action::Format)?;
+    assert!(rt; matches!(reply, Reply::Changed));
+    assert_eq!(rt; text_of(alloc, &session)?.as_slice(), FORMATTED.as_slice());
+    let reply = session.act(&Action::Format)?;
+    assert!(rt; matches!(reply, Reply::Same));
+    let reply = session.act(&Action::Undo(1))?;
+    assert!(rt; matches!(reply, Reply::Moved));
+    assert_eq!(rt; text_of(alloc, &session)?.as_slice(), INPUT.as_slice());
     Ok(())
 }
