@@ -1,20 +1,48 @@
 -- A form as an expression, and back.
-use Rattle.std.proofs.Common.{◌≡◌, List, ap, ◌∙◌, nat_eq, Option, Some, None, if◌then◌else◌, []}
+use Rattle.std.proofs.Common.{◌≡◌, List, ap, ◌∙◌, nat_eq, refl, Option, Some, None, if◌then◌else◌, ◌∷◌}
+use mathlib.Core.Former.{Count}
 use Rattle.bz_tree.specs.declared.kind.Kind.{Kind}
+use Rattle.bz_tree.specs.declared.kind.Kind.TheVariants as k
 use Rattle.bz_tree.specs.Kinds.{kind_number}
-use Rattle.bz_view.specs.declared.value.Form.{Form}
-use Rattle.bz_view.specs.declared.value.Expr.{Expr, Form', items-the_row-Expr, items_hidden-the_row-Expr-0}
-use Rattle.bz_view.specs.declared.value.Expr.TheVariants as e
-use Rattle.bz_command.specs.Rules.{form_in}
+use Rattle.bz_value.specs.declared.value.Form.{Form}
+use Rattle.bz_value.specs.declared.value.Expr.{Expr, Form', Row_of-Expr, end_of-Expr, more_of-Expr, items-the_row-Expr, items_hidden-the_row-Expr-0}
+use Rattle.bz_value.specs.declared.value.Expr.TheVariants as e
+use Rattle.bz_command.specs.Rules.{form_in, joined, dotted_name, with_names}
+use Rattle.bz_command.specs.Named.{each_named}
 
-abbrev items_in : Expr → List Expr
-items_in (e.Token t) = []
-items_in (Form' kind split _ head _ items end_ comments) = items-the_row-Expr _ items
+abbrev parts_behind : Expr → (m : Count) × Row_of-Expr m
+parts_behind (Form' kind s parts s' items end_ split open_ comments) = (_, parts)
+parts_behind (e.Token t) = (_, end_of-Expr)
+
+abbrev items_behind : Expr → (m : Count) × Row_of-Expr m
+items_behind (Form' kind s parts s' items end_ split open_ comments) = (_, items)
+items_behind (e.Token t) = (_, end_of-Expr)
+
+abbrev row_items : (m : Count) × Row_of-Expr m → List Expr
+row_items r = items-the_row-Expr r.0 r.1
+
+parts_are : (f : Form) → row_items (parts_behind (e.Form f)) ≡ f.parts
+parts_are f = items_hidden-the_row-Expr-0 f.parts
+
+items_are : (f : Form) → row_items (items_behind (e.Form f)) ≡ f.seq.items
+items_are f = items_hidden-the_row-Expr-0 f.seq.items
 
 abbrev found : Kind → Form → List Expr → List Expr → Option Form
-found kind f head items = if nat_eq (kind_number f.kind) (kind_number kind) then Some (record f { head = head; items = items }) else None
+found kind f parts items =
+    if nat_eq (kind_number f.kind) (kind_number kind)
+    then Some (record f { parts = parts; seq = record { items = items; end_ = f.seq.end_; split = f.seq.split } })
+    else None
 
 pub form_in_Form : (kind : Kind) (f : Form) → form_in kind (e.Form f) ≡ (if nat_eq (kind_number f.kind) (kind_number kind) then Some f else None)
 form_in_Form kind f =
-    ap (λ head. found kind f head (items_in (e.Form f))) (items_hidden-the_row-Expr-0 f.head)
-    ∙ ap (λ items. found kind f f.head items) (items_hidden-the_row-Expr-0 f.items)
+    ap (λ parts. found kind f parts (row_items (items_behind (e.Form f)))) (parts_are f)
+    ∙ ap (λ items. found kind f f.parts items) (items_are f)
+
+named_row : (m : _) (r : Row_of-Expr m) → with_names r ≡ each_named (items-the_row-Expr m r)
+named_row m end_of-Expr = refl
+named_row m (more_of-Expr x rest) = ap (λ t. (x, dotted_name x) ∷ t) (named_row _ rest)
+
+pub dotted_name_Form : (f : Form) → dotted_name (e.Form f) ≡ (if nat_eq (kind_number f.kind) (kind_number k.Dot) then joined (each_named f.parts) else None)
+dotted_name_Form f =
+    ap (λ names. if nat_eq (kind_number f.kind) (kind_number k.Dot) then joined names else None)
+    (named_row _ (parts_behind (e.Form f)).1 ∙ ap each_named (parts_are f))

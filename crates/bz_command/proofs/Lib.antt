@@ -1,3 +1,5 @@
+pub mod Dotted
 pub mod Forms
 pub mod Marks
+pub mod Named
 pub mod Quoted

@@ -2,7 +2,7 @@
 use Rattle.std.proofs.Common.{◌≡◌, ◌⊎◌, length, List, [], ◌∷◌, true, false, Bool, refl, arith}
 use Rattle.std.specs.List.{All}
 use Rattle.std.proofs.lemmas.List.Elements.{All-nil, All-cons, All-head, All-tail}
-use Rattle.bz_view.specs.declared.value.Item.{Item}
+use Rattle.bz_value.specs.declared.value.Item.{Item}
 use Rattle.bz_command.specs.Effect.{unmarked}
 
 -- what holds of each item holds of each that stays

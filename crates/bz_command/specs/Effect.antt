@@ -1,8 +1,8 @@
 -- What a command makes of a file value.
 use Rattle.std.specs.Prelude.{Bool, true, false, List, [], ◌∷◌, Option, Some, codes, map, if◌then◌else◌}
 use Rattle.std.specs.List.{list_any}
-use Rattle.bz_view.specs.declared.value.Item.{Item}
-use Rattle.bz_view.specs.Gaps.{Bytes}
+use Rattle.bz_value.specs.declared.value.Item.{Item}
+use Rattle.bz_value.specs.Gaps.{Bytes}
 use Rattle.bz_command.specs.declared.command.Command.{Command}
 use Rattle.bz_command.specs.declared.command.Command.TheVariants.{Delete}
 use Rattle.bz_command.specs.declared.command.Which.{Which}
@@ -30,6 +30,10 @@ meant Package items = first_mark (map (has_kind (codes "package")) items)
 pub data Effect : Type 0 where
   leaves : Option (List Item) → Bytes → Effect
   refuses : Refusal → Effect
+
+-- Whether the command prints, though it may be nothing.
+abbrev pub prints : Command → Bool
+prints Delete = false
 
 -- the items without a mark, in order
 abbrev pub unmarked : List Bool → List Item → List Item

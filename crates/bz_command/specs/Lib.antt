@@ -1,4 +1,6 @@
+pub mod Characters
 pub mod Effect
+pub mod Named
 pub mod Refusals
 pub mod Rules
 pub mod Seen

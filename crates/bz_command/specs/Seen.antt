@@ -1,6 +1,6 @@
--- A rule that the code has found, as definitions see it.
-use Rattle.bz_command.specs.declared.rules.NamedCall.{NamedCall}
+-- A call that the code has found, as definitions see it.
+use Rattle.bz_command.specs.declared.rules.Call.{Call}
 use Rattle.bz_command.specs.Rules as r
 
-abbrev pub seen : NamedCall → r.NamedCall
-seen found = record { kind = found.kind.now; arguments = found.arguments.now }
+abbrev pub seen : Call → r.Call
+seen found = record { function = found.function.now; arguments = found.arguments.now }

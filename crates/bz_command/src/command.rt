@@ -1,11 +1,25 @@
+ghost use Rattle.std.specs.Prelude.{◌≡◌};
+ghost use Rattle.bz_command.specs.Effect.{prints};
+
 use bz_items::Text;
-use bz_view::File;
+use bz_value::File;
 
 /// What is done to the rules that a target means.
 #[derive(Debug, Drop)]
 pub enum Command {
     /// Each rule's statement goes, with its comments.
     Delete,
+}
+
+impl Command {
+    /// Whether the command prints, though it may be nothing.
+    pub fn prints(&self) -> bool
+        ensures { result ≡ prints self.now }
+    {
+        match self {
+            Command::Delete => false,
+        }
+    }
 }
 
 /// Which rules of a package a target means.

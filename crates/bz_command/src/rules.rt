@@ -1,16 +1,20 @@
-ghost use Rattle.std.specs.Prelude.{◌≡◌, ◌||◌, [], ◌∷◌, ◌++◌, bytes_eq, nat_eq};
+ghost use Rattle.std.specs.Prelude.{◌≡◌, ◌≢◌, MatchOption, ◌||◌, [], ◌∷◌, ◌++◌, bytes_eq, nat_eq, false, Option, Some, is_some};
 ghost use Rattle.std.specs.List.{list_any};
 ghost use Rattle.std.specs.Option.{option_copied, option_map};
-ghost use Rattle.bz_command.specs.Rules.{form_in, text_in, only, is_text, named_call, rule_of, has_kind, value_behind, value_named, attribute, inner, is_plain_in, body, name_of, has_name};
+ghost use Rattle.bz_value.specs.Gaps.{Bytes};
+ghost use Rattle.bz_command.specs.Rules.{form_in, text_in, only, is_text, dotted, joined, dotted_name, called, call_of, has_kind, value_behind, value_named, attribute, inner, is_plain_in, body, name_in, has_name};
+ghost use Rattle.bz_command.specs.Named.{each_named};
+ghost use Rattle.bz_command.specs.Characters.{full_stop};
 ghost use Rattle.bz_command.specs.Seen.{seen};
 
 use bz_tree::{Class, Kind};
-use bz_view::{Expr, Form, Item};
+use bz_value::{Expr, Form, Item};
 
-/// A rule: a statement that is a call of a name.
+/// A statement that is a call: what is called, and the arguments. It is a rule where that is a name, or names joined by
+/// dots.
 #[derive(Clone, Copy)]
-pub(crate) struct NamedCall<'a> {
-    kind: &'a [u8],
+pub(crate) struct Call<'a> {
+    function: &'a Expr,
     arguments: &'a [Expr],
 }
 
@@ -42,25 +46,105 @@ fn only(exprs: &[Expr]) -> Option<&Expr>
     }
 }
 
-fn named_call(call: &Form) -> Option<NamedCall<'_>>
-    ensures { option_map seen result ≡ named_call call.now }
+// What stands before this end of a text.
+fn before<'a>(text: &'a [u8], end: &[u8]) -> Option<&'a [u8]>
+    ensures { MatchOption result ((front : Bytes) → text.entry.now ≢ front ++ end.now) (λ front. text.entry.now ≡ front.now ++ end.now) }
 {
-    let kind = text_in(Class::Name, only(call.head.as_slice())?)?;
-    Some(NamedCall {
-        kind,
-        arguments: call.items.as_slice(),
+    text.strip_suffix(end)
+}
+
+// What stands before a dot at the end of a text.
+fn before_dot(text: &[u8]) -> Option<&[u8]>
+    ensures { MatchOption result ((front : Bytes) → text.now ≢ front ++ full_stop ∷ []) (λ front. text.now ≡ front.now ++ full_stop ∷ []) }
+{
+    match text.split_last() {
+        Some((last, front)) if *last == b'.' => Some(front),
+        _ => None,
+    }
+}
+
+// What stands before a dot and the last name in a text that ends in them: it is the text that is left to names before them.
+fn before_name<'a>(text: &'a [u8], name: &[u8]) -> Option<&'a [u8]>
+    ensures { MatchOption result ((front : Option Bytes) → is_text text.entry.now (dotted front (Some name.now)) ≡ false)
+        (λ left. (front : Option Bytes) → is_text text.entry.now (dotted front (Some name.now)) ≡ is_text left.now front) }
+{
+    match before(text, name) {
+        Some(front) => before_dot(front),
+        None => None,
+    }
+}
+
+/// Whether the expression is a name, or names joined by dots, of this text.
+#[cycle(dotted)]
+#[tactic(auto, using(crate::proofs::Forms::dotted_name_Form))]
+fn is_dotted(text: &[u8], expr: &Expr) -> bool
+    ensures { result ≡ is_text text.now (dotted_name expr.now) }
+{
+    match expr {
+        Expr::Token(_) => is_text(text, text_in(Class::Name, expr)),
+        Expr::Form(form) => form.kind == Kind::Dot && is_joined(text, form.parts.as_slice()),
+    }
+}
+
+// Whether these are the parts of names joined by dots, of this text.
+#[cycle(dotted)]
+#[tactic(auto, using(crate::proofs::Dotted::text_none))]
+fn is_joined(text: &[u8], parts: &[Expr]) -> bool
+    ensures { result ≡ is_text text.now (joined (each_named parts.now)) }
+{
+    match parts {
+        [front, _, last] => match text_in(Class::Name, last) {
+            Some(name) => match before_name(text, name) {
+                Some(left) => is_dotted(left, front),
+                None => false,
+            },
+            None => false,
+        },
+        _ => false,
+    }
+}
+
+/// Whether the expression is a name, or names joined by dots.
+#[cycle(named)]
+#[tactic(auto, using(crate::proofs::Forms::dotted_name_Form))]
+fn is_named(expr: &Expr) -> bool
+    ensures { result ≡ is_some (dotted_name expr.now) }
+{
+    match expr {
+        Expr::Token(_) => text_in(Class::Name, expr).is_some(),
+        Expr::Form(form) => form.kind == Kind::Dot && are_named(form.parts.as_slice()),
+    }
+}
+
+// Whether these are the parts of names joined by dots.
+#[cycle(named)]
+fn are_named(parts: &[Expr]) -> bool
+    ensures { result ≡ is_some (joined (each_named parts.now)) }
+{
+    match parts {
+        [front, _, last] => text_in(Class::Name, last).is_some() && is_named(front),
+        _ => false,
+    }
+}
+
+fn called(call: &Form) -> Option<Call<'_>>
+    ensures { option_map seen result ≡ called call.now }
+{
+    Some(Call {
+        function: only(call.parts.as_slice())?,
+        arguments: call.seq.items.as_slice(),
     })
 }
 
-fn rule_of(item: &Item) -> Option<NamedCall<'_>>
-    ensures { option_map seen result ≡ rule_of item.now }
+fn call_of(item: &Item) -> Option<Call<'_>>
+    ensures { option_map seen result ≡ call_of item.now }
 {
     match item {
         Item::Block(_) => None,
         Item::Stmt(statement) => {
             let bare = form_in(Kind::Bare, statement)?;
-            let call = form_in(Kind::Call, only(bare.items.as_slice())?)?;
-            named_call(call)
+            let call = form_in(Kind::Call, only(bare.parts.as_slice())?)?;
+            called(call)
         }
     }
 }
@@ -87,7 +171,7 @@ fn value_named<'a>(name: &[u8], expr: &'a Expr) -> Option<&'a Expr>
     ensures { option_copied result ≡ value_named name.now expr.now }
 {
     let argument = form_in(Kind::Named, expr)?;
-    value_behind(name, argument.items.as_slice())
+    value_behind(name, argument.parts.as_slice())
 }
 
 fn attribute<'a>(name: &[u8], arguments: &'a [Expr]) -> Option<&'a Expr>
@@ -143,28 +227,30 @@ fn body(text: &[u8]) -> Option<&[u8]>
     }
 }
 
-fn name_of<'a>(rule: &NamedCall<'a>) -> Option<&'a [u8]>
-    ensures { option_copied result ≡ name_of (seen rule.now) }
+fn name_of<'a>(call: &Call<'a>) -> Option<&'a [u8]>
+    ensures { option_copied result ≡ name_in (seen call.now).arguments }
 {
-    body(text_in(Class::String, attribute(b"name", rule.arguments)?)?)
+    body(text_in(Class::String, attribute(b"name", call.arguments)?)?)
 }
 
 /// Whether the item is a rule of this kind.
+#[tactic(auto, using(crate::proofs::Named::kind_of_call))]
 pub(crate) fn has_kind(kind: &[u8], item: &Item) -> bool
     ensures { result ≡ has_kind kind.now item.now }
 {
-    match rule_of(item) {
-        Some(rule) => rule.kind == kind,
+    match call_of(item) {
+        Some(call) => is_dotted(kind, call.function),
         None => false,
     }
 }
 
 /// Whether the item is a rule of this name.
+#[tactic(auto, using(crate::proofs::Named::name_of_call))]
 pub(crate) fn has_name(name: &[u8], item: &Item) -> bool
     ensures { result ≡ has_name name.now item.now }
 {
-    match rule_of(item) {
-        Some(rule) => is_text(name, name_of(&rule)),
+    match call_of(item) {
+        Some(call) => is_named(call.function) && is_text(name, name_of(&call)),
         None => false,
     }
 }

@@ -7,7 +7,7 @@ use crate::command::{Command, Outcome, Target, Which};
 use crate::refusal::Refusal;
 use crate::rules::{has_kind, has_name};
 use bz_items::{Items, Memory, Text};
-use bz_view::{File, Item};
+use bz_value::{File, Item};
 use std::alloc::Global;
 
 /// A mark for each item: whether it is a rule of this name.

@@ -1,15 +1,15 @@
 -- A history of whole texts, and what actions make of it.
-use Rattle.std.specs.Prelude.{◌≡◌, ◌⊎◌, ◌+◌, ◌-◌, ◌<◌, ◌≤◌, ◌==◌, ℕ, List, [], ◌∷◌, ◌++◌, length, take, slice_index_or, nat_lt, bytes_eq, if◌then◌else◌, Result, Ok, Err}
+use Rattle.std.specs.Prelude.{◌≡◌, ◌⊎◌, ◌+◌, ◌-◌, ◌<◌, ◌≤◌, ◌==◌, ℕ, List, [], ◌∷◌, ◌++◌, length, take, slice_index_or, nat_lt, bytes_eq, if◌then◌else◌, Option, Some, None, Result, Ok, Err}
 use Rattle.std.specs.List.{All}
-use Rattle.bz_view.specs.Thin.{Taken}
-use Rattle.bz_view.specs.Gaps.{Bytes}
+use Rattle.bz_tree.specs.Legal.{Accepted}
+use Rattle.bz_value.specs.Gaps.{Bytes}
 use Rattle.bz_command.specs.declared.refusal.Refusal.{Refusal}
 use Rattle.bz_command.specs.declared.refusal.Refusal.TheVariants.{TooFar, Full, Memory}
 use Rattle.bz_journal.specs.declared.action.Action.{Action}
-use Rattle.bz_journal.specs.declared.action.Action.TheVariants.{Do, Undo, Redo}
+use Rattle.bz_journal.specs.declared.action.Action.TheVariants.{Do, Format, Undo, Redo}
 use Rattle.bz_journal.specs.declared.action.Reply.{Reply}
-use Rattle.bz_journal.specs.declared.action.Reply.TheVariants.{Changed, Same, Moved}
-use Rattle.bz_journal.specs.Meaning.{Meaning, gives, refuses, Means}
+use Rattle.bz_journal.specs.declared.action.Reply.TheVariants.{Changed, Same, Printed, Moved}
+use Rattle.bz_journal.specs.Meaning.{Meaning, gives, refuses, Means, Formats}
 
 -- texts in the order in which they came, the number of the present one, and the one that was present before it
 pub record History : Type 0 where
@@ -27,9 +27,9 @@ opened text = record { texts = text ∷ []; cursor = 0; before = 0 }
 abbrev pub most_steps : ℕ
 most_steps = 100000
 
--- Every text reads as a tree of the thin grammar, one is the present one, and there are no more steps than may be.
+-- Every text is accepted, one is the present one, and there are no more steps than may be.
 pub record IsKept (h : History) : Type 0 where
-  pub taken : All Taken h.texts
+  pub accepted : All Accepted h.texts
   pub within : h.cursor < length h.texts
   pub bounded : length h.texts ≤ most_steps + 1
 
@@ -42,14 +42,19 @@ Answer = Result Reply Refusal
 abbrev pub changed : History → Bytes → History
 changed h text = record { texts = take (h.cursor + 1) h.texts ++ text ∷ []; cursor = h.cursor + 1; before = h.cursor }
 
+-- what is answered where the text is as it was
+abbrev pub unchanged : Option Bytes → Reply
+unchanged None = Same
+unchanged (Some printed) = Printed printed
+
 -- A text equal to the present one changes nothing; a history of the most steps takes no other.
-abbrev pub after_text : History → Bytes → Answer × History
-after_text h text =
-    if bytes_eq text (present h) then (Ok Same, h)
+abbrev pub after_text : History → Bytes → Option Bytes → Answer × History
+after_text h text printed =
+    if bytes_eq text (present h) then (Ok (unchanged printed), h)
     else (if nat_lt h.cursor most_steps then (Ok Changed, changed h text) else (Err Full, h))
 
 abbrev pub after_meaning : History → Meaning → Answer × History
-after_meaning h (gives text) = after_text h text
+after_meaning h (gives text printed) = after_text h text printed
 after_meaning h (refuses refusal) = (Err refusal, h)
 
 -- the present text is another one, or the same
@@ -65,12 +70,14 @@ redone n h = if nat_lt (h.cursor + n) (length h.texts) then (Ok Moved, moved h (
 -- what an action answers and leaves, with ample memory
 abbrev pub Leads : Action → History → Answer → History → Type 0
 Leads (Do command target) h answer after = (m : Meaning) × Means command target (present h) m × ((answer, after) ≡ after_meaning h m)
+Leads Format h answer after = (m : Meaning) × Formats (present h) m × ((answer, after) ≡ after_meaning h m)
 Leads (Undo n) h answer after = (answer, after) ≡ undone n h
 Leads (Redo n) h answer after = (answer, after) ≡ redone n h
 
 -- Going by no step takes no memory, and going by more steps than there are takes none.
 abbrev pub TakesNone : Action → History → Type 0
 TakesNone (Do command target) h = ⊥
+TakesNone Format h = ⊥
 TakesNone (Undo n) h = (n ≡ 0) ⊎ (h.cursor < n)
 TakesNone (Redo n) h = (n ≡ 0) ⊎ (length h.texts ≤ h.cursor + n)
 
@@ -81,8 +88,15 @@ Acts action h answer after = Leads action h answer after ⊎ ((TakesNone action 
 -- An action that only moves the cursor takes no memory.
 abbrev pub IsMove : Action → Type 0
 IsMove (Do command target) = ⊥
+IsMove Format = ⊥
 IsMove (Undo n) = Unit {0}
 IsMove (Redo n) = Unit {0}
+
+abbrev pub IsFormat : Action → Type 0
+IsFormat (Do command target) = ⊥
+IsFormat Format = Unit {0}
+IsFormat (Undo n) = ⊥
+IsFormat (Redo n) = ⊥
 
 -- ---- many actions
 

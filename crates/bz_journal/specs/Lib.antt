@@ -1,3 +1,4 @@
+pub mod Fixed
 pub mod History
 pub mod Meaning
 pub mod Worked

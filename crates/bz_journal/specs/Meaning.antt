@@ -1,41 +1,57 @@
--- What a command means on a text.
-use Rattle.std.specs.Prelude.{◌≡◌, List, Some, None, nat_lt, length, if◌then◌else◌}
+-- What a command means on a text, and what formatting it gives.
+use Rattle.std.specs.Prelude.{◌≡◌, List, Option, Some, None, nat_lt, length, if◌then◌else◌}
 use Rattle.bz_tree.specs.declared.tree.Node.{Node}
 use Rattle.bz_tree.specs.Spell.{depth_of, limit}
 use Rattle.bz_tree.specs.Legal.{Reads}
-use Rattle.bz_view.specs.declared.value.Item.{Item}
-use Rattle.bz_view.specs.Gaps.{Bytes}
-use Rattle.bz_view.specs.View.{view_of}
-use Rattle.bz_write.specs.Written.{layout}
-use Rattle.bz_write.specs.Drawn.{drawn}
-use Rattle.bz_write.specs.Flags.{flags}
+use Rattle.bz_value.specs.declared.value.Item.{Item}
+use Rattle.bz_value.specs.Gaps.{Bytes}
+use Rattle.bz_viewed.specs.View.{view_of}
+use Rattle.bz_layout.specs.Written.{layout}
+use Rattle.bz_layout.specs.Drawn.{drawn}
+use Rattle.bz_layout.specs.Flags.{flags}
 use Rattle.bz_command.specs.declared.command.Command.{Command}
 use Rattle.bz_command.specs.declared.command.Target.{Target}
 use Rattle.bz_command.specs.declared.refusal.Refusal.{Refusal}
 use Rattle.bz_command.specs.declared.refusal.Refusal.TheVariants.{TooLarge, TooDeep}
 use Rattle.bz_command.specs.Effect as e
 
--- A command gives a text, or is refused.
+-- A text, and what is printed where something is; or a refusal.
 pub data Meaning : Type 0 where
-  gives : Bytes → Meaning
+  gives : Bytes → Option Bytes → Meaning
   refuses : Refusal → Meaning
 
--- A new value gives the layout of it with its flags settled, within the limits of a text.
-abbrev pub written : List Item → Meaning
-written items =
-    if nat_lt limit (length (layout (flags items))) then refuses TooLarge
-    else (if nat_lt 200 (depth_of (drawn (flags items))) then refuses TooDeep else gives (layout (flags items)))
+-- A value is tidied by the pass over its flags.
+abbrev pub tidy : List Item → List Item
+tidy items = flags items
+
+-- A new value gives the layout of it tidied, within the limits of a text: its length is looked at first, then its depth.
+abbrev pub written : List Item → Option Bytes → Meaning
+written items printed =
+    if nat_lt limit (length (layout (tidy items))) then refuses TooLarge
+    else (if nat_lt 200 (depth_of (drawn (tidy items))) then refuses TooDeep else gives (layout (tidy items)) printed)
+
+-- ---- commands
+
+-- what a command prints that prints
+abbrev pub printed_by : Command → Bytes → Option Bytes
+printed_by command printed = if e.prints command then Some printed else None
 
 -- A command that leaves the value unchanged gives the very text.
-abbrev pub meaning_of : e.Effect → Bytes → Meaning
-meaning_of (e.refuses refusal) text = refuses refusal
-meaning_of (e.leaves None printed) text = gives text
-meaning_of (e.leaves (Some items) printed) text = written items
+abbrev pub meaning_of : Command → e.Effect → Bytes → Meaning
+meaning_of command (e.refuses refusal) text = refuses refusal
+meaning_of command (e.leaves None printed) text = gives text (printed_by command printed)
+meaning_of command (e.leaves (Some items) printed) text = written items (printed_by command printed)
 
 -- the meaning on a text that reads as this tree
 abbrev pub meaning : Command → Target → Node → Bytes → Meaning
-meaning command target tree text = meaning_of (e.effect command target (view_of tree)) text
+meaning command target tree text = meaning_of command (e.effect command target (view_of tree)) text
 
 -- On a text that reads as a tree a command has the meaning that its effect on the file value gives.
 abbrev pub Means : Command → Target → Bytes → Meaning → Type 0
 Means command target text m = (tree : Node) × Reads text tree × (m ≡ meaning command target tree text)
+
+-- ---- formatting
+
+-- A text that reads as a tree is formatted to the layout of its value tidied, or that is refused.
+abbrev pub Formats : Bytes → Meaning → Type 0
+Formats text m = (tree : Node) × Reads text tree × (m ≡ written (view_of tree) None)

@@ -1,8 +1,8 @@
 -- Worked rows: what undo, redo and new texts make of small histories.
-use Rattle.std.specs.Prelude.{◌≡◌, [], ◌∷◌, codes, Ok, Err}
-use Rattle.bz_view.specs.Gaps.{Bytes}
+use Rattle.std.specs.Prelude.{◌≡◌, [], ◌∷◌, codes, Some, None, Ok, Err}
+use Rattle.bz_value.specs.Gaps.{Bytes}
 use Rattle.bz_command.specs.declared.refusal.Refusal.TheVariants.{NoTarget, TooFar, Full}
-use Rattle.bz_journal.specs.declared.action.Reply.TheVariants.{Changed, Same, Moved}
+use Rattle.bz_journal.specs.declared.action.Reply.TheVariants.{Changed, Same, Printed, Moved}
 use Rattle.bz_journal.specs.Meaning.{gives, refuses}
 use Rattle.bz_journal.specs.History.{History, opened, after_meaning, undone, redone}
 
@@ -16,9 +16,11 @@ WorkedHistories =
     let back : History = record { texts = a ∷ b ∷ []; cursor = 0; before = 1 } in
     let cut : History = record { texts = a ∷ c ∷ []; cursor = 1; before = 0 } in
     let full : History = record { texts = []; cursor = 100000; before = 0 } in
-    (after_meaning first (gives b) ≡ (Ok Changed, second))
-    -- the present text again, a refusal
-    × (after_meaning first (gives a) ≡ (Ok Same, first))
+    (after_meaning first (gives b None) ≡ (Ok Changed, second))
+    -- the present text again, with something printed or nothing; a refusal
+    × (after_meaning first (gives a None) ≡ (Ok Same, first))
+    × (after_meaning first (gives a (Some (codes "x\n"))) ≡ (Ok (Printed (codes "x\n")), first))
+    × (after_meaning first (gives a (Some [])) ≡ (Ok (Printed []), first))
     × (after_meaning first (refuses NoTarget) ≡ (Err NoTarget, first))
     -- back and forward, and by no step
     × (undone 1 second ≡ (Ok Moved, back))
@@ -28,7 +30,7 @@ WorkedHistories =
     × (undone 2 second ≡ (Err TooFar, second))
     × (redone 1 second ≡ (Err TooFar, second))
     -- a new text cuts those after the present one, so there is no way forward
-    × (after_meaning back (gives c) ≡ (Ok Changed, cut))
+    × (after_meaning back (gives c None) ≡ (Ok Changed, cut))
     × (redone 1 cut ≡ (Err TooFar, cut))
     -- behind the most steps there is no further one
-    × (after_meaning full (gives a) ≡ (Err Full, full))
+    × (after_meaning full (gives a None) ≡ (Err Full, full))

@@ -6,6 +6,8 @@ use bz_items::Text;
 pub enum Action {
     /// The command, on the rules of the present text that the target means.
     Do(Command, Target),
+    /// The whole file is tidied and laid out.
+    Format,
     /// Back by so many steps.
     Undo(u32),
     /// Forward by so many steps.

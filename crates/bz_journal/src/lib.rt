@@ -7,5 +7,5 @@ mod meaning;
 mod session;
 
 pub use action::{Action, Reply};
-pub use laws::worked_histories;
+pub use laws::{formatted_once, worked_histories};
 pub use session::Session;

@@ -1,41 +1,35 @@
-ghost use Rattle.std.specs.Prelude.{◌≡◌, ◌⊎◌, IfOk, IfErr, IfSome};
+ghost use Rattle.std.specs.Prelude.{◌≡◌, ◌⊎◌, Option, None, IfOk, IfErr, IfSome};
+ghost use Rattle.bz_value.specs.Gaps.{Bytes};
 ghost use Rattle.std.specs.Option.{unwrap_or};
-ghost use Rattle.bz_tree.specs.Legal.{Reads};
-ghost use Rattle.bz_view.specs.Thin.{IsThin, ReadsThin, Taken};
+ghost use Rattle.bz_tree.specs.Legal.{Reads, Accepted};
 ghost use Rattle.bz_tree.specs.Spell.{spell_node};
-ghost use Rattle.bz_view.specs.View.{view_of};
-ghost use Rattle.bz_journal.specs.Meaning.{gives, refuses, written, Means};
+ghost use Rattle.bz_journal.specs.Meaning.{gives, refuses, written, printed_by, Means, Formats};
 
 use bz_command::{Command, Outcome, Refusal, Target, run};
 use bz_items::{Memory, Text};
+use bz_layout::{SetFault, set};
 use bz_tree::{ReadFault, Tree, parse};
-use bz_view::{File, ViewFault, view};
-use bz_write::{SetFault, set};
+use bz_value::File;
+use bz_viewed::view;
 use std::alloc::Global;
+
+/// What a command makes of a text: a new one, or none where the file is unchanged; and what it prints, where it prints.
+#[derive(Drop)]
+pub(crate) struct Meant {
+    pub(crate) text: Option<Text>,
+    pub(crate) printed: Option<Text>,
+}
 
 /// The tree that a text of the session reads as.
 fn read(alloc: Global, text: &[u8]) -> Result<Tree, Refusal>
-    requires { Taken text.now }
-    ensures ok { IfOk result (λ tree. ReadsThin text.now tree) }
+    requires { Accepted text.now }
+    ensures ok { IfOk result (λ tree. Reads text.now tree) }
     ensures err { IfErr result (λ refusal. refusal ≡ Refusal.Memory) }
 {
     match parse(alloc, text) {
         Ok(tree) => Ok(tree),
         Err(ReadFault::Memory) => Err(Refusal::Memory),
         Err(_) => unreachable!(),
-    }
-}
-
-/// The file value of a tree of the thin grammar.
-fn viewed(alloc: Global, tree: &Tree) -> Result<File, Refusal>
-    requires { IsThin tree.now }
-    ensures ok { IfOk result (λ file. file ≡ view_of tree.now) }
-    ensures err { IfErr result (λ refusal. refusal ≡ Refusal.Memory) }
-{
-    match view(alloc, tree) {
-        Ok(file) => Ok(file),
-        Err(ViewFault::Memory) => Err(Refusal::Memory),
-        Err(ViewFault::Outside { at: _ }) => unreachable!(),
     }
 }
 
@@ -52,9 +46,9 @@ fn spelled(alloc: Global, tree: &Tree) -> Result<Text, Memory>
 /// The text of a new value.
 #[tactic(auto, using(crate::proofs::Writes::written_too_large, crate::proofs::Writes::written_too_deep, crate::proofs::Writes::written_spelled))]
 fn written(alloc: Global, file: &File) -> Result<Text, Refusal>
-    ensures ok { IfOk result (λ text. written file.now ≡ gives text) }
-    ensures taken { IfOk result Taken }
-    ensures err { IfErr result (λ refusal. (written file.now ≡ refuses refusal) ⊎ (refusal ≡ Refusal.Memory)) }
+    ensures ok { IfOk result (λ text. (printed : Option Bytes) → written file.now printed ≡ gives text printed) }
+    ensures accepted { IfOk result Accepted }
+    ensures err { IfErr result (λ refusal. ((printed : Option Bytes) → written file.now printed ≡ refuses refusal) ⊎ (refusal ≡ Refusal.Memory)) }
 {
     let tree = match set(alloc, file) {
         Ok(tree) => tree,
@@ -65,23 +59,53 @@ fn written(alloc: Global, file: &File) -> Result<Text, Refusal>
     Ok(spelled(alloc, &tree)?)
 }
 
-/// What a command makes of a text of the session: a new text, or none where the file is unchanged.
-pub(crate) fn changed(
+/// What is printed of what a command leaves to be printed.
+fn printed_by(command: &Command, printed: Text) -> Option<Text>
+    ensures { result ≡ printed_by command.now printed }
+{
+    if command.prints() {
+        Some(printed)
+    } else {
+        None
+    }
+}
+
+/// What a command makes of a text of the session.
+pub(crate) fn meaning(
     alloc: Global,
     command: &Command,
     target: &Target,
     text: &[u8],
-) -> Result<Option<Text>, Refusal>
-    requires { Taken text.now }
-    ensures ok { IfOk result (λ new. Means command.now target.now text.now (gives (unwrap_or new text.now))) }
-    ensures taken { IfOk result (λ new. IfSome new Taken) }
+) -> Result<Meant, Refusal>
+    requires { Accepted text.now }
+    ensures ok { IfOk result (λ meant. Means command.now target.now text.now (gives (unwrap_or meant.text text.now) meant.printed)) }
+    ensures accepted { IfOk result (λ meant. IfSome meant.text Accepted) }
     ensures err { IfErr result (λ refusal. Means command.now target.now text.now (refuses refusal) ⊎ (refusal ≡ Refusal.Memory)) }
 {
     let tree = read(alloc, text)?;
-    let file = viewed(alloc, &tree)?;
-    let Outcome { file, printed: _ } = run(alloc, command, target, &file)?;
+    let value = view(alloc, &tree)?;
+    let Outcome { file, printed } = run(alloc, command, target, &value)?;
+    let printed = printed_by(command, printed);
     match file {
-        None => Ok(None),
-        Some(file) => Ok(Some(written(alloc, &file)?)),
+        None => Ok(Meant {
+            text: None,
+            printed,
+        }),
+        Some(file) => Ok(Meant {
+            text: Some(written(alloc, &file)?),
+            printed,
+        }),
     }
+}
+
+/// The formatted text of a text of the session.
+pub(crate) fn formatted(alloc: Global, text: &[u8]) -> Result<Text, Refusal>
+    requires { Accepted text.now }
+    ensures ok { IfOk result (λ new. Formats text.now (gives new None)) }
+    ensures accepted { IfOk result Accepted }
+    ensures err { IfErr result (λ refusal. Formats text.now (refuses refusal) ⊎ (refusal ≡ Refusal.Memory)) }
+{
+    let tree = read(alloc, text)?;
+    let value = view(alloc, &tree)?;
+    written(alloc, &value)
 }

@@ -1,19 +1,19 @@
 ghost use Rattle.std.specs.Prelude.{◌≡◌, ◌≤◌, ◌<◌, ◌+◌, ◌++◌, ◌↔◌, ◌⊎◌, [], ◌∷◌, take, vec_len, vec_capacity, Err, ℕ, List, IfOk, IfErr, OnOk, OnErr, IsOk, length, Result};
 ghost use Rattle.bz_tree.specs.Spell.{limit};
 ghost use Rattle.std.specs.Str.{IsValidUpTo};
-ghost use Rattle.bz_view.specs.Thin.{Taken};
+ghost use Rattle.bz_tree.specs.Legal.{Accepted};
 ghost use Rattle.bz_tree.specs.Faults.{IsOfText};
 ghost use Rattle.bz_command.specs.declared.refusal.Refusal.{Refusal};
 ghost use Rattle.bz_journal.specs.declared.action.Reply.{Reply};
 ghost use Rattle.bz_journal.specs.declared.action.Action.{Action};
-ghost use Rattle.bz_journal.specs.History.{History, present, opened, after_text, undone, redone, IsMove, Leads, Acts, Runs};
+ghost use Rattle.bz_journal.specs.History.{History, present, opened, after_text, undone, redone, unchanged, IsMove, IsFormat, Leads, Acts, Runs};
+ghost use Rattle.bz_journal.specs.Fixed.{IsFormatted};
 
 use crate::action::{Action, Reply};
-use crate::meaning::changed;
+use crate::meaning::{Meant, formatted, meaning};
 use bz_command::{Command, Refusal, Target};
 use bz_items::{Memory, Text};
-use bz_tree::{ReadFault, parse, unexpected_at};
-use bz_view::first_outside;
+use bz_tree::{ReadFault, parse};
 use std::alloc::Global;
 use std::marker::Model;
 
@@ -40,24 +40,20 @@ impl Model for Session {
 impl Session {
     /// A session at the first text of a file of this package, whose name has at most 65,536 bytes. Errors: those of
     /// reading the text: `TooLarge` past 4,194,304 bytes; `NotUtf8` with the length of the longest beginning that is UTF-8;
-    /// a fault with line and column where the text reads as no tree of the thin grammar (`Unexpected` at the first part
-    /// outside it, where it is a tree of the whole one); `Memory` where a growth was refused.
+    /// a fault with line and column where the text reads as no tree; `Memory` where a growth was refused.
     pub fn open(alloc: Global, package: &str, text: &[u8]) -> Result<Session, ReadFault>
         requires { length «package».now ≤ 65536 }
         ensures ok { IfOk result (λ session. session ≡ opened text.now) }
-        ensures taken { OnOk result (Taken text.now) }
+        ensures accepted { OnOk result (Accepted text.now) }
         ensures too_large { (result ≡ Err ReadFault.TooLarge) ↔ (limit < length text.now) }
         ensures not_utf8 { (at : ℕ) → ((result ≡ Err (ReadFault.NotUtf8 at)) ↔ ((length text.now ≤ limit) × IsValidUpTo text.now at)) }
-        ensures refused { IfErr result (λ fault. IsOfText fault → Taken text.now → ⊥) }
+        ensures refused { IfErr result (λ fault. IsOfText fault → Accepted text.now → ⊥) }
     {
         let _ = package;
-        let tree = match parse(alloc, text) {
+        let _tree = match parse(alloc, text) {
             Ok(tree) => tree,
             Err(fault) => return Err(fault),
         };
-        if let Some(at) = first_outside(&tree) {
-            return Err(unexpected_at(text, at));
-        }
         match one(alloc, text) {
             Ok(texts) => Ok(Session {
                 texts,
@@ -91,15 +87,18 @@ impl Session {
     }
 
     /// Does an action. At an error the history is as before. Errors: those of the command; `TooLarge` and `TooDeep`
-    /// where the new text would be past a limit; `TooFar` where there aren't so many steps; `Full` where a command
-    /// changes the text behind which there are 100,000 steps; `Memory`: a growth was refused, never at undo and redo.
+    /// where the new text would be past a limit; `TooFar` where there aren't so many steps; `Full` where a command or
+    /// formatting changes the text behind which there are 100,000 steps; `Memory`: a growth was refused, never at undo
+    /// and redo. Behind formatting the present text is formatted: to format it once more leaves it as it is.
     pub fn act(&mut self, action: &Action) -> Result<Reply, Refusal>
         ensures acts { Acts action.now self.old result self.new }
         ensures moves { IsMove action.now → Leads action.now self.old result self.new }
+        ensures formatted { OnOk result (IsFormat action.now → IsFormatted (present self.old) (present self.new)) }
         ensures err { OnErr result (self.new ≡ self.old) }
     {
         match action {
             Action::Do(command, target) => self.edit(command, target),
+            Action::Format => self.format(),
             Action::Undo(n) => self.undo(*n),
             Action::Redo(n) => self.redo(*n),
         }
@@ -108,18 +107,18 @@ impl Session {
     /// The present text.
     fn present(&self) -> &[u8]
         ensures text { result.now ≡ present self.now }
-        ensures taken { Taken result.now }
+        ensures accepted { Accepted result.now }
     {
         self.texts[self.cursor as usize].as_slice()
     }
 
-    /// Puts a text behind the present one.
-    fn push(&mut self, text: Text) -> Result<Reply, Refusal>
-        requires { Taken text }
-        ensures acts { ((result, self.new) ≡ after_text self.old text) ⊎ ((result ≡ Err Refusal.Memory) × (self.new ≡ self.old)) }
+    /// Puts a text behind the present one; where it is the same one, tells what is printed.
+    fn push(&mut self, text: Text, printed: Option<Text>) -> Result<Reply, Refusal>
+        requires { Accepted text }
+        ensures acts { ((result, self.new) ≡ after_text self.old text printed) ⊎ ((result ≡ Err Refusal.Memory) × (self.new ≡ self.old)) }
     {
         if text.as_slice() == self.present() {
-            return Ok(Reply::Same);
+            return Ok(unchanged(printed));
         }
         let cursor = self.cursor;
         if cursor >= MOST_STEPS {
@@ -137,9 +136,25 @@ impl Session {
         ensures err { OnErr result (self.new ≡ self.old) }
     {
         let alloc = *self.texts.allocator();
-        match changed(alloc, command, target, self.present()) {
-            Ok(Some(text)) => self.push(text),
-            Ok(None) => Ok(Reply::Same),
+        let Meant { text, printed } = match meaning(alloc, command, target, self.present()) {
+            Ok(meant) => meant,
+            Err(refusal) => return Err(refusal),
+        };
+        match text {
+            Some(text) => self.push(text, printed),
+            None => Ok(unchanged(printed)),
+        }
+    }
+
+    /// Formats the present text.
+    fn format(&mut self) -> Result<Reply, Refusal>
+        ensures acts { Acts Action.Format self.old result self.new }
+        ensures formatted { OnOk result (IsFormatted (present self.old) (present self.new)) }
+        ensures err { OnErr result (self.new ≡ self.old) }
+    {
+        let alloc = *self.texts.allocator();
+        match formatted(alloc, self.present()) {
+            Ok(text) => self.push(text, None),
             Err(refusal) => Err(refusal),
         }
     }
@@ -193,6 +208,16 @@ impl Session {
             replies.push(reply).unwrap();
         }
         Ok(())
+    }
+}
+
+/// What is answered where the text is as it was.
+fn unchanged(printed: Option<Text>) -> Reply
+    ensures { result ≡ unchanged printed }
+{
+    match printed {
+        None => Reply::Same,
+        Some(text) => Reply::Printed(text),
     }
 }
 

@@ -94,23 +94,25 @@ mutual
       let is : List Expr = items-the_row-Expr _ items in
       let f : Form = made kind (each_with_flags parts) (each_with_flags items) end_ (settled_split (frame kind) kind split is end_) open_ comments in
       let ps : roots (parts_row f).1 ≡ roots parts = roots_row _ (parts_row f).1 ∙ (ap (map root) (parts_of_row f) ∙ same_roots _ parts) in
-      let xs : roots (items_row f).1 ≡ roots items = roots_row _ (items_row f).1 ∙ (ap (map root) (items_of_row f) ∙ same_roots _ items) in
-      (subst (λ z. Fits IsSort (shape kind) (row_in (frame kind) z (roots (items_row f).1))) (sym ps) (subst (λ z. Fits IsSort (shape kind) (row_in (frame kind) (roots parts) z)) (sym xs) h.0),
-       frame_flags (frame kind) kind split is end_ _ _ _ _ _ _ _ _ _ _ _
-       (λ k. row_from_list (is_binary kind) here here _ (parts_row f).1 (subst (λ z. ProperList (is_binary kind) here here z) (sym (parts_of_row f)) (row_flags (is_binary kind) here here _ parts k)))
-       (λ k. empty_from_list _ (items_row f).1 (items_of_row f ∙ no_flags _ items k))
-       (λ k. head_from_list here _ (parts_row f).1 (subst (λ z. HeadList here z) (sym (parts_of_row f)) (head_flags here _ parts k)))
-       (λ k. items_from_list _ (items_row f).1 (subst (λ z. ItemsList z) (sym (items_of_row f)) (items_flags _ items k)))
-       h.1)
+      let xs : roots (items_row f).1 ≡ roots items = roots_row _ (items_row f).1 ∙ (ap (map root) (items_of_row f) ∙ same_roots _ items) in (
+        subst (λ z. Fits IsSort (shape kind) (row_in (frame kind) z (roots (items_row f).1))) (sym ps) (subst (λ z. Fits IsSort (shape kind) (row_in (frame kind) (roots parts) z)) (sym xs) h.0),
+        frame_flags (frame kind) kind split is end_ _ _ _ _ _ _ _ _ _ _ _
+            (λ k. row_from_list (is_binary kind) here here _ (parts_row f).1 (subst (λ z. ProperList (is_binary kind) here here z) (sym (parts_of_row f)) (row_flags (is_binary kind) here here _ parts k)))
+            (λ k. empty_from_list _ (items_row f).1 (items_of_row f ∙ no_flags _ items k))
+            (λ k. head_from_list here _ (parts_row f).1 (subst (λ z. HeadList here z) (sym (parts_of_row f)) (head_flags here _ parts k)))
+            (λ k. items_from_list _ (items_row f).1 (subst (λ z. ItemsList z) (sym (items_of_row f)) (items_flags _ items k)))
+            h.1,
+      )
 
   row_flags : (binary : Bool) (outer here : Spot) (m : _) (r : Row_of-Expr m) → ProperRow binary outer here r → ProperList binary outer here (each_with_flags r)
   row_flags binary outer here m end_of-Expr h = tt
-  row_flags binary outer here m (more_of-Expr x rest) h =
-      (expr_flags here x h.0,
-       same_comments x ∙ h.1,
-       λ b. let k = h.2 (sym (same_break x) ∙ b) in
-       (two (λ z w. binary && (z && not w)) (same_operator x) (same_begins _ rest) ∙ k.0, same_spot outer here x ∙ k.1),
-       subst (λ z. ProperList binary outer z (each_with_flags rest)) (sym (same_spot outer here x)) (row_flags binary outer (behind_expr outer here x) _ rest h.3))
+  row_flags binary outer here m (more_of-Expr x rest) h = (
+    expr_flags here x h.0,
+    same_comments x ∙ h.1,
+    λ b. let k = h.2 (sym (same_break x) ∙ b) in
+        (two (λ z w. binary && (z && not w)) (same_operator x) (same_begins _ rest) ∙ k.0, same_spot outer here x ∙ k.1),
+    subst (λ z. ProperList binary outer z (each_with_flags rest)) (sym (same_spot outer here x)) (row_flags binary outer (behind_expr outer here x) _ rest h.3),
+  )
 
   head_flags : (here : Spot) (m : _) (r : Row_of-Expr m) → ProperHead here r → HeadList here (each_with_flags r)
   head_flags here m end_of-Expr h = tt

@@ -82,10 +82,11 @@ lines_item suffix texts m h k = suffix_first suffix (replicate m space ++ above 
 ended_begins : (m : ℕ) (texts : List Bytes) → AllByRecursion IsComment texts → (rest : Bytes) × (ended m texts ≡ line_feed ∷ rest) × (lines_of rest ≡ told texts)
 ended_begins m [] h = (replicate m space, refl, ap lines_of (sym (append-nil (replicate m space))) ∙ spaces_skipped m [])
 ended_begins m (text ∷ texts) h =
-    let more = ended_begins m texts h.1 in
-    (replicate (m + 4) space ++ (text ++ ended m texts),
-     refl,
-     spaces_skipped (m + 4) (text ++ ended m texts) ∙ (ap (λ z. lines_of (text ++ z)) more.1 ∙ (comment_line text more.0 h.0 ∙ ap (λ z. ended_line (Some text) ∷ z) more.2)))
+    let more = ended_begins m texts h.1 in (
+      replicate (m + 4) space ++ (text ++ ended m texts),
+      refl,
+      spaces_skipped (m + 4) (text ++ ended m texts) ∙ (ap (λ z. lines_of (text ++ z)) more.1 ∙ (comment_line text more.0 h.0 ∙ ap (λ z. ended_line (Some text) ∷ z) more.2)),
+    )
 
 -- before a closing bracket
 pub lines_end : (suffix : Option Bytes) (texts : List Bytes) (m : ℕ) → MaybeComment suffix → AllByRecursion IsComment texts → lines_of (behind suffix ++ ended m texts) ≡ ended_line suffix ∷ told texts

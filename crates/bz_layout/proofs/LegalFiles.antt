@@ -1,5 +1,5 @@
 -- What the layout draws of a proper file value is legal.
-use Rattle.std.proofs.Common.{◌≡◌, ◌≤◌, Bool, true, false, List, [], ◌∷◌, ◌++◌, inl, inr, Option, Some, None, if◌then◌else◌, refl, sym, ap, subst, arith}
+use Rattle.std.proofs.Common.{◌≡◌, ◌≤◌, Bool, true, false, List, [], ◌∷◌, ◌++◌, inl, inr, Option, Some, None, if◌then◌else◌, append_assoc, refl, sym, subst, arith}
 use Rattle.std.specs.Prelude.{IsUtf8}
 use Rattle.std.specs.List.{AllByRecursion, flat_map}
 use Rattle.std.proofs.lemmas.List.Elements.{recursion_from_All}
@@ -119,6 +119,9 @@ newline_follows : (b : Bool) (suffix : Option Bytes) (t : Bytes) → FollowsAs b
 newline_follows b None t = inl refl
 newline_follows b (Some text) t = inl refl
 
+line_tokens : (x : Part) (newline : Leaf) (rest : List Leaf) → newline.class ≡ c.Newline → newline.token ≡ line_feed ∷ [] → Toks (leaves_part x) (spell_leaves (newline ∷ rest)) → AreTokens rest → AreTokens ((leaves_part x ++ (newline ∷ [])) ++ rest)
+line_tokens x newline rest i t h r = subst AreTokens (sym (append_assoc (leaves_part x) (newline ∷ []) rest)) (tokens_before (leaves_part x) (newline ∷ rest) h (subst (λ z. TokenStands z newline.token rest) (sym i) (inl t), r))
+
 -- a line stands where one begins, and its leaves are tokens before others that are
 record IsLine (x : Part) : Type 0 where
   legal : LegalPart x
@@ -149,17 +152,10 @@ line_stands gap x h g =
       is_line = refl;
       begins = refl;
       gaps = at_node Begins node (at_leaves Placed Stands (λ here l q. q.stands) Begins statement placed, (subst (λ z. AtLeaves Stands z (p.Leaf newline)) (sym (goes_along x h.0 front)) (true, (newline_gap suffix h.2.1).0), tt));
-      tokens_then = λ rest r. subst (λ z. AreTokens (z ++ rest)) (sym leaves) (line_tokens statement suffix rest
+      tokens_then = λ rest r. subst (λ z. AreTokens (z ++ rest)) (sym leaves) (line_tokens statement newline rest refl refl
           (tokens statement legal lexed ((drawn_good Begins x h.1).airy front 0) (spell_leaves (newline ∷ rest)) (newline_follows (ends_plain statement) suffix (spell_leaves rest))) r);
       coded = subst AreCoded (sym leaves) (all_append IsCodedLeaf (leaves_part statement) (newline ∷ []) (leaves_hold Placed IsCodedLeaf (λ here l q. q.coded) Begins statement placed) ((ending, coded_byte line_feed (omega arith)), tt));
     }
-  where
-    line_tokens : (y : Part) (suffix : Option Bytes) (rest : List Leaf) → Toks (leaves_part y) (spell_leaves (newline_leaf suffix ∷ rest)) → AreTokens rest → AreTokens ((leaves_part y ++ (newline_leaf suffix ∷ [])) ++ rest)
-    line_tokens y suffix rest h r = subst AreTokens (append_assoc' (leaves_part y) (newline_leaf suffix) rest) (tokens_before (leaves_part y) (newline_leaf suffix ∷ rest) h (inl refl, r))
-      where
-        append_assoc' : (a : List Leaf) (l : Leaf) (b : List Leaf) → a ++ (l ∷ b) ≡ (a ++ (l ∷ [])) ++ b
-        append_assoc' [] l b = refl
-        append_assoc' (x ∷ a) l b = ap (λ t. x ∷ t) (append_assoc' a l b)
 
 -- ---- the file
 

@@ -60,13 +60,13 @@ row_seen kind split open_ g m (x ∷ hs) xs end_ r h =
     let binary_shut : (is_binary kind ≡ true → open_ ≡ false) = λ b. not_open (is_comprehension kind) open_ h.opens (λ c. true≢false (sym b ∙ not_binary kind c)) in
     record {
       value = λ comments break.
-      ap (λ z. form kind z [] [] false (is_comprehension kind && is_open ss) comments)
-      (row_back (is_binary kind) false false kind open_ m g m (x ∷ hs) r h.each h.last binary_shut (λ b. absurd (true≢false (sym b ∙ h.first)))) ∙
-      (ap (λ z. form kind (settled (x ∷ hs)) [] [] false z comments) (open_back kind open_ m g m (x ∷ hs) r h.each h.second h.opens) ∙
-      (two (λ z w. form kind (settled (x ∷ hs)) z w false open_ comments) (sym (no_values xs h.no_items)) (sym h.no_end) ∙ ap (λ z. form kind (settled (x ∷ hs)) (settled xs) end_ z open_ comments) (sym h.not_split)));
+          ap (λ z. form kind z [] [] false (is_comprehension kind && is_open ss) comments)
+          (row_back (is_binary kind) false false kind open_ m g m (x ∷ hs) r h.each h.last binary_shut (λ b. absurd (true≢false (sym b ∙ h.first)))) ∙
+          (ap (λ z. form kind (settled (x ∷ hs)) [] [] false z comments) (open_back kind open_ m g m (x ∷ hs) r h.each h.second h.opens) ∙
+          (two (λ z w. form kind (settled (x ∷ hs)) z w false open_ comments) (sym (no_values xs h.no_items)) (sym h.no_end) ∙ ap (λ z. form kind (settled (x ∷ hs)) (settled xs) end_ z open_ comments) (sym h.not_split)));
       gap = r.0.gap g m;
       loose = ap (λ z. z ++ loose_behind (look (rowed kind open_ m (gap_behind kind open_ m x.0 (firsts hs)) (margin_behind open_ m x.0) hs))) (r.0.loose g m) ∙
-      row_loose kind open_ m (gap_behind kind open_ m x.0 (firsts hs)) (margin_behind open_ m x.0) hs r.1 (gap_bare kind open_ m x.0 (firsts hs));
+          row_loose kind open_ m (gap_behind kind open_ m x.0 (firsts hs)) (margin_behind open_ m x.0) hs r.1 (gap_bare kind open_ m x.0 (firsts hs));
     }
 
 sequence_seen : (opener closer : ℕ) (kind : Kind) (split open_ : Bool) (g : Bytes) (m : ℕ) (hs xs : List (Expr × Draw)) (end_ : List Bytes) → Reads hs → Reads xs → IsSequence kind open_ (firsts hs) (firsts xs) end_ →
@@ -80,11 +80,11 @@ sequence_seen opener closer kind split open_ g m hs xs end_ rh rx h =
     let found : List Expr × List Bytes = items_in (all_in (first_gap (look body))) (look body) in
     record {
       value = λ comments break.
-      ap (λ n. sequence_form kind (take n ss) (drop (suc n) ss) comments) (sym h.leads) ∙
-      (ap (λ z. sequence_form kind (take (length (firsts hs)) ss) z comments) (headed_drop m g opener hs body) ∙
-      (ap (λ z. form kind z found.0 found.1 (is_split (look body)) false comments) (headed_take m g opener hs body rh h.heads) ∙
-      (ap (λ z. form kind (settled hs) z.0 z.1 (is_split (look body)) false comments) back.found ∙
-      two (λ z w. form kind (settled hs) (settled xs) end_ z w comments) back.split (sym h.not_open))));
+          ap (λ n. sequence_form kind (take n ss) (drop (suc n) ss) comments) (sym h.leads) ∙
+          (ap (λ z. sequence_form kind (take (length (firsts hs)) ss) z comments) (headed_drop m g opener hs body) ∙
+          (ap (λ z. form kind z found.0 found.1 (is_split (look body)) false comments) (headed_take m g opener hs body rh h.heads) ∙
+          (ap (λ z. form kind (settled hs) z.0 z.1 (is_split (look body)) false comments) back.found ∙
+          two (λ z w. form kind (settled hs) (settled xs) end_ z w comments) back.split (sym h.not_open))));
       gap = headed_gap m g opener hs body rh;
       loose = ap (λ n. loose_in (take (suc n) ss)) (sym h.leads) ∙ headed_loose m g opener hs body rh;
     }
@@ -122,10 +122,10 @@ mutual
       λ g m. form_seen (frame kind) kind split open_ g m hs xs end_ (row_read _ parts f.1) (row_read _ items f.2) facts in
       record {
         value = λ g m.
-        ap (λ z. z.make comments false) (made g m) ∙
-        ((back g m).value comments false ∙
-        (ap (λ z. form kind z (settled xs) end_ (settled_flag (firsts xs)) open_ comments) (settled_row _ parts) ∙
-        two (λ z w. form kind (each_with_flags parts) z end_ (settled_flag w) open_ comments) (settled_row _ items) (firsts_row _ items)));
+            ap (λ z. z.make comments false) (made g m) ∙
+            ((back g m).value comments false ∙
+            (ap (λ z. form kind z (settled xs) end_ (settled_flag (firsts xs)) open_ comments) (settled_row _ parts) ∙
+            two (λ z w. form kind (each_with_flags parts) z end_ (settled_flag w) open_ comments) (settled_row _ items) (firsts_row _ items)));
         sign = λ g m. ap (λ z. is_operator (plain z)) (made g m) ∙ ap is_operator ((back g m).value no_comments false);
         gap = λ g m. ap (λ z. z.gap) (made g m) ∙ (back g m).gap;
         loose = λ g m. ap (λ z. z.loose) (made g m) ∙ (back g m).loose;

@@ -129,10 +129,7 @@ both_frames : (f : Frame) (A B C : Type 0) → (A → C) → (B → C) → in_fr
 both_frames row A B C a b h = a h
 both_frames (sequence o closer) A B C a b h = b h
 
-abbrev Lists : Type 0
-Lists = List Expr
-
-by_frame : (kind : Kind) (f : Frame) (split open_ : Bool) (ps is : Lists) (end_ : List Bytes) (A B : Type 0) → Fits IsSort (shape kind) (row_in f (map root ps) (map root is)) →
+by_frame : (kind : Kind) (f : Frame) (split open_ : Bool) (ps is : List Expr) (end_ : List Bytes) (A B : Type 0) → Fits IsSort (shape kind) (row_in f (map root ps) (map root is)) →
     in_frame f (Unit {0}) (length (map root ps) ≡ lead kind) → (RowShape kind (map root ps) → A → IsRow kind split open_ ps is end_) → (length (map root ps) ≡ lead kind → B → IsSequence kind open_ ps is end_) →
     in_frame f A B → in_frame f (IsRow kind split open_ ps is end_) (IsSequence kind open_ ps is end_)
 by_frame kind row split open_ ps is end_ A B fits leads a b h = a (row_shape kind (map root ps) fits) h
@@ -142,32 +139,33 @@ mutual
   pub readable : (here : Spot) (x : Expr) → ProperExpr here x → Readable x
   readable here (Token t) h = tt
   readable here (Form' kind s parts s' items end_ split open_ comments) h =
-      let ps : Lists = items-the_row-Expr _ parts in
-      let is : Lists = items-the_row-Expr _ items in
+      let ps : List Expr = items-the_row-Expr _ parts in
+      let is : List Expr = items-the_row-Expr _ items in
       let fits : Fits IsSort (shape kind) (row_in (frame kind) (map root ps) (map root is)) =
-      subst (λ z. Fits IsSort (shape kind) (row_in (frame kind) z (map root is))) (roots_row _ parts) (subst (λ z. Fits IsSort (shape kind) (row_in (frame kind) (roots parts) z)) (roots_row _ items) h.0) in
-      (by_frame kind (frame kind) split open_ ps is end_ _ _ fits (lead_before kind (map root ps) (map root is) fits)
-      (λ w k. record {
-        full = sym (empty_same ps) ∙ w.full;
-        first = ap (λ z. is_binary kind && z) (sym (begins_same ps)) ∙ w.first;
-        last = ap (λ z. is_binary kind && z) (sym (ends_same ps)) ∙ w.last;
-        second = λ e. sym (others_same ps) ∙ w.second e;
-        each = parts_list (is_binary kind) here here _ parts k.0;
-        no_items = no_items_list _ items k.1;
-        no_end = k.2;
-        not_split = k.3;
-        opens = k.4;
-      })
-      (λ n k. record {
-        leads = sym (length_same ps) ∙ n;
-        heads = heads_list here _ parts k.0;
-        each = items_list _ items k.1;
-        ends_there = recursion_from_All IsComment end_ k.2;
-        not_open = k.3;
-      })
-      h.1,
-       both_frames (frame kind) _ _ (EachReadable parts) (λ k. row_readable (is_binary kind) here here _ parts k.0) (λ k. head_readable here _ parts k.0) h.1,
-       both_frames (frame kind) _ _ (EachReadable items) (λ k. none_readable _ items k.1) (λ k. items_readable _ items k.1) h.1)
+      subst (λ z. Fits IsSort (shape kind) (row_in (frame kind) z (map root is))) (roots_row _ parts) (subst (λ z. Fits IsSort (shape kind) (row_in (frame kind) (roots parts) z)) (roots_row _ items) h.0) in (
+        by_frame kind (frame kind) split open_ ps is end_ _ _ fits (lead_before kind (map root ps) (map root is) fits)
+            (λ w k. record {
+              full = sym (empty_same ps) ∙ w.full;
+              first = ap (λ z. is_binary kind && z) (sym (begins_same ps)) ∙ w.first;
+              last = ap (λ z. is_binary kind && z) (sym (ends_same ps)) ∙ w.last;
+              second = λ e. sym (others_same ps) ∙ w.second e;
+              each = parts_list (is_binary kind) here here _ parts k.0;
+              no_items = no_items_list _ items k.1;
+              no_end = k.2;
+              not_split = k.3;
+              opens = k.4;
+            })
+            (λ n k. record {
+              leads = sym (length_same ps) ∙ n;
+              heads = heads_list here _ parts k.0;
+              each = items_list _ items k.1;
+              ends_there = recursion_from_All IsComment end_ k.2;
+              not_open = k.3;
+            })
+            h.1,
+        both_frames (frame kind) _ _ (EachReadable parts) (λ k. row_readable (is_binary kind) here here _ parts k.0) (λ k. head_readable here _ parts k.0) h.1,
+        both_frames (frame kind) _ _ (EachReadable items) (λ k. none_readable _ items k.1) (λ k. items_readable _ items k.1) h.1,
+      )
 
   row_readable : (binary : Bool) (outer here : Spot) (m : _) (r : Row_of-Expr m) → ProperRow binary outer here r → EachReadable r
   row_readable binary outer here m end_of-Expr h = tt

@@ -34,10 +34,6 @@ item_step above s (t ∷ ss) suffix texts x found b a o e i =
 
 -- ---- not broken
 
--- no item has comments
-abbrev AreBare : List Expr → Type 0
-AreBare xs = AreHeads xs
-
 bare_made : (x : Expr × Draw) (g : Bytes) (m : ℕ) → SeenAs x → comments_of x.0 ≡ no_comments → has_break x.0 ≡ false → (seen (x.1 g m)).make (record { before = [] ++ (seen (x.1 g m)).loose; suffix = None }) false ≡ with_flags x.0
 bare_made x g m r n b =
     let s : Seen = seen (x.1 g m) in
@@ -55,7 +51,7 @@ joined_lines : (m : ℕ) (g : Bytes) (closer : ℕ) (one : Bool) (xs : List (Exp
 joined_lines m g closer one [] r q = refl
 joined_lines m g closer one (x ∷ xs) r q = ap lines_of (r.0.gap g m) ∙ q
 
-joined_back : (m : ℕ) (g : Bytes) (closer : ℕ) (one : Bool) (xs : List (Expr × Draw)) → Reads xs → AreBare (firsts xs) → items_in [] (look (joined m g closer one xs)) ≡ (settled xs, [])
+joined_back : (m : ℕ) (g : Bytes) (closer : ℕ) (one : Bool) (xs : List (Expr × Draw)) → Reads xs → AreHeads (firsts xs) → items_in [] (look (joined m g closer one xs)) ≡ (settled xs, [])
 joined_back m g closer one [] r bare = refl
 joined_back m g closer true (x ∷ []) r bare = item_step [] (seen (x.1 g m)) (bare_mark closer ∷ []) None [] (with_flags x.0) ([], []) tt refl refl (bare_made x g m r.0 bare.0 bare.1) refl
 joined_back m g closer false (x ∷ []) r bare = ap (λ z. (z ∷ [], [])) (bare_made x g m r.0 bare.0 bare.1)
@@ -142,7 +138,7 @@ no_suffix (Some text) e = absurd (true≢false (sym e))
 without_comments : (n : HostComments) → n.before ≡ [] → n.suffix ≡ None → n ≡ no_comments
 without_comments n b s = ap (λ z. let r : HostComments = record { before = z; suffix = n.suffix } in r) b ∙ ap (λ z. let r : HostComments = record { before = []; suffix = z } in r) s
 
-bare_items : (xs : List Expr) → AreItems xs → has_comments xs ≡ false → AreBare xs
+bare_items : (xs : List Expr) → AreItems xs → has_comments xs ≡ false → AreHeads xs
 bare_items [] h e = tt
 bare_items (x ∷ xs) h e =
     let o = or_false _ (has_comments xs) e in

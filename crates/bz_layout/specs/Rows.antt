@@ -98,7 +98,7 @@ commented = statement [] (codes "cc_library") (row_with (record { before = codes
   comments = no_comments;
 })) ∷ [])
 
--- ["b", "c"], the first with a suffix
+-- ["b"] with a suffix behind its item
 abbrev suffixed : Expr
 suffixed = list (e.Token (record { class = c.String; text = codes "\"b\""; break_ = false; comments = record { before = []; suffix = Some (codes "# x") } }) ∷ [])
 
@@ -154,7 +154,7 @@ Comments =
 abbrev Tokens : Type 0
 Tokens =
     -- a space between a number and a dot; none around a dot elsewhere
-    (layout (assign a (row k.Dot (number (codes "1") ∷ mark (codes ".") ∷ name (codes "real") ∷ [])) ∷ []) ≡ codes "a = 1 .real\n")
+    (layout (assign (name (codes "x")) (row k.Dot (number (codes "1") ∷ mark (codes ".") ∷ name (codes "real") ∷ [])) ∷ []) ≡ codes "x = 1 .real\n")
     × (layout (assign a (row k.Dot (b ∷ mark (codes ".") ∷ name (codes "real") ∷ [])) ∷ []) ≡ codes "a = b.real\n")
     -- a row with a comma
     × (layout (assign (row k.Row (a ∷ mark (codes ",") ∷ b ∷ [])) (name (codes "c")) ∷ []) ≡ codes "a, b = c\n")

@@ -2,5 +2,5 @@ use Rattle.std.proofs.Common.{refl}
 use Rattle.bz_command.proofs.laws.worked_deletes.Goals as goal
 
 pub returns : goal.returns
-unfolding Rattle.bz_view.specs.declared.value.Expr.TheBlock.hidden-the_row-Expr-0 denote.Hole.Carrier.hidden
-returns c = (refl, refl, refl, refl, refl, refl)
+unfolding Rattle.bz_value.specs.declared.value.Expr.TheBlock.hidden-the_row-Expr-0 denote.Hole.Carrier.hidden
+returns c = ((refl, refl, refl, refl, refl, refl), (refl, refl, refl))

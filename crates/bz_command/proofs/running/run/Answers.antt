@@ -1,4 +1,4 @@
-use Rattle.bz_view.specs.Proper.{IsProperItem}
+use Rattle.bz_value.specs.Proper.{IsProperItem}
 use Rattle.bz_command.proofs.Marks.{all_unmarked}
 use Rattle.bz_command.proofs.running.run.Goals as goal
 

@@ -1,0 +1,81 @@
+-- A formatted text is formatted to itself, and its value is that of the text it was made of, tidied.
+use Rattle.std.proofs.Common.{◌≡◌, ◌<◌, ◌+◌, ◌∙◌, ℕ, List, [], ◌∷◌, ◌++◌, length, take, get_or, Bool, true, false, refl, sym, ap, subst, inl, inr, arith, Option, None, Ok, Err, OnOk, nat_lt, if◌then◌else◌, length-take}
+use Rattle.std.specs.Str.{bytes_eq}
+use Rattle.std.proofs.lemmas.Slice.Eq.{bytes_eq-Decides}
+use Rattle.std.proofs.Math.Seq.{get_or-append_seam}
+use Rattle.bz_tree.specs.declared.tree.Node.{Node}
+use Rattle.bz_tree.specs.Legal.{Reads}
+use Rattle.bz_tree.proofs.Accepts.{one_tree}
+use Rattle.bz_value.specs.declared.value.Item.{Item}
+use Rattle.bz_value.specs.Gaps.{Bytes}
+use Rattle.bz_value.specs.Proper.{IsProper}
+use Rattle.bz_viewed.specs.View.{view_of}
+use Rattle.bz_viewed.proofs.ProperFiles.{view_proper}
+use Rattle.bz_layout.specs.Drawn.{drawn}
+use Rattle.bz_layout.specs.Flags.{flags}
+use Rattle.bz_layout.specs.Written.{layout}
+use Rattle.bz_layout.proofs.LegalFiles.{drawn_legal}
+use Rattle.bz_layout.proofs.LinesBack.{view_back}
+use Rattle.bz_layout.proofs.Spelled.{drawn_spelled}
+use Rattle.bz_command.specs.declared.refusal.Refusal.TheVariants.{Full}
+use Rattle.bz_journal.specs.declared.action.Action.TheVariants.{Format}
+use Rattle.bz_journal.specs.declared.action.Reply.{Reply}
+use Rattle.bz_journal.specs.declared.action.Reply.TheVariants.{Changed}
+use Rattle.bz_journal.specs.Meaning.{Meaning, gives, refuses, written, Formats}
+use Rattle.bz_journal.specs.Fixed.{IsFormatted}
+use Rattle.bz_journal.specs.History.{History, Answer, present, changed, unchanged, after_text, after_meaning, most_steps, Acts}
+use Rattle.bz_journal.proofs.Writes.{IsGiven, given, written_flags}
+
+same_tree : (text : Bytes) (tree other : Node) → Reads text tree → Reads text other → tree ≡ other
+same_tree text tree other h i = one_tree tree other h.0 i.0 (h.1 ∙ sym i.1)
+
+pub formatted_again : (text formatted : Bytes) → Formats text (gives formatted None) → IsFormatted text formatted
+formatted_again text formatted formats =
+    let tree : Node = formats.0 in
+    let items : List Item = view_of tree in
+    let proper : IsProper items = view_proper tree formats.1.0 in
+    let is : IsGiven items formatted None None = given items formatted None None (sym formats.2) in
+    let new : Node = drawn items in
+    let laid : Reads (layout items) new = (drawn_legal items proper is.deep, drawn_spelled items proper, is.long) in
+    let reads : Reads formatted new = subst (λ (t : Bytes). Reads t new) (sym is.layout_is) laid in
+    let seen : view_of new ≡ flags items = view_back items proper in
+    record {
+      given = formats;
+      again = (new, reads, formats.2 ∙ sym (ap (λ (xs : List Item). written xs None) seen ∙ written_flags items None));
+      value = λ t u h i. ap view_of (same_tree formatted u new i reads) ∙ seen ∙ ap (λ (n : Node). flags (view_of n)) (same_tree text tree t formats.1 h);
+    }
+
+-- ---- the present text behind formatting
+
+-- formatting prints nothing
+prints_none : (text formatted : Bytes) (printed : Option Bytes) → Formats text (gives formatted printed) → printed ≡ None
+prints_none text formatted printed formats = IsGiven.same (given (view_of formats.0) formatted None printed (sym formats.2))
+
+present_changed : (h : History) (text : Bytes) → h.cursor < length h.texts → present (changed h text) ≡ text
+present_changed h text within =
+    let long : length (take (h.cursor + 1) h.texts) ≡ h.cursor + 1 = rw length-take (omega arith) in
+    subst (λ (n : ℕ). get_or (take (h.cursor + 1) h.texts ++ text ∷ []) n [] ≡ text) long (get_or-append_seam (take (h.cursor + 1) h.texts) text [] [])
+
+-- what the text is where an answer is none of Full
+behind : (same below : Bool) (h after : History) (text : Bytes) (reply : Reply) → h.cursor < length h.texts → (same ≡ true → text ≡ present h)
+    → ◌≡◌ {A = Answer × History} (Ok reply, after) (if same then (Ok (unchanged None), h) else (if below then (Ok Changed, changed h text) else (Err Full, h)))
+    → present after ≡ text
+behind true below h after text reply within is led = ap (λ (z : Answer × History). present z.1) led ∙ sym (is refl)
+behind false true h after text reply within is led = ap (λ (z : Answer × History). present z.1) led ∙ present_changed h text within
+behind false false h after text reply within is led = let answer = ap (λ (z : Answer × History). z.0) led in absurd (cc)
+
+by_meaning : (h after : History) (reply : Reply) (m : Meaning) → h.cursor < length h.texts → Formats (present h) m
+    → ◌≡◌ {A = Answer × History} (Ok reply, after) (after_meaning h m) → IsFormatted (present h) (present after)
+by_meaning h after reply (gives text printed) within formats led =
+    let none : printed ≡ None = prints_none (present h) text printed formats in
+    let first : Formats (present h) (gives text None) = subst (λ (p : Option Bytes). Formats (present h) (gives text p)) none formats in
+    let after_is : ◌≡◌ {A = Answer × History} (Ok reply, after) (after_text h text None) = led ∙ ap (λ (p : Option Bytes). after_text h text p) none in
+    let new : present after ≡ text =
+    behind (bytes_eq text (present h)) (nat_lt h.cursor most_steps) h after text reply within (bytes_eq-Decides text (present h)).0 after_is in
+    subst (IsFormatted (present h)) (sym new) (formatted_again (present h) text first)
+by_meaning h after reply (refuses refusal) within formats led = let answer = ap (λ (z : Answer × History). z.0) led in absurd (cc)
+
+pub formatted_after : (h after : History) (answer : Answer) → h.cursor < length h.texts → Acts Format h answer after → OnOk answer (IsFormatted (present h) (present after))
+formatted_after h after (Err refusal) within acts = tt
+formatted_after h after (Ok reply) within (inl (m, formats, led)) = by_meaning h after reply m within formats led
+formatted_after h after (Ok reply) within (inr memory) = let answer = memory.1 in absurd (cc)
