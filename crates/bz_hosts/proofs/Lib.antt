@@ -1,0 +1,4 @@
+pub mod Around
+pub mod Gathered
+pub mod Parts
+pub mod Alternating
