@@ -1,5 +1,5 @@
 -- Items with separators between them and a closing token behind them: their hosts.
-use Rattle.std.proofs.Common.{◌≡◌, ℕ, suc, ◌+◌, ◌<◌, ◌≤◌, Bool, true, false, List, [], ◌∷◌, ◌++◌, inl, inr, refl, sym, ap, ◌∙◌, subst, map, append-nil, arith}
+use Rattle.std.proofs.Common.{◌≡◌, ℕ, suc, ◌+◌, ◌<◌, ◌≤◌, Bool, true, false, List, [], ◌∷◌, ◌++◌, inl, inr, refl, sym, ap, ◌∙◌, subst, map, arith}
 use Rattle.std.specs.List.{AllByRecursion}
 use Rattle.bz_token.specs.declared.class.Class.{Class}
 use Rattle.bz_token.specs.declared.class.Class.TheVariants as c
@@ -36,8 +36,11 @@ module _ (separators : List Terminal) (n : ℕ) where
   hosts_last x l i h = rw (measured_part x, i, h.1, h.0) refl
 
   pub hosts_more : (x : Part) (l : Leaf) (xs : List Part) → is_item x ≡ true → IsMark separators true (p.Leaf l) →
-      hosts_from separators n (map measured (x ∷ p.Leaf l ∷ xs)) ≡ host n (n + size x) (suc (n + size x)) ∷ ((measured x).inside n ++ hosts_from separators (n + size x + 1) (map measured xs))
-  hosts_more x l xs i h = rw (measured_part x, i, h.1, h.0) refl
+      hosts_from separators n (map measured (x ∷ p.Leaf l ∷ xs)) ≡ host n (n + size x) (suc (n + size x)) ∷ ((measured x).inside n ++ hosts_from separators (suc (n + size x)) (map measured xs))
+  hosts_more x l xs i h =
+      let e : n + size x + 1 ≡ suc (n + size x) = omega arith in
+      let first : hosts_from separators n (map measured (x ∷ p.Leaf l ∷ xs)) ≡ host n (n + size x) (suc (n + size x)) ∷ ((measured x).inside n ++ hosts_from separators (n + size x + 1) (map measured xs)) = rw (measured_part x, i, h.1, h.0) refl in
+      first ∙ ap (λ z. host n (n + size x) (suc (n + size x)) ∷ ((measured x).inside n ++ hosts_from separators z (map measured xs))) e
 
 -- ---- regions stand where the parts do
 
@@ -64,7 +67,7 @@ hosts_inside separators n (x ∷ p.Leaf l ∷ []) a h =
     )
 hosts_inside separators n (x ∷ p.Leaf l ∷ z ∷ xs) a h =
     let up : ℕ = n + sizes (map measured (x ∷ p.Leaf l ∷ z ∷ xs)) in
-    let b : ℕ = n + size x + 1 in
+    let b : ℕ = suc (n + size x) in
     let some = h.0.some in
     let some' = h.1.1.0.some in
     let rest : AllInside b (b + sizes (map measured (z ∷ xs))) (hosts_from separators b (map measured (z ∷ xs))) = hosts_inside separators b (z ∷ xs) a.2 h.1.1 in

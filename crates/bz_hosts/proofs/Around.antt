@@ -85,17 +85,27 @@ beginning_passed m b lo up l (between open_ behind ∷ rs) rs' h = beginning_pas
 beginning_late : (m b first : ℕ) → b ≤ first → (nat_le m first && nat_lt first b) ≡ false
 beginning_late m b first h = elim (cases_Bool (nat_le m first)) [ inl e ↦ rw e (le-ltb first b h) | inr e ↦ rw e refl ]
 
-beginning_none : (m b lo up : ℕ) → b ≤ lo → (rs : List Region) → AllInside lo up rs → beginning_in m b rs ≡ None
-beginning_none m b lo up l [] h = refl
-beginning_none m b lo up l (host first behind next ∷ rs) h = rw (beginning_late m b first (omega (arith, h.0.0))) (beginning_none m b lo up l rs h.1)
-beginning_none m b lo up l (between open_ behind ∷ rs) h = beginning_none m b lo up l rs h.1
+-- no host of these begins before b
+abbrev Late : ℕ → Region → Type 0
+Late b (host first behind next) = b ≤ first
+Late b (between open_ behind) = Unit {0}
 
-beginning_ahead : (m b lo up : ℕ) → b ≤ lo → (rs rs' : List Region) → AllInside lo up rs' → beginning_in m b (rs ++ rs') ≡ beginning_in m b rs
-beginning_ahead m b lo up l [] rs' h = beginning_none m b lo up l rs' h
-beginning_ahead m b lo up l (host first behind next ∷ rs) rs' h =
+all_late : (b lo up : ℕ) → b ≤ lo → (rs : List Region) → AllInside lo up rs → AllByRecursion (Late b) rs
+all_late b lo up l [] h = tt
+all_late b lo up l (host first behind next ∷ rs) h = (omega (arith, h.0.0), all_late b lo up l rs h.1)
+all_late b lo up l (between open_ behind ∷ rs) h = (tt, all_late b lo up l rs h.1)
+
+beginning_none : (m b hi : ℕ) → b ≤ hi → (rs : List Region) → AllByRecursion (Late hi) rs → beginning_in m b rs ≡ None
+beginning_none m b hi l [] h = refl
+beginning_none m b hi l (host first behind next ∷ rs) h = rw (beginning_late m b first (omega (arith, h.0))) (beginning_none m b hi l rs h.1)
+beginning_none m b hi l (between open_ behind ∷ rs) h = beginning_none m b hi l rs h.1
+
+beginning_ahead : (m b hi : ℕ) → b ≤ hi → (rs rs' : List Region) → AllByRecursion (Late hi) rs' → beginning_in m b (rs ++ rs') ≡ beginning_in m b rs
+beginning_ahead m b hi l [] rs' h = beginning_none m b hi l rs' h
+beginning_ahead m b hi l (host first behind next ∷ rs) rs' h =
     let t : Bool = nat_le m first && nat_lt first b in
-    elim (cases_Bool t) [ inl e ↦ rw e refl | inr e ↦ rw e (beginning_ahead m b lo up l rs rs' h) ]
-beginning_ahead m b lo up l (between open_ behind ∷ rs) rs' h = beginning_ahead m b lo up l rs rs' h
+    elim (cases_Bool t) [ inl e ↦ rw e refl | inr e ↦ rw e (beginning_ahead m b hi l rs rs' h) ]
+beginning_ahead m b hi l (between open_ behind ∷ rs) rs' h = beginning_ahead m b hi l rs rs' h
 
 -- ---- what a gap sees of all regions
 
@@ -104,6 +114,16 @@ pub record Sees (all : List Region) (m : ℕ) (found : Option Region) (hi : ℕ)
   pub inner : innermost m None all ≡ innermost m found rs
   pub ends : ending_at m all ≡ ending_at m rs
   pub begins : (b : ℕ) → b ≤ hi → beginning_in m b all ≡ beginning_in m b rs
+
+-- The gap in which a host ends: of the regions these are left for what begins next.
+pub record Ended (all : List Region) (m first : ℕ) (found : Option Region) (hi : ℕ) (rs : List Region) : Type 0 where
+  pub ends : ending_at m all ≡ Some first
+  pub inner : innermost m None all ≡ found
+  pub begins : beginning_in m hi all ≡ beginning_in m hi rs
+
+-- From n on, up to a leaf, gaps see no more than these.
+abbrev pub SeesAt : List Region → Option Region → ℕ → ℕ → List Region → Type 0
+SeesAt all found n up rs = (m : ℕ) → n ≤ m → m < up → Sees all m found up rs
 
 module _ (all : List Region) (m : ℕ) (found : Option Region) (hi : ℕ) where
   pub sees_behind : (lo up : ℕ) (rs rs' : List Region) → AllInside lo up rs → up ≤ m → Sees all m found hi (rs ++ rs') → Sees all m found hi rs'
@@ -115,14 +135,19 @@ module _ (all : List Region) (m : ℕ) (found : Option Region) (hi : ℕ) where
         begins = λ b k. h.begins b k ∙ beginning_passed m b lo up l rs rs' i;
       }
 
+  without : (hi' : ℕ) (rs rs' : List Region) → AllByRecursion (Silent m) rs' → AllByRecursion (Late hi') rs' → hi' ≤ hi → Sees all m found hi (rs ++ rs') → Sees all m found hi' rs
+  without hi' rs rs' q d j h = record {
+    inner = h.inner ∙ (innermost_joined m found rs rs' ∙ innermost_silent m (innermost m found rs) rs' q);
+    ends = h.ends ∙ ending_ahead m rs rs' q;
+    begins = λ b v. h.begins b (omega arith) ∙ beginning_ahead m b hi' v rs rs' d;
+  }
+
   pub sees_before : (lo up hi' : ℕ) (rs rs' : List Region) → AllInside lo up rs' → m ≤ lo → hi' ≤ lo → hi' ≤ hi → Sees all m found hi (rs ++ rs') → Sees all m found hi' rs
-  sees_before lo up hi' rs rs' i l k j h =
-      let q : AllByRecursion (Silent m) rs' = all_silent lo up m (silent_ahead lo up m l) rs' i in
-      record {
-        inner = h.inner ∙ (innermost_joined m found rs rs' ∙ innermost_silent m (innermost m found rs) rs' q);
-        ends = h.ends ∙ ending_ahead m rs rs' q;
-        begins = λ b v. h.begins b (omega arith) ∙ beginning_ahead m b lo up (omega arith) rs rs' i;
-      }
+  sees_before lo up hi' rs rs' i l k j h = without hi' rs rs' (all_silent lo up m (silent_ahead lo up m l) rs' i) (all_late hi' lo up k rs' i) j h
+
+  -- before a sequence that opens at o
+  pub sees_before_bracket : (o behind up hi' : ℕ) (rs rs' : List Region) → AllInside (suc o) up rs' → m ≤ o → hi' ≤ suc o → hi' ≤ hi → Sees all m found hi (rs ++ between o behind ∷ rs') → Sees all m found hi' rs
+  sees_before_bracket o behind up hi' rs rs' i l k j h = without hi' rs (between o behind ∷ rs') ((not_below o m behind l, tt), all_silent (suc o) up m (silent_ahead (suc o) up m (omega arith)) rs' i) (tt, all_late hi' (suc o) up k rs' i) j h
 
   pub sees_in_host : (first behind next : ℕ) (rs : List Region) → first < m → m < behind → behind ≤ next → Sees all m found hi (host first behind next ∷ rs) → Sees all m (Some (host first behind next)) hi rs
   sees_in_host first behind next rs l u v h = record {
@@ -144,3 +169,15 @@ module _ (all : List Region) (m : ℕ) (found : Option Region) (hi : ℕ) where
     ends = h.ends;
     begins = h.begins;
   }
+
+  -- where the region before ends: none but the sequence around it is seen
+  pub sees_ended : (first behind lo up : ℕ) (rs rs' : List Region) → first < m → behind ≤ m → m ≤ hi → AllInside first behind rs → AllInside lo up rs' → m ≤ lo → Sees all m found hi (host first behind m ∷ (rs ++ rs')) → Ended all m first found hi rs'
+  sees_ended first behind lo up rs rs' l u v i j k h =
+      let q : AllByRecursion (Silent m) rs = all_silent first behind m (silent_passed first behind m u) rs i in
+      let q' : AllByRecursion (Silent m) rs' = all_silent lo up m (silent_ahead lo up m k) rs' j in
+      let e : nat_le m first ≡ false = grind (arith, nat_tests) in
+      record {
+        ends = h.ends ∙ rw (eq-eqb m m refl) refl;
+        inner = h.inner ∙ (ap (λ (t : Bool). innermost m (if t then Some (host first behind m) else found) (rs ++ rs')) (not_above first m behind u) ∙ (innermost_joined m found rs rs' ∙ (ap (λ z. innermost m z rs') (innermost_silent m found rs q) ∙ innermost_silent m found rs' q')));
+        begins = h.begins hi (omega arith) ∙ rw e (beginning_passed m hi first behind u rs rs' i);
+      }
