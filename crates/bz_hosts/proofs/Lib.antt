@@ -6,3 +6,8 @@ pub mod Insides
 pub mod Texts
 pub mod Cuts
 pub mod Sequences
+pub mod Nodes
+pub mod Claim
+pub mod QuietGaps
+pub mod Statements
+pub mod Files

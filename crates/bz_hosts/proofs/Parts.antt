@@ -54,7 +54,7 @@ kind_some : (kind : Kind) → Fits IsSort (shape kind) [] → ⊥
 kind_some k.Line h = absurd h
 kind_some _ h = absurd h
 
-seen_gap : (kind : Kind) (ss : List Seen) (f : Frame) → (node_in f kind ss).gap ≡ first_gap ss
+pub seen_gap : (kind : Kind) (ss : List Seen) (f : Frame) → (node_in f kind ss).gap ≡ first_gap ss
 seen_gap kind ss row = refl
 seen_gap kind ss (sequence opener closer) = refl
 
