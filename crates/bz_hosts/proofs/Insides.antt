@@ -1,0 +1,73 @@
+-- The hosts and sequences in an expression, told of lists.
+use Rattle.std.proofs.Common.{◌≡◌, ℕ, Bool, true, false, not, ◌&&◌, ◌||◌, List, [], ◌∷◌, ◌++◌, refl, sym, ap, ◌∙◌, map, if◌then◌else◌}
+use Rattle.std.specs.List.{flat_map}
+use mathlib.Core.Former.{Count}
+use Rattle.bz_tree.specs.declared.kind.Kind.{Kind}
+use Rattle.bz_tree.specs.declared.tree.Part.{Part, Node'}
+use Rattle.bz_tree.specs.declared.tree.Part.TheVariants as p
+use Rattle.bz_value.specs.declared.value.Form.{Form}
+use Rattle.bz_value.specs.declared.value.Expr.{Expr, Token, Form', Row_of-Expr, end_of-Expr, more_of-Expr, items-the_row-Expr, items_hidden-the_row-Expr-0}
+use Rattle.bz_value.specs.declared.value.Expr.TheVariants as e
+use Rattle.bz_value.specs.Comments.{HostComments, no_comments}
+use Rattle.bz_value.specs.Frames.{Frame, row, sequence, frame}
+use Rattle.bz_value.specs.Gaps.{has_newline}
+use Rattle.bz_value.specs.Proper.{comments_of, is_operator}
+use Rattle.bz_viewed.specs.View.{Seen, seen, seen_row, plain, node_in, first_gap, begins_operator, row_exprs}
+use Rattle.bz_hosts.specs.Hosts.{Hosted, hosted, ended, hosted_by, by_frame, inside_expr, inside_row, inside_items}
+
+-- the items of a sequence, each with what stands in it
+abbrev pub inside_list : List Expr → List Hosted
+inside_list [] = []
+inside_list (x ∷ xs) = hosted_by (comments_of x) ∷ (inside_expr x ++ inside_list xs)
+
+inside_rows : (m : _) (r : Row_of-Expr m) → inside_row r ≡ flat_map inside_expr (items-the_row-Expr m r)
+inside_rows m end_of-Expr = refl
+inside_rows m (more_of-Expr x rest) = ap (λ (t : List Hosted). inside_expr x ++ t) (inside_rows _ rest)
+
+items_rows : (m : _) (r : Row_of-Expr m) → inside_items r ≡ inside_list (items-the_row-Expr m r)
+items_rows m end_of-Expr = refl
+items_rows m (more_of-Expr x rest) = ap (λ (t : List Hosted). hosted_by (comments_of x) ∷ (inside_expr x ++ t)) (items_rows _ rest)
+
+abbrev parts_in : Expr → (m : Count) × Row_of-Expr m
+parts_in (Form' kind s parts s' items end_ split open_ comments) = (_, parts)
+parts_in (Token t) = (_, end_of-Expr)
+
+abbrev items_in : Expr → (m : Count) × Row_of-Expr m
+items_in (Form' kind s parts s' items end_ split open_ comments) = (_, items)
+items_in (Token t) = (_, end_of-Expr)
+
+pub form_inside : (f : Form) → inside_expr (e.Form f) ≡ by_frame (frame f.kind) (flat_map inside_expr f.parts) (inside_list f.seq.items) (ended f.seq.end_)
+form_inside f =
+    let ps = parts_in (e.Form f) in
+    let qs = items_in (e.Form f) in
+    let parts : inside_row ps.1 ≡ flat_map inside_expr f.parts = inside_rows ps.0 ps.1 ∙ ap (flat_map inside_expr) (items_hidden-the_row-Expr-0 f.parts) in
+    let items : inside_items qs.1 ≡ inside_list f.seq.items = items_rows qs.0 qs.1 ∙ ap inside_list (items_hidden-the_row-Expr-0 f.seq.items) in
+    ap (λ (z : List Hosted). by_frame (frame f.kind) z (inside_items qs.1) (ended f.seq.end_)) parts
+    ∙ ap (λ (z : List Hosted). by_frame (frame f.kind) (flat_map inside_expr f.parts) z (ended f.seq.end_)) items
+
+-- ---- what is made of a part has the same in it for any comments and break
+
+node_made : (kind : Kind) (ss : List Seen) (cs : HostComments) (b : Bool) (f : Frame) → inside_expr ((node_in f kind ss).make cs b) ≡ inside_expr (plain (node_in f kind ss))
+node_made kind ss cs b row = refl
+node_made kind ss cs b (sequence opener closer) = refl
+
+pub inside_made : (x : Part) (cs : HostComments) (b : Bool) → inside_expr ((seen x).make cs b) ≡ inside_expr (plain (seen x))
+inside_made (p.Leaf l) cs b = refl
+inside_made (Node' kind n r) cs b = node_made kind (seen_row r) cs b (frame kind)
+
+abbrev pub insides : List Part → List Hosted
+insides [] = []
+insides (x ∷ xs) = inside_expr (plain (seen x)) ++ insides xs
+
+pub row_insides : (binary inside newline : Bool) (xs : List Part) → flat_map inside_expr (row_exprs binary inside newline (map seen xs)) ≡ insides xs
+row_insides binary inside newline [] = refl
+row_insides binary inside newline (x ∷ xs) =
+    let operator : Bool = binary && is_operator (plain (seen x)) in
+    let before : Bool = if inside then newline else has_newline (seen x).gap in
+    let b : Bool = (operator && not (begins_operator (map seen xs))) && (before || has_newline (first_gap (map seen xs))) in
+    ap (λ (z : List Hosted). z ++ flat_map inside_expr (row_exprs binary operator before (map seen xs))) (inside_made x no_comments b)
+    ∙ ap (λ (z : List Hosted). inside_expr (plain (seen x)) ++ z) (row_insides binary operator before xs)
+
+pub head_insides : (xs : List Part) → flat_map inside_expr (map plain (map seen xs)) ≡ insides xs
+head_insides [] = refl
+head_insides (x ∷ xs) = ap (λ (z : List Hosted). inside_expr (plain (seen x)) ++ z) (head_insides xs)

@@ -1,0 +1,13 @@
+pub mod Around
+pub mod Gathered
+pub mod Parts
+pub mod Alternating
+pub mod Insides
+pub mod Texts
+pub mod Cuts
+pub mod Sequences
+pub mod Nodes
+pub mod Claim
+pub mod QuietGaps
+pub mod Statements
+pub mod Files

@@ -1,0 +1,88 @@
+-- Between the statements of a line stand no comments.
+use Rattle.std.proofs.Common.{◌≡◌, ℕ, eqb, Bool, true, false, not, List, [], ◌∷◌, ◌++◌, inl, inr, refl, sym, ap, ◌∙◌, subst, arith, codes, bytes_eq}
+use Rattle.std.specs.List.{AllByRecursion}
+use Rattle.std.proofs.lemmas.Bool.{both_ways, and_parts, or_cases}
+use Rattle.std.proofs.lemmas.Bool.Decides.{nat_tests}
+use Rattle.bz_token.specs.Bytes.{is_blank}
+use Rattle.bz_token.specs.declared.class.Class.{Class}
+use Rattle.bz_token.specs.declared.class.Class.TheVariants as c
+use Rattle.bz_lex.specs.Gaps.{IsGap, nothing, blank, escaped, escaped_return, unescaped, comment, last_comment}
+use Rattle.bz_tree.specs.declared.tree.Part.{Part, Row_of-Part, end_of-Part, more_of-Part, Node', items-the_row-Part}
+use Rattle.bz_tree.specs.declared.tree.Part.TheVariants as p
+use Rattle.bz_tree.specs.Shapes as s
+use Rattle.bz_tree.specs.Shapes.{Fits, Listed, tok, done, has_token}
+use Rattle.bz_tree.specs.Legal.{IsSort, LegalPart, LegalRow}
+use Rattle.bz_tree.specs.Spots.{Spot, Begins, Along, on, behind_part, GapStands, Stands, AtLeaves, AtRow, AtParts}
+use Rattle.bz_tree.proofs.Balance.{no_such, same_class}
+use Rattle.bz_value.specs.Characters.{line_feed, number_sign, backslash}
+use Rattle.bz_value.specs.Frames.{frame}
+use Rattle.bz_value.specs.Gaps.{Bytes, lines_of, all_in}
+use Rattle.bz_viewed.specs.View.{seen, seen_row, first_gap}
+use Rattle.bz_viewed.proofs.InnerParts.{ends_line, is_inner, sort_inner, inner_parts, sort_goes, token_goes}
+use Rattle.bz_viewed.proofs.RowParts.{on_twice}
+use Rattle.bz_hosts.proofs.Parts.{seen_gap}
+
+blank_silent : (byte : ℕ) (g : Bytes) → is_blank byte ≡ true → lines_of (byte ∷ g) ≡ lines_of g
+blank_silent byte g h =
+    let m : eqb byte number_sign ≡ false = grind (arith, nat_tests) in
+    let n : eqb byte line_feed ≡ false = grind (arith, nat_tests) in
+    let b : eqb byte backslash ≡ false = grind (arith, nat_tests) in
+    rw (m, n, b) refl
+
+along_silent : (gap : Bytes) → IsGap false false gap → all_in gap ≡ []
+along_silent gap (nothing e) = rw e refl
+along_silent gap (blank byte rest e b h) = rw e (rw (blank_silent byte rest b) (along_silent rest h))
+along_silent gap (escaped rest e h) = rw e (along_silent rest h)
+along_silent gap (escaped_return rest e h) = rw e (along_silent rest h)
+along_silent gap (unescaped rest e n h) = absurd (both_ways false refl n)
+along_silent gap (comment words rest e o n h) = absurd (both_ways false refl n)
+along_silent gap (last_comment words e o n) = absurd (both_ways false refl n)
+
+gap_silent : (class : Class) (gap : Bytes) → not (ends_line class) ≡ true → GapStands class Along gap → all_in gap ≡ []
+gap_silent c.Newline gap e h = no_such e
+gap_silent c.End gap e h = no_such e
+gap_silent _ gap e h = along_silent gap h
+
+mutual
+  part_silent : (x : Part) → LegalPart x → is_inner x ≡ true → AtLeaves Stands Along x → all_in (seen x).gap ≡ []
+  part_silent (p.Leaf l) g i h = gap_silent l.class l.gap i h
+  part_silent (Node' kind n r) g i h = ap all_in (seen_gap kind (seen_row r) (frame kind)) ∙ row_silent _ r (inner_parts kind i (items-the_row-Part _ r) g.0) g.1 h
+
+  row_silent : (m : _) (r : Row_of-Part m) → AllByRecursion (λ x. is_inner x ≡ true) (items-the_row-Part m r) → LegalRow r → AtRow Stands Along Along r → all_in (first_gap (seen_row r)) ≡ []
+  row_silent m end_of-Part i g h = refl
+  row_silent m (more_of-Part x rest) i g h = part_silent x g.0 i.0 h.0
+
+semicolon_inner : (y : Part) → has_token s.semicolon y ≡ true → is_inner y ≡ true
+semicolon_inner (p.Leaf l) h =
+    let here : Bool = s.is_terminal (s.this c.Mark (codes ";")) l in
+    elim (or_cases here false h) [ inl e ↦ ap (λ class. not (ends_line class)) (same_class l.class c.Mark (and_parts (s.is_class l.class c.Mark) (bytes_eq l.token (codes ";")) e).0) | inr e ↦ no_such e ]
+semicolon_inner (Node' kind n r) h = no_such h
+
+-- statement, semicolon, statement, .. Newline: before semicolons and before each statement but the first
+abbrev pub Quiet : List Part → Type 0
+Quiet [] = Unit {0}
+Quiet (x ∷ []) = Unit {0}
+Quiet (x ∷ y ∷ []) = Unit {0}
+Quiet (x ∷ y ∷ z ∷ []) = all_in (seen y).gap ≡ []
+Quiet (x ∷ y ∷ z ∷ u ∷ xs) = (all_in (seen y).gap ≡ []) × (all_in (seen z).gap ≡ []) × Quiet (z ∷ u ∷ xs)
+
+abbrev pub Statements : List Part → Type 0
+Statements xs = Listed (IsSort s.small) s.semicolon true (Fits IsSort (tok s.newline done)) xs
+
+pub statements_quiet : (outer here : Spot) (xs : List Part) → on here ≡ on Begins → Statements xs → AllByRecursion LegalPart xs → AtParts Stands outer here xs → Quiet xs
+statements_quiet outer here [] e h g at_ = tt
+statements_quiet outer here (x ∷ []) e h g at_ = tt
+statements_quiet outer here (x ∷ y ∷ []) e h g at_ = tt
+statements_quiet outer here (x ∷ y ∷ z ∷ []) e (h, inl j) g at_ = absurd j.1
+statements_quiet outer here (x ∷ y ∷ z ∷ []) e (h, inr w) g at_ =
+    let there : behind_part outer here x ≡ Along = sort_goes s.small x refl h outer here ∙ e in
+    part_silent y g.1.0 (semicolon_inner y w.0) (subst (λ q. AtLeaves Stands q y) there at_.1.0)
+statements_quiet outer here (x ∷ y ∷ z ∷ u ∷ xs) e (h, inl j) g at_ = absurd j.1
+statements_quiet outer here (x ∷ y ∷ z ∷ u ∷ xs) e (h, inr (m, inr j)) g at_ = absurd j.1.1
+statements_quiet outer here (x ∷ y ∷ z ∷ u ∷ xs) e (h, inr (m, inl j)) g at_ =
+    let first : behind_part outer here x ≡ on here = sort_goes s.small x refl h outer here in
+    let there : behind_part outer (behind_part outer here x) y ≡ on here = token_goes s.semicolon y refl m outer (behind_part outer here x) ∙ (ap on first ∙ on_twice here) in (
+      part_silent y g.1.0 (semicolon_inner y m) (subst (λ q. AtLeaves Stands q y) (first ∙ e) at_.1.0),
+      part_silent z g.1.1.0 (sort_inner s.small z refl j.0) (subst (λ q. AtLeaves Stands q z) (there ∙ e) at_.1.1.0),
+      statements_quiet outer (on here) (z ∷ u ∷ xs) (on_twice here ∙ e) j g.1.1 (subst (λ q. AtParts Stands outer q (z ∷ u ∷ xs)) there at_.1.1),
+    )

@@ -1,0 +1,246 @@
+-- The texts behind the opening bracket of a sequence: those above each item, its suffix, and those at the end.
+use Rattle.std.proofs.Common.{◌≡◌, ◌≢◌, ℕ, suc, ◌+◌, ◌<◌, ◌≤◌, Bool, true, false, ◌&&◌, List, [], ◌∷◌, ◌++◌, ◌⊎◌, inl, inr, Option, Some, None, refl, sym, ap, ◌∙◌, subst, map, append_assoc, append-nil, nat_lt, nat_le, arith}
+use Rattle.std.specs.List.{AllByRecursion}
+use Rattle.std.proofs.lemmas.Bool.{lt-ltb}
+use Rattle.std.proofs.lemmas.Bool.Decides.{nat_tests}
+use Rattle.std.proofs.lemmas.List.{map-append}
+use Rattle.bz_lex.specs.declared.leaf.Leaf.{Leaf}
+use Rattle.bz_tree.specs.declared.tree.Part.{Part, Node'}
+use Rattle.bz_tree.specs.declared.tree.Part.TheVariants as p
+use Rattle.bz_tree.specs.Shapes as s
+use Rattle.bz_tree.specs.Shapes.{Terminal}
+use Rattle.bz_value.specs.declared.value.Expr.{Expr}
+use Rattle.bz_value.specs.Comments.{HostComments}
+use Rattle.bz_value.specs.Gaps.{Bytes, listed, suffix_in, others_in, all_in}
+use Rattle.bz_value.specs.Proper.{comments_of}
+use Rattle.bz_viewed.specs.View.{seen, plain, items_in}
+use Rattle.bz_viewed.proofs.SeenParts.{comments_made}
+use Rattle.bz_hosts.specs.Hosts.{Region, host, between, beginning_in, place_at_end, Comment, comments_at, Measured, sizes, measured, is_item, hosts_from, Place, suffix_of, above, end_of, texts_at, Hosted, hosted, hosted_at, hosted_by, inside_expr}
+use Rattle.bz_hosts.proofs.Around.{AllInside, Sees, SeesAt, Ended, sees_behind, sees_before, sees_in_host, sees_past_host, sees_ended}
+use Rattle.bz_hosts.proofs.Gathered.{key, pick, pick_same, pick_other, pick_joined, GapPlaces, texts_joined, gap_texts, gap_all}
+use Rattle.bz_hosts.proofs.Parts.{size, inner, in_parts, behind_parts}
+use Rattle.bz_hosts.proofs.Alternating.{IsMark, Alternating, Regions, hosts_closed, hosts_last, hosts_more, hosts_inside}
+use Rattle.bz_hosts.proofs.Insides.{inside_list, inside_made}
+use Rattle.bz_hosts.proofs.Texts.{Inner, PartTexts, InHost}
+
+-- ---- places in a sequence
+
+abbrev pub From : ℕ → ℕ → Place → Type 0
+From n up q = (suc (n + n) ≤ key q) × (key q < up + up)
+
+-- of a sequence that opens at o, from the leaf n on: the places of items, and the end
+abbrev pub Mine : ℕ → ℕ → ℕ → Place → Type 0
+Mine o n up q = From n up q ⊎ (key q ≡ suc (suc (o + o)))
+
+-- what stands before the first of these parts stands above an item, or at the end
+abbrev pub first_place : ℕ → ℕ → List Part → Place
+first_place o n [] = end_of o
+first_place o n (z ∷ []) = end_of o
+first_place o n (x ∷ y ∷ xs) = above n
+
+pub first_mine : (o n up : ℕ) (xs : List Part) → n < up → Mine o n up (first_place o n xs)
+first_mine o n up [] h = inr refl
+first_mine o n up (z ∷ []) h = inr refl
+first_mine o n up (x ∷ y ∷ xs) h = let i : suc (n + n) < up + up = omega arith in inl (omega arith, i)
+
+-- a place of an item is none of those that follow
+mine_later : (o n n' up : ℕ) (q : Place) → o < n → n < n' → key q ≡ suc (n + n) → Mine o n' up q → ⊥
+mine_later o n n' up q l u e (inl i) = omega (arith, i.0)
+mine_later o n n' up q l u e (inr i) = omega arith
+
+mine_beyond : (o n b n' up : ℕ) (q : Place) → o < n → b < n' → Mine o n' up q → Inner n b q → ⊥
+mine_beyond o n b n' up q l u (inl i) j = omega (arith, i.0, j.1)
+mine_beyond o n b n' up q l u (inr i) j = omega (arith, j.0)
+
+mine_wider : (o n n' up : ℕ) (q : Place) → n ≤ n' → Mine o n' up q → Mine o n up q
+mine_wider o n n' up q l (inl i) = inl (omega (arith, i.0), i.1)
+mine_wider o n n' up q l (inr i) = inr i
+
+host_begins : (m n hi : ℕ) → m ≤ n → n < hi → (nat_le m n && nat_lt n hi) ≡ true
+host_begins m n hi h i =
+    let e : nat_le m n ≡ true = grind (arith, nat_tests) in
+    rw (e, lt-ltb n hi i) refl
+
+pub beginning_first : (o hi m n : ℕ) → m ≤ n → n < hi → (xs : List Part) → Alternating s.comma xs → place_at_end o (beginning_in m hi (hosts_from s.comma n (map measured xs))) ≡ first_place o n xs
+beginning_first o hi m n h i [] a = absurd a
+beginning_first o hi m n h i (z ∷ []) a = ap (λ (rs : List Region). place_at_end o (beginning_in m hi rs)) (hosts_closed s.comma n z a)
+beginning_first o hi m n h i (x ∷ p.Leaf l ∷ []) a = ap (λ (rs : List Region). place_at_end o (beginning_in m hi rs)) (hosts_last s.comma n x l a.0 a.1) ∙ rw (host_begins m n hi h i) refl
+beginning_first o hi m n h i (x ∷ Node' kind c r ∷ []) a = absurd a.1
+beginning_first o hi m n h i (x ∷ p.Leaf l ∷ z ∷ xs) a = ap (λ (rs : List Region). place_at_end o (beginning_in m hi rs)) (hosts_more s.comma n x l (z ∷ xs) a.0 a.1) ∙ rw (host_begins m n hi h i) refl
+beginning_first o hi m n h i (x ∷ Node' kind c r ∷ z ∷ xs) a = absurd a.1
+
+-- a gap in a sequence and in none of its items
+pub gap_free : (all : List Region) (m o hi lo up : ℕ) (rs : List Region) → AllInside lo up rs → m ≤ lo → m ≤ hi → Sees all m (Some (between o hi)) hi rs →
+    GapPlaces all m (place_at_end o (beginning_in m hi rs)) (place_at_end o (beginning_in m hi rs))
+gap_free all m o hi lo up rs i l u h =
+    let w = sees_before all m (Some (between o hi)) hi lo up m [] rs i l l u h in
+    let e = h.begins hi (omega arith) in
+    record { on_line = λ t. rw (w.ends, w.inner, e) refl; below = λ t. rw (w.inner, e) refl }
+
+gap_ended : (all : List Region) (m first o hi : ℕ) (rs : List Region) → Ended all m first (Some (between o hi)) hi rs → GapPlaces all m (suffix_of first) (place_at_end o (beginning_in m hi rs))
+gap_ended all m first o hi rs h = record { on_line = λ t. rw h.ends refl; below = λ t. rw (h.inner, h.begins) refl }
+
+-- ---- an item with its comments
+
+pub host_with : (all : List Region) (n b e : ℕ) (x : Part) (c : HostComments) (cs : List Comment) (rs : List Region) (hs : List Hosted) →
+    texts_at all (above n) cs ≡ c.before → texts_at all (suffix_of n) cs ≡ listed c.suffix → map (hosted_at all cs) ((measured x).inside n) ≡ inside_expr (plain (seen x)) → map (hosted_at all cs) rs ≡ hs →
+    map (hosted_at all cs) (host n b e ∷ ((measured x).inside n ++ rs)) ≡ hosted_by (comments_of ((seen x).make c false)) ∷ (inside_expr ((seen x).make c false) ++ hs)
+host_with all n b e x c cs rs hs before suffix inside rest =
+    let made : Expr = (seen x).make c false in
+    let first : hosted (texts_at all (above n) cs) (texts_at all (suffix_of n) cs) ≡ hosted_by (comments_of made) =
+    ap (λ (z : List Bytes). hosted z (texts_at all (suffix_of n) cs)) before ∙ (ap (λ (z : List Bytes). hosted c.before z) suffix ∙ ap hosted_by (sym (comments_made x c false))) in
+    let then_ : map (hosted_at all cs) ((measured x).inside n ++ rs) ≡ inside_expr made ++ hs =
+    map-append (hosted_at all cs) ((measured x).inside n) rs
+    ∙ (ap (λ (z : List Hosted). z ++ map (hosted_at all cs) rs) (inside ∙ sym (inside_made x c false)) ∙ ap (λ (z : List Hosted). inside_expr made ++ z) rest) in
+    ap (λ (z : Hosted). z ∷ map (hosted_at all cs) ((measured x).inside n ++ rs)) first ∙ ap (λ (z : List Hosted). hosted_by (comments_of made) ∷ z) then_
+
+-- ---- the texts of a sequence behind the gap before the first of these parts
+
+pub record BodyTexts (all : List Region) (o hi n : ℕ) (xs : List Part) : Type 0 where
+  pub outer : (q : Place) → (Mine o n hi q → ⊥) → texts_at all q (behind_parts n xs) ≡ []
+  pub found : (cs : List Comment) (before : List Bytes) → ((q : Place) → Mine o n hi q → texts_at all q cs ≡ pick (first_place o n xs) q before ++ texts_at all q (behind_parts n xs)) →
+      (map (hosted_at all cs) (hosts_from s.comma n (map measured xs)) ≡ inside_list (items_in before (map seen xs)).0) × (texts_at all (end_of o) cs ≡ (items_in before (map seen xs)).1)
+
+abbrev Lines : Type 0
+Lines = List Bytes
+
+three_none : (a b c : Lines) → a ≡ [] → b ≡ [] → c ≡ [] → a ++ (b ++ c) ≡ []
+three_none a b c h i j = rw (h, i, j) refl
+
+three_first : (a b c u : Lines) → a ≡ u → b ≡ [] → c ≡ [] → a ++ (b ++ c) ≡ u
+three_first a b c u h i j = rw (h, i, j) (append-nil u)
+
+three_second : (a b c u : Lines) → a ≡ [] → b ≡ u → c ≡ [] → a ++ (b ++ c) ≡ u
+three_second a b c u h i j = rw (h, i, j) (append-nil u)
+
+three_third : (a b c u : Lines) → a ≡ [] → b ≡ [] → c ≡ u → a ++ (b ++ c) ≡ u
+three_third a b c u h i j = rw (h, i, j) refl
+
+five_none : (a b c d e : Lines) → a ≡ [] → b ≡ [] → c ≡ [] → d ≡ [] → e ≡ [] → a ++ (b ++ ((c ++ d) ++ e)) ≡ []
+five_none a b c d e h i j k l = rw (h, i, j, k, l) refl
+
+five_first : (a b c d e u : Lines) → a ≡ u → b ≡ [] → c ≡ [] → d ≡ [] → e ≡ [] → a ++ (b ++ ((c ++ d) ++ e)) ≡ u
+five_first a b c d e u h i j k l = rw (h, i, j, k, l) (append-nil u)
+
+five_third : (a b c d e u : Lines) → a ≡ [] → b ≡ [] → c ≡ u → d ≡ [] → e ≡ [] → a ++ (b ++ ((c ++ d) ++ e)) ≡ u
+five_third a b c d e u h i j k l = rw (h, i, j, k, l) (append-nil (u ++ []) ∙ append-nil u)
+
+five_rest : (a b c d e : Lines) → a ≡ [] → c ≡ [] → a ++ (b ++ ((c ++ d) ++ e)) ≡ (b ++ d) ++ e
+five_rest a b c d e h i = rw (h, i) (sym (append_assoc b d e))
+
+-- the last item, with the closing bracket behind it
+module _ (all : List Region) (o hi n : ℕ) (x : Part) (l : Leaf) (opened : o < n) (up : hi ≡ suc (n + size x)) (item : is_item x ≡ true) (mark : IsMark s.comma false (p.Leaf l)) (r : Regions x) (i : InHost all x) (s' : SeesAt all (Some (between o hi)) (suc n) hi (hosts_from s.comma n (map measured (x ∷ p.Leaf l ∷ [])))) where
+  last_texts : BodyTexts all o hi n (x ∷ p.Leaf l ∷ [])
+  last_texts =
+      let b : ℕ = n + size x in
+      let rs : List Region = (measured x).inside n in
+      let loose : Lines = (seen x).loose in
+      let some = r.some in
+      let sees : SeesAt all (Some (between o hi)) (suc n) hi (host n b b ∷ (rs ++ [])) = λ q v w. subst (Sees all q (Some (between o hi)) hi) (hosts_last s.comma n x l item mark) (s' q v w) in
+      let part : PartTexts all n n x = i n b b n (omega arith) (λ q v w. sees_before all q (Some (host n b b)) hi b hi b rs [] tt (omega arith) (omega arith) (omega arith) (sees_in_host all q (Some (between o hi)) hi n b b (rs ++ []) (omega arith) w (omega arith) (sees q v (omega arith)))) in
+      let places : GapPlaces all b (suffix_of n) (end_of o) = gap_ended all b n o hi [] (sees_ended all b (Some (between o hi)) hi n b b hi rs [] (omega arith) (omega arith) (omega arith) (r.within n) tt (omega arith) (sees b (omega arith) (omega arith))) in
+      let told : (q : Place) → texts_at all q (behind_parts n (x ∷ p.Leaf l ∷ [])) ≡ texts_at all q (inner n x) ++ (pick (suffix_of n) q (listed (suffix_in l.gap)) ++ pick (end_of o) q (others_in l.gap)) =
+      λ q. texts_joined all q (inner n x) (comments_at b l.gap ++ []) ∙ ap (λ (z : Lines). texts_at all q (inner n x) ++ z) (texts_joined all q (comments_at b l.gap) [] ∙ (append-nil (texts_at all q (comments_at b l.gap)) ∙ gap_texts all q (suffix_of n) (end_of o) b l.gap places)) in
+      record {
+        outer = λ q u.
+            let differ : suc (n + n) ≡ key q → ⊥ = λ e. u (inl (omega arith, omega arith)) in
+            told q ∙ three_none _ _ _ (part.outer q (λ j. u (inl (omega (arith, j.0), omega (arith, j.1)))) ∙ pick_other (above n) q loose differ) (pick_other (suffix_of n) q (listed (suffix_in l.gap)) differ) (pick_other (end_of o) q (others_in l.gap) (λ e. u (inr (sym e))));
+        found = λ cs before f.
+            let here : From n hi (above n) = (omega arith, omega arith) in
+            let inside : map (hosted_at all cs) rs ≡ inside_expr (plain (seen x)) = part.hosts cs (λ q j.
+                let j0 = j.0 in
+                f q (inl (omega arith, omega (arith, j.1))) ∙ (ap (λ (z : Lines). z ++ texts_at all q (behind_parts n (x ∷ p.Leaf l ∷ []))) (pick_other (above n) q before (λ e. omega arith))
+                ∙ (told q ∙ three_first _ _ _ (texts_at all q (inner n x)) refl (pick_other (suffix_of n) q (listed (suffix_in l.gap)) (λ e. omega arith)) (pick_other (end_of o) q (others_in l.gap) (λ e. omega arith))))) in
+            let at_above : texts_at all (above n) cs ≡ before ++ loose =
+            f (above n) (inl here) ∙ (ap (λ (z : Lines). z ++ texts_at all (above n) (behind_parts n (x ∷ p.Leaf l ∷ []))) (pick_same (above n) before)
+            ∙ ap (λ (z : Lines). before ++ z) (told (above n) ∙ three_first _ _ _ loose (part.outer (above n) (λ j. omega (arith, j.0)) ∙ pick_same (above n) loose) refl refl)) in
+            let at_suffix : texts_at all (suffix_of n) cs ≡ listed (suffix_in l.gap) =
+            f (suffix_of n) (inl here) ∙ (told (suffix_of n) ∙ three_second _ _ _ (listed (suffix_in l.gap)) (part.outer (suffix_of n) (λ j. omega (arith, j.0))) (pick_same (suffix_of n) (listed (suffix_in l.gap))) refl) in
+            let at_end : texts_at all (end_of o) cs ≡ others_in l.gap =
+            f (end_of o) (inr refl) ∙ (told (end_of o) ∙ three_third _ _ _ (others_in l.gap) (part.outer (end_of o) (λ j. omega (arith, j.0))) refl (pick_same (end_of o) (others_in l.gap))) in (
+              ap (map (hosted_at all cs)) (hosts_last s.comma n x l item mark) ∙ host_with all n b b x (record { before = before ++ loose; suffix = suffix_in l.gap }) cs [] [] at_above at_suffix inside refl,
+              at_end,
+            );
+      }
+
+-- an item, its comma, and those behind it
+module _ (all : List Region) (o hi n : ℕ) (x : Part) (l : Leaf) (z : Part) (xs : List Part) (opened : o < n) (up : hi ≡ suc (n + size x) + sizes (map measured (z ∷ xs))) (item : is_item x ≡ true) (mark : IsMark s.comma true (p.Leaf l)) (a : Alternating s.comma (z ∷ xs)) (r : Regions x) (r' : AllByRecursion Regions (z ∷ xs)) (i : InHost all x)
+  (s' : SeesAt all (Some (between o hi)) (suc n) hi (hosts_from s.comma n (map measured (x ∷ p.Leaf l ∷ z ∷ xs)))) where
+  more_texts : (SeesAt all (Some (between o hi)) (suc (suc (n + size x))) hi (hosts_from s.comma (suc (n + size x)) (map measured (z ∷ xs))) → BodyTexts all o hi (suc (n + size x)) (z ∷ xs)) → BodyTexts all o hi n (x ∷ p.Leaf l ∷ z ∷ xs)
+  more_texts later =
+      let b : ℕ = n + size x in
+      let n' : ℕ = suc b in
+      let rs : List Region = (measured x).inside n in
+      let rs' : List Region = hosts_from s.comma n' (map measured (z ∷ xs)) in
+      let loose : Lines = (seen x).loose in
+      let gap : Bytes = (seen z).gap in
+      let place : Place = first_place o n' (z ∷ xs) in
+      let some = r.some in
+      let some' = r'.0.some in
+      let found : Option Region = Some (between o hi) in
+      let up' : ℕ = n' + sizes (map measured (z ∷ xs)) in
+      let within : AllInside n' up' rs' = hosts_inside s.comma n' (z ∷ xs) a r' in
+      let sees : SeesAt all found (suc n) hi (host n b n' ∷ (rs ++ rs')) = λ q v w. subst (Sees all q found hi) (hosts_more s.comma n x l (z ∷ xs) item mark) (s' q v w) in
+      let past : (q : ℕ) → b ≤ q → n' ≢ q → q < hi → Sees all q found hi rs' = λ q v d w. sees_behind all q found hi n b rs rs' (r.within n) v (sees_past_host all q found hi n b n' (rs ++ rs') (omega arith) v d (sees q (omega arith) w)) in
+      let part : PartTexts all n n x = i n b n' n (omega arith) (λ q v w. sees_before all q (Some (host n b n')) hi n' up' b rs rs' within (omega arith) (omega arith) (omega arith) (sees_in_host all q found hi n b n' (rs ++ rs') (omega arith) w (omega arith) (sees q v (omega arith)))) in
+      let rest : BodyTexts all o hi n' (z ∷ xs) = later (λ q v w. past q (omega arith) (λ e. omega arith) w) in
+      let at_comma : GapPlaces all b place place =
+      subst (λ (y : Place). GapPlaces all b y y) (beginning_first o hi b n' (omega arith) (omega arith) (z ∷ xs) a) (gap_free all b o hi n' up' rs' within (omega arith) (omega arith) (past b (omega arith) (λ e. omega arith) (omega arith))) in
+      let at_next : GapPlaces all n' (suffix_of n) place =
+      subst (GapPlaces all n' (suffix_of n)) (beginning_first o hi n' n' (omega arith) (omega arith) (z ∷ xs) a) (gap_ended all n' n o hi rs' (sees_ended all n' found hi n b n' up' rs rs' (omega arith) (omega arith) (omega arith) (r.within n) within (omega arith) (sees n' (omega arith) (omega arith)))) in
+      let whole : List Comment = behind_parts n (x ∷ p.Leaf l ∷ z ∷ xs) in
+      let behind : List Comment = behind_parts n' (z ∷ xs) in
+      let one : b + 1 ≡ n' = omega arith in
+      let told : (q : Place) → texts_at all q whole ≡ texts_at all q (inner n x) ++ (pick place q (all_in l.gap) ++ ((pick (suffix_of n) q (listed (suffix_in gap)) ++ pick place q (others_in gap)) ++ texts_at all q behind)) =
+      λ q. ap (λ (y : ℕ). texts_at all q (inner n x ++ (comments_at b l.gap ++ in_parts y (z ∷ xs)))) one
+      ∙ (texts_joined all q (inner n x) (comments_at b l.gap ++ (comments_at n' gap ++ behind))
+      ∙ ap (λ (y : Lines). texts_at all q (inner n x) ++ y) (texts_joined all q (comments_at b l.gap) (comments_at n' gap ++ behind)
+      ∙ (ap (λ (y : Lines). y ++ texts_at all q (comments_at n' gap ++ behind)) (gap_all all q place b l.gap at_comma)
+      ∙ ap (λ (y : Lines). pick place q (all_in l.gap) ++ y) (texts_joined all q (comments_at n' gap) behind ∙ ap (λ (y : Lines). y ++ texts_at all q behind) (gap_texts all q (suffix_of n) place n' gap at_next))))) in
+      let place_mine : Mine o n' hi place = first_mine o n' hi (z ∷ xs) (omega arith) in
+      let place_later : (q : Place) → key q ≡ suc (n + n) → key place ≡ key q → ⊥ = λ q e d. mine_later o n n' hi place opened (omega arith) (d ∙ e) place_mine in
+      let place_beyond : (q : Place) → Inner n b q → key place ≡ key q → ⊥ = λ q j d. mine_beyond o n b n' hi place opened (omega arith) place_mine (subst (λ (y : ℕ). (suc (suc (n + n)) ≤ y) × (y < b + b)) (sym d) j) in
+      record {
+        outer = λ q u.
+            let differ : suc (n + n) ≡ key q → ⊥ = λ e. u (inl (omega arith, omega arith)) in
+            let apart : key place ≡ key q → ⊥ = λ e. u (mine_wider o n n' hi q (omega arith) (moved place q e place_mine)) in
+            told q ∙ five_none _ _ _ _ _ (part.outer q (λ j. u (inl (omega (arith, j.0), omega (arith, j.1)))) ∙ pick_other (above n) q loose differ) (pick_other place q (all_in l.gap) apart) (pick_other (suffix_of n) q (listed (suffix_in gap)) differ) (pick_other place q (others_in gap) apart) (rest.outer q (λ j. u (mine_wider o n n' hi q (omega arith) j)));
+        found = λ cs before f.
+            let here : From n hi (above n) = (omega arith, omega arith) in
+            let inside : map (hosted_at all cs) rs ≡ inside_expr (plain (seen x)) = part.hosts cs (λ q j.
+                let j0 = j.0 in
+                f q (inl (omega arith, omega (arith, j.1))) ∙ (ap (λ (y : Lines). y ++ texts_at all q whole) (pick_other (above n) q before (λ e. omega arith))
+                ∙ (told q ∙ five_first _ _ _ _ _ (texts_at all q (inner n x)) refl (pick_other place q (all_in l.gap) (place_beyond q j)) (pick_other (suffix_of n) q (listed (suffix_in gap)) (λ e. omega arith)) (pick_other place q (others_in gap) (place_beyond q j)) (rest.outer q (λ k. mine_beyond o n b n' hi q opened (omega arith) k j))))) in
+            let at_above : texts_at all (above n) cs ≡ before ++ loose =
+            f (above n) (inl here) ∙ (ap (λ (y : Lines). y ++ texts_at all (above n) whole) (pick_same (above n) before)
+            ∙ ap (λ (y : Lines). before ++ y) (told (above n) ∙ five_first _ _ _ _ _ loose (part.outer (above n) (λ j. omega (arith, j.0)) ∙ pick_same (above n) loose) (pick_other place (above n) (all_in l.gap) (place_later (above n) refl)) refl (pick_other place (above n) (others_in gap) (place_later (above n) refl)) (rest.outer (above n) (mine_later o n n' hi (above n) opened (omega arith) refl)))) in
+            let at_suffix : texts_at all (suffix_of n) cs ≡ listed (suffix_in gap) =
+            f (suffix_of n) (inl here) ∙ (told (suffix_of n) ∙ five_third _ _ _ _ _ (listed (suffix_in gap)) (part.outer (suffix_of n) (λ j. omega (arith, j.0))) (pick_other place (suffix_of n) (all_in l.gap) (place_later (suffix_of n) refl)) (pick_same (suffix_of n) (listed (suffix_in gap))) (pick_other place (suffix_of n) (others_in gap) (place_later (suffix_of n) refl)) (rest.outer (suffix_of n) (mine_later o n n' hi (suffix_of n) opened (omega arith) refl))) in
+            let next = rest.found cs (all_in l.gap ++ others_in gap) (λ q j.
+                let differ : suc (n + n) ≡ key q → ⊥ = λ e. mine_later o n n' hi q opened (omega arith) (sym e) j in
+                f q (mine_wider o n n' hi q (omega arith) j) ∙ (ap (λ (y : Lines). y ++ texts_at all q whole) (pick_other (above n) q before differ)
+                ∙ (told q ∙ (five_rest _ (pick place q (all_in l.gap)) _ (pick place q (others_in gap)) (texts_at all q behind) (part.outer q (mine_beyond o n b n' hi q opened (omega arith) j) ∙ pick_other (above n) q loose differ) (pick_other (suffix_of n) q (listed (suffix_in gap)) differ)
+                ∙ ap (λ (y : Lines). y ++ texts_at all q behind) (sym (pick_joined place q (all_in l.gap) (others_in gap))))))) in (
+              ap (map (hosted_at all cs)) (hosts_more s.comma n x l (z ∷ xs) item mark) ∙ host_with all n b n' x (record { before = before ++ loose; suffix = suffix_in gap }) cs rs' (inside_list (items_in (all_in l.gap ++ others_in gap) (map seen (z ∷ xs))).0) at_above at_suffix inside next.0,
+              next.1,
+            );
+      }
+    where
+      moved : (q q' : Place) → key q ≡ key q' → Mine o (suc (n + size x)) hi q → Mine o (suc (n + size x)) hi q'
+      moved q q' e (inl j) = inl (omega (arith, j.0), omega (arith, j.1))
+      moved q q' e (inr j) = inr (sym e ∙ j)
+
+pub body_texts : (all : List Region) (o hi n : ℕ) (xs : List Part) → o < n → hi ≡ n + sizes (map measured xs) → Alternating s.comma xs → AllByRecursion Regions xs → AllByRecursion (InHost all) xs → SeesAt all (Some (between o hi)) (suc n) hi (hosts_from s.comma n (map measured xs)) →
+    BodyTexts all o hi n xs
+body_texts all o hi n [] d u a r i s' = absurd a
+body_texts all o hi n (p.Leaf l ∷ []) d u a r i s' = record {
+  outer = λ q v. refl;
+  found = λ cs before f. (ap (map (hosted_at all cs)) (hosts_closed s.comma n (p.Leaf l) a), f (end_of o) (inr refl) ∙ (append-nil (pick (end_of o) (end_of o) before) ∙ pick_same (end_of o) before));
+}
+body_texts all o hi n (Node' kind c r' ∷ []) d u a r i s' = absurd a
+body_texts all o hi n (x ∷ p.Leaf l ∷ []) d u a r i s' = last_texts all o hi n x l d (omega arith) a.0 a.1 r.0 i.0 s'
+body_texts all o hi n (x ∷ Node' kind c r' ∷ []) d u a r i s' = absurd a.1
+body_texts all o hi n (x ∷ p.Leaf l ∷ z ∷ xs) d u a r i s' =
+    let some = r.0.some in
+    more_texts all o hi n x l z xs d (omega arith) a.0 a.1 a.2 r.0 r.1.1 i.0 s' (λ t. body_texts all o hi (suc (n + size x)) (z ∷ xs) (omega arith) (omega arith) a.2 r.1.1 i.1.1 t)
+body_texts all o hi n (x ∷ Node' kind c r' ∷ z ∷ xs) d u a r i s' = absurd a.1

@@ -1,0 +1,8 @@
+//! Facts about the definitions, for readers and for the proofs of other crates: the functions do nothing.
+
+ghost use Rattle.bz_hosts.specs.Laws.{HostsByPlace};
+
+/// The view of a legal tree has each comment at the host that its place in the text gives it, none lost and none twice.
+pub fn hosts_by_place()
+    ensures { HostsByPlace }
+{}
