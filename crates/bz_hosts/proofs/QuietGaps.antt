@@ -12,7 +12,7 @@ use Rattle.bz_tree.specs.declared.tree.Part.TheVariants as p
 use Rattle.bz_tree.specs.Shapes as s
 use Rattle.bz_tree.specs.Shapes.{Fits, Listed, tok, done, has_token}
 use Rattle.bz_tree.specs.Legal.{IsSort, LegalPart, LegalRow}
-use Rattle.bz_tree.specs.Spots.{Spot, Begins, Along, on, behind_part, GapStands, Stands, AtLeaves, AtRow, AtParts}
+use Rattle.bz_tree.specs.Spots.{Spot, Begins, Along, onward, behind_part, GapStands, Stands, AtLeaves, AtRow, AtParts}
 use Rattle.bz_tree.proofs.Balance.{no_such, same_class}
 use Rattle.bz_value.specs.Characters.{line_feed, number_sign, backslash}
 use Rattle.bz_value.specs.Frames.{frame}
@@ -69,7 +69,7 @@ Quiet (x ∷ y ∷ z ∷ u ∷ xs) = (all_in (seen y).gap ≡ []) × (all_in (se
 abbrev pub Statements : List Part → Type 0
 Statements xs = Listed (IsSort s.small) s.semicolon true (Fits IsSort (tok s.newline done)) xs
 
-pub statements_quiet : (outer here : Spot) (xs : List Part) → on here ≡ on Begins → Statements xs → AllByRecursion LegalPart xs → AtParts Stands outer here xs → Quiet xs
+pub statements_quiet : (outer here : Spot) (xs : List Part) → onward here ≡ onward Begins → Statements xs → AllByRecursion LegalPart xs → AtParts Stands outer here xs → Quiet xs
 statements_quiet outer here [] e h g at_ = tt
 statements_quiet outer here (x ∷ []) e h g at_ = tt
 statements_quiet outer here (x ∷ y ∷ []) e h g at_ = tt
@@ -80,9 +80,9 @@ statements_quiet outer here (x ∷ y ∷ z ∷ []) e (h, inr w) g at_ =
 statements_quiet outer here (x ∷ y ∷ z ∷ u ∷ xs) e (h, inl j) g at_ = absurd j.1
 statements_quiet outer here (x ∷ y ∷ z ∷ u ∷ xs) e (h, inr (m, inr j)) g at_ = absurd j.1.1
 statements_quiet outer here (x ∷ y ∷ z ∷ u ∷ xs) e (h, inr (m, inl j)) g at_ =
-    let first : behind_part outer here x ≡ on here = sort_goes s.small x refl h outer here in
-    let there : behind_part outer (behind_part outer here x) y ≡ on here = token_goes s.semicolon y refl m outer (behind_part outer here x) ∙ (ap on first ∙ on_twice here) in (
+    let first : behind_part outer here x ≡ onward here = sort_goes s.small x refl h outer here in
+    let there : behind_part outer (behind_part outer here x) y ≡ onward here = token_goes s.semicolon y refl m outer (behind_part outer here x) ∙ (ap onward first ∙ on_twice here) in (
       part_silent y g.1.0 (semicolon_inner y m) (subst (λ q. AtLeaves Stands q y) (first ∙ e) at_.1.0),
       part_silent z g.1.1.0 (sort_inner s.small z refl j.0) (subst (λ q. AtLeaves Stands q z) (there ∙ e) at_.1.1.0),
-      statements_quiet outer (on here) (z ∷ u ∷ xs) (on_twice here ∙ e) j g.1.1 (subst (λ q. AtParts Stands outer q (z ∷ u ∷ xs)) there at_.1.1),
+      statements_quiet outer (onward here) (z ∷ u ∷ xs) (on_twice here ∙ e) j g.1.1 (subst (λ q. AtParts Stands outer q (z ∷ u ∷ xs)) there at_.1.1),
     )

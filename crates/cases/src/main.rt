@@ -32,10 +32,8 @@
 //! | `equal` | two texts | whether their trees are equal |
 //! | `lines` | a text | the line of each statement |
 //! | `kind`, `class` | a number | the kind of node or the class of leaf that has it, and its number |
-//! | `outside` | a text | the byte at which its tree leaves the thin grammar |
 //! | `view` | a text | its file value, an item a line |
-//! | `layout` | a text | the layout of its file value |
-//! | `format` | a text of the whole grammar | its layout, or why it has none |
+//! | `layout` | a text | the layout of its file value, which has that layout in its turn |
 //! | `token` | a text | the class and the bytes of the token that it begins with |
 //! | `tokens` | a text | its tokens, or its fault |
 //! | `leaves` | a text | class, gap and token of each leaf, and the fault |
@@ -53,12 +51,11 @@
 //! | `words` | words of buildozer, and standard input | the same |
 //! | `status` | the same | the status, and on which of the two something is written |
 //!
-//! An action is `delete NAME`, `undo N` or `redo N`. Words are separated by spaces; one that is empty or holds spaces stands in double quotes.
+//! An action is `delete NAME`, `format`, `undo N` or `redo N`. Words are separated by spaces; one that is empty or holds spaces stands in double quotes.
 #![tactic(auto)]
 
 mod case;
 mod escape;
-mod formats;
 mod labels;
 mod page;
 mod query;

@@ -1,6 +1,5 @@
 //! The questions that a sheet asks of its cases.
 use crate::case::{Case, CaseFault};
-use crate::formats;
 use crate::labels::LabelQuery;
 use crate::page::Page;
 use crate::runs::RunQuery;
@@ -16,7 +15,6 @@ pub(crate) enum Query {
     Tree(TreeQuery),
     Value(ValueQuery),
     Label(LabelQuery),
-    Format,
     Session,
     Run(RunQuery),
 }
@@ -36,11 +34,10 @@ impl Query {
         if let Some(query) = LabelQuery::named(name) {
             return Some(Query::Label(query));
         }
-        match name {
-            "format" => Some(Query::Format),
-            "session" => Some(Query::Session),
-            _ => RunQuery::named(name).map(Query::Run),
+        if name == "session" {
+            return Some(Query::Session);
         }
+        RunQuery::named(name).map(Query::Run)
     }
 
     /// Writes the answer at the case.
@@ -50,7 +47,6 @@ impl Query {
             Query::Tree(query) => query.answer(case, page),
             Query::Value(query) => query.answer(case, page),
             Query::Label(query) => query.answer(case, page),
-            Query::Format => formats::answer(case, page),
             Query::Session => sessions::answer(case, page),
             Query::Run(query) => query.answer(case, page),
         }

@@ -45,8 +45,10 @@ fn opened(alloc: Global, current: &str, text: &[u8]) -> Result<Result<Session, R
 /// The action that a word and what stands behind it name.
 fn action_of(alloc: Global, text: &str) -> Result<Action, CaseFault> {
     let (verb, word) = text.split_once(' ').unwrap_or((text, ""));
-    if verb == "delete" {
-        return Ok(delete(alloc, word)?);
+    match verb {
+        "delete" => return Ok(delete(alloc, word)?),
+        "format" => return Ok(Action::Format),
+        _ => {}
     }
     let Ok(steps) = word.parse::<u32>() else {
         return Err(CaseFault::Sheet("no number of steps"));

@@ -3,15 +3,15 @@ use crate::case::{Case, CaseFault};
 use crate::page::Page;
 use crate::trees::{read, told};
 use bz_items::{Memory, Text};
+use bz_layout::{SetFault, set};
 use bz_tree::Tree;
-use bz_view::{Comments, Expr, File, Form, Item, ViewFault, first_outside, view};
-use bz_write::{SetFault, set};
+use bz_value::{Comments, Expr, File, Form, Item};
+use bz_viewed::view;
 use std::alloc::{AllocError, Global};
 
 /// What is asked of a text.
 #[derive(Clone, Copy)]
 pub(crate) enum ValueQuery {
-    Outside,
     View,
     Layout,
 }
@@ -19,7 +19,6 @@ pub(crate) enum ValueQuery {
 impl ValueQuery {
     pub(crate) fn named(name: &str) -> Option<ValueQuery> {
         match name {
-            "outside" => Some(ValueQuery::Outside),
             "view" => Some(ValueQuery::View),
             "layout" => Some(ValueQuery::Layout),
             _ => None,
@@ -27,46 +26,29 @@ impl ValueQuery {
     }
 
     pub(crate) fn answer(self, case: &Case, page: &mut Page) -> Result<(), CaseFault> {
-        let alloc = case.alloc;
-        let tree = match read(alloc, case.bytes(0)?)? {
-            Ok(tree) => tree,
-            Err(fault) => return Ok(page.answer(told(alloc, &fault)?.as_bytes())?),
-        };
         match self {
-            ValueQuery::Outside => outside(alloc, first_outside(&tree), page)?,
-            ValueQuery::View => viewed(alloc, &tree, page)?,
-            ValueQuery::Layout => laid_out(alloc, &tree, page)?,
+            ValueQuery::View => viewed(case, page),
+            ValueQuery::Layout => laid_out(case, page),
         }
-        Ok(())
     }
 }
 
-/// Writes where a tree leaves the thin grammar.
-fn outside(alloc: Global, at: Option<usize>, page: &mut Page) -> Result<(), Memory> {
-    match at {
-        Some(at) => page.answer(format!(in alloc; "{at}")?.as_bytes()),
-        None => page.answer(b"nowhere"),
-    }
-}
-
-/// A copy of what `view` gives, of which nothing has to be known here.
-fn value_of(alloc: Global, tree: &Tree) -> Result<File, ViewFault> {
-    Ok(view(alloc, tree)?.copy()?)
-}
-
-/// Writes why a tree has no value.
-fn refused(alloc: Global, fault: &ViewFault, page: &mut Page) -> Result<(), Memory> {
-    match fault {
-        ViewFault::Outside { at } => page.answer(format!(in alloc; "outside at {at}")?.as_bytes()),
-        ViewFault::Memory => Err(AllocError),
-    }
+/// `view`, and a copy of what it gives, of which nothing has to be known here. None: the copy is not equal.
+fn value_of(alloc: Global, tree: &Tree) -> Result<Option<File>, Memory> {
+    let file = view(alloc, tree)?;
+    let copy = file.copy()?;
+    Ok(if copy.equals(&file) { Some(copy) } else { None })
 }
 
 /// Writes the items of a value, each on a line.
-fn viewed(alloc: Global, tree: &Tree, page: &mut Page) -> Result<(), Memory> {
-    let file = match value_of(alloc, tree) {
-        Ok(file) => file,
-        Err(fault) => return refused(alloc, &fault, page),
+fn viewed(case: &Case, page: &mut Page) -> Result<(), CaseFault> {
+    let alloc = case.alloc;
+    let tree = match read(alloc, case.bytes(0)?)? {
+        Ok(tree) => tree,
+        Err(fault) => return Ok(page.answer(told(alloc, &fault)?.as_bytes())?),
+    };
+    let Some(file) = value_of(alloc, &tree)? else {
+        return Ok(page.answer(b"another copy")?);
     };
     for item in file.items.as_slice() {
         let mut shown = Vec::new(alloc);
@@ -91,7 +73,7 @@ fn show_comments(comments: &[Text], out: &mut Vec<u8>) -> Result<(), Memory> {
 
 /// The comment on the last line of a host stands behind it.
 fn show_suffix(comments: &Comments, out: &mut Vec<u8>) -> Result<(), Memory> {
-    if let Some(suffix) = &comments.suffix {
+    if let Some(suffix) = comments.suffix() {
         out.extend_from_slice(b"<")?;
         out.extend_from_slice(suffix.as_slice())?;
         out.extend_from_slice(b">")?;
@@ -99,12 +81,12 @@ fn show_suffix(comments: &Comments, out: &mut Vec<u8>) -> Result<(), Memory> {
     Ok(())
 }
 
-/// The comments above a token or a form stand in front of it. Before a token that begins a new line stands `break`.
+/// The comments above a token or a form stand in front of it. Before an operator that ends its line stands `break`.
 #[cycle(expr)]
 fn show_expr(alloc: Global, expr: &Expr, out: &mut Vec<u8>) -> Result<(), Memory> {
     match expr {
         Expr::Token(token) => {
-            show_comments(token.comments.before.as_slice(), out)?;
+            show_comments(token.comments.before(), out)?;
             if token.break_ {
                 out.extend_from_slice(b"break ")?;
             }
@@ -115,20 +97,21 @@ fn show_expr(alloc: Global, expr: &Expr, out: &mut Vec<u8>) -> Result<(), Memory
     }
 }
 
-/// A form is its kind, `split` where it is, and in brackets its head, a colon and its items with a space between two
-/// of them; the comments below the last item stand behind it.
+/// A form is its kind, `split` or `open` where it is, and in brackets its parts with a space between two of them. Of a
+/// sequence these are what stands before its bracket and a colon, the items, and the comments below the last one.
 #[cycle(expr)]
 fn show_form(alloc: Global, form: &Form, out: &mut Vec<u8>) -> Result<(), Memory> {
-    show_comments(form.comments.before.as_slice(), out)?;
+    show_comments(form.comments.before(), out)?;
     let kind = form.kind;
-    let split = if form.split { " split" } else { "" };
-    out.extend_from_slice(format!(in alloc; "{kind:?}{split}(")?.as_bytes())?;
-    show_exprs(alloc, form.head.as_slice(), out)?;
-    if !form.head.is_empty() {
+    let split = if form.seq.split { " split" } else { "" };
+    let open = if form.open_ { " open" } else { "" };
+    out.extend_from_slice(format!(in alloc; "{kind:?}{split}{open}(")?.as_bytes())?;
+    show_exprs(alloc, form.parts.as_slice(), out)?;
+    if bz_value::is_sequence(kind) && !form.parts.is_empty() {
         out.extend_from_slice(b": ")?;
     }
-    show_exprs(alloc, form.items.as_slice(), out)?;
-    show_comments(form.end_.as_slice(), out)?;
+    show_exprs(alloc, form.seq.items.as_slice(), out)?;
+    show_comments(form.seq.end_.as_slice(), out)?;
     out.extend_from_slice(b")")?;
     show_suffix(&form.comments, out)
 }
@@ -151,19 +134,42 @@ fn tree_of(alloc: Global, file: &File) -> Result<Tree, SetFault> {
     set(alloc, file)
 }
 
-/// Writes the layout of the value of a tree.
-fn laid_out(alloc: Global, tree: &Tree, page: &mut Page) -> Result<(), Memory> {
-    let file = match value_of(alloc, tree) {
-        Ok(file) => file,
-        Err(fault) => return refused(alloc, &fault, page),
+/// What comes of a text: its layout, or why there is none.
+#[derive(Drop)]
+enum LaidOut {
+    Text(Vec<u8>),
+    Refused(String),
+}
+
+fn layout_of(alloc: Global, text: &[u8]) -> Result<LaidOut, Memory> {
+    let tree = match read(alloc, text)? {
+        Ok(tree) => tree,
+        Err(fault) => return Ok(LaidOut::Refused(told(alloc, &fault)?)),
+    };
+    let Some(file) = value_of(alloc, &tree)? else {
+        return Ok(LaidOut::Refused(String::from_str(alloc, "another copy")?));
     };
     match tree_of(alloc, &file) {
         Ok(tree) => {
-            let mut text = Vec::new(alloc);
-            tree.spell_into(&mut text)?;
-            page.text("<", text.as_slice())
+            let mut layout = Vec::new(alloc);
+            tree.spell_into(&mut layout)?;
+            Ok(LaidOut::Text(layout))
         }
         Err(SetFault::Memory) => Err(AllocError),
-        Err(fault) => page.answer(format!(in alloc; "{fault}")?.as_bytes()),
+        Err(fault) => Ok(LaidOut::Refused(format!(in alloc; "{fault}")?)),
+    }
+}
+
+/// Writes the layout of a text; and, where the layout has another layout in its turn, that it has.
+fn laid_out(case: &Case, page: &mut Page) -> Result<(), CaseFault> {
+    let alloc = case.alloc;
+    let layout = match layout_of(alloc, case.bytes(0)?)? {
+        LaidOut::Text(layout) => layout,
+        LaidOut::Refused(fault) => return Ok(page.answer(fault.as_bytes())?),
+    };
+    page.text("<", layout.as_slice())?;
+    match layout_of(alloc, layout.as_slice())? {
+        LaidOut::Text(again) if again.as_slice() == layout.as_slice() => Ok(()),
+        _ => Ok(page.answer(b"and another layout of that")?),
     }
 }

@@ -1,7 +1,7 @@
 //! Public calls that no program makes, where memory is ample.
 use bz_items::{Items, Memory, Text};
 use bz_tree::{Class, Kind};
-use bz_view::{Comments, Expr, Form, Item, Token};
+use bz_value::{Comments, Expr, Form, Item, Seq, Token, push_others};
 use std::alloc::Global;
 use std::test::Fail;
 
@@ -24,11 +24,12 @@ fn text(alloc: Global, bytes: &[u8]) -> Result<Items<Text>, Memory> {
     Ok(texts)
 }
 
+/// What is above and behind, as a gap tells it.
 fn comments(alloc: Global) -> Result<Comments, Memory> {
-    Ok(Comments {
-        before: text(alloc, b"# above")?,
-        suffix: Some(Text::from_slice(alloc, b"# behind")?),
-    })
+    let mut above = Items::new(alloc);
+    push_others(alloc, b" # behind\n# above\n", &mut above)?;
+    let suffix = Text::from_slice(alloc, b"# behind")?;
+    Comments::new(alloc, above, Some(suffix))
 }
 
 fn token(alloc: Global) -> Result<Token, Memory> {
@@ -45,19 +46,26 @@ fn form(alloc: Global) -> Result<Form, Memory> {
     let mut items = Items::new(alloc);
     items.push(Expr::Token(token(alloc)?))?;
     Ok(Form {
-        kind: Kind::Bare,
-        split: true,
-        head: Items::new(alloc),
-        items,
-        end_: text(alloc, b"# end")?,
+        kind: Kind::List,
+        parts: Items::new(alloc),
+        seq: Seq {
+            items,
+            end_: text(alloc, b"# end")?,
+            split: true,
+        },
+        open_: true,
         comments: comments(alloc)?,
     })
 }
 
-// Values that no text has yet are copied too; that a copy is equal is proved.
+// Values that no text has are copied too, and are equal to themselves alone; that a copy is equal is proved.
 #[test]
 fn values_are_copied(rt: HostRuntime) -> Result<(), Fail> {
-    let item = Item::Stmt(Expr::Form(form(rt.alloc())?));
-    assert!(rt; item.copy().is_ok());
+    let form = form(rt.alloc())?;
+    assert!(rt; form.seq.copy().is_ok());
+    assert!(rt; form.copy()?.equals(&form));
+    let item = Item::Stmt(Expr::Form(form));
+    assert!(rt; item.copy()?.equals(&item));
+    assert!(rt; !Comments::none().equals(&comments(rt.alloc())?));
     Ok(())
 }
