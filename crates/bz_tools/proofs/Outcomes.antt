@@ -16,8 +16,8 @@ use Rattle.bz_journal.specs.declared.action.Reply.{Reply}
 use Rattle.bz_journal.specs.History.{History, Acts, Leads}
 use Rattle.bz_tools.specs.Asked.{Step, Usage, steps_asked}
 use Rattle.bz_tools.specs.Told.{IsUsageLine}
-use Rattle.bz_tools.specs.Outcome.{Halt, RunsToRefusal, RunsToMemory, IsFaultOf, Edits, Outcome, IsInput}
-use Rattle.bz_view.specs.Thin.{Taken}
+use Rattle.bz_tools.specs.Outcome.{Halt, RunsToRefusal, RunsToMemory, IsFaultOf, Unread, Edits, Outcome, IsInput}
+use Rattle.bz_tree.specs.Legal.{Accepted}
 
 -- a step that is not refused
 led : (h mid : History) (action : Action) (reply : Reply) → Acts action h (Ok reply) mid → Leads action h (Ok reply) mid
@@ -46,10 +46,10 @@ pub is_some-mapped : {A B : Type 0} (f : A → B) (o : Option A) → is_some (op
 is_some-mapped f None = refl
 is_some-mapped f (Some x) = refl
 
--- a fault of the text says that it is not taken
-pub refused_text : (text : List ℕ) (fault : ReadFault) → (IsOfText fault → Taken text → ⊥) → (fault ≡ f.Memory → ⊥) → Taken text → ⊥
-refused_text text f.Memory none memory taken = memory refl
-refused_text text _ none memory taken = none tt taken
+-- a fault of the text says that it is not accepted
+pub refused_text : (text : List ℕ) (fault : ReadFault) → (IsOfText fault → Accepted text → ⊥) → (fault ≡ f.Memory → ⊥) → Accepted text → ⊥
+refused_text text f.Memory none memory accepted = memory refl
+refused_text text _ none memory accepted = none tt accepted
 
 -- the fault that is told where a text is not opened
 pub fault_of_text : (A : Type 0) (text : List ℕ) (fault : ReadFault)
@@ -62,8 +62,8 @@ fault_of_text A text fault large coding other = record {
   other = other;
 }
 
-within_limit : (text : List ℕ) → Taken text → length text ≤ limit
-within_limit text (tree, (reads, thin)) = reads.2
+within_limit : (text : List ℕ) → Accepted text → length text ≤ limit
+within_limit text accepted = accepted.1.2
 
 -- ---- the first bytes of an input, one more than a text may have, tell what becomes of it
 
@@ -77,26 +77,36 @@ fault_of_front all fault long of_front =
       other = of_front.other;
     }
 
+-- the whole text, or what its front shows of a longer one
+pub cut_at_limit : (all : List ℕ) → (take 4194305 all ≡ all) ⊎ (limit < length all)
+cut_at_limit all = go (cases_lt limit (length all))
+  where
+    go : (limit < length all) ⊎ (length all ≤ limit) → (take 4194305 all ≡ all) ⊎ (limit < length all)
+    go (inr short) = inl (take_all 4194305 all (omega arith))
+    go (inl long) = inr long
+
+pub long_front : (all : List ℕ) → limit < length all → Accepted (take 4194305 all) → ⊥
+long_front all long accepted =
+    let le = within_limit (take 4194305 all) accepted in
+    let len = length-take 4194305 all in omega arith
+
+pub unread_of_front : (all output line : List ℕ) → limit < length all → Unread (take 4194305 all) output line → Unread all output line
+unread_of_front all output line long unread = record {
+  refused = λ accepted. let le = within_limit all accepted in omega arith;
+  fault = unread.fault;
+  of_text = fault_of_front all unread.fault long unread.of_text;
+  nothing = unread.nothing;
+  told = unread.told;
+}
+
 edits_of_front : (steps : List Step) (all output line : List ℕ) (status : ℕ) → Edits steps (take 4194305 all) output line status
     → Edits steps all output line status
-edits_of_front steps all output line status edits = go (cases_lt limit (length all)) edits
+edits_of_front steps all output line status edits = go (cut_at_limit all) edits
   where
-    go : (limit < length all) ⊎ (length all ≤ limit) → Edits steps (take 4194305 all) output line status → Edits steps all output line status
-    go (inr short) e =
-        let whole : take 4194305 all ≡ all = take_all 4194305 all (omega arith) in
-        let P : List ℕ → Type 0 = λ text. Edits steps text output line status in subst P whole e
-    go (inl long) (inl edited) =
-        let le = within_limit (take 4194305 all) edited.taken in
-        let len = length-take 4194305 all in absurd (omega arith)
-    go (inl long) (inr unread) =
-        inr (record {
-          refused = λ taken. let le = within_limit all taken in omega arith;
-          fault = unread.fault;
-          of_text = fault_of_front all unread.fault long unread.of_text;
-          nothing = unread.nothing;
-          told = unread.told;
-          ended = unread.ended;
-        })
+    go : (take 4194305 all ≡ all) ⊎ (limit < length all) → Edits steps (take 4194305 all) output line status → Edits steps all output line status
+    go (inl whole) e = subst (λ (text : List ℕ). Edits steps text output line status) whole e
+    go (inr long) (inl edited) = absurd (long_front all long edited.accepted)
+    go (inr long) (inr unread) = inr (unread_of_front all output line long unread.0, unread.1)
 
 pub outcome_of_front : (known : Option (List ℕ)) (front : List ℕ) (words : List (List ℕ)) (steps : List Step) (output line : List ℕ) (status : ℕ)
     → IfSome known (λ all. front ≡ take 4194305 all) → steps_asked words ≡ Ok steps → Edits steps front output line status

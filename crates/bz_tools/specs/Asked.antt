@@ -1,7 +1,7 @@
 -- What the words of a line ask for: actions, in order, each with the text of its command.
 use Rattle.std.specs.Prelude.{List, [], ◌∷◌, ◌++◌, map, if◌then◌else◌, Option, Some, None, Result, Ok, Err}
 use Rattle.std.specs.List.{flat_map}
-use Rattle.bz_view.specs.Gaps.{Bytes}
+use Rattle.bz_value.specs.Gaps.{Bytes}
 use Rattle.bz_command.specs.declared.command.Command.TheVariants as c
 use Rattle.bz_command.specs.declared.command.Target.{Target}
 use Rattle.bz_journal.specs.declared.action.Action.{Action}

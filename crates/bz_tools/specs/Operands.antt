@@ -3,7 +3,7 @@ use Rattle.std.specs.Prelude.{◌==◌, ℕ, ◌+◌, ◌-◌, ◌*◌, ◌^◌,
 use Rattle.std.specs.Str.{all_ascii_digits}
 use Rattle.std.specs.Option.{ok_or}
 use Rattle.std.specs.List.{list_any}
-use Rattle.bz_view.specs.Gaps.{Bytes}
+use Rattle.bz_value.specs.Gaps.{Bytes}
 use Rattle.bz_command.specs.declared.command.Target.{Target}
 use Rattle.bz_command.specs.declared.command.Which.{Which}
 use Rattle.bz_command.specs.declared.command.Which.TheVariants.{Name, Package}

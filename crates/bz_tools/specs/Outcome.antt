@@ -4,8 +4,8 @@ use Rattle.std.specs.Str.{IsValidUpTo}
 use Rattle.bz_lex.specs.declared.fault.ReadFault.{ReadFault}
 use Rattle.bz_lex.specs.declared.fault.ReadFault.TheVariants as f
 use Rattle.bz_tree.specs.Spell.{limit}
-use Rattle.bz_view.specs.Thin.{Taken}
-use Rattle.bz_view.specs.Gaps.{Bytes}
+use Rattle.bz_tree.specs.Legal.{Accepted}
+use Rattle.bz_value.specs.Gaps.{Bytes}
 use Rattle.bz_command.specs.declared.refusal.Refusal.{Refusal}
 use Rattle.bz_journal.specs.declared.action.Reply.{Reply}
 use Rattle.bz_journal.specs.History.{History, opened, present, Leads, TakesNone}
@@ -42,9 +42,9 @@ abbrev pub halt_line : Option Halt → Bytes
 halt_line None = []
 halt_line (Some halt) = refusal_line halt.command halt.refusal
 
--- A text that reads as a tree of the thin grammar is opened, the steps are run on it, and the text that is then present is written.
+-- An accepted text is opened, the steps are run on it, and the text that is then present is written.
 pub record Edited (steps : List Step) (input output line : Bytes) (status : ℕ) : Type 0 where
-  pub taken : Taken input
+  pub accepted : Accepted input
   pub halt : Option Halt
   pub after : History
   pub runs : RunsToRefusal (opened input) steps halt after
@@ -61,18 +61,17 @@ pub record IsFaultOf (text : Bytes) (fault : ReadFault) : Type 0 where
   pub other : fault ≢ f.Memory
 
 -- Of every other text nothing is written, and its fault is told.
-pub record Unread (input output line : Bytes) (status : ℕ) : Type 0 where
-  pub refused : Taken input → ⊥
+pub record Unread (input output line : Bytes) : Type 0 where
+  pub refused : Accepted input → ⊥
   pub fault : ReadFault
   pub of_text : IsFaultOf input fault
   pub nothing : output ≡ []
   pub told : line ≡ fault_line fault
-  pub ended : status ≡ 2
 
 -- ---- whole runs
 
 abbrev pub Edits : List Step → Bytes → Bytes → Bytes → ℕ → Type 0
-Edits steps input output line status = Edited steps input output line status ⊎ Unread input output line status
+Edits steps input output line status = Edited steps input output line status ⊎ (Unread input output line × (status ≡ 2))
 
 -- Words that are no line of the program's write nothing, which is told.
 abbrev pub OutcomeOf : Result (List Step) Usage → Bytes → Bytes → Bytes → ℕ → Type 0

@@ -2,7 +2,7 @@
 use Rattle.std.specs.Prelude.{◌≡◌, ℕ, ◌++◌, codes, decimal}
 use Rattle.bz_lex.specs.declared.fault.ReadFault.{ReadFault}
 use Rattle.bz_lex.specs.declared.fault.ReadFault.TheVariants as f
-use Rattle.bz_view.specs.Gaps.{Bytes}
+use Rattle.bz_value.specs.Gaps.{Bytes}
 use Rattle.bz_command.specs.Refusals.{refusal_name, refusal_number}
 use Rattle.bz_command.specs.declared.refusal.Refusal.{Refusal}
 use Rattle.bz_tools.specs.Asked.{Refused, Usage, of_clap, of_operand, no_command, no_target}

@@ -1,6 +1,6 @@
 -- The names and the numbers of refused operands.
 use Rattle.std.specs.Prelude.{ℕ, codes}
-use Rattle.bz_view.specs.Gaps.{Bytes}
+use Rattle.bz_value.specs.Gaps.{Bytes}
 use Rattle.bz_tools.specs.declared.verb.OperandFault.{OperandFault}
 use Rattle.bz_tools.specs.declared.verb.OperandFault.TheVariants.{Memory, BadTarget, Unknown, Arguments}
 

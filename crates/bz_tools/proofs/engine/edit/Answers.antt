@@ -20,14 +20,16 @@ returns-in-Err-clause-ok g c =
     (λ edited. (line : List ℕ) × Edits (steps_in c.args.steps.now) text edited.text.items line edited.status × Tells line)
     (λ edited told. (
       fault_line fault,
-      inr (record {
-        refused = refused_text text fault c.in-Err.ensures.refused told.0;
-        fault = fault;
-        of_text = fault_of_text _ text fault c.in-Err.ensures.too_large c.in-Err.ensures.not_utf8 told.0;
-        nothing = told.1;
-        told = refl;
-        ended = told.2;
-      }),
+      inr (
+        record {
+          refused = refused_text text fault c.in-Err.ensures.refused told.0;
+          fault = fault;
+          of_text = fault_of_text _ text fault c.in-Err.ensures.too_large c.in-Err.ensures.not_utf8 told.0;
+          nothing = told.1;
+          told = refl;
+        },
+        told.2,
+      ),
       told.3,
     ))
     c.unread.ensures.ok
