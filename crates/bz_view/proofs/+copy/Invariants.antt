@@ -1,5 +1,0 @@
-use Rattle.std.proofs.Common.{◌≡◌, take}
-use Rattle.bz_view.proofs.+copy.Given as goal
-
-abbrev pub invariant-copy::copy_exprs-loop-expr : goal.invariant-copy::copy_exprs-loop-expr
-invariant-copy::copy_exprs-loop-expr l = l.copied ≡ take l.expr-index l.exprs
