@@ -74,6 +74,6 @@ hosts_inside separators n (x ∷ p.Leaf l ∷ z ∷ xs) a h =
     subst (AllInside n up) (sym (hosts_more separators n x l (z ∷ xs) a.0 a.1)) (
       (omega arith, omega arith, omega arith, omega arith),
       inside_joined n up ((measured x).inside n) (hosts_from separators b (map measured (z ∷ xs)))
-      (all_wider n (n + size x) n up (omega arith) (omega arith) ((measured x).inside n) (h.0.within n))
-      (all_wider b (b + sizes (map measured (z ∷ xs))) n up (omega arith) (omega arith) (hosts_from separators b (map measured (z ∷ xs))) rest),
+          (all_wider n (n + size x) n up (omega arith) (omega arith) ((measured x).inside n) (h.0.within n))
+          (all_wider b (b + sizes (map measured (z ∷ xs))) n up (omega arith) (omega arith) (hosts_from separators b (map measured (z ∷ xs))) rest),
     )

@@ -15,8 +15,8 @@ use Rattle.bz_value.specs.declared.value.Form.{Form}
 use Rattle.bz_value.specs.Comments.{no_comments}
 use Rattle.bz_value.specs.Frames.{Frame, row, sequence, frame, lead, is_binary, is_comprehension}
 use Rattle.bz_value.specs.Gaps.{all_in}
-use Rattle.bz_viewed.specs.View.{Seen, seen, seen_row, plain, first_gap, loose_in, row_exprs, items_in, is_split, is_open, node_in}
-use Rattle.bz_viewed.proofs.SeenParts.{seen_rows}
+use Rattle.bz_view.specs.View.{Seen, seen, seen_row, plain, first_gap, loose_in, row_exprs, items_in, is_split, is_open, node_in}
+use Rattle.bz_view.proofs.SeenParts.{seen_rows}
 use Rattle.bz_hosts.specs.Hosts.{Region, host, Comment, Measured, sizes, measured, measured_row, in_node, Hosted, ended, by_frame, inside_expr}
 use Rattle.bz_hosts.proofs.Around.{SeesAt}
 use Rattle.bz_hosts.proofs.Parts.{size, measured_rows, leaves_rows, comments_behind, behind_parts, parts_behind}

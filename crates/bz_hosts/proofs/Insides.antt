@@ -12,7 +12,7 @@ use Rattle.bz_value.specs.Comments.{HostComments, no_comments}
 use Rattle.bz_value.specs.Frames.{Frame, row, sequence, frame}
 use Rattle.bz_value.specs.Gaps.{has_newline}
 use Rattle.bz_value.specs.Proper.{comments_of, is_operator}
-use Rattle.bz_viewed.specs.View.{Seen, seen, seen_row, plain, node_in, first_gap, begins_operator, row_exprs}
+use Rattle.bz_view.specs.View.{Seen, seen, seen_row, plain, node_in, first_gap, begins_operator, row_exprs}
 use Rattle.bz_hosts.specs.Hosts.{Hosted, hosted, ended, hosted_by, by_frame, inside_expr, inside_row, inside_items}
 
 -- the items of a sequence, each with what stands in it

@@ -15,8 +15,8 @@ use Rattle.bz_value.specs.Comments.{no_comments}
 use Rattle.bz_value.specs.Frames.{Frame, row, sequence, frame, lead, is_binary}
 use Rattle.bz_value.specs.Gaps.{Bytes, all_in}
 use Rattle.bz_value.proofs.GapComments.{all_joined}
-use Rattle.bz_viewed.specs.View.{Seen, seen, seen_row, plain, first_gap, loose_in, row_exprs, row_form, sequence_form, items_in, node_in}
-use Rattle.bz_viewed.proofs.SeenParts.{seen_rows, all_parted}
+use Rattle.bz_view.specs.View.{Seen, seen, seen_row, plain, first_gap, loose_in, row_exprs, row_form, sequence_form, items_in, node_in}
+use Rattle.bz_view.proofs.SeenParts.{seen_rows, all_parted}
 use Rattle.bz_hosts.specs.Hosts.{Region, host, between, Comment, comments_at, Measured, sizes, measured, measured_row, in_row, in_node, hosts_from, Place, above, end_of, texts_at, Hosted, ended, hosted_at, by_frame, inside_expr}
 use Rattle.bz_hosts.proofs.Around.{AllInside, all_wider, Sees, SeesAt, sees_behind, sees_before, sees_before_bracket, sees_in_sequence}
 use Rattle.bz_hosts.proofs.Gathered.{key, pick, pick_other, pick_none, GapPlaces, texts_joined, gap_all}

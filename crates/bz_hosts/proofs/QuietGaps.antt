@@ -17,9 +17,9 @@ use Rattle.bz_tree.proofs.Balance.{no_such, same_class}
 use Rattle.bz_value.specs.Characters.{line_feed, number_sign, backslash}
 use Rattle.bz_value.specs.Frames.{frame}
 use Rattle.bz_value.specs.Gaps.{Bytes, lines_of, all_in}
-use Rattle.bz_viewed.specs.View.{seen, seen_row, first_gap}
-use Rattle.bz_viewed.proofs.InnerParts.{ends_line, is_inner, sort_inner, inner_parts, sort_goes, token_goes}
-use Rattle.bz_viewed.proofs.RowParts.{on_twice}
+use Rattle.bz_view.specs.View.{seen, seen_row, first_gap}
+use Rattle.bz_view.proofs.InnerParts.{ends_line, is_inner, sort_inner, inner_parts, sort_goes, token_goes}
+use Rattle.bz_view.proofs.RowParts.{on_twice}
 use Rattle.bz_hosts.proofs.Parts.{seen_gap}
 
 blank_silent : (byte : ℕ) (g : Bytes) → is_blank byte ≡ true → lines_of (byte ∷ g) ≡ lines_of g

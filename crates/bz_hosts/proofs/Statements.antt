@@ -7,7 +7,7 @@ use Rattle.bz_tree.specs.declared.tree.Part.TheVariants as p
 use Rattle.bz_tree.specs.Shapes as s
 use Rattle.bz_value.specs.declared.value.Item.{Item}
 use Rattle.bz_value.specs.Gaps.{Bytes, GapLine, lines_of, listed, behind_first, comments_in, first_comment, suffix_in, others_in, all_in}
-use Rattle.bz_viewed.specs.View.{seen, plain, statement, statements_in}
+use Rattle.bz_view.specs.View.{seen, plain, statement, statements_in}
 use Rattle.bz_hosts.specs.Hosts.{Region, host, Comment, comments_at, Measured, sizes, measured, is_item, hosts_from, Place, suffix_of, above, outside, texts_at, Hosted, hosted_at, inside_expr, inside_item}
 use Rattle.bz_hosts.proofs.Around.{AllInside, Sees, SeesAt, Ended, sees_behind, sees_before, sees_in_host, sees_past_host, sees_ended}
 use Rattle.bz_hosts.proofs.Gathered.{key, pick, pick_same, pick_other, pick_none, GapPlaces, texts_joined, gap_texts}
@@ -66,8 +66,8 @@ gap_suffix all m first gap h q k =
 -- ---- a statement before others
 
 module _ (all : List Region) (n n' hi next : ℕ) (x : Part) (suffix : Option Bytes) (whole later : List Comment) (rs : List Region) (items : List Item)
-  (some : 0 < size x) (ahead : n + size x ≤ n') (up : n + size x ≤ hi) (part : PartTexts all n n x)
-  (told : (q : Place) → 0 < key q → texts_at all q whole ≡ texts_at all q (inner n x) ++ (pick (suffix_of n) q (listed suffix) ++ texts_at all q later)) (rest : LineTexts all n' hi later rs items) where
+    (some : 0 < size x) (ahead : n + size x ≤ n') (up : n + size x ≤ hi) (part : PartTexts all n n x)
+    (told : (q : Place) → 0 < key q → texts_at all q whole ≡ texts_at all q (inner n x) ++ (pick (suffix_of n) q (listed suffix) ++ texts_at all q later)) (rest : LineTexts all n' hi later rs items) where
   statement_texts : LineTexts all n hi whole (host n (n + size x) next ∷ ((measured x).inside n ++ rs)) (statement [] suffix (seen x) ∷ items)
   statement_texts =
       let b : ℕ = n + size x in
@@ -79,17 +79,17 @@ module _ (all : List Region) (n n' hi next : ℕ) (x : Part) (suffix : Option By
             told q k ∙ three_none _ _ _ (part.outer q (λ j. o (omega (arith, j.0), omega (arith, j.1))) ∙ pick_other (above n) q loose differ) (pick_other (suffix_of n) q (listed suffix) differ) (rest.outer q k (λ j. o (omega (arith, j.0), j.1)));
         found = λ cs f.
             let inside : map (hosted_at all cs) ((measured x).inside n) ≡ inside_expr (plain (seen x)) = part.hosts cs (λ q j.
-                let j0 = j.0 in
-                let j1 = j.1 in
-                f q (omega arith, omega arith) ∙ (told q (omega arith) ∙ three_first _ _ _ (texts_at all q (inner n x)) refl (pick_other (suffix_of n) q (listed suffix) (λ e. omega arith)) (rest.outer q (omega arith) (λ k. omega (arith, k.0))))) in
+            let j0 = j.0 in
+            let j1 = j.1 in
+            f q (omega arith, omega arith) ∙ (told q (omega arith) ∙ three_first _ _ _ (texts_at all q (inner n x)) refl (pick_other (suffix_of n) q (listed suffix) (λ e. omega arith)) (rest.outer q (omega arith) (λ k. omega (arith, k.0))))) in
             let at_above : texts_at all (above n) cs ≡ loose =
             f (above n) here ∙ (told (above n) (omega arith) ∙ three_first _ _ _ loose (part.outer (above n) (λ j. omega (arith, j.0)) ∙ pick_same (above n) loose) refl (rest.outer (above n) (omega arith) (λ k. omega (arith, k.0)))) in
             let at_suffix : texts_at all (suffix_of n) cs ≡ listed suffix =
             f (suffix_of n) here ∙ (told (suffix_of n) (omega arith) ∙ three_second _ _ _ (listed suffix) (part.outer (suffix_of n) (λ j. omega (arith, j.0))) (pick_same (suffix_of n) (listed suffix)) (rest.outer (suffix_of n) (omega arith) (λ k. omega (arith, k.0)))) in
             host_with all n b next x (record { before = loose; suffix = suffix }) cs rs (flat_map inside_item items) at_above at_suffix inside (rest.found cs (λ q j.
-                let j0 = j.0 in
-                let differ : suc (n + n) ≡ key q → ⊥ = λ e. omega arith in
-                f q (omega arith, j.1) ∙ (told q (omega arith) ∙ three_third _ _ _ (texts_at all q later) (part.outer q (λ k. omega (arith, k.1)) ∙ pick_other (above n) q loose differ) (pick_other (suffix_of n) q (listed suffix) differ) refl)));
+            let j0 = j.0 in
+            let differ : suc (n + n) ≡ key q → ⊥ = λ e. omega arith in
+            f q (omega arith, j.1) ∙ (told q (omega arith) ∙ three_third _ _ _ (texts_at all q later) (part.outer q (λ k. omega (arith, k.1)) ∙ pick_other (above n) q loose differ) (pick_other (suffix_of n) q (listed suffix) differ) refl)));
       }
 
 -- ---- the line

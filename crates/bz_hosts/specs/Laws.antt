@@ -3,7 +3,7 @@ use Rattle.std.specs.Prelude.{◌≡◌}
 use Rattle.std.specs.List.{flat_map}
 use Rattle.bz_tree.specs.declared.tree.Node.{Node}
 use Rattle.bz_tree.specs.Legal.{Legal}
-use Rattle.bz_viewed.specs.View.{view_of}
+use Rattle.bz_view.specs.View.{view_of}
 use Rattle.bz_hosts.specs.Hosts.{inside_item, hosted_in}
 
 -- The view of a legal tree has each comment at the host that its place in the text gives it, none lost and none twice.

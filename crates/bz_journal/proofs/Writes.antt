@@ -7,12 +7,12 @@ use Rattle.bz_tree.specs.Spell.{spell_node, depth_of, limit}
 use Rattle.bz_tree.specs.Legal.{Reads}
 use Rattle.bz_value.specs.declared.value.Item.{Item}
 use Rattle.bz_value.specs.Gaps.{Bytes}
-use Rattle.bz_layout.specs.Written.{layout}
-use Rattle.bz_layout.specs.Drawn.{drawn}
-use Rattle.bz_layout.specs.Flags.{flags}
+use Rattle.bz_write.specs.Written.{layout}
+use Rattle.bz_write.specs.Drawn.{drawn}
+use Rattle.bz_write.specs.Flags.{flags}
 use Rattle.bz_command.specs.declared.refusal.Refusal.TheVariants.{TooLarge, TooDeep}
 use Rattle.bz_journal.specs.Meaning.{Meaning, gives, refuses, written}
-use Rattle.bz_layout.proofs.Flagged.{same_layout, same_drawn}
+use Rattle.bz_write.proofs.Flagged.{same_layout, same_drawn}
 
 abbrev limited : ℕ → Bytes → Option Bytes → Meaning
 limited depth text printed = if nat_lt limit (length text) then refuses TooLarge else (if nat_lt 200 depth then refuses TooDeep else gives text printed)

@@ -3,7 +3,7 @@ use Rattle.std.specs.Prelude.{◌≡◌, None}
 use Rattle.bz_tree.specs.declared.tree.Node.{Node}
 use Rattle.bz_tree.specs.Legal.{Reads}
 use Rattle.bz_value.specs.Gaps.{Bytes}
-use Rattle.bz_viewed.specs.View.{view_of}
+use Rattle.bz_view.specs.View.{view_of}
 use Rattle.bz_journal.specs.Meaning.{gives, tidy, Formats}
 
 -- The formatted text of a text: formatting gives it, formatting it gives it again, and its value is that of the text, tidied.

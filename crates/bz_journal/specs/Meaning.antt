@@ -5,10 +5,10 @@ use Rattle.bz_tree.specs.Spell.{depth_of, limit}
 use Rattle.bz_tree.specs.Legal.{Reads}
 use Rattle.bz_value.specs.declared.value.Item.{Item}
 use Rattle.bz_value.specs.Gaps.{Bytes}
-use Rattle.bz_viewed.specs.View.{view_of}
-use Rattle.bz_layout.specs.Written.{layout}
-use Rattle.bz_layout.specs.Drawn.{drawn}
-use Rattle.bz_layout.specs.Flags.{flags}
+use Rattle.bz_view.specs.View.{view_of}
+use Rattle.bz_write.specs.Written.{layout}
+use Rattle.bz_write.specs.Drawn.{drawn}
+use Rattle.bz_write.specs.Flags.{flags}
 use Rattle.bz_command.specs.declared.command.Command.{Command}
 use Rattle.bz_command.specs.declared.command.Target.{Target}
 use Rattle.bz_command.specs.declared.refusal.Refusal.{Refusal}

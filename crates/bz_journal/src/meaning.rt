@@ -7,10 +7,10 @@ ghost use Rattle.bz_journal.specs.Meaning.{gives, refuses, written, printed_by, 
 
 use bz_command::{Command, Outcome, Refusal, Target, run};
 use bz_items::{Memory, Text};
-use bz_layout::{SetFault, set};
 use bz_tree::{ReadFault, Tree, parse};
 use bz_value::File;
-use bz_viewed::view;
+use bz_view::view;
+use bz_write::{SetFault, set};
 use std::alloc::Global;
 
 /// What a command makes of a text: a new one, or none where the file is unchanged; and what it prints, where it prints.

@@ -3,10 +3,10 @@ use crate::case::{Case, CaseFault};
 use crate::page::Page;
 use crate::trees::{read, told};
 use bz_items::{Memory, Text};
-use bz_layout::{SetFault, set};
 use bz_tree::Tree;
 use bz_value::{Comments, Expr, File, Form, Item};
-use bz_viewed::view;
+use bz_view::view;
+use bz_write::{SetFault, set};
 use std::alloc::{AllocError, Global};
 
 /// What is asked of a text.

@@ -24,12 +24,12 @@ fn laws_that_require_nothing(_rt: HostRuntime) {
     bz_label::laws::path_law();
     bz_label::laws::key_laws();
     bz_value::worked_gaps();
-    bz_viewed::worked_views();
+    bz_view::worked_views();
     bz_hosts::hosts_by_place();
-    bz_layout::flags_keep_layout();
-    bz_layout::layout_is_accepted();
-    bz_layout::layout_reads_back();
-    bz_layout::worked_rows();
+    bz_write::flags_keep_layout();
+    bz_write::layout_is_accepted();
+    bz_write::layout_reads_back();
+    bz_write::worked_rows();
     bz_command::worked_bodies();
     bz_command::worked_deletes();
     bz_journal::worked_histories();

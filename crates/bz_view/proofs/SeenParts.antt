@@ -1,0 +1,143 @@
+-- What is seen of a part, whatever its kind: its root, where what follows it stands, its comments and its gap.
+use Rattle.std.proofs.Common.{◌≡◌, ℕ, zero, suc, Bool, true, false, List, [], ◌∷◌, ◌++◌, refl, sym, ap, ◌∙◌, map, take}
+use Rattle.std.specs.List.{AllByRecursion}
+use Rattle.std.specs.Str.{IsUtf8}
+use Rattle.std.proofs.lemmas.Str.{IsUtf8-nil}
+use Rattle.bz_token.specs.declared.class.Class.{Class}
+use Rattle.bz_token.specs.declared.class.Class.TheVariants as c
+use Rattle.bz_lex.specs.Leaves.{IsCodedLeaf}
+use Rattle.bz_tree.specs.declared.kind.Kind.{Kind}
+use Rattle.bz_tree.specs.declared.tree.Part.{Part, Row_of-Part, end_of-Part, more_of-Part, Node', items-the_row-Part}
+use Rattle.bz_tree.specs.declared.tree.Part.TheVariants as p
+use Rattle.bz_tree.specs.Shapes.{has_token, has_sort, leaves_at}
+use Rattle.bz_tree.specs.Spell.{leaves_part, leaves_row}
+use Rattle.bz_tree.specs.Spots.{Spot, Along, behind_node, behind_part, GapStands, Stands, AtLeaves, AtRow}
+use Rattle.bz_tree.proofs.Balance.{no_such}
+use Rattle.bz_value.specs.Comments.{HostComments, no_comments}
+use Rattle.bz_value.specs.Frames.{Frame, row, sequence, frame, lead}
+use Rattle.bz_value.specs.Gaps.{Bytes, all_in, has_newline}
+use Rattle.bz_value.specs.Roots.{root}
+use Rattle.bz_value.specs.Proper.{IsComment, comments_of, has_break, is_operator, behind_expr}
+use Rattle.bz_value.proofs.AlongGaps.{along_quiet}
+use Rattle.bz_value.proofs.GapComments.{Group, all_joined, all_fine}
+use Rattle.bz_value.proofs.Rooted.{SameRoot, one_of_same}
+use Rattle.bz_view.specs.View.{Seen, seen, seen_row, node_in, plain, first_gap, loose_in, loose_behind}
+
+pub seen_rows : (m : _) (r : Row_of-Part m) → seen_row r ≡ map seen (items-the_row-Part m r)
+seen_rows m end_of-Part = refl
+seen_rows m (more_of-Part x rest) = ap (λ t. seen x ∷ t) (seen_rows _ rest)
+
+-- ---- facts of what is made of a part, for any comments and break
+
+module _ (kind : Kind) (ss : List Seen) (cs : HostComments) (b : Bool) where
+  node_root : (f : Frame) → root ((node_in f kind ss).make cs b) ≡ p.Node (record { kind = kind; parts = [] })
+  node_root row = refl
+  node_root (sequence opener closer) = refl
+
+  node_comments : (f : Frame) → comments_of ((node_in f kind ss).make cs b) ≡ cs
+  node_comments row = refl
+  node_comments (sequence opener closer) = refl
+
+  node_break : (f : Frame) → has_break ((node_in f kind ss).make cs b) ≡ false
+  node_break row = refl
+  node_break (sequence opener closer) = refl
+
+  pub node_operator : (f : Frame) → is_operator ((node_in f kind ss).make cs b) ≡ false
+  node_operator row = refl
+  node_operator (sequence opener closer) = refl
+
+  node_behind : (f : Frame) (outer here : Spot) → behind_expr outer here ((node_in f kind ss).make cs b) ≡ behind_node kind here
+  node_behind row outer here = refl
+  node_behind (sequence opener closer) outer here = refl
+
+node_gap : (kind : Kind) (ss : List Seen) (f : Frame) → (node_in f kind ss).gap ≡ first_gap ss
+node_gap kind ss row = refl
+node_gap kind ss (sequence opener closer) = refl
+
+-- the part's root
+pub root_made : (x : Part) (cs : HostComments) (b : Bool) → SameRoot x (root ((seen x).make cs b))
+root_made (p.Leaf l) cs b = record { token = λ ts. one_of_same ts l; sort = λ q. one_of_same (leaves_at q) l }
+root_made (Node' kind n r) cs b = record {
+  token = λ ts. sym (ap (λ y. has_token ts y) (node_root kind (seen_row r) cs b (frame kind)));
+  sort = λ q. sym (ap (λ y. has_sort q y) (node_root kind (seen_row r) cs b (frame kind)));
+}
+
+pub comments_made : (x : Part) (cs : HostComments) (b : Bool) → comments_of ((seen x).make cs b) ≡ cs
+comments_made (p.Leaf l) cs b = refl
+comments_made (Node' kind n r) cs b = node_comments kind (seen_row r) cs b (frame kind)
+
+pub break_made : (x : Part) (cs : HostComments) (b : Bool) → has_break ((seen x).make cs b) ≡ true → b ≡ true
+break_made (p.Leaf l) cs b h = h
+break_made (Node' kind n r) cs b h = no_such (sym (node_break kind (seen_row r) cs b (frame kind)) ∙ h)
+
+pub no_break_made : (x : Part) (cs : HostComments) → has_break ((seen x).make cs false) ≡ false
+no_break_made (p.Leaf l) cs = refl
+no_break_made (Node' kind n r) cs = node_break kind (seen_row r) cs false (frame kind)
+
+pub operator_made : (x : Part) (cs : HostComments) (b : Bool) → is_operator ((seen x).make cs b) ≡ is_operator (plain (seen x))
+operator_made (p.Leaf l) cs b = refl
+operator_made (Node' kind n r) cs b = node_operator kind (seen_row r) cs b (frame kind) ∙ sym (node_operator kind (seen_row r) no_comments false (frame kind))
+
+pub behind_made : (outer here : Spot) (x : Part) (cs : HostComments) (b : Bool) → behind_expr outer here ((seen x).make cs b) ≡ behind_part outer here x
+behind_made outer here (p.Leaf l) cs b = refl
+behind_made outer here (Node' kind n r) cs b = node_behind kind (seen_row r) cs b (frame kind) outer here
+
+-- ---- no unescaped newline stands before a part along a line
+
+gap_along : (class : Class) (gap : Bytes) → GapStands class Along gap → has_newline gap ≡ false
+gap_along c.Newline gap h = along_quiet h.0 gap h.1
+gap_along c.End gap h = absurd h
+gap_along _ gap h = along_quiet false gap h
+
+mutual
+  pub part_along : (x : Part) → AtLeaves Stands Along x → has_newline (seen x).gap ≡ false
+  part_along (p.Leaf l) h = gap_along l.class l.gap h
+  part_along (Node' kind n r) h = ap has_newline (node_gap kind (seen_row r) (frame kind)) ∙ row_along _ r h
+
+  row_along : (m : _) (r : Row_of-Part m) → AtRow Stands Along Along r → has_newline (first_gap (seen_row r)) ≡ false
+  row_along m end_of-Part h = refl
+  row_along m (more_of-Part x rest) h = part_along x h.0
+
+-- ---- the gap before a part, and the comments that it hands up
+
+pub record Told (s : Seen) : Type 0 where
+  pub coded : IsUtf8 s.gap
+  pub loose : Group s.loose
+
+abbrev pub AllTold : List Seen → Type 0
+AllTold ss = AllByRecursion Told ss
+
+pub all_parted : {X : Type 0} (P : X → Type 0) (xs ys : List X) → AllByRecursion P (xs ++ ys) → AllByRecursion P xs × AllByRecursion P ys
+all_parted P [] ys h = (tt, h)
+all_parted P (x ∷ xs) ys h = let w = all_parted P xs ys h.1 in ((h.0, w.0), w.1)
+
+pub gap_told : (ss : List Seen) → AllTold ss → IsUtf8 (first_gap ss)
+gap_told [] h = IsUtf8-nil
+gap_told (s ∷ ss) h = h.0.coded
+
+behind_told : (ss : List Seen) → AllTold ss → Group (loose_behind ss)
+behind_told [] h = tt
+behind_told (s ∷ ss) h = all_joined IsComment (all_in s.gap ++ s.loose) (loose_behind ss) (all_joined IsComment (all_in s.gap) s.loose (all_fine s.gap h.0.coded) h.0.loose) (behind_told ss h.1)
+
+in_told : (ss : List Seen) → AllTold ss → Group (loose_in ss)
+in_told [] h = tt
+in_told (s ∷ ss) h = all_joined IsComment s.loose (loose_behind ss) h.0.loose (behind_told ss h.1)
+
+take_told : (n : ℕ) (ss : List Seen) → AllTold ss → AllTold (take n ss)
+take_told zero [] h = tt
+take_told (suc n) [] h = tt
+take_told zero (s ∷ ss) h = tt
+take_told (suc n) (s ∷ ss) h = (h.0, take_told n ss h.1)
+
+node_told : (f : Frame) (kind : Kind) (ss : List Seen) → AllTold ss → Told (node_in f kind ss)
+node_told row kind ss h = record { coded = gap_told ss h; loose = in_told ss h }
+node_told (sequence opener closer) kind ss h = record { coded = gap_told ss h; loose = in_told (take (suc (lead kind)) ss) (take_told (suc (lead kind)) ss h) }
+
+mutual
+  pub part_told : (x : Part) → AllByRecursion IsCodedLeaf (leaves_part x) → Told (seen x)
+  part_told (p.Leaf l) h = record { coded = h.0.0; loose = tt }
+  part_told (Node' kind n r) h = node_told (frame kind) kind (seen_row r) (row_told _ r h)
+
+  pub row_told : (m : _) (r : Row_of-Part m) → AllByRecursion IsCodedLeaf (leaves_row r) → AllTold (seen_row r)
+  row_told m end_of-Part h = tt
+  row_told m (more_of-Part x rest) h = let w = all_parted IsCodedLeaf (leaves_part x) (leaves_row rest) h in (part_told x w.0, row_told _ rest w.1)

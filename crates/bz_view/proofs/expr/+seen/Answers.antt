@@ -1,0 +1,49 @@
+use Rattle.std.proofs.Common.{◌++◌, suc, sym, ap, ◌∙◌, map, take, drop, append-nil, arith}
+use Rattle.bz_value.specs.declared.value.Expr.TheVariants as e
+use Rattle.bz_value.specs.Frames.{frame}
+use Rattle.bz_view.specs.View.{seen, loose_in}
+use Rattle.bz_view.specs.Walks.{loose_from}
+use Rattle.bz_view.proofs.NodeViews.{made_of_node, loose_of_node, sequence_made}
+use Rattle.bz_view.proofs.RowSteps.{head_here, head_more, loose_more, bracket_more, no_bracket, item_more, items_done}
+use Rattle.bz_view.proofs.expr.+seen.Goals as goal
+use Rattle.bz_view.proofs.expr.+seen.Goals.{head_of-then-lead-parts+in_ok-push_gap-2+in_ok-push_loose, head_of-else-lead-parts}
+
+pub expr_of-returns-in_ok-form_of-in-Node-clause-expr : goal.expr_of-returns-in_ok-form_of-in-Node-clause-expr
+expr_of-returns-in_ok-form_of-in-Node-clause-expr t c = ap e.Form c.in_ok-form_of-in-Node.ensures.form ∙ made_of_node c.args.part.now c.in-Node.node c.args.break_ c.in-Node.is
+
+pub expr_of-returns-in_ok-form_of-in-Node-clause-loose : goal.expr_of-returns-in_ok-form_of-in-Node-clause-loose
+expr_of-returns-in_ok-form_of-in-Node-clause-loose t c = c.in_ok-form_of-in-Node.ensures.loose ∙ ap (λ ls. c.args.loose.now ++ ls) (loose_of_node c.args.part.now c.in-Node.node c.in-Node.is)
+
+pub form_of-returns-clause-form : goal.form_of-returns-clause-form
+form_of-returns-clause-form t c =
+    sequence_made (frame c.args.node.now.kind) c.args.node.now.kind c.args.node.now.parts _ _ _ _ _ (sym c.is_sequence.ensures ∙ c.if-not-is_sequence.false) c.as_slice-parts.ensures c.lead_of-lead.ensures.value
+    c.in_ok-head_of.ensures.exprs c.in_ok-seq_of.ensures c.none-2.ensures
+
+pub head_of-loop-at-preserved : goal.head_of-loop-at-preserved
+head_of-loop-at-preserved t c =
+    let ps = c.args.parts.now in
+    record {
+      exprs = head_more _ _ _ _ _ _ _ (head_here ps c.loop-at.at c.args.lead c.index-parts-at.result (omega arith) (omega arith) c.index-parts-at.is) c.in_ok-expr_of.ensures.expr c.loop-at.invariant.exprs c.in_ok-push.ensures.items;
+      loose = loose_more c.loop-at.at _ _ _ _ _ _ _ (head_here ps c.loop-at.at (suc c.args.lead) c.index-parts-at.result (omega arith) (omega arith) c.index-parts-at.is) c.in_ok-push_gap.ensures c.in_ok-expr_of.ensures.loose c.loop-at.invariant.loose;
+    }
+
+pub seq_of-loop-at-preserved : goal.seq_of-loop-at-preserved
+seq_of-loop-at-preserved t c =
+    let w = item_more c.args.parts.now c.loop-at.at c.index-parts-at.result _ c.loop-at.above _ _ _ _ _ _ _ _ c.loop-at-test.true c.index-parts-at.is c.in_ok-expr.ensures.loose (c.in_ok-suffix.ensures ∙ c.gap_behind.ensures) c.in_ok-above.ensures
+    c.in_ok-expr.ensures.expr c.in_ok-new.ensures c.with_comments.ensures c.loop-at.invariant.items c.in_ok-push.ensures.items in
+    record { within = omega arith; items = w.0; end_ = w.1 ∙ c.loop-at.invariant.end_ }
+
+pub head_of-returns-clause-loose : goal.head_of-returns-clause-loose
+head_of-returns-clause-loose t c =
+    elim c.if-lead-parts.branch [
+      | head_of-then-lead-parts+in_ok-push_gap-2+in_ok-push_loose w ↦
+          w.loose-is ∙ bracket_more c.args.parts.now c.loop-at.at c.args.lead w.index-parts-lead.result c.loop-at.loose _ _ _ (omega arith) (omega arith) w.index-parts-lead.is w.in_ok-push_gap-2.ensures w.in_ok-push_loose.ensures c.loop-at.invariant.loose
+      | head_of-else-lead-parts w ↦ w.loose-is ∙ no_bracket c.args.parts.now c.loop-at.at c.args.lead c.loop-at.loose _ (omega arith) c.loop-at.invariant.loose
+    ]
+
+pub push_loose-returns-in_ok-_form-in-Node : goal.push_loose-returns-in_ok-_form-in-Node
+push_loose-returns-in_ok-_form-in-Node t c = c.in_ok-_form-in-Node.ensures.loose ∙ ap (λ ls. c.args.loose.now ++ ls) (loose_of_node c.args.part.now c.in-Node.node c.in-Node.is)
+
+pub seq_of-returns : goal.seq_of-returns
+seq_of-returns t c =
+    items_done c.args.parts.now (drop c.args.from c.args.parts.now) c.loop-at.at c.loop-at.above c.loop-at.items.items _ _ (omega arith) c.from_vec.ensures c.loop-at.invariant.items c.loop-at.invariant.end_ c.breaks_from.ensures

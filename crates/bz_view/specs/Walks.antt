@@ -1,0 +1,63 @@
+-- For private functions only: what the walk over a tree has so far. No definition here is to be trusted by a reader.
+use Rattle.std.specs.Prelude.{ℕ, zero, suc, false, List, [], ◌∷◌, ◌++◌, Option, None, ◌&&◌, map, take, drop}
+use Rattle.bz_tree.specs.declared.kind.Kind.{Kind}
+use Rattle.bz_value.specs.declared.value.Form.{Form}
+use Rattle.bz_value.specs.declared.value.Seq.{Seq}
+use Rattle.bz_value.specs.Comments.{HostComments}
+use Rattle.bz_value.specs.Frames.{Frame, row, sequence, lead, is_binary, is_comprehension}
+use Rattle.bz_value.specs.Gaps.{Bytes, suffix_in, others_in, all_in}
+use Rattle.bz_view.specs.View.{Seen, plain, first_gap, loose_in, loose_behind, row_exprs, items_in, is_split, is_open}
+
+-- a sequence, from behind its opening bracket on
+abbrev pub seq_in : List Seen → Seq
+seq_in body = record { items = (items_in (all_in (first_gap body)) body).0; end_ = (items_in (all_in (first_gap body)) body).1; split = is_split body }
+
+-- the form of a node without comments of its own, as the record of its fields
+abbrev pub form_in : Frame → Kind → List Seen → HostComments → Form
+form_in row kind ss comments = record {
+  kind = kind;
+  parts = row_exprs (is_binary kind) false false ss;
+  seq = record { items = []; end_ = []; split = false };
+  open_ = is_comprehension kind && is_open ss;
+  comments = comments;
+}
+form_in (sequence opener closer) kind ss comments = record {
+  kind = kind;
+  parts = map plain (take (lead kind) ss);
+  seq = seq_in (drop (suc (lead kind)) ss);
+  open_ = false;
+  comments = comments;
+}
+
+-- the loose comments of a node
+abbrev pub loose_of : Frame → Kind → List Seen → List Bytes
+loose_of row kind ss = loose_in ss
+loose_of (sequence opener closer) kind ss = loose_in (take (suc (lead kind)) ss)
+
+-- the loose comments of the parts of a row from this index on
+abbrev pub loose_from : ℕ → List Seen → List Bytes
+loose_from zero ss = loose_in ss
+loose_from (suc at) ss = loose_behind ss
+
+-- Behind an item, from its mark on: its suffix, and what stands above the next item.
+abbrev pub suffix_behind : List Seen → Option Bytes
+suffix_behind [] = None
+suffix_behind (mark ∷ []) = suffix_in mark.gap
+suffix_behind (mark ∷ t ∷ ss) = suffix_in t.gap
+
+abbrev pub above_behind : List Seen → List Bytes
+above_behind [] = []
+above_behind (mark ∷ []) = others_in mark.gap
+above_behind (mark ∷ t ∷ ss) = all_in mark.gap ++ others_in t.gap
+
+-- Behind a statement of a line, from its mark on: its suffix.
+abbrev pub line_suffix : List Seen → Option Bytes
+line_suffix [] = None
+line_suffix (mark ∷ []) = suffix_in mark.gap
+line_suffix (mark ∷ t ∷ []) = suffix_in t.gap
+line_suffix (mark ∷ t ∷ u ∷ ss) = None
+
+-- comment lines in front of groups belong to the first of them
+abbrev pub prepend : List Bytes → List (List Bytes) → List (List Bytes)
+prepend lines [] = lines ∷ []
+prepend lines (group ∷ groups) = (lines ++ group) ∷ groups

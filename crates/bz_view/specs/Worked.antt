@@ -1,0 +1,222 @@
+-- Worked rows of the view: a text, its tree, and the file value that it says.
+use Rattle.std.specs.Prelude.{◌≡◌, Bool, true, false, List, [], ◌∷◌, ◌++◌, Option, Some, None, codes}
+use Rattle.bz_token.specs.declared.class.Class.{Class}
+use Rattle.bz_token.specs.declared.class.Class.TheVariants as c
+use Rattle.bz_tree.specs.declared.kind.Kind.{Kind}
+use Rattle.bz_tree.specs.declared.kind.Kind.TheVariants as k
+use Rattle.bz_tree.specs.declared.tree.Node.{Node}
+use Rattle.bz_tree.specs.declared.tree.Part.{Part}
+use Rattle.bz_tree.specs.declared.tree.Part.TheVariants as p
+use Rattle.bz_tree.specs.Spell.{spell_node}
+use Rattle.bz_value.specs.declared.value.Expr.{Expr}
+use Rattle.bz_value.specs.declared.value.Expr.TheVariants as e
+use Rattle.bz_value.specs.declared.value.Item.{Item}
+use Rattle.bz_value.specs.declared.value.Item.TheVariants as i
+use Rattle.bz_value.specs.Comments.{HostComments, no_comments}
+use Rattle.bz_value.specs.Gaps.{Bytes}
+use Rattle.bz_view.specs.View.{view_of}
+
+-- ---- trees: each leaf with the gap before it
+
+abbrev leaf : Class → Bytes → Bytes → Part
+leaf class gap token = p.Leaf (record { class = class; gap = gap; token = token })
+
+abbrev name : Bytes → Bytes → Part
+name gap token = leaf c.Name gap token
+
+abbrev mark : Bytes → Bytes → Part
+mark gap token = leaf c.Mark gap token
+
+abbrev word : Bytes → Bytes → Part
+word gap token = leaf c.Keyword gap token
+
+abbrev node : Kind → List Part → Part
+node kind parts = p.Node (record { kind = kind; parts = parts })
+
+-- statements and semicolons, and the gap of the Newline behind them
+abbrev line : List Part → Bytes → Part
+line parts gap = node k.Line (parts ++ leaf c.Newline gap (codes "\n") ∷ [])
+
+abbrev bare : Part → Part
+bare part = line (node k.Bare (part ∷ []) ∷ []) []
+
+abbrev file : List Part → Bytes → Node
+file lines gap = record { kind = k.File; parts = lines ++ leaf c.End gap [] ∷ [] }
+
+-- ---- values
+
+abbrev with : List Bytes → Option Bytes → HostComments
+with before suffix = record { before = before; suffix = suffix }
+
+abbrev token : HostComments → Class → Bytes → Expr
+token comments class text = e.Token (record { class = class; text = text; break_ = false; comments = comments })
+
+abbrev plain : Class → Bytes → Expr
+plain class text = token no_comments class text
+
+-- the last token of an operator behind which a new line begins
+abbrev breaking : Class → Bytes → Expr
+breaking class text = e.Token (record { class = class; text = text; break_ = true; comments = no_comments })
+
+abbrev row : HostComments → Kind → Bool → List Expr → Expr
+row comments kind open_ parts = e.Form (record { kind = kind; parts = parts; seq = record { items = []; end_ = []; split = false }; open_ = open_; comments = comments })
+
+abbrev sequence : Kind → List Expr → Bool → List Expr → List Bytes → Expr
+sequence kind parts split items end_ = e.Form (record { kind = kind; parts = parts; seq = record { items = items; end_ = end_; split = split }; open_ = false; comments = no_comments })
+
+abbrev argument : HostComments → Bytes → Expr → Expr
+argument comments named value = row comments k.Named false (plain c.Name named ∷ plain c.Mark (codes "=") ∷ value ∷ [])
+
+abbrev statement : List Bytes → Option Bytes → Expr → Item
+statement before suffix x = i.Stmt (row (with before suffix) k.Bare false (x ∷ []))
+
+-- a statement that calls this name
+abbrev calling : List Bytes → Bytes → Bool → List Expr → Item
+calling before named split arguments = statement before None (sequence k.Call (plain c.Name named ∷ []) split arguments [])
+
+abbrev assigning : List Bytes → Option Bytes → Bytes → Expr → Item
+assigning before suffix named value = i.Stmt (row (with before suffix) k.Assign false (plain c.Name named ∷ plain c.Mark (codes "=") ∷ value ∷ []))
+
+abbrev Row : Bytes → Node → List Item → Type 0
+Row text tree items = (spell_node tree ≡ text) × (view_of tree ≡ items)
+
+-- ---- comments and groups of lines at file level
+
+-- a comment right above a statement is the statement's
+abbrev pub Above : Type 0
+Above =
+    Row
+    (codes "a( b=\"x\" )\n# keep\nc( d=\"y\" )\n")
+    (file (
+    bare (node k.Call (name [] (codes "a") ∷ mark [] (codes "(") ∷ node k.Named (name (codes " ") (codes "b") ∷ mark [] (codes "=") ∷ leaf c.String [] (codes "\"x\"") ∷ []) ∷ mark (codes " ") (codes ")") ∷ []))
+    ∷ bare (node k.Call (name (codes "# keep\n") (codes "c") ∷ mark [] (codes "(") ∷ node k.Named (name (codes " ") (codes "d") ∷ mark [] (codes "=") ∷ leaf c.String [] (codes "\"y\"") ∷ []) ∷ mark (codes " ") (codes ")") ∷ []))
+    ∷ []) [])
+    (calling [] (codes "a") false (argument no_comments (codes "b") (plain c.String (codes "\"x\"")) ∷ [])
+    ∷ calling (codes "# keep" ∷ []) (codes "c") false (argument no_comments (codes "d") (plain c.String (codes "\"y\"")) ∷ []) ∷ [])
+
+-- A group of comment lines that an empty line follows stands by itself; so does one above an escaped newline; texts end before their blanks.
+abbrev pub Groups : Type 0
+Groups =
+    Row
+    (codes "# a \t\r\n# b\n\n# c\\\nf()\n# d\n\\\ng()\n")
+    (file (
+    bare (node k.Call (name (codes "# a \t\r\n# b\n\n# c\\\n") (codes "f") ∷ mark [] (codes "(") ∷ mark [] (codes ")") ∷ []))
+    ∷ bare (node k.Call (name (codes "# d\n\\\n") (codes "g") ∷ mark [] (codes "(") ∷ mark [] (codes ")") ∷ []))
+    ∷ []) [])
+    (i.Block (codes "# a" ∷ codes "# b" ∷ []) ∷ calling (codes "# c\\" ∷ []) (codes "f") false [] ∷ i.Block (codes "# d" ∷ []) ∷ calling [] (codes "g") false [] ∷ [])
+
+-- comments at the end of the file stand by themselves, the last one also without newline
+abbrev pub AtEnd : Type 0
+AtEnd =
+    Row
+    (codes "f\n# a\n\n\n# b\n# c ")
+    (file (bare (name [] (codes "f")) ∷ []) (codes "# a\n\n\n# b\n# c "))
+    (statement [] None (plain c.Name (codes "f")) ∷ i.Block (codes "# a" ∷ []) ∷ i.Block (codes "# b" ∷ codes "# c" ∷ []) ∷ [])
+
+-- the comment behind the last statement of a line, or behind its semicolon, is that statement's suffix
+abbrev pub Semicolons : Type 0
+Semicolons =
+    Row
+    (codes "a = 1; b = 2; # c\n")
+    (file (line (
+    node k.Assign (name [] (codes "a") ∷ mark (codes " ") (codes "=") ∷ leaf c.Number (codes " ") (codes "1") ∷ [])
+    ∷ mark [] (codes ";") ∷ node k.Assign (name (codes " ") (codes "b") ∷ mark (codes " ") (codes "=") ∷ leaf c.Number (codes " ") (codes "2") ∷ [])
+    ∷ mark [] (codes ";") ∷ []) (codes " # c") ∷ []) [])
+    (assigning [] None (codes "a") (plain c.Number (codes "1")) ∷ assigning [] (Some (codes "# c")) (codes "b") (plain c.Number (codes "2")) ∷ [])
+
+-- a comment behind an escaped newline at the end of a line is a comment line
+abbrev pub BehindEscape : Type 0
+BehindEscape =
+    Row
+    (codes "x # a\ny \\\n# b\nz\n")
+    (file (
+    line (node k.Bare (name [] (codes "x") ∷ []) ∷ []) (codes " # a")
+    ∷ line (node k.Bare (name [] (codes "y") ∷ []) ∷ []) (codes " \\\n# b")
+    ∷ bare (name [] (codes "z")) ∷ []) [])
+    (statement [] (Some (codes "# a")) (plain c.Name (codes "x")) ∷ statement [] None (plain c.Name (codes "y")) ∷ statement (codes "# b" ∷ []) None (plain c.Name (codes "z")) ∷ [])
+
+-- ---- brackets
+
+-- a newline before an item, before a comma or before the closing bracket splits a sequence; a comma behind the last item is gone
+abbrev pub Split : Type 0
+Split =
+    Row
+    (codes "f(a=[\n1,2,])\n")
+    (file (bare (node k.Call (
+    name [] (codes "f") ∷ mark [] (codes "(")
+    ∷ node k.Named (name [] (codes "a") ∷ mark [] (codes "=")
+    ∷ node k.List (mark [] (codes "[") ∷ leaf c.Number (codes "\n") (codes "1") ∷ mark [] (codes ",") ∷ leaf c.Number [] (codes "2") ∷ mark [] (codes ",") ∷ mark [] (codes "]") ∷ []) ∷ [])
+    ∷ mark [] (codes ")") ∷ [])) ∷ []) [])
+    (calling [] (codes "f") false (argument no_comments (codes "a") (sequence k.List [] true (plain c.Number (codes "1") ∷ plain c.Number (codes "2") ∷ []) []) ∷ []) ∷ [])
+
+-- an escaped newline splits nothing
+abbrev pub Escaped : Type 0
+Escaped =
+    Row
+    (codes "f(\\\na \n)\ng(\\\n)\n")
+    (file (
+    bare (node k.Call (name [] (codes "f") ∷ mark [] (codes "(") ∷ name (codes "\\\n") (codes "a") ∷ mark (codes " \n") (codes ")") ∷ []))
+    ∷ bare (node k.Call (name [] (codes "g") ∷ mark [] (codes "(") ∷ mark (codes "\\\n") (codes ")") ∷ []))
+    ∷ []) [])
+    (calling [] (codes "f") true (plain c.Name (codes "a") ∷ []) ∷ calling [] (codes "g") false [] ∷ [])
+
+-- Inside an item a comment goes above it; behind an opening bracket it goes above the item that begins next; behind the
+-- last item it stands at the end.
+abbrev pub Inside : Type 0
+Inside =
+    Row
+    (codes "f(\n    name # n\n      = \"a\",\n    deps = [ # why\n        \":b\",\n        # end\n    ],\n)\n")
+    (file (bare (node k.Call (
+    name [] (codes "f") ∷ mark [] (codes "(")
+    ∷ node k.Named (name (codes "\n    ") (codes "name") ∷ mark (codes " # n\n      ") (codes "=") ∷ leaf c.String (codes " ") (codes "\"a\"") ∷ []) ∷ mark [] (codes ",")
+    ∷ node k.Named (name (codes "\n    ") (codes "deps") ∷ mark (codes " ") (codes "=")
+    ∷ node k.List (mark (codes " ") (codes "[") ∷ leaf c.String (codes " # why\n        ") (codes "\":b\"") ∷ mark [] (codes ",") ∷ mark (codes "\n        # end\n    ") (codes "]") ∷ []) ∷ []) ∷ mark [] (codes ",")
+    ∷ mark (codes "\n") (codes ")") ∷ [])) ∷ []) [])
+    (calling [] (codes "f") true (
+    argument (with (codes "# n" ∷ []) None) (codes "name") (plain c.String (codes "\"a\""))
+    ∷ argument no_comments (codes "deps") (sequence k.List [] true (token (with (codes "# why" ∷ []) None) c.String (codes "\":b\"") ∷ []) (codes "# end" ∷ [])) ∷ []) ∷ [])
+
+-- a comment behind an item's comma is its suffix; before the comma it belongs to what follows
+abbrev pub Commas : Type 0
+Commas =
+    Row
+    (codes "f(a # b\n, c, # d\n)\n")
+    (file (bare (node k.Call (name [] (codes "f") ∷ mark [] (codes "(") ∷ name [] (codes "a") ∷ mark (codes " # b\n") (codes ",") ∷ name (codes " ") (codes "c") ∷ mark [] (codes ",") ∷ mark (codes " # d\n") (codes ")") ∷ [])) ∷ []) [])
+    (calling [] (codes "f") true (plain c.Name (codes "a") ∷ token (with (codes "# b" ∷ []) (Some (codes "# d"))) c.Name (codes "c") ∷ []) ∷ [])
+
+-- ---- operators and comprehensions
+
+-- an operator breaks where a newline stands before the operand behind it; the comment there goes above the statement
+abbrev pub Operand : Type 0
+Operand =
+    Row
+    (codes "x = (a + # why\nb)\n")
+    (file (line (
+    node k.Assign (name [] (codes "x") ∷ mark (codes " ") (codes "=")
+    ∷ node k.Paren (mark (codes " ") (codes "(") ∷ node k.Sum (name [] (codes "a") ∷ mark (codes " ") (codes "+") ∷ name (codes " # why\n") (codes "b") ∷ []) ∷ mark [] (codes ")") ∷ []) ∷ []) ∷ []) [] ∷ []) [])
+    (assigning (codes "# why" ∷ []) None (codes "x")
+    (row no_comments k.Paren false (plain c.Mark (codes "(") ∷ row no_comments k.Sum false (plain c.Name (codes "a") ∷ breaking c.Mark (codes "+") ∷ plain c.Name (codes "b") ∷ []) ∷ plain c.Mark (codes ")") ∷ [])) ∷ [])
+
+-- or before the operator; the flag stands at its last token
+abbrev pub Words : Type 0
+Words =
+    Row
+    (codes "(a\n  not in b)\n")
+    (file (bare (node k.Paren (mark [] (codes "(") ∷ node k.Compare (name [] (codes "a") ∷ word (codes "\n  ") (codes "not") ∷ word (codes " ") (codes "in") ∷ name (codes " ") (codes "b") ∷ []) ∷ mark [] (codes ")") ∷ [])) ∷ []) [])
+    (statement [] None (row no_comments k.Paren false (
+    plain c.Mark (codes "(") ∷ row no_comments k.Compare false (plain c.Name (codes "a") ∷ plain c.Keyword (codes "not") ∷ breaking c.Keyword (codes "in") ∷ plain c.Name (codes "b") ∷ []) ∷ plain c.Mark (codes ")") ∷ [])) ∷ [])
+
+-- a comprehension is open where a newline stands right behind its bracket
+abbrev pub Opened : Type 0
+Opened =
+    Row
+    (codes "[\n  a for a in b]\n")
+    (file (bare (node k.ListComp (
+    mark [] (codes "[") ∷ name (codes "\n  ") (codes "a")
+    ∷ node k.For (word (codes " ") (codes "for") ∷ name (codes " ") (codes "a") ∷ word (codes " ") (codes "in") ∷ name (codes " ") (codes "b") ∷ []) ∷ mark [] (codes "]") ∷ [])) ∷ []) [])
+    (statement [] None (row no_comments k.ListComp true (
+    plain c.Mark (codes "[") ∷ plain c.Name (codes "a")
+    ∷ row no_comments k.For false (plain c.Keyword (codes "for") ∷ plain c.Name (codes "a") ∷ plain c.Keyword (codes "in") ∷ plain c.Name (codes "b") ∷ []) ∷ plain c.Mark (codes "]") ∷ [])) ∷ [])
+
+abbrev pub WorkedViews : Type 0
+WorkedViews = Above × Groups × AtEnd × Semicolons × BehindEscape × Split × Escaped × Inside × Commas × Operand × Words × Opened

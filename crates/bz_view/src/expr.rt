@@ -1,0 +1,159 @@
+//! The expression of a part, and the comments inside it that stand in no host or sequence of its own.
+ghost use Rattle.std.specs.Prelude.{◌≡◌, ◌++◌, ◌≤◌, map, take, drop, suc, false, IfOk, OnOk};
+ghost use Rattle.bz_value.specs.Comments.{no_comments};
+ghost use Rattle.bz_value.specs.Frames.{frame};
+ghost use Rattle.bz_view.specs.View.{loose_in, plain, row_exprs, seen};
+ghost use Rattle.bz_view.specs.Walks.{form_in, loose_of, seq_in};
+
+use crate::before::{breaks_from, gap_at, is_operator_in};
+use crate::marks::{above_next, before_operator, breaks_behind, gap_behind, opens, push_gap};
+use bz_items::{Items, Memory, Text};
+use bz_tree::{Node, Part};
+use bz_value::{
+    Comments, Expr, Form, Seq, Token, is_binary, is_sequence, lead_of, push_all, suffix_in,
+};
+use std::alloc::Global;
+
+/// The expression of a part without comments of its own; of a token with this break. What is loose in the part is appended
+/// to `loose`. The error: memory was refused.
+#[cycle(seen)]
+pub fn expr_of(
+    alloc: Global,
+    part: &Part,
+    break_: bool,
+    loose: &mut Items<Text>,
+) -> Result<Expr, Memory>
+    ensures expr { IfOk result (λ expr. expr ≡ (seen part.now).make no_comments break_) }
+    ensures loose { OnOk result (loose.new ≡ loose.old ++ (seen part.now).loose) }
+{
+    match part {
+        Part::Leaf(leaf) => Ok(Expr::Token(Token {
+            class: leaf.class,
+            text: leaf.token.copy()?,
+            break_,
+            comments: Comments::none(),
+        })),
+        Part::Node(node) => Ok(Expr::Form(form_of(alloc, node, loose)?)),
+    }
+}
+
+#[cycle(seen)]
+fn form_of(alloc: Global, node: &Node, loose: &mut Items<Text>) -> Result<Form, Memory>
+    ensures form { IfOk result (λ form. form ≡ form_in (frame node.now.kind) node.now.kind (map seen node.now.parts) no_comments) }
+    ensures loose { OnOk result (loose.new ≡ loose.old ++ loose_of (frame node.now.kind) node.now.kind (map seen node.now.parts)) }
+{
+    let kind = node.kind;
+    let parts = node.parts.as_slice();
+    if !is_sequence(kind) {
+        return Ok(Form {
+            kind,
+            parts: row_of(alloc, parts, is_binary(kind), loose)?,
+            seq: Seq {
+                items: Items::new(alloc),
+                end_: Items::new(alloc),
+                split: false,
+            },
+            open_: opens(kind, parts),
+            comments: Comments::none(),
+        });
+    }
+    let lead = lead_of(kind);
+    Ok(Form {
+        kind,
+        parts: head_of(alloc, parts, lead, loose)?,
+        seq: seq_of(alloc, parts, lead + 1)?,
+        open_: false,
+        comments: Comments::none(),
+    })
+}
+
+/// All parts of a row, with the breaks of its operators where it has some.
+#[cycle(seen)]
+fn row_of(
+    alloc: Global,
+    parts: &[Part],
+    binary: bool,
+    loose: &mut Items<Text>,
+) -> Result<Items<Expr>, Memory>
+    ensures exprs { IfOk result (λ exprs. exprs ≡ row_exprs binary false false (map seen parts.now)) }
+    ensures loose { OnOk result (loose.new ≡ loose.old ++ loose_in (map seen parts.now)) }
+{
+    let mut exprs = Vec::with_capacity(alloc, parts.len())?;
+    // the part before is a token of an operator, and a newline stands before that operator
+    let mut operator = false;
+    let mut newline = false;
+    for (at, part) in parts.iter().enumerate() {
+        push_gap(alloc, part, at, loose)?;
+        newline = before_operator(parts, at, operator, newline);
+        operator = is_operator_in(binary, part);
+        let break_ = breaks_behind(operator, newline, parts, at + 1);
+        exprs.push(expr_of(alloc, part, break_, loose)?)?;
+    }
+    Ok(Items::from_vec(exprs))
+}
+
+/// The parts before the opening bracket of a sequence. What is loose in them and in the bracket is appended to `loose`.
+#[cycle(seen)]
+fn head_of(
+    alloc: Global,
+    parts: &[Part],
+    lead: usize,
+    loose: &mut Items<Text>,
+) -> Result<Items<Expr>, Memory>
+    ensures exprs { IfOk result (λ exprs. exprs ≡ map plain (take lead (map seen parts.now))) }
+    ensures loose { OnOk result (loose.new ≡ loose.old ++ loose_in (take (suc lead) (map seen parts.now))) }
+{
+    let mut exprs = Vec::with_capacity(alloc, lead)?;
+    for at in 0..lead.min(parts.len()) {
+        let part = &parts[at];
+        push_gap(alloc, part, at, loose)?;
+        exprs.push(expr_of(alloc, part, false, loose)?)?;
+    }
+    if lead < parts.len() {
+        let bracket = &parts[lead];
+        push_gap(alloc, bracket, lead, loose)?;
+        push_loose(alloc, bracket, loose)?;
+    }
+    Ok(Items::from_vec(exprs))
+}
+
+/// Appends what is loose in a part.
+#[cycle(seen)]
+fn push_loose(alloc: Global, part: &Part, loose: &mut Items<Text>) -> Result<(), Memory>
+    ensures { OnOk result (loose.new ≡ loose.old ++ (seen part.now).loose) }
+{
+    match part {
+        // as the bracket is
+        Part::Leaf(_) => Ok(()),
+        Part::Node(node) => {
+            let _form = form_of(alloc, node, loose)?;
+            Ok(())
+        }
+    }
+}
+
+/// The sequence whose items stand from this index on, behind the opening bracket.
+#[cycle(seen)]
+fn seq_of(alloc: Global, parts: &[Part], from: usize) -> Result<Seq, Memory>
+    requires { from ≤ 2 }
+    ensures { IfOk result (λ seq. seq ≡ seq_in (map seen (drop from parts.now))) }
+{
+    let count = parts.len();
+    let mut items = Vec::with_capacity(alloc, count / 2)?;
+    // the comments above the next item; what is loose in the item goes there too
+    let mut above = Items::new(alloc);
+    push_all(alloc, gap_at(parts, from), &mut above)?;
+    let mut at = from;
+    while at + 1 < count {
+        let expr = expr_of(alloc, &parts[at], false, &mut above)?;
+        let suffix = suffix_in(alloc, gap_behind(parts, at + 1))?;
+        items.push(expr.with_comments(Comments::new(alloc, above, suffix)?))?;
+        above = above_next(alloc, parts, at + 1)?;
+        at += 2;
+    }
+    Ok(Seq {
+        items: Items::from_vec(items),
+        end_: above,
+        split: breaks_from(parts, from),
+    })
+}

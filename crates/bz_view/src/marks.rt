@@ -1,0 +1,85 @@
+//! What the gaps between the parts of a row say.
+ghost use Rattle.std.specs.Prelude.{◌≡◌, ◌∷◌, ◌++◌, ◌<◌, ◌&&◌, ◌||◌, not, map, drop, length, if◌then◌else◌, List, IfOk, OnOk};
+ghost use Rattle.bz_value.specs.Frames.{is_comprehension};
+ghost use Rattle.bz_value.specs.Gaps.{all_in, has_newline, suffix_in};
+ghost use Rattle.bz_view.specs.View.{Seen, begins_operator, first_gap, is_open, loose_behind, seen};
+ghost use Rattle.bz_view.specs.Walks.{above_behind, loose_from, suffix_behind};
+
+use crate::before::{breaks_before, gap_at, gap_before, is_operator_at};
+use bz_items::{Items, Memory, Text};
+use bz_tree::{Kind, Part};
+use bz_value::{is_comprehension, push_all, push_others};
+use std::alloc::Global;
+
+/// Appends the comments of the gap before the part of a row with this index. What stands before its first part stands
+/// outside.
+pub fn push_gap(
+    alloc: Global,
+    part: &Part,
+    at: usize,
+    loose: &mut Items<Text>,
+) -> Result<(), Memory>
+    ensures { OnOk result ((rest : List Seen) → (loose.new ++ (seen part.now).loose) ++ loose_behind rest ≡ loose.old ++ loose_from at (seen part.now ∷ rest)) }
+{
+    if at == 0 {
+        return Ok(());
+    }
+    push_all(alloc, gap_before(part), loose)
+}
+
+/// Whether an unescaped newline stands before the operator that the part with this index is: `newline`, where the part
+/// before is a token of the same operator.
+pub fn before_operator(parts: &[Part], at: usize, inside: bool, newline: bool) -> bool
+    ensures { result ≡ (if inside then newline else has_newline (first_gap (map seen (drop at parts.now)))) }
+{
+    if inside {
+        newline
+    } else {
+        breaks_before(parts, at)
+    }
+}
+
+/// Whether a token of an operator breaks behind which the part with this index stands: it is the operator's last token,
+/// and a newline stands before the operator or before this part.
+pub fn breaks_behind(operator: bool, newline: bool, parts: &[Part], at: usize) -> bool
+    ensures { result ≡ ((operator && not (begins_operator (map seen (drop at parts.now)))) && (newline || has_newline (first_gap (map seen (drop at parts.now))))) }
+{
+    operator && !is_operator_at(parts, at) && (newline || breaks_before(parts, at))
+}
+
+/// Whether a comprehension of these parts is open: an unescaped newline stands right behind its bracket.
+pub fn opens(kind: Kind, parts: &[Part]) -> bool
+    ensures { result ≡ (is_comprehension kind && is_open (map seen parts.now)) }
+{
+    is_comprehension(kind) && breaks_before(parts, 1)
+}
+
+/// Behind an item of a sequence, where this index is that of its comma or of the closing bracket: the gap that its suffix
+/// stands in, behind its comma if it has one.
+pub fn gap_behind(parts: &[Part], at: usize) -> &[u8]
+    requires { at < length parts.now }
+    ensures { suffix_in result.now ≡ suffix_behind (map seen (drop at parts.now)) }
+{
+    let next = at + 1;
+    if next < parts.len() {
+        return gap_at(parts, next);
+    }
+    gap_at(parts, at)
+}
+
+/// Behind an item of a sequence, where this index is that of its comma or of the closing bracket: the comments above the
+/// next item, or at the end. The error: memory was refused.
+pub fn above_next(alloc: Global, parts: &[Part], at: usize) -> Result<Items<Text>, Memory>
+    requires { at < length parts.now }
+    ensures { IfOk result (λ above. above ≡ above_behind (map seen (drop at parts.now))) }
+{
+    let mut above = Items::new(alloc);
+    let next = at + 1;
+    if next < parts.len() {
+        push_all(alloc, gap_at(parts, at), &mut above)?;
+        push_others(alloc, gap_at(parts, next), &mut above)?;
+        return Ok(above);
+    }
+    push_others(alloc, gap_at(parts, at), &mut above)?;
+    Ok(above)
+}

@@ -1,8 +1,0 @@
-use Rattle.std.proofs.Common.{refl, subst, sym, ap, ◌∙◌, []}
-use Rattle.bz_value.specs.Proper.{IsProper}
-use Rattle.bz_viewed.specs.View.{file_items}
-use Rattle.bz_viewed.proofs.ProperFiles.{view_proper}
-use Rattle.bz_viewed.proofs.viewing.view.Goals as goal
-
-pub invariant_of-result : goal.invariant_of-result
-invariant_of-result c = subst IsProper (sym (c.in_ok-items_of.ensures ∙ ap (file_items []) c.as_slice.ensures)) (view_proper c.tree.inside.root c.tree.invariant.0)

@@ -1,0 +1,200 @@
+-- What the layout draws of a proper file value is legal.
+use Rattle.std.proofs.Common.{◌≡◌, ◌≤◌, Bool, true, false, List, [], ◌∷◌, ◌++◌, inl, inr, Option, Some, None, if◌then◌else◌, append_assoc, refl, sym, subst, arith}
+use Rattle.std.specs.Prelude.{IsUtf8}
+use Rattle.std.specs.List.{AllByRecursion, flat_map}
+use Rattle.std.proofs.lemmas.List.Elements.{recursion_from_All}
+use Rattle.std.proofs.lemmas.Str.{IsUtf8-nil}
+use Rattle.bz_token.specs.declared.class.Class.{Class}
+use Rattle.bz_token.specs.declared.class.Class.TheVariants as c
+use Rattle.bz_token.specs.Tokens.{IsToken}
+use Rattle.bz_lex.specs.declared.leaf.Leaf.{Leaf}
+use Rattle.bz_lex.specs.Leaves.{spell_leaves, IsCodedLeaf, AreCoded}
+use Rattle.bz_lex.proofs.Lists.{spell_leaves-append}
+use Rattle.bz_tree.specs.declared.kind.Kind.{Kind}
+use Rattle.bz_tree.specs.declared.kind.Kind.TheVariants as k
+use Rattle.bz_tree.specs.declared.tree.Node.{Node}
+use Rattle.bz_tree.specs.declared.tree.Part.{Part, Row_of-Part, end_of-Part, more_of-Part, Node'}
+use Rattle.bz_tree.specs.declared.tree.Part.TheVariants as p
+use Rattle.bz_tree.specs.Spell.{spell_node, leaves_part, leaves_row, depth_of}
+use Rattle.bz_tree.specs.Shapes as s
+use Rattle.bz_tree.specs.Shapes.{Fits, shape, has_sort, has_kind}
+use Rattle.bz_tree.specs.Legal.{IsSort, LegalPart, Legal}
+use Rattle.bz_tree.specs.Spots.{Spot, Begins, Along, behind_node, behind_part, AtLeaves, AtRow, AtParts, Stands, TokenStands, AreTokens}
+use Rattle.bz_tree.proofs.Nested.{row_of, items_of_row}
+use Rattle.bz_tree.proofs.Spells.{leaves_Node}
+use Rattle.bz_tree.proofs.Trees.{of_shapes}
+use Rattle.bz_tree.proofs.Balance.{no_such, row_of_parts}
+use Rattle.bz_value.specs.declared.value.Expr.{Expr, Token, Form'}
+use Rattle.bz_value.specs.declared.value.Item.{Item}
+use Rattle.bz_value.specs.declared.value.Item.TheVariants as i
+use Rattle.bz_value.specs.Characters.{line_feed}
+use Rattle.bz_value.specs.Frames.{is_statement}
+use Rattle.bz_value.specs.Gaps.{Bytes}
+use Rattle.bz_value.specs.Proper.{IsComment, comments_of, has_statement_kind, IsProperItem, IsProper}
+use Rattle.bz_write.specs.Layout.{behind}
+use Rattle.bz_write.specs.Written.{comment_lines, between, layout}
+use Rattle.bz_write.specs.Drawn.{part_of, line_of, before_next, lines_from, drawn}
+use Rattle.bz_write.specs.Laws.{LayoutIsAccepted}
+use Rattle.bz_write.proofs.Touching.{Toks, IsLex, FollowsAs, ends_plain, tokens}
+use Rattle.bz_write.proofs.Margins.{FitsAt, coded_byte, first_append, first_nothing, first_blank, lines_fit, newline_gap}
+use Rattle.bz_write.proofs.Standing.{Placed, drawn_stands}
+use Rattle.bz_write.proofs.LegalParts.{drawn_good}
+
+-- ---- what holds of each leaf of a part
+
+module _ (P Q : Spot → Leaf → Type 0) (f : (here : Spot) (l : Leaf) → P here l → Q here l) where
+  mutual
+    at_leaves : (here : Spot) (x : Part) → AtLeaves P here x → AtLeaves Q here x
+    at_leaves here (p.Leaf l) h = f here l h
+    at_leaves here (Node' kind z r) h = at_row here here _ r h
+
+    at_row : (outer here : Spot) (m : _) (r : Row_of-Part m) → AtRow P outer here r → AtRow Q outer here r
+    at_row outer here m end_of-Part h = tt
+    at_row outer here m (more_of-Part x rest) h = (at_leaves here x h.0, at_row outer (behind_part outer here x) _ rest h.1)
+
+all_append : (Q : Leaf → Type 0) (a b : List Leaf) → AllByRecursion Q a → AllByRecursion Q b → AllByRecursion Q (a ++ b)
+all_append Q [] b h i = i
+all_append Q (l ∷ a) b h i = (h.0, all_append Q a b h.1 i)
+
+module _ (P : Spot → Leaf → Type 0) (Q : Leaf → Type 0) (f : (here : Spot) (l : Leaf) → P here l → Q l) where
+  mutual
+    leaves_hold : (here : Spot) (x : Part) → AtLeaves P here x → AllByRecursion Q (leaves_part x)
+    leaves_hold here (p.Leaf l) h = (f here l h, tt)
+    leaves_hold here (Node' kind z r) h = row_holds here here _ r h
+
+    row_holds : (outer here : Spot) (m : _) (r : Row_of-Part m) → AtRow P outer here r → AllByRecursion Q (leaves_row r)
+    row_holds outer here m end_of-Part h = tt
+    row_holds outer here m (more_of-Part x rest) h = all_append Q (leaves_part x) (leaves_row rest) (leaves_hold here x h.0) (row_holds outer (behind_part outer here x) _ rest h.1)
+
+-- ---- tokens before leaves
+
+token_stands : (class : Class) (token : Bytes) (ls : List Leaf) → IsToken class token (spell_leaves ls) → TokenStands class token ls
+token_stands c.Newline token ls t = absurd t.lexeme
+token_stands c.End token ls t = absurd t.lexeme
+token_stands _ token ls t = t
+
+tokens_before : (a b : List Leaf) → Toks a (spell_leaves b) → AreTokens b → AreTokens (a ++ b)
+tokens_before [] b h i = i
+tokens_before (l ∷ a) b h i = (token_stands l.class l.token (a ++ b) (subst (IsToken l.class l.token) (sym (spell_leaves-append a b)) h.0), tokens_before a b h.1 i)
+
+-- ---- gaps between items
+
+if_blank : (b : Bool) → FitsAt Begins (if b then [] else (line_feed ∷ []))
+if_blank true = first_nothing
+if_blank false = first_blank
+
+between_fits : (x y : Item) → FitsAt Begins (between x y)
+between_fits (i.Block texts) y = first_blank
+between_fits (i.Stmt x) (i.Block texts) = first_blank
+between_fits (i.Stmt x) (i.Stmt y) = if_blank _
+
+before_next_fits : (x : Item) (ys : List Item) → FitsAt Begins (before_next x ys)
+before_next_fits x [] = first_nothing
+before_next_fits x (y ∷ ys) = between_fits x y
+
+-- ---- a line
+
+statement_sort : (kind : Kind) → is_statement kind ≡ true → has_kind s.small kind ≡ true
+statement_sort k.Bare h = refl
+statement_sort k.Assign h = refl
+statement_sort k.Load h = refl
+statement_sort _ h = no_such h
+
+statement_behind : (kind : Kind) → is_statement kind ≡ true → behind_node kind Begins ≡ Along
+statement_behind k.Line h = no_such h
+statement_behind _ h = refl
+
+is_small : (x : Expr) → has_statement_kind x ≡ true → (gap : Bytes) → IsSort s.small (part_of x gap 0)
+is_small (Token t) h gap = no_such h
+is_small (Form' kind z parts z' items end_ split open_ comments) h gap = statement_sort kind h
+
+goes_along : (x : Expr) → has_statement_kind x ≡ true → (gap : Bytes) → behind_part Begins Begins (part_of x gap 0) ≡ Along
+goes_along (Token t) h gap = no_such h
+goes_along (Form' kind z parts z' items end_ split open_ comments) h gap = statement_behind kind h
+
+abbrev newline_leaf : Option Bytes → Leaf
+newline_leaf suffix = record { class = c.Newline; gap = behind suffix; token = line_feed ∷ [] }
+
+newline_follows : (b : Bool) (suffix : Option Bytes) (t : Bytes) → FollowsAs b (behind suffix ++ (line_feed ∷ t))
+newline_follows b None t = inl refl
+newline_follows b (Some text) t = inl refl
+
+line_tokens : (x : Part) (newline : Leaf) (rest : List Leaf) → newline.class ≡ c.Newline → newline.token ≡ line_feed ∷ [] → Toks (leaves_part x) (spell_leaves (newline ∷ rest)) → AreTokens rest → AreTokens ((leaves_part x ++ (newline ∷ [])) ++ rest)
+line_tokens x newline rest i t h r = subst AreTokens (sym (append_assoc (leaves_part x) (newline ∷ []) rest)) (tokens_before (leaves_part x) (newline ∷ rest) h (subst (λ z. TokenStands z newline.token rest) (sym i) (inl t), r))
+
+-- a line stands where one begins, and its leaves are tokens before others that are
+record IsLine (x : Part) : Type 0 where
+  legal : LegalPart x
+  is_line : IsSort s.line x
+  begins : behind_part Begins Begins x ≡ Begins
+  gaps : AtLeaves Stands Begins x
+  tokens_then : (rest : List Leaf) → AreTokens rest → AreTokens (leaves_part x ++ rest)
+  coded : AreCoded (leaves_part x)
+
+at_node : (here : Spot) (n : Node) → AtParts Stands here here n.parts → AtLeaves Stands here (p.Node n)
+at_node here n h = row_of_parts Stands here here _ (row_of n).1 (subst (AtParts Stands here here) (sym (items_of_row n)) h)
+
+line_stands : (gap : Bytes) (x : Expr) → IsProperItem (i.Stmt x) → FitsAt Begins gap → IsLine (line_of gap x)
+line_stands gap x h g =
+    let front : Bytes = gap ++ comment_lines (comments_of x).before in
+    let statement : Part = part_of x front 0 in
+    let suffix : Option Bytes = (comments_of x).suffix in
+    let newline : Leaf = newline_leaf suffix in
+    let node : Node = record { kind = k.Line; parts = statement ∷ p.Leaf newline ∷ [] } in
+    let fits : FitsAt Begins front = first_append gap (comment_lines (comments_of x).before) g (lines_fit (comments_of x).before (recursion_from_All IsComment (comments_of x).before h.2.0)) in
+    let placed : AtLeaves Placed Begins statement = drawn_stands Begins x h.1 front 0 fits in
+    let legal : LegalPart statement = (drawn_good Begins x h.1).legal front 0 in
+    let ending : IsUtf8 (behind suffix) = (newline_gap suffix h.2.1).1 in
+    let leaves : leaves_part (p.Node node) ≡ leaves_part statement ++ (newline ∷ []) = leaves_Node node in
+    let lexed : AllByRecursion IsLex (leaves_part statement) = leaves_hold Placed IsLex (λ here l q. q.lexeme) Begins statement placed in
+    record {
+      legal = of_shapes node ((is_small x h.0 front, inl (refl, tt)), (legal, (tt, tt)));
+      is_line = refl;
+      begins = refl;
+      gaps = at_node Begins node (at_leaves Placed Stands (λ here l q. q.stands) Begins statement placed, (subst (λ z. AtLeaves Stands z (p.Leaf newline)) (sym (goes_along x h.0 front)) (true, (newline_gap suffix h.2.1).0), tt));
+      tokens_then = λ rest r. subst (λ z. AreTokens (z ++ rest)) (sym leaves) (line_tokens statement newline rest refl refl
+          (tokens statement legal lexed ((drawn_good Begins x h.1).airy front 0) (spell_leaves (newline ∷ rest)) (newline_follows (ends_plain statement) suffix (spell_leaves rest))) r);
+      coded = subst AreCoded (sym leaves) (all_append IsCodedLeaf (leaves_part statement) (newline ∷ []) (leaves_hold Placed IsCodedLeaf (λ here l q. q.coded) Begins statement placed) ((ending, coded_byte line_feed (omega arith)), tt));
+    }
+
+-- ---- the file
+
+record AreLines (parts : List Part) : Type 0 where
+  legal : AllByRecursion LegalPart parts
+  fits : Fits IsSort (shape k.File) parts
+  gaps : AtParts Stands Begins Begins parts
+  tokens_there : AreTokens (flat_map leaves_part parts)
+  coded : AreCoded (flat_map leaves_part parts)
+
+lines_stand : (xs : List Item) → AllByRecursion IsProperItem xs → (gap : Bytes) → FitsAt Begins gap → AreLines (lines_from gap xs)
+lines_stand [] h gap g = record { legal = (tt, tt); fits = inl (refl, tt); gaps = ((false, g.0), tt); tokens_there = ((refl, refl), tt); coded = ((g.2, IsUtf8-nil), tt) }
+lines_stand (i.Block texts ∷ xs) h gap g =
+    lines_stand xs h.1 _
+    (first_append (gap ++ comment_lines texts) (before_next (i.Block texts) xs) (first_append gap (comment_lines texts) g (lines_fit texts (recursion_from_All IsComment texts h.0.1))) (before_next_fits (i.Block texts) xs))
+lines_stand (i.Stmt x ∷ xs) h gap g =
+    let more : AreLines (lines_from (before_next (i.Stmt x) xs) xs) = lines_stand xs h.1 (before_next (i.Stmt x) xs) (before_next_fits (i.Stmt x) xs) in
+    let rest : List Leaf = flat_map leaves_part (lines_from (before_next (i.Stmt x) xs) xs) in
+    let here : IsLine (line_of gap x) = line_stands gap x h.0 g in
+    record {
+      legal = (here.legal, more.legal);
+      fits = inr (here.is_line, more.fits);
+      gaps = (here.gaps, subst (λ z. AtParts Stands Begins z (lines_from (before_next (i.Stmt x) xs) xs)) (sym here.begins) more.gaps);
+      tokens_there = here.tokens_then rest more.tokens_there;
+      coded = all_append IsCodedLeaf (leaves_part (line_of gap x)) rest here.coded more.coded;
+    }
+
+-- what is drawn of a proper file value is legal, where it is not too deep
+pub drawn_legal : (items : List Item) → IsProper items → depth_of (drawn items) ≤ 200 → Legal (drawn items)
+drawn_legal items h d =
+    let lines : AreLines (lines_from [] items) = lines_stand items (recursion_from_All IsProperItem items h) [] first_nothing in
+    record {
+      file = record { root = refl; shapes = (lines.fits, lines.legal) };
+      gaps = lines.gaps;
+      tokens = lines.tokens_there;
+      coded = lines.coded;
+      depth = d;
+    }
+
+-- so the layout is accepted, where it is what the tree spells
+pub accepted : ((items : List Item) → IsProper items → spell_node (drawn items) ≡ layout items) → LayoutIsAccepted
+accepted spelled items h n d = (drawn_legal items h d, spelled items h, n)

@@ -1,0 +1,45 @@
+-- What the tests of the limits say of the tree of a layout.
+use Rattle.std.proofs.Common.{◌≡◌, ◌≤◌, ◌<◌, true, false, suc, List, [], length, ap, sym, ◌∙◌, subst, arith}
+use Rattle.bz_tree.specs.declared.kind.Kind.TheVariants as k
+use Rattle.bz_tree.specs.declared.tree.Node.{Node}
+use Rattle.bz_tree.specs.declared.tree.Part.{Part}
+use Rattle.bz_tree.specs.Spell.{spell_node, depth_of, limit}
+use Rattle.bz_tree.specs.Legal.{Legal}
+use Rattle.bz_value.specs.declared.value.Item.{Item}
+use Rattle.bz_value.specs.Proper.{IsProper}
+use Rattle.bz_view.specs.View.{view_of}
+use Rattle.bz_write.specs.Written.{layout}
+use Rattle.bz_write.specs.Drawn.{lines_from, drawn}
+use Rattle.bz_write.specs.Flags.{flags}
+use Rattle.bz_write.specs.Depths.{depth_items}
+use Rattle.bz_write.proofs.Deep.{drawn_depth}
+use Rattle.bz_write.proofs.LegalFiles.{drawn_legal}
+use Rattle.bz_write.proofs.LinesBack.{view_back}
+use Rattle.bz_write.proofs.Spelled.{drawn_spelled}
+
+-- a file of these parts
+abbrev pub file_of : List Part → Node
+file_of parts = record { kind = k.File; parts = parts }
+
+pub past_limit : (xs : List Item) → (length (layout xs) ≤ 4194304 → false ≡ true) → limit < length (layout xs)
+past_limit xs long = let longer : length (layout xs) ≤ 4194304 → ⊥ = λ short. let no_ : false ≡ true = long short in cc in omega (arith, longer)
+
+pub past_depth : (xs : List Item) → length (layout xs) ≤ 4194304 → (depth_items xs ≤ 199 → false ≡ true) → (length (layout xs) ≤ limit) × (200 < depth_of (drawn xs))
+past_depth xs short deep =
+    let deeper : depth_items xs ≤ 199 → ⊥ = λ shallow. let no_ : false ≡ true = deep shallow in cc in
+    let depth : depth_of (drawn xs) ≡ suc (depth_items xs) = drawn_depth xs in
+    (short, omega (arith, depth, deeper))
+
+pub legal_file : (xs : List Item) (parts : List Part) → IsProper xs → parts ≡ lines_from [] xs → length (layout xs) ≤ 4194304 → depth_items xs ≤ 199 →
+    Legal (file_of parts) × (length (spell_node (file_of parts)) ≤ limit)
+legal_file xs parts h e short shallow =
+    let depth : depth_of (drawn xs) ≡ suc (depth_items xs) = drawn_depth xs in
+    let there : Legal (drawn xs) × (length (spell_node (drawn xs)) ≤ limit) =
+    (drawn_legal xs h (omega (arith, depth, shallow)), subst (λ (t : List _). length t ≤ limit) (sym (drawn_spelled xs h)) short) in
+    subst (λ (ps : List Part). Legal (file_of ps) × (length (spell_node (file_of ps)) ≤ limit)) (sym e) there
+
+pub text_of_file : (xs : List Item) (parts : List Part) → IsProper xs → parts ≡ lines_from [] xs → spell_node (file_of parts) ≡ layout xs
+text_of_file xs parts h e = ap (λ ps. spell_node (file_of ps)) e ∙ drawn_spelled xs h
+
+pub view_of_file : (xs : List Item) (parts : List Part) → IsProper xs → parts ≡ lines_from [] xs → view_of (file_of parts) ≡ flags xs
+view_of_file xs parts h e = ap (λ ps. view_of (file_of ps)) e ∙ view_back xs h

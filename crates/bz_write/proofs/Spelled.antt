@@ -1,0 +1,154 @@
+-- The tree of the layout spells its text.
+use Rattle.std.proofs.Common.{ℕ, suc, Bool, true, false, not, ◌&&◌, ◌≡◌, List, [], ◌∷◌, ◌++◌, ◌+◌, if◌then◌else◌, refl, ap, ◌∙◌, map, append_assoc, true≢false}
+use Rattle.std.specs.Prelude.{Option, None, nat_eq, length}
+use Rattle.std.specs.List.{flat_map, AllByRecursion}
+use Rattle.std.proofs.lemmas.List.{append-nil}
+use Rattle.std.proofs.lemmas.List.Elements.{recursion_from_All}
+use Rattle.bz_tree.specs.declared.kind.Kind.{Kind}
+use Rattle.bz_tree.specs.declared.kind.Kind.TheVariants as k
+use Rattle.bz_tree.specs.declared.tree.Part.{Part}
+use Rattle.bz_tree.specs.declared.tree.Part.TheVariants as p
+use Rattle.bz_tree.specs.Spell.{spell_part, spell_node}
+use Rattle.bz_tree.specs.Spots.{Begins}
+use Rattle.bz_tree.proofs.Spells.{spell_Node}
+use Rattle.bz_value.specs.declared.value.Expr.{Expr, Token, Form', Row_of-Expr, end_of-Expr, more_of-Expr, items-the_row-Expr}
+use Rattle.bz_value.specs.declared.value.Item.{Item}
+use Rattle.bz_value.specs.declared.value.Item.TheVariants as i
+use Rattle.bz_value.specs.Characters.{line_feed, space, comma}
+use Rattle.bz_value.specs.Frames.{Frame, row, sequence, frame}
+use Rattle.bz_value.specs.Gaps.{Bytes}
+use Rattle.bz_value.specs.Proper.{IsProperItem, IsProper, in_frame, comments_of}
+use Rattle.bz_write.specs.Layout.{Piece, mark, laid_in, rowed, headed, joined, stacked, is_broken, is_empty, is_tuple, gap_behind, margin_behind, behind, firsts}
+use Rattle.bz_write.specs.Written.{text_of, texts_of, piece_text, comment_lines, behind_item, item_text, layout}
+use Rattle.bz_write.specs.Drawn.{part_of, parts_of, piece_part, before_next, line_of, lines_from, drawn}
+use Rattle.bz_write.proofs.Readable.{Readable, EachReadable, IsRow, IsSequence, readable}
+
+-- the two readings of the same expressions, each spelling the other behind its gap
+data Agree : List (Expr × (Bytes → ℕ → Part)) → List (Expr × (ℕ → Bytes)) → Type 0 where
+  over : Agree [] []
+  more : (v : Expr) (x : Bytes → ℕ → Part) (y : ℕ → Bytes) (xs : List (Expr × (Bytes → ℕ → Part))) (ys : List (Expr × (ℕ → Bytes))) →
+      ((g : Bytes) (m : ℕ) → spell_part (x g m) ≡ g ++ y m) → Agree xs ys → Agree ((v, x) ∷ xs) ((v, y) ∷ ys)
+
+abbrev spelled : List (Piece (Bytes → ℕ → Part)) → Bytes
+spelled ps = flat_map spell_part (map piece_part ps)
+
+abbrev written : List (Piece (ℕ → Bytes)) → Bytes
+written ps = flat_map piece_text ps
+
+both : {a b c d : Bytes} → a ≡ b → c ≡ d → a ++ c ≡ b ++ d
+both {a} {b} {c} {d} e f = ap (λ t. t ++ c) e ∙ ap (λ t. b ++ t) f
+
+same_values : (xs : _) (ys : _) → Agree xs ys → firsts xs ≡ firsts ys
+same_values xs ys over = refl
+same_values xs ys (more v x y xs' ys' e a) = ap (λ t. v ∷ t) (same_values xs' ys' a)
+
+same_empty : (xs : _) (ys : _) → Agree xs ys → is_empty xs ≡ is_empty ys
+same_empty xs ys over = refl
+same_empty xs ys (more v x y xs' ys' e a) = refl
+
+same_length : (xs : _) (ys : _) → Agree xs ys → length xs ≡ length ys
+same_length xs ys over = refl
+same_length xs ys (more v x y xs' ys' e a) = ap suc (same_length xs' ys' a)
+
+same_rowed : (kind : Kind) (open_ : Bool) (m : ℕ) (g : Bytes) (n : ℕ) (xs : _) (ys : _) → Agree xs ys → spelled (rowed kind open_ m g n xs) ≡ written (rowed kind open_ m g n ys)
+same_rowed kind open_ m g n xs ys over = refl
+same_rowed kind open_ m g n xs ys (more v x y xs' ys' e a) =
+    both (e g n)
+    (ap (λ z. spelled (rowed kind open_ m (gap_behind kind open_ m v z) (margin_behind open_ m v) xs')) (same_values xs' ys' a) ∙
+    same_rowed kind open_ m (gap_behind kind open_ m v (firsts ys')) (margin_behind open_ m v) xs' ys' a)
+
+same_headed : (m : ℕ) (g : Bytes) (opener : ℕ) (xs : _) (ys : _) (p : _) (q : _) → Agree xs ys → spelled p ≡ written q → spelled (headed m g opener xs p) ≡ written (headed m g opener ys q)
+same_headed m g opener xs ys p q over f = both refl f
+same_headed m g opener xs ys p q (more v x y xs' ys' e a) f = both (e g m) (same_headed m [] opener xs' ys' p q a f)
+
+same_comma : (b : Bool) (p : _) (q : _) → spelled p ≡ written q → spelled ((if b then [] else (mark [] (comma ∷ []) ∷ [])) ++ p) ≡ written ((if b then [] else (mark [] (comma ∷ []) ∷ [])) ++ q)
+same_comma true p q e = e
+same_comma false p q e = ap (λ t. comma ∷ t) e
+
+same_joined : (m : ℕ) (g : Bytes) (closer : ℕ) (one : Bool) (xs : _) (ys : _) → Agree xs ys → spelled (joined m g closer one xs) ≡ written (joined m g closer one ys)
+same_joined m g closer one xs ys over = refl
+same_joined m g closer one xs ys (more v x y xs' ys' e a) =
+    both (e g m) (rw (same_empty xs' ys' a) (same_comma (is_empty ys' && not one) _ _ (same_joined m (space ∷ []) closer false xs' ys' a)))
+
+same_stacked : (m : ℕ) (suffix : Option Bytes) (closer : ℕ) (end_ : List Bytes) (xs : _) (ys : _) → Agree xs ys → spelled (stacked m suffix closer end_ xs) ≡ written (stacked m suffix closer end_ ys)
+same_stacked m suffix closer end_ xs ys over = refl
+same_stacked m suffix closer end_ xs ys (more v x y xs' ys' e a) = both (e _ (m + 4)) (ap (λ t. comma ∷ t) (same_stacked m _ closer end_ xs' ys' a))
+
+same_body : (b one : Bool) (m : ℕ) (closer : ℕ) (end_ : List Bytes) (xs : _) (ys : _) → Agree xs ys →
+    spelled (if b then stacked m None closer end_ xs else joined m [] closer one xs) ≡ written (if b then stacked m None closer end_ ys else joined m [] closer one ys)
+same_body true one m closer end_ xs ys a = same_stacked m None closer end_ xs ys a
+same_body false one m closer end_ xs ys a = same_joined m [] closer one xs ys a
+
+same_laid : (f : Frame) (kind : Kind) (split open_ : Bool) (g : Bytes) (m : ℕ) (hs hs' xs ys : _) (end_ : List Bytes) → Agree hs hs' → Agree xs ys →
+    spelled (laid_in f kind split open_ g m hs xs end_) ≡ written (laid_in f kind split open_ g m hs' ys end_)
+same_laid row kind split open_ g m hs hs' xs ys end_ a b = same_rowed kind open_ m g m hs hs' a
+same_laid (sequence opener closer) kind split open_ g m hs hs' xs ys end_ a b =
+    same_headed m g opener hs hs' _ _ a
+    (rw (same_values xs ys b, same_length xs ys b) (same_body (is_broken kind split (firsts ys) end_) (is_tuple kind && nat_eq (length ys) 1) m closer end_ xs ys b))
+
+-- ---- the gap before a node stands before its text
+
+-- a row has a part
+abbrev Starts : {X : Type 0} → Frame → List X → Type 0
+Starts row xs = is_empty xs ≡ false
+Starts (sequence opener closer) xs = Unit {0}
+
+first_gap : (f : Frame) (kind : Kind) (split open_ : Bool) (g : Bytes) (m : ℕ) (hs xs : List (Expr × (ℕ → Bytes))) (end_ : List Bytes) → Starts f hs →
+    written (laid_in f kind split open_ g m hs xs end_) ≡ g ++ written (laid_in f kind split open_ [] m hs xs end_)
+first_gap row kind split open_ g m [] xs end_ s = absurd (true≢false s)
+first_gap row kind split open_ g m (h ∷ hs) xs end_ s = append_assoc g _ _
+first_gap (sequence opener closer) kind split open_ g m [] xs end_ s = append_assoc g _ _
+first_gap (sequence opener closer) kind split open_ g m (h ∷ hs) xs end_ s = append_assoc g _ _
+
+spell_made : (kind : Kind) (ps : List Part) → spell_part (p.Node (record { kind = kind; parts = ps })) ≡ flat_map spell_part ps
+spell_made kind ps = spell_Node (record { kind = kind; parts = ps })
+
+row_starts : (m : _) (r : Row_of-Expr m) → is_empty (items-the_row-Expr m r) ≡ false → is_empty (texts_of r) ≡ false
+row_starts m end_of-Expr h = h
+row_starts m (more_of-Expr x rest) h = refl
+
+-- a readable row has a part
+starts : (f : Frame) (kind : Kind) (split open_ : Bool) (m : _) (parts : Row_of-Expr m) (items : List Expr) (end_ : List Bytes) →
+    in_frame f (IsRow kind split open_ (items-the_row-Expr m parts) items end_) (IsSequence kind open_ (items-the_row-Expr m parts) items end_) → Starts f (texts_of parts)
+starts row kind split open_ m parts items end_ h = row_starts m parts h.full
+starts (sequence opener closer) kind split open_ m parts items end_ h = tt
+
+mutual
+  pub spell_expr : (a : Expr) → Readable a → (g : Bytes) (m : ℕ) → spell_part (part_of a g m) ≡ g ++ text_of a m
+  spell_expr (Token t) f g m = refl
+  spell_expr (Form' kind s parts s' items end_ split open_ comments) f g m =
+      spell_made kind _ ∙
+      (same_laid (frame kind) kind split open_ g m _ _ _ _ end_ (agree _ parts f.1) (agree _ items f.2) ∙ first_gap (frame kind) kind split open_ g m _ _ end_ (starts (frame kind) kind split open_ _ parts _ end_ f.0))
+
+  agree : (n : _) (r : Row_of-Expr n) → EachReadable r → Agree (parts_of r) (texts_of r)
+  agree n end_of-Expr f = over
+  agree n (more_of-Expr x rest) f = more x _ _ _ _ (spell_expr x f.0) (agree _ rest f.1)
+
+-- ---- the file
+
+-- the layout behind an item: the blank line, and the layout of the rest
+pub next_behind : (x : Item) (ys : List Item) → before_next x ys ++ layout ys ≡ behind_item x ys
+next_behind x [] = refl
+next_behind x (y ∷ ys) = refl
+
+spell_line : (gap : Bytes) (x : Expr) → Readable x → spell_part (line_of gap x) ≡ gap ++ item_text (i.Stmt x)
+spell_line gap x f =
+    let before : Bytes = comment_lines (comments_of x).before in
+    let after : Bytes = behind (comments_of x).suffix ++ (line_feed ∷ []) in
+    spell_made k.Line _ ∙
+    (both (spell_expr x f (gap ++ before) 0) (append-nil after) ∙ (append_assoc (gap ++ before) (text_of x 0) after ∙ append_assoc gap before (text_of x 0 ++ after)))
+
+spell_lines : (xs : List Item) → AllByRecursion IsProperItem xs → (gap : Bytes) → flat_map spell_part (lines_from gap xs) ≡ gap ++ layout xs
+spell_lines [] h gap = append-nil (gap ++ [])
+spell_lines (i.Block texts ∷ xs) h gap =
+    let lines : Bytes = comment_lines texts in
+    let next : Bytes = before_next (i.Block texts) xs in
+    spell_lines xs h.1 ((gap ++ lines) ++ next) ∙
+    (append_assoc (gap ++ lines) next (layout xs) ∙ (ap (λ t. (gap ++ lines) ++ t) (next_behind (i.Block texts) xs) ∙ append_assoc gap lines (behind_item (i.Block texts) xs)))
+spell_lines (i.Stmt x ∷ xs) h gap =
+    let next : Bytes = before_next (i.Stmt x) xs in
+    both (spell_line gap x (readable Begins x h.0.1)) (spell_lines xs h.1 next ∙ next_behind (i.Stmt x) xs) ∙ append_assoc gap (item_text (i.Stmt x)) (behind_item (i.Stmt x) xs)
+
+-- the tree of the layout of a proper file value spells its text
+pub drawn_spelled : (items : List Item) → IsProper items → spell_node (drawn items) ≡ layout items
+drawn_spelled items h = spell_lines items (recursion_from_All IsProperItem items h) []

@@ -1,0 +1,22 @@
+-- Laws of the layout.
+use Rattle.std.specs.Prelude.{◌≡◌, ◌≤◌, List, length}
+use Rattle.bz_tree.specs.Spell.{depth_of, limit}
+use Rattle.bz_tree.specs.Legal.{Reads}
+use Rattle.bz_value.specs.declared.value.Item.{Item}
+use Rattle.bz_value.specs.Proper.{IsProper}
+use Rattle.bz_view.specs.View.{view_of}
+use Rattle.bz_write.specs.Written.{layout}
+use Rattle.bz_write.specs.Drawn.{drawn}
+use Rattle.bz_write.specs.Flags.{flags}
+
+-- Settling the flags changes neither the layout nor its tree, and keeps file values proper.
+abbrev pub FlagsKeepLayout : Type 0
+FlagsKeepLayout = (items : List Item) → (layout (flags items) ≡ layout items) × (drawn (flags items) ≡ drawn items) × (IsProper items → IsProper (flags items))
+
+-- The layout of a proper file value reads as its tree, where it is within the limits of length and depth.
+abbrev pub LayoutIsAccepted : Type 0
+LayoutIsAccepted = (items : List Item) → IsProper items → length (layout items) ≤ limit → depth_of (drawn items) ≤ 200 → Reads (layout items) (drawn items)
+
+-- The view of the tree of the layout of a proper file value is the value with its flags settled.
+abbrev pub LayoutReadsBack : Type 0
+LayoutReadsBack = (items : List Item) → IsProper items → view_of (drawn items) ≡ flags items

@@ -1,0 +1,200 @@
+//! What the layout draws of an expression.
+ghost use Rattle.std.specs.Prelude.{◌≡◌, ◌++◌, ◌∷◌, [], map, None, OnOk, IfOk};
+ghost use Rattle.bz_write.specs.Layout as layout;
+ghost use Rattle.bz_write.specs.Drawn.{piece_part, part_of, parts_in, drawings, body, comma_behind};
+
+use crate::brackets::brackets_of_kind;
+use crate::breaks::is_broken;
+use crate::gaps::{deeper, push_above, push_behind, push_ended, push_line};
+use crate::row_gaps::{margin_behind, others, text_behind};
+use bz_items::{Items, Memory, Text};
+use bz_tree::{Class, Kind, Leaf, Node, Part};
+use bz_value::{Expr, Form};
+use std::alloc::Global;
+
+/// The empty text.
+pub fn nothing(alloc: Global) -> Text
+    ensures { result ≡ [] }
+{
+    Text::from_vec(Vec::new(alloc))
+}
+
+/// A bracket or a comma behind a gap.
+fn mark(alloc: Global, gap: Text, byte: u8) -> Result<Part, Memory>
+    ensures { IfOk result (λ part. part ≡ piece_part (layout.mark gap (byte ∷ []))) }
+{
+    Ok(Part::Leaf(Leaf {
+        class: Class::Mark,
+        gap,
+        token: Text::from_slice(alloc, &[byte])?,
+    }))
+}
+
+/// What is drawn of an expression behind a gap, at a margin. The error: a growth was refused.
+#[cycle(draw)]
+#[tactic(auto, using(crate::proofs::Made::part_Form))]
+pub fn draw(alloc: Global, expr: &Expr, gap: Text, margin: usize) -> Result<Part, Memory>
+    ensures { IfOk result (λ part. part ≡ part_of expr.now gap margin) }
+{
+    match expr {
+        Expr::Token(token) => Ok(Part::Leaf(Leaf {
+            class: token.class,
+            gap,
+            token: token.text.copy()?,
+        })),
+        Expr::Form(form) => Ok(Part::Node(Node {
+            kind: form.kind,
+            parts: draw_form(alloc, form, gap, margin)?,
+        })),
+    }
+}
+
+#[cycle(draw)]
+#[tactic(auto, using(crate::proofs::Loops::row_parts, crate::proofs::Loops::sequence_parts))]
+fn draw_form(alloc: Global, form: &Form, gap: Text, margin: usize) -> Result<Items<Part>, Memory>
+    ensures { IfOk result (λ parts. parts ≡ parts_in form.now gap margin) }
+{
+    let mut parts = Items::new(alloc);
+    let Some(brackets) = brackets_of_kind(form.kind) else {
+        draw_row(alloc, form, gap, margin, &mut parts)?;
+        return Ok(parts);
+    };
+    let head = form.parts.as_slice();
+    draw_head(alloc, head, gap, margin, brackets.opener, &mut parts)?;
+    draw_sequence(alloc, form, margin, brackets.closer, &mut parts)?;
+    Ok(parts)
+}
+
+#[cycle(draw)]
+fn draw_row(
+    alloc: Global,
+    form: &Form,
+    gap: Text,
+    margin: usize,
+    parts: &mut Items<Part>,
+) -> Result<(), Memory>
+    ensures { OnOk result (parts.new ≡ parts.old ++ map piece_part (layout.rowed form.now.kind form.now.open_ margin gap margin (drawings form.now.parts))) }
+{
+    let row = form.parts.as_slice();
+    let mut gap = gap;
+    let mut inner = margin;
+    for (i, part) in row.iter().enumerate() {
+        parts.push(draw(alloc, part, gap, inner)?)?;
+        gap = text_behind(alloc, form, margin, part, others(row, i))?;
+        inner = margin_behind(form, margin, part)?;
+    }
+    Ok(())
+}
+
+/// What stands before a sequence, and its opening bracket.
+#[cycle(draw)]
+fn draw_head(
+    alloc: Global,
+    head: &[Expr],
+    gap: Text,
+    margin: usize,
+    opener: u8,
+    parts: &mut Items<Part>,
+) -> Result<(), Memory>
+    ensures { OnOk result (parts.new ≡ parts.old ++ map piece_part (layout.headed margin gap opener (drawings head.now) [])) }
+{
+    let mut gap = gap;
+    for expr in head {
+        parts.push(draw(alloc, expr, gap, margin)?)?;
+        gap = nothing(alloc);
+    }
+    parts.push(mark(alloc, gap, opener)?)
+}
+
+/// What stands in a sequence, and its closing bracket.
+#[cycle(draw)]
+fn draw_sequence(
+    alloc: Global,
+    form: &Form,
+    margin: usize,
+    closer: u8,
+    parts: &mut Items<Part>,
+) -> Result<(), Memory>
+    ensures { OnOk result (parts.new ≡ parts.old ++ map piece_part (body form.now margin closer)) }
+{
+    let items = form.seq.items.as_slice();
+    if is_broken(form) {
+        return draw_stacked(
+            alloc,
+            items,
+            form.seq.end_.as_slice(),
+            margin,
+            closer,
+            parts,
+        );
+    }
+    let one = matches!(form.kind, Kind::Tuple) && items.len() == 1;
+    draw_joined(alloc, items, margin, closer, one, parts)
+}
+
+/// The comma behind an item: where others follow, or a lone item is to have one.
+fn push_comma(
+    alloc: Global,
+    others: &[Expr],
+    one: bool,
+    parts: &mut Items<Part>,
+) -> Result<(), Memory>
+    ensures { OnOk result (parts.new ≡ parts.old ++ map piece_part (comma_behind (layout.is_empty others.now) one)) }
+{
+    if others.is_empty() && !one {
+        return Ok(());
+    }
+    parts.push(mark(alloc, nothing(alloc), b',')?)
+}
+
+/// Items joined by a comma and a space; behind a lone item a comma where it is to have one.
+#[cycle(draw)]
+#[tactic(auto, using(crate::proofs::Loops::joined_next))]
+fn draw_joined(
+    alloc: Global,
+    items: &[Expr],
+    margin: usize,
+    closer: u8,
+    one: bool,
+    parts: &mut Items<Part>,
+) -> Result<(), Memory>
+    ensures { OnOk result (parts.new ≡ parts.old ++ map piece_part (layout.joined margin [] closer one (drawings items.now))) }
+{
+    let mut gap = nothing(alloc);
+    let mut one = one;
+    for (i, item) in items.iter().enumerate() {
+        parts.push(draw(alloc, item, gap, margin)?)?;
+        push_comma(alloc, others(items, i), one, parts)?;
+        one = false;
+        gap = Text::from_slice(alloc, b" ")?;
+    }
+    parts.push(mark(alloc, nothing(alloc), closer)?)
+}
+
+/// Each item on lines of its own: its comments above it, a comma, its suffix.
+#[cycle(draw)]
+#[tactic(auto, using(crate::proofs::Loops::stacked_start))]
+fn draw_stacked(
+    alloc: Global,
+    items: &[Expr],
+    end_: &[Text],
+    margin: usize,
+    closer: u8,
+    parts: &mut Items<Part>,
+) -> Result<(), Memory>
+    ensures { OnOk result (parts.new ≡ parts.old ++ map piece_part (layout.stacked margin None closer end_.now (drawings items.now))) }
+{
+    let mut gap = Vec::new(alloc);
+    for item in items {
+        let comments = item.comments();
+        let inner = deeper(margin)?;
+        push_line(&mut gap, inner)?;
+        push_above(&mut gap, comments.before(), inner)?;
+        parts.push(draw(alloc, item, Text::from_vec(gap), inner)?)?;
+        parts.push(mark(alloc, nothing(alloc), b',')?)?;
+        gap = Vec::new(alloc);
+        push_behind(&mut gap, comments.suffix())?;
+    }
+    push_ended(&mut gap, end_, margin)?;
+    parts.push(mark(alloc, Text::from_vec(gap), closer)?)
+}

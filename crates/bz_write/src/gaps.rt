@@ -1,0 +1,70 @@
+ghost use Rattle.std.specs.Prelude.{◌≡◌, ◌++◌, ◌+◌, OnOk, IfOk};
+ghost use Rattle.std.specs.Option.{option_copied};
+ghost use Rattle.bz_write.specs.Layout.{line, above, behind, ended};
+ghost use Rattle.bz_write.specs.Written.{comment_lines};
+
+use bz_items::{Memory, Text};
+use std::alloc::AllocError;
+
+/// The margin of what stands inside a broken sequence. The error: no text is that wide.
+pub fn deeper(margin: usize) -> Result<usize, Memory>
+    ensures { IfOk result (λ inner. inner ≡ margin + 4) }
+{
+    margin.checked_add(4).ok_or(AllocError)
+}
+
+/// Appends a newline and the spaces of a margin.
+pub fn push_line(out: &mut Vec<u8>, margin: usize) -> Result<(), Memory>
+    ensures { OnOk result (out.new.items ≡ out.old.items ++ line margin) }
+{
+    out.push(b'\n')?;
+    for _column in 0..margin {
+        out.push(b' ')?;
+    }
+    Ok(())
+}
+
+/// Appends comments, each on its own line at the margin, above an item.
+pub fn push_above(out: &mut Vec<u8>, texts: &[Text], margin: usize) -> Result<(), Memory>
+    ensures { OnOk result (out.new.items ≡ out.old.items ++ above margin texts.now) }
+{
+    for text in texts {
+        out.extend_from_slice(text.as_slice())?;
+        push_line(out, margin)?;
+    }
+    Ok(())
+}
+
+/// Appends the end comments of a sequence, and the line of its closing bracket at the margin.
+pub fn push_ended(out: &mut Vec<u8>, texts: &[Text], margin: usize) -> Result<(), Memory>
+    ensures { OnOk result (out.new.items ≡ out.old.items ++ ended margin texts.now) }
+{
+    let inner = deeper(margin)?;
+    for text in texts {
+        push_line(out, inner)?;
+        out.extend_from_slice(text.as_slice())?;
+    }
+    push_line(out, margin)
+}
+
+/// Appends a suffix after two spaces.
+pub fn push_behind(out: &mut Vec<u8>, suffix: Option<&Text>) -> Result<(), Memory>
+    ensures { OnOk result (out.new.items ≡ out.old.items ++ behind (option_copied suffix.entry)) }
+{
+    if let Some(text) = suffix {
+        out.extend_from_slice(b"  ")?;
+        out.extend_from_slice(text.as_slice())?;
+    }
+    Ok(())
+}
+
+/// Appends comment lines, each with its newline.
+pub fn push_comments(out: &mut Vec<u8>, texts: &[Text]) -> Result<(), Memory>
+    ensures { OnOk result (out.new.items ≡ out.old.items ++ comment_lines texts.now) }
+{
+    for text in texts {
+        out.extend_from_slice(text.as_slice())?;
+        out.push(b'\n')?;
+    }
+    Ok(())
+}

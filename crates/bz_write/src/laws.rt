@@ -1,0 +1,23 @@
+ghost use Rattle.bz_write.specs.Laws.{FlagsKeepLayout, LayoutIsAccepted, LayoutReadsBack};
+ghost use Rattle.bz_write.specs.Rows.{WorkedRows};
+
+/// Settling the flags of a file value leaves its layout and the tree of it as they are, and keeps
+/// it proper.
+pub fn flags_keep_layout()
+    ensures { FlagsKeepLayout }
+{}
+
+/// The layout of a proper file value reads as its tree, where it is within the limits of length and depth.
+pub fn layout_is_accepted()
+    ensures { LayoutIsAccepted }
+{}
+
+/// The tree of the layout of a proper file value has that value, with its flags settled, as its view.
+pub fn layout_reads_back()
+    ensures { LayoutReadsBack }
+{}
+
+/// Small file values have the layout that they are to have, byte for byte.
+pub fn worked_rows()
+    ensures { WorkedRows }
+{}

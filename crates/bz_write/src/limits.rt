@@ -1,0 +1,94 @@
+//! Whether a layout is within the limits of a text. Neither is the layout written for it, nor its tree made.
+ghost use Rattle.std.specs.Prelude.{◌≡◌, ◌+◌, ◌<◌, ◌≤◌, ◌↔◌, IsTrue, IfOk, ◌∷◌, [], length};
+ghost use Rattle.bz_write.specs.Written.{item_text, layout};
+ghost use Rattle.bz_write.specs.Drawn.{before_next};
+ghost use Rattle.bz_write.specs.Depths.{depth_items};
+
+use crate::depth::is_within;
+use crate::lines::is_apart;
+use crate::measure::left_behind;
+use crate::room::{NoRoom, less, less_behind, less_comments};
+use bz_items::Memory;
+use bz_value::{Expr, Item};
+use std::alloc::{AllocError, Global};
+
+/// What is left of the room behind the lines of a statement.
+#[tactic(auto, using(crate::proofs::Measured::statement_length))]
+fn less_statement(alloc: Global, expr: &Expr, room: usize) -> Result<usize, NoRoom>
+    ensures ok { IfOk result (λ left. length (item_text (Item.Stmt expr.now)) + left ≡ room) }
+    ensures longer { result ≡ Err NoRoom.Longer → room < length (item_text (Item.Stmt expr.now)) }
+{
+    let comments = expr.comments();
+    let left = less_comments(room, comments.before())?;
+    let left = left_behind(alloc, expr, 0, left)?;
+    let left = less_behind(left, comments.suffix())?;
+    less(left, 1)
+}
+
+/// What is left of the room behind the lines of an item.
+fn less_item(alloc: Global, item: &Item, room: usize) -> Result<usize, NoRoom>
+    ensures ok { IfOk result (λ left. length (item_text item.now) + left ≡ room) }
+    ensures longer { result ≡ Err NoRoom.Longer → room < length (item_text item.now) }
+{
+    match item {
+        Item::Block(texts) => less_comments(room, texts.as_slice()),
+        Item::Stmt(expr) => less_statement(alloc, expr, room),
+    }
+}
+
+/// What is left of the room behind what stands between an item and those that follow.
+fn less_between(item: &Item, others: &[Item], room: usize) -> Result<usize, NoRoom>
+    ensures ok { IfOk result (λ left. length (before_next item.now others.now) + left ≡ room) }
+    ensures longer { result ≡ Err NoRoom.Longer → room < length (before_next item.now others.now) }
+{
+    less(room, usize::from(is_apart(item, others)))
+}
+
+/// What is left of so much room behind the layout of the items. Errors: `Longer`: the layout is longer; `Memory`: a growth was
+/// refused.
+#[tactic(auto, using(crate::proofs::Measured::layout_next))]
+fn less_items(alloc: Global, items: &[Item], room: usize) -> Result<usize, NoRoom>
+    ensures ok { IfOk result (λ left. length (layout items.now) + left ≡ room) }
+    ensures longer { result ≡ Err NoRoom.Longer → room < length (layout items.now) }
+{
+    let mut left = room;
+    for (i, item) in items.iter().enumerate() {
+        left = less_item(alloc, item, left)?;
+        left = less_between(item, &items[i + 1..], left)?;
+    }
+    Ok(left)
+}
+
+/// Whether the line of the item has at most this depth.
+fn is_item_within(item: &Item, depth: usize) -> bool
+    ensures { IsTrue result ↔ (depth_items (item.now ∷ []) ≤ depth) }
+{
+    match item {
+        Item::Block(_) => true,
+        Item::Stmt(expr) => depth > 0 && is_within(expr, depth - 1),
+    }
+}
+
+/// Whether the lines of the items have at most this depth.
+#[tactic(auto, using(crate::proofs::Measured::depth_next))]
+pub fn are_items_within(items: &[Item], depth: usize) -> bool
+    ensures { IsTrue result ↔ (depth_items items.now ≤ depth) }
+{
+    for item in items {
+        if !is_item_within(item, depth) {
+            return false;
+        }
+    }
+    true
+}
+
+/// Whether the layout of the items has at most so many bytes. The error: a growth was refused.
+pub fn is_layout_within(alloc: Global, items: &[Item], limit: usize) -> Result<bool, Memory>
+    ensures { IfOk result (λ within. IsTrue within ↔ (length (layout items.now) ≤ limit)) }
+{
+    match less_items(alloc, items, limit) {
+        Ok(_left) => Ok(true),
+        Err(NoRoom::Longer) => Ok(false),
+        Err(NoRoom::Memory) => Err(AllocError),
+    }
+}

@@ -1,0 +1,103 @@
+//! What stands between two parts of a row.
+ghost use Rattle.std.specs.Prelude.{◌≡◌, ◌<◌, ◌+◌, drop, length, IfOk};
+ghost use Rattle.bz_value.specs.Proper.{has_break};
+ghost use Rattle.bz_write.specs.Layout as layout;
+ghost use Rattle.bz_write.specs.RowGaps.{written_gap};
+
+use crate::gaps::{deeper, push_line};
+use crate::spaces::is_spaced;
+use bz_items::{Memory, Text};
+use bz_value::{Expr, Form};
+use std::alloc::Global;
+
+/// The gap between two parts of a row.
+#[derive(Clone, Copy)]
+pub enum RowGap {
+    Nothing,
+    Space,
+    /// A new line at this margin.
+    Line(usize),
+}
+
+/// The expressions behind the one at this place.
+pub fn others(exprs: &[Expr], at: usize) -> &[Expr]
+    requires { at < length exprs.now }
+    ensures { result.now ≡ drop (at + 1) exprs.now }
+{
+    &exprs[at + 1..]
+}
+
+fn has_break(expr: &Expr) -> bool
+    ensures { result ≡ has_break expr.now }
+{
+    match expr {
+        Expr::Token(token) => token.break_,
+        Expr::Form(_) => false,
+    }
+}
+
+/// The gap behind a part of a row, before the others. The error: no text is that wide.
+pub fn gap_behind(
+    form: &Form,
+    margin: usize,
+    part: &Expr,
+    others: &[Expr],
+) -> Result<RowGap, Memory>
+    ensures { IfOk result (λ gap. written_gap gap ≡ layout.gap_behind form.now.kind form.now.open_ margin part.now others.now) }
+{
+    let [next, rest @ ..] = others else {
+        return Ok(RowGap::Nothing);
+    };
+    if form.open_ {
+        if rest.is_empty() {
+            return Ok(RowGap::Line(margin));
+        }
+        return Ok(RowGap::Line(deeper(margin)?));
+    }
+    if has_break(part) {
+        return Ok(RowGap::Line(deeper(margin)?));
+    }
+    if is_spaced(form.kind, part, next) {
+        return Ok(RowGap::Space);
+    }
+    Ok(RowGap::Nothing)
+}
+
+/// The margin of what stands behind a part of a row. The error: no text is that wide.
+pub fn margin_behind(form: &Form, margin: usize, part: &Expr) -> Result<usize, Memory>
+    ensures { IfOk result (λ inner. inner ≡ layout.margin_behind form.now.open_ margin part.now) }
+{
+    if form.open_ || has_break(part) {
+        deeper(margin)
+    } else {
+        Ok(margin)
+    }
+}
+
+/// The gap as a text.
+fn text_of_gap(alloc: Global, gap: RowGap) -> Result<Text, Memory>
+    ensures { IfOk result (λ text. text ≡ written_gap gap) }
+{
+    match gap {
+        RowGap::Nothing => Ok(Text::from_vec(Vec::new(alloc))),
+        RowGap::Space => Text::from_slice(alloc, b" "),
+        RowGap::Line(margin) => {
+            let mut out = Vec::new(alloc);
+            push_line(&mut out, margin)?;
+            Ok(Text::from_vec(out))
+        }
+    }
+}
+
+/// The text of the gap behind a part of a row, before the others. The error: a growth was refused.
+pub fn text_behind(
+    alloc: Global,
+    form: &Form,
+    margin: usize,
+    part: &Expr,
+    others: &[Expr],
+) -> Result<Text, Memory>
+    ensures { IfOk result (λ text. text ≡ layout.gap_behind form.now.kind form.now.open_ margin part.now others.now) }
+{
+    text_of_gap(alloc, gap_behind(form, margin, part, others)?)
+}

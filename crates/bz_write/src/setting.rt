@@ -1,0 +1,70 @@
+ghost use Rattle.std.specs.Prelude.{◌≡◌, ◌<◌, ◌≤◌, IfOk, length};
+ghost use Rattle.bz_tree.specs.Spell.{spell_node, depth_of, limit};
+ghost use Rattle.bz_view.specs.View.{view_of};
+ghost use Rattle.bz_write.specs.Drawn.{drawn};
+ghost use Rattle.bz_write.specs.Written.{layout};
+ghost use Rattle.bz_write.specs.Flags.{flags};
+
+use crate::limits::{are_items_within, is_layout_within};
+use crate::lines::draw_lines;
+use bz_tree::{Kind, Node, Tree};
+use bz_value::File;
+use std::alloc::{AllocError, Global};
+use thiserror::Error;
+
+/// The most bytes that a text has.
+const LIMIT: usize = 4_194_304;
+
+/// The greatest depth of a tree: a file, and what is inside.
+const DEEPEST: usize = 200;
+
+/// Why a file value is not written.
+#[derive(Debug, Drop, Error)]
+pub enum SetFault {
+    /// A growth was refused.
+    #[error("Memory")]
+    Memory,
+    /// The text of the layout is longer than 4,194,304 bytes.
+    #[error("TooLarge")]
+    TooLarge,
+    /// The tree of the layout is deeper than 200.
+    #[error("TooDeep")]
+    TooDeep,
+}
+
+impl From<AllocError> for SetFault {
+    ghost use Rattle.std.specs.Prelude.{◌≡◌};
+    ghost use Rattle.bz_write.specs.declared.setting.SetFault.TheVariants as f;
+
+    ghost from_gives = { λ _ fault. fault ≡ f.Memory };
+
+    fn from(_refused: AllocError) -> SetFault {
+        SetFault::Memory
+    }
+}
+
+/// The tree whose spelling is the layout of the file value, and whose view is the value with its flags settled. Both limits
+/// are looked at on the value, before the tree is made. Errors: `TooLarge` exactly where the layout is past the limit of a
+/// text, else `TooDeep` exactly where the tree is past the limit of depth; `Memory`: a growth was refused.
+pub fn set(alloc: Global, file: &File) -> Result<Tree, SetFault>
+    ensures drawn { IfOk result (λ tree. tree ≡ drawn file.now) }
+    ensures text { IfOk result (λ tree. spell_node tree ≡ layout file.now) }
+    ensures view { IfOk result (λ tree. view_of tree ≡ flags file.now) }
+    ensures too_large { result ≡ Err SetFault.TooLarge → limit < length (layout file.now) }
+    ensures too_deep { result ≡ Err SetFault.TooDeep → (length (layout file.now) ≤ limit) × (200 < depth_of (drawn file.now)) }
+{
+    let items = file.items.as_slice();
+    let short = is_layout_within(alloc, items, LIMIT)?;
+    if !short {
+        return Err(SetFault::TooLarge);
+    }
+    if !are_items_within(items, DEEPEST - 1) {
+        return Err(SetFault::TooDeep);
+    }
+    Ok(Tree {
+        root: Node {
+            kind: Kind::File,
+            parts: draw_lines(alloc, items)?,
+        },
+    })
+}
