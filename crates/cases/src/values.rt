@@ -168,8 +168,16 @@ fn laid_out(case: &Case, page: &mut Page) -> Result<(), CaseFault> {
         LaidOut::Refused(fault) => return Ok(page.answer(fault.as_bytes())?),
     };
     page.text("<", layout.as_slice())?;
-    match layout_of(alloc, layout.as_slice())? {
-        LaidOut::Text(again) if again.as_slice() == layout.as_slice() => Ok(()),
-        _ => Ok(page.answer(b"and another layout of that")?),
+    if !is_settled(alloc, layout.as_slice())? {
+        page.answer(b"and another layout of that")?;
+    }
+    Ok(())
+}
+
+/// Whether a text is its own layout.
+fn is_settled(alloc: Global, text: &[u8]) -> Result<bool, Memory> {
+    match layout_of(alloc, text)? {
+        LaidOut::Text(layout) => Ok(layout.as_slice() == text),
+        LaidOut::Refused(_) => Ok(false),
     }
 }

@@ -39,7 +39,7 @@ returns-clause-ok g c =
     let halt = option_map halt_in c.in_ok-halt.halt in (
       halt_line halt,
       inl (record {
-        taken = c.in-Ok.ensures.taken;
+        accepted = c.in-Ok.ensures.accepted;
         halt = halt;
         after = c.run.new.session;
         runs = (let P : History → Type 0 = λ h. RunsToRefusal h (steps_in c.args.steps.now) halt c.run.new.session in
