@@ -1,17 +1,11 @@
 -- Items with separators between them and a closing token behind them: their hosts.
-use Rattle.std.proofs.Common.{◌≡◌, ℕ, suc, ◌+◌, ◌<◌, ◌≤◌, Bool, true, false, List, [], ◌∷◌, ◌++◌, inl, inr, refl, sym, ap, ◌∙◌, subst, map, arith}
+use Rattle.std.proofs.Common.{◌≡◌, ℕ, suc, ◌+◌, ◌<◌, Bool, true, false, List, [], ◌∷◌, ◌++◌, refl, sym, ap, ◌∙◌, subst, map, arith}
 use Rattle.std.specs.List.{AllByRecursion}
-use Rattle.bz_token.specs.declared.class.Class.{Class}
-use Rattle.bz_token.specs.declared.class.Class.TheVariants as c
 use Rattle.bz_lex.specs.declared.leaf.Leaf.{Leaf}
-use Rattle.bz_tree.specs.declared.kind.Kind.{Kind}
-use Rattle.bz_tree.specs.declared.kind.Kind.TheVariants as k
 use Rattle.bz_tree.specs.declared.tree.Part.{Part, Node'}
 use Rattle.bz_tree.specs.declared.tree.Part.TheVariants as p
-use Rattle.bz_tree.specs.Shapes as s
-use Rattle.bz_tree.specs.Shapes.{Sort, Terminal, Fits, Listed, items, tok, done, has_token, is_one_of}
-use Rattle.bz_tree.specs.Legal.{IsSort}
-use Rattle.bz_hosts.specs.Hosts.{Region, host, Measured, sizes, measured, is_word, is_item, begins_with, hosts_from}
+use Rattle.bz_tree.specs.Shapes.{Terminal, is_one_of}
+use Rattle.bz_hosts.specs.Hosts.{Region, host, sizes, measured, is_word, is_item, hosts_from}
 use Rattle.bz_hosts.proofs.Around.{AllInside, all_wider}
 use Rattle.bz_hosts.proofs.Parts.{size, measured_part}
 
@@ -74,6 +68,6 @@ hosts_inside separators n (x ∷ p.Leaf l ∷ z ∷ xs) a h =
     subst (AllInside n up) (sym (hosts_more separators n x l (z ∷ xs) a.0 a.1)) (
       (omega arith, omega arith, omega arith, omega arith),
       inside_joined n up ((measured x).inside n) (hosts_from separators b (map measured (z ∷ xs)))
-      (all_wider n (n + size x) n up (omega arith) (omega arith) ((measured x).inside n) (h.0.within n))
-      (all_wider b (b + sizes (map measured (z ∷ xs))) n up (omega arith) (omega arith) (hosts_from separators b (map measured (z ∷ xs))) rest),
+          (all_wider n (n + size x) n up (omega arith) (omega arith) ((measured x).inside n) (h.0.within n))
+          (all_wider b (b + sizes (map measured (z ∷ xs))) n up (omega arith) (omega arith) (hosts_from separators b (map measured (z ∷ xs))) rest),
     )

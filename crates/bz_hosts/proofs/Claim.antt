@@ -1,5 +1,5 @@
 -- In each part of a legal tree that stands in a host, the comments are those of the view.
-use Rattle.std.proofs.Common.{◌≡◌, ℕ, suc, ◌+◌, ◌≤◌, false, ◌&&◌, List, [], ◌∷◌, ◌++◌, Option, Some, refl, sym, ap, ◌∙◌, subst, map, take, drop}
+use Rattle.std.proofs.Common.{◌≡◌, ℕ, suc, ◌+◌, ◌≤◌, false, ◌&&◌, List, [], ◌∷◌, ◌++◌, Some, refl, sym, ap, ◌∙◌, subst, map, take, drop}
 use Rattle.std.specs.List.{AllByRecursion, flat_map}
 use Rattle.std.proofs.lemmas.List.{take-map, drop-map}
 use Rattle.bz_lex.specs.declared.leaf.Leaf.{Leaf}
@@ -17,9 +17,9 @@ use Rattle.bz_value.specs.Frames.{Frame, row, sequence, frame, lead, is_binary, 
 use Rattle.bz_value.specs.Gaps.{all_in}
 use Rattle.bz_viewed.specs.View.{Seen, seen, seen_row, plain, first_gap, loose_in, row_exprs, items_in, is_split, is_open, node_in}
 use Rattle.bz_viewed.proofs.SeenParts.{seen_rows}
-use Rattle.bz_hosts.specs.Hosts.{Region, host, Comment, Measured, sizes, measured, measured_row, in_node, Hosted, ended, by_frame, inside_expr}
+use Rattle.bz_hosts.specs.Hosts.{Region, host, Comment, Measured, sizes, measured, in_node, Hosted, ended, by_frame, inside_expr}
 use Rattle.bz_hosts.proofs.Around.{SeesAt}
-use Rattle.bz_hosts.proofs.Parts.{size, measured_rows, leaves_rows, comments_behind, behind_parts, parts_behind}
+use Rattle.bz_hosts.proofs.Parts.{measured_rows, leaves_rows, comments_behind, behind_parts, parts_behind}
 use Rattle.bz_hosts.proofs.Alternating.{Alternating, Regions}
 use Rattle.bz_hosts.proofs.Insides.{inside_list, form_inside, insides, row_insides, head_insides}
 use Rattle.bz_hosts.proofs.Texts.{Texts, InHost, first_texts}

@@ -1,35 +1,32 @@
 -- The law of hosts: the view of a legal tree has each comment where its place in the text says.
-use Rattle.std.proofs.Common.{◌≡◌, ℕ, true, false, suc, ◌+◌, ◌<◌, ◌≤◌, List, [], ◌∷◌, ◌++◌, ◌⊎◌, inl, inr, Option, Some, None, length, refl, sym, ap, ◌∙◌, subst, map, append-nil, arith}
+use Rattle.std.proofs.Common.{◌≡◌, ℕ, true, false, suc, ◌+◌, ◌<◌, ◌≤◌, List, [], ◌∷◌, ◌++◌, inl, inr, Option, None, length, refl, sym, ap, ◌∙◌, subst, map, append-nil, arith}
 use Rattle.std.specs.List.{AllByRecursion, flat_map}
 use Rattle.std.proofs.lemmas.Grind.{flat_map-append}
 use Rattle.std.proofs.lemmas.Bool.{eqb-true}
 use Rattle.bz_lex.specs.declared.leaf.Leaf.{Leaf}
 use Rattle.bz_tree.specs.declared.kind.Kind.{Kind}
 use Rattle.bz_tree.specs.declared.kind.Kind.TheVariants as k
-use Rattle.bz_tree.specs.declared.tree.Node.{Node}
 use Rattle.bz_tree.specs.declared.tree.Part.{Part, Row_of-Part, end_of-Part, more_of-Part, Node', items-the_row-Part}
 use Rattle.bz_tree.specs.declared.tree.Part.TheVariants as p
 use Rattle.bz_tree.specs.Shapes as s
 use Rattle.bz_tree.specs.Shapes.{Fits, Several, shape, tok, done, has_kind}
 use Rattle.bz_tree.specs.Spell.{leaves_part, leaves_row, leaves_of}
-use Rattle.bz_tree.specs.Legal.{IsSort, LegalPart, LegalRow, Legal}
+use Rattle.bz_tree.specs.Legal.{IsSort, LegalPart, LegalRow}
 use Rattle.bz_tree.specs.Spots.{Begins, behind_node, Stands, AtRow, AtParts}
 use Rattle.bz_tree.proofs.Balance.{no_such, parts_of_row}
 use Rattle.bz_tree.proofs.Numbers.{same_kind}
-use Rattle.bz_value.specs.declared.value.Item.{Item}
 use Rattle.bz_value.specs.Comments.{HostComments}
 use Rattle.bz_value.specs.Frames.{frame}
 use Rattle.bz_value.specs.Gaps.{Bytes, GapLine, lines_of, behind_first, groups_of, all_but_last, last_group}
-use Rattle.bz_value.specs.Proper.{comments_of}
 use Rattle.bz_viewed.specs.View as v
 use Rattle.bz_viewed.specs.View.{Seen, seen, seen_row, first_gap, blocks, statement, statements_in, file_items, view_of}
 use Rattle.bz_viewed.proofs.SeenParts.{seen_rows, comments_made}
-use Rattle.bz_hosts.specs.Hosts.{Region, Comment, comments_at, comments_from, Measured, sizes, measured, measured_row, hosts_from, in_line, regions_from, Place, outside, texts_at, Hosted, block, hosted, ended, hosted_at, hosted_by, alone, with_group, gap_of, last_gap, hosted_from, hosted_in, inside_expr, inside_item}
+use Rattle.bz_hosts.specs.Hosts.{Region, Comment, comments_at, comments_from, Measured, sizes, measured, measured_row, hosts_from, in_line, regions_from, Place, outside, texts_at, Hosted, block, hosted_at, hosted_by, alone, with_group, gap_of, last_gap, hosted_from, inside_expr, inside_item}
 use Rattle.bz_hosts.specs.Laws.{HostsByPlace}
 use Rattle.bz_hosts.proofs.Around.{AllInside, all_wider, Sees, SeesAt, sees_behind, sees_before}
-use Rattle.bz_hosts.proofs.Gathered.{key, pick, pick_other, GapPlaces, texts_joined, gap_all}
+use Rattle.bz_hosts.proofs.Gathered.{key, pick_other, GapPlaces, texts_joined, gap_all}
 use Rattle.bz_hosts.proofs.Parts.{size, measured_rows, leaves_rows, size_leaves, Solid, some_leaf, part_solid, seen_gap, comments_behind, inner, in_parts, behind_parts, parts_from, parts_behind}
-use Rattle.bz_hosts.proofs.Alternating.{Alternating, Regions, inside_joined, hosts_inside}
+use Rattle.bz_hosts.proofs.Alternating.{Alternating, inside_joined, hosts_inside}
 use Rattle.bz_hosts.proofs.Insides.{inside_made}
 use Rattle.bz_hosts.proofs.Cuts.{listed_alternating}
 use Rattle.bz_hosts.proofs.Nodes.{row_regions, row_solid}
@@ -174,39 +171,39 @@ line_step all n up (Node' kind size_ r) xs is some u gap there rest e e' above_i
     let line : Part = Node' kind size_ r in
     let behind_it : ℕ = n + size line in
     let seen_there : List Seen = seen_row r in
-      let mine : List Comment = inner n line in
-      let behind : List Comment = in_parts behind_it xs in
-      let told : (q : Place) → 0 < key q → texts_at all q (in_parts n (line ∷ xs)) ≡ texts_at all q mine ++ texts_at all q behind =
-      λ q d. texts_joined all q (comments_at n (seen line).gap) (mine ++ behind) ∙ (ap (λ (z : List Bytes). z ++ texts_at all q (mine ++ behind)) (outside_none all n (seen line).gap gap q d) ∙ texts_joined all q mine behind) in
-      record {
-        outer = λ q d o.
-            told q d ∙ (ap (λ (z : List Bytes). z ++ texts_at all q behind) (there.outer q d (λ j. o (j.0, omega (arith, j.1)))) ∙ rest.outer q d (λ j. o (omega (arith, j.0), j.1)));
-        found = λ cs left f.
-            let lines : List GapLine = left ++ lines_of (first_gap seen_there) in
-            let before : List Hosted = alone (all_but_last (groups_of lines)) in
-            let group : List Bytes = last_group (groups_of lines) in
-            let next : List GapLine = behind_first (lines_of (v.last_gap seen_there)) in
-            let len : n + length (leaves_row r) ≡ behind_it = ap (λ (z : ℕ). n + z) (sym (size_leaves line)) in
-            let hosts_there : map (hosted_at all cs) (in_line n line) ≡ flat_map inside_item (statements_in [] seen_there) = there.found cs (λ q j.
-                let j0 = j.0 in
-                let d : 0 < key q = omega arith in
-                f q (j.0, omega (arith, j.1)) ∙ (told q d ∙ (ap (λ (z : List Bytes). texts_at all q mine ++ z) (rest.outer q d (λ i. omega (arith, i.0, j.1))) ∙ append-nil (texts_at all q mine)))) in
-            let after : hosted_from all cs next behind_it xs ≡ flat_map inside_item (file_items next xs) = rest.found cs next (λ q j.
-                let j0 = j.0 in
-                let d : 0 < key q = omega arith in
-                f q (omega arith, j.1) ∙ (told q d ∙ ap (λ (z : List Bytes). z ++ texts_at all q behind) (there.outer q d (λ i. omega (arith, i.1, j.0))))) in
-            let joined : (gap last : Bytes) (place : ℕ) → List Hosted = λ gap last place.
-                (alone (all_but_last (groups_of (left ++ lines_of gap))) ++ with_group (last_group (groups_of (left ++ lines_of gap))) (map (hosted_at all cs) (in_line n line))) ++ hosted_from all cs (behind_first (lines_of last)) place xs in
-            ap (λ (z : Bytes). joined z (last_gap (leaves_row r)) (n + length (leaves_row r))) e
-            ∙ (ap (λ (z : Bytes). joined (first_gap seen_there) z (n + length (leaves_row r))) e'
-            ∙ (ap (λ (z : ℕ). joined (first_gap seen_there) (v.last_gap seen_there) z) len
-            ∙ (ap (λ (z : List Hosted). (before ++ with_group group z) ++ hosted_from all cs next behind_it xs) hosts_there
-            ∙ (ap (λ (z : List Hosted). (before ++ z) ++ hosted_from all cs next behind_it xs) (above_it group)
-            ∙ (ap (λ (z : List Hosted). (before ++ flat_map inside_item (statements_in group seen_there)) ++ z) after
-            ∙ (ap (λ (z : List Hosted). (z ++ flat_map inside_item (statements_in group seen_there)) ++ flat_map inside_item (file_items next xs)) (sym (blocks_alone (all_but_last (groups_of lines))))
-            ∙ (ap (λ (z : List Hosted). z ++ flat_map inside_item (file_items next xs)) (sym (flat_map-append inside_item (blocks (all_but_last (groups_of lines))) (statements_in group seen_there)))
-            ∙ sym (flat_map-append inside_item (v.line_items lines seen_there) (file_items next xs)))))))));
-      }
+    let mine : List Comment = inner n line in
+    let behind : List Comment = in_parts behind_it xs in
+    let told : (q : Place) → 0 < key q → texts_at all q (in_parts n (line ∷ xs)) ≡ texts_at all q mine ++ texts_at all q behind =
+    λ q d. texts_joined all q (comments_at n (seen line).gap) (mine ++ behind) ∙ (ap (λ (z : List Bytes). z ++ texts_at all q (mine ++ behind)) (outside_none all n (seen line).gap gap q d) ∙ texts_joined all q mine behind) in
+    record {
+      outer = λ q d o.
+          told q d ∙ (ap (λ (z : List Bytes). z ++ texts_at all q behind) (there.outer q d (λ j. o (j.0, omega (arith, j.1)))) ∙ rest.outer q d (λ j. o (omega (arith, j.0), j.1)));
+      found = λ cs left f.
+          let lines : List GapLine = left ++ lines_of (first_gap seen_there) in
+          let before : List Hosted = alone (all_but_last (groups_of lines)) in
+          let group : List Bytes = last_group (groups_of lines) in
+          let next : List GapLine = behind_first (lines_of (v.last_gap seen_there)) in
+          let len : n + length (leaves_row r) ≡ behind_it = ap (λ (z : ℕ). n + z) (sym (size_leaves line)) in
+          let hosts_there : map (hosted_at all cs) (in_line n line) ≡ flat_map inside_item (statements_in [] seen_there) = there.found cs (λ q j.
+          let j0 = j.0 in
+          let d : 0 < key q = omega arith in
+          f q (j.0, omega (arith, j.1)) ∙ (told q d ∙ (ap (λ (z : List Bytes). texts_at all q mine ++ z) (rest.outer q d (λ i. omega (arith, i.0, j.1))) ∙ append-nil (texts_at all q mine)))) in
+          let after : hosted_from all cs next behind_it xs ≡ flat_map inside_item (file_items next xs) = rest.found cs next (λ q j.
+          let j0 = j.0 in
+          let d : 0 < key q = omega arith in
+          f q (omega arith, j.1) ∙ (told q d ∙ ap (λ (z : List Bytes). z ++ texts_at all q behind) (there.outer q d (λ i. omega (arith, i.1, j.0))))) in
+          let joined : (gap last : Bytes) (place : ℕ) → List Hosted = λ gap last place.
+          (alone (all_but_last (groups_of (left ++ lines_of gap))) ++ with_group (last_group (groups_of (left ++ lines_of gap))) (map (hosted_at all cs) (in_line n line))) ++ hosted_from all cs (behind_first (lines_of last)) place xs in
+          ap (λ (z : Bytes). joined z (last_gap (leaves_row r)) (n + length (leaves_row r))) e
+          ∙ (ap (λ (z : Bytes). joined (first_gap seen_there) z (n + length (leaves_row r))) e'
+          ∙ (ap (λ (z : ℕ). joined (first_gap seen_there) (v.last_gap seen_there) z) len
+          ∙ (ap (λ (z : List Hosted). (before ++ with_group group z) ++ hosted_from all cs next behind_it xs) hosts_there
+          ∙ (ap (λ (z : List Hosted). (before ++ z) ++ hosted_from all cs next behind_it xs) (above_it group)
+          ∙ (ap (λ (z : List Hosted). (before ++ flat_map inside_item (statements_in group seen_there)) ++ z) after
+          ∙ (ap (λ (z : List Hosted). (z ++ flat_map inside_item (statements_in group seen_there)) ++ flat_map inside_item (file_items next xs)) (sym (blocks_alone (all_but_last (groups_of lines))))
+          ∙ (ap (λ (z : List Hosted). z ++ flat_map inside_item (file_items next xs)) (sym (flat_map-append inside_item (blocks (all_but_last (groups_of lines))) (statements_in group seen_there)))
+          ∙ sym (flat_map-append inside_item (v.line_items lines seen_there) (file_items next xs)))))))));
+    }
 
 lines_texts : (all : List Region) (n up : ℕ) (xs : List Part) → up ≡ n + sizes (map measured xs) → LinesOf xs → AllByRecursion LegalPart xs → AtParts Stands Begins Begins xs → SeesAt all None n up (regions_from n xs) → FileTexts all n up xs
 lines_texts all n up [] u h g at_ sees = record { outer = λ q d o. refl; found = λ cs left f. refl }

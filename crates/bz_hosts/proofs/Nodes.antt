@@ -1,6 +1,6 @@
 -- The texts of a node of any kind, and so of each part of a legal tree.
-use Rattle.std.proofs.Common.{◌≡◌, ℕ, suc, ◌+◌, ◌<◌, ◌≤◌, List, [], ◌∷◌, ◌++◌, inl, inr, Option, Some, None, refl, sym, ap, ◌∙◌, subst, map, take, drop, append_assoc, append-nil, arith}
-use Rattle.std.specs.List.{AllByRecursion, flat_map}
+use Rattle.std.proofs.Common.{◌≡◌, ℕ, suc, ◌+◌, ◌≤◌, List, [], ◌∷◌, ◌++◌, inl, inr, Some, refl, sym, ap, ◌∙◌, subst, map, take, drop, append_assoc, append-nil, arith}
+use Rattle.std.specs.List.{AllByRecursion}
 use Rattle.std.proofs.lemmas.List.{take-map, drop-map}
 use Rattle.bz_lex.specs.declared.leaf.Leaf.{Leaf}
 use Rattle.bz_tree.specs.declared.kind.Kind.{Kind}
@@ -8,22 +8,19 @@ use Rattle.bz_tree.specs.declared.tree.Part.{Part, Row_of-Part, end_of-Part, mor
 use Rattle.bz_tree.specs.declared.tree.Part.TheVariants as p
 use Rattle.bz_tree.specs.Shapes as s
 use Rattle.bz_tree.specs.Shapes.{Fits, shape}
-use Rattle.bz_tree.specs.Spell.{leaves_row}
 use Rattle.bz_tree.specs.Legal.{IsSort, LegalPart, LegalRow}
-use Rattle.bz_value.specs.declared.value.Expr.{Expr}
-use Rattle.bz_value.specs.Comments.{no_comments}
-use Rattle.bz_value.specs.Frames.{Frame, row, sequence, frame, lead, is_binary}
+use Rattle.bz_value.specs.Frames.{Frame, row, sequence, frame, lead}
 use Rattle.bz_value.specs.Gaps.{Bytes, all_in}
 use Rattle.bz_value.proofs.GapComments.{all_joined}
-use Rattle.bz_viewed.specs.View.{Seen, seen, seen_row, plain, first_gap, loose_in, row_exprs, row_form, sequence_form, items_in, node_in}
-use Rattle.bz_viewed.proofs.SeenParts.{seen_rows, all_parted}
-use Rattle.bz_hosts.specs.Hosts.{Region, host, between, Comment, comments_at, Measured, sizes, measured, measured_row, in_row, in_node, hosts_from, Place, above, end_of, texts_at, Hosted, ended, hosted_at, by_frame, inside_expr}
-use Rattle.bz_hosts.proofs.Around.{AllInside, all_wider, Sees, SeesAt, sees_behind, sees_before, sees_before_bracket, sees_in_sequence}
+use Rattle.bz_viewed.specs.View.{Seen, seen, plain, loose_in, items_in}
+use Rattle.bz_viewed.proofs.SeenParts.{all_parted}
+use Rattle.bz_hosts.specs.Hosts.{Region, host, between, Comment, comments_at, Measured, sizes, measured, in_row, in_node, hosts_from, Place, above, texts_at, Hosted, ended, hosted_at, inside_expr}
+use Rattle.bz_hosts.proofs.Around.{AllInside, all_wider, Sees, SeesAt, sees_behind, sees_before_bracket, sees_in_sequence}
 use Rattle.bz_hosts.proofs.Gathered.{key, pick, pick_other, pick_none, GapPlaces, texts_joined, gap_all}
-use Rattle.bz_hosts.proofs.Parts.{size, measured_rows, leaves_rows, Solid, some_leaf, part_solid, comments_behind, inner, in_parts, behind_parts, parts_behind}
+use Rattle.bz_hosts.proofs.Parts.{size, measured_rows, Solid, some_leaf, part_solid, inner, in_parts, behind_parts}
 use Rattle.bz_hosts.proofs.Alternating.{Alternating, Regions, inside_joined, hosts_inside}
-use Rattle.bz_hosts.proofs.Insides.{inside_list, form_inside, insides, row_insides, head_insides}
-use Rattle.bz_hosts.proofs.Texts.{Inner, Texts, both_texts, PartTexts, InHost, row_inside, first_texts}
+use Rattle.bz_hosts.proofs.Insides.{inside_list, insides}
+use Rattle.bz_hosts.proofs.Texts.{Inner, Texts, both_texts, InHost, row_inside, first_texts}
 use Rattle.bz_hosts.proofs.Cuts.{Cut, sequence_cut}
 use Rattle.bz_hosts.proofs.Sequences.{Mine, first_place, first_mine, beginning_first, gap_free, BodyTexts, body_texts}
 

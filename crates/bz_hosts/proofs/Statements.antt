@@ -1,5 +1,5 @@
 -- The texts of a line, behind the gap of its first leaf.
-use Rattle.std.proofs.Common.{◌≡◌, ◌≢◌, ℕ, suc, ◌+◌, ◌<◌, ◌≤◌, true, false, List, [], ◌∷◌, ◌++◌, Option, Some, None, refl, sym, ap, ◌∙◌, subst, map, append-nil, arith}
+use Rattle.std.proofs.Common.{◌≡◌, ℕ, suc, ◌+◌, ◌<◌, ◌≤◌, true, false, List, [], ◌∷◌, ◌++◌, Option, Some, None, refl, sym, ap, ◌∙◌, subst, map, append-nil, arith}
 use Rattle.std.specs.List.{AllByRecursion, flat_map}
 use Rattle.bz_lex.specs.declared.leaf.Leaf.{Leaf}
 use Rattle.bz_tree.specs.declared.tree.Part.{Part, Node'}
@@ -8,12 +8,13 @@ use Rattle.bz_tree.specs.Shapes as s
 use Rattle.bz_value.specs.declared.value.Item.{Item}
 use Rattle.bz_value.specs.Gaps.{Bytes, GapLine, lines_of, listed, behind_first, comments_in, first_comment, suffix_in, others_in, all_in}
 use Rattle.bz_viewed.specs.View.{seen, plain, statement, statements_in}
-use Rattle.bz_hosts.specs.Hosts.{Region, host, Comment, comments_at, Measured, sizes, measured, is_item, hosts_from, Place, suffix_of, above, outside, texts_at, Hosted, hosted_at, inside_expr, inside_item}
+use Rattle.bz_hosts.specs.Hosts.{Region, host, Comment, comments_at, sizes, measured, is_item, hosts_from, Place, suffix_of, above, outside, texts_at, hosted_at, inside_expr, inside_item}
 use Rattle.bz_hosts.proofs.Around.{AllInside, Sees, SeesAt, Ended, sees_behind, sees_before, sees_in_host, sees_past_host, sees_ended}
 use Rattle.bz_hosts.proofs.Gathered.{key, pick, pick_same, pick_other, pick_none, GapPlaces, texts_joined, gap_texts}
 use Rattle.bz_hosts.proofs.Parts.{size, inner, in_parts, behind_parts}
 use Rattle.bz_hosts.proofs.Alternating.{IsMark, Alternating, Regions, hosts_closed, hosts_last, hosts_more, hosts_inside}
-use Rattle.bz_hosts.proofs.Texts.{Inner, PartTexts, InHost}
+use Rattle.bz_hosts.proofs.Texts.{PartTexts, InHost}
+use Rattle.bz_hosts.proofs.Joined.{Lines, three_none, three_first, three_second, three_third}
 use Rattle.bz_hosts.proofs.Sequences.{From, host_with}
 use Rattle.bz_hosts.proofs.QuietGaps.{Quiet}
 
@@ -25,21 +26,6 @@ pub record LineTexts (all : List Region) (n hi : ℕ) (mine : List Comment) (rs 
 
 pub nothing_there : (all : List Region) (n hi : ℕ) → LineTexts all n hi [] [] []
 nothing_there all n hi = record { outer = λ q k o. refl; found = λ cs f. refl }
-
-abbrev Lines : Type 0
-Lines = List Bytes
-
-three_none : (a b c : Lines) → a ≡ [] → b ≡ [] → c ≡ [] → a ++ (b ++ c) ≡ []
-three_none a b c h i j = rw (h, i, j) refl
-
-three_first : (a b c u : Lines) → a ≡ u → b ≡ [] → c ≡ [] → a ++ (b ++ c) ≡ u
-three_first a b c u h i j = rw (h, i, j) (append-nil u)
-
-three_second : (a b c u : Lines) → a ≡ [] → b ≡ u → c ≡ [] → a ++ (b ++ c) ≡ u
-three_second a b c u h i j = rw (h, i, j) (append-nil u)
-
-three_third : (a b c u : Lines) → a ≡ [] → b ≡ [] → c ≡ u → a ++ (b ++ c) ≡ u
-three_third a b c u h i j = rw (h, i, j) refl
 
 -- ---- gaps of a line
 
@@ -66,8 +52,8 @@ gap_suffix all m first gap h q k =
 -- ---- a statement before others
 
 module _ (all : List Region) (n n' hi next : ℕ) (x : Part) (suffix : Option Bytes) (whole later : List Comment) (rs : List Region) (items : List Item)
-  (some : 0 < size x) (ahead : n + size x ≤ n') (up : n + size x ≤ hi) (part : PartTexts all n n x)
-  (told : (q : Place) → 0 < key q → texts_at all q whole ≡ texts_at all q (inner n x) ++ (pick (suffix_of n) q (listed suffix) ++ texts_at all q later)) (rest : LineTexts all n' hi later rs items) where
+    (some : 0 < size x) (ahead : n + size x ≤ n') (up : n + size x ≤ hi) (part : PartTexts all n n x)
+    (told : (q : Place) → 0 < key q → texts_at all q whole ≡ texts_at all q (inner n x) ++ (pick (suffix_of n) q (listed suffix) ++ texts_at all q later)) (rest : LineTexts all n' hi later rs items) where
   statement_texts : LineTexts all n hi whole (host n (n + size x) next ∷ ((measured x).inside n ++ rs)) (statement [] suffix (seen x) ∷ items)
   statement_texts =
       let b : ℕ = n + size x in
@@ -79,17 +65,17 @@ module _ (all : List Region) (n n' hi next : ℕ) (x : Part) (suffix : Option By
             told q k ∙ three_none _ _ _ (part.outer q (λ j. o (omega (arith, j.0), omega (arith, j.1))) ∙ pick_other (above n) q loose differ) (pick_other (suffix_of n) q (listed suffix) differ) (rest.outer q k (λ j. o (omega (arith, j.0), j.1)));
         found = λ cs f.
             let inside : map (hosted_at all cs) ((measured x).inside n) ≡ inside_expr (plain (seen x)) = part.hosts cs (λ q j.
-                let j0 = j.0 in
-                let j1 = j.1 in
-                f q (omega arith, omega arith) ∙ (told q (omega arith) ∙ three_first _ _ _ (texts_at all q (inner n x)) refl (pick_other (suffix_of n) q (listed suffix) (λ e. omega arith)) (rest.outer q (omega arith) (λ k. omega (arith, k.0))))) in
+            let j0 = j.0 in
+            let j1 = j.1 in
+            f q (omega arith, omega arith) ∙ (told q (omega arith) ∙ three_first _ _ _ (texts_at all q (inner n x)) refl (pick_other (suffix_of n) q (listed suffix) (λ e. omega arith)) (rest.outer q (omega arith) (λ k. omega (arith, k.0))))) in
             let at_above : texts_at all (above n) cs ≡ loose =
             f (above n) here ∙ (told (above n) (omega arith) ∙ three_first _ _ _ loose (part.outer (above n) (λ j. omega (arith, j.0)) ∙ pick_same (above n) loose) refl (rest.outer (above n) (omega arith) (λ k. omega (arith, k.0)))) in
             let at_suffix : texts_at all (suffix_of n) cs ≡ listed suffix =
             f (suffix_of n) here ∙ (told (suffix_of n) (omega arith) ∙ three_second _ _ _ (listed suffix) (part.outer (suffix_of n) (λ j. omega (arith, j.0))) (pick_same (suffix_of n) (listed suffix)) (rest.outer (suffix_of n) (omega arith) (λ k. omega (arith, k.0)))) in
             host_with all n b next x (record { before = loose; suffix = suffix }) cs rs (flat_map inside_item items) at_above at_suffix inside (rest.found cs (λ q j.
-                let j0 = j.0 in
-                let differ : suc (n + n) ≡ key q → ⊥ = λ e. omega arith in
-                f q (omega arith, j.1) ∙ (told q (omega arith) ∙ three_third _ _ _ (texts_at all q later) (part.outer q (λ k. omega (arith, k.1)) ∙ pick_other (above n) q loose differ) (pick_other (suffix_of n) q (listed suffix) differ) refl)));
+            let j0 = j.0 in
+            let differ : suc (n + n) ≡ key q → ⊥ = λ e. omega arith in
+            f q (omega arith, j.1) ∙ (told q (omega arith) ∙ three_third _ _ _ (texts_at all q later) (part.outer q (λ k. omega (arith, k.1)) ∙ pick_other (above n) q loose differ) (pick_other (suffix_of n) q (listed suffix) differ) refl)));
       }
 
 -- ---- the line

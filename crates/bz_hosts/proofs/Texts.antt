@@ -1,11 +1,11 @@
 -- The texts of parts inside a host: what stands in no region of the parts goes to the host.
-use Rattle.std.proofs.Common.{◌≡◌, ℕ, suc, ◌+◌, ◌<◌, ◌≤◌, Bool, true, false, List, [], ◌∷◌, ◌++◌, Option, Some, None, refl, sym, ap, ◌∙◌, subst, map, append_assoc, append-nil, arith}
+use Rattle.std.proofs.Common.{◌≡◌, ℕ, suc, ◌+◌, ◌<◌, ◌≤◌, List, [], ◌∷◌, ◌++◌, Some, refl, sym, ap, ◌∙◌, subst, map, append_assoc, append-nil, arith}
 use Rattle.std.specs.List.{AllByRecursion}
 use Rattle.std.proofs.lemmas.List.{map-append}
 use Rattle.bz_tree.specs.declared.tree.Part.{Part}
 use Rattle.bz_value.specs.Gaps.{Bytes, all_in}
 use Rattle.bz_viewed.specs.View.{seen, plain, loose_in, loose_behind}
-use Rattle.bz_hosts.specs.Hosts.{Region, host, Comment, comments_at, Measured, sizes, measured, in_row, Place, above, texts_at, Hosted, hosted_at, inside_expr}
+use Rattle.bz_hosts.specs.Hosts.{Region, host, Comment, comments_at, sizes, measured, in_row, Place, above, texts_at, Hosted, hosted_at, inside_expr}
 use Rattle.bz_hosts.proofs.Around.{AllInside, all_wider, Sees, SeesAt, sees_behind, sees_before}
 use Rattle.bz_hosts.proofs.Gathered.{key, pick, pick_other, pick_none, pick_joined, GapPlaces, texts_joined, gap_all}
 use Rattle.bz_hosts.proofs.Parts.{size, inner, in_parts, behind_parts}
