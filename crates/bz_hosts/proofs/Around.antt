@@ -178,6 +178,7 @@ module _ (all : List Region) (m : ℕ) (found : Option Region) (hi : ℕ) where
       let e : nat_le m first ≡ false = grind (arith, nat_tests) in
       record {
         ends = h.ends ∙ rw (eq-eqb m m refl) refl;
-        inner = h.inner ∙ (ap (λ (t : Bool). innermost m (if t then Some (host first behind m) else found) (rs ++ rs')) (not_above first m behind u) ∙ (innermost_joined m found rs rs' ∙ (ap (λ z. innermost m z rs') (innermost_silent m found rs q) ∙ innermost_silent m found rs' q')));
+        inner = h.inner ∙ (ap (λ (t : Bool). innermost m (if t then Some (host first behind m) else found) (rs ++ rs')) (not_above first m behind u) ∙
+            (innermost_joined m found rs rs' ∙ (ap (λ z. innermost m z rs') (innermost_silent m found rs q) ∙ innermost_silent m found rs' q')));
         begins = h.begins hi (omega arith) ∙ rw e (beginning_passed m hi first behind u rs rs' i);
       }

@@ -51,11 +51,13 @@ bracket_hosts kind opener closer e xs =
 module _ (all : List Region) (h b e n : ℕ) (under : h ≤ n) where
   body_case : (head : List Part) (l : Leaf) (body : List Part) → Alternating s.comma body → AllByRecursion Regions head → AllByRecursion Regions body → AllByRecursion (InHost all) head → AllByRecursion (InHost all) body →
       SeesAt all (Some (host h b e)) (suc n) (suc (n + sizes (map measured head)) + sizes (map measured body)) (cut_regions n head body) →
-      Texts all h n (suc (n + sizes (map measured head)) + sizes (map measured body)) (behind_parts n (head ++ p.Leaf l ∷ body)) (loose_in (map seen (head ++ p.Leaf l ∷ []))) (cut_regions n head body) (insides head ++ sequence_hosts (all_in (first_gap (map seen body))) (map seen body))
+      Texts all h n (suc (n + sizes (map measured head)) + sizes (map measured body)) (behind_parts n (head ++ p.Leaf l ∷ body)) (loose_in (map seen (head ++ p.Leaf l ∷ []))) (cut_regions n head body)
+      (insides head ++ sequence_hosts (all_in (first_gap (map seen body))) (map seen body))
   body_case head l [] a r r' i i' v = absurd a
   body_case head l (x ∷ xs) a r r' i i' v = cut_texts all h b e n head l x xs under a r r' i i' v
 
-  node_texts : (kind : Kind) (f : Frame) → frame kind ≡ f → (xs : List Part) → Fits IsSort (shape kind) xs → AllByRecursion Regions xs → AllByRecursion (InHost all) xs → SeesAt all (Some (host h b e)) (suc n) (n + sizes (map measured xs)) (in_node f kind n (map measured xs)) →
+  node_texts : (kind : Kind) (f : Frame) → frame kind ≡ f → (xs : List Part) → Fits IsSort (shape kind) xs → AllByRecursion Regions xs → AllByRecursion (InHost all) xs →
+      SeesAt all (Some (host h b e)) (suc n) (n + sizes (map measured xs)) (in_node f kind n (map measured xs)) →
       Texts all h n (n + sizes (map measured xs)) (behind_parts n xs) (node_in f kind (map seen xs)).loose (in_node f kind n (map measured xs)) (inside_expr (plain (node_in f kind (map seen xs))))
   node_texts kind row d xs fits r i v =
       let up : ℕ = n + sizes (map measured xs) in
@@ -90,7 +92,8 @@ mutual
       let xs : List Part = items-the_row-Part _ r in
       let f : Frame = frame kind in
       let comments : comments_behind n (leaves_row r) ≡ behind_parts n xs = ap (comments_behind n) (leaves_rows _ r) ∙ parts_behind n xs (row_solid _ r g.1) in
-      subst (λ (ms : List Measured). SeesAt all (Some (host h b e)) (suc n) (n + sizes ms) (in_node f kind n ms) → Texts all h n (n + sizes ms) (comments_behind n (leaves_row r)) (node_in f kind (seen_row r)).loose (in_node f kind n ms) (inside_expr (plain (node_in f kind (seen_row r)))))
+      subst (λ (ms : List Measured). SeesAt all (Some (host h b e)) (suc n) (n + sizes ms) (in_node f kind n ms) → Texts all h n (n + sizes ms) (comments_behind n (leaves_row r)) (node_in f kind (seen_row r)).loose
+      (in_node f kind n ms) (inside_expr (plain (node_in f kind (seen_row r)))))
       (sym (measured_rows _ r))
       (λ v'. subst (λ (cs : List Comment). Texts all h n (n + sizes (map measured xs)) cs (node_in f kind (seen_row r)).loose (in_node f kind n (map measured xs)) (inside_expr (plain (node_in f kind (seen_row r))))) (sym comments)
       (subst (λ (ss : List Seen). Texts all h n (n + sizes (map measured xs)) (behind_parts n xs) (node_in f kind ss).loose (in_node f kind n (map measured xs)) (inside_expr (plain (node_in f kind ss)))) (sym (seen_rows _ r))

@@ -117,7 +117,8 @@ line_in : (x : Part) → IsSort s.line x → LegalPart x → LineIn x
 line_in (p.Leaf l) h g = no_such h
 line_in (Node' kind z r) h g = record {
   some = some_leaf (Node' kind z r) (part_solid (Node' kind z r) g);
-  within = λ n. subst (λ (ms : List Measured). AllInside n (n + sizes ms) (hosts_from s.semicolon n ms)) (sym (measured_rows _ r)) (hosts_inside s.semicolon n (items-the_row-Part _ r) (line_alternating (items-the_row-Part _ r) (statements_of kind (items-the_row-Part _ r) h g.0)) (row_regions _ r g.1));
+  within = λ n. subst (λ (ms : List Measured). AllInside n (n + sizes ms) (hosts_from s.semicolon n ms)) (sym (measured_rows _ r))
+      (hosts_inside s.semicolon n (items-the_row-Part _ r) (line_alternating (items-the_row-Part _ r) (statements_of kind (items-the_row-Part _ r) h g.0)) (row_regions _ r g.1));
 }
 
 leaf_in : (l : Leaf) → LineIn (p.Leaf l)
@@ -144,7 +145,8 @@ row_legal m end_of-Part h = tt
 row_legal m (more_of-Part x rest) h = (h.0, row_legal _ rest h.1)
 
 -- the texts of a line
-line_found : (all : List Region) (n : ℕ) (kind : Kind) (m : _) (r : Row_of-Part m) → Statements (items-the_row-Part m r) → LegalRow r → AtRow Stands Begins Begins r → SeesAt all None (suc n) (n + sizes (measured_row r)) (hosts_from s.semicolon n (measured_row r)) →
+line_found : (all : List Region) (n : ℕ) (kind : Kind) (m : _) (r : Row_of-Part m) → Statements (items-the_row-Part m r) → LegalRow r → AtRow Stands Begins Begins r →
+    SeesAt all None (suc n) (n + sizes (measured_row r)) (hosts_from s.semicolon n (measured_row r)) →
     LineTexts all n (n + sizes (measured_row r)) (comments_behind n (leaves_row r)) (hosts_from s.semicolon n (measured_row r)) (statements_in [] (seen_row r))
 line_found all n kind m r h g at_ sees =
     let ys : List Part = items-the_row-Part m r in
@@ -163,8 +165,10 @@ seen_parts (p.Leaf l) = []
 seen_parts (Node' kind m r) = seen_row r
 
 -- a line, and the lines behind it
-line_step : (all : List Region) (n up : ℕ) (x : Part) (xs : List Part) → IsSort s.line x → 0 < size x → n + size x ≤ up → GapPlaces all n outside outside → LineTexts all n (n + size x) (inner n x) (in_line n x) (statements_in [] (seen_parts x)) → FileTexts all (n + size x) up xs →
-    gap_of (leaves_part x) ≡ first_gap (seen_parts x) → last_gap (leaves_part x) ≡ v.last_gap (seen_parts x) → ((group : List Bytes) → with_group group (flat_map inside_item (statements_in [] (seen_parts x))) ≡ flat_map inside_item (statements_in group (seen_parts x))) →
+line_step : (all : List Region) (n up : ℕ) (x : Part) (xs : List Part) → IsSort s.line x → 0 < size x → n + size x ≤ up → GapPlaces all n outside outside →
+    LineTexts all n (n + size x) (inner n x) (in_line n x) (statements_in [] (seen_parts x)) → FileTexts all (n + size x) up xs →
+    gap_of (leaves_part x) ≡ first_gap (seen_parts x) → last_gap (leaves_part x) ≡ v.last_gap (seen_parts x) →
+    ((group : List Bytes) → with_group group (flat_map inside_item (statements_in [] (seen_parts x))) ≡ flat_map inside_item (statements_in group (seen_parts x))) →
     FileTexts all n up (x ∷ xs)
 line_step all n up (p.Leaf l) xs is some u gap there rest e e' above_it = no_such is
 line_step all n up (Node' kind size_ r) xs is some u gap there rest e e' above_it =
@@ -227,8 +231,12 @@ lines_texts all n up (Node' kind z r ∷ xs) u (inr h) g at_ sees =
     let some = there.some in
     let rest_in : AllByRecursion LineIn xs = lines_in xs h.1 g.1 in
     let statements : Statements ys = statements_of kind ys h.0 g.0.0 in
-    let gap : GapPlaces all n outside outside = gap_outside all n n (sees_before all n None up n (n + sizes (map measured (x ∷ xs))) n [] (in_line n x ++ regions_from m xs) (regions_inside n (x ∷ xs) (there, rest_in)) (omega arith) (omega arith) (omega arith) (sees n (omega arith) (omega arith))) in
-    let texts : LineTexts all n m (inner n x) (in_line n x) (statements_in [] (seen_row r)) = line_found all n kind _ r statements g.0.1 at_.0 (λ q a b. sees_before all q None up m (m + sizes (map measured xs)) m (in_line n x) (regions_from m xs) (regions_inside m xs rest_in) (omega arith) (omega arith) (omega arith) (sees q (omega arith) (omega arith))) in
+    let gap : GapPlaces all n outside outside = gap_outside all n n
+    (sees_before all n None up n (n + sizes (map measured (x ∷ xs))) n [] (in_line n x ++ regions_from m xs) (regions_inside n (x ∷ xs) (there, rest_in)) (omega arith) (omega arith) (omega arith)
+    (sees n (omega arith) (omega arith))) in
+    let texts : LineTexts all n m (inner n x) (in_line n x) (statements_in [] (seen_row r)) = line_found all n kind _ r statements g.0.1 at_.0
+    (λ q a b. sees_before all q None up m (m + sizes (map measured xs)) m (in_line n x) (regions_from m xs) (regions_inside m xs rest_in) (omega arith) (omega arith) (omega arith)
+    (sees q (omega arith) (omega arith))) in
     let at_rest : AtParts Stands Begins Begins xs = subst (λ kd. AtParts Stands Begins (behind_node kd Begins) xs) e at_.1 in
     let rest : FileTexts all m up xs = lines_texts all m up xs (omega arith) h.1 g.1 at_rest (λ q a b. sees_behind all q None up n m (in_line n x) (regions_from m xs) (there.within n) a (sees q (omega arith) b)) in
     let solid : Solid x = part_solid x g.0 in
