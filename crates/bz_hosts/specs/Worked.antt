@@ -39,32 +39,32 @@ text tree spelled hosts = (spell_node tree ≡ spelled) × (hosted_in tree ≡ h
 abbrev called : Node
 called =
     file (
-      node k.Bare (
-        node k.Call (
-          name (codes "# a\n\n# b\n") (codes "f")
-          ∷ mark [] (codes "(")
-          ∷ name (codes " # c\n# d\n") (codes "x")
-          ∷ mark [] (codes ",")
-          ∷ node k.List (mark (codes " # e\n") (codes "[") ∷ mark (codes " # g\n") (codes "]") ∷ [])
-          ∷ mark (codes "\n# h\n") (codes ")")
-          ∷ []
-        )
-        ∷ []
-      )
-      ∷ []
+    node k.Bare (
+    node k.Call (
+    name (codes "# a\n\n# b\n") (codes "f")
+    ∷ mark [] (codes "(")
+    ∷ name (codes " # c\n# d\n") (codes "x")
+    ∷ mark [] (codes ",")
+    ∷ node k.List (mark (codes " # e\n") (codes "[") ∷ mark (codes " # g\n") (codes "]") ∷ [])
+    ∷ mark (codes "\n# h\n") (codes ")")
+    ∷ []
+    )
+    ∷ []
+    )
+    ∷ []
     ) (codes " # i") (codes "# j\n")
 
 abbrev pub Call : Type 0
 Call =
     text called (codes "# a\n\n# b\nf( # c\n# d\nx, # e\n[ # g\n]\n# h\n) # i\n# j\n") (
-      block (codes "# a" ∷ [])
-      ∷ hosted (codes "# b" ∷ []) (codes "# i" ∷ [])
-      ∷ ended (codes "# h" ∷ [])
-      ∷ hosted (codes "# c" ∷ codes "# d" ∷ []) (codes "# e" ∷ [])
-      ∷ hosted [] []
-      ∷ ended (codes "# g" ∷ [])
-      ∷ block (codes "# j" ∷ [])
-      ∷ []
+    block (codes "# a" ∷ [])
+    ∷ hosted (codes "# b" ∷ []) (codes "# i" ∷ [])
+    ∷ ended (codes "# h" ∷ [])
+    ∷ hosted (codes "# c" ∷ codes "# d" ∷ []) (codes "# e" ∷ [])
+    ∷ hosted [] []
+    ∷ ended (codes "# g" ∷ [])
+    ∷ block (codes "# j" ∷ [])
+    ∷ []
     )
 
 -- A comment between an item and its comma belongs to what follows, here the end.
