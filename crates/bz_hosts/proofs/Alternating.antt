@@ -1,17 +1,11 @@
 -- Items with separators between them and a closing token behind them: their hosts.
-use Rattle.std.proofs.Common.{◌≡◌, ℕ, suc, ◌+◌, ◌<◌, ◌≤◌, Bool, true, false, List, [], ◌∷◌, ◌++◌, inl, inr, refl, sym, ap, ◌∙◌, subst, map, arith}
+use Rattle.std.proofs.Common.{◌≡◌, ℕ, suc, ◌+◌, ◌<◌, Bool, true, false, List, [], ◌∷◌, ◌++◌, refl, sym, ap, ◌∙◌, subst, map, arith}
 use Rattle.std.specs.List.{AllByRecursion}
-use Rattle.bz_token.specs.declared.class.Class.{Class}
-use Rattle.bz_token.specs.declared.class.Class.TheVariants as c
 use Rattle.bz_lex.specs.declared.leaf.Leaf.{Leaf}
-use Rattle.bz_tree.specs.declared.kind.Kind.{Kind}
-use Rattle.bz_tree.specs.declared.kind.Kind.TheVariants as k
 use Rattle.bz_tree.specs.declared.tree.Part.{Part, Node'}
 use Rattle.bz_tree.specs.declared.tree.Part.TheVariants as p
-use Rattle.bz_tree.specs.Shapes as s
-use Rattle.bz_tree.specs.Shapes.{Sort, Terminal, Fits, Listed, items, tok, done, has_token, is_one_of}
-use Rattle.bz_tree.specs.Legal.{IsSort}
-use Rattle.bz_hosts.specs.Hosts.{Region, host, Measured, sizes, measured, is_word, is_item, begins_with, hosts_from}
+use Rattle.bz_tree.specs.Shapes.{Terminal, is_one_of}
+use Rattle.bz_hosts.specs.Hosts.{Region, host, sizes, measured, is_word, is_item, hosts_from}
 use Rattle.bz_hosts.proofs.Around.{AllInside, all_wider}
 use Rattle.bz_hosts.proofs.Parts.{size, measured_part}
 

@@ -1,5 +1,5 @@
 -- Which regions of a text a gap sees: those that end before it or begin behind it change nothing.
-use Rattle.std.proofs.Common.{◌≡◌, ◌≢◌, ℕ, suc, ◌+◌, ◌<◌, ◌≤◌, eqb, Bool, true, false, ◌&&◌, List, [], ◌∷◌, ◌++◌, inl, inr, Option, Some, None, refl, sym, ap, ◌∙◌, nat_eq, nat_lt, nat_le, if◌then◌else◌, arith}
+use Rattle.std.proofs.Common.{◌≡◌, ◌≢◌, ℕ, suc, ◌<◌, ◌≤◌, Bool, false, ◌&&◌, List, [], ◌∷◌, ◌++◌, inl, inr, Option, Some, None, refl, ap, ◌∙◌, nat_eq, nat_lt, nat_le, if◌then◌else◌, arith}
 use Rattle.std.specs.List.{AllByRecursion}
 use Rattle.std.proofs.lemmas.Bool.{cases_Bool, eq-eqb, ne_eqb, lt-ltb, le-ltb}
 use Rattle.std.proofs.lemmas.Bool.Decides.{nat_tests}
@@ -178,6 +178,7 @@ module _ (all : List Region) (m : ℕ) (found : Option Region) (hi : ℕ) where
       let e : nat_le m first ≡ false = grind (arith, nat_tests) in
       record {
         ends = h.ends ∙ rw (eq-eqb m m refl) refl;
-        inner = h.inner ∙ (ap (λ (t : Bool). innermost m (if t then Some (host first behind m) else found) (rs ++ rs')) (not_above first m behind u) ∙ (innermost_joined m found rs rs' ∙ (ap (λ z. innermost m z rs') (innermost_silent m found rs q) ∙ innermost_silent m found rs' q')));
+        inner = h.inner ∙ (ap (λ (t : Bool). innermost m (if t then Some (host first behind m) else found) (rs ++ rs')) (not_above first m behind u) ∙
+            (innermost_joined m found rs rs' ∙ (ap (λ z. innermost m z rs') (innermost_silent m found rs q) ∙ innermost_silent m found rs' q')));
         begins = h.begins hi (omega arith) ∙ rw e (beginning_passed m hi first behind u rs rs' i);
       }

@@ -1,5 +1,5 @@
 -- In each part of a legal tree that stands in a host, the comments are those of the view.
-use Rattle.std.proofs.Common.{◌≡◌, ℕ, suc, ◌+◌, ◌≤◌, false, ◌&&◌, List, [], ◌∷◌, ◌++◌, Option, Some, refl, sym, ap, ◌∙◌, subst, map, take, drop}
+use Rattle.std.proofs.Common.{◌≡◌, ℕ, suc, ◌+◌, ◌≤◌, false, ◌&&◌, List, [], ◌∷◌, ◌++◌, Some, refl, sym, ap, ◌∙◌, subst, map, take, drop}
 use Rattle.std.specs.List.{AllByRecursion, flat_map}
 use Rattle.std.proofs.lemmas.List.{take-map, drop-map}
 use Rattle.bz_lex.specs.declared.leaf.Leaf.{Leaf}
@@ -17,9 +17,9 @@ use Rattle.bz_value.specs.Frames.{Frame, row, sequence, frame, lead, is_binary, 
 use Rattle.bz_value.specs.Gaps.{all_in}
 use Rattle.bz_view.specs.View.{Seen, seen, seen_row, plain, first_gap, loose_in, row_exprs, items_in, is_split, is_open, node_in}
 use Rattle.bz_view.proofs.SeenParts.{seen_rows}
-use Rattle.bz_hosts.specs.Hosts.{Region, host, Comment, Measured, sizes, measured, measured_row, in_node, Hosted, ended, by_frame, inside_expr}
+use Rattle.bz_hosts.specs.Hosts.{Region, host, Comment, Measured, sizes, measured, in_node, Hosted, ended, by_frame, inside_expr}
 use Rattle.bz_hosts.proofs.Around.{SeesAt}
-use Rattle.bz_hosts.proofs.Parts.{size, measured_rows, leaves_rows, comments_behind, behind_parts, parts_behind}
+use Rattle.bz_hosts.proofs.Parts.{measured_rows, leaves_rows, comments_behind, behind_parts, parts_behind}
 use Rattle.bz_hosts.proofs.Alternating.{Alternating, Regions}
 use Rattle.bz_hosts.proofs.Insides.{inside_list, form_inside, insides, row_insides, head_insides}
 use Rattle.bz_hosts.proofs.Texts.{Texts, InHost, first_texts}
@@ -51,11 +51,13 @@ bracket_hosts kind opener closer e xs =
 module _ (all : List Region) (h b e n : ℕ) (under : h ≤ n) where
   body_case : (head : List Part) (l : Leaf) (body : List Part) → Alternating s.comma body → AllByRecursion Regions head → AllByRecursion Regions body → AllByRecursion (InHost all) head → AllByRecursion (InHost all) body →
       SeesAt all (Some (host h b e)) (suc n) (suc (n + sizes (map measured head)) + sizes (map measured body)) (cut_regions n head body) →
-      Texts all h n (suc (n + sizes (map measured head)) + sizes (map measured body)) (behind_parts n (head ++ p.Leaf l ∷ body)) (loose_in (map seen (head ++ p.Leaf l ∷ []))) (cut_regions n head body) (insides head ++ sequence_hosts (all_in (first_gap (map seen body))) (map seen body))
+      Texts all h n (suc (n + sizes (map measured head)) + sizes (map measured body)) (behind_parts n (head ++ p.Leaf l ∷ body)) (loose_in (map seen (head ++ p.Leaf l ∷ []))) (cut_regions n head body)
+      (insides head ++ sequence_hosts (all_in (first_gap (map seen body))) (map seen body))
   body_case head l [] a r r' i i' v = absurd a
   body_case head l (x ∷ xs) a r r' i i' v = cut_texts all h b e n head l x xs under a r r' i i' v
 
-  node_texts : (kind : Kind) (f : Frame) → frame kind ≡ f → (xs : List Part) → Fits IsSort (shape kind) xs → AllByRecursion Regions xs → AllByRecursion (InHost all) xs → SeesAt all (Some (host h b e)) (suc n) (n + sizes (map measured xs)) (in_node f kind n (map measured xs)) →
+  node_texts : (kind : Kind) (f : Frame) → frame kind ≡ f → (xs : List Part) → Fits IsSort (shape kind) xs → AllByRecursion Regions xs → AllByRecursion (InHost all) xs →
+      SeesAt all (Some (host h b e)) (suc n) (n + sizes (map measured xs)) (in_node f kind n (map measured xs)) →
       Texts all h n (n + sizes (map measured xs)) (behind_parts n xs) (node_in f kind (map seen xs)).loose (in_node f kind n (map measured xs)) (inside_expr (plain (node_in f kind (map seen xs))))
   node_texts kind row d xs fits r i v =
       let up : ℕ = n + sizes (map measured xs) in
@@ -90,7 +92,8 @@ mutual
       let xs : List Part = items-the_row-Part _ r in
       let f : Frame = frame kind in
       let comments : comments_behind n (leaves_row r) ≡ behind_parts n xs = ap (comments_behind n) (leaves_rows _ r) ∙ parts_behind n xs (row_solid _ r g.1) in
-      subst (λ (ms : List Measured). SeesAt all (Some (host h b e)) (suc n) (n + sizes ms) (in_node f kind n ms) → Texts all h n (n + sizes ms) (comments_behind n (leaves_row r)) (node_in f kind (seen_row r)).loose (in_node f kind n ms) (inside_expr (plain (node_in f kind (seen_row r)))))
+      subst (λ (ms : List Measured). SeesAt all (Some (host h b e)) (suc n) (n + sizes ms) (in_node f kind n ms) → Texts all h n (n + sizes ms) (comments_behind n (leaves_row r)) (node_in f kind (seen_row r)).loose
+      (in_node f kind n ms) (inside_expr (plain (node_in f kind (seen_row r)))))
       (sym (measured_rows _ r))
       (λ v'. subst (λ (cs : List Comment). Texts all h n (n + sizes (map measured xs)) cs (node_in f kind (seen_row r)).loose (in_node f kind n (map measured xs)) (inside_expr (plain (node_in f kind (seen_row r))))) (sym comments)
       (subst (λ (ss : List Seen). Texts all h n (n + sizes (map measured xs)) (behind_parts n xs) (node_in f kind ss).loose (in_node f kind n (map measured xs)) (inside_expr (plain (node_in f kind ss)))) (sym (seen_rows _ r))

@@ -1,35 +1,32 @@
 -- The law of hosts: the view of a legal tree has each comment where its place in the text says.
-use Rattle.std.proofs.Common.{◌≡◌, ℕ, true, false, suc, ◌+◌, ◌<◌, ◌≤◌, List, [], ◌∷◌, ◌++◌, ◌⊎◌, inl, inr, Option, Some, None, length, refl, sym, ap, ◌∙◌, subst, map, append-nil, arith}
+use Rattle.std.proofs.Common.{◌≡◌, ℕ, true, false, suc, ◌+◌, ◌<◌, ◌≤◌, List, [], ◌∷◌, ◌++◌, inl, inr, Option, None, length, refl, sym, ap, ◌∙◌, subst, map, append-nil, arith}
 use Rattle.std.specs.List.{AllByRecursion, flat_map}
 use Rattle.std.proofs.lemmas.Grind.{flat_map-append}
 use Rattle.std.proofs.lemmas.Bool.{eqb-true}
 use Rattle.bz_lex.specs.declared.leaf.Leaf.{Leaf}
 use Rattle.bz_tree.specs.declared.kind.Kind.{Kind}
 use Rattle.bz_tree.specs.declared.kind.Kind.TheVariants as k
-use Rattle.bz_tree.specs.declared.tree.Node.{Node}
 use Rattle.bz_tree.specs.declared.tree.Part.{Part, Row_of-Part, end_of-Part, more_of-Part, Node', items-the_row-Part}
 use Rattle.bz_tree.specs.declared.tree.Part.TheVariants as p
 use Rattle.bz_tree.specs.Shapes as s
 use Rattle.bz_tree.specs.Shapes.{Fits, Several, shape, tok, done, has_kind}
 use Rattle.bz_tree.specs.Spell.{leaves_part, leaves_row, leaves_of}
-use Rattle.bz_tree.specs.Legal.{IsSort, LegalPart, LegalRow, Legal}
+use Rattle.bz_tree.specs.Legal.{IsSort, LegalPart, LegalRow}
 use Rattle.bz_tree.specs.Spots.{Begins, behind_node, Stands, AtRow, AtParts}
 use Rattle.bz_tree.proofs.Balance.{no_such, parts_of_row}
 use Rattle.bz_tree.proofs.Numbers.{same_kind}
-use Rattle.bz_value.specs.declared.value.Item.{Item}
 use Rattle.bz_value.specs.Comments.{HostComments}
 use Rattle.bz_value.specs.Frames.{frame}
 use Rattle.bz_value.specs.Gaps.{Bytes, GapLine, lines_of, behind_first, groups_of, all_but_last, last_group}
-use Rattle.bz_value.specs.Proper.{comments_of}
 use Rattle.bz_view.specs.View as v
 use Rattle.bz_view.specs.View.{Seen, seen, seen_row, first_gap, blocks, statement, statements_in, file_items, view_of}
 use Rattle.bz_view.proofs.SeenParts.{seen_rows, comments_made}
-use Rattle.bz_hosts.specs.Hosts.{Region, Comment, comments_at, comments_from, Measured, sizes, measured, measured_row, hosts_from, in_line, regions_from, Place, outside, texts_at, Hosted, block, hosted, ended, hosted_at, hosted_by, alone, with_group, gap_of, last_gap, hosted_from, hosted_in, inside_expr, inside_item}
+use Rattle.bz_hosts.specs.Hosts.{Region, Comment, comments_at, comments_from, Measured, sizes, measured, measured_row, hosts_from, in_line, regions_from, Place, outside, texts_at, Hosted, block, hosted_at, hosted_by, alone, with_group, gap_of, last_gap, hosted_from, inside_expr, inside_item}
 use Rattle.bz_hosts.specs.Laws.{HostsByPlace}
 use Rattle.bz_hosts.proofs.Around.{AllInside, all_wider, Sees, SeesAt, sees_behind, sees_before}
-use Rattle.bz_hosts.proofs.Gathered.{key, pick, pick_other, GapPlaces, texts_joined, gap_all}
+use Rattle.bz_hosts.proofs.Gathered.{key, pick_other, GapPlaces, texts_joined, gap_all}
 use Rattle.bz_hosts.proofs.Parts.{size, measured_rows, leaves_rows, size_leaves, Solid, some_leaf, part_solid, seen_gap, comments_behind, inner, in_parts, behind_parts, parts_from, parts_behind}
-use Rattle.bz_hosts.proofs.Alternating.{Alternating, Regions, inside_joined, hosts_inside}
+use Rattle.bz_hosts.proofs.Alternating.{Alternating, inside_joined, hosts_inside}
 use Rattle.bz_hosts.proofs.Insides.{inside_made}
 use Rattle.bz_hosts.proofs.Cuts.{listed_alternating}
 use Rattle.bz_hosts.proofs.Nodes.{row_regions, row_solid}
@@ -120,7 +117,8 @@ line_in : (x : Part) → IsSort s.line x → LegalPart x → LineIn x
 line_in (p.Leaf l) h g = no_such h
 line_in (Node' kind z r) h g = record {
   some = some_leaf (Node' kind z r) (part_solid (Node' kind z r) g);
-  within = λ n. subst (λ (ms : List Measured). AllInside n (n + sizes ms) (hosts_from s.semicolon n ms)) (sym (measured_rows _ r)) (hosts_inside s.semicolon n (items-the_row-Part _ r) (line_alternating (items-the_row-Part _ r) (statements_of kind (items-the_row-Part _ r) h g.0)) (row_regions _ r g.1));
+  within = λ n. subst (λ (ms : List Measured). AllInside n (n + sizes ms) (hosts_from s.semicolon n ms)) (sym (measured_rows _ r))
+      (hosts_inside s.semicolon n (items-the_row-Part _ r) (line_alternating (items-the_row-Part _ r) (statements_of kind (items-the_row-Part _ r) h g.0)) (row_regions _ r g.1));
 }
 
 leaf_in : (l : Leaf) → LineIn (p.Leaf l)
@@ -147,7 +145,8 @@ row_legal m end_of-Part h = tt
 row_legal m (more_of-Part x rest) h = (h.0, row_legal _ rest h.1)
 
 -- the texts of a line
-line_found : (all : List Region) (n : ℕ) (kind : Kind) (m : _) (r : Row_of-Part m) → Statements (items-the_row-Part m r) → LegalRow r → AtRow Stands Begins Begins r → SeesAt all None (suc n) (n + sizes (measured_row r)) (hosts_from s.semicolon n (measured_row r)) →
+line_found : (all : List Region) (n : ℕ) (kind : Kind) (m : _) (r : Row_of-Part m) → Statements (items-the_row-Part m r) → LegalRow r → AtRow Stands Begins Begins r →
+    SeesAt all None (suc n) (n + sizes (measured_row r)) (hosts_from s.semicolon n (measured_row r)) →
     LineTexts all n (n + sizes (measured_row r)) (comments_behind n (leaves_row r)) (hosts_from s.semicolon n (measured_row r)) (statements_in [] (seen_row r))
 line_found all n kind m r h g at_ sees =
     let ys : List Part = items-the_row-Part m r in
@@ -166,8 +165,10 @@ seen_parts (p.Leaf l) = []
 seen_parts (Node' kind m r) = seen_row r
 
 -- a line, and the lines behind it
-line_step : (all : List Region) (n up : ℕ) (x : Part) (xs : List Part) → IsSort s.line x → 0 < size x → n + size x ≤ up → GapPlaces all n outside outside → LineTexts all n (n + size x) (inner n x) (in_line n x) (statements_in [] (seen_parts x)) → FileTexts all (n + size x) up xs →
-    gap_of (leaves_part x) ≡ first_gap (seen_parts x) → last_gap (leaves_part x) ≡ v.last_gap (seen_parts x) → ((group : List Bytes) → with_group group (flat_map inside_item (statements_in [] (seen_parts x))) ≡ flat_map inside_item (statements_in group (seen_parts x))) →
+line_step : (all : List Region) (n up : ℕ) (x : Part) (xs : List Part) → IsSort s.line x → 0 < size x → n + size x ≤ up → GapPlaces all n outside outside →
+    LineTexts all n (n + size x) (inner n x) (in_line n x) (statements_in [] (seen_parts x)) → FileTexts all (n + size x) up xs →
+    gap_of (leaves_part x) ≡ first_gap (seen_parts x) → last_gap (leaves_part x) ≡ v.last_gap (seen_parts x) →
+    ((group : List Bytes) → with_group group (flat_map inside_item (statements_in [] (seen_parts x))) ≡ flat_map inside_item (statements_in group (seen_parts x))) →
     FileTexts all n up (x ∷ xs)
 line_step all n up (p.Leaf l) xs is some u gap there rest e e' above_it = no_such is
 line_step all n up (Node' kind size_ r) xs is some u gap there rest e e' above_it =
@@ -230,8 +231,12 @@ lines_texts all n up (Node' kind z r ∷ xs) u (inr h) g at_ sees =
     let some = there.some in
     let rest_in : AllByRecursion LineIn xs = lines_in xs h.1 g.1 in
     let statements : Statements ys = statements_of kind ys h.0 g.0.0 in
-    let gap : GapPlaces all n outside outside = gap_outside all n n (sees_before all n None up n (n + sizes (map measured (x ∷ xs))) n [] (in_line n x ++ regions_from m xs) (regions_inside n (x ∷ xs) (there, rest_in)) (omega arith) (omega arith) (omega arith) (sees n (omega arith) (omega arith))) in
-    let texts : LineTexts all n m (inner n x) (in_line n x) (statements_in [] (seen_row r)) = line_found all n kind _ r statements g.0.1 at_.0 (λ q a b. sees_before all q None up m (m + sizes (map measured xs)) m (in_line n x) (regions_from m xs) (regions_inside m xs rest_in) (omega arith) (omega arith) (omega arith) (sees q (omega arith) (omega arith))) in
+    let gap : GapPlaces all n outside outside = gap_outside all n n
+    (sees_before all n None up n (n + sizes (map measured (x ∷ xs))) n [] (in_line n x ++ regions_from m xs) (regions_inside n (x ∷ xs) (there, rest_in)) (omega arith) (omega arith) (omega arith)
+    (sees n (omega arith) (omega arith))) in
+    let texts : LineTexts all n m (inner n x) (in_line n x) (statements_in [] (seen_row r)) = line_found all n kind _ r statements g.0.1 at_.0
+    (λ q a b. sees_before all q None up m (m + sizes (map measured xs)) m (in_line n x) (regions_from m xs) (regions_inside m xs rest_in) (omega arith) (omega arith) (omega arith)
+    (sees q (omega arith) (omega arith))) in
     let at_rest : AtParts Stands Begins Begins xs = subst (λ kd. AtParts Stands Begins (behind_node kd Begins) xs) e at_.1 in
     let rest : FileTexts all m up xs = lines_texts all m up xs (omega arith) h.1 g.1 at_rest (λ q a b. sees_behind all q None up n m (in_line n x) (regions_from m xs) (there.within n) a (sees q (omega arith) b)) in
     let solid : Solid x = part_solid x g.0 in

@@ -1,5 +1,5 @@
 -- The hosts and sequences in an expression, told of lists.
-use Rattle.std.proofs.Common.{◌≡◌, ℕ, Bool, true, false, not, ◌&&◌, ◌||◌, List, [], ◌∷◌, ◌++◌, refl, sym, ap, ◌∙◌, map, if◌then◌else◌}
+use Rattle.std.proofs.Common.{◌≡◌, Bool, not, ◌&&◌, ◌||◌, List, [], ◌∷◌, ◌++◌, refl, ap, ◌∙◌, map, if◌then◌else◌}
 use Rattle.std.specs.List.{flat_map}
 use mathlib.Core.Former.{Count}
 use Rattle.bz_tree.specs.declared.kind.Kind.{Kind}
@@ -13,7 +13,7 @@ use Rattle.bz_value.specs.Frames.{Frame, row, sequence, frame}
 use Rattle.bz_value.specs.Gaps.{has_newline}
 use Rattle.bz_value.specs.Proper.{comments_of, is_operator}
 use Rattle.bz_view.specs.View.{Seen, seen, seen_row, plain, node_in, first_gap, begins_operator, row_exprs}
-use Rattle.bz_hosts.specs.Hosts.{Hosted, hosted, ended, hosted_by, by_frame, inside_expr, inside_row, inside_items}
+use Rattle.bz_hosts.specs.Hosts.{Hosted, ended, hosted_by, by_frame, inside_expr, inside_row, inside_items}
 
 -- the items of a sequence, each with what stands in it
 abbrev pub inside_list : List Expr → List Hosted

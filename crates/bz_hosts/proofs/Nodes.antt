@@ -1,6 +1,6 @@
 -- The texts of a node of any kind, and so of each part of a legal tree.
-use Rattle.std.proofs.Common.{◌≡◌, ℕ, suc, ◌+◌, ◌<◌, ◌≤◌, List, [], ◌∷◌, ◌++◌, inl, inr, Option, Some, None, refl, sym, ap, ◌∙◌, subst, map, take, drop, append_assoc, append-nil, arith}
-use Rattle.std.specs.List.{AllByRecursion, flat_map}
+use Rattle.std.proofs.Common.{◌≡◌, ℕ, suc, ◌+◌, ◌≤◌, List, [], ◌∷◌, ◌++◌, inl, inr, Some, refl, sym, ap, ◌∙◌, subst, map, take, drop, append_assoc, append-nil, arith}
+use Rattle.std.specs.List.{AllByRecursion}
 use Rattle.std.proofs.lemmas.List.{take-map, drop-map}
 use Rattle.bz_lex.specs.declared.leaf.Leaf.{Leaf}
 use Rattle.bz_tree.specs.declared.kind.Kind.{Kind}
@@ -8,22 +8,19 @@ use Rattle.bz_tree.specs.declared.tree.Part.{Part, Row_of-Part, end_of-Part, mor
 use Rattle.bz_tree.specs.declared.tree.Part.TheVariants as p
 use Rattle.bz_tree.specs.Shapes as s
 use Rattle.bz_tree.specs.Shapes.{Fits, shape}
-use Rattle.bz_tree.specs.Spell.{leaves_row}
 use Rattle.bz_tree.specs.Legal.{IsSort, LegalPart, LegalRow}
-use Rattle.bz_value.specs.declared.value.Expr.{Expr}
-use Rattle.bz_value.specs.Comments.{no_comments}
-use Rattle.bz_value.specs.Frames.{Frame, row, sequence, frame, lead, is_binary}
+use Rattle.bz_value.specs.Frames.{Frame, row, sequence, frame, lead}
 use Rattle.bz_value.specs.Gaps.{Bytes, all_in}
 use Rattle.bz_value.proofs.GapComments.{all_joined}
-use Rattle.bz_view.specs.View.{Seen, seen, seen_row, plain, first_gap, loose_in, row_exprs, row_form, sequence_form, items_in, node_in}
-use Rattle.bz_view.proofs.SeenParts.{seen_rows, all_parted}
-use Rattle.bz_hosts.specs.Hosts.{Region, host, between, Comment, comments_at, Measured, sizes, measured, measured_row, in_row, in_node, hosts_from, Place, above, end_of, texts_at, Hosted, ended, hosted_at, by_frame, inside_expr}
-use Rattle.bz_hosts.proofs.Around.{AllInside, all_wider, Sees, SeesAt, sees_behind, sees_before, sees_before_bracket, sees_in_sequence}
+use Rattle.bz_view.specs.View.{Seen, seen, plain, loose_in, items_in}
+use Rattle.bz_view.proofs.SeenParts.{all_parted}
+use Rattle.bz_hosts.specs.Hosts.{Region, host, between, Comment, comments_at, Measured, sizes, measured, in_row, in_node, hosts_from, Place, above, texts_at, Hosted, ended, hosted_at, inside_expr}
+use Rattle.bz_hosts.proofs.Around.{AllInside, all_wider, Sees, SeesAt, sees_behind, sees_before_bracket, sees_in_sequence}
 use Rattle.bz_hosts.proofs.Gathered.{key, pick, pick_other, pick_none, GapPlaces, texts_joined, gap_all}
-use Rattle.bz_hosts.proofs.Parts.{size, measured_rows, leaves_rows, Solid, some_leaf, part_solid, comments_behind, inner, in_parts, behind_parts, parts_behind}
+use Rattle.bz_hosts.proofs.Parts.{size, measured_rows, Solid, some_leaf, part_solid, inner, in_parts, behind_parts}
 use Rattle.bz_hosts.proofs.Alternating.{Alternating, Regions, inside_joined, hosts_inside}
-use Rattle.bz_hosts.proofs.Insides.{inside_list, form_inside, insides, row_insides, head_insides}
-use Rattle.bz_hosts.proofs.Texts.{Inner, Texts, both_texts, PartTexts, InHost, row_inside, first_texts}
+use Rattle.bz_hosts.proofs.Insides.{inside_list, insides}
+use Rattle.bz_hosts.proofs.Texts.{Inner, Texts, both_texts, InHost, row_inside, first_texts}
 use Rattle.bz_hosts.proofs.Cuts.{Cut, sequence_cut}
 use Rattle.bz_hosts.proofs.Sequences.{Mine, first_place, first_mine, beginning_first, gap_free, BodyTexts, body_texts}
 
@@ -98,7 +95,8 @@ module _ (kind : Kind) (xs : List Part) (c : Cut kind xs) where
   pub node_cut : (opener closer n : ℕ) → in_node (sequence opener closer) kind n (map measured xs) ≡ cut_regions n head_of body_of
   node_cut opener closer n =
       ap (λ (ys : List Measured). in_row n ys ++ between (n + sizes ys) (n + sizes (map measured xs)) ∷ hosts_from s.comma (suc (n + sizes ys)) (drop (suc (lead kind)) (map measured xs))) (take-map measured (lead kind) xs)
-      ∙ (ap (λ (ys : List Measured). in_row n (map measured head_of) ++ between (n + sizes (map measured head_of)) (n + sizes (map measured xs)) ∷ hosts_from s.comma (suc (n + sizes (map measured head_of))) ys) (drop-map measured (suc (lead kind)) xs)
+      ∙ (ap (λ (ys : List Measured). in_row n (map measured head_of) ++ between (n + sizes (map measured head_of)) (n + sizes (map measured xs)) ∷ hosts_from s.comma (suc (n + sizes (map measured head_of))) ys)
+      (drop-map measured (suc (lead kind)) xs)
       ∙ ap (λ (z : ℕ). in_row n (map measured head_of) ++ between (n + sizes (map measured head_of)) z ∷ hosts_from s.comma (suc (n + sizes (map measured head_of))) (map measured body_of)) (cut_size n))
 
   pub parted : (P : Part → Type 0) → AllByRecursion P xs → AllByRecursion P head_of × AllByRecursion P body_of
@@ -141,7 +139,8 @@ same_texts all h n up m m' l l' r r' t t' a b c d x =
 abbrev pub sequence_hosts : List Bytes → List Seen → List Hosted
 sequence_hosts before body = ended (items_in before body).1 ∷ inside_list (items_in before body).0
 
-module _ (all : List Region) (h b e n : ℕ) (head : List Part) (l : Leaf) (x : Part) (xs : List Part) (under : h ≤ n) (a : Alternating s.comma (x ∷ xs)) (r : AllByRecursion Regions head) (r' : AllByRecursion Regions (x ∷ xs)) (i : AllByRecursion (InHost all) head) (i' : AllByRecursion (InHost all) (x ∷ xs)) where
+module _ (all : List Region) (h b e n : ℕ) (head : List Part) (l : Leaf) (x : Part) (xs : List Part) (under : h ≤ n) (a : Alternating s.comma (x ∷ xs)) (r : AllByRecursion Regions head)
+    (r' : AllByRecursion Regions (x ∷ xs)) (i : AllByRecursion (InHost all) head) (i' : AllByRecursion (InHost all) (x ∷ xs)) where
   abbrev at_open : ℕ
   at_open = n + sizes (map measured head)
 
@@ -161,7 +160,9 @@ module _ (all : List Region) (h b e n : ℕ) (head : List Part) (l : Leaf) (x : 
         let token' : AllByRecursion (InHost all) (p.Leaf l ∷ []) = (leaf_texts all l, tt) in
         let e' = sizes_joined head (p.Leaf l ∷ []) in
         first_texts all h b e n (suc at_open) (head ++ p.Leaf l ∷ []) under (omega arith) (all_joined Regions head (p.Leaf l ∷ []) r token) (all_joined (InHost all) head (p.Leaf l ∷ []) i token')
-        (λ q v w. subst (Sees all q (Some (host h b e)) (suc at_open)) (sym (row_cut n head l)) (sees_before_bracket all q (Some (host h b e)) at_end at_open at_end at_end (suc at_open) (in_row n (map measured head)) items_there items_within (omega arith) (omega arith) (omega arith) (sees q v (omega arith))))
+        (λ q v w. subst (Sees all q (Some (host h b e)) (suc at_open)) (sym (row_cut n head l))
+        (sees_before_bracket all q (Some (host h b e)) at_end at_open at_end at_end (suc at_open) (in_row n (map measured head)) items_there items_within (omega arith) (omega arith)
+        (omega arith) (sees q v (omega arith))))
 
     inside_sees : SeesAt all (Some (between at_open at_end)) (suc at_open) at_end items_there
     inside_sees q v w =
@@ -203,6 +204,8 @@ module _ (all : List Region) (h b e n : ℕ) (head : List Part) (l : Leaf) (x : 
         let front : List Part = head ++ p.Leaf l ∷ [] in
         let items : List Hosted = sequence_hosts (all_in (seen x).gap) (map seen (x ∷ xs)) in
         let rs : List Region = between at_open at_end ∷ items_there in
-        same_texts all h n at_end (behind_parts n front ++ in_parts (suc at_open) (x ∷ xs)) (behind_parts n (head ++ p.Leaf l ∷ x ∷ xs)) (loose_in (map seen front) ++ []) (loose_in (map seen front)) (in_row n (map measured front) ++ rs) (cut_regions n head (x ∷ xs)) (insides front ++ items) (insides head ++ items)
+        same_texts all h n at_end (behind_parts n front ++ in_parts (suc at_open) (x ∷ xs)) (behind_parts n (head ++ p.Leaf l ∷ x ∷ xs)) (loose_in (map seen front) ++ []) (loose_in (map seen front))
+        (in_row n (map measured front) ++ rs) (cut_regions n head (x ∷ xs)) (insides front ++ items) (insides head ++ items)
         (sym (behind_cut n head l (x ∷ xs))) (append-nil (loose_in (map seen front))) (ap (λ (z : List Region). z ++ rs) (row_cut n head l)) (ap (λ (z : List Hosted). z ++ items) (insides_cut head l))
-        (both_texts all h n (suc at_open) at_open at_end (behind_parts n front) (in_parts (suc at_open) (x ∷ xs)) (loose_in (map seen front)) [] (in_row n (map measured front)) rs (insides front) items under (omega arith) (omega arith) (omega arith) head_texts sequence_texts)
+        (both_texts all h n (suc at_open) at_open at_end (behind_parts n front) (in_parts (suc at_open) (x ∷ xs)) (loose_in (map seen front)) [] (in_row n (map measured front)) rs (insides front) items under
+        (omega arith) (omega arith) (omega arith) head_texts sequence_texts)

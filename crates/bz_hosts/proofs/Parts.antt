@@ -1,5 +1,5 @@
 -- The comments in parts, by the leaves of each part.
-use Rattle.std.proofs.Common.{◌≡◌, ℕ, suc, ◌+◌, ◌<◌, List, [], ◌∷◌, ◌++◌, length, refl, sym, ap, ◌∙◌, subst, map, append_assoc, append-nil, length-append, arith}
+use Rattle.std.proofs.Common.{◌≡◌, ℕ, suc, ◌+◌, ◌<◌, List, [], ◌∷◌, ◌++◌, length, refl, sym, ap, ◌∙◌, map, append_assoc, length-append, arith}
 use Rattle.std.specs.List.{AllByRecursion, flat_map}
 use Rattle.bz_lex.specs.declared.leaf.Leaf.{Leaf}
 use Rattle.bz_tree.specs.declared.kind.Kind.{Kind}
@@ -12,7 +12,6 @@ use Rattle.bz_tree.specs.Legal.{IsSort, LegalPart, LegalRow}
 use Rattle.bz_value.specs.Frames.{Frame, row, sequence, frame}
 use Rattle.bz_value.specs.Gaps.{Bytes}
 use Rattle.bz_view.specs.View.{Seen, seen, seen_row, node_in, first_gap}
-use Rattle.bz_view.proofs.SeenParts.{seen_rows}
 use Rattle.bz_hosts.specs.Hosts.{Comment, comments_at, comments_from, Measured, sizes, measured, measured_row}
 
 abbrev pub size : Part → ℕ

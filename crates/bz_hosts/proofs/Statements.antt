@@ -1,5 +1,5 @@
 -- The texts of a line, behind the gap of its first leaf.
-use Rattle.std.proofs.Common.{◌≡◌, ◌≢◌, ℕ, suc, ◌+◌, ◌<◌, ◌≤◌, true, false, List, [], ◌∷◌, ◌++◌, Option, Some, None, refl, sym, ap, ◌∙◌, subst, map, append-nil, arith}
+use Rattle.std.proofs.Common.{◌≡◌, ℕ, suc, ◌+◌, ◌<◌, ◌≤◌, true, false, List, [], ◌∷◌, ◌++◌, Option, Some, None, refl, sym, ap, ◌∙◌, subst, map, append-nil, arith}
 use Rattle.std.specs.List.{AllByRecursion, flat_map}
 use Rattle.bz_lex.specs.declared.leaf.Leaf.{Leaf}
 use Rattle.bz_tree.specs.declared.tree.Part.{Part, Node'}
@@ -8,12 +8,13 @@ use Rattle.bz_tree.specs.Shapes as s
 use Rattle.bz_value.specs.declared.value.Item.{Item}
 use Rattle.bz_value.specs.Gaps.{Bytes, GapLine, lines_of, listed, behind_first, comments_in, first_comment, suffix_in, others_in, all_in}
 use Rattle.bz_view.specs.View.{seen, plain, statement, statements_in}
-use Rattle.bz_hosts.specs.Hosts.{Region, host, Comment, comments_at, Measured, sizes, measured, is_item, hosts_from, Place, suffix_of, above, outside, texts_at, Hosted, hosted_at, inside_expr, inside_item}
+use Rattle.bz_hosts.specs.Hosts.{Region, host, Comment, comments_at, sizes, measured, is_item, hosts_from, Place, suffix_of, above, outside, texts_at, hosted_at, inside_expr, inside_item}
 use Rattle.bz_hosts.proofs.Around.{AllInside, Sees, SeesAt, Ended, sees_behind, sees_before, sees_in_host, sees_past_host, sees_ended}
 use Rattle.bz_hosts.proofs.Gathered.{key, pick, pick_same, pick_other, pick_none, GapPlaces, texts_joined, gap_texts}
 use Rattle.bz_hosts.proofs.Parts.{size, inner, in_parts, behind_parts}
 use Rattle.bz_hosts.proofs.Alternating.{IsMark, Alternating, Regions, hosts_closed, hosts_last, hosts_more, hosts_inside}
-use Rattle.bz_hosts.proofs.Texts.{Inner, PartTexts, InHost}
+use Rattle.bz_hosts.proofs.Texts.{PartTexts, InHost}
+use Rattle.bz_hosts.proofs.Joined.{Lines, three_none, three_first, three_second, three_third}
 use Rattle.bz_hosts.proofs.Sequences.{From, host_with}
 use Rattle.bz_hosts.proofs.QuietGaps.{Quiet}
 
@@ -26,21 +27,6 @@ pub record LineTexts (all : List Region) (n hi : ℕ) (mine : List Comment) (rs 
 pub nothing_there : (all : List Region) (n hi : ℕ) → LineTexts all n hi [] [] []
 nothing_there all n hi = record { outer = λ q k o. refl; found = λ cs f. refl }
 
-abbrev Lines : Type 0
-Lines = List Bytes
-
-three_none : (a b c : Lines) → a ≡ [] → b ≡ [] → c ≡ [] → a ++ (b ++ c) ≡ []
-three_none a b c h i j = rw (h, i, j) refl
-
-three_first : (a b c u : Lines) → a ≡ u → b ≡ [] → c ≡ [] → a ++ (b ++ c) ≡ u
-three_first a b c u h i j = rw (h, i, j) (append-nil u)
-
-three_second : (a b c u : Lines) → a ≡ [] → b ≡ u → c ≡ [] → a ++ (b ++ c) ≡ u
-three_second a b c u h i j = rw (h, i, j) (append-nil u)
-
-three_third : (a b c u : Lines) → a ≡ [] → b ≡ [] → c ≡ u → a ++ (b ++ c) ≡ u
-three_third a b c u h i j = rw (h, i, j) refl
-
 -- ---- gaps of a line
 
 nil_both : {A : Type 0} (a b : List A) → a ++ b ≡ [] → (a ≡ []) × (b ≡ [])
@@ -48,7 +34,8 @@ nil_both [] b e = (refl, e)
 nil_both (x ∷ a) b e = cc
 
 silent_lines : (n : ℕ) (ls : List GapLine) → comments_in ls ≡ [] →
-    map (λ (text : Bytes). let c : Comment = record { leaf = n; on_line = true; text = text } in c) (listed (first_comment ls)) ++ map (λ (text : Bytes). let c : Comment = record { leaf = n; on_line = false; text = text } in c) (comments_in (behind_first ls)) ≡ []
+    map (λ (text : Bytes). let c : Comment = record { leaf = n; on_line = true; text = text } in c) (listed (first_comment ls)) ++ map
+    (λ (text : Bytes). let c : Comment = record { leaf = n; on_line = false; text = text } in c) (comments_in (behind_first ls)) ≡ []
 silent_lines n [] e = refl
 silent_lines n (line ∷ ls) e = let w = nil_both (listed line.comment) (comments_in ls) e in rw (w.0, w.1) refl
 
@@ -85,7 +72,8 @@ module _ (all : List Region) (n n' hi next : ℕ) (x : Part) (suffix : Option By
             let at_above : texts_at all (above n) cs ≡ loose =
             f (above n) here ∙ (told (above n) (omega arith) ∙ three_first _ _ _ loose (part.outer (above n) (λ j. omega (arith, j.0)) ∙ pick_same (above n) loose) refl (rest.outer (above n) (omega arith) (λ k. omega (arith, k.0)))) in
             let at_suffix : texts_at all (suffix_of n) cs ≡ listed suffix =
-            f (suffix_of n) here ∙ (told (suffix_of n) (omega arith) ∙ three_second _ _ _ (listed suffix) (part.outer (suffix_of n) (λ j. omega (arith, j.0))) (pick_same (suffix_of n) (listed suffix)) (rest.outer (suffix_of n) (omega arith) (λ k. omega (arith, k.0)))) in
+            f (suffix_of n) here ∙ (told (suffix_of n) (omega arith) ∙ three_second _ _ _ (listed suffix) (part.outer (suffix_of n) (λ j. omega (arith, j.0))) (pick_same (suffix_of n) (listed suffix))
+            (rest.outer (suffix_of n) (omega arith) (λ k. omega (arith, k.0)))) in
             host_with all n b next x (record { before = loose; suffix = suffix }) cs rs (flat_map inside_item items) at_above at_suffix inside (rest.found cs (λ q j.
             let j0 = j.0 in
             let differ : suc (n + n) ≡ key q → ⊥ = λ e. omega arith in
@@ -104,14 +92,16 @@ module _ (all : List Region) (n hi : ℕ) (x : Part) (l : Leaf) (r : Regions x) 
       let some = r.some in
       let whole : List Comment = behind_parts n (x ∷ p.Leaf l ∷ []) in
       let sees : SeesAt all None (suc n) hi (host n b b ∷ (rs ++ [])) = λ q v w. subst (Sees all q None hi) (hosts_last s.semicolon n x l item mark) (s' q v w) in
-      let part : PartTexts all n n x = i n b b n (omega arith) (λ q v w. sees_before all q (Some (host n b b)) hi b hi b rs [] tt (omega arith) (omega arith) (omega arith) (sees_in_host all q None hi n b b (rs ++ []) (omega arith) w (omega arith) (sees q v (omega arith)))) in
+      let part : PartTexts all n n x = i n b b n (omega arith) (λ q v w. sees_before all q (Some (host n b b)) hi b hi b rs [] tt (omega arith) (omega arith) (omega arith)
+      (sees_in_host all q None hi n b b (rs ++ []) (omega arith) w (omega arith) (sees q v (omega arith)))) in
       let places : GapPlaces all b (suffix_of n) outside = gap_ended all b n hi [] (sees_ended all b None hi n b b hi rs [] (omega arith) (omega arith) (omega arith) (r.within n) tt (omega arith) (sees b (omega arith) (omega arith))) in
       let told : (q : Place) → 0 < key q → texts_at all q whole ≡ texts_at all q (inner n x) ++ (pick (suffix_of n) q (listed (suffix_in l.gap)) ++ texts_at all q []) =
       λ q k. texts_joined all q (inner n x) (comments_at b l.gap ++ []) ∙ ap (λ (z : Lines). texts_at all q (inner n x) ++ z) (texts_joined all q (comments_at b l.gap) [] ∙ ap (λ (z : Lines). z ++ []) (gap_suffix all b n l.gap places q k)) in
       subst (λ (z : List Region). LineTexts all n hi whole z (statements_in [] (map seen (x ∷ p.Leaf l ∷ [])))) (sym (hosts_last s.semicolon n x l item mark))
       (statement_texts all n hi hi b x (suffix_in l.gap) whole [] [] [] some (omega arith) (omega arith) part told (nothing_there all hi hi))
 
-  module _ (z : Part) (xs : List Part) (item : is_item x ≡ true) (mark : IsMark s.semicolon true (p.Leaf l)) (up : hi ≡ suc (n + size x) + sizes (map measured (z ∷ xs))) (a : Alternating s.semicolon (z ∷ xs)) (r' : AllByRecursion Regions (z ∷ xs)) (silent : all_in l.gap ≡ []) (s' : SeesAt all None (suc n) hi (hosts_from s.semicolon n (map measured (x ∷ p.Leaf l ∷ z ∷ xs)))) where
+  module _ (z : Part) (xs : List Part) (item : is_item x ≡ true) (mark : IsMark s.semicolon true (p.Leaf l)) (up : hi ≡ suc (n + size x) + sizes (map measured (z ∷ xs))) (a : Alternating s.semicolon (z ∷ xs))
+      (r' : AllByRecursion Regions (z ∷ xs)) (silent : all_in l.gap ≡ []) (s' : SeesAt all None (suc n) hi (hosts_from s.semicolon n (map measured (x ∷ p.Leaf l ∷ z ∷ xs)))) where
     abbrev behind_it : ℕ
     behind_it = suc (n + size x)
 
@@ -125,12 +115,14 @@ module _ (all : List Region) (n hi : ℕ) (x : Part) (l : Leaf) (r : Regions x) 
     later_inside = hosts_inside s.semicolon behind_it (z ∷ xs) a r'
 
     sees_later : SeesAt all None (suc behind_it) hi later
-    sees_later q v w = sees_behind all q None hi n (n + size x) ((measured x).inside n) later (r.within n) (omega arith) (sees_past_host all q None hi n (n + size x) behind_it ((measured x).inside n ++ later) (omega arith) (omega arith) (λ e. omega arith) (sees_whole q (omega arith) w))
+    sees_later q v w = sees_behind all q None hi n (n + size x) ((measured x).inside n) later (r.within n) (omega arith)
+        (sees_past_host all q None hi n (n + size x) behind_it ((measured x).inside n ++ later) (omega arith) (omega arith) (λ e. omega arith) (sees_whole q (omega arith) w))
 
     inside_it : PartTexts all n n x
     inside_it =
         let b : ℕ = n + size x in
-        i n b behind_it n (omega arith) (λ q v w. sees_before all q (Some (host n b behind_it)) hi behind_it (behind_it + sizes (map measured (z ∷ xs))) b ((measured x).inside n) later later_inside (omega arith) (omega arith) (omega arith) (sees_in_host all q None hi n b behind_it ((measured x).inside n ++ later) (omega arith) w (omega arith) (sees_whole q v (omega arith))))
+        i n b behind_it n (omega arith) (λ q v w. sees_before all q (Some (host n b behind_it)) hi behind_it (behind_it + sizes (map measured (z ∷ xs))) b ((measured x).inside n) later later_inside (omega arith)
+        (omega arith) (omega arith) (sees_in_host all q None hi n b behind_it ((measured x).inside n ++ later) (omega arith) w (omega arith) (sees_whole q v (omega arith))))
 
     -- the comments behind the statement are those behind its semicolon
     split : behind_parts n (x ∷ p.Leaf l ∷ z ∷ xs) ≡ inner n x ++ in_parts behind_it (z ∷ xs)
@@ -138,7 +130,8 @@ module _ (all : List Region) (n hi : ℕ) (x : Part) (l : Leaf) (r : Regions x) 
         let one : n + size x + 1 ≡ behind_it = omega arith in
         ap (λ (y : List Comment). inner n x ++ (y ++ in_parts (n + size x + 1) (z ∷ xs))) (silent_gap (n + size x) l.gap silent) ∙ ap (λ (y : ℕ). inner n x ++ in_parts y (z ∷ xs)) one
 
-  semicolon_end : (l' : Leaf) → is_item x ≡ true → IsMark s.semicolon true (p.Leaf l) → hi ≡ suc (n + size x) + 1 → IsMark s.semicolon false (p.Leaf l') → all_in l.gap ≡ [] → SeesAt all None (suc n) hi (hosts_from s.semicolon n (map measured (x ∷ p.Leaf l ∷ p.Leaf l' ∷ []))) →
+  semicolon_end : (l' : Leaf) → is_item x ≡ true → IsMark s.semicolon true (p.Leaf l) → hi ≡ suc (n + size x) + 1 → IsMark s.semicolon false (p.Leaf l') → all_in l.gap ≡ [] →
+      SeesAt all None (suc n) hi (hosts_from s.semicolon n (map measured (x ∷ p.Leaf l ∷ p.Leaf l' ∷ []))) →
       LineTexts all n hi (behind_parts n (x ∷ p.Leaf l ∷ p.Leaf l' ∷ [])) (hosts_from s.semicolon n (map measured (x ∷ p.Leaf l ∷ p.Leaf l' ∷ []))) (statements_in [] (map seen (x ∷ p.Leaf l ∷ p.Leaf l' ∷ [])))
   semicolon_end l' item mark up mark' silent s' =
       let b : ℕ = n + size x in
@@ -151,15 +144,20 @@ module _ (all : List Region) (n hi : ℕ) (x : Part) (l : Leaf) (r : Regions x) 
       let closed : hosts_from s.semicolon n' (map measured (z ∷ [])) ≡ [] = hosts_closed s.semicolon n' z mark' in
       let there : hosts_from s.semicolon n (map measured (x ∷ p.Leaf l ∷ z ∷ [])) ≡ host n b n' ∷ (rs ++ []) = hosts_more s.semicolon n x l (z ∷ []) item mark ∙ ap (λ (y : List Region). host n b n' ∷ (rs ++ y)) closed in
       let part : PartTexts all n n x = inside_it z [] item mark (omega arith) mark' r' silent s' in
-      let places : GapPlaces all n' (suffix_of n) outside = gap_ended all n' n hi [] (sees_ended all n' None hi n b hi hi rs [] (omega arith) (omega arith) (omega arith) (r.within n) tt (omega arith) (subst (Sees all n' None hi) there (s' n' (omega arith) (omega arith)))) in
+      let places : GapPlaces all n' (suffix_of n) outside = gap_ended all n' n hi []
+      (sees_ended all n' None hi n b hi hi rs [] (omega arith) (omega arith) (omega arith) (r.within n) tt (omega arith) (subst (Sees all n' None hi) there (s' n' (omega arith) (omega arith)))) in
       let told : (q : Place) → 0 < key q → texts_at all q whole ≡ texts_at all q (inner n x) ++ (pick (suffix_of n) q (listed (suffix_in l'.gap)) ++ texts_at all q []) =
-      λ q k. ap (texts_at all q) (split z [] item mark (omega arith) mark' r' silent s') ∙ (texts_joined all q (inner n x) (comments_at n' l'.gap ++ []) ∙ ap (λ (y : Lines). texts_at all q (inner n x) ++ y) (texts_joined all q (comments_at n' l'.gap) [] ∙ ap (λ (y : Lines). y ++ []) (gap_suffix all n' n l'.gap places q k))) in
+      λ q k. ap (texts_at all q) (split z [] item mark (omega arith) mark' r' silent s') ∙
+      (texts_joined all q (inner n x) (comments_at n' l'.gap ++ []) ∙ ap (λ (y : Lines). texts_at all q (inner n x) ++ y)
+      (texts_joined all q (comments_at n' l'.gap) [] ∙ ap (λ (y : Lines). y ++ []) (gap_suffix all n' n l'.gap places q k))) in
       subst (λ (y : List Region). LineTexts all n hi whole y (statements_in [] (map seen (x ∷ p.Leaf l ∷ z ∷ [])))) (sym there)
       (statement_texts all n hi hi n' x (suffix_in l'.gap) whole [] [] [] some (omega arith) (omega arith) part told (nothing_there all hi hi))
 
-  before_others : (z u : Part) (xs : List Part) → is_item x ≡ true → IsMark s.semicolon true (p.Leaf l) → hi ≡ suc (n + size x) + sizes (map measured (z ∷ u ∷ xs)) → Alternating s.semicolon (z ∷ u ∷ xs) → AllByRecursion Regions (z ∷ u ∷ xs) → all_in l.gap ≡ [] → all_in (seen z).gap ≡ [] →
+  before_others : (z u : Part) (xs : List Part) → is_item x ≡ true → IsMark s.semicolon true (p.Leaf l) → hi ≡ suc (n + size x) + sizes (map measured (z ∷ u ∷ xs)) → Alternating s.semicolon (z ∷ u ∷ xs) →
+      AllByRecursion Regions (z ∷ u ∷ xs) → all_in l.gap ≡ [] → all_in (seen z).gap ≡ [] →
       SeesAt all None (suc n) hi (hosts_from s.semicolon n (map measured (x ∷ p.Leaf l ∷ z ∷ u ∷ xs))) →
-      (SeesAt all None (suc (suc (n + size x))) hi (hosts_from s.semicolon (suc (n + size x)) (map measured (z ∷ u ∷ xs))) → LineTexts all (suc (n + size x)) hi (behind_parts (suc (n + size x)) (z ∷ u ∷ xs)) (hosts_from s.semicolon (suc (n + size x)) (map measured (z ∷ u ∷ xs))) (statements_in [] (map seen (z ∷ u ∷ xs)))) →
+      (SeesAt all None (suc (suc (n + size x))) hi (hosts_from s.semicolon (suc (n + size x)) (map measured (z ∷ u ∷ xs))) → LineTexts all (suc (n + size x)) hi (behind_parts (suc (n + size x)) (z ∷ u ∷ xs))
+      (hosts_from s.semicolon (suc (n + size x)) (map measured (z ∷ u ∷ xs))) (statements_in [] (map seen (z ∷ u ∷ xs)))) →
       LineTexts all n hi (behind_parts n (x ∷ p.Leaf l ∷ z ∷ u ∷ xs)) (hosts_from s.semicolon n (map measured (x ∷ p.Leaf l ∷ z ∷ u ∷ xs))) (statements_in [] (map seen (x ∷ p.Leaf l ∷ z ∷ u ∷ xs)))
   before_others z u xs item mark up a r' silent silent' s' next =
       let n' : ℕ = suc (n + size x) in
@@ -171,9 +169,11 @@ module _ (all : List Region) (n hi : ℕ) (x : Part) (l : Leaf) (r : Regions x) 
       let told : (q : Place) → 0 < key q → texts_at all q whole ≡ texts_at all q (inner n x) ++ (pick (suffix_of n) q (listed None) ++ texts_at all q behind) =
       λ q k. ap (texts_at all q) same ∙ (texts_joined all q (inner n x) behind ∙ ap (λ (y : Lines). texts_at all q (inner n x) ++ (y ++ texts_at all q behind)) (sym (pick_none (suffix_of n) q))) in
       subst (λ (y : List Region). LineTexts all n hi whole y (statements_in [] (map seen (x ∷ p.Leaf l ∷ z ∷ u ∷ xs)))) (sym (hosts_more s.semicolon n x l (z ∷ u ∷ xs) item mark))
-      (statement_texts all n n' hi n' x None whole behind (hosts_from s.semicolon n' (map measured (z ∷ u ∷ xs))) (statements_in [] (map seen (z ∷ u ∷ xs))) some (omega arith) (omega arith) part told (next (sees_later z (u ∷ xs) item mark up a r' silent s')))
+      (statement_texts all n n' hi n' x None whole behind (hosts_from s.semicolon n' (map measured (z ∷ u ∷ xs))) (statements_in [] (map seen (z ∷ u ∷ xs))) some (omega arith) (omega arith) part told
+      (next (sees_later z (u ∷ xs) item mark up a r' silent s')))
 
-pub line_texts : (all : List Region) (n hi : ℕ) (xs : List Part) → hi ≡ n + sizes (map measured xs) → Alternating s.semicolon xs → Quiet xs → AllByRecursion Regions xs → AllByRecursion (InHost all) xs → SeesAt all None (suc n) hi (hosts_from s.semicolon n (map measured xs)) →
+pub line_texts : (all : List Region) (n hi : ℕ) (xs : List Part) → hi ≡ n + sizes (map measured xs) → Alternating s.semicolon xs → Quiet xs → AllByRecursion Regions xs → AllByRecursion (InHost all) xs →
+    SeesAt all None (suc n) hi (hosts_from s.semicolon n (map measured xs)) →
     LineTexts all n hi (behind_parts n xs) (hosts_from s.semicolon n (map measured xs)) (statements_in [] (map seen xs))
 line_texts all n hi [] u a q r i s' = absurd a
 line_texts all n hi (p.Leaf l ∷ []) u a q r i s' = record { outer = λ place k o. refl; found = λ cs f. ap (map (hosted_at all cs)) (hosts_closed s.semicolon n (p.Leaf l) a) }

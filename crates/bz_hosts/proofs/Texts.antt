@@ -1,11 +1,11 @@
 -- The texts of parts inside a host: what stands in no region of the parts goes to the host.
-use Rattle.std.proofs.Common.{◌≡◌, ℕ, suc, ◌+◌, ◌<◌, ◌≤◌, Bool, true, false, List, [], ◌∷◌, ◌++◌, Option, Some, None, refl, sym, ap, ◌∙◌, subst, map, append_assoc, append-nil, arith}
+use Rattle.std.proofs.Common.{◌≡◌, ℕ, suc, ◌+◌, ◌<◌, ◌≤◌, List, [], ◌∷◌, ◌++◌, Some, refl, sym, ap, ◌∙◌, subst, map, append_assoc, append-nil, arith}
 use Rattle.std.specs.List.{AllByRecursion}
 use Rattle.std.proofs.lemmas.List.{map-append}
 use Rattle.bz_tree.specs.declared.tree.Part.{Part}
 use Rattle.bz_value.specs.Gaps.{Bytes, all_in}
 use Rattle.bz_view.specs.View.{seen, plain, loose_in, loose_behind}
-use Rattle.bz_hosts.specs.Hosts.{Region, host, Comment, comments_at, Measured, sizes, measured, in_row, Place, above, texts_at, Hosted, hosted_at, inside_expr}
+use Rattle.bz_hosts.specs.Hosts.{Region, host, Comment, comments_at, sizes, measured, in_row, Place, above, texts_at, Hosted, hosted_at, inside_expr}
 use Rattle.bz_hosts.proofs.Around.{AllInside, all_wider, Sees, SeesAt, sees_behind, sees_before}
 use Rattle.bz_hosts.proofs.Gathered.{key, pick, pick_other, pick_none, pick_joined, GapPlaces, texts_joined, gap_all}
 use Rattle.bz_hosts.proofs.Parts.{size, inner, in_parts, behind_parts}
@@ -32,7 +32,9 @@ module _ (all : List Region) (h n m m' up : ℕ) (mine mine' : List Comment) (lo
         ∙ sym (pick_joined (above h) q loose loose')));
     hosts = λ cs f.
         map-append (hosted_at all cs) rs rs'
-        ∙ (ap (λ (z : List Hosted). z ++ map (hosted_at all cs) rs') (a.hosts cs (λ q i. f q (i.0, omega (arith, i.1)) ∙ (texts_joined all q mine mine' ∙ (ap (λ (z : List Bytes). texts_at all q mine ++ z) (silent_second q i) ∙ append-nil (texts_at all q mine)))))
+        ∙ (ap (λ (z : List Hosted). z ++ map (hosted_at all cs) rs')
+        (a.hosts cs (λ q i. f q (i.0, omega (arith, i.1)) ∙ (texts_joined all q mine mine' ∙
+        (ap (λ (z : List Bytes). texts_at all q mine ++ z) (silent_second q i) ∙ append-nil (texts_at all q mine)))))
         ∙ ap (λ (z : List Hosted). hs ++ z) (b.hosts cs (λ q i. f q (omega (arith, i.0), i.1) ∙ (texts_joined all q mine mine' ∙ ap (λ (z : List Bytes). z ++ texts_at all q mine') (silent_first q i)))));
   }
     where
@@ -86,7 +88,8 @@ module _ (all : List Region) (h b e : ℕ) where
   nothing_texts : (n up : ℕ) → Texts all h n up [] [] [] []
   nothing_texts n up = record { outer = λ q o. sym (pick_none (above h) q); hosts = λ cs f. refl }
 
-  pair_texts : (n up : ℕ) (x : Part) (xs : List Part) → h ≤ n → up ≡ n + sizes (map measured (x ∷ xs)) → AllByRecursion Regions (x ∷ xs) → AllByRecursion (InHost all) (x ∷ xs) → SeesAt all (Some (host h b e)) (suc n) up (in_row n (map measured (x ∷ xs))) →
+  pair_texts : (n up : ℕ) (x : Part) (xs : List Part) → h ≤ n → up ≡ n + sizes (map measured (x ∷ xs)) → AllByRecursion Regions (x ∷ xs) → AllByRecursion (InHost all) (x ∷ xs) →
+      SeesAt all (Some (host h b e)) (suc n) up (in_row n (map measured (x ∷ xs))) →
       Texts all h (n + size x) up (in_parts (n + size x) xs) (loose_behind (map seen xs)) (in_row (n + size x) (map measured xs)) (insides xs) →
       Texts all h n up (behind_parts n (x ∷ xs)) (loose_in (map seen (x ∷ xs))) (in_row n (map measured (x ∷ xs))) (insides (x ∷ xs))
   pair_texts n up x xs l u r i s rest =
@@ -105,7 +108,8 @@ module _ (all : List Region) (h b e : ℕ) where
       let rs : List Region = (measured x).inside n ++ in_row m (map measured xs) in
       let some = r.0.some in
       let whole : AllInside n (n + sizes (map measured (x ∷ xs))) rs = row_inside n (x ∷ xs) r in
-      let gap : GapPlaces all n (above h) (above h) = gap_in_host all n n h b e (sees_before all n (Some (host h b e)) up n (n + sizes (map measured (x ∷ xs))) n [] rs whole (omega arith) (omega arith) (omega arith) (s n (omega arith) (omega arith))) in
+      let gap : GapPlaces all n (above h) (above h) = gap_in_host all n n h b e
+      (sees_before all n (Some (host h b e)) up n (n + sizes (map measured (x ∷ xs))) n [] rs whole (omega arith) (omega arith) (omega arith) (s n (omega arith) (omega arith))) in
       subst (λ (z : List Bytes). Texts all h n up (in_parts n (x ∷ xs)) z rs (insides (x ∷ xs))) (sym (append_assoc (all_in (seen x).gap) (seen x).loose (loose_behind (map seen xs))))
       (with_gap all h n up n (seen x).gap (inner n x ++ in_parts m xs) ((seen x).loose ++ loose_behind (map seen xs)) rs (insides (x ∷ xs)) l gap
       (pair_texts n up x xs l u r i (λ q v w. s q (omega arith) w)

@@ -2,7 +2,6 @@
 -- A host is a statement or an item of a sequence; a sequence is what stands between the brackets of a Call, List, Dict,
 -- Tuple or Load. Both are told by the numbers of their leaves alone.
 use Rattle.std.specs.Prelude.{ℕ, suc, ◌+◌, Bool, true, false, ◌&&◌, List, [], ◌∷◌, ◌++◌, Option, Some, None, length, map, take, drop, nat_eq, nat_lt, nat_le, if◌then◌else◌}
-use Rattle.std.specs.List.{flat_map}
 use Rattle.bz_token.specs.declared.class.Class.{Class}
 use Rattle.bz_token.specs.declared.class.Class.TheVariants as c
 use Rattle.bz_lex.specs.declared.leaf.Leaf.{Leaf}

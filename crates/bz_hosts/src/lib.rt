@@ -3,4 +3,4 @@
 
 mod laws;
 
-pub use laws::hosts_by_place;
+pub use laws::{hosts_by_place, worked_hosts};

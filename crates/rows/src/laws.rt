@@ -26,6 +26,7 @@ fn laws_that_require_nothing(_rt: HostRuntime) {
     bz_value::worked_gaps();
     bz_view::worked_views();
     bz_hosts::hosts_by_place();
+    bz_hosts::worked_hosts();
     bz_write::flags_keep_layout();
     bz_write::layout_is_accepted();
     bz_write::layout_reads_back();
