@@ -6,6 +6,6 @@ use Rattle.bz_tree.specs.Legal.{Legal}
 use Rattle.bz_view.specs.View.{view_of}
 use Rattle.bz_hosts.specs.Hosts.{inside_item, hosted_in}
 
--- The view of a legal tree has each comment at the host that its place in the text gives it, none lost and none twice.
+-- The view of a legal tree has each comment at the host that its place in the text gives it.
 abbrev pub HostsByPlace : Type 0
 HostsByPlace = (n : Node) → Legal n → flat_map inside_item (view_of n) ≡ hosted_in n

@@ -3,7 +3,7 @@
 ghost use Rattle.bz_hosts.specs.Laws.{HostsByPlace};
 ghost use Rattle.bz_hosts.specs.Worked.{WorkedHosts};
 
-/// The view of a legal tree has each comment at the host that its place in the text gives it, none lost and none twice.
+/// The view of a legal tree has each comment at the host that its place in the text gives it.
 pub fn hosts_by_place()
     ensures { HostsByPlace }
 {}
