@@ -1,7 +1,7 @@
 # make        proves and builds every program, leaves it in bin/, and shows a first run
 # make test   the tests: runs of the program (tests/), every proof from nothing, the edits that the prover must refuse, each program and each test
 # make bench  the time and the memory of a delete in a large file, and of reading one; with FOLDER=.. of the BUILD files there
-# make corpus FOLDER=..   reads each BUILD file below the folder, and spells it back byte for byte
+# make corpus FOLDER=..   reads each BUILD file below the folder, spells it back byte for byte, and lays it out twice
 
 PROGRAMS = bin/buildozer bin/measure
 
@@ -43,6 +43,7 @@ bench: $(PROGRAMS)
 
 corpus: bin/measure
 	@bench/corpus.sh "$(FOLDER)"
+	@bench/formats.sh "$(FOLDER)"
 
 clean:
 	rm -rf bin crates/*/out

@@ -1,5 +1,5 @@
 #!/bin/sh
-# How fast a text is copied, cut into tokens, and parsed and spelled back, in MB a second, by one run of one program; and
+# How fast a text is copied, cut into tokens, parsed and spelled back, viewed as a file value and laid out, in MB a second, by one run of one program; and
 # how much memory its tree takes at most while it is made. For two texts of about 2 and 4 MB: the BUILD files below a
 # folder joined, as often as it takes, or rules made here: bench/reading.sh [FOLDER]. The goal: twice the text takes at
 # most 2.2 times the time. Build the program first (make).
@@ -55,9 +55,9 @@ for limit in (2097152, 4194304):
     lines = [line.split() for line in told(path, "time").splitlines()]
     times.append({work: int(best) / 1e9 for work, best in lines})
     for work, seconds in times[-1].items():
-        print("%-5s %8d bytes: %.4f s, %.1f MB/s" % (work, size, seconds, size / seconds / 1e6))
-for work in ("lex", "parse"):
-    print("%-5s twice the text: %.2f times the time (goal: at most 2.2, on an idle machine)"
+        print("%-6s %8d bytes: %.4f s, %.1f MB/s" % (work, size, seconds, size / seconds / 1e6))
+for work in ("lex", "parse", "format"):
+    print("%-6s twice the text: %.2f times the time (goal: at most 2.2, on an idle machine)"
           % (work, times[1][work] / times[0][work]))
 copied, tree = (1024 * int(told(path, "peak", work)) for work in ("copy", "tree"))
 print("tree  %8d bytes: peak %.1f MB, and %.1f MB where the text is only copied; so parse alone takes %.1f bytes a byte"

