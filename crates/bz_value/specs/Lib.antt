@@ -1,6 +1,7 @@
 pub mod Characters
 pub mod Commented
 pub mod Comments
+pub mod Counted
 pub mod Frames
 pub mod Gaps
 pub mod Proper
