@@ -10,7 +10,7 @@ use Rattle.bz_command.specs.declared.command.Which.TheVariants.{Name, Package}
 use Rattle.bz_command.specs.declared.command.Target.{Target}
 use Rattle.bz_command.specs.declared.refusal.Refusal.{Refusal}
 use Rattle.bz_command.specs.declared.refusal.Refusal.TheVariants.{NoTarget}
-use Rattle.bz_command.specs.Rules.{has_kind, has_name}
+use Rattle.bz_rule.specs.Rules.{has_kind, has_name}
 
 -- ---- the rules that a target means, as a mark for each item of the file
 

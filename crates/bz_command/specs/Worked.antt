@@ -1,4 +1,4 @@
--- Worked rows: bodies of strings, and small file values with what is deleted of them.
+-- Worked rows: small file values with what is deleted of them.
 use Rattle.std.specs.Prelude.{◌≡◌, false, List, [], ◌∷◌, Some, None, codes, option_map}
 use Rattle.bz_token.specs.declared.class.Class.{Class}
 use Rattle.bz_token.specs.declared.class.Class.TheVariants as c
@@ -14,20 +14,8 @@ use Rattle.bz_command.specs.declared.command.Command.TheVariants.{Delete}
 use Rattle.bz_command.specs.declared.command.Which.{Which}
 use Rattle.bz_command.specs.declared.command.Which.TheVariants.{Name, Package}
 use Rattle.bz_command.specs.declared.refusal.Refusal.TheVariants.{NoTarget}
-use Rattle.bz_command.specs.Rules.{body, rule_of}
+use Rattle.bz_rule.specs.Rules.{rule_of}
 use Rattle.bz_command.specs.Effect.{Effect, leaves, refuses, effect}
-
-abbrev pub WorkedBodies : Type 0
-WorkedBodies =
-    (body (codes "\"x\"") ≡ Some (codes "x"))
-    × (body (codes "'x'") ≡ Some (codes "x"))
-    × (body (codes "'say \"x\"'") ≡ Some (codes "say \"x\""))
-    × (body (codes "\"\"") ≡ Some [])
-    -- a prefix, three quote marks, a backslash
-    × (body (codes "r\"x\"") ≡ None)
-    × (body (codes "\"\"\"x\"\"\"") ≡ None)
-    × (body (codes "\"\"\"\"\"\"") ≡ None)
-    × (body (codes "\"x\\ny\"") ≡ None)
 
 -- ---- values
 

@@ -4,10 +4,9 @@
 mod command;
 mod laws;
 mod refusal;
-mod rules;
 mod running;
 
 pub use command::{Command, Outcome, Target, Which};
-pub use laws::{worked_bodies, worked_deletes};
+pub use laws::worked_deletes;
 pub use refusal::Refusal;
 pub use running::run;

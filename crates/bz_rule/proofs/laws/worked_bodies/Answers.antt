@@ -1,5 +1,5 @@
 use Rattle.std.proofs.Common.{refl}
-use Rattle.bz_command.proofs.laws.worked_bodies.Goals as goal
+use Rattle.bz_rule.proofs.laws.worked_bodies.Goals as goal
 
 pub returns : goal.returns
 returns c = (refl, refl, refl, refl, refl, refl, refl, refl)

@@ -1,6 +1,6 @@
 use Rattle.std.proofs.Common.{◌≡◌, drop}
-use Rattle.bz_command.specs.Rules.{attribute}
-use Rattle.bz_command.proofs.rules.attribute.Given as goal
+use Rattle.bz_rule.specs.Rules.{attribute}
+use Rattle.bz_rule.proofs.rules.attribute.Given as goal
 
 -- what the arguments that are left say is what all say
 abbrev pub invariant-loop-argument : goal.invariant-loop-argument

@@ -7,8 +7,8 @@ use Rattle.bz_tree.specs.Kinds.{kind_number}
 use Rattle.bz_value.specs.declared.value.Form.{Form}
 use Rattle.bz_value.specs.declared.value.Expr.{Expr, Form', Row_of-Expr, end_of-Expr, more_of-Expr, items-the_row-Expr, items_hidden-the_row-Expr-0}
 use Rattle.bz_value.specs.declared.value.Expr.TheVariants as e
-use Rattle.bz_command.specs.Rules.{form_in, joined, dotted_name, with_names}
-use Rattle.bz_command.specs.Named.{each_named}
+use Rattle.bz_rule.specs.Rules.{form_in, joined, dotted_name, with_names}
+use Rattle.bz_rule.specs.Named.{each_named}
 
 abbrev parts_behind : Expr → (m : Count) × Row_of-Expr m
 parts_behind (Form' kind s parts s' items end_ split open_ comments) = (_, parts)

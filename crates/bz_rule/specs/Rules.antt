@@ -15,7 +15,7 @@ use Rattle.bz_value.specs.declared.value.Item.{Item}
 use Rattle.bz_value.specs.declared.value.Item.TheVariants as i
 use Rattle.bz_value.specs.Characters.{backslash}
 use Rattle.bz_value.specs.Gaps.{Bytes}
-use Rattle.bz_command.specs.Characters.{full_stop, quotation_mark, apostrophe}
+use Rattle.bz_rule.specs.Characters.{full_stop, quotation_mark, apostrophe}
 
 -- ---- parts of a value
 

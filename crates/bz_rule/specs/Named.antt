@@ -2,7 +2,7 @@
 use Rattle.std.specs.Prelude.{List, Option, map}
 use Rattle.bz_value.specs.declared.value.Expr.{Expr}
 use Rattle.bz_value.specs.Gaps.{Bytes}
-use Rattle.bz_command.specs.Rules.{dotted_name}
+use Rattle.bz_rule.specs.Rules.{dotted_name}
 
 -- each part with its own text
 abbrev pub each_named : List Expr → List (Expr × Option Bytes)

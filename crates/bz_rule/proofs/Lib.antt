@@ -1,0 +1,4 @@
+pub mod Dotted
+pub mod Forms
+pub mod Named
+pub mod Quoted

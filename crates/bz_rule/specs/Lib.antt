@@ -1,0 +1,5 @@
+pub mod Characters
+pub mod Named
+pub mod Rules
+pub mod Seen
+pub mod Worked
