@@ -1,5 +1,5 @@
 -- The states of a gap take just the gaps, and a gap ends at one place.
-use Rattle.std.proofs.Common.{◌≡◌, ◌≢◌, ℕ, Bool, true, false, eqb, List, [], ◌∷◌, ◌++◌, ◌&&◌, inl, inr, Option, Some, None, refl, sym, ap, ◌∙◌, subst, append_assoc, ◌<◌, ◌+◌, length, take, get_or, add-one}
+use Rattle.std.proofs.Common.{◌≡◌, ◌≢◌, ℕ, zero, suc, ◌≤◌, ◌-◌, arith, Bool, true, false, eqb, List, [], ◌∷◌, ◌++◌, ◌&&◌, inl, inr, Option, Some, None, refl, sym, ap, ◌∙◌, subst, append_assoc, ◌<◌, ◌+◌, length, take, get_or, add-one}
 use Rattle.std.proofs.Math.Seq.{take-suc}
 use Rattle.std.proofs.lemmas.Bool.{both_ways, cases_Bool, eqb-true, eqb-false, ne_eqb, and_parts}
 use Rattle.std.proofs.lemmas.List.{append-nil}
@@ -128,3 +128,15 @@ after-append n p (c ∷ a) b = through (gap_move n p c) (λ q. after n q (a ++ b
 -- one byte more
 pub after_more : (n : Bool) (p q r : GapState) (i : ℕ) (s : List ℕ) → i < length s → after n p (take i s) ≡ Some q → gap_move n q (get_or s i 0) ≡ Some r → after n p (take (i + 1) s) ≡ Some r
 after_more n p q r i s lt e f = rw (add-one, take-suc s i 0 lt, after-append n p (take i s) (get_or s i 0 ∷ []), e, f) refl
+
+run_more : (n : Bool) (p q : GapState) (i m : ℕ) (s : List ℕ) → i + m ≤ length s → ((k : ℕ) → i ≤ k → k < i + m → gap_move n q (get_or s k 0) ≡ Some q) → after n p (take i s) ≡ Some q → after n p (take (i + m) s) ≡ Some q
+run_more n p q i zero s le h e = let z : i + 0 ≡ i = omega arith in ap (λ (k : ℕ). after n p (take k s)) z ∙ e
+run_more n p q i (suc m) s le h e =
+    let z : i + suc m ≡ (i + m) + 1 = omega arith in
+    ap (λ (k : ℕ). after n p (take k s)) z ∙ after_more n p q q (i + m) s (omega arith) (run_more n p q i m s (omega arith) (λ k a b. h k a (omega arith)) e) (h (i + m) (omega arith) (omega arith))
+
+-- a run of bytes with which the state stays
+pub after_run : (n : Bool) (p q : GapState) (i j : ℕ) (s : List ℕ) → i ≤ j → j ≤ length s → ((k : ℕ) → i ≤ k → k < j → gap_move n q (get_or s k 0) ≡ Some q) → after n p (take i s) ≡ Some q → after n p (take j s) ≡ Some q
+after_run n p q i j s above within h e =
+    let z : i + (j - i) ≡ j = omega arith in
+    ap (λ (k : ℕ). after n p (take k s)) (sym z) ∙ run_more n p q i (j - i) s (omega (arith, z)) (λ k a b. h k a (omega (arith, z))) e

@@ -1,4 +1,4 @@
-ghost use Rattle.std.specs.Prelude.{◌≡◌, ◌≤◌, length, take, drop, MatchOption, true, false};
+ghost use Rattle.std.specs.Prelude.{◌≡◌, ◌≤◌, ◌<◌, ℕ, Some, IsTrue, get_or, length, take, drop, MatchOption, true, false};
 ghost use Rattle.bz_lex.specs.declared.gap.GapState.TheVariants.{Open};
 ghost use Rattle.bz_lex.specs.GapStates.{gap_move, after, Stops, is_end};
 
@@ -16,6 +16,17 @@ pub enum GapState {
 }
 
 impl GapState {
+    /// Whether the state behind one more byte is surely the same, as in a run of spaces or in a comment.
+    fn stays(self, newlines: bool, byte: u8) -> bool
+        ensures { IsTrue result → gap_move newlines self byte ≡ Some self }
+    {
+        match self {
+            GapState::Open => byte == b' ',
+            GapState::Comment => byte != b'\n',
+            _ => false,
+        }
+    }
+
     /// The state behind one more byte; `None` where no gap goes on with it.
     fn step(self, newlines: bool, byte: u8) -> Option<GapState>
         ensures { result ≡ gap_move newlines self byte }
@@ -69,14 +80,35 @@ pub fn gap_front(text: &[u8], newlines: bool) -> GapFront
     ensures stops { Stops newlines result.state (drop result.length text.now) }
 {
     let mut state = GapState::Open;
-    for (i, byte) in text.iter().enumerate() {
-        match state.step(newlines, *byte) {
-            None => return GapFront { length: i, state },
-            Some(next) => state = next,
+    let mut at = 0;
+    'bytes: while at < text.len() {
+        match state.step(newlines, text[at]) {
+            None => return GapFront { length: at, state },
+            Some(next) => {
+                at = run(next, newlines, text, at + 1);
+                state = next;
+            }
         }
     }
     GapFront {
         length: text.len(),
         state,
     }
+}
+
+/// The first byte from this one on that does not simply go on with spaces or with a comment, or the end.
+fn run(state: GapState, newlines: bool, text: &[u8], from: usize) -> usize
+    requires { from ≤ length text.now }
+    ensures above { from ≤ result }
+    ensures within { result ≤ length text.now }
+    ensures stays { (k : ℕ) → from ≤ k → k < result → gap_move newlines state (get_or text.now k 0) ≡ Some state }
+{
+    let mut at = from;
+    'bytes: while at < text.len() {
+        if !state.stays(newlines, text[at]) {
+            return at;
+        }
+        at += 1;
+    }
+    at
 }

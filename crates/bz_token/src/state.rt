@@ -1,4 +1,5 @@
 ghost use Rattle.std.specs.Prelude.{◌≡◌, IsTrue, Some, None};
+ghost use Rattle.std.specs.Option.{option_or};
 ghost use Rattle.bz_token.specs.Bytes.{among, is_digit, is_hexadecimal, is_octal, is_e, is_x, is_o, is_sign, is_high, is_letter};
 ghost use Rattle.bz_token.specs.Scanner.{lone_marks, operator_marks, mark_start, number_start, text_start, quote_or_word, word_move, high_move, zero_move, whole_move, fraction_move, exponent_move, doubled_move, quote_byte, short_move, long_move, move, ends, may_end};
 
@@ -131,7 +132,7 @@ impl State {
         ensures { result ≡ move self byte }
     {
         match self {
-            State::Start => mark_start(byte).or(number_start(byte)).or(text_start(byte)),
+            State::Start => start_step(byte),
             State::Word => word_step(byte),
             State::PrefixR if byte == b'b' => Some(State::PrefixBoth),
             State::PrefixB if byte == b'r' => Some(State::PrefixBoth),
@@ -236,6 +237,18 @@ fn operator_mark(byte: u8) -> bool
     ensures { result ≡ among byte operator_marks }
 {
     matches!(byte, b'+' | b'-' | b'%' | b'&' | b'|' | b'^' | b'=')
+}
+
+fn start_step(byte: u8) -> Option<State>
+    ensures { result ≡ option_or (option_or (mark_start byte) (number_start byte)) (text_start byte) }
+{
+    if let Some(state) = mark_start(byte) {
+        return Some(state);
+    }
+    if let Some(state) = number_start(byte) {
+        return Some(state);
+    }
+    text_start(byte)
 }
 
 fn mark_start(byte: u8) -> Option<State>

@@ -20,6 +20,13 @@ use Rattle.bz_tree.specs.declared.state.Rung.{Rung}
 use Rattle.bz_tree.specs.declared.state.Rung.TheVariants as g
 use Rattle.bz_tree.specs.declared.state.State.{State}
 use Rattle.bz_tree.specs.declared.state.State.TheVariants as s
+use Rattle.bz_tree.specs.declared.state.Rest.TheVariants as in_rest
+use Rattle.bz_tree.specs.declared.state.ItemsAt.TheVariants as items_at
+use Rattle.bz_tree.specs.declared.state.Items.TheVariants as items_row
+use Rattle.bz_tree.specs.declared.state.FileAt.TheVariants as file_at
+use Rattle.bz_tree.specs.declared.state.RoundAt.TheVariants as round_at
+use Rattle.bz_tree.specs.declared.state.SuffixAt.TheVariants as suffix_at
+use Rattle.bz_tree.specs.declared.state.StatementAt.TheVariants as statement_at
 use Rattle.bz_tree.specs.Shapes.{Terminal, has_token, Sort, level, argument, entry, clause, first_clause, loaded, small, line, Shape, done, tok, list, shape, name, simple, string, equals, stars, products, sums, shifts, comma, open_round, open_square, open_curly}
 use Rattle.bz_tree.specs.Reading.{◌>>=◌, Read, starts_with, first, put, run, finish, first_of, Found, as_kind, put_found, follow, node, wrap, wrap_found, infix_at, fits_in, suffixes, climb, named_tail, reading, round, square, curly, suffix, clause_plan, small_plan, if_all, read_file}
 use Rattle.bz_tree.specs.Words.{terminals_of, token_at, part_at, with_found, found_by, Halts, Fails}
@@ -75,7 +82,7 @@ pub entry_is : (d : ℕ) (ts : List Leaf) → part_at (suc d) entry ts ≡ found
 unfolding part_at found_at found_by
 entry_is d ts = wrapped k.Entry (run (reading d) (shape k.Entry) ts)
 
-pub clause_is : (d : ℕ) (ts : List Leaf) → part_at (suc d) clause ts ≡ found_at d [] s.AnyClause ts
+pub clause_is : (d : ℕ) (ts : List Leaf) → part_at (suc d) clause ts ≡ found_at d [] s.Clause ts
 unfolding part_at found_at found_by
 clause_is d ts = found_plain (follow (reading d) clause_plan ts)
 
@@ -83,11 +90,11 @@ pub first_clause_is : (d : ℕ) (ts : List Leaf) → part_at (suc d) first_claus
 unfolding part_at found_at found_by
 first_clause_is d ts = wrapped k.For (run (reading d) (shape k.For) ts)
 
-pub small_is : (d : ℕ) (ts : List Leaf) → part_at (suc d) small ts ≡ found_at d [] s.Small ts
+pub small_is : (d : ℕ) (ts : List Leaf) → part_at (suc d) small ts ≡ found_at d [] (s.Statement statement_at.Begin) ts
 unfolding part_at found_at found_by
 small_is d ts = found_plain (follow (reading d) small_plan ts)
 
-pub line_is : (d : ℕ) (ts : List Leaf) → part_at (suc d) line ts ≡ found_at d [] (s.Listed k.Line q.Small t.Semicolon t.Newline) ts
+pub line_is : (d : ℕ) (ts : List Leaf) → part_at (suc d) line ts ≡ found_at d [] (s.Items items_row.Statements items_at.Part) ts
 unfolding part_at found_at found_by
 line_is d ts = wrapped k.Line (run (reading d) (shape k.Line) ts)
 
@@ -184,7 +191,7 @@ module _ (d : ℕ) (token : Token) (state : State) (a : Part) (ts : List Leaf) w
 -- ---- atoms
 
 module _ (d : ℕ) (ts : List Leaf) where
-  pub atom_round : starts_with open_round ts ≡ true → atom_at d ts ≡ found_at d [] s.Round ts
+  pub atom_round : starts_with open_round ts ≡ true → atom_at d ts ≡ found_at d [] (s.Round round_at.Open) ts
   unfolding atom_at found_at found_by
   atom_round h = cond-true (starts_with open_round ts) _ _ h ∙ found_plain (follow (reading d) round ts)
 
@@ -234,7 +241,7 @@ suffixes_same d (suc n) (suc m) a ts g h =
     (bind_same (suffixed d a ts) (λ x. suffixes n d (reading d) x.0 x.1) (λ x. suffixes m d (reading d) x.0 x.1)
     (λ x e. suffixes_same d n m x.0 x.1 (omega (arith, suffixed_takes d a ts x e)) (omega (arith, suffixed_takes d a ts x e))))
 
-suffix_is : (d : ℕ) (a : Part) (ts : List Leaf) → found_at d (a ∷ []) s.Suffix ts ≡ suffixed d a ts
+suffix_is : (d : ℕ) (a : Part) (ts : List Leaf) → found_at d (a ∷ []) (s.Suffix suffix_at.Begin) ts ≡ suffixed d a ts
 unfolding found_at found_by
 suffix_is d a ts = sym (found_one a (follow (reading d) suffix ts))
 
@@ -253,27 +260,27 @@ module _ (d : ℕ) (a : Part) (ts : List Leaf) where
   pub suffix_unfit : starts_with (terminals_of t.Suffixes) ts ≡ true → cond (fits_in d a) (Some a) None ≡ None → suffixes_at d a ts ≡ None
   suffix_unfit h f = suffix_step d a ts ∙ cond-true (starts_with (first_of suffix) ts) _ _ h ∙ unfit (fits_in d a) a _ f
 
-  suffix_reads : starts_with (terminals_of t.Suffixes) ts ≡ true → fits_in d a ≡ true → suffixes_at d a ts ≡ (found_at d (a ∷ []) s.Suffix ts >>= λ x. suffixes_at d x.0 x.1)
+  suffix_reads : starts_with (terminals_of t.Suffixes) ts ≡ true → fits_in d a ≡ true → suffixes_at d a ts ≡ (found_at d (a ∷ []) (s.Suffix suffix_at.Begin) ts >>= λ x. suffixes_at d x.0 x.1)
   suffix_reads h f = suffix_step d a ts ∙ cond-true (starts_with (first_of suffix) ts) _ _ h ∙ cond-true (fits_in d a) _ _ f ∙ ap (λ (o : Option (Part × List Leaf)). o >>= λ x. suffixes_at d x.0 x.1) (sym (suffix_is d a ts))
 
-  pub suffix_goes : (x : Part) (rest : List Leaf) → starts_with (terminals_of t.Suffixes) ts ≡ true → fits_in d a ≡ true → found_at d (a ∷ []) s.Suffix ts ≡ Some (x, rest) → suffixes_at d x rest ≡ suffixes_at d a ts
+  pub suffix_goes : (x : Part) (rest : List Leaf) → starts_with (terminals_of t.Suffixes) ts ≡ true → fits_in d a ≡ true → found_at d (a ∷ []) (s.Suffix suffix_at.Begin) ts ≡ Some (x, rest) → suffixes_at d x rest ≡ suffixes_at d a ts
   suffix_goes x rest h f e = sym (suffix_reads h f ∙ ap (λ (o : Option (Part × List Leaf)). o >>= λ x. suffixes_at d x.0 x.1) e)
 
-  pub suffix_none : starts_with (terminals_of t.Suffixes) ts ≡ true → fits_in d a ≡ true → found_at d (a ∷ []) s.Suffix ts ≡ None → suffixes_at d a ts ≡ None
+  pub suffix_none : starts_with (terminals_of t.Suffixes) ts ≡ true → fits_in d a ≡ true → found_at d (a ∷ []) (s.Suffix suffix_at.Begin) ts ≡ None → suffixes_at d a ts ≡ None
   suffix_none h f e = suffix_reads h f ∙ ap (λ (o : Option (Part × List Leaf)). o >>= λ x. suffixes_at d x.0 x.1) e
 
-  pub suffix_shorter : (x : Part) (rest : List Leaf) → found_at d (a ∷ []) s.Suffix ts ≡ Some (x, rest) → length rest < length ts
+  pub suffix_shorter : (x : Part) (rest : List Leaf) → found_at d (a ∷ []) (s.Suffix suffix_at.Begin) ts ≡ Some (x, rest) → length rest < length ts
   suffix_shorter x rest e = let w = suffixed_takes d a ts (x, rest) (sym (suffix_is d a ts) ∙ e) in omega (arith, w)
 
 -- ---- arguments
 
 module _ (d : ℕ) (ts : List Leaf) where
-  pub star_is : starts_with stars ts ≡ true → argument_at d ts ≡ found_at d [] (s.Ends k.Star t.Stars (q.Level 12)) ts
+  pub star_is : starts_with stars ts ≡ true → argument_at d ts ≡ found_at d [] (s.Rest k.Star (in_rest.TokenPart t.Stars (q.Level 12))) ts
   unfolding argument_at found_at found_by
   star_is h = cond-true (starts_with stars ts) _ _ h ∙ wrapped k.Star (run (reading d) (shape k.Star) ts)
 
   abbrev named : Read Part
-  named us = level_at d 12 us >>= λ a. cond (starts_with equals a.1) (cond (has_token name a.0) (found_at d (a.0 ∷ []) (s.Ends k.Named t.Equals (q.Level 12)) a.1) None) (Some a)
+  named us = level_at d 12 us >>= λ a. cond (starts_with equals a.1) (cond (has_token name a.0) (found_at d (a.0 ∷ []) (s.Rest k.Named (in_rest.TokenPart t.Equals (q.Level 12))) a.1) None) (Some a)
 
   named_is : starts_with stars ts ≡ false → argument_at d ts ≡ named ts
   unfolding argument_at found_at found_by level_at
@@ -295,11 +302,11 @@ module _ (d : ℕ) (ts : List Leaf) where
   pub argument_stays : (a : Part) (rest : List Leaf) → starts_with stars ts ≡ false → level_at d 12 ts ≡ Some (a, rest) → starts_with equals rest ≡ false → argument_at d ts ≡ Some (a, rest)
   argument_stays a rest h e m = named_is h ∙ rw (e, m) refl
 
-  pub argument_named : (a : Part) (rest : List Leaf) → starts_with stars ts ≡ false → level_at d 12 ts ≡ Some (a, rest) → has_token name a ≡ true → argument_at d ts ≡ begun_at d t.Equals (s.Ends k.Named t.Equals (q.Level 12)) a rest
+  pub argument_named : (a : Part) (rest : List Leaf) → starts_with stars ts ≡ false → level_at d 12 ts ≡ Some (a, rest) → has_token name a ≡ true → argument_at d ts ≡ begun_at d t.Equals (s.Rest k.Named (in_rest.TokenPart t.Equals (q.Level 12))) a rest
   argument_named a rest h e n =
       elim (cases_Bool (starts_with equals rest)) [
-        | inl m ↦ named_is h ∙ rw (e, m, n) (sym (begun_goes d t.Equals (s.Ends k.Named t.Equals (q.Level 12)) a rest m (named_fits a n)))
-        | inr m ↦ argument_stays a rest h e m ∙ sym (begun_stays d t.Equals (s.Ends k.Named t.Equals (q.Level 12)) a rest m)
+        | inl m ↦ named_is h ∙ rw (e, m, n) (sym (begun_goes d t.Equals (s.Rest k.Named (in_rest.TokenPart t.Equals (q.Level 12))) a rest m (named_fits a n)))
+        | inr m ↦ argument_stays a rest h e m ∙ sym (begun_stays d t.Equals (s.Rest k.Named (in_rest.TokenPart t.Equals (q.Level 12))) a rest m)
       ]
 
 -- ---- files
@@ -336,15 +343,15 @@ pub file_part : (x y : Part) (rest : List Leaf) → x ≡ y → (let z : Option 
 file_part x y rest e = ap (λ (z : Part). let w : Option (Part × List Leaf) = Some (z, rest) in w) e
 
 module _ (d : ℕ) (ts : List Leaf) where
-  pub file_none : found_at d [] s.Lines ts ≡ None → read_file d ts ≡ None
+  pub file_none : found_at d [] (s.File file_at.Lines) ts ≡ None → read_file d ts ≡ None
   unfolding found_at found_by
   file_none e = rw (framed_none (run (reading d) (shape k.File) ts) e) refl
 
-  pub file_leaf : {A : Type 0} (l : Leaf) (rest : List Leaf) → found_at d [] s.Lines ts ≡ Some (v.Leaf l, rest) → A
+  pub file_leaf : {A : Type 0} (l : Leaf) (rest : List Leaf) → found_at d [] (s.File file_at.Lines) ts ≡ Some (v.Leaf l, rest) → A
   unfolding found_at found_by
   file_leaf l rest e = let w = framed_some (run (reading d) (shape k.File) ts) (v.Leaf l) rest e in absurd (no_leaf (record { kind = k.File; parts = w.0 }) l w.2)
 
-  pub file_whole : (n : Node) (rest : List Leaf) → found_at d [] s.Lines ts ≡ Some (v.Node n, rest) → rest ≡ [] → read_file d ts ≡ Some n
+  pub file_whole : (n : Node) (rest : List Leaf) → found_at d [] (s.File file_at.Lines) ts ≡ Some (v.Node n, rest) → rest ≡ [] → read_file d ts ≡ Some n
   unfolding found_at found_by
   file_whole n rest e h =
       let w = framed_some (run (reading d) (shape k.File) ts) (v.Node n) rest e in
@@ -352,7 +359,7 @@ module _ (d : ℕ) (ts : List Leaf) where
       let same : m ≡ n = same_node m n w.2 in
       rw (w.1, h) (ap (λ (z : Node). Some z) same)
 
-  pub file_more : (n : Node) (rest : List Leaf) → found_at d [] s.Lines ts ≡ Some (v.Node n, rest) → (rest ≡ [] → ⊥) → read_file d ts ≡ None
+  pub file_more : (n : Node) (rest : List Leaf) → found_at d [] (s.File file_at.Lines) ts ≡ Some (v.Node n, rest) → (rest ≡ [] → ⊥) → read_file d ts ≡ None
   unfolding found_at found_by
   file_more n rest e h =
       let w = framed_some (run (reading d) (shape k.File) ts) (v.Node n) rest e in

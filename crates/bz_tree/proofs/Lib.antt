@@ -24,4 +24,5 @@ pub mod Statements
 pub mod AllLines
 pub mod Rises
 pub mod Pushed
+mod Told
 pub mod Cutting

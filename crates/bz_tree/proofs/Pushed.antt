@@ -12,6 +12,7 @@ use Rattle.bz_tree.specs.declared.token.Token.TheVariants as t
 use Rattle.bz_tree.specs.declared.token.Halt.{Halt}
 use Rattle.bz_tree.specs.declared.state.State.{State}
 use Rattle.bz_tree.specs.declared.state.State.TheVariants as s
+use Rattle.bz_tree.specs.declared.state.SuffixAt.TheVariants as suffix_at
 use Rattle.bz_tree.specs.Spell.{depth_part, deepest}
 use Rattle.bz_tree.specs.Reading.{Read, starts_with, fits_in}
 use Rattle.bz_tree.specs.Words.{terminals_of, Pushes, Fails}
@@ -108,12 +109,12 @@ fitted_some d deep a ps state ts y e f h = some_of (nat_le deep d) refl h
     some_of false g k = absurd (none-some y k)
 
 -- what is not read behind a primary
-pub suffix_fails : (d deep : ℕ) (a : Part) (ps : List Part) (ts : List Leaf) → ps ≡ a ∷ [] → deep ≡ depth_part a → starts_with (terminals_of t.Suffixes) ts ≡ true → fitted_at d deep ps s.Suffix ts ≡ None → suffixes_at d a ts ≡ None
+pub suffix_fails : (d deep : ℕ) (a : Part) (ps : List Part) (ts : List Leaf) → ps ≡ a ∷ [] → deep ≡ depth_part a → starts_with (terminals_of t.Suffixes) ts ≡ true → fitted_at d deep ps (s.Suffix suffix_at.Begin) ts ≡ None → suffixes_at d a ts ≡ None
 unfolding fitted_at
 suffix_fails d deep a ps ts e f h n = none_of (nat_le deep d) refl n
   where
-    none_of : (b : Bool) → nat_le deep d ≡ b → cond b (found_at d ps s.Suffix ts) None ≡ None → suffixes_at d a ts ≡ None
-    none_of true g k = suffix_none d a ts h (ap (λ (n : ℕ). nat_le n d) (sym f) ∙ g) (ap (λ (qs : List Part). found_at d qs s.Suffix ts) (sym e) ∙ k)
+    none_of : (b : Bool) → nat_le deep d ≡ b → cond b (found_at d ps (s.Suffix suffix_at.Begin) ts) None ≡ None → suffixes_at d a ts ≡ None
+    none_of true g k = suffix_none d a ts h (ap (λ (n : ℕ). nat_le n d) (sym f) ∙ g) (ap (λ (qs : List Part). found_at d qs (s.Suffix suffix_at.Begin) ts) (sym e) ∙ k)
     none_of false g k = let b : fits_in d a ≡ false = ap (λ (n : ℕ). nat_le n d) (sym f) ∙ g in suffix_unfit d a ts h (cond-false (fits_in d a) (Some a) None b)
 
 -- ---- a stack of one part

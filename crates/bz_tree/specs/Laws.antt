@@ -2,7 +2,7 @@
 use Rattle.std.specs.Prelude.{◌≡◌, ◌≤◌, ◌↔◌}
 use Rattle.bz_lex.specs.Leaves.{AreLeaves, AreCoded}
 use Rattle.bz_tree.specs.declared.tree.Node.{Node}
-use Rattle.bz_tree.specs.Spell.{spell_node, leaves_of, depth_of}
+use Rattle.bz_tree.specs.Spell.{spell_node, leaves_of, depth_of, depth_limit}
 use Rattle.bz_tree.specs.Spots.{Begins, AtParts, Stands, AreTokens}
 use Rattle.bz_tree.specs.Legal.{IsFile, Legal}
 
@@ -19,13 +19,13 @@ OneFile = (m n : Node) → IsFile m → IsFile n → leaves_of m ≡ leaves_of n
 abbrev pub GapsByNodes : Type 0
 GapsByNodes = (n : Node) → IsFile n → (AtParts Stands Begins Begins n.parts × AreTokens (leaves_of n)) ↔ AreLeaves (leaves_of n)
 
--- A legal tree by its leaves: a file by its shapes, at most 200 nodes deep, whose leaves, in a row, stand as the leaves of
+-- A legal tree by its leaves: a file by its shapes, within the limit of depth, whose leaves, in a row, stand as the leaves of
 -- a text do and are texts of characters.
 pub record IsLegalByLeaves (n : Node) : Type 0 where
   pub file : IsFile n
   pub leaves : AreLeaves (leaves_of n)
   pub coded : AreCoded (leaves_of n)
-  pub depth : depth_of n ≤ 200
+  pub depth : depth_of n ≤ depth_limit
 
 -- legal by nodes is legal by leaves
 abbrev pub LegalByNodes : Type 0

@@ -5,6 +5,7 @@ pub mod Spots
 pub mod Legal
 pub mod Reading
 pub mod Words
+pub mod Symbols
 pub mod States
 pub mod Faults
 pub mod Laws

@@ -8,7 +8,7 @@ use Rattle.bz_tree.specs.declared.tree.Node.{Node}
 use Rattle.bz_tree.specs.declared.tree.Part.{Part}
 use Rattle.bz_tree.specs.declared.tree.Part.TheVariants as p
 use Rattle.bz_tree.specs.Spell.{depth_part}
-use Rattle.bz_tree.specs.Shapes.{Terminal, is_one_of, has_token, Sort, level, argument, entry, clause, first_clause, loaded, small, line, test, expr, leaves_at, Shape, none, done, tok, sub, alt, list, each, items, slice_end, shape, name, simple, string, equals, stars, assigns, dot, comma, colon, keyword, open_round, close_round, open_square, close_square, open_curly, close_curly}
+use Rattle.bz_tree.specs.Shapes.{Terminal, is_one_of, has_token, Sort, rank, level, argument, entry, clause, first_clause, loaded, small, line, test, expr, leaves_at, Shape, none, done, tok, sub, alt, list, each, items, slice_end, shape, name, simple, string, equals, stars, assigns, dot, comma, colon, keyword, open_round, close_round, open_square, close_square, open_curly, close_curly}
 
 infixl 10 ◌>>=◌
 abbrev pub ◌>>=◌ : {A B : Type 0} → Option A → (A → Option B) → Option B
@@ -54,13 +54,13 @@ starts_level (suc n) = own_token (shape_at n) ++ starts_level n
 
 abbrev pub starts : Sort → List Terminal
 starts (level n) = starts_level n
-starts argument = stars ++ starts_level 12
-starts entry = starts_level 12
+starts argument = stars ++ starts_level (rank k.Cond)
+starts entry = starts_level (rank k.Cond)
 starts clause = keyword (codes "for") ++ keyword (codes "if")
 starts first_clause = keyword (codes "for")
 starts loaded = string ++ name
-starts small = keyword (codes "load") ++ starts_level 13
-starts line = keyword (codes "load") ++ starts_level 13
+starts small = keyword (codes "load") ++ starts_level (rank k.Row)
+starts line = keyword (codes "load") ++ starts_level (rank k.Row)
 
 -- the tokens with which a shape begins
 abbrev pub first : Shape → List Terminal
@@ -239,7 +239,7 @@ read_argument next inner = prefix_at k.Star (shape k.Star) inner (infix_at k.Nam
 abbrev pub reading : ℕ → Sort → Read Part
 reading zero q ts = token_of (leaves_at q) ts
 reading (suc d) (level n) ts = climb d (reading d) n ts
-reading (suc d) argument ts = read_argument (climb d (reading d) 12) (reading d) ts
+reading (suc d) argument ts = read_argument (climb d (reading d) (rank k.Cond)) (reading d) ts
 reading (suc d) entry ts = wrap k.Entry (run (reading d) (shape k.Entry) ts)
 reading (suc d) clause ts = wrap_found (follow (reading d) clause_plan ts)
 reading (suc d) first_clause ts = wrap k.For (run (reading d) (shape k.For) ts)

@@ -144,19 +144,22 @@ abbrev pub primary : Sort
 primary = level 0
 
 abbrev pub bitor : Sort
-bitor = level 7
+bitor = level (rank k.BitOr)
 
 abbrev pub not_level : Sort
-not_level = level 9
+not_level = level (rank k.Not)
+
+abbrev pub and_level : Sort
+and_level = level (rank k.And)
 
 abbrev pub or_level : Sort
-or_level = level 11
+or_level = level (rank k.Or)
 
 abbrev pub test : Sort
-test = level 12
+test = level (rank k.Cond)
 
 abbrev pub expr : Sort
-expr = level 13
+expr = level (rank k.Row)
 
 abbrev pub is_expression : Kind → Bool
 is_expression k.File = false
@@ -185,7 +188,7 @@ leaves_at _ = []
 -- whether nodes of a kind have a sort
 abbrev pub has_kind : Sort → Kind → Bool
 has_kind (level n) kind = is_expression kind && nat_le (rank kind) n
-has_kind argument kind = (is_expression kind && nat_le (rank kind) 12) || (is_kind kind k.Named || is_kind kind k.Star)
+has_kind argument kind = (is_expression kind && nat_le (rank kind) (rank k.Cond)) || (is_kind kind k.Named || is_kind kind k.Star)
 has_kind entry kind = is_kind kind k.Entry
 has_kind clause kind = is_kind kind k.For || is_kind kind k.If
 has_kind first_clause kind = is_kind kind k.For
@@ -286,7 +289,7 @@ shape k.Row = flat test comma
 -- Cond = or "if" or "else" test
 shape k.Cond = sub or_level (tok (keyword (codes "if")) (sub or_level (tok (keyword (codes "else")) (sub test done))))
 -- Or = and "or" and {"or" and}
-shape k.Or = flat (level 10) (keyword (codes "or"))
+shape k.Or = flat and_level (keyword (codes "or"))
 -- And = not "and" not {"and" not}
 shape k.And = flat not_level (keyword (codes "and"))
 -- Not = "not" not
@@ -294,14 +297,14 @@ shape k.Not = tok (keyword (codes "not")) (sub not_level done)
 -- Compare = bitor op bitor; op: == != < > <= >= in, or "not" "in"
 shape k.Compare = sub bitor (alt (tok orders (sub bitor done)) (tok (keyword (codes "not")) (tok (keyword (codes "in")) (sub bitor done))))
 -- BitOr | Xor ^ BitAnd & Shift << >> Sum + - Product * / // %: next op next {op next}, loosest first
-shape k.BitOr = flat (level 6) (mark (codes "|"))
-shape k.Xor = flat (level 5) (mark (codes "^"))
-shape k.BitAnd = flat (level 4) (mark (codes "&"))
-shape k.Shift = flat (level 3) shifts
-shape k.Sum = flat (level 2) sums
-shape k.Product = flat (level 1) products
+shape k.BitOr = flat (level (rank k.Xor)) (mark (codes "|"))
+shape k.Xor = flat (level (rank k.BitAnd)) (mark (codes "^"))
+shape k.BitAnd = flat (level (rank k.Shift)) (mark (codes "&"))
+shape k.Shift = flat (level (rank k.Sum)) shifts
+shape k.Sum = flat (level (rank k.Product)) sums
+shape k.Product = flat (level (rank k.Unary)) products
 -- Unary = ("+" | "-" | "~") unary
-shape k.Unary = tok signs (sub (level 1) done)
+shape k.Unary = tok signs (sub (level (rank k.Unary)) done)
 -- Dot = primary "." Name
 shape k.Dot = sub primary (tok dot (tok name done))
 -- Call = primary "(" [arg {"," arg} [","]] ")"

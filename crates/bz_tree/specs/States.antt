@@ -1,5 +1,5 @@
--- The parser's table: what is left to read in each state, and its next move.
-use Rattle.std.specs.Prelude.{◌≡◌, ℕ, zero, suc, ◌-◌, nat_le, Bool, true, false, List, [], ◌∷◌, ◌++◌, length, Some, None, if◌then◌else◌, codes}
+-- The parser's states: what is left to read in each, and the move that this asks for.
+use Rattle.std.specs.Prelude.{◌≡◌, ℕ, zero, suc, ◌+◌, ◌-◌, ◌≤◌, nat_le, Bool, true, false, List, [], ◌∷◌, ◌++◌, length, Some, None, if◌then◌else◌, codes}
 use Rattle.bz_lex.specs.declared.leaf.Leaf.{Leaf}
 use Rattle.bz_tree.specs.declared.kind.Kind.{Kind}
 use Rattle.bz_tree.specs.declared.kind.Kind.TheVariants as k
@@ -10,13 +10,44 @@ use Rattle.bz_tree.specs.declared.state.Sort.{Sort as Place}
 use Rattle.bz_tree.specs.declared.state.Sort.TheVariants as q
 use Rattle.bz_tree.specs.declared.state.State.{State}
 use Rattle.bz_tree.specs.declared.state.State.TheVariants as s
+use Rattle.bz_tree.specs.declared.state.Rest.{Rest}
+use Rattle.bz_tree.specs.declared.state.Rest.TheVariants as in_rest
+use Rattle.bz_tree.specs.declared.state.ItemsAt.{ItemsAt}
+use Rattle.bz_tree.specs.declared.state.ItemsAt.TheVariants as items_at
+use Rattle.bz_tree.specs.declared.state.OperandsAt.{OperandsAt}
+use Rattle.bz_tree.specs.declared.state.OperandsAt.TheVariants as operands_at
+use Rattle.bz_tree.specs.declared.state.ClausesAt.{ClausesAt}
+use Rattle.bz_tree.specs.declared.state.ClausesAt.TheVariants as clauses_at
+use Rattle.bz_tree.specs.declared.state.NamesAt.{NamesAt}
+use Rattle.bz_tree.specs.declared.state.NamesAt.TheVariants as names_at
+use Rattle.bz_tree.specs.declared.state.FileAt.{FileAt}
+use Rattle.bz_tree.specs.declared.state.FileAt.TheVariants as file_at
+use Rattle.bz_tree.specs.declared.state.SliceAt.{SliceAt}
+use Rattle.bz_tree.specs.declared.state.SliceAt.TheVariants as slice_at
+use Rattle.bz_tree.specs.declared.state.RoundAt.{RoundAt}
+use Rattle.bz_tree.specs.declared.state.RoundAt.TheVariants as round_at
+use Rattle.bz_tree.specs.declared.state.BracketsAt.{BracketsAt}
+use Rattle.bz_tree.specs.declared.state.BracketsAt.TheVariants as brackets_at
+use Rattle.bz_tree.specs.declared.state.SuffixAt.{SuffixAt}
+use Rattle.bz_tree.specs.declared.state.SuffixAt.TheVariants as suffix_at
+use Rattle.bz_tree.specs.declared.state.StatementAt.{StatementAt}
+use Rattle.bz_tree.specs.declared.state.StatementAt.TheVariants as statement_at
+use Rattle.bz_tree.specs.declared.state.Items.{Items}
+use Rattle.bz_tree.specs.declared.state.Operands.{Operands}
+use Rattle.bz_tree.specs.declared.state.Brackets.{Brackets}
+use Rattle.bz_tree.specs.declared.state.Items.TheVariants as items_row
+use Rattle.bz_tree.specs.declared.state.Operands.TheVariants as operands_row
+use Rattle.bz_tree.specs.declared.state.Brackets.TheVariants as brackets_row
+use Rattle.bz_tree.specs.declared.state.ItemRow.{ItemRow}
+use Rattle.bz_tree.specs.declared.state.OperandRow.{OperandRow}
+use Rattle.bz_tree.specs.declared.state.BracketRow.{BracketRow}
 use Rattle.bz_tree.specs.declared.state.Move.{Move}
 use Rattle.bz_tree.specs.declared.state.Move.TheVariants as m
 use Rattle.bz_tree.specs.declared.state.Rung.{Rung}
 use Rattle.bz_tree.specs.declared.state.Rung.TheVariants as g
 use Rattle.bz_tree.specs.Spell.{depth_part}
-use Rattle.bz_tree.specs.Shapes.{Sort, level, argument, entry, clause, first_clause, loaded, small, line, primary, bitor, or_level, test, expr, Shape, done, tok, sub, alt, list, each, opt, items, slice_end, shape, string, orders, assigns, comma, colon, keyword, open_round, close_round, open_square, close_square}
-use Rattle.bz_tree.specs.Reading.{◌>>=◌, Read, starts_with, Plan, finish, one, piece, choose, round, square, curly, suffix, clause_plan, small_plan, more_items, clauses, node, fits_in, atom, suffixes, climb, read_argument, reading}
+use Rattle.bz_tree.specs.Shapes.{Terminal, Sort, rank, level, argument, entry, clause, first_clause, loaded, small, line, or_level, test, expr, Shape, none, done, tok, sub, alt, list, each, items, slice_end, shape, assigns, comma, colon, keyword, open_round, close_round, open_square, close_square}
+use Rattle.bz_tree.specs.Reading.{◌>>=◌, Read, starts, starts_with, first, first_of, Plan, finish, one, piece, choose, round, square, curly, suffix, clause_plan, small_plan, more_items, clauses, node, fits_in, atom, suffixes, climb, read_argument, reading}
 use Rattle.bz_tree.specs.Words.{terminals_of, token_at, part_at, found_by}
 
 abbrev pub sort_of : Place → Sort
@@ -31,29 +62,42 @@ sort_of q.Line = line
 
 -- ---- what is left of the shapes of the table, further in
 
+-- what is left behind the first of its tokens and parts, where a shape begins with one, and what an alternative begins with
+abbrev pub onward : Shape → Shape
+onward (tok terminals r) = r
+onward (sub q r) = r
+onward r = r
+
+abbrev pub left : Shape → Shape
+left (alt r r') = r
+left r = r
+
+abbrev pub right : Shape → Shape
+right (alt r r') = r'
+right r = r
+
+abbrev pub names : Shape
+names = onward (shape k.For)
+
+-- behind the names of a `for`
 abbrev pub in_or : Shape
 in_or = tok (keyword (codes "in")) (sub or_level done)
 
-abbrev pub names : Shape
-names = list primary comma false in_or
-
+-- behind the second place of a slice
 abbrev pub slice_stop : Shape
-slice_stop = alt (tok close_square done) (tok colon (opt test (tok close_square done)))
+slice_stop = left slice_end
 
 abbrev pub compare_tail : Shape
-compare_tail = alt (tok orders (sub bitor done)) (tok (keyword (codes "not")) (tok (keyword (codes "in")) (sub bitor done)))
+compare_tail = onward (shape k.Compare)
 
 abbrev pub cond_tail : Shape
-cond_tail = sub or_level (tok (keyword (codes "else")) (sub test done))
+cond_tail = onward (onward (shape k.Cond))
 
 abbrev pub round_end : Plan
 round_end = choose (finish k.Paren (tok close_round done)) (finish k.Tuple (tok comma (items test close_round)))
 
 abbrev pub round_item : Plan
 round_item = choose (finish k.Tuple (tok close_round done)) (piece test round_end)
-
-abbrev pub behind_element : Token → Place → Kind → Kind → Plan
-behind_element close sort whole comprehension = choose (finish comprehension (clauses (terminals_of close))) (finish whole (more_items (sort_of sort) (terminals_of close)))
 
 abbrev pub index_end : Plan
 index_end = choose (finish k.Index (tok close_square done)) (finish k.Slice (tok colon slice_end))
@@ -67,155 +111,205 @@ call_or_index = choose (finish k.Call (tok open_round (items argument close_roun
 abbrev pub small_end : Plan
 small_end = choose (finish k.Assign (tok assigns (sub expr done))) (finish k.Bare done)
 
--- ---- the table
+-- ---- what is left to read in a state
 
--- what is left to read in a state
+abbrev pub left_in_rest : Rest → Shape
+left_in_rest in_rest.Nothing = done
+left_in_rest (in_rest.Token token) = tok (terminals_of token) done
+left_in_rest (in_rest.Part sort) = sub (sort_of sort) done
+left_in_rest (in_rest.TokenPart token sort) = tok (terminals_of token) (sub (sort_of sort) done)
+left_in_rest (in_rest.Tokens token other) = tok (terminals_of token) (tok (terminals_of other) done)
+
+abbrev pub row_of_items : Items → ItemRow
+row_of_items items_row.Statements = record { kind = k.Line; sort = q.Small; separator = t.Semicolon; close = t.Newline }
+row_of_items items_row.Arguments = record { kind = k.Call; sort = q.Argument; separator = t.Comma; close = t.CloseRound }
+row_of_items items_row.Loaded = record { kind = k.Load; sort = q.Loaded; separator = t.Comma; close = t.CloseRound }
+row_of_items items_row.Tuple = record { kind = k.Tuple; sort = q.Level (rank k.Cond); separator = t.Comma; close = t.CloseRound }
+row_of_items items_row.List = record { kind = k.List; sort = q.Level (rank k.Cond); separator = t.Comma; close = t.CloseSquare }
+row_of_items items_row.Dict = record { kind = k.Dict; sort = q.Entry; separator = t.Comma; close = t.CloseCurly }
+
+-- the closing token; parts, at least one, and it; none or more of them
+abbrev pub closing : ItemRow → Shape
+closing row = tok (terminals_of row.close) done
+
+abbrev pub parts_of_items : ItemRow → Shape
+parts_of_items row = list (sort_of row.sort) (terminals_of row.separator) true (closing row)
+
+abbrev pub left_of_items : ItemRow → ItemsAt → Shape
+left_of_items row items_at.Begin = alt (closing row) (parts_of_items row)
+left_of_items row items_at.Part = parts_of_items row
+left_of_items row items_at.Behind = alt (tok (terminals_of row.separator) (alt (closing row) (parts_of_items row))) (closing row)
+left_of_items row items_at.Separator = tok (terminals_of row.separator) (alt (closing row) (parts_of_items row))
+left_of_items row items_at.More = alt (closing row) (tok (terminals_of row.separator) (alt (closing row) (parts_of_items row)))
+
+abbrev pub left_in_items : Items → ItemsAt → Plan
+left_in_items all here = finish (row_of_items all).kind (left_of_items (row_of_items all) here)
+
+abbrev pub row_of_operands : Operands → OperandRow
+row_of_operands operands_row.Product = record { kind = k.Product; sort = q.Level (rank k.Unary); operator = t.Products }
+row_of_operands operands_row.Sum = record { kind = k.Sum; sort = q.Level (rank k.Product); operator = t.Sums }
+row_of_operands operands_row.Shift = record { kind = k.Shift; sort = q.Level (rank k.Sum); operator = t.Shifts }
+row_of_operands operands_row.BitAnd = record { kind = k.BitAnd; sort = q.Level (rank k.Shift); operator = t.Ampersand }
+row_of_operands operands_row.Xor = record { kind = k.Xor; sort = q.Level (rank k.BitAnd); operator = t.Caret }
+row_of_operands operands_row.BitOr = record { kind = k.BitOr; sort = q.Level (rank k.Xor); operator = t.Bar }
+row_of_operands operands_row.And = record { kind = k.And; sort = q.Level (rank k.Not); operator = t.And }
+row_of_operands operands_row.Or = record { kind = k.Or; sort = q.Level (rank k.And); operator = t.Or }
+row_of_operands operands_row.Row = record { kind = k.Row; sort = q.Level (rank k.Cond); operator = t.Comma }
+
+abbrev pub parts_of_operands : OperandRow → Shape
+parts_of_operands row = list (sort_of row.sort) (terminals_of row.operator) false done
+
+abbrev pub left_of_operands : OperandRow → OperandsAt → Shape
+left_of_operands row operands_at.Part = parts_of_operands row
+left_of_operands row operands_at.Behind = alt (tok (terminals_of row.operator) (parts_of_operands row)) done
+left_of_operands row operands_at.Operator = tok (terminals_of row.operator) (parts_of_operands row)
+
+abbrev pub left_in_operands : Operands → OperandsAt → Plan
+left_in_operands all here = finish (row_of_operands all).kind (left_of_operands (row_of_operands all) here)
+
+abbrev pub left_of_clauses : Token → ClausesAt → Shape
+left_of_clauses close clauses_at.First = clauses (terminals_of close)
+left_of_clauses close clauses_at.Further = onward (clauses (terminals_of close))
+left_of_clauses close clauses_at.Clause = sub clause (onward (clauses (terminals_of close)))
+
+abbrev pub left_of_names : NamesAt → Shape
+left_of_names names_at.Name = names
+left_of_names names_at.Behind = alt (tok comma names) in_or
+left_of_names names_at.Comma = tok comma names
+
+abbrev pub left_of_file : FileAt → Shape
+left_of_file file_at.Lines = shape k.File
+left_of_file file_at.Line = sub line (shape k.File)
+
+abbrev pub left_of_slice : SliceAt → Shape
+left_of_slice slice_at.Colon = tok colon slice_end
+left_of_slice slice_at.End = slice_end
+left_of_slice slice_at.EndTest = right slice_end
+left_of_slice slice_at.BehindEnd = slice_stop
+left_of_slice slice_at.SecondColon = right slice_stop
+left_of_slice slice_at.Step = onward (right slice_stop)
+left_of_slice slice_at.StepTest = right (onward (right slice_stop))
+
+abbrev pub left_in_round : RoundAt → Plan
+left_in_round round_at.Open = round
+left_in_round round_at.Item = round_item
+left_in_round round_at.Test = piece test round_end
+left_in_round round_at.Behind = round_end
+
+abbrev pub row_of_brackets : Brackets → BracketRow
+row_of_brackets brackets_row.Square = record { items = items_row.List; kind = k.List; sort = q.Level (rank k.Cond); close = t.CloseSquare; comprehension = k.ListComp }
+row_of_brackets brackets_row.Curly = record { items = items_row.Dict; kind = k.Dict; sort = q.Entry; close = t.CloseCurly; comprehension = k.DictComp }
+
+abbrev pub behind_element : BracketRow → Plan
+behind_element row = choose (finish row.comprehension (clauses (terminals_of row.close))) (finish row.kind (more_items (sort_of row.sort) (terminals_of row.close)))
+
+abbrev pub left_of_brackets : BracketRow → BracketsAt → Plan
+left_of_brackets row brackets_at.Begin = choose (finish row.kind (tok (terminals_of row.close) done)) (piece (sort_of row.sort) (behind_element row))
+left_of_brackets row brackets_at.Element = piece (sort_of row.sort) (behind_element row)
+left_of_brackets row brackets_at.Behind = behind_element row
+
+abbrev pub left_in_brackets : Brackets → BracketsAt → Plan
+left_in_brackets all here = left_of_brackets (row_of_brackets all) here
+
+abbrev pub left_of_suffix : SuffixAt → Plan
+left_of_suffix suffix_at.Begin = suffix
+left_of_suffix suffix_at.CallOrIndex = call_or_index
+left_of_suffix suffix_at.Call = finish k.Call (tok open_round (items argument close_round))
+left_of_suffix suffix_at.Index = one open_square index_item
+left_of_suffix suffix_at.IndexItem = index_item
+left_of_suffix suffix_at.IndexExpression = piece expr index_end
+left_of_suffix suffix_at.IndexEnd = index_end
+
+abbrev pub left_of_statement : StatementAt → Plan
+left_of_statement statement_at.Begin = small_plan
+left_of_statement statement_at.Load = finish k.Load (shape k.Load)
+left_of_statement statement_at.LoadOpen = finish k.Load (onward (shape k.Load))
+left_of_statement statement_at.LoadString = finish k.Load (onward (onward (shape k.Load)))
+left_of_statement statement_at.Expression = piece expr small_end
+left_of_statement statement_at.BehindExpression = small_end
+
 abbrev pub plan_at : State → Plan
-plan_at (s.Done kind) = finish kind done
-plan_at (s.Close kind token) = finish kind (tok (terminals_of token) done)
-plan_at (s.Last kind sort) = finish kind (sub (sort_of sort) done)
-plan_at (s.Ends kind token sort) = finish kind (tok (terminals_of token) (sub (sort_of sort) done))
-plan_at (s.Pair kind token other) = finish kind (tok (terminals_of token) (tok (terminals_of other) done))
-plan_at (s.Items kind sort separator close) = finish kind (alt (tok (terminals_of close) done) (list (sort_of sort) (terminals_of separator) true (tok (terminals_of close) done)))
-plan_at (s.Listed kind sort separator close) = finish kind (list (sort_of sort) (terminals_of separator) true (tok (terminals_of close) done))
-plan_at (s.Behind kind sort separator close) = finish kind (alt (tok (terminals_of separator) (alt (tok (terminals_of close) done) (list (sort_of sort) (terminals_of separator) true (tok (terminals_of close) done)))) (tok (terminals_of close) done))
-plan_at (s.Separator kind sort separator close) = finish kind (tok (terminals_of separator) (alt (tok (terminals_of close) done) (list (sort_of sort) (terminals_of separator) true (tok (terminals_of close) done))))
-plan_at (s.Operands kind sort separator) = finish kind (list (sort_of sort) (terminals_of separator) false done)
-plan_at (s.Operators kind sort separator) = finish kind (alt (tok (terminals_of separator) (list (sort_of sort) (terminals_of separator) false done)) done)
-plan_at (s.Operator kind sort separator) = finish kind (tok (terminals_of separator) (list (sort_of sort) (terminals_of separator) false done))
-plan_at s.Names = finish k.For names
-plan_at s.BehindName = finish k.For (alt (tok comma names) in_or)
-plan_at s.NextName = finish k.For (tok comma names)
-plan_at (s.Clauses kind close) = finish kind (each clause (tok (terminals_of close) done))
-plan_at (s.Clause kind close) = finish kind (sub clause (each clause (tok (terminals_of close) done)))
-plan_at (s.FirstClause kind close) = finish kind (clauses (terminals_of close))
-plan_at s.Lines = finish k.File (shape k.File)
-plan_at s.OneLine = finish k.File (sub line (shape k.File))
-plan_at s.SliceFrom = finish k.Slice (tok colon slice_end)
-plan_at s.SliceEnd = finish k.Slice slice_end
-plan_at s.SliceTest = finish k.Slice (sub test slice_stop)
-plan_at s.SliceStop = finish k.Slice slice_stop
-plan_at s.SliceColon = finish k.Slice (tok colon (opt test (tok close_square done)))
-plan_at s.SliceLast = finish k.Slice (opt test (tok close_square done))
-plan_at s.SliceStep = finish k.Slice (sub test (tok close_square done))
-plan_at s.Round = round
-plan_at s.RoundItem = round_item
-plan_at s.RoundTest = piece test round_end
-plan_at s.RoundEnd = round_end
+plan_at (s.Rest kind row) = finish kind (left_in_rest row)
+plan_at (s.Items all here) = left_in_items all here
+plan_at (s.Operands all here) = left_in_operands all here
+plan_at (s.Clauses kind close here) = finish kind (left_of_clauses close here)
+plan_at (s.Names here) = finish k.For (left_of_names here)
+plan_at (s.File here) = finish k.File (left_of_file here)
+plan_at (s.Slice here) = finish k.Slice (left_of_slice here)
+plan_at (s.Round here) = left_in_round here
+plan_at (s.Brackets all here) = left_in_brackets all here
+plan_at (s.Suffix here) = left_of_suffix here
+plan_at (s.Statement here) = left_of_statement here
 plan_at s.Square = square
 plan_at s.Curly = curly
-plan_at (s.Element close sort kind comprehension) = choose (finish kind (tok (terminals_of close) done)) (piece (sort_of sort) (behind_element close sort kind comprehension))
-plan_at (s.FirstElement close sort kind comprehension) = piece (sort_of sort) (behind_element close sort kind comprehension)
-plan_at (s.BehindElement close sort kind comprehension) = behind_element close sort kind comprehension
-plan_at (s.More kind sort close) = finish kind (more_items (sort_of sort) (terminals_of close))
-plan_at s.Suffix = suffix
-plan_at s.CallOrIndex = call_or_index
-plan_at s.Call = finish k.Call (tok open_round (items argument close_round))
-plan_at s.Index = one open_square index_item
-plan_at s.IndexItem = index_item
-plan_at s.IndexExpr = piece expr index_end
-plan_at s.IndexEnd = index_end
-plan_at s.AnyClause = clause_plan
+plan_at s.Clause = clause_plan
 plan_at s.For = finish k.For (shape k.For)
-plan_at s.Small = small_plan
-plan_at s.Load = finish k.Load (shape k.Load)
-plan_at s.LoadOpen = finish k.Load (tok open_round (tok string (more_items loaded close_round)))
-plan_at s.LoadString = finish k.Load (tok string (more_items loaded close_round))
-plan_at s.SmallExpr = piece expr small_end
-plan_at s.SmallEnd = small_end
 plan_at s.Entry = finish k.Entry (shape k.Entry)
 plan_at s.Alias = finish k.Alias (shape k.Alias)
 plan_at s.Compare = finish k.Compare compare_tail
-plan_at s.NotIn = finish k.Compare (tok (keyword (codes "not")) (tok (keyword (codes "in")) (sub bitor done)))
-plan_at s.Cond = finish k.Cond (tok (keyword (codes "if")) cond_tail)
-plan_at s.CondOr = finish k.Cond cond_tail
+plan_at s.NotIn = finish k.Compare (right compare_tail)
+plan_at s.Condition = finish k.Cond (onward (shape k.Cond))
+plan_at s.BehindIf = finish k.Cond cond_tail
 
--- the next move
-abbrev pub next_of : State → Move
-next_of (s.Done kind) = m.Finish kind
-next_of (s.Close kind token) = m.Take token (s.Done kind)
-next_of (s.Last kind sort) = m.Read sort (s.Done kind)
-next_of (s.Ends kind token sort) = m.Take token (s.Last kind sort)
-next_of (s.Pair kind token other) = m.Take token (s.Close kind other)
-next_of (s.Items kind sort separator close) = m.Choose close (s.Close kind close) (s.Listed kind sort separator close)
-next_of (s.Listed kind sort separator close) = m.Read sort (s.Behind kind sort separator close)
-next_of (s.Behind kind sort separator close) = m.Choose separator (s.Separator kind sort separator close) (s.Close kind close)
-next_of (s.Separator kind sort separator close) = m.Take separator (s.Items kind sort separator close)
-next_of (s.Operands kind sort separator) = m.Read sort (s.Operators kind sort separator)
-next_of (s.Operators kind sort separator) = m.Choose separator (s.Operator kind sort separator) (s.Done kind)
-next_of (s.Operator kind sort separator) = m.Take separator (s.Operands kind sort separator)
-next_of s.Names = m.Read (q.Level 0) s.BehindName
-next_of s.BehindName = m.Choose t.Comma s.NextName (s.Ends k.For t.In (q.Level 11))
-next_of s.NextName = m.Take t.Comma s.Names
-next_of (s.Clauses kind close) = m.Choose t.Clauses (s.Clause kind close) (s.Close kind close)
-next_of (s.Clause kind close) = m.Read q.Clause (s.Clauses kind close)
-next_of (s.FirstClause kind close) = m.Read q.FirstClause (s.Clauses kind close)
-next_of s.Lines = m.Choose t.Lines s.OneLine (s.Close k.File t.End)
-next_of s.OneLine = m.Read q.Line s.Lines
-next_of s.SliceFrom = m.Take t.Colon s.SliceEnd
-next_of s.SliceEnd = m.Choose t.SliceStops s.SliceStop s.SliceTest
-next_of s.SliceTest = m.Read (q.Level 12) s.SliceStop
-next_of s.SliceStop = m.Choose t.CloseSquare (s.Close k.Slice t.CloseSquare) s.SliceColon
-next_of s.SliceColon = m.Take t.Colon s.SliceLast
-next_of s.SliceLast = m.Choose t.CloseSquare (s.Close k.Slice t.CloseSquare) s.SliceStep
-next_of s.SliceStep = m.Read (q.Level 12) (s.Close k.Slice t.CloseSquare)
-next_of s.Round = m.Take t.OpenRound s.RoundItem
-next_of s.RoundItem = m.Choose t.CloseRound (s.Close k.Tuple t.CloseRound) s.RoundTest
-next_of s.RoundTest = m.Read (q.Level 12) s.RoundEnd
-next_of s.RoundEnd = m.Choose t.CloseRound (s.Close k.Paren t.CloseRound) (s.Separator k.Tuple (q.Level 12) t.Comma t.CloseRound)
-next_of s.Square = m.Take t.OpenSquare (s.Element t.CloseSquare (q.Level 12) k.List k.ListComp)
-next_of s.Curly = m.Take t.OpenCurly (s.Element t.CloseCurly q.Entry k.Dict k.DictComp)
-next_of (s.Element close sort kind comprehension) = m.Choose close (s.Close kind close) (s.FirstElement close sort kind comprehension)
-next_of (s.FirstElement close sort kind comprehension) = m.Read sort (s.BehindElement close sort kind comprehension)
-next_of (s.BehindElement close sort kind comprehension) = m.Choose t.For (s.FirstClause comprehension close) (s.More kind sort close)
-next_of (s.More kind sort close) = m.Choose close (s.Close kind close) (s.Separator kind sort t.Comma close)
-next_of s.Suffix = m.Choose t.Dot (s.Pair k.Dot t.Dot t.Name) s.CallOrIndex
-next_of s.CallOrIndex = m.Choose t.OpenRound s.Call s.Index
-next_of s.Call = m.Take t.OpenRound (s.Items k.Call q.Argument t.Comma t.CloseRound)
-next_of s.Index = m.Take t.OpenSquare s.IndexItem
-next_of s.IndexItem = m.Choose t.Colon s.SliceFrom s.IndexExpr
-next_of s.IndexExpr = m.Read (q.Level 13) s.IndexEnd
-next_of s.IndexEnd = m.Choose t.CloseSquare (s.Close k.Index t.CloseSquare) s.SliceFrom
-next_of s.AnyClause = m.Choose t.For s.For (s.Ends k.If t.If (q.Level 11))
-next_of s.For = m.Take t.For s.Names
-next_of s.Small = m.Choose t.Load s.Load s.SmallExpr
-next_of s.Load = m.Take t.Load s.LoadOpen
-next_of s.LoadOpen = m.Take t.OpenRound s.LoadString
-next_of s.LoadString = m.Take t.String (s.More k.Load q.Loaded t.CloseRound)
-next_of s.SmallExpr = m.Read (q.Level 13) s.SmallEnd
-next_of s.SmallEnd = m.Choose t.Assigns (s.Ends k.Assign t.Assigns (q.Level 13)) (s.Done k.Bare)
-next_of s.Entry = m.Read (q.Level 12) (s.Ends k.Entry t.Colon (q.Level 12))
-next_of s.Alias = m.Take t.Name (s.Pair k.Alias t.Equals t.String)
-next_of s.Compare = m.Choose t.Orders (s.Ends k.Compare t.Orders (q.Level 7)) s.NotIn
-next_of s.NotIn = m.Take t.Not (s.Ends k.Compare t.In (q.Level 7))
-next_of s.Cond = m.Take t.If s.CondOr
-next_of s.CondOr = m.Read (q.Level 11) (s.Ends k.Cond t.Else (q.Level 12))
+-- ---- the move that a plan asks for
+
+-- behind a part of a list
+abbrev pub again : Sort → List Terminal → Bool → Shape → Shape
+again q separators true r = alt (tok separators (alt r (list q separators true r))) r
+again q separators false r = alt (tok separators (list q separators false r)) r
+
+-- what a plan begins with
+pub data Asked : Type 0 where
+  -- nothing reads it
+  never : Asked
+  -- nothing more: a node of this kind
+  whole : Kind → Asked
+  -- one token of these, and then
+  one_token : List Terminal → Plan → Asked
+  -- one part, and then
+  one_part : Sort → Plan → Asked
+  -- the left plan where the next token is one of these, else the right one
+  either : List Terminal → Plan → Plan → Asked
+
+abbrev pub asked : Plan → Asked
+asked (finish kind none) = never
+asked (finish kind done) = whole kind
+asked (finish kind (tok terminals r)) = one_token terminals (finish kind r)
+asked (finish kind (sub q r)) = one_part q (finish kind r)
+asked (finish kind (alt r r')) = either (first r) (finish kind r) (finish kind r')
+asked (finish kind (list q separators last r)) = one_part q (finish kind (again q separators last r))
+asked (finish kind (each q r)) = either (starts q) (finish kind (sub q (each q r))) (finish kind r)
+asked (one terminals plan) = one_token terminals plan
+asked (piece q plan) = one_part q plan
+asked (choose plan plan') = either (first_of plan) plan plan'
+
+-- the move is the one that is asked for
+abbrev pub Meets : Asked → Move → Type 0
+Meets (whole kind) (m.Finish kind') = kind' ≡ kind
+Meets (one_token terminals plan) (m.Take token state) = (terminals_of token ≡ terminals) × (plan_at state ≡ plan)
+Meets (one_part q plan) (m.Read place state) = (sort_of place ≡ q) × (plan_at state ≡ plan)
+Meets (either terminals plan plan') (m.Choose token state state') = (terminals_of token ≡ terminals) × (plan_at state ≡ plan) × (plan_at state' ≡ plan')
+Meets _ _ = ⊥
+
+abbrev pub Asks : Plan → Move → Type 0
+Asks plan move = Meets (asked plan) move
 
 -- how many choices without a leaf may come
-abbrev pub turns : State → ℕ
-turns (s.Items kind sort separator close) = 1
-turns (s.Behind kind sort separator close) = 1
-turns (s.Operators kind sort separator) = 1
-turns s.BehindName = 1
-turns (s.Clauses kind close) = 1
-turns s.Lines = 1
-turns s.SliceEnd = 2
-turns s.SliceStop = 1
-turns s.SliceLast = 1
-turns s.RoundItem = 1
-turns s.RoundEnd = 1
-turns (s.Element close sort kind comprehension) = 1
-turns (s.BehindElement close sort kind comprehension) = 2
-turns (s.More kind sort close) = 1
-turns s.Suffix = 2
-turns s.CallOrIndex = 1
-turns s.IndexItem = 1
-turns s.IndexEnd = 1
-turns s.AnyClause = 1
-turns s.Small = 1
-turns s.SmallEnd = 1
-turns s.Compare = 1
-turns _ = 0
+abbrev pub choices_in : Shape → ℕ
+choices_in (alt r r') = suc (choices_in r + choices_in r')
+choices_in (each q r) = suc (choices_in r)
+choices_in _ = 0
+
+abbrev pub choices : Plan → ℕ
+choices (finish kind r) = choices_in r
+choices (choose plan plan') = suc (choices plan + choices plan')
+choices _ = 0
+
+-- they are few behind a leaf
+abbrev pub Few : Move → Type 0
+Few (m.Take token state) = choices (plan_at state) ≤ 2
+Few (m.Read place state) = choices (plan_at state) ≤ 2
+Few _ = Unit {0}
 
 -- a node of which front was read before
 unfoldable pub found_at : ℕ → List Part → State → Read Part
@@ -230,23 +324,23 @@ moved d front (m.Choose token left right) ts = if starts_with (terminals_of toke
 
 -- ---- operators
 
-abbrev pub operator_of : Kind → Place → Token → Rung
-operator_of kind place token = g.Infix token (s.Operator kind place token)
+abbrev pub operator_of : Operands → Rung
+operator_of all = g.Infix (row_of_operands all).operator (s.Operands all operands_at.Operator)
 
 abbrev pub rung_of : ℕ → Rung
-rung_of zero = g.Prefix t.Signs (s.Ends k.Unary t.Signs (q.Level 1))
-rung_of (suc zero) = operator_of k.Product (q.Level 1) t.Products
-rung_of (suc (suc zero)) = operator_of k.Sum (q.Level 2) t.Sums
-rung_of (suc (suc (suc zero))) = operator_of k.Shift (q.Level 3) t.Shifts
-rung_of (suc (suc (suc (suc zero)))) = operator_of k.BitAnd (q.Level 4) t.Ampersand
-rung_of (suc (suc (suc (suc (suc zero))))) = operator_of k.Xor (q.Level 5) t.Caret
-rung_of (suc (suc (suc (suc (suc (suc zero)))))) = operator_of k.BitOr (q.Level 6) t.Bar
+rung_of zero = g.Prefix t.Signs (s.Rest k.Unary (in_rest.TokenPart t.Signs (q.Level (rank k.Unary))))
+rung_of (suc zero) = operator_of operands_row.Product
+rung_of (suc (suc zero)) = operator_of operands_row.Sum
+rung_of (suc (suc (suc zero))) = operator_of operands_row.Shift
+rung_of (suc (suc (suc (suc zero)))) = operator_of operands_row.BitAnd
+rung_of (suc (suc (suc (suc (suc zero))))) = operator_of operands_row.Xor
+rung_of (suc (suc (suc (suc (suc (suc zero)))))) = operator_of operands_row.BitOr
 rung_of (suc (suc (suc (suc (suc (suc (suc zero))))))) = g.Infix t.Compares s.Compare
-rung_of (suc (suc (suc (suc (suc (suc (suc (suc zero)))))))) = g.Prefix t.Not (s.Ends k.Not t.Not (q.Level 9))
-rung_of (suc (suc (suc (suc (suc (suc (suc (suc (suc zero))))))))) = operator_of k.And (q.Level 9) t.And
-rung_of (suc (suc (suc (suc (suc (suc (suc (suc (suc (suc zero)))))))))) = operator_of k.Or (q.Level 10) t.Or
-rung_of (suc (suc (suc (suc (suc (suc (suc (suc (suc (suc (suc zero))))))))))) = g.Infix t.If s.Cond
-rung_of (suc (suc (suc (suc (suc (suc (suc (suc (suc (suc (suc (suc zero)))))))))))) = operator_of k.Row (q.Level 12) t.Comma
+rung_of (suc (suc (suc (suc (suc (suc (suc (suc zero)))))))) = g.Prefix t.Not (s.Rest k.Not (in_rest.TokenPart t.Not (q.Level (rank k.Not))))
+rung_of (suc (suc (suc (suc (suc (suc (suc (suc (suc zero))))))))) = operator_of operands_row.And
+rung_of (suc (suc (suc (suc (suc (suc (suc (suc (suc (suc zero)))))))))) = operator_of operands_row.Or
+rung_of (suc (suc (suc (suc (suc (suc (suc (suc (suc (suc (suc zero))))))))))) = g.Infix t.If s.Condition
+rung_of (suc (suc (suc (suc (suc (suc (suc (suc (suc (suc (suc (suc zero)))))))))))) = operator_of operands_row.Row
 rung_of _ = g.Same
 
 -- a part, or a node that it begins where this token stands behind it
@@ -305,4 +399,4 @@ atom_at d ts = atom (reading d) ts
 
 -- an argument of a call
 unfoldable pub argument_at : ℕ → Read Part
-argument_at d ts = read_argument (climb d (reading d) 12) (reading d) ts
+argument_at d ts = read_argument (climb d (reading d) (rank k.Cond)) (reading d) ts

@@ -1,10 +1,11 @@
 //! Where a text nests too deep. It is told with the fault; no clause speaks of the place.
 ghost use Rattle.std.specs.Prelude.{◌≡◌};
 
-use crate::state::{COMMAS, NOT, Rung, Sort, UNARY, rung_at};
+use crate::kind::Kind;
+use crate::state::{CONDITION, NOT, Rung, Sort, UNARY, rung_at};
 use crate::statement::first_of;
 use crate::token::{Leaves, Token};
-use crate::tree::{Node, Part};
+use crate::tree::Part;
 
 /// Marks where the part, right before the next leaf, holds the first node inside more than so many levels.
 pub(crate) fn mark_part(part: &Part, depth: u32, leaves: &mut Leaves)
@@ -18,15 +19,22 @@ pub(crate) fn mark_part(part: &Part, depth: u32, leaves: &mut Leaves)
     leaves.mark_too_deep(at);
 }
 
-/// The byte at which the first token of the first node begins that stands inside so many nodes of a file, if there is one.
-pub(crate) fn deeper_at(file: &Node, limit: u32) -> Option<usize> {
+/// The byte at which the first token of the first node begins that is inside more than so many nodes, itself counted, if
+/// there is one: in a file, or in the lines with which it begins, where it isn't read to its end.
+pub(crate) fn deeper_at(parts: &[Part], limit: u32) -> Option<usize> {
     let mut at = 0;
     let levels = limit as u64;
-    if levels > 0 && finds_deeper_in(file.parts.as_slice(), levels - 1, &mut at) {
-        Some(at)
-    } else {
-        None
+    for part in parts {
+        let room = match part {
+            Part::Node(node) if node.kind == Kind::File => levels,
+            Part::Node(node) if node.kind == Kind::Line => levels.saturating_sub(1),
+            _ => return None,
+        };
+        if finds_deeper(part, room, &mut at) {
+            return Some(at);
+        }
     }
+    None
 }
 
 /// Marks the next leaf where it begins a node of this sort, for which there is no room.
@@ -80,9 +88,9 @@ fn first_gap(parts: &[Part]) -> usize {
 fn begins_node(sort: Sort, leaves: &Leaves) -> bool {
     match sort {
         Sort::Level(n) => begins_level(n, leaves),
-        Sort::Argument => leaves.starts(Token::Stars) || begins_level(COMMAS, leaves),
+        Sort::Argument => leaves.starts(Token::Stars) || begins_level(CONDITION, leaves),
         Sort::Loaded => leaves.starts(Token::Name),
-        Sort::Entry => leaves.starts(Token::Simple) || begins_level(COMMAS, leaves),
+        Sort::Entry => leaves.starts(Token::Simple) || begins_level(CONDITION, leaves),
         Sort::Clause => leaves.starts(Token::Clauses),
         Sort::FirstClause => leaves.starts(Token::For),
         Sort::Small | Sort::Line => leaves.starts(Token::Lines),
@@ -101,7 +109,7 @@ fn begins_level(n: u8, leaves: &Leaves) -> bool {
 pub(crate) fn goes_on(sort: Sort, leaves: &Leaves) -> bool {
     match sort {
         Sort::Level(n) => level_goes_on(n, leaves),
-        Sort::Argument => leaves.starts(Token::Equals) || level_goes_on(COMMAS, leaves),
+        Sort::Argument => leaves.starts(Token::Equals) || level_goes_on(CONDITION, leaves),
         _ => false,
     }
 }

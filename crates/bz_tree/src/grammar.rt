@@ -13,7 +13,10 @@ use crate::deep::{goes_on, mark_next, mark_part};
 use crate::kind::Kind;
 use crate::limits::DEPTH_LIMIT;
 use crate::row::{Stack, deeper};
-use crate::state::{COMMAS, Move, NOT, Rung, Sort, State, TEST, UNARY, rung_at};
+use crate::state::{
+    CONDITION, FileAt, Items, ItemsAt, Move, NOT, PRIMARY, Rest, RoundAt, Rung, Sort, State,
+    StatementAt, SuffixAt, TEST, UNARY, rung_at,
+};
 use crate::token::{Halt, Leaves, Token};
 use crate::tree::{Node, Part};
 use std::alloc::Global;
@@ -36,7 +39,7 @@ pub fn whole(alloc: Global, depth: u32, leaves: &mut Leaves) -> Result<Node, Hal
     ensures err { Fails result (read_file depth leaves.old) }
 {
     let mut stack = Stack::new(alloc);
-    let _deep = begin(State::Lines, depth, &mut stack, leaves)?;
+    let _deep = begin(State::File(FileAt::Lines), depth, &mut stack, leaves)?;
     let part = stack.into_only()?;
     match part {
         Part::Leaf(_) => Err(Halt::Unexpected),
@@ -47,6 +50,18 @@ pub fn whole(alloc: Global, depth: u32, leaves: &mut Leaves) -> Result<Node, Hal
                 Err(Halt::Unexpected)
             }
         }
+    }
+}
+
+/// What is read of a file of which the parts are at most so deep: the file, or where no file goes on with some leaf its lines
+/// in front of that one and then parts of the line there. The error, `Memory` alone: a growth was refused.
+pub fn read_so_far(alloc: Global, depth: u32, leaves: &mut Leaves) -> Result<Stack, Halt>
+    requires { depth < 1000 }
+{
+    let mut stack = Stack::new(alloc);
+    match begin(State::File(FileAt::Lines), depth, &mut stack, leaves) {
+        Err(Halt::Memory) => Err(Halt::Memory),
+        _ => Ok(stack),
     }
 }
 
@@ -148,12 +163,12 @@ fn part(sort: Sort, depth: u32, stack: &mut Stack, leaves: &mut Leaves) -> Resul
             }
         }
         Sort::Entry => begin(State::Entry, inner, stack, leaves),
-        Sort::Clause => begin(State::AnyClause, inner, stack, leaves),
+        Sort::Clause => begin(State::Clause, inner, stack, leaves),
         Sort::FirstClause => begin(State::For, inner, stack, leaves),
-        Sort::Small => begin(State::Small, inner, stack, leaves),
+        Sort::Small => begin(State::Statement(StatementAt::Begin), inner, stack, leaves),
         Sort::Line => {
-            let line = State::Listed(Kind::Line, Sort::Small, Token::Semicolon, Token::Newline);
-            begin(line, inner, stack, leaves)
+            let statements = State::Items(Items::Statements, ItemsAt::Part);
+            begin(statements, inner, stack, leaves)
         }
     }
 }
@@ -213,17 +228,23 @@ fn operand(n: u8, depth: u32, stack: &mut Stack, leaves: &mut Leaves) -> Result<
     ensures err { Fails result (level_at depth n leaves.old) }
 {
     if leaves.starts_from(NOT, n, Token::Not) {
-        let state = State::Ends(Kind::Not, Token::Not, Sort::Level(NOT));
+        let state = State::Rest(Kind::Not, Rest::TokenPart(Token::Not, Sort::Level(NOT)));
         let deep = begin(state, depth, stack, leaves)?;
         return Ok(Begun { rank: NOT, deep });
     }
     if leaves.starts_from(UNARY, n, Token::Signs) {
-        let state = State::Ends(Kind::Unary, Token::Signs, Sort::Level(UNARY));
+        let state = State::Rest(
+            Kind::Unary,
+            Rest::TokenPart(Token::Signs, Sort::Level(UNARY)),
+        );
         let deep = begin(state, depth, stack, leaves)?;
         return Ok(Begun { rank: UNARY, deep });
     }
     let deep = primary(depth, stack, leaves)?;
-    Ok(Begun { rank: 0, deep })
+    Ok(Begun {
+        rank: PRIMARY,
+        deep,
+    })
 }
 
 /// The last part of the stack, which stands at `from` and is so deep, or the node that the operator of this rank makes of it.
@@ -265,7 +286,14 @@ fn primary(depth: u32, stack: &mut Stack, leaves: &mut Leaves) -> Result<u32, Ha
     let from = stack.len();
     let mut deep = atom(depth, stack, leaves)?;
     'suffixes: while leaves.starts(Token::Suffixes) {
-        deep = go_on(from, deep, State::Suffix, depth, stack, leaves)?;
+        deep = go_on(
+            from,
+            deep,
+            State::Suffix(SuffixAt::Begin),
+            depth,
+            stack,
+            leaves,
+        )?;
     }
     Ok(deep)
 }
@@ -278,7 +306,7 @@ fn atom(depth: u32, stack: &mut Stack, leaves: &mut Leaves) -> Result<u32, Halt>
     ensures err { Fails result (atom_at depth leaves.old) }
 {
     if leaves.starts(Token::OpenRound) {
-        begin(State::Round, depth, stack, leaves)
+        begin(State::Round(RoundAt::Open), depth, stack, leaves)
     } else if leaves.starts(Token::OpenSquare) {
         begin(State::Square, depth, stack, leaves)
     } else if leaves.starts(Token::OpenCurly) {
@@ -296,17 +324,17 @@ fn argument(depth: u32, stack: &mut Stack, leaves: &mut Leaves) -> Result<u32, H
     ensures err { Fails result (argument_at depth leaves.old) }
 {
     if leaves.starts(Token::Stars) {
-        let star = State::Ends(Kind::Star, Token::Stars, TEST);
+        let star = State::Rest(Kind::Star, Rest::TokenPart(Token::Stars, TEST));
         return begin(star, depth, stack, leaves);
     }
     let from = stack.len();
-    let deep = expression(COMMAS, depth, stack, leaves)?;
+    let deep = expression(CONDITION, depth, stack, leaves)?;
     if !leaves.starts(Token::Equals) {
         return Ok(deep);
     }
     if !stack.has_name(from) {
         return Err(Halt::Unexpected);
     }
-    let named = State::Ends(Kind::Named, Token::Equals, TEST);
+    let named = State::Rest(Kind::Named, Rest::TokenPart(Token::Equals, TEST));
     go_on(from, deep, named, depth, stack, leaves)
 }

@@ -11,6 +11,7 @@ mod row;
 mod same;
 mod state;
 mod statement;
+mod symbol;
 mod token;
 mod tree;
 

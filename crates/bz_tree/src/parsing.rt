@@ -7,7 +7,7 @@ ghost use Rattle.bz_tree.specs.Spell.{limit};
 ghost use Rattle.bz_tree.specs.Faults.{IsOfText, IsOther};
 
 use crate::deep::deeper_at;
-use crate::grammar::{file, whole};
+use crate::grammar::{file, read_so_far};
 use crate::limits::{DEPTH_LIMIT, LENGTH_LIMIT};
 use crate::token::{Halt, Leaves};
 use crate::tree::Tree;
@@ -70,17 +70,15 @@ fn fault_before(alloc: Global, text: &[u8], leaves: &Leaves) -> ReadFault
     }
 }
 
-/// The byte at which the first node begins that is too deep, where the text is a file of at most twice the depth. What
-/// stands behind a node may put it deeper, so the whole text decides. The error, `Memory` alone: a growth was refused.
+/// The byte at which the first node begins that is too deep, by a reading with room for twice the depth: what stands behind a
+/// node may put it deeper. Where the text is no file further on, the lines in front of that place tell. The error, `Memory`
+/// alone: a growth was refused.
 fn first_too_deep(alloc: Global, text: &[u8]) -> Result<Option<usize>, Halt>
     requires { length text.now ≤ limit }
 {
     let mut leaves = Leaves::new(alloc, text);
-    match whole(alloc, 2 * DEPTH_LIMIT, &mut leaves) {
-        Ok(file) => Ok(deeper_at(&file, DEPTH_LIMIT)),
-        Err(Halt::Memory) => Err(Halt::Memory),
-        Err(Halt::Unexpected) => Ok(None),
-    }
+    let read = read_so_far(alloc, 2 * DEPTH_LIMIT, &mut leaves)?;
+    Ok(deeper_at(read.as_slice(), DEPTH_LIMIT))
 }
 
 fn too_deep(text: &[u8], at: usize) -> ReadFault

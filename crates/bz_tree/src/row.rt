@@ -10,6 +10,7 @@ use crate::kind::Kind;
 use crate::token::{Halt, Leaves, Token};
 use crate::tree::{Node, Part};
 use bz_items::{Items, Memory};
+use bz_lex::Class;
 use std::alloc::Global;
 use std::marker::Model;
 
@@ -43,6 +44,13 @@ impl Stack {
         }
     }
 
+    /// The parts.
+    pub fn as_slice(&self) -> &[Part]
+        ensures { result.now ≡ self.now }
+    {
+        self.parts.as_slice()
+    }
+
     /// How many parts there are.
     pub fn len(&self) -> usize
         ensures { result ≡ length self.now }
@@ -62,7 +70,7 @@ impl Stack {
         ensures { (x : Part) → slice_get self.now at ≡ Some x → result ≡ has_token name x }
     {
         match self.parts.get(at) {
-            Some(Part::Leaf(leaf)) => Token::Name.is(leaf.class, leaf.token.as_slice()),
+            Some(Part::Leaf(leaf)) => leaf.class == Class::Name,
             _ => false,
         }
     }

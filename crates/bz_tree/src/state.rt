@@ -1,6 +1,7 @@
 //! The table of the grammar: what comes next inside a node.
 ghost use Rattle.std.specs.Prelude.{◌≡◌};
-ghost use Rattle.bz_tree.specs.States.{next_of, rung_of, operator_of};
+ghost use Rattle.bz_tree.specs.Reading.{finish};
+ghost use Rattle.bz_tree.specs.States.{rung_of, operator_of, plan_at, left_in_rest, row_of_items, row_of_operands, row_of_brackets, left_in_items, left_in_operands, left_of_clauses, left_of_names, left_of_file, left_of_slice, left_in_round, left_in_brackets, left_of_suffix, left_of_statement, Asks, Few};
 
 use crate::kind::Kind;
 use crate::token::Token;
@@ -19,113 +20,232 @@ pub(crate) enum Sort {
     Line,
 }
 
-/// A primary; the operand of a comparison; of a condition; an expression in brackets; any expression.
-pub(crate) const PRIMARY: Sort = Sort::Level(0);
+/// The ranks of expressions: operators bind the tighter the lower their rank. A primary is no operator's node.
+pub(crate) const PRIMARY: u8 = 0;
 
-pub(crate) const BITOR: Sort = Sort::Level(7);
-
-pub(crate) const OR: Sort = Sort::Level(11);
-
-pub(crate) const TEST: Sort = Sort::Level(COMMAS);
-
-pub(crate) const EXPR: Sort = Sort::Level(13);
-
-/// The rank of a node of a sign, and of a node of `not`.
 pub(crate) const UNARY: u8 = 1;
+
+const PRODUCT: u8 = 2;
+
+const SUM: u8 = 3;
+
+const SHIFT: u8 = 4;
+
+const BIT_AND: u8 = 5;
+
+const XOR: u8 = 6;
+
+const BIT_OR: u8 = 7;
+
+const COMPARE: u8 = 8;
 
 pub(crate) const NOT: u8 = 9;
 
-/// The rank of a condition, the highest in which no comma binds; commas make an expression of the next one.
-pub(crate) const COMMAS: u8 = 12;
+const AND: u8 = 10;
+
+const OR: u8 = 11;
+
+/// A condition: the highest rank in which no comma binds. Commas make an expression of the next one.
+pub(crate) const CONDITION: u8 = 12;
+
+const ROW: u8 = 13;
+
+/// What no comma joins outside brackets, and any expression.
+pub(crate) const TEST: Sort = Sort::Level(CONDITION);
+
+const EXPRESSION: Sort = Sort::Level(ROW);
 
 /// Where the parser stands in a node: what is left to read of it.
 #[derive(Clone, Copy)]
 pub(crate) enum State {
-    /// Nothing more: a node of this kind.
-    Done(Kind),
-    /// This token.
-    Close(Kind, Token),
-    /// One part.
-    Last(Kind, Sort),
-    /// This token and one part.
-    Ends(Kind, Token, Sort),
-    /// These two tokens.
-    Pair(Kind, Token, Token),
-    /// Parts with a separator between two of them and perhaps behind the last, none or more, and a closing token.
-    Items(Kind, Sort, Token, Token),
-    /// The same, but at least one.
-    Listed(Kind, Sort, Token, Token),
-    /// The same, behind one of them.
-    Behind(Kind, Sort, Token, Token),
-    /// The same, at a separator.
-    Separator(Kind, Sort, Token, Token),
-    /// Operands with an operator between two of them, to the end.
-    Operands(Kind, Sort, Token),
-    /// The same, behind an operand.
-    Operators(Kind, Sort, Token),
-    /// The same, at an operator.
-    Operator(Kind, Sort, Token),
-    /// The names of a `for`, and what comes behind them.
-    Names,
-    BehindName,
-    NextName,
-    /// Further clauses of a comprehension, and the closing bracket.
-    Clauses(Kind, Token),
-    Clause(Kind, Token),
-    /// All clauses of a comprehension, and the closing bracket.
-    FirstClause(Kind, Token),
-    /// A file.
-    Lines,
-    OneLine,
-    /// A slice from its first colon on.
-    SliceFrom,
-    SliceEnd,
-    SliceTest,
-    SliceStop,
-    SliceColon,
-    SliceLast,
-    SliceStep,
-    /// What round brackets hold: a tuple, or one expression.
-    Round,
-    RoundItem,
-    RoundTest,
-    RoundEnd,
+    /// Tokens and parts, one behind the other, of a node of this kind.
+    Rest(Kind, Rest),
+    Items(Items, ItemsAt),
+    Operands(Operands, OperandsAt),
+    /// The clauses of a comprehension of this kind, and its closing bracket.
+    Clauses(Kind, Token, ClausesAt),
+    Names(NamesAt),
+    File(FileAt),
+    Slice(SliceAt),
+    Round(RoundAt),
+    Brackets(Brackets, BracketsAt),
+    Suffix(SuffixAt),
+    Statement(StatementAt),
     /// What square brackets hold: a list or a comprehension.
     Square,
     /// What curly brackets hold: a dict or a comprehension.
     Curly,
-    /// Behind an opening bracket: its closing one, the sort of its elements, and the kinds without and with clauses.
-    Element(Token, Sort, Kind, Kind),
-    FirstElement(Token, Sort, Kind, Kind),
-    BehindElement(Token, Sort, Kind, Kind),
-    /// Behind an item: the closing bracket, or a comma and more.
-    More(Kind, Sort, Token),
-    /// What may stand behind a primary.
-    Suffix,
+    /// A clause of a comprehension, and the first one.
+    Clause,
+    For,
+    Entry,
+    Alias,
+    /// A comparison from its operator on, and from its `not` on.
+    Compare,
+    NotIn,
+    /// A condition from its `if` on, and behind it.
+    Condition,
+    BehindIf,
+}
+
+/// Tokens and parts, one behind the other.
+#[derive(Clone, Copy)]
+pub(crate) enum Rest {
+    Nothing,
+    Token(Token),
+    Part(Sort),
+    TokenPart(Token, Sort),
+    Tokens(Token, Token),
+}
+
+/// Parts with a separator between two of them and perhaps behind the last, and a closing token.
+#[derive(Clone, Copy)]
+pub(crate) enum Items {
+    Statements,
+    Arguments,
+    Loaded,
+    Tuple,
+    List,
+    Dict,
+}
+
+/// What such a row is made of.
+#[derive(Clone, Copy)]
+pub(crate) struct ItemRow {
+    pub kind: Kind,
+    pub sort: Sort,
+    pub separator: Token,
+    pub close: Token,
+}
+
+#[derive(Clone, Copy)]
+pub(crate) enum ItemsAt {
+    /// None or more parts.
+    Begin,
+    /// One at least.
+    Part,
+    /// Behind a part: a separator or the closing token.
+    Behind,
+    Separator,
+    /// The same as behind a part, where the closing token is looked for first.
+    More,
+}
+
+/// Parts with an operator between two of them, to the end of the node.
+#[derive(Clone, Copy)]
+pub(crate) enum Operands {
+    Product,
+    Sum,
+    Shift,
+    BitAnd,
+    Xor,
+    BitOr,
+    And,
+    Or,
+    Row,
+}
+
+/// What such a row is made of.
+#[derive(Clone, Copy)]
+pub(crate) struct OperandRow {
+    pub kind: Kind,
+    pub sort: Sort,
+    pub operator: Token,
+}
+
+#[derive(Clone, Copy)]
+pub(crate) enum OperandsAt {
+    Part,
+    Behind,
+    Operator,
+}
+
+#[derive(Clone, Copy)]
+pub(crate) enum ClausesAt {
+    First,
+    Further,
+    Clause,
+}
+
+/// The names of a `for`, and what comes behind them.
+#[derive(Clone, Copy)]
+pub(crate) enum NamesAt {
+    Name,
+    Behind,
+    Comma,
+}
+
+#[derive(Clone, Copy)]
+pub(crate) enum FileAt {
+    Lines,
+    Line,
+}
+
+/// A slice from its first colon on.
+#[derive(Clone, Copy)]
+pub(crate) enum SliceAt {
+    Colon,
+    End,
+    EndTest,
+    BehindEnd,
+    SecondColon,
+    Step,
+    StepTest,
+}
+
+/// What round brackets hold: a tuple, or one expression.
+#[derive(Clone, Copy)]
+pub(crate) enum RoundAt {
+    Open,
+    Item,
+    Test,
+    Behind,
+}
+
+/// What brackets hold that may be a comprehension.
+#[derive(Clone, Copy)]
+pub(crate) enum Brackets {
+    Square,
+    Curly,
+}
+
+/// What they hold: items, or a comprehension of this kind.
+#[derive(Clone, Copy)]
+pub(crate) struct BracketRow {
+    pub items: Items,
+    pub kind: Kind,
+    pub sort: Sort,
+    pub close: Token,
+    pub comprehension: Kind,
+}
+
+#[derive(Clone, Copy)]
+pub(crate) enum BracketsAt {
+    Begin,
+    Element,
+    Behind,
+}
+
+/// What may stand behind a primary.
+#[derive(Clone, Copy)]
+pub(crate) enum SuffixAt {
+    Begin,
     CallOrIndex,
     Call,
     Index,
     IndexItem,
-    IndexExpr,
+    IndexExpression,
     IndexEnd,
-    /// A clause of a comprehension.
-    AnyClause,
-    For,
-    /// A statement.
-    Small,
+}
+
+#[derive(Clone, Copy)]
+pub(crate) enum StatementAt {
+    Begin,
     Load,
     LoadOpen,
     LoadString,
-    SmallExpr,
-    SmallEnd,
-    Entry,
-    Alias,
-    /// A comparison, from its operator on.
-    Compare,
-    NotIn,
-    /// A condition, from its `if` on.
-    Cond,
-    CondOr,
+    Expression,
+    BehindExpression,
 }
 
 /// What to do in a state.
@@ -142,174 +262,391 @@ pub(crate) enum Move {
 }
 
 impl State {
-    /// The next move.
+    /// The next move. On its own, so that a level of the parser needs no stack for it.
+    #[inline(never)]
     pub fn next(self) -> Move
-        ensures { result ≡ next_of self }
+        ensures asks { Asks (plan_at self) result }
+        ensures few { Few result }
     {
         match self {
-            State::Done(kind) => Move::Finish(kind),
-            State::Close(kind, token) => Move::Take(token, State::Done(kind)),
-            State::Last(kind, sort) => Move::Read(sort, State::Done(kind)),
-            State::Ends(kind, token, sort) => Move::Take(token, State::Last(kind, sort)),
-            State::Pair(kind, token, other) => Move::Take(token, State::Close(kind, other)),
-            State::Items(kind, sort, separator, close) => Move::Choose(
-                close,
-                State::Close(kind, close),
-                State::Listed(kind, sort, separator, close),
-            ),
-            State::Listed(kind, sort, separator, close) => Move::Read(
-                sort,
-                State::Behind(kind, sort, separator, close),
-            ),
-            State::Behind(kind, sort, separator, close) => Move::Choose(
-                separator,
-                State::Separator(kind, sort, separator, close),
-                State::Close(kind, close),
-            ),
-            State::Separator(kind, sort, separator, close) => Move::Take(
-                separator,
-                State::Items(kind, sort, separator, close),
-            ),
-            State::Operands(kind, sort, separator) => Move::Read(
-                sort,
-                State::Operators(kind, sort, separator),
-            ),
-            State::Operators(kind, sort, separator) => Move::Choose(
-                separator,
-                State::Operator(kind, sort, separator),
-                State::Done(kind),
-            ),
-            State::Operator(kind, sort, separator) => Move::Take(
-                separator,
-                State::Operands(kind, sort, separator),
-            ),
-            State::Names => Move::Read(PRIMARY, State::BehindName),
-            State::BehindName => Move::Choose(
-                Token::Comma,
-                State::NextName,
-                State::Ends(Kind::For, Token::In, OR),
-            ),
-            State::NextName => Move::Take(Token::Comma, State::Names),
-            State::Clauses(kind, close) => Move::Choose(
-                Token::Clauses,
-                State::Clause(kind, close),
-                State::Close(kind, close),
-            ),
-            State::Clause(kind, close) => Move::Read(Sort::Clause, State::Clauses(kind, close)),
-            State::FirstClause(kind, close) => Move::Read(
-                Sort::FirstClause,
-                State::Clauses(kind, close),
-            ),
-            State::Lines => Move::Choose(
-                Token::Lines,
-                State::OneLine,
-                State::Close(Kind::File, Token::End),
-            ),
-            State::OneLine => Move::Read(Sort::Line, State::Lines),
-            State::SliceFrom => Move::Take(Token::Colon, State::SliceEnd),
-            State::SliceEnd => Move::Choose(Token::SliceStops, State::SliceStop, State::SliceTest),
-            State::SliceTest => Move::Read(TEST, State::SliceStop),
-            State::SliceStop => Move::Choose(
-                Token::CloseSquare,
-                State::Close(Kind::Slice, Token::CloseSquare),
-                State::SliceColon,
-            ),
-            State::SliceColon => Move::Take(Token::Colon, State::SliceLast),
-            State::SliceLast => Move::Choose(
-                Token::CloseSquare,
-                State::Close(Kind::Slice, Token::CloseSquare),
-                State::SliceStep,
-            ),
-            State::SliceStep => Move::Read(TEST, State::Close(Kind::Slice, Token::CloseSquare)),
-            State::Round => Move::Take(Token::OpenRound, State::RoundItem),
-            State::RoundItem => Move::Choose(
-                Token::CloseRound,
-                State::Close(Kind::Tuple, Token::CloseRound),
-                State::RoundTest,
-            ),
-            State::RoundTest => Move::Read(TEST, State::RoundEnd),
-            State::RoundEnd => Move::Choose(
-                Token::CloseRound,
-                State::Close(Kind::Paren, Token::CloseRound),
-                State::Separator(Kind::Tuple, TEST, Token::Comma, Token::CloseRound),
-            ),
+            State::Rest(kind, rest) => rest.next(kind),
+            State::Items(items, at) => at.next(items),
+            State::Operands(operands, at) => at.next(operands),
+            State::Clauses(kind, close, at) => at.next(kind, close),
+            State::Names(at) => at.next(),
+            State::File(at) => at.next(),
+            State::Slice(at) => at.next(),
+            State::Round(at) => at.next(),
+            State::Brackets(brackets, at) => at.next(brackets),
+            State::Suffix(at) => at.next(),
+            State::Statement(at) => at.next(),
             State::Square => Move::Take(
                 Token::OpenSquare,
-                State::Element(Token::CloseSquare, TEST, Kind::List, Kind::ListComp),
+                State::Brackets(Brackets::Square, BracketsAt::Begin),
             ),
             State::Curly => Move::Take(
                 Token::OpenCurly,
-                State::Element(Token::CloseCurly, Sort::Entry, Kind::Dict, Kind::DictComp),
+                State::Brackets(Brackets::Curly, BracketsAt::Begin),
             ),
-            State::Element(close, sort, kind, comprehension) => Move::Choose(
-                close,
-                State::Close(kind, close),
-                State::FirstElement(close, sort, kind, comprehension),
-            ),
-            State::FirstElement(close, sort, kind, comprehension) => Move::Read(
-                sort,
-                State::BehindElement(close, sort, kind, comprehension),
-            ),
-            State::BehindElement(close, sort, kind, comprehension) => Move::Choose(
-                Token::For,
-                State::FirstClause(comprehension, close),
-                State::More(kind, sort, close),
-            ),
-            State::More(kind, sort, close) => Move::Choose(
-                close,
-                State::Close(kind, close),
-                State::Separator(kind, sort, Token::Comma, close),
-            ),
-            State::Suffix => Move::Choose(
-                Token::Dot,
-                State::Pair(Kind::Dot, Token::Dot, Token::Name),
-                State::CallOrIndex,
-            ),
-            State::CallOrIndex => Move::Choose(Token::OpenRound, State::Call, State::Index),
-            State::Call => Move::Take(
-                Token::OpenRound,
-                State::Items(Kind::Call, Sort::Argument, Token::Comma, Token::CloseRound),
-            ),
-            State::Index => Move::Take(Token::OpenSquare, State::IndexItem),
-            State::IndexItem => Move::Choose(Token::Colon, State::SliceFrom, State::IndexExpr),
-            State::IndexExpr => Move::Read(EXPR, State::IndexEnd),
-            State::IndexEnd => Move::Choose(
-                Token::CloseSquare,
-                State::Close(Kind::Index, Token::CloseSquare),
-                State::SliceFrom,
-            ),
-            State::AnyClause => Move::Choose(
+            State::Clause => Move::Choose(
                 Token::For,
                 State::For,
-                State::Ends(Kind::If, Token::If, OR),
+                State::Rest(Kind::If, Rest::TokenPart(Token::If, Sort::Level(OR))),
             ),
-            State::For => Move::Take(Token::For, State::Names),
-            State::Small => Move::Choose(Token::Load, State::Load, State::SmallExpr),
-            State::Load => Move::Take(Token::Load, State::LoadOpen),
-            State::LoadOpen => Move::Take(Token::OpenRound, State::LoadString),
-            State::LoadString => Move::Take(
-                Token::String,
-                State::More(Kind::Load, Sort::Loaded, Token::CloseRound),
+            State::For => Move::Take(Token::For, State::Names(NamesAt::Name)),
+            State::Entry => Move::Read(
+                TEST,
+                State::Rest(Kind::Entry, Rest::TokenPart(Token::Colon, TEST)),
             ),
-            State::SmallExpr => Move::Read(EXPR, State::SmallEnd),
-            State::SmallEnd => Move::Choose(
-                Token::Assigns,
-                State::Ends(Kind::Assign, Token::Assigns, EXPR),
-                State::Done(Kind::Bare),
-            ),
-            State::Entry => Move::Read(TEST, State::Ends(Kind::Entry, Token::Colon, TEST)),
             State::Alias => Move::Take(
                 Token::Name,
-                State::Pair(Kind::Alias, Token::Equals, Token::String),
+                State::Rest(Kind::Alias, Rest::Tokens(Token::Equals, Token::String)),
             ),
             State::Compare => Move::Choose(
                 Token::Orders,
-                State::Ends(Kind::Compare, Token::Orders, BITOR),
+                State::Rest(
+                    Kind::Compare,
+                    Rest::TokenPart(Token::Orders, Sort::Level(BIT_OR)),
+                ),
                 State::NotIn,
             ),
-            State::NotIn => Move::Take(Token::Not, State::Ends(Kind::Compare, Token::In, BITOR)),
-            State::Cond => Move::Take(Token::If, State::CondOr),
-            State::CondOr => Move::Read(OR, State::Ends(Kind::Cond, Token::Else, TEST)),
+            State::NotIn => Move::Take(
+                Token::Not,
+                State::Rest(
+                    Kind::Compare,
+                    Rest::TokenPart(Token::In, Sort::Level(BIT_OR)),
+                ),
+            ),
+            State::Condition => Move::Take(Token::If, State::BehindIf),
+            State::BehindIf => Move::Read(
+                Sort::Level(OR),
+                State::Rest(Kind::Cond, Rest::TokenPart(Token::Else, TEST)),
+            ),
+        }
+    }
+}
+
+impl Rest {
+    fn next(self, kind: Kind) -> Move
+        ensures asks { Asks (finish kind (left_in_rest self)) result }
+        ensures few { Few result }
+    {
+        match self {
+            Rest::Nothing => Move::Finish(kind),
+            Rest::Token(token) => Move::Take(token, State::Rest(kind, Rest::Nothing)),
+            Rest::Part(sort) => Move::Read(sort, State::Rest(kind, Rest::Nothing)),
+            Rest::TokenPart(token, sort) => Move::Take(token, State::Rest(kind, Rest::Part(sort))),
+            Rest::Tokens(token, other) => Move::Take(token, State::Rest(kind, Rest::Token(other))),
+        }
+    }
+}
+
+impl Items {
+    fn row(self) -> ItemRow
+        ensures { result ≡ row_of_items self }
+    {
+        let (kind, sort, separator, close) = match self {
+            Items::Statements => (Kind::Line, Sort::Small, Token::Semicolon, Token::Newline),
+            Items::Arguments => (Kind::Call, Sort::Argument, Token::Comma, Token::CloseRound),
+            Items::Loaded => (Kind::Load, Sort::Loaded, Token::Comma, Token::CloseRound),
+            Items::Tuple => (Kind::Tuple, TEST, Token::Comma, Token::CloseRound),
+            Items::List => (Kind::List, TEST, Token::Comma, Token::CloseSquare),
+            Items::Dict => (Kind::Dict, Sort::Entry, Token::Comma, Token::CloseCurly),
+        };
+        ItemRow {
+            kind,
+            sort,
+            separator,
+            close,
+        }
+    }
+}
+
+impl ItemsAt {
+    fn next(self, items: Items) -> Move
+        ensures asks { Asks (left_in_items items self) result }
+        ensures few { Few result }
+    {
+        let row = items.row();
+        let close = State::Rest(row.kind, Rest::Token(row.close));
+        match self {
+            ItemsAt::Begin => Move::Choose(row.close, close, State::Items(items, ItemsAt::Part)),
+            ItemsAt::Part => Move::Read(row.sort, State::Items(items, ItemsAt::Behind)),
+            ItemsAt::Behind => Move::Choose(
+                row.separator,
+                State::Items(items, ItemsAt::Separator),
+                close,
+            ),
+            ItemsAt::Separator => Move::Take(row.separator, State::Items(items, ItemsAt::Begin)),
+            ItemsAt::More => Move::Choose(
+                row.close,
+                close,
+                State::Items(items, ItemsAt::Separator),
+            ),
+        }
+    }
+}
+
+impl Operands {
+    fn row(self) -> OperandRow
+        ensures { result ≡ row_of_operands self }
+    {
+        let (kind, sort, operator) = match self {
+            Operands::Product => (Kind::Product, Sort::Level(UNARY), Token::Products),
+            Operands::Sum => (Kind::Sum, Sort::Level(PRODUCT), Token::Sums),
+            Operands::Shift => (Kind::Shift, Sort::Level(SUM), Token::Shifts),
+            Operands::BitAnd => (Kind::BitAnd, Sort::Level(SHIFT), Token::Ampersand),
+            Operands::Xor => (Kind::Xor, Sort::Level(BIT_AND), Token::Caret),
+            Operands::BitOr => (Kind::BitOr, Sort::Level(XOR), Token::Bar),
+            Operands::And => (Kind::And, Sort::Level(NOT), Token::And),
+            Operands::Or => (Kind::Or, Sort::Level(AND), Token::Or),
+            Operands::Row => (Kind::Row, TEST, Token::Comma),
+        };
+        OperandRow {
+            kind,
+            sort,
+            operator,
+        }
+    }
+}
+
+impl OperandsAt {
+    fn next(self, operands: Operands) -> Move
+        ensures asks { Asks (left_in_operands operands self) result }
+        ensures few { Few result }
+    {
+        let row = operands.row();
+        match self {
+            OperandsAt::Part => Move::Read(row.sort, State::Operands(operands, OperandsAt::Behind)),
+            OperandsAt::Behind => Move::Choose(
+                row.operator,
+                State::Operands(operands, OperandsAt::Operator),
+                State::Rest(row.kind, Rest::Nothing),
+            ),
+            OperandsAt::Operator => Move::Take(
+                row.operator,
+                State::Operands(operands, OperandsAt::Part),
+            ),
+        }
+    }
+}
+
+impl ClausesAt {
+    fn next(self, kind: Kind, close: Token) -> Move
+        ensures asks { Asks (finish kind (left_of_clauses close self)) result }
+        ensures few { Few result }
+    {
+        let further = State::Clauses(kind, close, ClausesAt::Further);
+        match self {
+            ClausesAt::First => Move::Read(Sort::FirstClause, further),
+            ClausesAt::Further => Move::Choose(
+                Token::Clauses,
+                State::Clauses(kind, close, ClausesAt::Clause),
+                State::Rest(kind, Rest::Token(close)),
+            ),
+            ClausesAt::Clause => Move::Read(Sort::Clause, further),
+        }
+    }
+}
+
+impl NamesAt {
+    fn next(self) -> Move
+        ensures asks { Asks (finish Kind.For (left_of_names self)) result }
+        ensures few { Few result }
+    {
+        match self {
+            NamesAt::Name => Move::Read(Sort::Level(PRIMARY), State::Names(NamesAt::Behind)),
+            NamesAt::Behind => Move::Choose(
+                Token::Comma,
+                State::Names(NamesAt::Comma),
+                State::Rest(Kind::For, Rest::TokenPart(Token::In, Sort::Level(OR))),
+            ),
+            NamesAt::Comma => Move::Take(Token::Comma, State::Names(NamesAt::Name)),
+        }
+    }
+}
+
+impl FileAt {
+    fn next(self) -> Move
+        ensures asks { Asks (finish Kind.File (left_of_file self)) result }
+        ensures few { Few result }
+    {
+        match self {
+            FileAt::Lines => Move::Choose(
+                Token::Lines,
+                State::File(FileAt::Line),
+                State::Rest(Kind::File, Rest::Token(Token::End)),
+            ),
+            FileAt::Line => Move::Read(Sort::Line, State::File(FileAt::Lines)),
+        }
+    }
+}
+
+impl SliceAt {
+    fn next(self) -> Move
+        ensures asks { Asks (finish Kind.Slice (left_of_slice self)) result }
+        ensures few { Few result }
+    {
+        let close = State::Rest(Kind::Slice, Rest::Token(Token::CloseSquare));
+        match self {
+            SliceAt::Colon => Move::Take(Token::Colon, State::Slice(SliceAt::End)),
+            SliceAt::End => Move::Choose(
+                Token::SliceStops,
+                State::Slice(SliceAt::BehindEnd),
+                State::Slice(SliceAt::EndTest),
+            ),
+            SliceAt::EndTest => Move::Read(TEST, State::Slice(SliceAt::BehindEnd)),
+            SliceAt::BehindEnd => Move::Choose(
+                Token::CloseSquare,
+                close,
+                State::Slice(SliceAt::SecondColon),
+            ),
+            SliceAt::SecondColon => Move::Take(Token::Colon, State::Slice(SliceAt::Step)),
+            SliceAt::Step => Move::Choose(
+                Token::CloseSquare,
+                close,
+                State::Slice(SliceAt::StepTest),
+            ),
+            SliceAt::StepTest => Move::Read(TEST, close),
+        }
+    }
+}
+
+impl RoundAt {
+    fn next(self) -> Move
+        ensures asks { Asks (left_in_round self) result }
+        ensures few { Few result }
+    {
+        match self {
+            RoundAt::Open => Move::Take(Token::OpenRound, State::Round(RoundAt::Item)),
+            RoundAt::Item => Move::Choose(
+                Token::CloseRound,
+                State::Rest(Kind::Tuple, Rest::Token(Token::CloseRound)),
+                State::Round(RoundAt::Test),
+            ),
+            RoundAt::Test => Move::Read(TEST, State::Round(RoundAt::Behind)),
+            RoundAt::Behind => Move::Choose(
+                Token::CloseRound,
+                State::Rest(Kind::Paren, Rest::Token(Token::CloseRound)),
+                State::Items(Items::Tuple, ItemsAt::Separator),
+            ),
+        }
+    }
+}
+
+impl Brackets {
+    fn row(self) -> BracketRow
+        ensures { result ≡ row_of_brackets self }
+    {
+        match self {
+            Brackets::Square => BracketRow {
+                items: Items::List,
+                kind: Kind::List,
+                sort: TEST,
+                close: Token::CloseSquare,
+                comprehension: Kind::ListComp,
+            },
+            Brackets::Curly => BracketRow {
+                items: Items::Dict,
+                kind: Kind::Dict,
+                sort: Sort::Entry,
+                close: Token::CloseCurly,
+                comprehension: Kind::DictComp,
+            },
+        }
+    }
+}
+
+impl BracketsAt {
+    fn next(self, brackets: Brackets) -> Move
+        ensures asks { Asks (left_in_brackets brackets self) result }
+        ensures few { Few result }
+    {
+        let row = brackets.row();
+        match self {
+            BracketsAt::Begin => Move::Choose(
+                row.close,
+                State::Rest(row.kind, Rest::Token(row.close)),
+                State::Brackets(brackets, BracketsAt::Element),
+            ),
+            BracketsAt::Element => Move::Read(
+                row.sort,
+                State::Brackets(brackets, BracketsAt::Behind),
+            ),
+            BracketsAt::Behind => Move::Choose(
+                Token::For,
+                State::Clauses(row.comprehension, row.close, ClausesAt::First),
+                State::Items(row.items, ItemsAt::More),
+            ),
+        }
+    }
+}
+
+impl SuffixAt {
+    fn next(self) -> Move
+        ensures asks { Asks (left_of_suffix self) result }
+        ensures few { Few result }
+    {
+        match self {
+            SuffixAt::Begin => Move::Choose(
+                Token::Dot,
+                State::Rest(Kind::Dot, Rest::Tokens(Token::Dot, Token::Name)),
+                State::Suffix(SuffixAt::CallOrIndex),
+            ),
+            SuffixAt::CallOrIndex => Move::Choose(
+                Token::OpenRound,
+                State::Suffix(SuffixAt::Call),
+                State::Suffix(SuffixAt::Index),
+            ),
+            SuffixAt::Call => Move::Take(
+                Token::OpenRound,
+                State::Items(Items::Arguments, ItemsAt::Begin),
+            ),
+            SuffixAt::Index => Move::Take(Token::OpenSquare, State::Suffix(SuffixAt::IndexItem)),
+            SuffixAt::IndexItem => Move::Choose(
+                Token::Colon,
+                State::Slice(SliceAt::Colon),
+                State::Suffix(SuffixAt::IndexExpression),
+            ),
+            SuffixAt::IndexExpression => Move::Read(EXPRESSION, State::Suffix(SuffixAt::IndexEnd)),
+            SuffixAt::IndexEnd => Move::Choose(
+                Token::CloseSquare,
+                State::Rest(Kind::Index, Rest::Token(Token::CloseSquare)),
+                State::Slice(SliceAt::Colon),
+            ),
+        }
+    }
+}
+
+impl StatementAt {
+    fn next(self) -> Move
+        ensures asks { Asks (left_of_statement self) result }
+        ensures few { Few result }
+    {
+        match self {
+            StatementAt::Begin => Move::Choose(
+                Token::Load,
+                State::Statement(StatementAt::Load),
+                State::Statement(StatementAt::Expression),
+            ),
+            StatementAt::Load => Move::Take(Token::Load, State::Statement(StatementAt::LoadOpen)),
+            StatementAt::LoadOpen => Move::Take(
+                Token::OpenRound,
+                State::Statement(StatementAt::LoadString),
+            ),
+            StatementAt::LoadString => Move::Take(
+                Token::String,
+                State::Items(Items::Loaded, ItemsAt::More),
+            ),
+            StatementAt::Expression => Move::Read(
+                EXPRESSION,
+                State::Statement(StatementAt::BehindExpression),
+            ),
+            StatementAt::BehindExpression => Move::Choose(
+                Token::Assigns,
+                State::Rest(Kind::Assign, Rest::TokenPart(Token::Assigns, EXPRESSION)),
+                State::Rest(Kind::Bare, Rest::Nothing),
+            ),
         }
     }
 }
@@ -325,37 +662,43 @@ pub(crate) enum Rung {
     Infix(Token, State),
 }
 
-/// What makes an expression of rank n + 1.
-pub(crate) fn rung_at(n: u8) -> Rung
-    ensures { result ≡ rung_of n }
+/// What makes an expression of the rank above this one from those of this one.
+pub(crate) fn rung_at(rank: u8) -> Rung
+    ensures { result ≡ rung_of rank }
 {
-    match n {
-        0 => Rung::Prefix(
+    match rank {
+        PRIMARY => Rung::Prefix(
             Token::Signs,
-            State::Ends(Kind::Unary, Token::Signs, Sort::Level(UNARY)),
+            State::Rest(
+                Kind::Unary,
+                Rest::TokenPart(Token::Signs, Sort::Level(UNARY)),
+            ),
         ),
-        1 => operator(Kind::Product, Sort::Level(1), Token::Products),
-        2 => operator(Kind::Sum, Sort::Level(2), Token::Sums),
-        3 => operator(Kind::Shift, Sort::Level(3), Token::Shifts),
-        4 => operator(Kind::BitAnd, Sort::Level(4), Token::Ampersand),
-        5 => operator(Kind::Xor, Sort::Level(5), Token::Caret),
-        6 => operator(Kind::BitOr, Sort::Level(6), Token::Bar),
-        7 => Rung::Infix(Token::Compares, State::Compare),
-        8 => Rung::Prefix(
+        UNARY => operator(Operands::Product),
+        PRODUCT => operator(Operands::Sum),
+        SUM => operator(Operands::Shift),
+        SHIFT => operator(Operands::BitAnd),
+        BIT_AND => operator(Operands::Xor),
+        XOR => operator(Operands::BitOr),
+        BIT_OR => Rung::Infix(Token::Compares, State::Compare),
+        COMPARE => Rung::Prefix(
             Token::Not,
-            State::Ends(Kind::Not, Token::Not, Sort::Level(NOT)),
+            State::Rest(Kind::Not, Rest::TokenPart(Token::Not, Sort::Level(NOT))),
         ),
-        9 => operator(Kind::And, Sort::Level(9), Token::And),
-        10 => operator(Kind::Or, Sort::Level(10), Token::Or),
-        11 => Rung::Infix(Token::If, State::Cond),
-        12 => operator(Kind::Row, TEST, Token::Comma),
+        NOT => operator(Operands::And),
+        AND => operator(Operands::Or),
+        OR => Rung::Infix(Token::If, State::Condition),
+        CONDITION => operator(Operands::Row),
         _ => Rung::Same,
     }
 }
 
-/// Operands with this operator between two of them.
-fn operator(kind: Kind, operand: Sort, token: Token) -> Rung
-    ensures { result ≡ operator_of kind operand token }
+/// Operands with their operator between two of them.
+fn operator(operands: Operands) -> Rung
+    ensures { result ≡ operator_of operands }
 {
-    Rung::Infix(token, State::Operator(kind, operand, token))
+    Rung::Infix(
+        operands.row().operator,
+        State::Operands(operands, OperandsAt::Operator),
+    )
 }

@@ -1,14 +1,16 @@
 ghost use Rattle.std.specs.Prelude.{◌≡◌, ◌↔◌, ◌≤◌, ◌<◌, ◌&&◌, ◌∷◌, [], ℕ, nat_le, false, Some, None, length, MatchOption, IfOk, IsTrue};
-ghost use Rattle.bz_token.specs.declared.class.Class.TheVariants as c;
-ghost use Rattle.bz_tree.specs.Shapes.{this, is_class, is_terminal, is_one_of, simple, assigns, orders, products, line};
-ghost use Rattle.bz_tree.specs.Reading.{starts_with, starts};
+ghost use Rattle.bz_tree.specs.Shapes.{is_one_of};
+ghost use Rattle.bz_tree.specs.Reading.{starts_with};
 ghost use Rattle.bz_tree.specs.declared.token.Token.TheVariants as t;
 ghost use Rattle.bz_tree.specs.Spell.{limit};
 ghost use Rattle.bz_lex.proofs.Coming.{to_come};
-ghost use Rattle.bz_tree.specs.Words.{terminals_of, bare, token_at, Fails};
+ghost use Rattle.bz_lex.specs.Fronts.{TellsFront};
+ghost use Rattle.bz_tree.specs.Symbols.{example, Tells};
+ghost use Rattle.bz_tree.specs.Words.{terminals_of, token_at, Fails};
 ghost use Rattle.bz_tree.specs.States.{binds_at};
 
-use crate::state::COMMAS;
+use crate::state::CONDITION;
+use crate::symbol::Symbol;
 use crate::tree::Part;
 use bz_lex::{Class, Front, Leaf, Place, Reason, Stop, leaf_front};
 use bz_token::opens_string;
@@ -105,147 +107,94 @@ pub(crate) enum Token {
     For,
 }
 
-fn has_class(one: Class, class: Class) -> bool
-    ensures { result ≡ is_class one class }
-{
-    one.number() == class.number()
-}
-
-fn is_mark(class: Class, token: &[u8], text: &[u8]) -> bool
-    ensures { result ≡ is_terminal (this c.Mark text.now) (bare class token.now) }
-{
-    has_class(class, Class::Mark) && token == text
-}
-
-fn is_keyword(class: Class, token: &[u8], text: &[u8]) -> bool
-    ensures { result ≡ is_terminal (this c.Keyword text.now) (bare class token.now) }
-{
-    has_class(class, Class::Keyword) && token == text
-}
-
-fn is_simple(class: Class) -> bool
-    ensures { result ≡ is_one_of simple (bare class []) }
-{
-    has_class(class, Class::Name)
-        || has_class(class, Class::Number)
-        || has_class(class, Class::String)
-}
-
-fn is_assign(class: Class, token: &[u8]) -> bool
-    ensures { result ≡ is_one_of assigns (bare class token.now) }
-{
-    is_mark(class, token, b"=")
-        || is_mark(class, token, b"+=")
-        || is_mark(class, token, b"-=")
-        || is_mark(class, token, b"*=")
-        || is_mark(class, token, b"/=")
-        || is_mark(class, token, b"//=")
-        || is_mark(class, token, b"%=")
-        || is_mark(class, token, b"&=")
-        || is_mark(class, token, b"|=")
-        || is_mark(class, token, b"^=")
-        || is_mark(class, token, b"<<=")
-        || is_mark(class, token, b">>=")
-}
-
-fn is_order(class: Class, token: &[u8]) -> bool
-    ensures { result ≡ is_one_of orders (bare class token.now) }
-{
-    is_mark(class, token, b"==")
-        || is_mark(class, token, b"!=")
-        || is_mark(class, token, b"<")
-        || is_mark(class, token, b">")
-        || is_mark(class, token, b"<=")
-        || is_mark(class, token, b">=")
-        || is_keyword(class, token, b"in")
-}
-
-fn is_product(class: Class, token: &[u8]) -> bool
-    ensures { result ≡ is_one_of products (bare class token.now) }
-{
-    is_mark(class, token, b"*")
-        || is_mark(class, token, b"/")
-        || is_mark(class, token, b"//")
-        || is_mark(class, token, b"%")
-}
-
-fn is_end(class: Class, token: &[u8]) -> bool
-    ensures { result ≡ is_one_of (terminals_of t.Ends) (bare class token.now) }
-{
-    is_mark(class, token, b",")
-        || is_mark(class, token, b")")
-        || is_mark(class, token, b"]")
-        || is_mark(class, token, b"}")
-        || is_mark(class, token, b":")
-        || is_mark(class, token, b"=")
-        || is_mark(class, token, b";")
-        || has_class(class, Class::Newline)
-}
-
-fn is_line(class: Class, token: &[u8]) -> bool
-    ensures { result ≡ is_one_of (starts line) (bare class token.now) }
-{
-    is_keyword(class, token, b"load")
-        || is_keyword(class, token, b"not")
-        || is_mark(class, token, b"+")
-        || is_mark(class, token, b"-")
-        || is_mark(class, token, b"~")
-        || is_simple(class)
-        || is_mark(class, token, b"(")
-        || is_mark(class, token, b"[")
-        || is_mark(class, token, b"{")
-}
-
 impl Token {
-    pub fn is(self, class: Class, token: &[u8]) -> bool
-        ensures { result ≡ is_one_of (terminals_of self) (bare class token.now) }
+    /// Whether a token is one of these.
+    #[inline(always)]
+    pub fn is(self, symbol: Symbol) -> bool
+        ensures { result ≡ is_one_of (terminals_of self) (example symbol) }
     {
         match self {
-            Token::Name => has_class(class, Class::Name),
-            Token::String => has_class(class, Class::String),
-            Token::Simple => is_simple(class),
-            Token::Newline => has_class(class, Class::Newline),
-            Token::End => has_class(class, Class::End),
-            Token::OpenRound => is_mark(class, token, b"("),
-            Token::CloseRound => is_mark(class, token, b")"),
-            Token::OpenSquare => is_mark(class, token, b"["),
-            Token::CloseSquare => is_mark(class, token, b"]"),
-            Token::OpenCurly => is_mark(class, token, b"{"),
-            Token::CloseCurly => is_mark(class, token, b"}"),
-            Token::Comma => is_mark(class, token, b","),
-            Token::Colon => is_mark(class, token, b":"),
-            Token::Semicolon => is_mark(class, token, b";"),
-            Token::Dot => is_mark(class, token, b"."),
-            Token::Equals => is_mark(class, token, b"="),
-            Token::Assigns => is_assign(class, token),
-            Token::Stars => is_mark(class, token, b"*") || is_mark(class, token, b"**"),
-            Token::Signs => is_mark(class, token, b"+")
-                || is_mark(class, token, b"-")
-                || is_mark(class, token, b"~"),
-            Token::Orders => is_order(class, token),
-            Token::Compares => is_order(class, token) || is_keyword(class, token, b"not"),
-            Token::Suffixes => is_mark(class, token, b".")
-                || is_mark(class, token, b"(")
-                || is_mark(class, token, b"["),
-            Token::Clauses => is_keyword(class, token, b"for") || is_keyword(class, token, b"if"),
-            Token::Lines => is_line(class, token),
-            Token::SliceStops => is_mark(class, token, b"]") || is_mark(class, token, b":"),
-            Token::Ends => is_end(class, token),
-            Token::Bar => is_mark(class, token, b"|"),
-            Token::Caret => is_mark(class, token, b"^"),
-            Token::Ampersand => is_mark(class, token, b"&"),
-            Token::Shifts => is_mark(class, token, b"<<") || is_mark(class, token, b">>"),
-            Token::Sums => is_mark(class, token, b"+") || is_mark(class, token, b"-"),
-            Token::Products => is_product(class, token),
-            Token::Load => is_keyword(class, token, b"load"),
-            Token::If => is_keyword(class, token, b"if"),
-            Token::Else => is_keyword(class, token, b"else"),
-            Token::Or => is_keyword(class, token, b"or"),
-            Token::And => is_keyword(class, token, b"and"),
-            Token::Not => is_keyword(class, token, b"not"),
-            Token::In => is_keyword(class, token, b"in"),
-            Token::For => is_keyword(class, token, b"for"),
+            Token::Name => matches!(symbol, Symbol::Name),
+            Token::String => matches!(symbol, Symbol::String),
+            Token::Simple => matches!(symbol, Symbol::Name | Symbol::Number | Symbol::String),
+            Token::Newline => matches!(symbol, Symbol::Newline),
+            Token::End => matches!(symbol, Symbol::End),
+            Token::OpenRound => matches!(symbol, Symbol::OpenRound),
+            Token::CloseRound => matches!(symbol, Symbol::CloseRound),
+            Token::OpenSquare => matches!(symbol, Symbol::OpenSquare),
+            Token::CloseSquare => matches!(symbol, Symbol::CloseSquare),
+            Token::OpenCurly => matches!(symbol, Symbol::OpenCurly),
+            Token::CloseCurly => matches!(symbol, Symbol::CloseCurly),
+            Token::Comma => matches!(symbol, Symbol::Comma),
+            Token::Colon => matches!(symbol, Symbol::Colon),
+            Token::Semicolon => matches!(symbol, Symbol::Semicolon),
+            Token::Dot => matches!(symbol, Symbol::Dot),
+            Token::Equals => matches!(symbol, Symbol::Equals),
+            Token::Assigns => matches!(symbol, Symbol::Equals | Symbol::Augmented),
+            Token::Stars => matches!(symbol, Symbol::Star | Symbol::DoubleStar),
+            Token::Signs => matches!(symbol, Symbol::Plus | Symbol::Minus | Symbol::Tilde),
+            Token::Orders => matches!(symbol, Symbol::Order | Symbol::In),
+            Token::Compares => matches!(symbol, Symbol::Order | Symbol::In | Symbol::Not),
+            Token::Suffixes => matches!(
+                symbol,
+                Symbol::Dot | Symbol::OpenRound | Symbol::OpenSquare
+            ),
+            Token::Clauses => matches!(symbol, Symbol::For | Symbol::If),
+            Token::Lines => symbol.begins_line(),
+            Token::SliceStops => matches!(symbol, Symbol::CloseSquare | Symbol::Colon),
+            Token::Ends => symbol.ends_expression(),
+            Token::Bar => matches!(symbol, Symbol::Bar),
+            Token::Caret => matches!(symbol, Symbol::Caret),
+            Token::Ampersand => matches!(symbol, Symbol::Ampersand),
+            Token::Shifts => matches!(symbol, Symbol::Shift),
+            Token::Sums => matches!(symbol, Symbol::Plus | Symbol::Minus),
+            Token::Products => matches!(symbol, Symbol::Star | Symbol::Slash | Symbol::Percent),
+            Token::Load => matches!(symbol, Symbol::Load),
+            Token::If => matches!(symbol, Symbol::If),
+            Token::Else => matches!(symbol, Symbol::Else),
+            Token::Or => matches!(symbol, Symbol::Or),
+            Token::And => matches!(symbol, Symbol::And),
+            Token::Not => matches!(symbol, Symbol::Not),
+            Token::In => matches!(symbol, Symbol::In),
+            Token::For => matches!(symbol, Symbol::For),
         }
+    }
+}
+
+impl Symbol {
+    fn begins_line(self) -> bool
+        ensures { result ≡ is_one_of (terminals_of t.Lines) (example self) }
+    {
+        matches!(
+            self,
+            Symbol::Load
+                | Symbol::Not
+                | Symbol::Plus
+                | Symbol::Minus
+                | Symbol::Tilde
+                | Symbol::Name
+                | Symbol::Number
+                | Symbol::String
+                | Symbol::OpenRound
+                | Symbol::OpenSquare
+                | Symbol::OpenCurly
+        )
+    }
+
+    fn ends_expression(self) -> bool
+        ensures { result ≡ is_one_of (terminals_of t.Ends) (example self) }
+    {
+        matches!(
+            self,
+            Symbol::Comma
+                | Symbol::CloseRound
+                | Symbol::CloseSquare
+                | Symbol::CloseCurly
+                | Symbol::Colon
+                | Symbol::Equals
+                | Symbol::Semicolon
+                | Symbol::Newline
+        )
     }
 }
 
@@ -265,6 +214,7 @@ pub struct Leaves<'a> {
     rest: &'a [u8],
     place: Place,
     next: Result<Front, Stop>,
+    symbol: Symbol,
     /// How many bytes of the text are not left, and how many stand before the last token that was taken.
     offset: usize,
     last: usize,
@@ -279,6 +229,7 @@ impl<'a> Model for Leaves<'a> {
     ghost use Rattle.bz_lex.specs.Places.{open_brackets};
     ghost use Rattle.bz_lex.specs.Fronts.{TellsFront};
     ghost use Rattle.bz_lex.proofs.Coming.{to_come};
+    ghost use Rattle.bz_tree.specs.Symbols.{Tells};
 
     ghost Value = { List Leaf };
 
@@ -286,7 +237,7 @@ impl<'a> Model for Leaves<'a> {
 
     ghost view = { λ leaves. to_come leaves.place leaves.rest.now };
 
-    ghost invariant = { λ leaves. TellsFront leaves.place leaves.rest.now leaves.next × (open_brackets leaves.place + length leaves.rest.now < 2 ^ 64) };
+    ghost invariant = { λ leaves. TellsFront leaves.place leaves.rest.now leaves.next × Tells leaves.symbol (to_come leaves.place leaves.rest.now) × (open_brackets leaves.place + length leaves.rest.now < 2 ^ 64) };
 }
 
 impl<'a> Leaves<'a> {
@@ -295,11 +246,13 @@ impl<'a> Leaves<'a> {
         requires { length text.now ≤ limit }
         ensures { result ≡ to_come Place.Fresh text.now }
     {
+        let next = leaf_front(text, Place::Fresh);
         Leaves {
             alloc,
             rest: text,
             place: Place::Fresh,
-            next: leaf_front(text, Place::Fresh),
+            next,
+            symbol: symbol_at(next, text, Place::Fresh),
             offset: 0,
             last: 0,
             too_deep: None,
@@ -316,13 +269,11 @@ impl<'a> Leaves<'a> {
     }
 
     /// Whether the next leaf is this token.
+    #[inline(always)]
     pub(crate) fn starts(&self, token: Token) -> bool
         ensures { result ≡ starts_with (terminals_of token) self.now }
     {
-        match self.next {
-            Ok(front) => token.is(front.class, front.token_of(self.rest)),
-            Err(_) => false,
-        }
+        token.is(self.symbol)
     }
 
     /// Whether the next leaf is this token, and a rank is no lower than the least.
@@ -337,8 +288,8 @@ impl<'a> Leaves<'a> {
         ensures above { rank ≤ result }
         ensures passes { (j : ℕ) → rank ≤ j → j < result → binds_at j self.now ≡ false }
     {
-        if rank < COMMAS && self.starts(Token::Ends) {
-            COMMAS
+        if rank < CONDITION && self.starts(Token::Ends) {
+            CONDITION
         } else {
             rank
         }
@@ -412,6 +363,7 @@ impl<'a> Leaves<'a> {
         self.last = self.offset.saturating_add(front.gap);
         self.offset = self.last.saturating_add(front.token);
         self.next = leaf_front(rest, place);
+        self.symbol = symbol_at(self.next, rest, place);
         self.place = place;
         self.rest = rest;
         Ok(Some(leaf))
@@ -430,6 +382,17 @@ impl<'a> Leaves<'a> {
             Some(leaf) => Ok(Part::Leaf(leaf)),
             None => Err(Halt::Unexpected),
         }
+    }
+}
+
+/// What the token of the next leaf is, where a text goes on so at a place.
+fn symbol_at(next: Result<Front, Stop>, rest: &[u8], place: Place) -> Symbol
+    requires { TellsFront place rest.now next }
+    ensures { Tells result (to_come place rest.now) }
+{
+    match next {
+        Ok(front) => Symbol::of(front.class, front.token_of(rest)),
+        Err(_) => Symbol::Nothing,
     }
 }
 

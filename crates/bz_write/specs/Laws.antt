@@ -1,6 +1,6 @@
 -- Laws of the layout.
 use Rattle.std.specs.Prelude.{◌≡◌, ◌≤◌, List, length}
-use Rattle.bz_tree.specs.Spell.{depth_of, limit}
+use Rattle.bz_tree.specs.Spell.{depth_of, limit, depth_limit}
 use Rattle.bz_tree.specs.Legal.{Reads}
 use Rattle.bz_value.specs.declared.value.Item.{Item}
 use Rattle.bz_value.specs.Proper.{IsProper}
@@ -15,7 +15,7 @@ FlagsKeepLayout = (items : List Item) → (layout (flags items) ≡ layout items
 
 -- The layout of a proper file value reads as its tree, where it is within the limits of length and depth.
 abbrev pub LayoutIsAccepted : Type 0
-LayoutIsAccepted = (items : List Item) → IsProper items → length (layout items) ≤ limit → depth_of (drawn items) ≤ 200 → Reads (layout items) (drawn items)
+LayoutIsAccepted = (items : List Item) → IsProper items → length (layout items) ≤ limit → depth_of (drawn items) ≤ depth_limit → Reads (layout items) (drawn items)
 
 -- The view of the tree of the layout of a proper file value is the value with its flags settled.
 abbrev pub LayoutReadsBack : Type 0

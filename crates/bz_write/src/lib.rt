@@ -15,5 +15,6 @@ mod row_gaps;
 mod setting;
 mod spaces;
 
+pub use breaks::is_broken;
 pub use laws::{flags_keep_layout, layout_is_accepted, layout_reads_back, worked_rows};
 pub use setting::{SetFault, set};

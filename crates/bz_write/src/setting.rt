@@ -1,5 +1,5 @@
 ghost use Rattle.std.specs.Prelude.{◌≡◌, ◌<◌, ◌≤◌, IfOk, length};
-ghost use Rattle.bz_tree.specs.Spell.{spell_node, depth_of, limit};
+ghost use Rattle.bz_tree.specs.Spell.{spell_node, depth_of, limit, depth_limit};
 ghost use Rattle.bz_view.specs.View.{view_of};
 ghost use Rattle.bz_write.specs.Drawn.{drawn};
 ghost use Rattle.bz_write.specs.Written.{layout};
@@ -7,16 +7,10 @@ ghost use Rattle.bz_write.specs.Flags.{flags};
 
 use crate::limits::{are_items_within, is_layout_within};
 use crate::lines::draw_lines;
-use bz_tree::{Kind, Node, Tree};
+use bz_tree::{DEPTH_LIMIT, Kind, LENGTH_LIMIT, Node, Tree};
 use bz_value::File;
 use std::alloc::{AllocError, Global};
 use thiserror::Error;
-
-/// The most bytes that a text has.
-const LIMIT: usize = 4_194_304;
-
-/// The greatest depth of a tree: a file, and what is inside.
-const DEEPEST: usize = 200;
 
 /// Why a file value is not written.
 #[derive(Debug, Drop, Error)]
@@ -51,14 +45,14 @@ pub fn set(alloc: Global, file: &File) -> Result<Tree, SetFault>
     ensures text { IfOk result (λ tree. spell_node tree ≡ layout file.now) }
     ensures view { IfOk result (λ tree. view_of tree ≡ flags file.now) }
     ensures too_large { result ≡ Err SetFault.TooLarge → limit < length (layout file.now) }
-    ensures too_deep { result ≡ Err SetFault.TooDeep → (length (layout file.now) ≤ limit) × (200 < depth_of (drawn file.now)) }
+    ensures too_deep { result ≡ Err SetFault.TooDeep → (length (layout file.now) ≤ limit) × (depth_limit < depth_of (drawn file.now)) }
 {
     let items = file.items.as_slice();
-    let short = is_layout_within(alloc, items, LIMIT)?;
+    let short = is_layout_within(alloc, items, LENGTH_LIMIT)?;
     if !short {
         return Err(SetFault::TooLarge);
     }
-    if !are_items_within(items, DEEPEST - 1) {
+    if !are_items_within(items, DEPTH_LIMIT as usize - 1) {
         return Err(SetFault::TooDeep);
     }
     Ok(Tree {

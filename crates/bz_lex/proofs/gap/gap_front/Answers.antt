@@ -1,6 +1,16 @@
-use Rattle.std.proofs.Common.{sym}
-use Rattle.bz_lex.proofs.Gaps.{after_more}
+use Rattle.std.proofs.Common.{◌≡◌, ◌∙◌, ℕ, Some, length, take, sym, ap, arith}
+use Rattle.bz_lex.specs.declared.gap.GapState.TheVariants.{Open}
+use Rattle.bz_lex.specs.GapStates.{after}
+use Rattle.bz_lex.proofs.Gaps.{after_more, after_run}
 use Rattle.bz_lex.proofs.gap.gap_front.Goals as goal
 
-pub loop-i-preserved : goal.loop-i-preserved
-loop-i-preserved c = after_more c.args.newlines _ _ _ _ _ c.loop-i-test.true c.loop-i.invariant (sym c.in-Some.ensures)
+pub bytes-preserved : goal.bytes-preserved
+bytes-preserved c = record {
+  taken = after_run c.args.newlines _ _ _ _ _ c.run-at.ensures.above c.run-at.ensures.within c.run-at.ensures.stays (after_more c.args.newlines _ _ _ _ _ c.bytes-test.true c.bytes.invariant.taken (sym c.in-Some.ensures));
+  within = c.run-at.ensures.within;
+}
+
+pub returns-clause-taken : goal.returns-clause-taken
+returns-clause-taken c =
+    let i : c.bytes.at ≡ length c.args.text.now = omega (arith, c.bytes.invariant.within, c.bytes-test.false) in
+    ap (λ (n : ℕ). after c.args.newlines Open (take n c.args.text.now)) (sym i) ∙ c.bytes.invariant.taken

@@ -1,7 +1,13 @@
-use Rattle.std.proofs.Common.{◌≡◌, Some, take}
+use Rattle.std.proofs.Common.{◌≡◌, ◌≤◌, ◌-◌, Some, take, length}
 use Rattle.bz_lex.specs.declared.gap.GapState.TheVariants.{Open}
 use Rattle.bz_lex.specs.GapStates.{after}
 use Rattle.bz_lex.proofs.gap.gap_front.Given as goal
 
-abbrev pub invariant-loop-i : goal.invariant-loop-i
-invariant-loop-i l = after l.newlines Open (take l.i l.text) ≡ Some l.state
+abbrev pub invariant-bytes : goal.invariant-bytes
+invariant-bytes l = record {
+  taken : after l.newlines Open (take l.at l.text) ≡ Some l.state;
+  within : l.at ≤ length l.text;
+}
+
+abbrev pub decreases-bytes : goal.decreases-bytes
+decreases-bytes l = length l.text - l.at

@@ -4,6 +4,7 @@ use Rattle.bz_tree.specs.declared.kind.Kind.TheVariants as k
 use Rattle.bz_tree.specs.declared.token.Token.TheVariants as token
 use Rattle.bz_tree.specs.declared.state.Sort.TheVariants as q
 use Rattle.bz_tree.specs.declared.state.State.TheVariants as s
+use Rattle.bz_tree.specs.declared.state.Rest.TheVariants as in_rest
 use Rattle.bz_tree.specs.Reading.{node}
 use Rattle.bz_tree.specs.Words.{terminals_of, token_at, part_at}
 use Rattle.bz_tree.specs.States.{sort_of, found_at}
@@ -132,17 +133,17 @@ pub go_on-returns-clause-err : goal.go_on-returns-clause-err
 go_on-returns-clause-err t c = carry_err _ _ _ (fits _ _ _ _ _ (omega arith)) c.follow.ensures.err
 
 pub follow-returns-in-Finish-clause-ok : goal.follow-returns-in-Finish-clause-ok
-follow-returns-in-Finish-clause-ok t c = (node c.in-Finish.kind (drop c.args.from c.moves.stack), sym c.moves.invariant.rest ∙ finishes _ _ _ _ _ c.in-Finish.ensures, c.in_ok-close-in-Finish.ensures ∙ ap (λ (ps : List Part). ps ++ (node c.in-Finish.kind (drop c.args.from c.moves.stack) ∷ [])) c.moves.invariant.below, made_depth c.in-Finish.kind _ _ _ refl c.moves.invariant.deep)
+follow-returns-in-Finish-clause-ok t c = (node c.in-Finish.kind (drop c.args.from c.moves.stack), sym c.moves.invariant.rest ∙ finishes _ _ _ _ _ c.in-Finish.ensures.asks, c.in_ok-close-in-Finish.ensures ∙ ap (λ (ps : List Part). ps ++ (node c.in-Finish.kind (drop c.args.from c.moves.stack) ∷ [])) c.moves.invariant.below, made_depth c.in-Finish.kind _ _ _ refl c.moves.invariant.deep)
 
 pub follow-returns-in_err-take-in-Take-clause-err : goal.follow-returns-in_err-take-in-Take-clause-err
-follow-returns-in_err-take-in-Take-clause-err t c = handed_on _ _ _ _ c.from_residual-in_err-take-in-Take.ensures.1 c.in_err-take-in-Take.ensures.err (λ n. sym c.moves.invariant.rest ∙ takes_none _ _ _ _ _ _ c.in-Take.ensures n)
+follow-returns-in_err-take-in-Take-clause-err t c = handed_on _ _ _ _ c.from_residual-in_err-take-in-Take.ensures.1 c.in_err-take-in-Take.ensures.err (λ n. sym c.moves.invariant.rest ∙ takes_none _ _ _ _ _ _ c.in-Take.ensures.asks n)
 
 pub follow-moves-smaller-in-Take : goal.follow-moves-smaller-in-Take
-follow-moves-smaller-in-Take t c = fewer_taken c.in-Take.token _ _ _ _ _ _ (added _ _ c.moves.invariant.from (token_at (terminals_of c.in-Take.token)) _ _ _ _ (c.in_ok-take-in-Take.ensures.ok))
+follow-moves-smaller-in-Take t c = fewer_taken c.in-Take.token _ _ _ _ _ _ c.in-Take.ensures.few (added _ _ c.moves.invariant.from (token_at (terminals_of c.in-Take.token)) _ _ _ _ (c.in_ok-take-in-Take.ensures.ok))
 
 pub follow-moves-preserved-in-Take : goal.follow-moves-preserved-in-Take
 follow-moves-preserved-in-Take t c = record {
-  rest = takes _ _ _ _ _ _ _ _ c.in-Take.ensures (added _ _ c.moves.invariant.from (token_at (terminals_of c.in-Take.token)) _ _ _ _ (c.in_ok-take-in-Take.ensures.ok)) ∙ c.moves.invariant.rest;
+  rest = takes _ _ _ _ _ _ _ _ c.in-Take.ensures.asks (added _ _ c.moves.invariant.from (token_at (terminals_of c.in-Take.token)) _ _ _ _ (c.in_ok-take-in-Take.ensures.ok)) ∙ c.moves.invariant.rest;
   below = take_push _ _ c.moves.invariant.from _ _ (c.in_ok-take-in-Take.ensures.ok).2 ∙ c.moves.invariant.below;
   from = within_push _ _ c.moves.invariant.from _ _ (c.in_ok-take-in-Take.ensures.ok).2;
   deep = deepest_more _ _ c.moves.invariant.from _ _ _ _ _ _ c.moves.invariant.deep (c.in_ok-take-in-Take.ensures.ok) c.deeper-deep.ensures;
@@ -150,14 +151,14 @@ follow-moves-preserved-in-Take t c = record {
 }
 
 pub follow-returns-in_err-part-in-Read-clause-err : goal.follow-returns-in_err-part-in-Read-clause-err
-follow-returns-in_err-part-in-Read-clause-err t c = handed_on _ _ _ _ c.from_residual-in_err-part-in-Read.ensures.1 c.in_err-part-in-Read.ensures.err (λ n. sym c.moves.invariant.rest ∙ reads_none _ _ _ _ _ _ c.in-Read.ensures n)
+follow-returns-in_err-part-in-Read-clause-err t c = handed_on _ _ _ _ c.from_residual-in_err-part-in-Read.ensures.1 c.in_err-part-in-Read.ensures.err (λ n. sym c.moves.invariant.rest ∙ reads_none _ _ _ _ _ _ c.in-Read.ensures.asks n)
 
 pub follow-moves-smaller-in-Read : goal.follow-moves-smaller-in-Read
-follow-moves-smaller-in-Read t c = fewer_read c.args.depth c.in-Read.sort _ _ _ _ _ _ (added _ _ c.moves.invariant.from (part_at c.args.depth (sort_of c.in-Read.sort)) _ _ _ _ (c.in_ok-part-in-Read.ensures.ok))
+follow-moves-smaller-in-Read t c = fewer_read c.args.depth c.in-Read.sort _ _ _ _ _ _ c.in-Read.ensures.few (added _ _ c.moves.invariant.from (part_at c.args.depth (sort_of c.in-Read.sort)) _ _ _ _ (c.in_ok-part-in-Read.ensures.ok))
 
 pub follow-moves-preserved-in-Read : goal.follow-moves-preserved-in-Read
 follow-moves-preserved-in-Read t c = record {
-  rest = reads _ _ _ _ _ _ _ _ c.in-Read.ensures (added _ _ c.moves.invariant.from (part_at c.args.depth (sort_of c.in-Read.sort)) _ _ _ _ (c.in_ok-part-in-Read.ensures.ok)) ∙ c.moves.invariant.rest;
+  rest = reads _ _ _ _ _ _ _ _ c.in-Read.ensures.asks (added _ _ c.moves.invariant.from (part_at c.args.depth (sort_of c.in-Read.sort)) _ _ _ _ (c.in_ok-part-in-Read.ensures.ok)) ∙ c.moves.invariant.rest;
   below = take_push _ _ c.moves.invariant.from _ _ (c.in_ok-part-in-Read.ensures.ok).2 ∙ c.moves.invariant.below;
   from = within_push _ _ c.moves.invariant.from _ _ (c.in_ok-part-in-Read.ensures.ok).2;
   deep = deepest_more _ _ c.moves.invariant.from _ _ _ _ _ _ c.moves.invariant.deep (c.in_ok-part-in-Read.ensures.ok) c.deeper-deep-in-Read.ensures;
@@ -165,16 +166,16 @@ follow-moves-preserved-in-Read t c = record {
 }
 
 pub follow-moves-smaller-then-starts : goal.follow-moves-smaller-then-starts
-follow-moves-smaller-then-starts t c = fewer_left _ _ _ _ _ c.in-Choose.ensures
+follow-moves-smaller-then-starts t c = fewer_left _ _ _ _ _ c.in-Choose.ensures.asks
 
 pub follow-moves-smaller : goal.follow-moves-smaller
-follow-moves-smaller t c = fewer_right _ _ _ _ _ c.in-Choose.ensures
+follow-moves-smaller t c = fewer_right _ _ _ _ _ c.in-Choose.ensures.asks
 
 pub follow-moves-preserved-then-starts : goal.follow-moves-preserved-then-starts
-follow-moves-preserved-then-starts t c = record { rest = chooses_left _ _ _ _ _ _ _ c.in-Choose.ensures (sym c.starts.ensures ∙ c.if-starts.true) ∙ c.moves.invariant.rest; below = c.moves.invariant.below; from = c.moves.invariant.from; deep = c.moves.invariant.deep; within = c.moves.invariant.within }
+follow-moves-preserved-then-starts t c = record { rest = chooses_left _ _ _ _ _ _ _ c.in-Choose.ensures.asks (sym c.starts.ensures ∙ c.if-starts.true) ∙ c.moves.invariant.rest; below = c.moves.invariant.below; from = c.moves.invariant.from; deep = c.moves.invariant.deep; within = c.moves.invariant.within }
 
 pub follow-moves-preserved : goal.follow-moves-preserved
-follow-moves-preserved t c = record { rest = chooses_right _ _ _ _ _ _ _ c.in-Choose.ensures (sym c.starts.ensures ∙ c.if-starts.false) ∙ c.moves.invariant.rest; below = c.moves.invariant.below; from = c.moves.invariant.from; deep = c.moves.invariant.deep; within = c.moves.invariant.within }
+follow-moves-preserved t c = record { rest = chooses_right _ _ _ _ _ _ _ c.in-Choose.ensures.asks (sym c.starts.ensures ∙ c.if-starts.false) ∙ c.moves.invariant.rest; below = c.moves.invariant.below; from = c.moves.invariant.from; deep = c.moves.invariant.deep; within = c.moves.invariant.within }
 
 pub primary-returns-in_err-deep-clause-err : goal.primary-returns-in_err-deep-clause-err
 primary-returns-in_err-deep-clause-err t c = handed_on _ _ _ _ c.from_residual.ensures.1 c.in_err-deep.ensures.err (λ n. primary_none _ _ n)
@@ -222,16 +223,16 @@ pub expression-returns-clause-ok : goal.expression-returns-clause-ok
 expression-returns-clause-ok t c = (c.ranks.invariant.rises.0, sym c.ranks.invariant.rises.1 ∙ risen_end _ _ _ _ _ (omega arith), c.ranks.invariant.rises.2, c.ranks.invariant.rises.3)
 
 pub operand-returns-then-starts_from-clause-ok : goal.operand-returns-then-starts_from-clause-ok
-operand-returns-then-starts_from-clause-ok t c = (c.in_ok-deep.ensures.ok.0, starts_risen _ 9 _ _ (from_parts 9 _ _ (sym c.starts_from.ensures ∙ c.if-starts_from.true)).0 (plain 9 _ _ (λ a b. absurd (omega arith)) (λ a b. absurd (omega arith))) _ _ (level_prefix _ 9 _ (λ e. cc) token.Not (s.Ends k.Not token.Not (q.Level 9)) refl (from_parts 9 _ _ (sym c.starts_from.ensures ∙ c.if-starts_from.true)).1 ∙ c.in_ok-deep.ensures.ok.1), c.in_ok-deep.ensures.ok.2, c.in_ok-deep.ensures.ok.3)
+operand-returns-then-starts_from-clause-ok t c = (c.in_ok-deep.ensures.ok.0, starts_risen _ 9 _ _ (from_parts 9 _ _ (sym c.starts_from.ensures ∙ c.if-starts_from.true)).0 (plain 9 _ _ (λ a b. absurd (omega arith)) (λ a b. absurd (omega arith))) _ _ (level_prefix _ 9 _ (λ e. cc) token.Not (s.Rest k.Not (in_rest.TokenPart token.Not (q.Level 9))) refl (from_parts 9 _ _ (sym c.starts_from.ensures ∙ c.if-starts_from.true)).1 ∙ c.in_ok-deep.ensures.ok.1), c.in_ok-deep.ensures.ok.2, c.in_ok-deep.ensures.ok.3)
 
 pub operand-returns-in_err-deep-clause-err : goal.operand-returns-in_err-deep-clause-err
-operand-returns-in_err-deep-clause-err t c = handed_on _ _ _ _ c.from_residual.ensures.1 c.in_err-deep.ensures.err (λ m. starts_none _ 9 _ _ (from_parts 9 _ _ (sym c.starts_from.ensures ∙ c.if-starts_from.true)).0 (plain 9 _ _ (λ a b. absurd (omega arith)) (λ a b. absurd (omega arith))) (level_prefix _ 9 _ (λ e. cc) token.Not (s.Ends k.Not token.Not (q.Level 9)) refl (from_parts 9 _ _ (sym c.starts_from.ensures ∙ c.if-starts_from.true)).1 ∙ m))
+operand-returns-in_err-deep-clause-err t c = handed_on _ _ _ _ c.from_residual.ensures.1 c.in_err-deep.ensures.err (λ m. starts_none _ 9 _ _ (from_parts 9 _ _ (sym c.starts_from.ensures ∙ c.if-starts_from.true)).0 (plain 9 _ _ (λ a b. absurd (omega arith)) (λ a b. absurd (omega arith))) (level_prefix _ 9 _ (λ e. cc) token.Not (s.Rest k.Not (in_rest.TokenPart token.Not (q.Level 9))) refl (from_parts 9 _ _ (sym c.starts_from.ensures ∙ c.if-starts_from.true)).1 ∙ m))
 
 pub operand-returns-then-starts_from-2-clause-ok : goal.operand-returns-then-starts_from-2-clause-ok
-operand-returns-then-starts_from-2-clause-ok t c = (c.in_ok-deep-2.ensures.ok.0, starts_risen _ 1 _ _ (from_parts 1 _ _ (sym c.starts_from-2.ensures ∙ c.if-starts_from-2.true)).0 (plain 1 _ _ (λ a b. absurd (omega arith)) (λ a b. not_from 9 _ _ (sym c.starts_from.ensures ∙ c.if-starts_from.false) b)) _ _ (level_prefix _ 1 _ (λ e. cc) token.Signs (s.Ends k.Unary token.Signs (q.Level 1)) refl (from_parts 1 _ _ (sym c.starts_from-2.ensures ∙ c.if-starts_from-2.true)).1 ∙ c.in_ok-deep-2.ensures.ok.1), c.in_ok-deep-2.ensures.ok.2, c.in_ok-deep-2.ensures.ok.3)
+operand-returns-then-starts_from-2-clause-ok t c = (c.in_ok-deep-2.ensures.ok.0, starts_risen _ 1 _ _ (from_parts 1 _ _ (sym c.starts_from-2.ensures ∙ c.if-starts_from-2.true)).0 (plain 1 _ _ (λ a b. absurd (omega arith)) (λ a b. not_from 9 _ _ (sym c.starts_from.ensures ∙ c.if-starts_from.false) b)) _ _ (level_prefix _ 1 _ (λ e. cc) token.Signs (s.Rest k.Unary (in_rest.TokenPart token.Signs (q.Level 1))) refl (from_parts 1 _ _ (sym c.starts_from-2.ensures ∙ c.if-starts_from-2.true)).1 ∙ c.in_ok-deep-2.ensures.ok.1), c.in_ok-deep-2.ensures.ok.2, c.in_ok-deep-2.ensures.ok.3)
 
 pub operand-returns-in_err-deep-2-clause-err : goal.operand-returns-in_err-deep-2-clause-err
-operand-returns-in_err-deep-2-clause-err t c = handed_on _ _ _ _ c.from_residual-in_err-deep-2.ensures.1 c.in_err-deep-2.ensures.err (λ m. starts_none _ 1 _ _ (from_parts 1 _ _ (sym c.starts_from-2.ensures ∙ c.if-starts_from-2.true)).0 (plain 1 _ _ (λ a b. absurd (omega arith)) (λ a b. not_from 9 _ _ (sym c.starts_from.ensures ∙ c.if-starts_from.false) b)) (level_prefix _ 1 _ (λ e. cc) token.Signs (s.Ends k.Unary token.Signs (q.Level 1)) refl (from_parts 1 _ _ (sym c.starts_from-2.ensures ∙ c.if-starts_from-2.true)).1 ∙ m))
+operand-returns-in_err-deep-2-clause-err t c = handed_on _ _ _ _ c.from_residual-in_err-deep-2.ensures.1 c.in_err-deep-2.ensures.err (λ m. starts_none _ 1 _ _ (from_parts 1 _ _ (sym c.starts_from-2.ensures ∙ c.if-starts_from-2.true)).0 (plain 1 _ _ (λ a b. absurd (omega arith)) (λ a b. not_from 9 _ _ (sym c.starts_from.ensures ∙ c.if-starts_from.false) b)) (level_prefix _ 1 _ (λ e. cc) token.Signs (s.Rest k.Unary (in_rest.TokenPart token.Signs (q.Level 1))) refl (from_parts 1 _ _ (sym c.starts_from-2.ensures ∙ c.if-starts_from-2.true)).1 ∙ m))
 
 pub operand-returns-clause-ok : goal.operand-returns-clause-ok
 operand-returns-clause-ok t c = (c.in_ok-deep-3.ensures.ok.0, starts_risen _ 0 _ _ (omega arith) (plain 0 _ _ (λ a b. not_from 1 _ _ (sym c.starts_from-2.ensures ∙ c.if-starts_from-2.false) b) (λ a b. not_from 9 _ _ (sym c.starts_from.ensures ∙ c.if-starts_from.false) b)) _ _ c.in_ok-deep-3.ensures.ok.1, c.in_ok-deep-3.ensures.ok.2, c.in_ok-deep-3.ensures.ok.3)

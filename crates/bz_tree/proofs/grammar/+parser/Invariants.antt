@@ -1,7 +1,7 @@
 use Rattle.std.proofs.Common.{◌≡◌, ◌+◌, ◌*◌, ◌-◌, ◌≤◌, ◌++◌, ◌∷◌, [], length, take, drop}
 use Rattle.bz_tree.specs.declared.tree.Part.{Part}
 use Rattle.bz_tree.specs.Spell.{depth_part, deepest}
-use Rattle.bz_tree.specs.States.{turns, found_at, suffixes_at, level_at, Rises}
+use Rattle.bz_tree.specs.States.{plan_at, choices, found_at, suffixes_at, level_at, Rises}
 use Rattle.bz_tree.proofs.grammar.+parser.Given as goal
 
 -- each part inside is one deeper; the functions of one depth in the order in which they call each other
@@ -46,7 +46,7 @@ invariant-follow-moves l = record {
 
 -- each move takes a leaf or leaves fewer choices
 abbrev pub decreases-follow-moves : goal.decreases-follow-moves
-decreases-follow-moves l = 8 * length l.leaves + turns l.state
+decreases-follow-moves l = 8 * length l.leaves + choices (plan_at l.state)
 
 abbrev pub invariant-expression-ranks : goal.invariant-expression-ranks
 invariant-expression-ranks l = record {
