@@ -6,7 +6,7 @@ use Rattle.std.proofs.lemmas.Bool.{eqb-true}
 use Rattle.bz_lex.specs.declared.leaf.Leaf.{Leaf}
 use Rattle.bz_tree.specs.declared.kind.Kind.{Kind}
 use Rattle.bz_tree.specs.declared.kind.Kind.TheVariants as k
-use Rattle.bz_tree.specs.declared.tree.Part.{Part, Row_of-Part, end_of-Part, more_of-Part, Node', items-the_row-Part}
+use Rattle.bz_tree.specs.declared.tree.Part.{Part, Row_of-Part, Node', items-the_row-Part}
 use Rattle.bz_tree.specs.declared.tree.Part.TheVariants as p
 use Rattle.bz_tree.specs.Shapes as s
 use Rattle.bz_tree.specs.Shapes.{Fits, Several, shape, tok, done, has_kind}
@@ -20,19 +20,19 @@ use Rattle.bz_value.specs.Frames.{frame}
 use Rattle.bz_value.specs.Gaps.{Bytes, GapLine, lines_of, behind_first, groups_of, all_but_last, last_group}
 use Rattle.bz_view.specs.View as v
 use Rattle.bz_view.specs.View.{Seen, seen, seen_row, first_gap, blocks, statement, statements_in, file_items, view_of}
-use Rattle.bz_view.proofs.SeenParts.{seen_rows, comments_made}
+use Rattle.bz_view.proofs.SeenParts.{seen_rows, node_gap, comments_made}
+use Rattle.bz_view.proofs.QuietGaps.{Quiet, Statements, statements_quiet, row_legal}
 use Rattle.bz_hosts.specs.Hosts.{Region, Comment, comments_at, comments_from, Measured, sizes, measured, measured_row, hosts_from, in_line, regions_from, Place, outside, texts_at, Hosted, block, hosted_at, hosted_by, alone, with_group, gap_of, last_gap, hosted_from, inside_expr, inside_item}
 use Rattle.bz_hosts.specs.Laws.{HostsByPlace}
 use Rattle.bz_hosts.proofs.Around.{AllInside, all_wider, Sees, SeesAt, sees_behind, sees_before}
 use Rattle.bz_hosts.proofs.Gathered.{key, pick_other, GapPlaces, texts_joined, gap_all}
-use Rattle.bz_hosts.proofs.Parts.{size, measured_rows, leaves_rows, size_leaves, Solid, some_leaf, part_solid, seen_gap, comments_behind, inner, in_parts, behind_parts, parts_from, parts_behind}
+use Rattle.bz_hosts.proofs.Parts.{size, measured_rows, leaves_rows, size_leaves, Solid, some_leaf, part_solid, comments_behind, inner, in_parts, behind_parts, parts_from, parts_behind}
 use Rattle.bz_hosts.proofs.Alternating.{Alternating, inside_joined, hosts_inside}
 use Rattle.bz_hosts.proofs.Insides.{inside_made}
 use Rattle.bz_hosts.proofs.Cuts.{listed_alternating}
 use Rattle.bz_hosts.proofs.Nodes.{row_regions, row_solid}
 use Rattle.bz_hosts.proofs.Claim.{row_in_host}
 use Rattle.bz_hosts.proofs.Sequences.{From}
-use Rattle.bz_hosts.proofs.QuietGaps.{Quiet, Statements, statements_quiet}
 use Rattle.bz_hosts.proofs.Statements.{LineTexts, line_texts}
 
 -- ---- comment lines
@@ -140,10 +140,6 @@ regions_inside n (x ∷ xs) h =
     (all_wider n m n up (omega arith) (omega arith) (in_line n x) (h.0.within n))
     (all_wider m (m + sizes (map measured xs)) n up (omega arith) (omega arith) (regions_from m xs) (regions_inside m xs h.1))
 
-row_legal : (m : _) (r : Row_of-Part m) → LegalRow r → AllByRecursion LegalPart (items-the_row-Part m r)
-row_legal m end_of-Part h = tt
-row_legal m (more_of-Part x rest) h = (h.0, row_legal _ rest h.1)
-
 -- the texts of a line
 line_found : (all : List Region) (n : ℕ) (kind : Kind) (m : _) (r : Row_of-Part m) → Statements (items-the_row-Part m r) → LegalRow r → AtRow Stands Begins Begins r →
     SeesAt all None (suc n) (n + sizes (measured_row r)) (hosts_from s.semicolon n (measured_row r)) →
@@ -240,7 +236,7 @@ lines_texts all n up (Node' kind z r ∷ xs) u (inr h) g at_ sees =
     let at_rest : AtParts Stands Begins Begins xs = subst (λ kd. AtParts Stands Begins (behind_node kd Begins) xs) e at_.1 in
     let rest : FileTexts all m up xs = lines_texts all m up xs (omega arith) h.1 g.1 at_rest (λ q a b. sees_behind all q None up n m (in_line n x) (regions_from m xs) (there.within n) a (sees q (omega arith) b)) in
     let solid : Solid x = part_solid x g.0 in
-    let first : gap_of (leaves_row r) ≡ first_gap (seen_row r) = first_gap_of (leaves_row r) solid.first solid.rest (first_gap (seen_row r)) solid.leaves (sym (seen_gap kind (seen_row r) (frame kind)) ∙ solid.gap) in
+    let first : gap_of (leaves_row r) ≡ first_gap (seen_row r) = first_gap_of (leaves_row r) solid.first solid.rest (first_gap (seen_row r)) solid.leaves (sym (node_gap kind (seen_row r) (frame kind)) ∙ solid.gap) in
     let last : last_gap (leaves_row r) ≡ v.last_gap (seen_row r) = ap last_gap (leaves_rows _ r) ∙ (last_same s.semicolon ys (line_alternating ys statements) (row_solid _ r g.0.1) ∙ ap v.last_gap (sym (seen_rows _ r))) in
     line_step all n up x xs h.0 some (omega arith) gap texts rest first last
     (λ group. subst (λ (ss : List Seen). with_group group (flat_map inside_item (statements_in [] ss)) ≡ flat_map inside_item (statements_in group ss)) (sym (seen_rows _ r)) (group_above group ys))

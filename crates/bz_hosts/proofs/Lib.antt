@@ -8,7 +8,6 @@ pub mod Insides
 pub mod Joined
 pub mod Nodes
 pub mod Parts
-pub mod QuietGaps
 pub mod Sequences
 pub mod Statements
 pub mod Texts

@@ -9,9 +9,10 @@ use Rattle.bz_tree.specs.declared.tree.Part.TheVariants as p
 use Rattle.bz_tree.specs.Shapes.{Fits, shape}
 use Rattle.bz_tree.specs.Spell.{leaves_part, leaves_row}
 use Rattle.bz_tree.specs.Legal.{IsSort, LegalPart, LegalRow}
-use Rattle.bz_value.specs.Frames.{Frame, row, sequence, frame}
+use Rattle.bz_value.specs.Frames.{frame}
 use Rattle.bz_value.specs.Gaps.{Bytes}
-use Rattle.bz_view.specs.View.{Seen, seen, seen_row, node_in, first_gap}
+use Rattle.bz_view.specs.View.{seen, seen_row, first_gap}
+use Rattle.bz_view.proofs.SeenParts.{node_gap}
 use Rattle.bz_hosts.specs.Hosts.{Comment, comments_at, comments_from, Measured, sizes, measured, measured_row}
 
 abbrev pub size : Part → ℕ
@@ -53,10 +54,6 @@ kind_some : (kind : Kind) → Fits IsSort (shape kind) [] → ⊥
 kind_some k.Line h = absurd h
 kind_some _ h = absurd h
 
-pub seen_gap : (kind : Kind) (ss : List Seen) (f : Frame) → (node_in f kind ss).gap ≡ first_gap ss
-seen_gap kind ss row = refl
-seen_gap kind ss (sequence opener closer) = refl
-
 abbrev SolidFirst : List Part → Type 0
 SolidFirst [] = Unit {0}
 SolidFirst (x ∷ xs) = Solid x
@@ -71,7 +68,7 @@ mutual
   part_solid (p.Leaf l) h = record { first = l; rest = []; leaves = refl; gap = refl }
   part_solid (Node' kind n r) h =
       let w = node_solid kind _ r h.0 (first_solid _ r h.1) in
-      record { first = w.0; rest = w.1; leaves = w.2; gap = seen_gap kind (seen_row r) (frame kind) ∙ w.3 }
+      record { first = w.0; rest = w.1; leaves = w.2; gap = node_gap kind (seen_row r) (frame kind) ∙ w.3 }
 
   first_solid : (m : _) (r : Row_of-Part m) → LegalRow r → SolidFirst (items-the_row-Part m r)
   first_solid m end_of-Part h = tt

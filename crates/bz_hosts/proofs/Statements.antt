@@ -8,6 +8,7 @@ use Rattle.bz_tree.specs.Shapes as s
 use Rattle.bz_value.specs.declared.value.Item.{Item}
 use Rattle.bz_value.specs.Gaps.{Bytes, GapLine, lines_of, listed, behind_first, comments_in, first_comment, suffix_in, others_in, all_in}
 use Rattle.bz_view.specs.View.{seen, plain, statement, statements_in}
+use Rattle.bz_view.proofs.QuietGaps.{Quiet}
 use Rattle.bz_hosts.specs.Hosts.{Region, host, Comment, comments_at, sizes, measured, is_item, hosts_from, Place, suffix_of, above, outside, texts_at, hosted_at, inside_expr, inside_item}
 use Rattle.bz_hosts.proofs.Around.{AllInside, Sees, SeesAt, Ended, sees_behind, sees_before, sees_in_host, sees_past_host, sees_ended}
 use Rattle.bz_hosts.proofs.Gathered.{key, pick, pick_same, pick_other, pick_none, GapPlaces, texts_joined, gap_texts}
@@ -16,7 +17,6 @@ use Rattle.bz_hosts.proofs.Alternating.{IsMark, Alternating, Regions, hosts_clos
 use Rattle.bz_hosts.proofs.Texts.{PartTexts, InHost}
 use Rattle.bz_hosts.proofs.Joined.{Lines, three_none, three_first, three_second, three_third}
 use Rattle.bz_hosts.proofs.Sequences.{From, host_with}
-use Rattle.bz_hosts.proofs.QuietGaps.{Quiet}
 
 -- Comments of statements from the leaf n on: none has a place of other leaves; and where all comments have at these places no
 -- other texts, the regions hold what the items do.

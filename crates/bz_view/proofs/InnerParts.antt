@@ -104,7 +104,7 @@ tokens_inner (x ∷ xs) l h i =
     let w = and_parts (inner_terminal x) (inner_tokens xs) h in
     elim (or_cases (is_terminal x l) (is_one_of xs l) i) [ inl e ↦ terminal_inner x l w.0 e | inr e ↦ tokens_inner xs l w.1 e ]
 
-token_inner : (ts : List Terminal) (x : Part) → inner_tokens ts ≡ true → has_token ts x ≡ true → is_inner x ≡ true
+pub token_inner : (ts : List Terminal) (x : Part) → inner_tokens ts ≡ true → has_token ts x ≡ true → is_inner x ≡ true
 token_inner ts (p.Leaf l) h i = tokens_inner ts l h i
 token_inner ts (Node' kind z r) h i = no_such i
 

@@ -1,10 +1,15 @@
 pub mod GroupSteps
 pub mod InnerParts
+pub mod KeptFiles
+pub mod KeptParts
 pub mod LineSteps
 pub mod NodeViews
+pub mod Pairs
 pub mod ProperFiles
 pub mod ProperParts
+pub mod QuietGaps
 pub mod RowParts
 pub mod RowSteps
 pub mod SeenParts
 pub mod SequenceParts
+pub mod Sums

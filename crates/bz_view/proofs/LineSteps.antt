@@ -1,10 +1,9 @@
 -- Steps of the loops over the lines of a file and the statements of a line.
-use Rattle.std.proofs.Common.{ℕ, zero, suc, false, ◌≡◌, List, [], ◌∷◌, ◌++◌, ◌<◌, ◌≤◌, ◌+◌, ◌-◌, Option, Some, None, refl, sym, ap, ◌∙◌, map, drop, length, get_or, append_assoc, append-nil, length-drop, arith}
+use Rattle.std.proofs.Common.{ℕ, zero, suc, false, ◌≡◌, List, [], ◌∷◌, ◌++◌, ◌<◌, ◌≤◌, ◌+◌, ◌-◌, Option, None, refl, sym, ap, ◌∙◌, map, drop, length, get_or, append_assoc, append-nil, length-drop, arith}
 use Rattle.std.proofs.lemmas.List.{length-map}
 use Rattle.bz_tree.specs.declared.tree.Node.{Node}
 use Rattle.bz_tree.specs.declared.tree.Part.{Part}
 use Rattle.bz_tree.specs.declared.tree.Part.TheVariants as p
-use Rattle.bz_tree.proofs.Nested.{row_of}
 use Rattle.bz_value.specs.declared.value.Expr.{Expr}
 use Rattle.bz_value.specs.declared.value.Item.{Item}
 use Rattle.bz_value.specs.declared.value.Item.TheVariants as i

@@ -1,5 +1,5 @@
 -- What is seen of a node, by the list of its parts.
-use Rattle.std.proofs.Common.{ℕ, zero, suc, Bool, true, false, ◌≡◌, ◌&&◌, List, [], ◌∷◌, ◌<◌, ◌≤◌, refl, sym, ap, ◌∙◌, map, take, drop, length, get_or, ◌+◌, add-one, arith}
+use Rattle.std.proofs.Common.{ℕ, zero, suc, Bool, true, false, ◌≡◌, List, [], ◌∷◌, ◌<◌, ◌≤◌, refl, sym, ap, ◌∙◌, map, take, drop, length, get_or, ◌+◌, add-one, arith}
 use Rattle.std.proofs.Math.Seq.{drop-cons}
 use Rattle.std.proofs.lemmas.List.{drop-map}
 use Rattle.bz_tree.specs.declared.kind.Kind.{Kind}

@@ -44,7 +44,7 @@ kept_fits kind f e xs ys us h v w =
     fits_same (shape kind) (row_in f (kept_parts f kind xs) (kept_items f kind xs)) (row_in f ys us) (row_same f (kept_parts f kind xs) ys (kept_items f kind xs) us v w)
     (subst (λ z. Fits IsSort (shape kind) (row_in z (kept_parts z kind xs) (kept_items z kind xs))) e (kind_fits kind xs h)))
 
-dropped : {X : Type 0} (P : X → Type 0) (n : ℕ) (xs : List X) → AllByRecursion P xs → AllByRecursion P (drop n xs)
+pub dropped : {X : Type 0} (P : X → Type 0) (n : ℕ) (xs : List X) → AllByRecursion P xs → AllByRecursion P (drop n xs)
 dropped P zero [] h = tt
 dropped P (suc n) [] h = tt
 dropped P zero (x ∷ xs) h = h

@@ -1,5 +1,5 @@
 -- Steps of the loops over the parts of a row.
-use Rattle.std.proofs.Common.{ℕ, zero, suc, Bool, true, false, not, ◌≡◌, ◌&&◌, ◌||◌, List, [], ◌∷◌, ◌++◌, ◌<◌, ◌≤◌, ◌+◌, ◌-◌, if◌then◌else◌, Option, refl, sym, ap, ◌∙◌, subst, map, take, drop, length, get_or, append_assoc, append-nil, length-drop, add-one, arith}
+use Rattle.std.proofs.Common.{ℕ, zero, suc, Bool, false, ◌≡◌, List, [], ◌∷◌, ◌++◌, ◌<◌, ◌≤◌, ◌+◌, Option, refl, sym, ap, ◌∙◌, subst, map, take, drop, length, get_or, append_assoc, append-nil, length-drop, add-one, arith}
 use Rattle.std.proofs.lemmas.List.{length-map}
 use Rattle.std.proofs.Math.ListN.{get_or-map}
 use Rattle.bz_tree.specs.declared.tree.Part.{Part}
@@ -7,9 +7,8 @@ use Rattle.bz_value.specs.declared.value.Expr.{Expr}
 use Rattle.bz_value.specs.declared.value.Seq.{Seq}
 use Rattle.bz_value.specs.Commented.{with_comments}
 use Rattle.bz_value.specs.Comments.{HostComments, no_comments}
-use Rattle.bz_value.specs.Gaps.{Bytes, suffix_in, others_in, all_in, has_newline}
-use Rattle.bz_value.specs.Proper.{is_operator}
-use Rattle.bz_view.specs.View.{Seen, seen, plain, is_split, first_gap, last_gap, begins_operator, row_exprs, items_in, loose_behind}
+use Rattle.bz_value.specs.Gaps.{Bytes, suffix_in, others_in, all_in}
+use Rattle.bz_view.specs.View.{Seen, seen, plain, is_split, first_gap, last_gap, items_in, loose_behind}
 use Rattle.bz_view.specs.Walks.{seq_in, loose_from, suffix_behind, above_behind}
 use Rattle.bz_view.proofs.NodeViews.{seen_comments}
 
@@ -63,20 +62,6 @@ above_last ps at g a b l k e i j =
     let w = one_left ps at l (omega arith) in j ∙ (ap (λ t. t ++ others_in g) i ∙ (ap others_in (e ∙ ap (λ qs. first_gap (map seen qs)) w.1) ∙ sym (ap (λ qs. above_behind (map seen qs)) w.1)))
 
 -- ---- rows
-
-row_step : (b op nl op' nl' br : Bool) (s : Seen) (ss : List Seen) → nl' ≡ (if op then nl else has_newline s.gap) → op' ≡ (b && is_operator (plain s)) →
-    br ≡ ((op' && not (begins_operator ss)) && (nl' || has_newline (first_gap ss))) → row_exprs b op nl (s ∷ ss) ≡ s.make no_comments br ∷ row_exprs b op' nl' ss
-row_step b op nl op' nl' br s ss e f g = rw (g, e, f) refl
-
--- one more expression
-pub row_more : (b op nl op' nl' br : Bool) (s : Seen) (ss here : List Seen) (x : Expr) (es new all : List Expr) → here ≡ s ∷ ss → nl' ≡ (if op then nl else has_newline (first_gap here)) →
-    op' ≡ (b && is_operator (plain s)) → br ≡ ((op' && not (begins_operator ss)) && (nl' || has_newline (first_gap ss))) → x ≡ s.make no_comments br →
-    es ++ row_exprs b op nl here ≡ all → new ≡ es ++ x ∷ [] → new ++ row_exprs b op' nl' ss ≡ all
-row_more b op nl op' nl' br s ss here x es new all h e f g i j k =
-    let rest : List Expr = row_exprs b op' nl' ss in
-    let step : row_exprs b op nl here ≡ x ∷ rest =
-    ap (row_exprs b op nl) h ∙ (row_step b op nl op' nl' br s ss (e ∙ ap (λ t. if op then nl else has_newline (first_gap t)) h) f g ∙ ap (λ t. t ∷ rest) (sym i)) in
-    ap (λ t. t ++ rest) k ∙ (append_assoc es (x ∷ []) rest ∙ (ap (λ t. es ++ t) (sym step) ∙ j))
 
 -- what is loose before a part and in it
 pub loose_more : (at : ℕ) (s : Seen) (ss here : List Seen) (old mid new all : List Bytes) → here ≡ s ∷ ss → ((rest : List Seen) → (mid ++ s.loose) ++ loose_behind rest ≡ old ++ loose_from at (s ∷ rest)) →

@@ -50,7 +50,7 @@ module _ (kind : Kind) (ss : List Seen) (cs : HostComments) (b : Bool) where
   node_behind row outer here = refl
   node_behind (sequence opener closer) outer here = refl
 
-node_gap : (kind : Kind) (ss : List Seen) (f : Frame) → (node_in f kind ss).gap ≡ first_gap ss
+pub node_gap : (kind : Kind) (ss : List Seen) (f : Frame) → (node_in f kind ss).gap ≡ first_gap ss
 node_gap kind ss row = refl
 node_gap kind ss (sequence opener closer) = refl
 

@@ -13,7 +13,9 @@ use Rattle.bz_value.specs.declared.value.Expr.TheVariants as e
 use Rattle.bz_value.specs.declared.value.Item.{Item}
 use Rattle.bz_value.specs.declared.value.Item.TheVariants as i
 use Rattle.bz_value.specs.Comments.{HostComments, no_comments}
+use Rattle.bz_value.specs.Counted.{times}
 use Rattle.bz_value.specs.Gaps.{Bytes}
+use Rattle.bz_view.specs.Kept.{comments_of_tree, occurrences}
 use Rattle.bz_view.specs.View.{view_of}
 
 -- ---- trees: each leaf with the gap before it
@@ -218,5 +220,24 @@ Opened =
     plain c.Mark (codes "[") ∷ plain c.Name (codes "a")
     ∷ row no_comments k.For false (plain c.Keyword (codes "for") ∷ plain c.Name (codes "a") ∷ plain c.Keyword (codes "in") ∷ plain c.Name (codes "b") ∷ []) ∷ plain c.Mark (codes "]") ∷ [])) ∷ [])
 
+-- ---- counts
+
+-- a comment in a group by itself, above a statement, before a comma, behind it, at the end of a sequence, behind the statement
+-- and at the end of the file
+abbrev everywhere : Node
+everywhere =
+    file (line (
+    node k.Bare (node k.Call (name (codes "# a\n\n# a\n") (codes "f") ∷ mark [] (codes "(") ∷ name [] (codes "x") ∷ mark (codes " # b\n") (codes ",") ∷ mark (codes " # a\n# a\n") (codes ")") ∷ []) ∷ [])
+    ∷ []) (codes " # a") ∷ []) (codes "# a\n")
+
+-- each stands in the file value as often as in the text
+abbrev pub Counts : Type 0
+Counts =
+    (spell_node everywhere ≡ codes "# a\n\n# a\nf(x # b\n, # a\n# a\n) # a\n# a\n")
+    × (comments_of_tree everywhere ≡ codes "# a" ∷ codes "# a" ∷ codes "# b" ∷ codes "# a" ∷ codes "# a" ∷ codes "# a" ∷ codes "# a" ∷ [])
+    × (occurrences (codes "# a") everywhere ≡ 6) × (times (codes "# a") (view_of everywhere) ≡ 6)
+    × (occurrences (codes "# b") everywhere ≡ 1) × (times (codes "# b") (view_of everywhere) ≡ 1)
+    × (occurrences (codes "#") everywhere ≡ 0) × (times (codes "#") (view_of everywhere) ≡ 0)
+
 abbrev pub WorkedViews : Type 0
-WorkedViews = Above × Groups × AtEnd × Semicolons × BehindEscape × Split × Escaped × Inside × Commas × Operand × Words × Opened
+WorkedViews = Above × Groups × AtEnd × Semicolons × BehindEscape × Split × Escaped × Inside × Commas × Operand × Words × Opened × Counts

@@ -84,8 +84,10 @@ fn row_of(
     let mut newline = false;
     for (at, part) in parts.iter().enumerate() {
         push_gap(alloc, part, at, loose)?;
-        newline = before_operator(parts, at, operator, newline);
+        let inside = operator;
         operator = is_operator_in(binary, part);
+        // what stands before an operand is not looked for: it can be deep in there
+        newline = operator && before_operator(parts, at, inside, newline);
         let break_ = breaks_behind(operator, newline, parts, at + 1);
         exprs.push(expr_of(alloc, part, break_, loose)?)?;
     }

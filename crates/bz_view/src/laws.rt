@@ -1,8 +1,14 @@
-//! Facts about the definitions, for readers: the function does nothing.
+//! Facts about the definitions, for readers and for the proofs of other crates: the functions do nothing.
 
+ghost use Rattle.bz_view.specs.Kept.{CommentsKept};
 ghost use Rattle.bz_view.specs.Worked.{WorkedViews};
 
-/// Worked rows of the view: for each a text, its tree, and the file value.
+/// Each comment of a legal tree stands in its file value as often as in the tree's gaps: none is lost or doubled.
+pub fn comments_kept()
+    ensures { CommentsKept }
+{}
+
+/// Worked rows of the view: for each a text, its tree, and the file value, or how often its comments stand in it.
 pub fn worked_views()
     ensures { WorkedViews }
 {}

@@ -1,7 +1,9 @@
 //! The view of a tree as a file value.
 ghost use Rattle.std.specs.Prelude.{◌≡◌, ◌<◌, [], ◌∷◌, ◌++◌, List, length, map, drop, IfOk, OnOk};
 ghost use Rattle.bz_tree.specs.declared.tree.Part.{Part};
-ghost use Rattle.bz_value.specs.Gaps.{lines_of, suffix_in};
+ghost use Rattle.bz_value.specs.Counted.{times};
+ghost use Rattle.bz_value.specs.Gaps.{Bytes, lines_of, suffix_in};
+ghost use Rattle.bz_view.specs.Kept.{occurrences};
 ghost use Rattle.bz_view.specs.View.{file_items, seen, statements_in, view_of};
 ghost use Rattle.bz_view.specs.Walks.{line_suffix};
 
@@ -13,9 +15,11 @@ use bz_tree::{Part, Tree};
 use bz_value::{Comments, File, Item, behind_first_line, suffix_in};
 use std::alloc::Global;
 
-/// The file value of a tree: its statements without gaps, each comment at its host. The error: memory was refused.
+/// The file value of a tree: its statements without gaps, each comment at its host, and as often in the value as in the tree's
+/// gaps. The error: memory was refused.
 pub fn view(alloc: Global, tree: &Tree) -> Result<File, Memory>
-    ensures { IfOk result (λ file. file ≡ view_of tree.now) }
+    ensures value { IfOk result (λ file. file ≡ view_of tree.now) }
+    ensures comments { IfOk result (λ file. (text : Bytes) → times text file ≡ occurrences text tree.now) }
 {
     Ok(File {
         items: items_of(alloc, tree.root.parts.as_slice())?,

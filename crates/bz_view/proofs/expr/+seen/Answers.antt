@@ -1,8 +1,6 @@
-use Rattle.std.proofs.Common.{◌++◌, suc, sym, ap, ◌∙◌, map, take, drop, append-nil, arith}
+use Rattle.std.proofs.Common.{◌++◌, suc, sym, ap, ◌∙◌, drop, arith}
 use Rattle.bz_value.specs.declared.value.Expr.TheVariants as e
 use Rattle.bz_value.specs.Frames.{frame}
-use Rattle.bz_view.specs.View.{seen, loose_in}
-use Rattle.bz_view.specs.Walks.{loose_from}
 use Rattle.bz_view.proofs.NodeViews.{made_of_node, loose_of_node, sequence_made}
 use Rattle.bz_view.proofs.RowSteps.{head_here, head_more, loose_more, bracket_more, no_bracket, item_more, items_done}
 use Rattle.bz_view.proofs.expr.+seen.Goals as goal

@@ -1,5 +1,5 @@
-use Rattle.std.proofs.Common.{◌≡◌, ◌∷◌, List, None}
-use Rattle.bz_value.specs.Gaps.{GapLine, lines_of}
+use Rattle.std.proofs.Common.{◌≡◌, ◌∷◌, None}
+use Rattle.bz_value.specs.Gaps.{lines_of}
 use Rattle.bz_view.proofs.GroupSteps.{bare_line, block_pushed, block_kept}
 use Rattle.bz_view.proofs.groups.push_lines.Goals as goal
 

@@ -1,7 +1,7 @@
 -- Between the statements of a line stand no comments.
-use Rattle.std.proofs.Common.{◌≡◌, ℕ, eqb, Bool, true, false, not, List, [], ◌∷◌, inl, inr, refl, ap, ◌∙◌, subst, arith, codes, bytes_eq}
+use Rattle.std.proofs.Common.{◌≡◌, ℕ, eqb, true, false, not, List, [], ◌∷◌, inl, inr, refl, ap, ◌∙◌, subst, arith}
 use Rattle.std.specs.List.{AllByRecursion}
-use Rattle.std.proofs.lemmas.Bool.{both_ways, and_parts, or_cases}
+use Rattle.std.proofs.lemmas.Bool.{both_ways}
 use Rattle.std.proofs.lemmas.Bool.Decides.{nat_tests}
 use Rattle.bz_token.specs.Bytes.{is_blank}
 use Rattle.bz_token.specs.declared.class.Class.{Class}
@@ -13,14 +13,14 @@ use Rattle.bz_tree.specs.Shapes as s
 use Rattle.bz_tree.specs.Shapes.{Fits, Listed, tok, done, has_token}
 use Rattle.bz_tree.specs.Legal.{IsSort, LegalPart, LegalRow}
 use Rattle.bz_tree.specs.Spots.{Spot, Begins, Along, onward, behind_part, GapStands, Stands, AtLeaves, AtRow, AtParts}
-use Rattle.bz_tree.proofs.Balance.{no_such, same_class}
+use Rattle.bz_tree.proofs.Balance.{no_such}
 use Rattle.bz_value.specs.Characters.{line_feed, number_sign, backslash}
 use Rattle.bz_value.specs.Frames.{frame}
 use Rattle.bz_value.specs.Gaps.{Bytes, lines_of, all_in}
 use Rattle.bz_view.specs.View.{seen, seen_row, first_gap}
-use Rattle.bz_view.proofs.InnerParts.{ends_line, is_inner, sort_inner, inner_parts, sort_goes, token_goes}
+use Rattle.bz_view.proofs.InnerParts.{ends_line, is_inner, token_inner, sort_inner, inner_parts, sort_goes, token_goes}
 use Rattle.bz_view.proofs.RowParts.{on_twice}
-use Rattle.bz_hosts.proofs.Parts.{seen_gap}
+use Rattle.bz_view.proofs.SeenParts.{node_gap}
 
 blank_silent : (byte : ℕ) (g : Bytes) → is_blank byte ≡ true → lines_of (byte ∷ g) ≡ lines_of g
 blank_silent byte g h =
@@ -46,17 +46,15 @@ gap_silent _ gap e h = along_silent gap h
 mutual
   part_silent : (x : Part) → LegalPart x → is_inner x ≡ true → AtLeaves Stands Along x → all_in (seen x).gap ≡ []
   part_silent (p.Leaf l) g i h = gap_silent l.class l.gap i h
-  part_silent (Node' kind n r) g i h = ap all_in (seen_gap kind (seen_row r) (frame kind)) ∙ row_silent _ r (inner_parts kind i (items-the_row-Part _ r) g.0) g.1 h
+  part_silent (Node' kind n r) g i h = ap all_in (node_gap kind (seen_row r) (frame kind)) ∙ row_silent _ r (inner_parts kind i (items-the_row-Part _ r) g.0) g.1 h
 
   row_silent : (m : _) (r : Row_of-Part m) → AllByRecursion (λ x. is_inner x ≡ true) (items-the_row-Part m r) → LegalRow r → AtRow Stands Along Along r → all_in (first_gap (seen_row r)) ≡ []
   row_silent m end_of-Part i g h = refl
   row_silent m (more_of-Part x rest) i g h = part_silent x g.0 i.0 h.0
 
-semicolon_inner : (y : Part) → has_token s.semicolon y ≡ true → is_inner y ≡ true
-semicolon_inner (p.Leaf l) h =
-    let here : Bool = s.is_terminal (s.this c.Mark (codes ";")) l in
-    elim (or_cases here false h) [ inl e ↦ ap (λ class. not (ends_line class)) (same_class l.class c.Mark (and_parts (s.is_class l.class c.Mark) (bytes_eq l.token (codes ";")) e).0) | inr e ↦ no_such e ]
-semicolon_inner (Node' kind n r) h = no_such h
+pub row_legal : (m : _) (r : Row_of-Part m) → LegalRow r → AllByRecursion LegalPart (items-the_row-Part m r)
+row_legal m end_of-Part h = tt
+row_legal m (more_of-Part x rest) h = (h.0, row_legal _ rest h.1)
 
 -- statement, semicolon, statement, .. Newline: before semicolons and before each statement but the first
 abbrev pub Quiet : List Part → Type 0
@@ -76,13 +74,13 @@ statements_quiet outer here (x ∷ y ∷ []) e h g at_ = tt
 statements_quiet outer here (x ∷ y ∷ z ∷ []) e (h, inl j) g at_ = absurd j.1
 statements_quiet outer here (x ∷ y ∷ z ∷ []) e (h, inr w) g at_ =
     let there : behind_part outer here x ≡ Along = sort_goes s.small x refl h outer here ∙ e in
-    part_silent y g.1.0 (semicolon_inner y w.0) (subst (λ q. AtLeaves Stands q y) there at_.1.0)
+    part_silent y g.1.0 (token_inner s.semicolon y refl w.0) (subst (λ q. AtLeaves Stands q y) there at_.1.0)
 statements_quiet outer here (x ∷ y ∷ z ∷ u ∷ xs) e (h, inl j) g at_ = absurd j.1
 statements_quiet outer here (x ∷ y ∷ z ∷ u ∷ xs) e (h, inr (m, inr j)) g at_ = absurd j.1.1
 statements_quiet outer here (x ∷ y ∷ z ∷ u ∷ xs) e (h, inr (m, inl j)) g at_ =
     let first : behind_part outer here x ≡ onward here = sort_goes s.small x refl h outer here in
     let there : behind_part outer (behind_part outer here x) y ≡ onward here = token_goes s.semicolon y refl m outer (behind_part outer here x) ∙ (ap onward first ∙ on_twice here) in (
-      part_silent y g.1.0 (semicolon_inner y m) (subst (λ q. AtLeaves Stands q y) (first ∙ e) at_.1.0),
+      part_silent y g.1.0 (token_inner s.semicolon y refl m) (subst (λ q. AtLeaves Stands q y) (first ∙ e) at_.1.0),
       part_silent z g.1.1.0 (sort_inner s.small z refl j.0) (subst (λ q. AtLeaves Stands q z) (there ∙ e) at_.1.1.0),
       statements_quiet outer (onward here) (z ∷ u ∷ xs) (on_twice here ∙ e) j g.1.1 (subst (λ q. AtParts Stands outer q (z ∷ u ∷ xs)) there at_.1.1),
     )

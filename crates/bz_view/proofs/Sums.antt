@@ -1,0 +1,161 @@
+-- Sums of a number of each comment: of lists, of gaps, of groups of lines, and of what is made of a part.
+use Rattle.std.proofs.Common.{◌≡◌, ℕ, ◌+◌, Bool, false, List, [], ◌∷◌, ◌++◌, Option, Some, None, refl, ap, ◌∙◌, arith}
+use Rattle.std.specs.List.{flat_map}
+use Rattle.std.proofs.lemmas.Grind.{flat_map-append}
+use mathlib.Core.Former.{Count}
+use Rattle.bz_lex.specs.declared.leaf.Leaf.{Leaf}
+use Rattle.bz_tree.specs.declared.kind.Kind.{Kind}
+use Rattle.bz_tree.specs.declared.tree.Part.{Part, Row_of-Part, end_of-Part, more_of-Part, Node', items-the_row-Part}
+use Rattle.bz_tree.specs.declared.tree.Part.TheVariants as p
+use Rattle.bz_tree.specs.Spell.{leaves_part, leaves_row}
+use Rattle.bz_value.specs.declared.value.Form.{Form}
+use Rattle.bz_value.specs.declared.value.Expr.{Expr, Token, Form', Row_of-Expr, end_of-Expr, more_of-Expr, items-the_row-Expr, items_hidden-the_row-Expr-0}
+use Rattle.bz_value.specs.declared.value.Expr.TheVariants as e
+use Rattle.bz_value.specs.Comments.{HostComments, no_comments}
+use Rattle.bz_value.specs.Counted.{total, suffix_amount, host_amount, amount, row_amount, item_amount}
+use Rattle.bz_value.specs.Frames.{Frame, row, sequence, frame}
+use Rattle.bz_value.specs.Gaps.{Bytes, GapLine, lines_of, listed, comments_in, first_comment, behind_first, on_first, before_groups, groups_of, all_but_last, last_group, suffix_in, others_in, all_in}
+use Rattle.bz_view.specs.View.{Seen, seen, seen_row, node_in, plain, blocks}
+use Rattle.bz_view.specs.Walks.{form_in}
+
+-- ---- lists
+
+module _ {X : Type 0} (n : X → ℕ) where
+  pub append_total : (xs ys : List X) → total n (xs ++ ys) ≡ total n xs + total n ys
+  append_total [] ys = omega arith
+  append_total (x ∷ xs) ys = let h = append_total xs ys in omega arith
+
+module _ (number : Bytes → ℕ) where
+  -- ---- gaps
+
+  abbrev pub gap_amount : Bytes → ℕ
+  gap_amount gap = total number (all_in gap)
+
+  suffix_total : (o : Option Bytes) → total number (listed o) ≡ suffix_amount number o
+  suffix_total None = refl
+  suffix_total (Some text) = omega arith
+
+  first_total : (ls : List GapLine) → suffix_amount number (first_comment ls) + total number (comments_in (behind_first ls)) ≡ total number (comments_in ls)
+  first_total [] = refl
+  first_total (l ∷ ls) =
+      let h = append_total number (listed l.comment) (comments_in ls) in
+      let s = suffix_total l.comment in
+      omega arith
+
+  -- a gap has its suffix and its other comments
+  pub gap_parts : (gap : Bytes) → suffix_amount number (suffix_in gap) + total number (others_in gap) ≡ gap_amount gap
+  gap_parts gap = first_total (lines_of gap)
+
+  pub lines_joined : (ls ms : List GapLine) → total number (comments_in (ls ++ ms)) ≡ total number (comments_in ls) + total number (comments_in ms)
+  lines_joined [] ms = omega arith
+  lines_joined (l ∷ ls) ms =
+      let h = lines_joined ls ms in
+      let a = append_total number (listed l.comment) (comments_in (ls ++ ms)) in
+      let b = append_total number (listed l.comment) (comments_in ls) in
+      omega arith
+
+  -- ---- groups of lines
+
+  blocks_total : (gs : List (List Bytes)) → total (item_amount number) (blocks gs) ≡ total (total number) gs
+  blocks_total [] = refl
+  blocks_total ([] ∷ gs) = let h = blocks_total gs in omega arith
+  blocks_total ((text ∷ group) ∷ gs) = let h = blocks_total gs in omega arith
+
+  on_first_total : (text : Bytes) (gs : List (List Bytes)) → total (total number) (on_first text gs) ≡ number text + total (total number) gs
+  on_first_total text [] = omega arith
+  on_first_total text (g ∷ gs) = omega arith
+
+  before_total : (o : Option Bytes) (gs : List (List Bytes)) → total (total number) (before_groups o gs) ≡ suffix_amount number o + total (total number) gs
+  before_total None gs = refl
+  before_total (Some text) gs = on_first_total text gs
+
+  groups_total : (ls : List GapLine) → total (total number) (groups_of ls) ≡ total number (comments_in ls)
+  groups_total [] = refl
+  groups_total (l ∷ ls) =
+      let h = groups_total ls in
+      let b = before_total l.comment (groups_of ls) in
+      let s = suffix_total l.comment in
+      let a = append_total number (listed l.comment) (comments_in ls) in
+      omega arith
+
+  last_total : (gs : List (List Bytes)) → total (total number) (all_but_last gs) + total number (last_group gs) ≡ total (total number) gs
+  last_total [] = refl
+  last_total (g ∷ []) = omega arith
+  last_total (g ∷ h ∷ gs) = let i = last_total (h ∷ gs) in omega arith
+
+  -- all groups of lines as blocks
+  pub all_blocks : (ls : List GapLine) → total (item_amount number) (blocks (groups_of ls)) ≡ total number (comments_in ls)
+  all_blocks ls = blocks_total (groups_of ls) ∙ groups_total ls
+
+  -- all but the last, and the last
+  pub front_blocks : (ls : List GapLine) → total (item_amount number) (blocks (all_but_last (groups_of ls))) + total number (last_group (groups_of ls)) ≡ total number (comments_in ls)
+  front_blocks ls =
+      let b = blocks_total (all_but_last (groups_of ls)) in
+      let l = last_total (groups_of ls) in
+      let g = groups_total ls in
+      omega arith
+
+  -- ---- expressions
+
+  row_total : (m : _) (r : Row_of-Expr m) → row_amount number r ≡ total (amount number) (items-the_row-Expr m r)
+  row_total m end_of-Expr = refl
+  row_total m (more_of-Expr x rest) = ap (λ a. amount number x + a) (row_total _ rest)
+
+  abbrev parts_in : Expr → (m : Count) × Row_of-Expr m
+  parts_in (Form' kind s parts s' items end_ split open_ comments) = (_, parts)
+  parts_in (Token t) = (_, end_of-Expr)
+
+  abbrev items_in : Expr → (m : Count) × Row_of-Expr m
+  items_in (Form' kind s parts s' items end_ split open_ comments) = (_, items)
+  items_in (Token t) = (_, end_of-Expr)
+
+  -- what stands in a form
+  abbrev pub inner_amount : Form → ℕ
+  inner_amount f = total (amount number) f.parts + (total (amount number) f.seq.items + total number f.seq.end_)
+
+  pub form_amount : (f : Form) → amount number (e.Form f) ≡ host_amount number f.comments + inner_amount f
+  form_amount f =
+      let ps = parts_in (e.Form f) in
+      let qs = items_in (e.Form f) in
+      let parts : row_amount number ps.1 ≡ total (amount number) f.parts = row_total ps.0 ps.1 ∙ ap (total (amount number)) (items_hidden-the_row-Expr-0 f.parts) in
+      let items : row_amount number qs.1 ≡ total (amount number) f.seq.items = row_total qs.0 qs.1 ∙ ap (total (amount number)) (items_hidden-the_row-Expr-0 f.seq.items) in
+      ap (λ a. host_amount number f.comments + (a + (row_amount number qs.1 + total number f.seq.end_))) parts
+      ∙ ap (λ a. host_amount number f.comments + (total (amount number) f.parts + (a + total number f.seq.end_))) items
+
+  -- what is made of a node has its own comments, and what stands in it
+  pub node_amount : (f : Frame) (kind : Kind) (ss : List Seen) (cs : HostComments) (b : Bool) → amount number ((node_in f kind ss).make cs b) ≡ host_amount number cs + inner_amount (form_in f kind ss no_comments)
+  node_amount row kind ss cs b = form_amount (form_in row kind ss cs)
+  node_amount (sequence opener closer) kind ss cs b = form_amount (form_in (sequence opener closer) kind ss cs)
+
+  -- so do comments and break add no more than these comments
+  pub made_amount : (x : Part) (cs : HostComments) (b : Bool) → amount number ((seen x).make cs b) ≡ host_amount number cs + amount number (plain (seen x))
+  made_amount (p.Leaf l) cs b = omega arith
+  made_amount (Node' kind n r) cs b =
+      let h = node_amount (frame kind) kind (seen_row r) cs b in
+      let i = node_amount (frame kind) kind (seen_row r) no_comments false in
+      omega arith
+
+  -- ---- the leaves of parts
+
+  -- the comments in the gaps of leaves
+  abbrev pub leaves_amount : List Leaf → ℕ
+  leaves_amount ls = total number (flat_map (λ leaf. all_in leaf.gap) ls)
+
+  abbrev pub part_amount : Part → ℕ
+  part_amount x = leaves_amount (leaves_part x)
+
+  leaves_joined : (ls ms : List Leaf) → leaves_amount (ls ++ ms) ≡ leaves_amount ls + leaves_amount ms
+  leaves_joined ls ms =
+      ap (total number) (flat_map-append (λ leaf. all_in leaf.gap) ls ms)
+      ∙ append_total number (flat_map (λ leaf. all_in leaf.gap) ls) (flat_map (λ leaf. all_in leaf.gap) ms)
+
+  pub leaf_amount : (l : Leaf) → part_amount (p.Leaf l) ≡ gap_amount l.gap
+  leaf_amount l = let h = append_total number (all_in l.gap) [] in omega arith
+
+  pub row_leaves : (m : _) (r : Row_of-Part m) → leaves_amount (leaves_row r) ≡ total part_amount (items-the_row-Part m r)
+  row_leaves m end_of-Part = refl
+  row_leaves m (more_of-Part x rest) = leaves_joined (leaves_part x) (leaves_row rest) ∙ ap (λ a. part_amount x + a) (row_leaves _ rest)
+
+  pub parts_leaves : (xs : List Part) → leaves_amount (flat_map leaves_part xs) ≡ total part_amount xs
+  parts_leaves [] = refl
+  parts_leaves (x ∷ xs) = leaves_joined (leaves_part x) (flat_map leaves_part xs) ∙ ap (λ a. part_amount x + a) (parts_leaves xs)
