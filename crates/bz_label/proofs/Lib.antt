@@ -8,3 +8,6 @@ pub mod Orders
 pub mod Rows
 pub mod Shorter
 pub mod Spellings
+pub mod Repeats
+pub mod LabelFunctions
+pub mod TargetReadings

@@ -118,10 +118,10 @@ number_form current text label (colon_name h) = colon_form current text label h
 number_form current text label (bare_name h) = bare_form current text label h
 
 -- ---- each form gives one label
-abbrev label_with : Bytes → Bytes → Bytes → Label
+abbrev pub label_with : Bytes → Bytes → Bytes → Label
 label_with repository path name = record { repository = repository; «package» = path; name = name }
 
-same_label : (one other : Label) → one.repository ≡ other.repository → one.package ≡ other.package → one.name ≡ other.name → one ≡ other
+pub same_label : (one other : Label) → one.repository ≡ other.repository → one.package ≡ other.package → one.name ≡ other.name → one ≡ other
 same_label one other r p n = ap (λ x. label_with x one.package one.name) r ∙ ap (λ x. label_with other.repository x one.name) p ∙ ap (λ x. label_with other.repository other.package x) n
 
 pub whole_once : (text : Bytes) (one other : Label) → IsWhole text one → IsWhole text other → one ≡ other

@@ -1,9 +1,10 @@
 -- Rows worked out by hand, that the definitions answer as the rules say.
-use Rattle.std.proofs.Common.{◌≡◌, [], ◌∷◌, codes, refl, true, false}
+use Rattle.std.proofs.Common.{◌≡◌, [], ◌∷◌, codes, refl, true, false, Some, None}
 use Rattle.std.specs.declared.cmp.Ordering.TheVariants.{Less, Equal, Greater}
 use Rattle.bz_label.specs.Pieces.{last_piece, is_joined}
 use Rattle.bz_label.specs.Keys.{key_order, key_pieces}
 use Rattle.bz_label.specs.Labels.{is_path, is_repository_name, IsLabel, whole, package_alone, repository_alone, colon_name, bare_name, absent, main, canonical_named}
+use Rattle.bz_label.specs.Read.{label_in, is_same, shortened}
 use Rattle.bz_label.specs.Tables.{is_sorted, is_label_attribute, is_list_attribute, priority_of}
 use Rattle.bz_label.specs.Targets.{which_of, is_package}
 use Rattle.bz_label.specs.declared.target.Which.TheVariants.{All, Kind, Line, Package, Name}
@@ -41,6 +42,42 @@ label_rows = (
   repository_alone (record { repository = refl; «package» = refl; name = refl; spelled = refl }),
   colon_name (record { repository = refl; «package» = refl; name = refl; spelled = refl }),
   bare_name (record { repository = refl; «package» = refl; name = refl; begins = refl; spelled = refl }),
+  refl,
+  refl,
+  refl,
+)
+
+-- labels as functions: each form, texts that are none, what means the same, and shorter forms
+pub function_rows : (label_in (codes "p") (codes "@//b/x/b:c") ≡ Some (record { repository = codes "@"; «package» = codes "b/x/b"; name = codes "c" }))
+    × (label_in (codes "p") (codes "@@r//a-b") ≡ Some (record { repository = codes "@@r"; «package» = codes "a-b"; name = codes "a-b" }))
+    × (label_in (codes "p") (codes "@r") ≡ Some (record { repository = codes "@r"; «package» = []; name = codes "r" }))
+    × (label_in (codes "p/q") (codes ":q") ≡ Some (record { repository = []; «package» = codes "p/q"; name = codes "q" }))
+    × (label_in (codes "p/q") (codes "a.c/a") ≡ Some (record { repository = []; «package» = codes "p/q"; name = codes "a.c/a" }))
+    × (label_in (codes "p") (codes "@:r:x:") ≡ None) × (label_in (codes "p") (codes "@@//:") ≡ None) × (label_in (codes "p") (codes "a//b") ≡ None)
+    × (label_in (codes "p") [] ≡ None) × (label_in (codes "p") (codes "@") ≡ None) × (label_in (codes "p") (codes "///a") ≡ None)
+    × (is_same (codes "p/q") (codes "//p/q:q") (codes ":q") ≡ true) × (is_same (codes "p/q") (codes "//p/p:p") (codes "//p/p") ≡ true)
+    × (is_same (codes "a") (codes "@//a/p:p") (codes "//a/p") ≡ false) × (is_same [] (codes "@@//:") (codes "@@//:") ≡ true)
+    × (shortened (codes "p/q") (codes "//p/q:q") ≡ codes ":q") × (shortened (codes "p") (codes "//p:p") ≡ codes ":p") × (shortened (codes "p") (codes "@//p:p") ≡ codes "@//p")
+    × (shortened (codes "p") (codes "//a.c:a.c") ≡ codes "//a.c") × (shortened [] (codes "//:x") ≡ codes ":x") × (shortened (codes "p") (codes "@r:r") ≡ codes "@r:r")
+function_rows = (
+  refl,
+  refl,
+  refl,
+  refl,
+  refl,
+  refl,
+  refl,
+  refl,
+  refl,
+  refl,
+  refl,
+  refl,
+  refl,
+  refl,
+  refl,
+  refl,
+  refl,
+  refl,
   refl,
   refl,
   refl,

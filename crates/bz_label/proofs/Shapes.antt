@@ -45,7 +45,7 @@ named_at name good =
     let slashless : not (has_slash name) ≡ true = (and_parts _ _ (and_parts _ _ good).0).1 in
     and_from _ _ slashless (and_parts _ _ good).1
 
-or_right : (x y : Bool) → y ≡ true → (x || y) ≡ true
+pub or_right : (x y : Bool) → y ≡ true → (x || y) ≡ true
 or_right x y h = grind (arith, nat_tests)
 
 pub repository_holds : (text : Bytes) → IsRepository text → is_repository text ≡ true

@@ -1,7 +1,10 @@
 pub mod Pieces
+pub mod Read
+pub mod Shorter
 pub mod Labels
 pub mod Forms
 pub mod Faults
 pub mod Keys
 pub mod Tables
+pub mod TargetRead
 pub mod Targets

@@ -8,6 +8,8 @@ ghost use Rattle.std.specs.Cmp.Lexicographic.{slice_cmp};
 ghost use Rattle.bz_label.specs.Forms.{label_of};
 ghost use Rattle.bz_label.specs.Keys.{group_of, key_pieces, bytes_order, key_order};
 ghost use Rattle.bz_label.specs.Labels.{IsSame, IsShortened, IsUnrepeated};
+ghost use Rattle.bz_label.specs.Read.{is_same, shortened};
+ghost use Rattle.bz_label.specs.Shorter.{unrepeated};
 ghost use Rattle.bz_label.specs.Tables.{is_in, sorted_attributes, further_lists, first_arguments, last_arguments, is_sorted as is_sorted_in, is_label_attribute as is_label, is_list_attribute as is_list, priority_of};
 
 use crate::form::{Parts, parts_of, whole};
@@ -23,7 +25,8 @@ fn equal_parts(one: Parts, other: Parts) -> bool
 /// Whether two texts mean the same in the current package: both are labels with equal three parts, or the texts are
 /// equal.
 pub fn same(current: &[u8], first: &[u8], second: &[u8]) -> bool
-    ensures { IsTrue result ↔ IsSame current.now first.now second.now }
+    ensures meaning { IsTrue result ↔ IsSame current.now first.now second.now }
+    ensures function { result ≡ is_same current.now first.now second.now }
 {
     if first == second {
         return true;
@@ -40,7 +43,8 @@ pub fn same(current: &[u8], first: &[u8], second: &[u8]) -> bool
 /// The text without a name that repeats the last piece of its package: `..//p/x:x` becomes `..//p/x`, and `..//x:x`
 /// becomes `..//x`; any other text stays.
 pub fn unrepeated(text: &[u8]) -> &[u8]
-    ensures { IsUnrepeated text.now result.now }
+    ensures meaning { IsUnrepeated text.now result.now }
+    ensures function { result.now ≡ unrepeated text.now }
 {
     let Some(parts) = whole(text) else {
         return text;
@@ -59,7 +63,8 @@ fn stands_in(parts: Parts, current: &[u8]) -> bool
 
 /// The text as a label is written in the current package `p`: `//p:x` becomes `:x`; any other text is `unrepeated`.
 pub fn shortened<'a>(current: &[u8], text: &'a [u8]) -> &'a [u8]
-    ensures { IsShortened current.now text.now result.now }
+    ensures meaning { IsShortened current.now text.now result.now }
+    ensures function { result.now ≡ shortened current.now text.now }
 {
     let Some(parts) = whole(text) else {
         return unrepeated(text);

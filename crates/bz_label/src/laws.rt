@@ -1,11 +1,13 @@
 //! Laws of labels, keys and targets: the contracts of functions that do nothing.
-ghost use Rattle.std.specs.Prelude.{◌≡◌, ◌↔◌, IsTrue, List, ℕ};
+ghost use Rattle.std.specs.Prelude.{◌≡◌, ◌↔◌, IsTrue, List, ℕ, Some};
 ghost use Rattle.std.specs.Cmp.{IsTotalOrder};
 ghost use Rattle.std.specs.declared.cmp.Ordering.TheVariants.{Equal};
 ghost use Rattle.bz_label.specs.Keys.{key_order};
-ghost use Rattle.bz_label.specs.Labels.{IsLabel, IsShortened, IsUnrepeated};
+ghost use Rattle.bz_label.specs.Labels.{IsLabel, IsSame, IsShortened, IsUnrepeated};
 ghost use Rattle.bz_label.specs.Pieces.{is_joined, IsSlashSeparated};
+ghost use Rattle.bz_label.specs.Read.{label_in, is_same, shortened};
 ghost use Rattle.bz_label.specs.Targets.{IsTarget};
+ghost use Rattle.bz_label.specs.declared.label.Label.{Label};
 
 use crate::label::Label;
 use crate::target::Target;
@@ -21,6 +23,14 @@ pub fn one_label(current: &str, text: &str, one: &Label, other: &Label)
     requires first { IsLabel current.now text.now one.now }
     requires second { IsLabel current.now text.now other.now }
     ensures { one.now ≡ other.now }
+{}
+
+/// Labels as functions: a text is the label that it is read as, texts mean the same just where they are read so, and the
+/// shorter form is computed.
+pub fn label_functions()
+    ensures label { (current text : List ℕ) (label : Label) → IsLabel current text label ↔ (label_in current text ≡ Some label) }
+    ensures same { (current one other : List ℕ) → IsTrue (is_same current one other) ↔ IsSame current one other }
+    ensures shorter { (current text : List ℕ) → IsShortened current text (shortened current text) }
 {}
 
 /// A text has one shorter form in a package.

@@ -1,10 +1,11 @@
 //! Targets.
-ghost use Rattle.std.specs.Prelude.{◌≡◌, ◌↔◌, ◌++◌, ◌&&◌, codes, ℕ, List, Err, IfOk, IfSome, IsSomeAnd, MatchOption, IsTrue, true, ◌^◌, ◌-◌, min, nat_le, length};
+ghost use Rattle.std.specs.Prelude.{◌≡◌, ◌↔◌, ◌++◌, ◌&&◌, codes, ℕ, List, Err, None, Some, IfOk, IfSome, IsSomeAnd, MatchOption, IsTrue, true, ◌^◌, ◌-◌, min, nat_le, length};
 ghost use Rattle.std.specs.List.{list_all};
 ghost use Rattle.std.specs.Char.{is_ascii_digit};
 ghost use Rattle.bz_label.specs.Pieces.{is_present};
 ghost use Rattle.bz_label.specs.Targets.{decimal, which_of, target_of, after_percent, is_package, IsSpelled, IsTarget};
 ghost use Rattle.bz_label.specs.Faults.{target_fault_number};
+ghost use Rattle.bz_label.specs.TargetRead.{target_in};
 ghost use Rattle.bz_label.specs.declared.target.Target.{Target};
 
 use crate::piece::{after, cut, holds, joined, last};
@@ -171,8 +172,11 @@ fn copied(alloc: Global, path: &[u8], word: &[u8]) -> Result<Target, Memory>
 impl Target {
     /// The target that the text is. `BadTarget` exactly where it is none, or where its package's name is longer than
     /// 65,536 bytes; `Memory` where room for the package or the word was refused.
+    #[tactic(auto, using(crate::proofs::TargetReadings::target_read, crate::proofs::TargetReadings::target_none))]
     pub fn read(alloc: Global, text: &str) -> Result<Target, TargetFault>
         ensures ok { IfOk result (IsTarget text.now) }
+        ensures read { IfOk result (λ target. target_in text.now ≡ Some target) }
+        ensures none { result ≡ Err TargetFault.BadTarget → target_in text.now ≡ None }
         ensures bad { (result ≡ Err TargetFault.BadTarget)
             ↔ ((target : Target) → IsTarget text.now target → ⊥) }
     {
