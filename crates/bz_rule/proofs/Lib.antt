@@ -1,4 +1,12 @@
 pub mod Dotted
 pub mod Forms
 pub mod Named
+pub mod ProperArguments
+pub mod ProperBrackets
+pub mod ProperChanges
+pub mod ProperForms
+pub mod ProperItems
+pub mod ProperRules
+pub mod ProperSequences
+pub mod ProperShapes
 pub mod Quoted

@@ -2,4 +2,5 @@ pub mod Characters
 pub mod Named
 pub mod Rules
 pub mod Seen
+pub mod Values
 pub mod Worked

@@ -1,0 +1,92 @@
+-- What may stand in the place of an item, which is within brackets, and what values of attributes are.
+use Rattle.std.proofs.Common.{Bool, true, false, ◌≡◌, List, [], ◌∷◌, ◌++◌, refl, sym, ◌∙◌, subst, map}
+use Rattle.std.specs.Prelude.{if◌then◌else◌}
+use Rattle.std.specs.List.{AllByRecursion, filter}
+use Rattle.bz_tree.specs.declared.kind.Kind.{Kind}
+use Rattle.bz_tree.specs.Shapes as s
+use Rattle.bz_tree.specs.Shapes.{Sort, has_sort, is_kind}
+use Rattle.bz_tree.specs.Spots.{Within}
+use Rattle.bz_value.specs.declared.value.Expr.{Expr, Token, Form', items-the_row-Expr}
+use Rattle.bz_value.specs.Comments.{no_comments}
+use Rattle.bz_value.specs.Gaps.{Bytes}
+use Rattle.bz_value.specs.Proper.{AreComments, comments_of, has_break, ProperExpr}
+use Rattle.bz_value.specs.Roots.{root}
+use Rattle.bz_value.proofs.FormParts.{form_proper}
+use Rattle.bz_rule.specs.Values.{has_kind, parts_of, items_of, with_parts, on_row}
+use Rattle.bz_rule.proofs.ProperChanges.{by_test}
+use Rattle.bz_rule.proofs.ProperForms.{InPlace, AsForm, AsFormWith, opened, with_lists}
+use Rattle.bz_rule.proofs.ProperSequences.{IsItem}
+
+-- ---- within brackets
+
+-- What may stand wherever an expression stands within brackets: as `InPlace`, at that spot alone.
+pub record WithinPlace (x y : Expr) : Type 0 where
+  pub proper : ProperExpr Within x → ProperExpr Within y
+  pub sort : (q : Sort) → has_sort q (root x) ≡ has_sort q (root y)
+  pub comments : comments_of x ≡ comments_of y
+  pub breaks : has_break x ≡ has_break y
+
+pub within_itself : (x : Expr) → WithinPlace x x
+within_itself x = record { proper = λ h. h; sort = λ q. refl; comments = refl; breaks = refl }
+
+pub from_in_place : (x y : Expr) → InPlace x y → WithinPlace x y
+from_in_place x y r = record { proper = r.proper Within; sort = r.roots.sort; comments = r.comments; breaks = r.breaks }
+
+pub form_within : (ps xs : List Expr) (x : Expr) → (AsFormWith Within (parts_of x) (items_of x) x → AsFormWith Within ps xs x) → WithinPlace x (with_lists ps xs x)
+form_within ps xs (Token t) h = within_itself (Token t)
+form_within ps xs (Form' kind s parts s' items end_ split open_ comments) h = record {
+  proper = λ k.
+      let g = h (opened Within (Form' kind s parts s' items end_ split open_ comments) k) in
+      form_proper Within (record { kind = kind; parts = ps; seq = record { items = xs; end_ = end_; split = split }; open_ = open_; comments = comments }) g.0 g.1;
+  sort = λ q. refl;
+  comments = refl;
+  breaks = refl;
+}
+
+-- a change of rows that keeps forms of a kind proper within brackets
+abbrev pub KeepsRow : Kind → (List Expr → List Expr) → Type 0
+KeepsRow kind change = (end_ : List Bytes) (split open_ : Bool) (ps xs : List Expr) → AsForm Within kind ps xs end_ split open_ → AsForm Within kind (change ps) xs end_ split open_
+
+module _ (own : Kind) (change : List Expr → List Expr) (keeps : (kind : Kind) → is_kind kind own ≡ true → KeepsRow kind change) where
+  changed_row : (x : Expr) → has_kind own x ≡ true → WithinPlace x (with_parts (change (parts_of x)) x)
+  changed_row (Token t) is = within_itself (Token t)
+  changed_row (Form' kind s parts s' items end_ split open_ comments) is =
+      form_within (change (items-the_row-Expr _ parts)) (items-the_row-Expr _ items) (Form' kind s parts s' items end_ split open_ comments)
+      (λ h. keeps kind is end_ split open_ (items-the_row-Expr _ parts) (items-the_row-Expr _ items) h)
+
+  pub row_within : (x : Expr) → WithinPlace x (on_row own change x)
+  row_within x = row_if (has_kind own x) (changed_row x)
+    where
+      row_if : (b : Bool) → (b ≡ true → WithinPlace x (with_parts (change (parts_of x)) x)) → WithinPlace x (if b then with_parts (change (parts_of x)) x else x)
+      row_if true h = h refl
+      row_if false h = within_itself x
+
+-- ---- items and values
+
+pub item_within : (q : Sort) (x y : Expr) → WithinPlace x y → IsItem q x → IsItem q y
+item_within q x y r h = ((r.proper h.0.0, subst AreComments r.comments h.0.1, sym r.breaks ∙ h.0.2), sym (r.sort q) ∙ h.1)
+
+-- the value of an attribute: as an item of a list is, without comments
+abbrev pub IsValue : Expr → Type 0
+IsValue x = IsItem s.test x × (comments_of x ≡ no_comments)
+
+pub value_within : (x y : Expr) → WithinPlace x y → IsValue x → IsValue y
+value_within x y r h = (item_within s.test x y r h.0, sym r.comments ∙ h.1)
+
+pub value_in_place : (x y : Expr) → InPlace x y → IsValue x → IsValue y
+value_in_place x y r = value_within x y (from_in_place x y r)
+
+-- ---- lists of which all elements are something
+
+module _ {X : Type 0} (P : X → Type 0) where
+  pub all_joined : (xs ys : List X) → AllByRecursion P xs → AllByRecursion P ys → AllByRecursion P (xs ++ ys)
+  all_joined [] ys h i = i
+  all_joined (x ∷ xs) ys h i = (h.0, all_joined xs ys h.1 i)
+
+  pub all_kept : (test : X → Bool) (xs : List X) → AllByRecursion P xs → AllByRecursion P (filter test xs)
+  all_kept test [] h = tt
+  all_kept test (x ∷ xs) h = by_test (AllByRecursion P) (test x) (x ∷ filter test xs) (filter test xs) (h.0, all_kept test xs h.1) (all_kept test xs h.1)
+
+  pub all_changed : (change : X → X) → ((x : X) → P x → P (change x)) → (xs : List X) → AllByRecursion P xs → AllByRecursion P (map change xs)
+  all_changed change f [] h = tt
+  all_changed change f (x ∷ xs) h = (f x h.0, all_changed change f xs h.1)
