@@ -1,0 +1,13 @@
+pub mod Changes
+pub mod Laws
+pub mod Lists
+pub mod Marks
+pub mod MovedMarks
+pub mod Orders
+pub mod Passes
+pub mod Ranks
+pub mod Repeats
+pub mod Rising
+pub mod Rows
+pub mod Sorted
+pub mod Strings

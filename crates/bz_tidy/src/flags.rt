@@ -1,0 +1,49 @@
+//! Flags: a sequence is split where the layout breaks it.
+ghost use Rattle.std.specs.Prelude.{◌≡◌, map};
+ghost use Rattle.bz_value.specs.Frames.{frame};
+ghost use Rattle.bz_write.specs.Flags.{settled_split, with_flags};
+
+use bz_items::Items;
+use bz_value::{Expr, Form, is_sequence};
+use bz_write::is_broken;
+use std::mem;
+
+/// Whether a sequence is broken; what has no sequence keeps its flag.
+#[tactic(auto, using(crate::proofs::FormSteps::split_by_kind))]
+fn settled_split(form: &Form) -> bool
+    ensures { result ≡ settled_split (frame form.now.kind) form.now.kind form.now.seq.split form.now.seq.items form.now.seq.end_ }
+{
+    if is_sequence(form.kind) {
+        is_broken(form)
+    } else {
+        form.seq.split
+    }
+}
+
+/// Settles the flags of an expression: each of its sequences is split exactly where the layout breaks it. It takes no memory.
+#[cycle(settle)]
+#[tactic(auto, using(crate::proofs::FormSteps::flags_Form))]
+pub(crate) fn settle(x: &mut Expr)
+    ensures { x.new ≡ with_flags x.old }
+{
+    match x {
+        Expr::Token(_) => {}
+        Expr::Form(form) => {
+            form.seq.split = settled_split(form);
+            settle_each(&mut form.parts);
+            settle_each(&mut form.seq.items);
+        }
+    }
+}
+
+#[cycle(settle)]
+fn settle_each(exprs: &mut Items<Expr>)
+    ensures { exprs.new ≡ map with_flags exprs.old }
+{
+    let empty = Items::new(exprs.alloc());
+    let mut all = mem::replace(exprs, empty).into_vec();
+    for x in all.iter_mut() {
+        settle(x);
+    }
+    *exprs = Items::from_vec(all);
+}

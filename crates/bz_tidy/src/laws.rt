@@ -1,0 +1,30 @@
+//! Facts about the definitions, for readers: the functions do nothing.
+ghost use Rattle.bz_tidy.specs.Laws.{CommentsStay, TidySettles, TidyStays};
+ghost use Rattle.bz_tidy.specs.MovedMarks.{MarksMove};
+ghost use Rattle.bz_tidy.specs.Rows.{WorkedPasses};
+
+/// Worked rows of the passes.
+pub fn worked_passes()
+    ensures { WorkedPasses }
+{}
+
+/// What is tidy stays as it is.
+pub fn tidy_stays()
+    ensures { TidyStays }
+{}
+
+/// What is tidy is settled: its flags are what the layout makes of them.
+pub fn tidy_settles()
+    ensures { TidySettles }
+{}
+
+/// Each comment stands in the tidy file value as often as before.
+pub fn comments_stay()
+    ensures { CommentsStay }
+{}
+
+/// A list is sorted as if its items were put in order, repeats dropped, and the `keep sorted` comments moved then: from
+/// its old first item to the new one.
+pub fn marks_move()
+    ensures { MarksMove }
+{}

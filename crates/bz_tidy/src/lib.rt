@@ -1,0 +1,24 @@
+//! The seven passes over file values that come before the layout.
+#![tactic(auto)]
+
+mod arguments;
+mod flags;
+mod labels;
+mod laws;
+mod lists;
+mod loads;
+mod marks;
+mod ordering;
+mod proper_laws;
+mod quotes;
+mod readings;
+mod repeats;
+mod runs;
+mod strings;
+mod symbols;
+mod tidying;
+mod walk;
+
+pub use laws::{comments_stay, marks_move, tidy_settles, tidy_stays, worked_passes};
+pub use proper_laws::proper_stays;
+pub use tidying::tidy;

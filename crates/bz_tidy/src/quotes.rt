@@ -1,0 +1,44 @@
+//! Quotes: strings take double quote marks.
+ghost use Rattle.std.specs.Prelude.{◌≡◌, OnOk, map};
+ghost use Rattle.bz_tidy.specs.Passes.{quoted};
+
+use crate::strings::double_quoted;
+use bz_items::{Items, Memory};
+use bz_tree::Class;
+use bz_value::Expr;
+use std::alloc::Global;
+use std::mem;
+
+/// Gives every string of an expression double quote marks, where it may have them. The error: memory was refused; part of
+/// the expression is then lost.
+#[cycle(quote)]
+#[tactic(auto, using(crate::proofs::FormSteps::quoted_Form))]
+pub(crate) fn quote(alloc: Global, x: &mut Expr) -> Result<(), Memory>
+    ensures { OnOk result (x.new ≡ quoted x.old) }
+{
+    match x {
+        Expr::Token(token) => {
+            if token.class == Class::String {
+                double_quoted(alloc, &mut token.text)?;
+            }
+            Ok(())
+        }
+        Expr::Form(form) => {
+            quote_each(alloc, &mut form.parts)?;
+            quote_each(alloc, &mut form.seq.items)?;
+            Ok(())
+        }
+    }
+}
+
+#[cycle(quote)]
+fn quote_each(alloc: Global, exprs: &mut Items<Expr>) -> Result<(), Memory>
+    ensures { OnOk result (exprs.new ≡ map quoted exprs.old) }
+{
+    let mut all = mem::replace(exprs, Items::new(alloc)).into_vec();
+    for x in all.iter_mut() {
+        quote(alloc, x)?;
+    }
+    *exprs = Items::from_vec(all);
+    Ok(())
+}

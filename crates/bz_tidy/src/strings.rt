@@ -1,0 +1,155 @@
+//! The texts of strings: double quote marks, and labels without a repeated name.
+ghost use Rattle.std.specs.Prelude.{◌≡◌, ◌++◌, ◌≤◌, ◌&&◌, ◌||◌, not, take, replicate, IfOk, OnOk};
+ghost use Rattle.bz_value.specs.Characters.{backslash};
+ghost use Rattle.bz_rule.specs.Characters.{quotation_mark};
+ghost use Rattle.bz_tidy.specs.Strings.{begins_single, begins_thrice, holds, marks_of, inside, between, unprefixed, in_double, with_double, shorter_string};
+
+use bz_items::{Memory, Text};
+use bz_label::bytes::unrepeated;
+use bz_rule::body;
+use std::alloc::Global;
+
+fn begins_thrice(text: &[u8]) -> bool
+    ensures { result ≡ begins_thrice text.now }
+{
+    match text {
+        [first, second, third, ..] => *first == *second && *second == *third,
+        _ => false,
+    }
+}
+
+/// How many quote marks stand at each end of a string without prefix.
+fn marks_of(text: &[u8]) -> usize
+    ensures value { result ≡ marks_of text.now }
+    ensures small { result ≤ 3 }
+{
+    if begins_thrice(text) && text.len() >= 6 {
+        3
+    } else {
+        1
+    }
+}
+
+/// What stands between so many characters at each end.
+fn inside(count: usize, text: &[u8]) -> &[u8]
+    requires { count ≤ 3 }
+    ensures { result.now ≡ inside count text.now }
+{
+    if text.len() < 2 * count {
+        return &[];
+    }
+    &text[count..text.len() - count]
+}
+
+fn begins_single(text: &[u8]) -> bool
+    ensures { result ≡ begins_single text.now }
+{
+    match text {
+        [first, ..] => *first == b'\'',
+        [] => false,
+    }
+}
+
+fn holds(character: u8, text: &[u8]) -> bool
+    ensures { result ≡ holds character text.now }
+{
+    text.iter().any(|byte| *byte == character)
+}
+
+/// A string behind its prefix.
+fn unprefixed(text: &[u8]) -> &[u8]
+    ensures { result.now ≡ unprefixed text.now }
+{
+    let mut rest = text;
+    while let [first, behind @ ..] = rest {
+        match *first {
+            b'"' | b'\'' => return rest,
+            _ => rest = behind,
+        }
+    }
+    rest
+}
+
+/// The text between the quote marks of a string.
+pub(crate) fn between(text: &[u8]) -> &[u8]
+    ensures { result.now ≡ between text.now }
+{
+    let marked = unprefixed(text);
+    inside(marks_of(marked), marked)
+}
+
+/// Whether double quote marks may stand for those of the string: it has no prefix and single marks, and holds neither a
+/// double mark nor a backslash.
+fn takes_double(text: &[u8]) -> bool
+    ensures { result ≡ (begins_single text.now && not (holds quotation_mark text.now || holds backslash text.now)) }
+{
+    begins_single(text) && !(holds(b'"', text) || holds(b'\\', text))
+}
+
+fn double_marks(count: usize) -> &'static [u8]
+    requires { count ≤ 3 }
+    ensures { result.now ≡ replicate count quotation_mark }
+{
+    match count {
+        0 => b"",
+        1 => b"\"",
+        2 => b"\"\"",
+        _ => b"\"\"\"",
+    }
+}
+
+/// A text between equal marks. The error: memory was refused.
+fn in_marks(alloc: Global, marks: &[u8], text: &[u8]) -> Result<Text, Memory>
+    ensures { IfOk result (λ string. string ≡ marks.now ++ (text.now ++ marks.now)) }
+{
+    let mut string = Vec::new(alloc);
+    string.extend_from_slice(marks)?;
+    string.extend_from_slice(text)?;
+    string.extend_from_slice(marks)?;
+    Ok(Text::from_vec(string))
+}
+
+/// The string with double quote marks. The error: memory was refused.
+fn in_double(alloc: Global, text: &[u8]) -> Result<Text, Memory>
+    ensures { IfOk result (λ string. string ≡ in_double (marks_of text.now) text.now) }
+{
+    let count = marks_of(text);
+    in_marks(alloc, double_marks(count), inside(count, text))
+}
+
+/// Gives a string double quote marks in place of single ones, where it has no prefix and holds neither a double mark nor a
+/// backslash; any other text stays, and takes no memory. The error: memory was refused; the text is then as it was.
+pub(crate) fn double_quoted(alloc: Global, text: &mut Text) -> Result<(), Memory>
+    ensures { OnOk result (text.new ≡ with_double text.old) }
+{
+    if takes_double(text.as_slice()) {
+        *text = in_double(alloc, text.as_slice())?;
+    }
+    Ok(())
+}
+
+/// The first character of a text, as a text.
+fn first_mark(text: &[u8]) -> &[u8]
+    ensures { result.now ≡ take 1 text.now }
+{
+    match text {
+        [] => text,
+        [..] => &text[..1],
+    }
+}
+
+/// Takes a repeated name off the label in a plain string; any other text stays, and takes no memory. The error: memory was
+/// refused; the text is then as it was.
+pub(crate) fn shortened(alloc: Global, text: &mut Text) -> Result<(), Memory>
+    ensures { OnOk result (text.new ≡ shorter_string text.old) }
+{
+    let Some(label) = body(text.as_slice()) else {
+        return Ok(());
+    };
+    let short = unrepeated(label);
+    if short == label {
+        return Ok(());
+    }
+    *text = in_marks(alloc, first_mark(text.as_slice()), short)?;
+    Ok(())
+}

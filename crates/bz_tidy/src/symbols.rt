@@ -1,0 +1,64 @@
+//! The symbols of a load.
+ghost use Rattle.std.specs.Prelude.{◌≡◌, OnOk};
+ghost use Rattle.bz_label.specs.Keys.{bytes_order};
+ghost use Rattle.bz_tidy.specs.Orders.{sort_by};
+ghost use Rattle.bz_tidy.specs.Passes.{local_name as name_in_file, symbol_precedes};
+ghost use Rattle.bz_rule.specs.Values.{behind_first};
+
+use crate::readings::{first_text, text_of};
+use crate::strings::between;
+use bz_items::{Items, Memory};
+use bz_tree::Kind;
+use bz_value::Expr;
+use std::alloc::Global;
+use std::cmp::Ordering;
+use std::mem;
+
+/// The name that a symbol has in the file that loads it.
+fn local_name(x: &Expr) -> &[u8]
+    ensures { result.now ≡ name_in_file x.now }
+{
+    match x {
+        Expr::Token(_) => between(text_of(x)),
+        Expr::Form(form) => {
+            if form.kind.number() != Kind::Alias.number() {
+                return between(text_of(x));
+            }
+            first_text(form.parts.as_slice())
+        }
+    }
+}
+
+fn symbol_order(x: &Expr, y: &Expr) -> Ordering
+    ensures { result ≡ bytes_order (name_in_file x.now) (name_in_file y.now) }
+{
+    local_name(x).cmp(local_name(y))
+}
+
+fn sort_all(alloc: Global, symbols: &mut [Expr]) -> Result<(), Memory>
+    ensures { OnOk result (symbols.new ≡ sort_by symbol_precedes symbols.old) }
+{
+    symbols.sort_by(alloc, |x, y| symbol_order(x, y))?;
+    Ok(())
+}
+
+fn sort_rest(alloc: Global, items: &mut [Expr]) -> Result<(), Memory>
+    ensures { OnOk result (items.new ≡ behind_first (sort_by symbol_precedes) items.old) }
+{
+    match items {
+        [] => Ok(()),
+        [_, symbols @ ..] => sort_all(alloc, symbols),
+    }
+}
+
+/// Sorts the items of a load behind its path by local name; equal ones stay in their old order. The error: a growth was
+/// refused; the items are then lost.
+pub(crate) fn sort_symbols(items: &mut Items<Expr>) -> Result<(), Memory>
+    ensures { OnOk result (items.new ≡ behind_first (sort_by symbol_precedes) items.old) }
+{
+    let alloc = items.alloc();
+    let mut all = mem::replace(items, Items::new(alloc)).into_vec();
+    sort_rest(alloc, all.as_mut_slice())?;
+    *items = Items::from_vec(all);
+    Ok(())
+}
