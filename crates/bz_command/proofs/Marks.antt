@@ -3,7 +3,7 @@ use Rattle.std.proofs.Common.{◌≡◌, ◌⊎◌, length, List, [], ◌∷◌,
 use Rattle.std.specs.List.{All}
 use Rattle.std.proofs.lemmas.List.Elements.{All-nil, All-cons, All-head, All-tail}
 use Rattle.bz_value.specs.declared.value.Item.{Item}
-use Rattle.bz_command.specs.Effect.{unmarked}
+use Rattle.bz_command.specs.Deletes.{unmarked}
 
 -- what holds of each item holds of each that stays
 pub all_unmarked : (P : Item → Type 0) (marks : List Bool) (items : List Item) → All P items → All P (unmarked marks items)

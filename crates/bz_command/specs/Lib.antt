@@ -1,3 +1,9 @@
+pub mod Attributes
+pub mod Deletes
 pub mod Effect
+pub mod Laws
+pub mod Lists
+pub mod Made
 pub mod Refusals
+pub mod Targets
 pub mod Worked

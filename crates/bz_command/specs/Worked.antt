@@ -15,7 +15,7 @@ use Rattle.bz_command.specs.declared.command.Which.{Which}
 use Rattle.bz_command.specs.declared.command.Which.TheVariants.{Name, Package}
 use Rattle.bz_command.specs.declared.refusal.Refusal.TheVariants.{NoTarget}
 use Rattle.bz_rule.specs.Rules.{rule_of}
-use Rattle.bz_command.specs.Effect.{Effect, leaves, refuses, effect}
+use Rattle.bz_command.specs.Deletes.{Effect, leaves, refuses, effect}
 
 -- ---- values
 

@@ -1,5 +1,5 @@
 ghost use Rattle.std.specs.Prelude.{◌≡◌};
-ghost use Rattle.bz_command.specs.Effect.{prints};
+ghost use Rattle.bz_command.specs.Deletes.{prints};
 
 use bz_items::Text;
 use bz_value::File;

@@ -14,8 +14,18 @@ pub enum Refusal {
     TooLarge,
     /// The new tree would be deeper than 200.
     TooDeep,
-    /// The target means no rule.
+    /// The target means no rule, or the rule beside which a new one goes isn't there.
     NoTarget,
+    /// The named attribute isn't there.
+    NoAttribute,
+    /// `rename` to an attribute that is there.
+    AttributeExists,
+    /// The attribute's value can't be taken as a list.
+    NotAList,
+    /// `copy` from a rule or an attribute that isn't there.
+    NoSource,
+    /// `new` with a name that a rule has.
+    NameTaken,
     /// Undo or redo by more steps than there are.
     TooFar,
     /// A command would change the text behind which there are 100,000 steps.
@@ -32,6 +42,11 @@ impl Refusal {
             Refusal::TooLarge => "TooLarge",
             Refusal::TooDeep => "TooDeep",
             Refusal::NoTarget => "NoTarget",
+            Refusal::NoAttribute => "NoAttribute",
+            Refusal::AttributeExists => "AttributeExists",
+            Refusal::NotAList => "NotAList",
+            Refusal::NoSource => "NoSource",
+            Refusal::NameTaken => "NameTaken",
             Refusal::TooFar => "TooFar",
             Refusal::Full => "Full",
         }
@@ -46,6 +61,11 @@ impl Refusal {
             Refusal::TooLarge => 21,
             Refusal::TooDeep => 22,
             Refusal::NoTarget => 41,
+            Refusal::NoAttribute => 42,
+            Refusal::AttributeExists => 43,
+            Refusal::NotAList => 44,
+            Refusal::NoSource => 46,
+            Refusal::NameTaken => 47,
             Refusal::TooFar => 61,
             Refusal::Full => 62,
         }

@@ -1,11 +1,10 @@
 ghost use Rattle.std.specs.Prelude.{◌≡◌, ◌⊎◌, map, IfOk, IfErr};
 ghost use Rattle.std.specs.List.{list_any};
 ghost use Rattle.bz_rule.specs.Rules.{has_kind, has_name};
-ghost use Rattle.bz_command.specs.Effect.{first_mark, meant, unmarked, effect, leaves, refuses};
+ghost use Rattle.bz_command.specs.Deletes.{first_mark, meant, unmarked, effect, leaves, refuses};
 
 use crate::command::{Command, Outcome, Target, Which};
 use crate::refusal::Refusal;
-
 use bz_items::{Items, Memory, Text};
 use bz_rule::{has_kind, has_name};
 use bz_value::{File, Item};

@@ -1,5 +1,5 @@
 use Rattle.std.proofs.Common.{◌≡◌, ◌++◌}
-use Rattle.bz_command.specs.Effect.{unmarked}
+use Rattle.bz_command.specs.Deletes.{unmarked}
 use Rattle.bz_command.proofs.running.unmarked.Given as goal
 
 -- the items that stay so far, and behind them those that stay of the items that are left

@@ -1,0 +1,195 @@
+-- What each command makes of a proper file value is proper.
+use Rattle.std.proofs.Common.{◌≡◌, ℕ, Bool, true, false, not, ◌&&◌, List, [], ◌∷◌, refl, sym, map, subst, true≢false}
+use Rattle.std.specs.Prelude.{IfSome, IfOk, Option, Some, None, Result, Ok, Err, codes, nat_eq, is_some, option_map, if◌then◌else◌}
+use Rattle.std.specs.List.{AllByRecursion, list_any}
+use Rattle.std.specs.Option.{option_and_then}
+use Rattle.std.proofs.lemmas.Bool.{and_parts}
+use Rattle.std.proofs.lemmas.List.Elements.{All-from_recursion, recursion_from_All}
+use Rattle.bz_label.specs.declared.target.Target.{Target}
+use Rattle.bz_label.specs.declared.target.Which.{Which}
+use Rattle.bz_label.specs.declared.target.Which.TheVariants as t
+use Rattle.bz_value.specs.declared.value.Expr.{Expr}
+use Rattle.bz_value.specs.declared.value.Item.{Item}
+use Rattle.bz_value.specs.declared.value.Item.TheVariants as i
+use Rattle.bz_value.specs.Gaps.{Bytes}
+use Rattle.bz_value.specs.Proper.{IsProperItem}
+use Rattle.bz_words.specs.Proper.{IsKind, IsProperCommand}
+use Rattle.bz_words.specs.declared.command.Operation.{Operation}
+use Rattle.bz_words.specs.declared.command.Operation.TheVariants as w
+use Rattle.bz_words.specs.declared.command.Place.{Place}
+use Rattle.bz_words.specs.declared.command.Place.TheVariants.{End, Before, After}
+use Rattle.bz_rule.specs.Rules.{Rule, rule_of, name_of, is_text, has_kind, has_name}
+use Rattle.bz_rule.specs.Values.{with_parts, with_items}
+use Rattle.bz_rule.proofs.ProperChanges.{by_test}
+use Rattle.bz_rule.proofs.ProperItems.{all_joined}
+use Rattle.bz_rule.proofs.ProperRules.{RuleItem, rule_item, on_statement}
+use Rattle.bz_command.specs.Made.{function_of, rule_made}
+use Rattle.bz_command.specs.Targets.{is_rule, on_line, first_mark, meant, may_mean_none}
+use Rattle.bz_command.specs.Effect.{Arguments, NewItem, with_arguments, with_function, made_of, on_rule, on_arguments, behind_item, on_meant, unmarked, before_first, behind_first, placed, has_place, with_rule, on_rules, looks_at_rules, effect, set, set_if_absent, add, remove, remove_values, replace, move, rename, copy, copy_no_overwrite}
+use Rattle.bz_command.specs.declared.refusal.Refusal.{Refusal}
+use Rattle.bz_command.specs.declared.refusal.Refusal.TheVariants.{NoTarget, NameTaken}
+use Rattle.bz_command.specs.Laws.{EffectsStayProper}
+use Rattle.bz_command.proofs.ProperCommands.{Made, Keeps, set_keeps, set_if_absent_keeps, add_keeps, remove_keeps, remove_values_keeps, replace_keeps, move_keeps, rename_keeps, copy_keeps, copy_no_overwrite_keeps}
+use Rattle.bz_command.proofs.ProperMade.{made_rule, kind_function}
+
+abbrev AreItems : List Item → Type 0
+AreItems items = AllByRecursion IsProperItem items
+
+abbrev MadeItem : NewItem → Type 0
+MadeItem result = IfOk result IsProperItem
+
+abbrev MadeItems : Result (List Item) Refusal → Type 0
+MadeItems result = IfOk result AreItems
+
+-- ---- one item
+
+other_arguments : (new : List Expr) (item : Item) → IsProperItem (on_statement with_items new item) → IsProperItem (with_arguments new item)
+other_arguments new (i.Block lines) h = h
+other_arguments new (i.Stmt x) h = h
+
+other_function : (function : Expr) (item : Item) → IsProperItem (on_statement with_parts (function ∷ []) item) → IsProperItem (with_function function item)
+other_function function (i.Block lines) h = h
+other_function function (i.Stmt x) h = h
+
+item_made : (item : Item) (rule : Rule) (result : Arguments) → RuleItem item rule → Made result → MadeItem (made_of item result)
+item_made item rule (Err refusal) r h = tt
+item_made item rule (Ok new) r h = other_arguments new item (r.others new h)
+
+rule_changed : (change : List Expr → Arguments) (o : Option Rule) (item : Item) → Keeps change → IfSome o (RuleItem item) → IsProperItem item → MadeItem (on_rule change o item)
+rule_changed change None item f r h = h
+rule_changed change (Some rule) item f r h = item_made item rule (change rule.arguments) r (f rule.arguments r.arguments)
+
+arguments_changed : (change : List Expr → Arguments) → Keeps change → (item : Item) → IsProperItem item → MadeItem (on_arguments change item)
+arguments_changed change f item h = rule_changed change (rule_of item) item f (rule_item item h) h
+
+there_is : (P : Rule → Type 0) (C : Type 0) → ((rule : Rule) → P rule → C) → (o : Option Rule) → is_some o ≡ true → IfSome o P → C
+there_is P C f None is h = absurd (true≢false (sym is))
+there_is P C f (Some rule) is h = f rule h
+
+function_changed : (kind : Bytes) → IsKind kind → (item : Item) → is_rule item ≡ true → IsProperItem item → IsProperItem (with_function (function_of kind) item)
+function_changed kind a item is h =
+    there_is (RuleItem item) (IsProperItem (with_function (function_of kind) item))
+    (λ rule r. other_function (function_of kind) item (r.function (function_of kind) (kind_function kind a))) (rule_of item) is (rule_item item h)
+
+-- ---- the meant rules
+
+-- what is marked is a rule
+abbrev Marked : List Bool → List Item → Type 0
+Marked [] items = Unit {0}
+Marked (mark ∷ marks) [] = Unit {0}
+Marked (mark ∷ marks) (item ∷ items) = (mark ≡ true → is_rule item ≡ true) × Marked marks items
+
+some_rule : (o : Option Rule) (text : Bytes) → is_text text (option_map (λ rule. rule.kind) o) ≡ true → is_some o ≡ true
+some_rule None text h = h
+some_rule (Some rule) text h = refl
+
+some_named : (o : Option Rule) (text : Bytes) → is_text text (option_and_then name_of o) ≡ true → is_some o ≡ true
+some_named None text h = h
+some_named (Some rule) text h = refl
+
+all_marked : (test : Item → Bool) → ((item : Item) → test item ≡ true → is_rule item ≡ true) → (items : List Item) → Marked (map test items) items
+all_marked test f [] = tt
+all_marked test f (item ∷ items) = (f item, all_marked test f items)
+
+line_marked : (line : ℕ) (lines : List ℕ) (items : List Item) → Marked (on_line line lines items) items
+line_marked line lines [] = tt
+line_marked line lines (i.Block comments ∷ items) = (λ e. absurd (true≢false (sym e)), line_marked line lines items)
+line_marked line [] (i.Stmt x ∷ items) = (λ e. absurd (true≢false (sym e)), line_marked line [] items)
+line_marked line (first ∷ lines) (i.Stmt x ∷ items) = (λ e. (and_parts (nat_eq first line) (is_rule (i.Stmt x)) e).1, line_marked line lines items)
+
+none_marked : (marks : List Bool) (items : List Item) → Marked (map (λ _. false) marks) items
+none_marked [] items = tt
+none_marked (mark ∷ marks) [] = tt
+none_marked (mark ∷ marks) (item ∷ items) = (λ e. absurd (true≢false (sym e)), none_marked marks items)
+
+first_marked : (marks : List Bool) (items : List Item) → Marked marks items → Marked (first_mark marks) items
+first_marked [] items h = tt
+first_marked (true ∷ marks) [] h = tt
+first_marked (false ∷ marks) [] h = tt
+first_marked (true ∷ marks) (item ∷ items) h = (h.0, none_marked marks items)
+first_marked (false ∷ marks) (item ∷ items) h = (h.0, first_marked marks items h.1)
+
+kind_marked : (kind : Bytes) (items : List Item) → Marked (map (has_kind kind) items) items
+kind_marked kind items = all_marked (has_kind kind) (λ item h. some_rule (rule_of item) kind h) items
+
+meant_marked : (which : Which) (lines : List ℕ) (items : List Item) → Marked (meant which lines items) items
+meant_marked t.All lines items = all_marked is_rule (λ item h. h) items
+meant_marked (t.Kind kind) lines items = kind_marked kind items
+meant_marked (t.Line line) lines items = line_marked line lines items
+meant_marked t.Package lines items = first_marked (map (has_kind (codes "package")) items) items (kind_marked (codes "package") items)
+meant_marked (t.Name name) lines items = all_marked (has_name name) (λ item h. some_named (rule_of item) name h) items
+
+-- ---- the items of the file
+
+-- a change that keeps rules proper
+abbrev KeepsRules : (Item → NewItem) → Type 0
+KeepsRules change = (item : Item) → is_rule item ≡ true → IsProperItem item → MadeItem (change item)
+
+both_made : (first : NewItem) (rest : Result (List Item) Refusal) → MadeItem first → MadeItems rest → MadeItems (behind_item first rest)
+both_made (Err refusal) rest h k = tt
+both_made (Ok item) (Err refusal) h k = tt
+both_made (Ok item) (Ok items) h k = (h, k)
+
+meant_changed : (change : Item → NewItem) → KeepsRules change → (marks : List Bool) (items : List Item) → Marked marks items → AreItems items → MadeItems (on_meant change marks items)
+meant_changed change f [] items m h = h
+meant_changed change f (true ∷ marks) [] m h = tt
+meant_changed change f (false ∷ marks) [] m h = tt
+meant_changed change f (true ∷ marks) (item ∷ items) m h = both_made (change item) (on_meant change marks items) (f item (m.0 refl) h.0) (meant_changed change f marks items m.1 h.1)
+meant_changed change f (false ∷ marks) (item ∷ items) m h = both_made (Ok item) (on_meant change marks items) h.0 (meant_changed change f marks items m.1 h.1)
+
+unmarked_items : (marks : List Bool) (items : List Item) → AreItems items → AreItems (unmarked marks items)
+unmarked_items [] items h = tt
+unmarked_items (true ∷ marks) [] h = tt
+unmarked_items (false ∷ marks) [] h = tt
+unmarked_items (true ∷ marks) (item ∷ items) h = unmarked_items marks items h.1
+unmarked_items (false ∷ marks) (item ∷ items) h = (h.0, unmarked_items marks items h.1)
+
+items_before : (rule : Bytes) (new : Item) (items : List Item) → IsProperItem new → AreItems items → AreItems (before_first rule new items)
+items_before rule new [] n h = tt
+items_before rule new (item ∷ items) n h = by_test AreItems (has_name rule item) (new ∷ item ∷ items) (item ∷ before_first rule new items) (n, h) (h.0, items_before rule new items n h.1)
+
+items_behind : (rule : Bytes) (new : Item) (items : List Item) → IsProperItem new → AreItems items → AreItems (behind_first rule new items)
+items_behind rule new [] n h = tt
+items_behind rule new (item ∷ items) n h = by_test AreItems (has_name rule item) (item ∷ new ∷ items) (item ∷ behind_first rule new items) (h.0, (n, h.1)) (h.0, items_behind rule new items n h.1)
+
+placed_items : (place : Place) (new : Item) (items : List Item) → IsProperItem new → AreItems items → AreItems (placed place new items)
+placed_items End new items n h = all_joined IsProperItem items (new ∷ []) h (n, tt)
+placed_items (Before rule) new items n h = items_before rule new items n h
+placed_items (After rule) new items n h = items_behind rule new items n h
+
+with_rule_made : (kind name : Bytes) (place : Place) (items : List Item) → IsProperItem (rule_made kind name) → AreItems items → MadeItems (with_rule kind name place items)
+with_rule_made kind name place items n h =
+    by_test MadeItems (not (has_place place items)) (Err NoTarget) (if list_any (has_name name) items then Err NameTaken else Ok (placed place (rule_made kind name) items)) tt
+    (by_test MadeItems (list_any (has_name name) items) (Err NameTaken) (Ok (placed place (rule_made kind name) items)) tt (placed_items place (rule_made kind name) items n h))
+
+-- ---- all commands
+
+module _ (current : Bytes) (marks : List Bool) (items : List Item) (m : Marked marks items) (h : AreItems items) where
+  by_arguments : (change : List Expr → Arguments) → Keeps change → MadeItems (on_meant (on_arguments change) marks items)
+  by_arguments change f = meant_changed (on_arguments change) (λ item is p. arguments_changed change f item p) marks items m h
+
+  rules_made : (operation : Operation) → IsProperCommand operation → MadeItems (on_rules operation current marks items)
+  rules_made (w.New kind name place) p = with_rule_made kind name place items (made_rule kind name p.0 p.1) h
+  rules_made w.Delete p = unmarked_items marks items h
+  rules_made (w.SetKind kind) p = meant_changed (λ item. Ok (with_function (function_of kind) item)) (λ item is k. function_changed kind p item is k) marks items m h
+  rules_made (w.Set name words) p = by_arguments (set current name words) (set_keeps current name words p.0 p.1.1)
+  rules_made (w.SetIfAbsent name words) p = by_arguments (set_if_absent current name words) (set_if_absent_keeps current name words p.0 p.1.1)
+  rules_made (w.Add name words) p = by_arguments (add current name words) (add_keeps current name words p.0 p.1.1)
+  rules_made (w.Remove attributes) p = by_arguments (remove attributes) (remove_keeps attributes)
+  rules_made (w.RemoveValues name words) p = by_arguments (remove_values current name words) (remove_values_keeps current name words)
+  rules_made (w.Replace attributes old new) p = by_arguments (replace current attributes old new) (replace_keeps current attributes old new p.2)
+  rules_made (w.Move from to values) p = by_arguments (move current from to values) (move_keeps current from to values p.1)
+  rules_made (w.Rename from to) p = by_arguments (rename from to) (rename_keeps from to p.1)
+  rules_made (w.Copy name rule) p = by_arguments (copy name rule items) (copy_keeps name rule items p.0 h)
+  rules_made (w.CopyNoOverwrite name rule) p = by_arguments (copy_no_overwrite name rule items) (copy_no_overwrite_keeps name rule items p.0 h)
+
+effect_made : (operation : Operation) (target : Target) (current : Bytes) (lines : List ℕ) (items : List Item) → IsProperCommand operation → AreItems items → MadeItems (effect operation target current lines items)
+effect_made operation target current lines items p h =
+    let marks : List Bool = meant target.which lines items in
+    by_test MadeItems (looks_at_rules operation && not (list_any (λ mark. mark) marks)) (if may_mean_none target.which then Ok items else Err NoTarget) (on_rules operation current marks items)
+    (by_test MadeItems (may_mean_none target.which) (Ok items) (Err NoTarget) h tt)
+    (rules_made current marks items (meant_marked target.which lines items) h operation p)
+
+pub effects_stay_proper : EffectsStayProper
+effects_stay_proper operation target current lines items new p h e =
+    All-from_recursion IsProperItem new (subst MadeItems e (effect_made operation target current lines items p (recursion_from_All IsProperItem items h)))

@@ -1,0 +1,7 @@
+//! What the effects keep: the function does nothing, its clause is the law.
+ghost use Rattle.bz_command.specs.Laws.{EffectsStayProper};
+
+/// What a command that was read makes of a proper file value is a proper file value.
+pub fn effects_stay_proper()
+    ensures { EffectsStayProper }
+{}

@@ -1,0 +1,56 @@
+-- What every command that was read is: its kinds are kinds, its attributes identifiers, where values are asked for there is
+-- one, and all its texts are UTF-8.
+use Rattle.std.specs.Prelude.{◌≡◌, true, List, [], ◌∷◌, IsUtf8}
+use Rattle.bz_words.specs.Characters.{Bytes}
+use Rattle.bz_words.specs.Words.{is_nonempty}
+use Rattle.bz_words.specs.Identifiers.{is_identifier, is_kind}
+use Rattle.bz_words.specs.declared.command.Operation.{Operation}
+use Rattle.bz_words.specs.declared.command.Operation.TheVariants.{New, Delete, SetKind, Set, SetIfAbsent, Add, Remove, RemoveValues, Replace, Move, Rename, Copy, CopyNoOverwrite}
+use Rattle.bz_words.specs.declared.command.Place.{Place}
+use Rattle.bz_words.specs.declared.command.Place.TheVariants.{End, Before, After}
+use Rattle.bz_words.specs.declared.command.Attributes.{Attributes}
+use Rattle.bz_words.specs.declared.command.Attributes.TheVariants.{All as AllAttributes, Named}
+use Rattle.bz_words.specs.declared.command.Values.{Values}
+use Rattle.bz_words.specs.declared.command.Values.TheVariants.{All as AllValues, These}
+
+abbrev pub AreUtf8 : List Bytes → Type 0
+AreUtf8 [] = Unit {0}
+AreUtf8 (text ∷ texts) = IsUtf8 text × AreUtf8 texts
+
+abbrev pub IsAttribute : Bytes → Type 0
+IsAttribute name = (is_identifier name ≡ true) × IsUtf8 name
+
+abbrev pub IsKind : Bytes → Type 0
+IsKind kind = (is_kind kind ≡ true) × IsUtf8 kind
+
+-- one value or more
+abbrev pub AreValues : List Bytes → Type 0
+AreValues values = (is_nonempty values ≡ true) × AreUtf8 values
+
+abbrev pub IsPlace : Place → Type 0
+IsPlace End = Unit {0}
+IsPlace (Before rule) = IsUtf8 rule
+IsPlace (After rule) = IsUtf8 rule
+
+abbrev pub AreAttributes : Attributes → Type 0
+AreAttributes AllAttributes = Unit {0}
+AreAttributes (Named name) = IsAttribute name
+
+abbrev pub AreMoved : Values → Type 0
+AreMoved AllValues = Unit {0}
+AreMoved (These values) = AreValues values
+
+abbrev pub IsProperCommand : Operation → Type 0
+IsProperCommand (New kind name place) = IsKind kind × IsUtf8 name × IsPlace place
+IsProperCommand Delete = Unit {0}
+IsProperCommand (SetKind kind) = IsKind kind
+IsProperCommand (Set attribute values) = IsAttribute attribute × AreValues values
+IsProperCommand (SetIfAbsent attribute values) = IsAttribute attribute × AreValues values
+IsProperCommand (Add attribute values) = IsAttribute attribute × AreValues values
+IsProperCommand (Remove attributes) = AreAttributes attributes
+IsProperCommand (RemoveValues attribute values) = IsAttribute attribute × AreValues values
+IsProperCommand (Replace attributes old new) = AreAttributes attributes × IsUtf8 old × IsUtf8 new
+IsProperCommand (Move from to values) = IsAttribute from × IsAttribute to × AreMoved values
+IsProperCommand (Rename from to) = IsAttribute from × IsAttribute to
+IsProperCommand (Copy attribute rule) = IsAttribute attribute × IsUtf8 rule
+IsProperCommand (CopyNoOverwrite attribute rule) = IsAttribute attribute × IsUtf8 rule

@@ -1,0 +1,88 @@
+-- Worked rows: what texts are cut into, which commands they are, and words as strings.
+use Rattle.std.specs.Prelude.{◌≡◌, true, false, [], ◌∷◌, Ok, Err, codes}
+use Rattle.bz_words.specs.Characters.{Bytes}
+use Rattle.bz_words.specs.Words.{words_of}
+use Rattle.bz_words.specs.Identifiers.{is_identifier, is_kind}
+use Rattle.bz_words.specs.Commands.{Read, command_in, command_of}
+use Rattle.bz_words.specs.Quoted.{quoted_of}
+use Rattle.bz_words.specs.declared.command.Operation.TheVariants.{New, Delete, SetKind, Set, SetIfAbsent, Add, Remove, RemoveValues, Replace, Move, Rename, Copy, CopyNoOverwrite}
+use Rattle.bz_words.specs.declared.command.Place.TheVariants.{End, Before, After}
+use Rattle.bz_words.specs.declared.command.Attributes.TheVariants.{All as AllAttributes, Named}
+use Rattle.bz_words.specs.declared.command.Values.TheVariants.{All as AllValues, These}
+use Rattle.bz_words.specs.declared.fault.CommandFault.TheVariants.{Unknown, Arguments}
+
+abbrev pub WorkedWords : Type 0
+WorkedWords =
+    -- a run of spaces; a space right behind a backslash; another backslash; a space at the end
+    (words_of (codes "a\\ b  c\\d ") ≡ codes "a b" ∷ codes "c\\d" ∷ [])
+    -- the second space stands behind a space
+    × (words_of (codes "a\\  b") ≡ codes "a " ∷ codes "b" ∷ [])
+    -- the second backslash goes
+    × (words_of (codes "a\\\\ b") ≡ codes "a\\ b" ∷ [])
+    × (words_of (codes "  ") ≡ [])
+
+abbrev pub WorkedIdentifiers : Type 0
+WorkedIdentifiers =
+    (is_identifier (codes "_a1") ≡ true) × (is_identifier (codes "1a") ≡ false) × (is_identifier (codes "a-b") ≡ false)
+    × (is_identifier (codes "in") ≡ false) × (is_identifier [] ≡ false)
+    -- U+00E9, U+FF21, and U+FEFF behind a letter
+    × (is_identifier (195 ∷ 169 ∷ []) ≡ true) × (is_identifier (239 ∷ 188 ∷ 161 ∷ []) ≡ true)
+    × (is_identifier (97 ∷ 239 ∷ 187 ∷ 191 ∷ []) ≡ false)
+    × (is_kind (codes "a.b.c") ≡ true) × (is_kind (codes "a") ≡ true) × (is_kind (codes "a..b") ≡ false)
+    × (is_kind (codes "a.") ≡ false) × (is_kind (codes "a.if") ≡ false) × (is_kind [] ≡ false)
+
+-- ---- commands
+
+abbrev reads : Bytes → Read → Type 0
+reads text read = command_of text ≡ read
+
+abbrev is_refused : Bytes → Type 0
+is_refused text = reads text (Err Arguments)
+
+abbrev Rules : Type 0
+Rules =
+    reads (codes "new cc_library a") (Ok (New (codes "cc_library") (codes "a") End))
+    × reads (codes "new a.b x before y") (Ok (New (codes "a.b") (codes "x") (Before (codes "y"))))
+    × reads (codes "new a x after y") (Ok (New (codes "a") (codes "x") (After (codes "y"))))
+    × is_refused (codes "new a") × is_refused (codes "new a.for x") × is_refused (codes "new a x before") × is_refused (codes "new a x behind y")
+    × reads (codes "  delete ") (Ok Delete) × is_refused (codes "delete x")
+
+abbrev Values : Type 0
+Values =
+    reads (codes "set kind a.b") (Ok (SetKind (codes "a.b")))
+    × is_refused (codes "set kind") × is_refused (codes "set kind a b") × is_refused (codes "set kind a-b")
+    × reads (codes "set srcs x y") (Ok (Set (codes "srcs") (codes "x" ∷ codes "y" ∷ [])))
+    × is_refused (codes "set srcs") × is_refused (codes "set * x")
+    × reads (codes "set_if_absent srcs x") (Ok (SetIfAbsent (codes "srcs") (codes "x" ∷ [])))
+    × is_refused (codes "set_if_absent kind a") × is_refused (codes "set_if_absent srcs")
+    × reads (codes "add deps :x a\\ b") (Ok (Add (codes "deps") (codes ":x" ∷ codes "a b" ∷ [])))
+    × is_refused (codes "add in x") × is_refused (codes "add deps")
+    × reads (codes "remove *") (Ok (Remove AllAttributes)) × reads (codes "remove kind") (Ok (Remove (Named (codes "kind"))))
+    × reads (codes "remove deps * x") (Ok (RemoveValues (codes "deps") (codes "*" ∷ codes "x" ∷ [])))
+    × is_refused (codes "remove") × is_refused (codes "remove * x") × is_refused (codes "remove a.b")
+
+abbrev Attributes : Type 0
+Attributes =
+    reads (codes "replace * a b") (Ok (Replace AllAttributes (codes "a") (codes "b")))
+    × reads (codes "replace deps a b") (Ok (Replace (Named (codes "deps")) (codes "a") (codes "b")))
+    × is_refused (codes "replace deps a") × is_refused (codes "replace deps a b c")
+    × reads (codes "move a b c d") (Ok (Move (codes "a") (codes "b") (These (codes "c" ∷ codes "d" ∷ []))))
+    × reads (codes "move a b c *") (Ok (Move (codes "a") (codes "b") AllValues))
+    × is_refused (codes "move a b") × is_refused (codes "move * b c") × is_refused (codes "move a * c")
+    × reads (codes "rename a b") (Ok (Rename (codes "a") (codes "b"))) × is_refused (codes "rename a or") × is_refused (codes "rename * b")
+    × reads (codes "copy a *") (Ok (Copy (codes "a") (codes "*"))) × is_refused (codes "copy * a") × is_refused (codes "copy a")
+    × reads (codes "copy_no_overwrite a b") (Ok (CopyNoOverwrite (codes "a") (codes "b"))) × is_refused (codes "copy_no_overwrite a b c")
+
+abbrev Names : Type 0
+Names =
+    reads [] (Err Unknown) × reads (codes "grow") (Err Unknown) × reads (codes "Delete") (Err Unknown)
+    -- a text that is too long
+    × (command_in false (codes "delete" ∷ []) ≡ Err Arguments) × (command_in false (codes "grow" ∷ []) ≡ Err Unknown)
+    × (command_in false [] ≡ Err Unknown)
+
+abbrev pub WorkedCommands : Type 0
+WorkedCommands = Rules × Values × Attributes × Names
+
+abbrev pub WorkedStrings : Type 0
+WorkedStrings = (quoted_of (codes "x") ≡ codes "\"x\"") × (quoted_of [] ≡ codes "\"\"") × (quoted_of (codes "it's") ≡ codes "\"it's\"")
+    × (quoted_of (codes "a\"b\\\n") ≡ codes "\"a\\\"b\\\\\\n\"")

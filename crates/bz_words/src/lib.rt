@@ -1,0 +1,20 @@
+//! The words of commands, and the commands that they are.
+#![tactic(auto)]
+
+mod command;
+mod copy;
+mod fault;
+mod identifier;
+mod laws;
+mod quoting;
+mod reading;
+mod words;
+
+pub use command::{Attributes, Command, Operation, Place, Values};
+pub use fault::CommandFault;
+pub use identifier::{is_identifier, is_kind};
+pub use laws::{
+    identifiers_are_names, worked_commands, worked_identifiers, worked_strings, worked_words,
+};
+pub use quoting::quoted;
+pub use words::read_words;

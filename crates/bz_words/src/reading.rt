@@ -1,0 +1,332 @@
+//! What each command reads in the words behind its name.
+ghost use Rattle.std.specs.Prelude.{◌≡◌, ◌⊎◌, ◌∷◌, [], bytes_eq, MatchResult, IfOk, IfErr};
+ghost use Rattle.std.specs.List.{list_any};
+ghost use Rattle.bz_words.specs.Commands as c;
+ghost use Rattle.bz_words.specs.Identifiers.{is_identifier as is_identifier_in};
+ghost use Rattle.bz_words.specs.Words.{is_nonempty};
+
+use crate::command::{Attributes, Command, Operation, Place, Values};
+use crate::fault::CommandFault;
+use crate::identifier::{is_identifier, is_kind};
+use crate::words::read_words;
+use bz_items::{Items, Text};
+use std::alloc::Global;
+use std::str;
+
+/// What a command reads.
+type Read = Result<Operation, CommandFault>;
+
+// The first word is taken off.
+fn take_first(words: &mut Vec<Text>) -> Result<Text, CommandFault>
+    ensures { MatchResult result (λ first. words.old.items ≡ first ∷ words.new.items) (λ fault. (words.old.items ≡ []) × (fault ≡ CommandFault.Arguments)) }
+{
+    if words.is_empty() {
+        return Err(CommandFault::Arguments);
+    }
+    Ok(words.remove(0))
+}
+
+// The command, where its words have the form that it asks for.
+fn given(holds: bool, operation: Operation) -> Read
+    ensures { result ≡ c.given holds operation }
+{
+    if holds {
+        Ok(operation)
+    } else {
+        Err(CommandFault::Arguments)
+    }
+}
+
+fn is_attribute(word: &Text) -> bool
+    ensures { result ≡ is_identifier_in word.now }
+{
+    is_identifier(word.as_slice())
+}
+
+fn is_text(word: &Text, text: &[u8]) -> bool
+    ensures { result ≡ bytes_eq word.now text.now }
+{
+    word.as_slice() == text
+}
+
+fn is_star(word: &Text) -> bool
+    ensures { result ≡ c.is_star word.now }
+{
+    is_text(word, b"*")
+}
+
+fn has_star(words: &[Text]) -> bool
+    ensures { result ≡ list_any c.is_star words.now }
+{
+    words.iter().any(is_star)
+}
+
+fn is_word_kind(word: &Text) -> bool
+    ensures { result ≡ c.is_word_kind word.now }
+{
+    is_text(word, b"kind")
+}
+
+fn has_values(words: &Vec<Text>) -> bool
+    ensures { result ≡ is_nonempty words.now.items }
+{
+    match words.as_slice() {
+        [] => false,
+        _ => true,
+    }
+}
+
+fn attributes_of(word: Text) -> Option<Attributes>
+    ensures { result ≡ c.attributes_of word }
+{
+    if is_star(&word) {
+        return Some(Attributes::All);
+    }
+    if is_attribute(&word) {
+        Some(Attributes::Named(word))
+    } else {
+        None
+    }
+}
+
+fn values_of(words: Vec<Text>) -> Values
+    ensures { result ≡ c.values_of words.items }
+{
+    if has_star(&words) {
+        Values::All
+    } else {
+        Values::These(Items::from_vec(words))
+    }
+}
+
+fn beside(side: Text, rule: Text) -> Option<Place>
+    ensures { result ≡ c.beside side rule }
+{
+    if is_text(&side, b"before") {
+        return Some(Place::Before(rule));
+    }
+    if is_text(&side, b"after") {
+        return Some(Place::After(rule));
+    }
+    None
+}
+
+fn place_of(words: Vec<Text>) -> Option<Place>
+    ensures { result ≡ c.place_of words.items }
+{
+    if words.is_empty() {
+        return Some(Place::End);
+    }
+    match <[Text; 2]>::try_from(words) {
+        Ok([side, rule]) => beside(side, rule),
+        Err(_words) => None,
+    }
+}
+
+fn new_of(mut words: Vec<Text>) -> Read
+    ensures { result ≡ c.new_of words.items }
+{
+    let kind = take_first(&mut words)?;
+    let name = take_first(&mut words)?;
+    if !is_kind(kind.as_slice()) {
+        return Err(CommandFault::Arguments);
+    }
+    match place_of(words) {
+        Some(place) => Ok(Operation::New { kind, name, place }),
+        None => Err(CommandFault::Arguments),
+    }
+}
+
+fn delete_of(words: Vec<Text>) -> Read
+    ensures { result ≡ c.delete_of words.items }
+{
+    if words.is_empty() {
+        Ok(Operation::Delete)
+    } else {
+        Err(CommandFault::Arguments)
+    }
+}
+
+fn set_kind_of(words: Vec<Text>) -> Read
+    ensures { result ≡ c.set_kind_of words.items }
+{
+    match <[Text; 1]>::try_from(words) {
+        Ok([kind]) => given(is_kind(kind.as_slice()), Operation::SetKind { kind }),
+        Err(_words) => Err(CommandFault::Arguments),
+    }
+}
+
+fn set_of(mut words: Vec<Text>) -> Read
+    ensures { result ≡ c.set_of words.items }
+{
+    let attribute = take_first(&mut words)?;
+    if is_word_kind(&attribute) {
+        return set_kind_of(words);
+    }
+    let fits = is_attribute(&attribute) && has_values(&words);
+    let values = Items::from_vec(words);
+    given(fits, Operation::Set { attribute, values })
+}
+
+fn set_if_absent_of(mut words: Vec<Text>) -> Read
+    ensures { result ≡ c.set_if_absent_of words.items }
+{
+    let attribute = take_first(&mut words)?;
+    let fits = is_attribute(&attribute) && !is_word_kind(&attribute) && has_values(&words);
+    let values = Items::from_vec(words);
+    given(fits, Operation::SetIfAbsent { attribute, values })
+}
+
+fn add_of(mut words: Vec<Text>) -> Read
+    ensures { result ≡ c.add_of words.items }
+{
+    let attribute = take_first(&mut words)?;
+    let fits = is_attribute(&attribute) && has_values(&words);
+    let values = Items::from_vec(words);
+    given(fits, Operation::Add { attribute, values })
+}
+
+fn remove_of(mut words: Vec<Text>) -> Read
+    ensures { result ≡ c.remove_of words.items }
+{
+    let attribute = take_first(&mut words)?;
+    if has_values(&words) {
+        let fits = is_attribute(&attribute);
+        let values = Items::from_vec(words);
+        return given(fits, Operation::RemoveValues { attribute, values });
+    }
+    match attributes_of(attribute) {
+        Some(attributes) => Ok(Operation::Remove { attributes }),
+        None => Err(CommandFault::Arguments),
+    }
+}
+
+fn replacing(attribute: Text, old: Text, new: Text) -> Read
+    ensures { result ≡ c.replace_of (attribute ∷ old ∷ new ∷ []) }
+{
+    match attributes_of(attribute) {
+        Some(attributes) => Ok(Operation::Replace {
+            attributes,
+            old,
+            new,
+        }),
+        None => Err(CommandFault::Arguments),
+    }
+}
+
+fn replace_of(words: Vec<Text>) -> Read
+    ensures { result ≡ c.replace_of words.items }
+{
+    match <[Text; 3]>::try_from(words) {
+        Ok([attribute, old, new]) => replacing(attribute, old, new),
+        Err(_words) => Err(CommandFault::Arguments),
+    }
+}
+
+fn move_of(mut words: Vec<Text>) -> Read
+    ensures { result ≡ c.move_of words.items }
+{
+    let from = take_first(&mut words)?;
+    let to = take_first(&mut words)?;
+    let fits = is_attribute(&from) && is_attribute(&to) && has_values(&words);
+    let values = values_of(words);
+    given(fits, Operation::Move { from, to, values })
+}
+
+fn rename_of(words: Vec<Text>) -> Read
+    ensures { result ≡ c.rename_of words.items }
+{
+    match <[Text; 2]>::try_from(words) {
+        Ok([from, to]) => given(
+            is_attribute(&from) && is_attribute(&to),
+            Operation::Rename { from, to },
+        ),
+        Err(_words) => Err(CommandFault::Arguments),
+    }
+}
+
+fn copy_of(words: Vec<Text>) -> Read
+    ensures { result ≡ c.copy_of words.items }
+{
+    match <[Text; 2]>::try_from(words) {
+        Ok([attribute, rule]) => given(
+            is_attribute(&attribute),
+            Operation::Copy { attribute, rule },
+        ),
+        Err(_words) => Err(CommandFault::Arguments),
+    }
+}
+
+fn copy_no_overwrite_of(words: Vec<Text>) -> Read
+    ensures { result ≡ c.copy_no_overwrite_of words.items }
+{
+    match <[Text; 2]>::try_from(words) {
+        Ok([attribute, rule]) => given(
+            is_attribute(&attribute),
+            Operation::CopyNoOverwrite { attribute, rule },
+        ),
+        Err(_words) => Err(CommandFault::Arguments),
+    }
+}
+
+// What the command of this name reads in the words behind it.
+fn named_of(name: &str, words: Vec<Text>) -> Option<Read>
+    ensures { result ≡ c.named_in c.commands name.now words.items }
+{
+    Some(match name {
+        "new" => new_of(words),
+        "delete" => delete_of(words),
+        "set" => set_of(words),
+        "set_if_absent" => set_if_absent_of(words),
+        "add" => add_of(words),
+        "remove" => remove_of(words),
+        "replace" => replace_of(words),
+        "move" => move_of(words),
+        "rename" => rename_of(words),
+        "copy" => copy_of(words),
+        "copy_no_overwrite" => copy_no_overwrite_of(words),
+        _ => return None,
+    })
+}
+
+fn known(name: &Text, words: Vec<Text>) -> Option<Read>
+    ensures { result ≡ c.named_in c.commands name.now words.items }
+{
+    match str::from_utf8(name.as_slice()) {
+        Ok(name) => named_of(name, words),
+        Err(_) => None,
+    }
+}
+
+// An unknown name is told first, then a text that is too long, then what is wrong with the words.
+fn command_in(fits: bool, mut words: Vec<Text>) -> Read
+    ensures { result ≡ c.command_in fits words.items }
+{
+    if words.is_empty() {
+        return Err(CommandFault::Unknown);
+    }
+    let name = words.remove(0);
+    match known(&name, words) {
+        Some(read) if fits => read,
+        Some(_read) => Err(CommandFault::Arguments),
+        None => Err(CommandFault::Unknown),
+    }
+}
+
+/// The most bytes of a command's text.
+const TEXT_LIMIT: usize = 65_536;
+
+impl Command {
+    /// The command of a text: its words are separated by runs of spaces, where a space right behind a backslash belongs
+    /// to the word and the backslash goes. The errors, in this order: `Unknown`: the first word is no command's name, or
+    /// there is none; `Arguments`: the text is longer than 65,536 bytes, or the further words don't have the command's form;
+    /// `Memory`: a growth was refused.
+    pub fn read(alloc: Global, text: &str) -> Result<Command, CommandFault>
+        ensures ok { IfOk result (λ command. c.command_of text.now ≡ Ok command) }
+        ensures err { IfErr result (λ fault. (c.command_of text.now ≡ Err fault) ⊎ (fault ≡ CommandFault.Memory)) }
+    {
+        let words = read_words(alloc, text.as_bytes())?;
+        let operation = command_in(text.len() <= TEXT_LIMIT, words)?;
+        Ok(Command { operation })
+    }
+}
