@@ -8,7 +8,7 @@ use Rattle.bz_tree.specs.declared.tree.Node.{Node}
 use Rattle.bz_tree.specs.Legal.{Reads}
 use Rattle.bz_value.specs.declared.value.Item.{Item}
 use Rattle.bz_view.specs.View.{view_of}
-use Rattle.bz_command.specs.Effect.{Effect, leaves, effect}
+use Rattle.bz_command.specs.Deletes.{Effect, leaves, effect}
 use Rattle.bz_command.specs.declared.command.Command.{Command}
 use Rattle.bz_command.specs.declared.command.Target.{Target}
 use Rattle.bz_command.specs.declared.refusal.Refusal.{Refusal}

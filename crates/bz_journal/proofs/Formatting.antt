@@ -5,44 +5,64 @@ use Rattle.std.proofs.lemmas.Slice.Eq.{bytes_eq-Decides}
 use Rattle.std.proofs.Math.Seq.{get_or-append_seam}
 use Rattle.bz_tree.specs.declared.tree.Node.{Node}
 use Rattle.bz_tree.specs.Legal.{Reads}
+use Rattle.bz_tree.specs.Spell.{depth_of, depth_limit, limit}
+use Rattle.bz_value.specs.Counted.{times}
 use Rattle.bz_tree.proofs.Accepts.{one_tree}
 use Rattle.bz_value.specs.declared.value.Item.{Item}
 use Rattle.bz_value.specs.Gaps.{Bytes}
 use Rattle.bz_value.specs.Proper.{IsProper}
+use Rattle.bz_view.specs.Kept.{CommentsKept}
 use Rattle.bz_view.specs.View.{view_of}
 use Rattle.bz_view.proofs.ProperFiles.{view_proper}
 use Rattle.bz_write.specs.Drawn.{drawn}
-use Rattle.bz_write.specs.Flags.{flags}
+use Rattle.bz_write.specs.Laws.{LayoutIsAccepted, LayoutReadsBack}
+use Rattle.bz_tidy.specs.Laws.{ProperStays, TidySettles, TidyStays, CommentsStay}
+use Rattle.bz_tidy.specs.Passes.{tidied}
 use Rattle.bz_write.specs.Written.{layout}
-use Rattle.bz_write.proofs.LegalFiles.{drawn_legal}
-use Rattle.bz_write.proofs.LinesBack.{view_back}
-use Rattle.bz_write.proofs.Spelled.{drawn_spelled}
-use Rattle.bz_command.specs.declared.refusal.Refusal.TheVariants.{Full}
+use Rattle.bz_command.specs.declared.refusal.Refusal.TheVariants.{Full, TooLarge, TooDeep}
 use Rattle.bz_journal.specs.declared.action.Action.TheVariants.{Format}
 use Rattle.bz_journal.specs.declared.action.Reply.{Reply}
 use Rattle.bz_journal.specs.declared.action.Reply.TheVariants.{Changed}
 use Rattle.bz_journal.specs.Meaning.{Meaning, gives, refuses, written, Formats}
-use Rattle.bz_journal.specs.Fixed.{IsFormatted}
+use Rattle.bz_journal.specs.Fixed.{IsFormatted, FixedPoint}
 use Rattle.bz_journal.specs.History.{History, Answer, present, changed, unchanged, after_text, after_meaning, most_steps, Acts}
-use Rattle.bz_journal.proofs.Writes.{IsGiven, given, written_flags}
+use Rattle.bz_journal.proofs.Writes.{IsGiven, given}
+
+-- what is written of a value that is tidy already
+abbrev as_written : List Item → Option Bytes → Meaning
+as_written items printed = if nat_lt limit (length (layout items)) then refuses TooLarge else (if nat_lt depth_limit (depth_of (drawn items)) then refuses TooDeep else gives (layout items) printed)
 
 same_tree : (text : Bytes) (tree other : Node) → Reads text tree → Reads text other → tree ≡ other
 same_tree text tree other h i = one_tree tree other h.0 i.0 (h.1 ∙ sym i.1)
 
-pub formatted_again : (text formatted : Bytes) → Formats text (gives formatted None) → IsFormatted text formatted
-formatted_again text formatted formats =
+-- What the layers below promise: of the view, of the layout of a proper value, and of tidying.
+pub record LayersHold : Type 0 where
+  pub kept : CommentsKept
+  pub accepted : LayoutIsAccepted
+  pub back : LayoutReadsBack
+  pub proper : ProperStays
+  pub settled : TidySettles
+  pub stays : TidyStays
+  pub comments : CommentsStay
+
+pub formatted_again : LayersHold → FixedPoint
+formatted_again layers text formatted formats =
     let tree : Node = formats.0 in
     let items : List Item = view_of tree in
-    let proper : IsProper items = view_proper tree formats.1.0 in
+    let tidy : List Item = tidied items in
+    let proper : IsProper tidy = layers.proper items (view_proper tree formats.1.0) in
     let is : IsGiven items formatted None None = given items formatted None None (sym formats.2) in
-    let new : Node = drawn items in
-    let laid : Reads (layout items) new = (drawn_legal items proper is.deep, drawn_spelled items proper, is.long) in
-    let reads : Reads formatted new = subst (λ (t : Bytes). Reads t new) (sym is.layout_is) laid in
-    let seen : view_of new ≡ flags items = view_back items proper in
+    let new : Node = drawn tidy in
+    let reads : Reads formatted new = subst (λ (t : Bytes). Reads t new) (sym is.layout_is) (layers.accepted tidy proper is.long is.deep) in
+    let seen : view_of new ≡ tidy = layers.back tidy proper ∙ layers.settled items in
+    let valued : (t u : Node) → Reads text t → Reads formatted u → view_of u ≡ tidied (view_of t) =
+    λ t u h i. ap view_of (same_tree formatted u new i reads) ∙ seen ∙ ap (λ (n : Node). tidied (view_of n)) (same_tree text tree t formats.1 h) in
     record {
       given = formats;
-      again = (new, reads, formats.2 ∙ sym (ap (λ (xs : List Item). written xs None) seen ∙ written_flags items None));
-      value = λ t u h i. ap view_of (same_tree formatted u new i reads) ∙ seen ∙ ap (λ (n : Node). flags (view_of n)) (same_tree text tree t formats.1 h);
+      again = (new, reads, formats.2 ∙ sym (ap (λ (xs : List Item). written xs None) seen ∙ ap (λ (xs : List Item). as_written xs None) (layers.stays items)));
+      value = valued;
+      comments = λ t u h i comment.
+          sym (layers.kept u i.0 comment) ∙ ap (times comment) (valued t u h i) ∙ layers.comments comment (view_of t) ∙ layers.kept t h.0 comment;
     }
 
 -- ---- the present text behind formatting
@@ -64,18 +84,18 @@ behind true below h after text reply within is led = ap (λ (z : Answer × Histo
 behind false true h after text reply within is led = ap (λ (z : Answer × History). present z.1) led ∙ present_changed h text within
 behind false false h after text reply within is led = let answer = ap (λ (z : Answer × History). z.0) led in absurd (cc)
 
-by_meaning : (h after : History) (reply : Reply) (m : Meaning) → h.cursor < length h.texts → Formats (present h) m
+by_meaning : FixedPoint → (h after : History) (reply : Reply) (m : Meaning) → h.cursor < length h.texts → Formats (present h) m
     → ◌≡◌ {A = Answer × History} (Ok reply, after) (after_meaning h m) → IsFormatted (present h) (present after)
-by_meaning h after reply (gives text printed) within formats led =
+by_meaning fixed h after reply (gives text printed) within formats led =
     let none : printed ≡ None = prints_none (present h) text printed formats in
     let first : Formats (present h) (gives text None) = subst (λ (p : Option Bytes). Formats (present h) (gives text p)) none formats in
     let after_is : ◌≡◌ {A = Answer × History} (Ok reply, after) (after_text h text None) = led ∙ ap (λ (p : Option Bytes). after_text h text p) none in
     let new : present after ≡ text =
     behind (bytes_eq text (present h)) (nat_lt h.cursor most_steps) h after text reply within (bytes_eq-Decides text (present h)).0 after_is in
-    subst (IsFormatted (present h)) (sym new) (formatted_again (present h) text first)
-by_meaning h after reply (refuses refusal) within formats led = let answer = ap (λ (z : Answer × History). z.0) led in absurd (cc)
+    subst (IsFormatted (present h)) (sym new) (fixed (present h) text first)
+by_meaning fixed h after reply (refuses refusal) within formats led = let answer = ap (λ (z : Answer × History). z.0) led in absurd (cc)
 
-pub formatted_after : (h after : History) (answer : Answer) → h.cursor < length h.texts → Acts Format h answer after → OnOk answer (IsFormatted (present h) (present after))
-formatted_after h after (Err refusal) within acts = tt
-formatted_after h after (Ok reply) within (inl (m, formats, led)) = by_meaning h after reply m within formats led
-formatted_after h after (Ok reply) within (inr memory) = let answer = memory.1 in absurd (cc)
+pub formatted_after : FixedPoint → (h after : History) (answer : Answer) → h.cursor < length h.texts → Acts Format h answer after → OnOk answer (IsFormatted (present h) (present after))
+formatted_after fixed h after (Err refusal) within acts = tt
+formatted_after fixed h after (Ok reply) within (inl (m, formats, led)) = by_meaning fixed h after reply m within formats led
+formatted_after fixed h after (Ok reply) within (inr memory) = let answer = memory.1 in absurd (cc)

@@ -4,3 +4,4 @@ pub mod Kept
 pub mod Opening
 pub mod Running
 pub mod Writes
+pub mod Untold

@@ -3,14 +3,18 @@ use Rattle.std.specs.Prelude.{◌≡◌, None}
 use Rattle.bz_tree.specs.declared.tree.Node.{Node}
 use Rattle.bz_tree.specs.Legal.{Reads}
 use Rattle.bz_value.specs.Gaps.{Bytes}
+use Rattle.bz_view.specs.Kept.{occurrences}
 use Rattle.bz_view.specs.View.{view_of}
-use Rattle.bz_journal.specs.Meaning.{gives, tidy, Formats}
+use Rattle.bz_tidy.specs.Passes.{tidied}
+use Rattle.bz_journal.specs.Meaning.{gives, Formats}
 
--- The formatted text of a text: formatting gives it, formatting it gives it again, and its value is that of the text, tidied.
+-- The formatted text of a text: formatting gives it, formatting it gives it again, its value is that of the text, tidied,
+-- and each comment stands in it as often as in the text.
 pub record IsFormatted (text formatted : Bytes) : Type 0 where
   pub given : Formats text (gives formatted None)
   pub again : Formats formatted (gives formatted None)
-  pub value : (tree new : Node) → Reads text tree → Reads formatted new → view_of new ≡ tidy (view_of tree)
+  pub value : (tree new : Node) → Reads text tree → Reads formatted new → view_of new ≡ tidied (view_of tree)
+  pub comments : (tree new : Node) → Reads text tree → Reads formatted new → (comment : Bytes) → occurrences comment new ≡ occurrences comment tree
 
 -- Whatever text formatting gives is such.
 abbrev pub FixedPoint : Type 0

@@ -1,3 +1,4 @@
+pub mod Faults
 pub mod Fixed
 pub mod History
 pub mod Meaning

@@ -1,34 +1,30 @@
 -- What a command means on a text, and what formatting it gives.
 use Rattle.std.specs.Prelude.{◌≡◌, List, Option, Some, None, nat_lt, length, if◌then◌else◌}
 use Rattle.bz_tree.specs.declared.tree.Node.{Node}
-use Rattle.bz_tree.specs.Spell.{depth_of, limit}
+use Rattle.bz_tree.specs.Spell.{depth_of, depth_limit, limit}
 use Rattle.bz_tree.specs.Legal.{Reads}
 use Rattle.bz_value.specs.declared.value.Item.{Item}
 use Rattle.bz_value.specs.Gaps.{Bytes}
 use Rattle.bz_view.specs.View.{view_of}
 use Rattle.bz_write.specs.Written.{layout}
 use Rattle.bz_write.specs.Drawn.{drawn}
-use Rattle.bz_write.specs.Flags.{flags}
+use Rattle.bz_tidy.specs.Passes.{tidied}
 use Rattle.bz_command.specs.declared.command.Command.{Command}
 use Rattle.bz_command.specs.declared.command.Target.{Target}
 use Rattle.bz_command.specs.declared.refusal.Refusal.{Refusal}
 use Rattle.bz_command.specs.declared.refusal.Refusal.TheVariants.{TooLarge, TooDeep}
-use Rattle.bz_command.specs.Effect as e
+use Rattle.bz_command.specs.Deletes as e
 
 -- A text, and what is printed where something is; or a refusal.
 pub data Meaning : Type 0 where
   gives : Bytes → Option Bytes → Meaning
   refuses : Refusal → Meaning
 
--- A value is tidied by the pass over its flags.
-abbrev pub tidy : List Item → List Item
-tidy items = flags items
-
 -- A new value gives the layout of it tidied, within the limits of a text: its length is looked at first, then its depth.
 abbrev pub written : List Item → Option Bytes → Meaning
 written items printed =
-    if nat_lt limit (length (layout (tidy items))) then refuses TooLarge
-    else (if nat_lt 200 (depth_of (drawn (tidy items))) then refuses TooDeep else gives (layout (tidy items)) printed)
+    if nat_lt limit (length (layout (tidied items))) then refuses TooLarge
+    else (if nat_lt depth_limit (depth_of (drawn (tidied items))) then refuses TooDeep else gives (layout (tidied items)) printed)
 
 -- ---- commands
 

@@ -3,12 +3,25 @@
 ghost use Rattle.bz_journal.specs.Fixed.{FixedPoint};
 ghost use Rattle.bz_journal.specs.Worked.{WorkedHistories};
 
+use bz_tidy::{comments_stay, proper_stays, tidy_settles, tidy_stays};
+use bz_view::comments_kept;
+use bz_write::{layout_is_accepted, layout_reads_back};
+
 /// Worked rows: what undo, redo and new texts make of small histories.
 pub fn worked_histories()
     ensures { WorkedHistories }
 {}
 
-/// A formatted text is formatted to itself, and its value is that of the text it was made of, tidied.
+/// A formatted text is formatted to itself, its value is that of the text it was made of, tidied, and each comment stands
+/// in it as often as in that text.
 pub fn formatted_once()
     ensures { FixedPoint }
-{}
+{
+    comments_kept();
+    layout_is_accepted();
+    layout_reads_back();
+    proper_stays();
+    tidy_settles();
+    tidy_stays();
+    comments_stay();
+}

@@ -2,10 +2,12 @@
 #![tactic(auto)]
 
 mod action;
+mod formatter;
 mod laws;
 mod meaning;
 mod session;
 
 pub use action::{Action, Reply};
+pub use formatter::{FormatFault, format};
 pub use laws::{formatted_once, worked_histories};
 pub use session::Session;

@@ -7,6 +7,7 @@ ghost use Rattle.bz_journal.specs.Meaning.{gives, refuses, written, printed_by, 
 
 use bz_command::{Command, Outcome, Refusal, Target, run};
 use bz_items::{Memory, Text};
+use bz_tidy::tidy;
 use bz_tree::{ReadFault, Tree, parse};
 use bz_value::File;
 use bz_view::view;
@@ -43,14 +44,15 @@ fn spelled(alloc: Global, tree: &Tree) -> Result<Text, Memory>
     Ok(Text::from_vec(text))
 }
 
-/// The text of a new value.
+/// The text of a new value: the layout of it tidied.
 #[tactic(auto, using(crate::proofs::Writes::written_too_large, crate::proofs::Writes::written_too_deep, crate::proofs::Writes::written_spelled))]
-fn written(alloc: Global, file: &File) -> Result<Text, Refusal>
-    ensures ok { IfOk result (λ text. (printed : Option Bytes) → written file.now printed ≡ gives text printed) }
+pub(crate) fn written(alloc: Global, file: File) -> Result<Text, Refusal>
+    ensures ok { IfOk result (λ text. (printed : Option Bytes) → written file printed ≡ gives text printed) }
     ensures accepted { IfOk result Accepted }
-    ensures err { IfErr result (λ refusal. ((printed : Option Bytes) → written file.now printed ≡ refuses refusal) ⊎ (refusal ≡ Refusal.Memory)) }
+    ensures err { IfErr result (λ refusal. ((printed : Option Bytes) → written file printed ≡ refuses refusal) ⊎ (refusal ≡ Refusal.Memory)) }
 {
-    let tree = match set(alloc, file) {
+    let tidied = tidy(alloc, file)?;
+    let tree = match set(alloc, &tidied) {
         Ok(tree) => tree,
         Err(SetFault::Memory) => return Err(Refusal::Memory),
         Err(SetFault::TooLarge) => return Err(Refusal::TooLarge),
@@ -92,7 +94,7 @@ pub(crate) fn meaning(
             printed,
         }),
         Some(file) => Ok(Meant {
-            text: Some(written(alloc, &file)?),
+            text: Some(written(alloc, file)?),
             printed,
         }),
     }
@@ -107,5 +109,5 @@ pub(crate) fn formatted(alloc: Global, text: &[u8]) -> Result<Text, Refusal>
 {
     let tree = read(alloc, text)?;
     let value = view(alloc, &tree)?;
-    written(alloc, &value)
+    written(alloc, value)
 }

@@ -10,6 +10,7 @@ ghost use Rattle.bz_journal.specs.History.{History, present, opened, after_text,
 ghost use Rattle.bz_journal.specs.Fixed.{IsFormatted};
 
 use crate::action::{Action, Reply};
+use crate::laws::formatted_once;
 use crate::meaning::{Meant, formatted, meaning};
 use bz_command::{Command, Refusal, Target};
 use bz_items::{Memory, Text};
@@ -153,6 +154,7 @@ impl Session {
         ensures err { OnErr result (self.new ≡ self.old) }
     {
         let alloc = *self.texts.allocator();
+        formatted_once();
         match formatted(alloc, self.present()) {
             Ok(text) => self.push(text, None),
             Err(refusal) => Err(refusal),

@@ -1,5 +1,14 @@
-use Rattle.bz_journal.proofs.Formatting.{formatted_again}
+use Rattle.bz_journal.proofs.Formatting.{LayersHold, formatted_again}
 use Rattle.bz_journal.proofs.laws.formatted_once.Goals as goal
 
 pub returns : goal.returns
-returns c = formatted_again
+returns c =
+    formatted_again (record {
+      kept = c.comments_kept.ensures;
+      accepted = c.layout_is_accepted.ensures;
+      back = c.layout_reads_back.ensures;
+      proper = c.proper_stays.ensures;
+      settled = c.tidy_settles.ensures;
+      stays = c.tidy_stays.ensures;
+      comments = c.comments_stay.ensures;
+    })

@@ -9,7 +9,7 @@ returns-in-Ok-clause-acts c = formats_given c.args.self.now c.present.result.now
 
 pub returns-in-Ok-clause-formatted : goal.returns-in-Ok-clause-formatted
 returns-in-Ok-clause-formatted c =
-    formatted_after c.args.self.now c.push.new.self c.push.result
+    formatted_after c.formatted_once.ensures c.args.self.now c.push.new.self c.push.result
     (subst (λ (h : History). h.cursor < length h.texts) c.self.view_is c.self.invariant.within)
     (formats_given c.args.self.now c.present.result.now c.in-Ok.text c.push.result c.push.new.self c.present.ensures.text c.in-Ok.ensures.ok c.push.ensures.acts)
 

@@ -1,0 +1,62 @@
+//! The formatted text of a text.
+ghost use Rattle.std.specs.Prelude.{◌≡◌, ◌≢◌, ◌⊎◌, IfOk};
+ghost use Rattle.bz_journal.specs.Faults.{FormatsTo};
+ghost use Rattle.bz_journal.specs.Fixed.{IsFormatted};
+
+use crate::laws::formatted_once;
+use crate::meaning::written;
+use bz_command::Refusal;
+use bz_items::Text;
+use bz_tree::{ReadFault, parse};
+use bz_view::view;
+use std::alloc::Global;
+use thiserror::Error;
+
+/// Why there is no formatted text.
+#[derive(Debug, Drop, Error)]
+pub enum FormatFault {
+    /// The text is not accepted.
+    #[error("{0}")]
+    Unread(ReadFault),
+    /// The formatted text would be longer than 4,194,304 bytes.
+    #[error("TooLarge")]
+    TooLarge,
+    /// The tree of the formatted text would be deeper than 200.
+    #[error("TooDeep")]
+    TooDeep,
+    /// A growth was refused.
+    #[error("Memory")]
+    Memory,
+}
+
+fn unread(fault: ReadFault) -> FormatFault
+    ensures { ((result ≡ FormatFault.Unread fault) × (fault ≢ ReadFault.Memory)) ⊎ (result ≡ FormatFault.Memory) }
+{
+    match fault {
+        ReadFault::Memory => FormatFault::Memory,
+        fault => FormatFault::Unread(fault),
+    }
+}
+
+/// The formatted text of a text: its value tidied and laid out; to format it once more gives it again. Errors: `Unread`
+/// where the text is not accepted, with the fault of reading it; `TooLarge` and `TooDeep` where the formatted text would
+/// be past a limit; `Memory`: a growth was refused.
+pub fn format(alloc: Global, text: &[u8]) -> Result<Text, FormatFault>
+    ensures formats { FormatsTo text.now result }
+    ensures fixed { IfOk result (λ formatted. IsFormatted text.now formatted) }
+{
+    let tree = match parse(alloc, text) {
+        Ok(tree) => tree,
+        Err(fault) => return Err(unread(fault)),
+    };
+    let Ok(value) = view(alloc, &tree) else {
+        return Err(FormatFault::Memory);
+    };
+    formatted_once();
+    match written(alloc, value) {
+        Ok(formatted) => Ok(formatted),
+        Err(Refusal::TooLarge) => Err(FormatFault::TooLarge),
+        Err(Refusal::TooDeep) => Err(FormatFault::TooDeep),
+        Err(_) => Err(FormatFault::Memory),
+    }
+}
