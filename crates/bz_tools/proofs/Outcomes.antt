@@ -13,10 +13,11 @@ use Rattle.bz_command.specs.declared.refusal.Refusal.{Refusal}
 use Rattle.bz_command.specs.declared.refusal.Refusal.TheVariants.{Memory}
 use Rattle.bz_journal.specs.declared.action.Action.{Action}
 use Rattle.bz_journal.specs.declared.action.Reply.{Reply}
+use Rattle.bz_journal.specs.Faults.{IsFaultOf}
 use Rattle.bz_journal.specs.History.{History, Acts, Leads}
 use Rattle.bz_tools.specs.Asked.{Step, Usage, steps_asked}
 use Rattle.bz_tools.specs.Told.{IsUsageLine}
-use Rattle.bz_tools.specs.Outcome.{Halt, RunsToRefusal, RunsToMemory, IsFaultOf, Unread, Edits, Outcome, IsInput}
+use Rattle.bz_tools.specs.Outcome.{Halt, RunsToRefusal, RunsToMemory, Unread, Edits, Outcome, IsInput}
 use Rattle.bz_tree.specs.Legal.{Accepted}
 
 -- a step that is not refused
@@ -62,12 +63,12 @@ fault_of_text A text fault large coding other = record {
   other = other;
 }
 
-within_limit : (text : List ℕ) → Accepted text → length text ≤ limit
+pub within_limit : (text : List ℕ) → Accepted text → length text ≤ limit
 within_limit text accepted = accepted.1.2
 
 -- ---- the first bytes of an input, one more than a text may have, tell what becomes of it
 
-fault_of_front : (all : List ℕ) (fault : ReadFault) → limit < length all → IsFaultOf (take 4194305 all) fault → IsFaultOf all fault
+pub fault_of_front : (all : List ℕ) (fault : ReadFault) → limit < length all → IsFaultOf (take 4194305 all) fault → IsFaultOf all fault
 fault_of_front all fault long of_front =
     let len = length-take 4194305 all in
     let large : fault ≡ f.TooLarge = of_front.too_large.1 (omega arith) in

@@ -1,10 +1,7 @@
 -- Readers and writers that count their faults.
-use Rattle.std.specs.Prelude.{◌≡◌, ◌⊎◌, ◌<◌, ◌≤◌, ◌-◌, ◌^◌, ℕ, List, length, take, Option}
+use Rattle.std.specs.Prelude.{◌⊎◌, ◌≤◌, ℕ, List, length, take, Option}
 use Rattle.std.specs.Io.KnownBytes.{Appends}
-
--- the count of faults rose, or is at its greatest
-abbrev pub Rises : ℕ → ℕ → Type 0
-Rises old new = (old < new) ⊎ (new ≡ 2 ^ 64 - 1)
+pub use Rattle.bz_files.specs.Faults.{Rises}
 
 -- a beginning of these bytes was written
 pub record AppendsSome (old new : Option (List ℕ)) (bytes : List ℕ) : Type 0 where

@@ -1,7 +1,11 @@
 pub mod App
 pub mod Asked
 pub mod Faults
+pub mod FormatExact
+pub mod FormatRun
+pub mod FormatShown
 pub mod Line
+pub mod Modes
 pub mod Operands
 pub mod Outcome
 pub mod Ports

@@ -1,16 +1,14 @@
 -- What a run of buildozer over standard input writes on standard output and on standard error, and its status.
-use Rattle.std.specs.Prelude.{◌≡◌, ◌≢◌, ◌⊎◌, ◌↔◌, ◌<◌, ◌≤◌, ℕ, List, [], ◌∷◌, length, Bool, if◌then◌else◌, bytes_eq, is_some, Option, Some, None, Result, Ok, Err, IfSome}
-use Rattle.std.specs.Str.{IsValidUpTo}
+use Rattle.std.specs.Prelude.{◌≡◌, ◌⊎◌, ℕ, List, [], ◌∷◌, Bool, if◌then◌else◌, bytes_eq, is_some, Option, Some, None, Result, Ok, Err, IfSome}
 use Rattle.bz_lex.specs.declared.fault.ReadFault.{ReadFault}
-use Rattle.bz_lex.specs.declared.fault.ReadFault.TheVariants as f
-use Rattle.bz_tree.specs.Spell.{limit}
 use Rattle.bz_tree.specs.Legal.{Accepted}
 use Rattle.bz_value.specs.Gaps.{Bytes}
 use Rattle.bz_command.specs.declared.refusal.Refusal.{Refusal}
 use Rattle.bz_journal.specs.declared.action.Reply.{Reply}
+use Rattle.bz_journal.specs.Faults.{IsFaultOf}
 use Rattle.bz_journal.specs.History.{History, opened, present, Leads, TakesNone}
 use Rattle.bz_tools.specs.Asked.{Step, Usage, steps_asked}
-use Rattle.bz_tools.specs.Told.{fault_line, refusal_line, IsUsageLine}
+use Rattle.bz_tools.specs.Told.{stdin, fault_line, refusal_line, IsUsageLine}
 
 -- ---- the run of the steps
 
@@ -54,19 +52,13 @@ pub record Edited (steps : List Step) (input output line : Bytes) (status : ℕ)
 
 -- ---- texts that are not accepted
 
--- A fault of the text: TooLarge and NotUtf8 exactly where it is that.
-pub record IsFaultOf (text : Bytes) (fault : ReadFault) : Type 0 where
-  pub too_large : (fault ≡ f.TooLarge) ↔ (limit < length text)
-  pub not_utf8 : (at : ℕ) → ((fault ≡ f.NotUtf8 at) ↔ ((length text ≤ limit) × IsValidUpTo text at))
-  pub other : fault ≢ f.Memory
-
 -- Of every other text nothing is written, and its fault is told.
 pub record Unread (input output line : Bytes) : Type 0 where
   pub refused : Accepted input → ⊥
   pub fault : ReadFault
   pub of_text : IsFaultOf input fault
   pub nothing : output ≡ []
-  pub told : line ≡ fault_line fault
+  pub told : line ≡ fault_line stdin fault
 
 -- ---- whole runs
 

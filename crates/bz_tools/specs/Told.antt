@@ -8,20 +8,28 @@ use Rattle.bz_command.specs.declared.refusal.Refusal.{Refusal}
 use Rattle.bz_tools.specs.Asked.{Refused, Usage, of_clap, of_operand, no_command, no_target}
 use Rattle.bz_tools.specs.Verbs.{fault_name, fault_number}
 
--- where a text is not accepted, and why
-abbrev pub place_line : ℕ → ℕ → Bytes → Bytes
-place_line line column name = codes "<stdin>:" ++ decimal line ++ codes ":" ++ decimal column ++ codes ": " ++ name ++ codes "\n"
+-- the name by which standard input is told
+abbrev pub stdin : Bytes
+stdin = codes "<stdin>"
 
--- a text that is not accepted
-abbrev pub fault_line : ReadFault → Bytes
-fault_line (f.NotUtf8 at) = codes "<stdin>: NotUtf8 at " ++ decimal at ++ codes "\n"
-fault_line f.TooLarge = codes "<stdin>: TooLarge\n"
-fault_line (f.BadCharacter line column) = place_line line column (codes "BadCharacter")
-fault_line (f.OpenString line column) = place_line line column (codes "OpenString")
-fault_line (f.Indented line column) = place_line line column (codes "Indented")
-fault_line (f.Unexpected line column) = place_line line column (codes "Unexpected")
-fault_line (f.TooDeep line column) = place_line line column (codes "TooDeep")
-fault_line f.Memory = codes "<stdin>: Memory\n"
+-- where a file is not accepted, and why
+abbrev pub place_line : Bytes → ℕ → ℕ → Bytes → Bytes
+place_line file line column name = file ++ codes ":" ++ decimal line ++ codes ":" ++ decimal column ++ codes ": " ++ name ++ codes "\n"
+
+-- a word on a file
+abbrev pub named_line : Bytes → Bytes → Bytes
+named_line file word = file ++ codes ": " ++ word ++ codes "\n"
+
+-- a file that is not accepted
+abbrev pub fault_line : Bytes → ReadFault → Bytes
+fault_line file (f.NotUtf8 at) = file ++ codes ": NotUtf8 at " ++ decimal at ++ codes "\n"
+fault_line file f.TooLarge = named_line file (codes "TooLarge")
+fault_line file (f.BadCharacter line column) = place_line file line column (codes "BadCharacter")
+fault_line file (f.OpenString line column) = place_line file line column (codes "OpenString")
+fault_line file (f.Indented line column) = place_line file line column (codes "Indented")
+fault_line file (f.Unexpected line column) = place_line file line column (codes "Unexpected")
+fault_line file (f.TooDeep line column) = place_line file line column (codes "TooDeep")
+fault_line file f.Memory = named_line file (codes "Memory")
 
 -- what is refused, behind this front, with the name and the number of the refusal
 abbrev pub numbered_line : Bytes → Bytes → Bytes → ℕ → Bytes

@@ -4,41 +4,19 @@ ghost use Rattle.std.specs.Io.KnownBytes.{Appends};
 ghost use Rattle.bz_tools.specs.Faults.{Rises, AppendsSome, AppendsUnlessFailed};
 ghost use Rattle.bz_tools.specs.Shown.{halt_in, steps_in, usage_in};
 ghost use Rattle.bz_tools.specs.Asked.{Usage, steps_asked};
-ghost use Rattle.bz_tools.specs.Told.{fault_line, IsUsageLine};
+ghost use Rattle.bz_tools.specs.Told.{stdin, fault_line, IsUsageLine};
 ghost use Rattle.bz_tools.specs.Outcome.{RunsToRefusal, RunsToMemory, Edits, Outcome, IsInput, halt_line, status_of};
 
 use crate::sink::write_whole;
-use crate::source::{InputFault, read_most};
+use crate::source::{InputFault, MOST, read_most};
 use crate::steps::{Step, UsageFault, read_steps};
-use crate::told::{tell_fault, tell_refusal, tell_usage};
-use crate::{Sink, Source};
+use crate::told::{STDIN, tell_fault, tell_refusal, tell_usage};
+use crate::{Cut, Exit, Sink, Source};
 use bz_command::Refusal;
 use bz_journal::Session;
 use bz_tree::ReadFault;
 use std::alloc::{AllocError, Global};
 use std::convert::AsStr;
-
-/// The first failure of a run.
-#[derive(Clone, Copy, Debug, PartialEq, Eq)]
-pub enum Cut {
-    /// There was none.
-    Whole,
-    /// Memory was refused.
-    Memory,
-    /// Standard input failed.
-    Read,
-    /// Standard output failed.
-    Write,
-}
-
-/// How a run ended.
-#[derive(Clone, Copy, Debug, PartialEq, Eq)]
-pub struct Exit {
-    /// The status for the process.
-    pub status: u8,
-    /// The first failure, or that there was none.
-    pub cut: Cut,
-}
 
 // The statuses of whole runs; a run that is cut has that of a refusal.
 const CHANGED: u8 = 0;
@@ -48,9 +26,6 @@ const USAGE: u8 = 1;
 const REFUSED: u8 = 2;
 
 const SAME: u8 = 3;
-
-// The length of the longest text, and one byte more, by which a longer one is told.
-const MOST: usize = 4_194_305;
 
 // A command that was refused.
 #[derive(Drop)]
@@ -86,13 +61,13 @@ fn run<'a>(session: &mut Session, steps: &[Step<'a>]) -> Result<Option<Halt<'a>>
 // Nothing is written of a text that is not accepted, which is told. The error: memory was refused.
 fn unread<E: Sink>(alloc: Global, fault: &ReadFault, err: &mut E) -> Result<Edited, AllocError>
     ensures ok { IfOk result (λ edited. (fault.now ≢ ReadFault.Memory) × (edited.text.items ≡ []) × (edited.status ≡ 2)
-        × AppendsUnlessFailed (E.faults err.old) (E.faults err.new) (E.contents err.old) (E.contents err.new) (fault_line fault.now)) }
+        × AppendsUnlessFailed (E.faults err.old) (E.faults err.new) (E.contents err.old) (E.contents err.new) (fault_line stdin fault.now)) }
     ensures err { OnErr result (err.new ≡ err.old) }
 {
     match fault {
         ReadFault::Memory => Err(AllocError),
         _ => {
-            tell_fault(err, fault);
+            tell_fault(err, STDIN, fault);
             let text = Vec::new(alloc);
             Ok(Edited {
                 text,

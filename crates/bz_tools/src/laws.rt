@@ -1,5 +1,6 @@
 //! Facts about the definitions, for readers: the functions do nothing.
-ghost use Rattle.bz_tools.specs.Worked.{WorkedWords, WorkedRefusals};
+ghost use Rattle.bz_tools.specs.FormatExact.{WholeRunsAreExact};
+ghost use Rattle.bz_tools.specs.Worked.{WorkedWords, WorkedRefusals, WorkedFormats};
 
 /// What lines of words ask for, worked out by hand.
 pub fn worked_words()
@@ -9,4 +10,15 @@ pub fn worked_words()
 /// How refusals are told, worked out by hand.
 pub fn worked_refusals()
     ensures { WorkedRefusals }
+{}
+
+/// What buildifier's words, modes and faults mean, worked out by hand.
+pub fn worked_formats()
+    ensures { WorkedFormats }
+{}
+
+/// A run of buildifier's over files that no failure cuts does exactly what the folder's files mean, and leaves the folder
+/// that this gives, names that end in `.bznew` set aside.
+pub fn whole_runs_are_exact()
+    ensures { WholeRunsAreExact }
 {}

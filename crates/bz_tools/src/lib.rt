@@ -4,10 +4,15 @@
 
 mod asked;
 mod device;
+mod effect;
 mod engine;
+mod exit;
+mod format_line;
+mod formatting;
 mod laws;
 mod line;
 mod memory;
+mod mode;
 mod sink;
 mod source;
 mod steps;
@@ -17,8 +22,10 @@ mod verb;
 mod words;
 
 pub use device::Device;
-pub use engine::{Cut, Exit, buildozer};
-pub use laws::{worked_refusals, worked_words};
+pub use engine::buildozer;
+pub use exit::{Cut, Exit};
+pub use formatting::buildifier;
+pub use laws::{whole_runs_are_exact, worked_formats, worked_refusals, worked_words};
 pub use memory::{MemorySink, MemorySource};
 pub use sink::Sink;
 pub use source::{PortFault, Source};

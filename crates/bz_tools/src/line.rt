@@ -57,7 +57,8 @@ fn slice_of<'m, 'a>(matches: &'m ArgMatches<'a>, id: &str) -> Option<&'m [&'a st
     matches.get_strs(id)
 }
 
-fn texts_of<'a>(
+/// The texts of an argument, in order.
+pub(crate) fn texts_of<'a>(
     alloc: Global,
     matches: &ArgMatches<'a>,
     id: &str,

@@ -37,6 +37,7 @@ pub(crate) fn write_whole<S: Sink>(sink: &mut S, bytes: &[u8]) -> Result<(), Por
     ensures err { OnErr result (AppendsSome (S.contents sink.old) (S.contents sink.new) bytes.now) }
     ensures cause { IsErr result → Rises (S.faults sink.old) (S.faults sink.new) }
     ensures steady { IsOk result → S.faults sink.new ≡ S.faults sink.old }
+    ensures count { S.faults sink.old ≤ S.faults sink.new }
 {
     let mut rest = bytes;
     while !rest.is_empty() {

@@ -36,6 +36,9 @@ pub(crate) enum InputFault {
     Read,
 }
 
+/// The length of the longest text, and one byte more, by which a longer one is told.
+pub(crate) const MOST: usize = 4_194_305;
+
 const CHUNK: usize = 16_384;
 
 // One read, of at most as much as there is room for in `most`.

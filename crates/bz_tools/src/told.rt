@@ -3,7 +3,7 @@ ghost use Rattle.std.specs.Prelude.{◌≡◌, List, ℕ, IfSome, OnOk, OnErr, m
 ghost use Rattle.std.specs.List.{concat};
 ghost use Rattle.bz_tools.specs.Faults.{AppendsUnlessFailed};
 ghost use Rattle.bz_tools.specs.Shown.{refused_in, usage_in};
-ghost use Rattle.bz_tools.specs.Told.{place_line, fault_line, numbered_line, refusal_line, operand_line, IsUsageLine};
+ghost use Rattle.bz_tools.specs.Told.{place_line, named_line, fault_line, numbered_line, refusal_line, operand_line, IsUsageLine};
 
 use crate::Sink;
 use crate::asked::Refused;
@@ -14,8 +14,11 @@ use bz_tree::ReadFault;
 use itoa::Buffer;
 use std::alloc::{AllocError, Global};
 
-// Writes these pieces, one behind the other, up to a fault.
-fn tell<E: Sink>(err: &mut E, pieces: &[&str])
+/// The name by which standard input is told.
+pub(crate) const STDIN: &str = "<stdin>";
+
+/// Writes these pieces, one behind the other, up to a fault.
+pub(crate) fn tell<E: Sink>(err: &mut E, pieces: &[&str])
     ensures { AppendsUnlessFailed (E.faults err.old) (E.faults err.new) (E.contents err.old) (E.contents err.new)
         (concat (map (λ piece. piece.now) pieces.now)) }
 {
@@ -27,41 +30,67 @@ fn tell<E: Sink>(err: &mut E, pieces: &[&str])
     }
 }
 
-// Tells where the text of standard input is not accepted, and why.
-fn tell_place<E: Sink>(err: &mut E, line: u32, column: u32, name: &str)
+// Tells where a file is not accepted, and why.
+fn tell_place<'a, E: Sink>(err: &mut E, file: &'a str, line: u32, column: u32, name: &'a str)
     ensures { AppendsUnlessFailed (E.faults err.old) (E.faults err.new) (E.contents err.old) (E.contents err.new)
-        (place_line line column name.now) }
+        (place_line file.entry.now line column name.entry.now) }
 {
     let mut lines = Buffer::new();
     let mut columns = Buffer::new();
     let line = lines.format(line);
     let column = columns.format(column);
-    tell(err, &["<stdin>:", line, ":", column, ": ", name, "\n"]);
+    tell(err, &[file, ":", line, ":", column, ": ", name, "\n"]);
 }
 
-fn tell_not_utf8<E: Sink>(err: &mut E, at: usize)
+fn tell_not_utf8<E: Sink>(err: &mut E, file: &str, at: usize)
     ensures { AppendsUnlessFailed (E.faults err.old) (E.faults err.new) (E.contents err.old) (E.contents err.new)
-        (fault_line (ReadFault.NotUtf8 at)) }
+        (fault_line file.now (ReadFault.NotUtf8 at)) }
 {
     let mut places = Buffer::new();
     let at = places.format(at);
-    tell(err, &["<stdin>: NotUtf8 at ", at, "\n"]);
+    tell(err, &[file, ": NotUtf8 at ", at, "\n"]);
 }
 
-/// Tells why the text of standard input is not accepted.
-pub(crate) fn tell_fault<E: Sink>(err: &mut E, fault: &ReadFault)
+/// Tells a word on a file.
+pub(crate) fn tell_named<'a, E: Sink>(err: &mut E, file: &'a str, word: &'a str)
     ensures { AppendsUnlessFailed (E.faults err.old) (E.faults err.new) (E.contents err.old) (E.contents err.new)
-        (fault_line fault.now) }
+        (named_line file.entry.now word.entry.now) }
+{
+    tell(err, &[file, ": ", word, "\n"]);
+}
+
+/// Tells why a file is not accepted.
+pub(crate) fn tell_fault<E: Sink>(err: &mut E, file: &str, fault: &ReadFault)
+    ensures { AppendsUnlessFailed (E.faults err.old) (E.faults err.new) (E.contents err.old) (E.contents err.new)
+        (fault_line file.now fault.now) }
 {
     match fault {
-        ReadFault::NotUtf8 { at } => tell_not_utf8(err, *at),
-        ReadFault::TooLarge => tell(err, &["<stdin>: TooLarge\n"]),
-        ReadFault::BadCharacter { line, column } => tell_place(err, *line, *column, "BadCharacter"),
-        ReadFault::OpenString { line, column } => tell_place(err, *line, *column, "OpenString"),
-        ReadFault::Indented { line, column } => tell_place(err, *line, *column, "Indented"),
-        ReadFault::Unexpected { line, column } => tell_place(err, *line, *column, "Unexpected"),
-        ReadFault::TooDeep { line, column } => tell_place(err, *line, *column, "TooDeep"),
-        ReadFault::Memory => tell(err, &["<stdin>: Memory\n"]),
+        ReadFault::NotUtf8 { at } => tell_not_utf8(err, file, *at),
+        ReadFault::TooLarge => tell_named(err, file, "TooLarge"),
+        ReadFault::BadCharacter { line, column } => tell_place(
+            err,
+            file,
+            *line,
+            *column,
+            "BadCharacter",
+        ),
+        ReadFault::OpenString { line, column } => tell_place(
+            err,
+            file,
+            *line,
+            *column,
+            "OpenString",
+        ),
+        ReadFault::Indented { line, column } => tell_place(err, file, *line, *column, "Indented"),
+        ReadFault::Unexpected { line, column } => tell_place(
+            err,
+            file,
+            *line,
+            *column,
+            "Unexpected",
+        ),
+        ReadFault::TooDeep { line, column } => tell_place(err, file, *line, *column, "TooDeep"),
+        ReadFault::Memory => tell_named(err, file, "Memory"),
     }
 }
 
@@ -109,7 +138,12 @@ fn tell_operand<E: Sink>(err: &mut E, refused: &Refused<'_>)
     );
 }
 
-fn tell_clap<E: Sink>(alloc: Global, err: &mut E, error: &clap::Error) -> Result<(), AllocError>
+/// Tells a fault that clap finds. The error: there was no memory for its text; nothing is then told.
+pub(crate) fn tell_clap<E: Sink>(
+    alloc: Global,
+    err: &mut E,
+    error: &clap::Error,
+) -> Result<(), AllocError>
     ensures ok { OnOk result ((line : List ℕ) × AppendsUnlessFailed (E.faults err.old) (E.faults err.new)
         (E.contents err.old) (E.contents err.new) line) }
     ensures err { OnErr result (err.new ≡ err.old) }

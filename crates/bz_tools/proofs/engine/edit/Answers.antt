@@ -1,7 +1,7 @@
 use Rattle.std.proofs.Common.{◌≡◌, List, ℕ, [], inl, inr, refl, subst, option_map}
 use Rattle.std.proofs.lemmas.Result.{IfOk-weaker}
 use Rattle.bz_lex.specs.declared.fault.ReadFault.TheVariants as f
-use Rattle.bz_tools.specs.Told.{fault_line}
+use Rattle.bz_tools.specs.Told.{stdin, fault_line}
 use Rattle.bz_tools.specs.Faults.{AppendsUnlessFailed}
 use Rattle.bz_journal.specs.History.{History}
 use Rattle.bz_tools.specs.Outcome.{Edits, RunsToRefusal, halt_line}
@@ -16,10 +16,10 @@ returns-in-Err-clause-ok g c =
     let Tells : List ℕ → Type 0 = AppendsUnlessFailed (g.E.Sink.faults c.args.err.now) (g.E.Sink.faults c.unread.new.err)
     (g.E.Sink.contents c.args.err.now) (g.E.Sink.contents c.unread.new.err) in
     IfOk-weaker c.unread.result
-    (λ edited. (fault ≡ f.Memory → ⊥) × (edited.text.items ≡ []) × (edited.status ≡ 2) × Tells (fault_line fault))
+    (λ edited. (fault ≡ f.Memory → ⊥) × (edited.text.items ≡ []) × (edited.status ≡ 2) × Tells (fault_line stdin fault))
     (λ edited. (line : List ℕ) × Edits (steps_in c.args.steps.now) text edited.text.items line edited.status × Tells line)
     (λ edited told. (
-      fault_line fault,
+      fault_line stdin fault,
       inr (
         record {
           refused = refused_text text fault c.in-Err.ensures.refused told.0;

@@ -1,0 +1,139 @@
+-- What several texts of buildifier's do, one after the other.
+use Rattle.std.proofs.Common.{◌≡◌, ◌⊎◌, ◌≤◌, ◌∙◌, ◌++◌, ◌∷◌, ◌==◌, ◌||◌, inl, inr, ℕ, List, [], length, Option, Ok, Err, Bool, Bor, map, true, false, refl, sym, ap, subst, arith}
+use Rattle.std.specs.Prelude.{if◌then◌else◌}
+use Rattle.std.specs.Io.KnownBytes.{Appends}
+use Rattle.std.proofs.lemmas.List.{append-nil, nil_from_length}
+use Rattle.std.proofs.lemmas.Bool.{eqb-true}
+use Rattle.bz_files.specs.Folder.{Folder}
+use Rattle.bz_tools.specs.Faults.{Rises, AppendsSome}
+use Rattle.bz_tools.specs.Modes as m
+use Rattle.bz_tools.specs.FormatRun.{Effect, Run, Files, FileStep, InputStep, FormatOutcome, RunOf, IsFormatUsageLine, begun, Writes, WritesUnlessClosed, Tells, IsCutBy, Counts, grown, worse, first_cut}
+use Rattle.bz_tools.specs.FormatShown.{effect_of, progress_of}
+use Rattle.bz_tools.specs.declared.effect.Effect as e
+use Rattle.bz_tools.specs.declared.effect.Progress.{Progress}
+use Rattle.bz_tools.specs.declared.exit.Cut.{Cut}
+use Rattle.bz_tools.specs.declared.exit.Cut.TheVariants as c
+use Rattle.bz_tools.specs.declared.mode.Mode.{Mode}
+use Rattle.bz_tools.proofs.Written.{begins, piece_written, piece_begun, all_written}
+
+-- ---- counts
+
+pub rises_more : (a b d : ℕ) → a ≤ b → Rises a b → Counts b d → Rises a d
+rises_more a b d le rises counts = go counts.rises
+  where
+    go : (d ≡ b) ⊎ Rises b d → Rises a d
+    go (inl same) = subst (Rises a) (sym same) rises
+    go (inr (inl more)) = inl (omega (arith, le, more))
+    go (inr (inr most)) = inr most
+
+pub counts_more : (a b d : ℕ) → Counts a b → Counts b d → Counts a d
+counts_more a b d first more = let le = first.grows in let le' = more.grows in record { grows = omega (arith, le, le'); rises = go first.rises more.rises }
+  where
+    go : (b ≡ a) ⊎ Rises a b → (d ≡ b) ⊎ Rises b d → (d ≡ a) ⊎ Rises a d
+    go (inl same) (inl still) = inl (still ∙ same)
+    go (inl same) (inr rises) = inr (subst (λ (n : ℕ). Rises n d) same rises)
+    go (inr rises) other = inr (rises_more a b d first.grows rises more)
+
+pub cut_more : (cut later : Cut) (f g h u v w : ℕ) → IsCutBy cut f g u v → IsCutBy later g h v w → Counts f g → Counts g h → Counts u v → Counts v w
+    → IsCutBy (first_cut cut later) f h u w
+cut_more c.Whole later f g h u v w first more files files' out out' =
+    subst (λ (n : ℕ). IsCutBy later n h u w) first.0 (subst (λ (n : ℕ). IsCutBy later g h n w) first.1 more)
+cut_more c.Memory later f g h u v w first more files files' out out' = tt
+cut_more c.Read later f g h u v w first more files files' out out' = first
+cut_more c.Write later f g h u v w first more files files' out out' = rises_more u v w out.grows first out'
+cut_more c.Files later f g h u v w first more files files' out out' = rises_more f g h files.grows first files'
+
+-- ---- statuses
+
+failed_last : (a : ℕ) → worse a 3 ≡ 3
+failed_last a = elim (a == 3) as (λ (b : Bool). ◌≡◌ {A = ℕ} (if b || true then 3 else (if a == 1 || false then 1 else (if a == 4 || false then 4 else 0))) 3)
+    [ true ↦ refl | false ↦ refl ]
+
+pub status_more : (cut later : Cut) (a b : ℕ) → ((cut ≡ c.Whole → ⊥) → a ≡ 3) → ((later ≡ c.Whole → ⊥) → b ≡ 3)
+    → (first_cut cut later ≡ c.Whole → ⊥) → worse a b ≡ 3
+status_more c.Whole later a b first last other = rw (last other) (failed_last a)
+status_more c.Memory later a b first last other = rw (first other) refl
+status_more c.Read later a b first last other = rw (first other) refl
+status_more c.Write later a b first last other = rw (first other) refl
+status_more c.Files later a b first last other = rw (first other) refl
+
+-- ---- outputs
+
+some_more : (old new : Option (List ℕ)) (out more : List ℕ) → AppendsSome old new out → AppendsSome old new (out ++ more)
+some_more old new out more some = piece_begun old old new (out ++ more) (out ++ more) out more refl (begins old (out ++ more)) some
+
+all_more : (old mid new : Option (List ℕ)) (out more : List ℕ) → Appends old mid out → Appends mid new more → Appends old new (out ++ more)
+all_more old mid new out more first last =
+    all_written old new (out ++ more) (piece_written old mid new (out ++ more) more more [] (sym (append-nil more))
+    (piece_written old old mid (out ++ more) (out ++ more) out more refl (begins old (out ++ more)) first) last)
+
+begun_more : (old mid new : Option (List ℕ)) (out more : List ℕ) → Appends old mid out → AppendsSome mid new more → AppendsSome old new (out ++ more)
+begun_more old mid new out more first last =
+    piece_begun old mid new (out ++ more) more more [] (sym (append-nil more))
+    (piece_written old old mid (out ++ more) (out ++ more) out more refl (begins old (out ++ more)) first) last
+
+pub writes_more : (closed closes : Bool) (f g h : ℕ) (old mid new : Option (List ℕ)) (out more : List ℕ) → Writes closed f g old mid out
+    → WritesUnlessClosed closed closes g h mid new more → Writes (closed || closes) f h old new (out ++ more)
+writes_more true closes f g h old mid new out more first last =
+    (subst (Rises f) (sym last.1) first.0, some_more old new out more (subst (λ (held : Option (List ℕ)). AppendsSome old held out) (sym last.2) first.1))
+writes_more false false f g h old mid new out more first last = (last.0 ∙ first.0, all_more old mid new out more first.1 last.1)
+writes_more false true f g h old mid new out more first last =
+    (subst (λ (n : ℕ). Rises n h) first.0 last.0, begun_more old mid new out more first.1 last.1)
+
+pub tells_more : (f g h : ℕ) (old mid new : Option (List ℕ)) (lines more : List (List ℕ)) → Tells f g old mid lines → Tells g h mid new more
+    → Tells f h old new (lines ++ more)
+tells_more f g h old mid new [] more first last =
+    subst (λ (n : ℕ). Tells n h old new more) first.0 (subst (λ (held : Option (List ℕ)). Tells g h held new more) first.1 last)
+tells_more f g h old mid new (line ∷ lines) more first last = (first.0, first.1, first.2, tells_more first.0 g h first.1 mid new lines more first.3 last)
+
+-- ---- a run goes on by one file
+
+pub files_more : (mode : Mode) (names left rest : List (List ℕ)) (name : List ℕ) (start run : Run) (before folder mid : Folder) (effect : Effect)
+    → left ≡ name ∷ rest → FileStep mode name run.closed folder effect mid
+    → ((after : Run) (last : Folder) → Files mode left run folder after last → Files mode names start before after last)
+    → (after : Run) (last : Folder) → Files mode rest (grown run effect) mid after last → Files mode names start before after last
+files_more mode names left rest name start run before folder mid effect split step runs after last more =
+    runs after last (rw (split) (effect, mid, step, more))
+
+-- what the code holds of a run that goes on
+made : Progress → e.Effect → Progress
+made progress effect = record {
+  status = worse progress.status effect.status;
+  cut = first_cut progress.cut effect.cut;
+  closed = progress.closed || effect.closes;
+}
+
+pub grown_is : (progress result : Progress) (held : e.Effect) (run : Run) (effect : Effect) → progress ≡ progress_of run → held ≡ effect_of effect
+    → result ≡ record {
+      status = worse progress.status held.status;
+      cut = first_cut progress.cut held.cut;
+      closed = progress.closed || held.closes;
+    } → result ≡ progress_of (grown run effect)
+unfolding made
+grown_is progress result held run effect at is made_so =
+    made_so ∙ ap (λ (p : Progress). made p held) at ∙ ap (made (progress_of run)) is
+
+-- ---- whole runs
+
+pub input_outcome : (words : List (List ℕ)) (line : m.FormatLine) (known : Option (List ℕ)) (folder : Folder) (effect : Effect)
+    → m.format_line words ≡ Ok line → line.files ≡ [] → InputStep line.mode known effect → FormatOutcome words known folder (grown begun effect) folder
+input_outcome words line known folder effect read none step = inr (rw (read, none) (effect, step, refl, refl))
+
+pub files_outcome : (words : List (List ℕ)) (line : m.FormatLine) (known : Option (List ℕ)) (folder after : Folder) (run : Run)
+    → m.format_line words ≡ Ok line → (line.files ≡ [] → ⊥) → Files line.mode line.files begun folder run after → FormatOutcome words known folder run after
+files_outcome words line known folder after run read some runs = inr (rw (read) (go line.files some runs))
+  where
+    go : (names : List (List ℕ)) → (names ≡ [] → ⊥) → Files line.mode names begun folder run after → RunOf line.mode names known folder run after
+    go [] other all = absurd (other refl)
+    go (name ∷ names) other all = all
+
+pub usage_outcome : (words : List (List ℕ)) (usage : m.FormatUsage) (line : List ℕ) (known : Option (List ℕ)) (folder : Folder)
+    → m.format_line words ≡ Err usage → IsFormatUsageLine usage line
+    → FormatOutcome words known folder (record begun { lines = line ∷ []; status = 2 }) folder
+usage_outcome words usage line known folder read told = inr (rw (read) (line, told, refl, refl))
+
+-- a list of names that its test finds empty
+pub no_names : (items names : List (Bor (List ℕ))) (empty : Bool) → names ≡ items → empty ≡ (length names == 0) → empty ≡ true
+    → map (λ name. name.now) items ≡ []
+no_names items names empty is test found =
+    let none : names ≡ [] = nil_from_length names (eqb-true (length names) 0 (sym test ∙ found)) in ap (map (λ name. name.now)) (sym is ∙ none)

@@ -1,0 +1,48 @@
+use Rattle.std.proofs.Common.{◌≡◌, ◌∙◌, ◌∷◌, [], inl, inr, refl, ap, map}
+use Rattle.bz_tools.specs.FormatRun as r
+use Rattle.bz_tools.specs.FormatShown.{line_of}
+use Rattle.bz_tools.specs.declared.exit.Cut.TheVariants as cut
+use Rattle.bz_tools.specs.declared.effect.Progress.{Progress}
+use Rattle.bz_tools.proofs.Outcomes.{appends_nothing}
+use Rattle.bz_tools.proofs.FormatRuns.{grown_is, input_outcome, usage_outcome, no_names}
+use Rattle.bz_tools.proofs.formatting.buildifier.Goals as goal
+
+pub returns-in-Err-clause-run : goal.returns-in-Err-clause-run
+returns-in-Err-clause-run g c = λ _.
+    let words = map g.S.AsStr.text c.args.words.now in
+    let known = g.R.Source.remaining c.args.input.now in
+    let folder = g.F.Files.folder c.args.files.now in
+    elim c.unusable.ensures [
+      | inl t ↦ (
+        record r.begun { lines = t.1 ∷ []; status = 2 },
+        usage_outcome words t.0 t.1 known folder (rw t.2 at c.in-Err.ensures.err) t.3,
+        t.5,
+        (refl, appends_nothing (g.W.Sink.contents c.args.out.now)),
+        (g.E.Sink.faults c.unusable.new.err, g.E.Sink.contents c.unusable.new.err, t.4, (refl, refl)),
+      )
+      | inr t ↦ (
+        record r.begun { status = 3; cut = cut.Memory },
+        inl (refl, refl),
+        t.0,
+        (refl, appends_nothing (g.W.Sink.contents c.args.out.now)),
+        (ap g.E.Sink.faults t.1, ap g.E.Sink.contents t.1),
+      )
+    ]
+
+pub returns-then-is_empty-clause-run : goal.returns-then-is_empty-clause-run
+returns-then-is_empty-clause-run g c = λ _.
+    let words = map g.S.AsStr.text c.args.words.now in
+    let known = g.R.Source.remaining c.args.input.now in
+    let folder = g.F.Files.folder c.args.files.now in
+    let step = c.input_effect-effect.ensures.step in
+    let run = r.grown r.begun step.0 in
+    let none : map (λ file. file.now) c.in-Ok.line.files.items ≡ [] =
+    no_names c.in-Ok.line.files.items c.as_slice-names.result.now _ c.as_slice-names.ensures.value c.is_empty.ensures c.if-is_empty.true in
+    let done : c.grown.result ≡ record { status = run.status; cut = run.cut; closed = run.closed } =
+    grown_is _ c.grown.result c.input_effect-effect.result r.begun step.0 refl step.2 c.grown.ensures in (
+      run,
+      input_outcome words (line_of c.in-Ok.line) known folder step.0 c.in-Ok.ensures.ok none step.1,
+      c.ended.ensures ∙ ap (λ (p : Progress). record { status = p.status; cut = p.cut }) done,
+      step.3,
+      step.4,
+    )

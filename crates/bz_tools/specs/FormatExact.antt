@@ -1,0 +1,32 @@
+-- What whole runs over files do: no failure cuts them, and names that end in `.bznew` are set aside.
+use Rattle.std.specs.Prelude.{◌≡◌, List, [], ◌∷◌, if◌then◌else◌, Some, None, Ok, Err}
+use Rattle.std.specs.List.{All}
+use Rattle.std.specs.FinMap.{get}
+use Rattle.bz_value.specs.Gaps.{Bytes}
+use Rattle.bz_files.specs.Folder.{Folder, IsAside, SameFolders, with_file}
+use Rattle.bz_journal.specs.Faults.{FormatsTo}
+use Rattle.bz_journal.specs.declared.formatter.FormatFault.{FormatFault}
+use Rattle.bz_tools.specs.FormatRun.{Effect, Run, Files, begun, grown, printed, refused, unopened, file_out, text_status, is_rewritten}
+use Rattle.bz_tools.specs.declared.exit.Cut.TheVariants as c
+use Rattle.bz_tools.specs.declared.mode.Mode.{Mode}
+
+-- A file is absent, is not formatted, or is formatted; in the last case the folder has the formatted text there where the
+-- mode rewrites it, and all else leaves the folder.
+pub data ExactStep (mode : Mode) (name : Bytes) (folder : Folder) (effect : Effect) (after : Folder) : Type 0 where
+  exact_absent : get folder name ≡ None → effect ≡ unopened name c.Whole → after ≡ folder → ExactStep mode name folder effect after
+  exact_unformatted : (text : Bytes) (fault : FormatFault) → get folder name ≡ Some text → FormatsTo text (Err fault) → effect ≡ refused name fault
+      → effect.cut ≡ c.Whole → after ≡ folder → ExactStep mode name folder effect after
+  exact_formatted : (text new : Bytes) → get folder name ≡ Some text → FormatsTo text (Ok new)
+      → effect ≡ printed (file_out mode name text new) (text_status mode text new)
+      → after ≡ (if is_rewritten mode text new then with_file folder name new else folder) → ExactStep mode name folder effect after
+
+abbrev pub Exact : Mode → List Bytes → Run → Folder → Run → Folder → Type 0
+Exact mode [] run folder after folder' = (after ≡ run) × (folder' ≡ folder)
+Exact mode (name ∷ names) run folder after folder' =
+    (effect : Effect) × (mid : Folder) × ExactStep mode name folder effect mid × Exact mode names (grown run effect) mid after folder'
+
+-- A whole run over files of other names does exactly that, and the folder then is the one that this gives.
+abbrev pub WholeRunsAreExact : Type 0
+WholeRunsAreExact = (mode : Mode) (names : List Bytes) (run : Run) (folder after : Folder) → Files mode names begun folder run after
+    → run.cut ≡ c.Whole → All (λ name. IsAside name → ⊥) names
+    → (exact : Folder) × Exact mode names begun folder run exact × SameFolders exact after

@@ -1,0 +1,221 @@
+-- What buildifier makes of standard input, or of files one after the other.
+use Rattle.std.specs.Prelude.{◌≡◌, ◌⊎◌, ◌==◌, ◌||◌, ◌≤◌, ℕ, List, [], ◌∷◌, ◌++◌, codes, bytes_eq, Bool, true, false, not, if◌then◌else◌, Option, Some, None, Result, Ok, Err}
+use Rattle.std.specs.FinMap.{get}
+use Rattle.std.specs.Io.KnownBytes.{Appends}
+use Rattle.bz_value.specs.Gaps.{Bytes}
+use Rattle.bz_files.specs.Folder.{Folder, SameBut, new_name, with_file, IsReplacing}
+use Rattle.bz_files.specs.declared.files.FileFault.{FileFault}
+use Rattle.bz_files.specs.declared.files.FileFault.TheVariants as file
+use Rattle.bz_journal.specs.Faults.{FormatsTo}
+use Rattle.bz_journal.specs.declared.formatter.FormatFault.{FormatFault}
+use Rattle.bz_journal.specs.declared.formatter.FormatFault.TheVariants as f
+use Rattle.bz_tools.specs.declared.exit.Cut.{Cut}
+use Rattle.bz_tools.specs.declared.exit.Cut.TheVariants as c
+use Rattle.bz_tools.specs.declared.mode.Mode.{Mode}
+use Rattle.bz_tools.specs.declared.mode.Mode.TheVariants.{Fix, Check, PrintIfChanged}
+use Rattle.bz_tools.specs.Faults.{Rises, AppendsSome, AppendsUnlessFailed}
+use Rattle.bz_tools.specs.Modes.{FormatLine, FormatUsage, clap_fault, no_mode, format_line}
+use Rattle.bz_tools.specs.Outcome.{IsInput}
+use Rattle.bz_tools.specs.Told.{stdin, named_line, fault_line}
+
+-- ---- what one text does
+
+-- what it writes on standard output, what it tells on standard error, its status, and the failure that cuts it, if one
+-- does; a failure of standard output closes it
+pub record Effect : Type 0 where
+  pub out : Bytes
+  pub lines : List Bytes
+  pub status : ℕ
+  pub cut : Cut
+  pub closes : Bool
+
+abbrev pub printed : Bytes → ℕ → Effect
+printed out status = record { out = out; lines = []; status = status; cut = c.Whole; closes = false }
+
+-- standard output fails
+abbrev pub unprinted : Bytes → Effect
+unprinted out = record { out = out; lines = named_line (codes "<stdout>") (codes "cannot write") ∷ []; status = 3; cut = c.Write; closes = true }
+
+abbrev pub told : Bytes → ℕ → Cut → Effect
+told line status cut = record { out = []; lines = line ∷ []; status = status; cut = cut; closes = false }
+
+abbrev pub unopened : Bytes → Cut → Effect
+unopened name cut = told (named_line name (codes "cannot open")) 3 cut
+
+abbrev pub wanting : Bytes → Effect
+wanting name = told (named_line name (codes "Memory")) 3 c.Memory
+
+abbrev pub unwritten : Bytes → Effect
+unwritten name = told (named_line name (codes "cannot write")) 3 c.Files
+
+-- a text that is not formatted
+abbrev pub refused : Bytes → FormatFault → Effect
+refused name (f.Unread fault) = told (fault_line name fault) 1 c.Whole
+refused name f.TooLarge = told (named_line name (codes "TooLarge")) 3 c.Whole
+refused name f.TooDeep = told (named_line name (codes "TooDeep")) 3 c.Whole
+refused name f.Memory = wanting name
+
+-- ---- the modes
+
+-- A file is rewritten where it differs.
+abbrev pub is_rewritten : Mode → Bytes → Bytes → Bool
+is_rewritten Fix text new = not (bytes_eq new text)
+is_rewritten Check text new = false
+is_rewritten PrintIfChanged text new = false
+
+-- what a file writes on standard output
+abbrev pub file_out : Mode → Bytes → Bytes → Bytes → Bytes
+file_out Fix name text new = []
+file_out Check name text new = if bytes_eq new text then [] else name ++ codes " # reformat\n"
+file_out PrintIfChanged name text new = if bytes_eq new text then [] else new
+
+-- Standard input has no place to be rewritten: its formatted text goes to standard output.
+abbrev pub input_out : Mode → Bytes → Bytes → Bytes
+input_out Fix text new = new
+input_out Check text new = file_out Check stdin text new
+input_out PrintIfChanged text new = file_out PrintIfChanged stdin text new
+
+-- 4 where `check` finds a difference
+abbrev pub text_status : Mode → Bytes → Bytes → ℕ
+text_status Fix text new = 0
+text_status Check text new = if bytes_eq new text then 0 else 4
+text_status PrintIfChanged text new = 0
+
+-- Standard output takes a text, or fails, unless it is closed.
+abbrev pub Prints : Bool → Bytes → ℕ → Effect → Type 0
+Prints closed out status effect = (effect ≡ printed out status) ⊎ ((closed ≡ false) × (effect ≡ unprinted out))
+
+-- The folder then has the formatted text at the file's name, or that fails.
+abbrev pub Rewrites : Bytes → Bytes → Folder → Effect → Folder → Type 0
+Rewrites name new folder effect after =
+    ((effect ≡ printed [] 0) × SameBut (λ other. other ≡ new_name name) (with_file folder name new) after)
+    ⊎ ((effect ≡ unwritten name) × IsReplacing name new folder after)
+
+-- ---- one file
+
+-- a file that is not read
+abbrev pub unread_file : Bytes → FileFault → Effect
+unread_file name file.Memory = wanting name
+unread_file name file.Absent = unopened name c.Whole
+unread_file name file.Open = unopened name c.Files
+unread_file name file.Write = unopened name c.Files
+
+-- A file that is not read is told, an absent one among them. What is read is formatted, or told. Where the mode rewrites
+-- a file the folder changes; all else leaves the folder.
+pub data FileStep (mode : Mode) (name : Bytes) (closed : Bool) (folder : Folder) (effect : Effect) (after : Folder) : Type 0 where
+  unread : (fault : FileFault) → (fault ≡ file.Absent → get folder name ≡ None) → effect ≡ unread_file name fault → after ≡ folder
+      → FileStep mode name closed folder effect after
+  without_memory : effect ≡ wanting name → after ≡ folder → FileStep mode name closed folder effect after
+  unformatted : (text : Bytes) (fault : FormatFault) → get folder name ≡ Some text → FormatsTo text (Err fault) → effect ≡ refused name fault
+      → after ≡ folder → FileStep mode name closed folder effect after
+  kept : (text new : Bytes) → get folder name ≡ Some text → FormatsTo text (Ok new) → is_rewritten mode text new ≡ false
+      → Prints closed (file_out mode name text new) (text_status mode text new) effect → after ≡ folder
+      → FileStep mode name closed folder effect after
+  rewritten : (text new : Bytes) → get folder name ≡ Some text → FormatsTo text (Ok new) → is_rewritten mode text new ≡ true
+      → Rewrites name new folder effect after → FileStep mode name closed folder effect after
+
+-- ---- standard input
+
+pub data InputStep (mode : Mode) (known : Option Bytes) (effect : Effect) : Type 0 where
+  input_unread : effect ≡ unopened stdin c.Read → InputStep mode known effect
+  input_without_memory : effect ≡ wanting stdin → InputStep mode known effect
+  input_unformatted : (text : Bytes) (fault : FormatFault) → IsInput known text → FormatsTo text (Err fault) → effect ≡ refused stdin fault
+      → InputStep mode known effect
+  input_printed : (text new : Bytes) → IsInput known text → FormatsTo text (Ok new)
+      → Prints false (input_out mode text new) (text_status mode text new) effect → InputStep mode known effect
+
+-- ---- whole runs
+
+-- what a run has done so far
+pub record Run : Type 0 where
+  pub out : Bytes
+  pub lines : List Bytes
+  pub status : ℕ
+  pub cut : Cut
+  pub closed : Bool
+
+abbrev pub begun : Run
+begun = record { out = []; lines = []; status = 0; cut = c.Whole; closed = false }
+
+-- 3 where one of two is that, else 1, else 4, else 0
+abbrev pub worse : ℕ → ℕ → ℕ
+worse a b = if a == 3 || b == 3 then 3 else (if a == 1 || b == 1 then 1 else (if a == 4 || b == 4 then 4 else 0))
+
+-- The first failure is the one that cuts a run.
+abbrev pub first_cut : Cut → Cut → Cut
+first_cut c.Whole later = later
+first_cut c.Memory later = c.Memory
+first_cut c.Read later = c.Read
+first_cut c.Write later = c.Write
+first_cut c.Files later = c.Files
+
+abbrev pub grown : Run → Effect → Run
+grown run effect = record {
+  out = run.out ++ effect.out;
+  lines = run.lines ++ effect.lines;
+  status = worse run.status effect.status;
+  cut = first_cut run.cut effect.cut;
+  closed = run.closed || effect.closes;
+}
+
+-- One file after the other.
+abbrev pub Files : Mode → List Bytes → Run → Folder → Run → Folder → Type 0
+Files mode [] run folder after folder' = (after ≡ run) × (folder' ≡ folder)
+Files mode (name ∷ names) run folder after folder' =
+    (effect : Effect) × (mid : Folder) × FileStep mode name run.closed folder effect mid × Files mode names (grown run effect) mid after folder'
+
+-- Without files it is standard input.
+abbrev pub RunOf : Mode → List Bytes → Option Bytes → Folder → Run → Folder → Type 0
+RunOf mode [] known folder after folder' = (effect : Effect) × InputStep mode known effect × (after ≡ grown begun effect) × (folder' ≡ folder)
+RunOf mode (name ∷ names) known folder after folder' = Files mode (name ∷ names) begun folder after folder'
+
+-- Of a fault that clap finds the text is clap's.
+abbrev pub IsFormatUsageLine : FormatUsage → Bytes → Type 0
+IsFormatUsageLine clap_fault line = Unit {0}
+IsFormatUsageLine (no_mode name) line = line ≡ codes "buildifier: no mode: " ++ name ++ codes "\n"
+
+-- Words that are no line of buildifier's have status 2; nothing is then read.
+abbrev pub FormatOutcomeOf : Result FormatLine FormatUsage → Option Bytes → Folder → Run → Folder → Type 0
+FormatOutcomeOf (Err usage) known folder after folder' =
+    (line : Bytes) × IsFormatUsageLine usage line × (after ≡ record begun { lines = line ∷ []; status = 2 }) × (folder' ≡ folder)
+FormatOutcomeOf (Ok line) known folder after folder' = RunOf line.mode line.files known folder after folder'
+
+-- Words, the bytes of standard input where they are known, and the folder before: what the run has done at its end, and
+-- the folder after. Memory may be refused before anything is done.
+abbrev pub FormatOutcome : List Bytes → Option Bytes → Folder → Run → Folder → Type 0
+FormatOutcome words known folder after folder' =
+    ((after ≡ record begun { status = 3; cut = c.Memory }) × (folder' ≡ folder)) ⊎ FormatOutcomeOf (format_line words) known folder after folder'
+
+-- ---- what the outputs then hold
+
+-- By a writer with these counts of faults before and after, a text was written; or, where the writer is closed, a failure
+-- left a beginning of it.
+abbrev pub Writes : Bool → ℕ → ℕ → Option Bytes → Option Bytes → Bytes → Type 0
+Writes false faults faults' old new out = (faults' ≡ faults) × Appends old new out
+Writes true faults faults' old new out = Rises faults faults' × AppendsSome old new out
+
+-- Lines were told one after the other, each whole unless its writing failed.
+abbrev pub Tells : ℕ → ℕ → Option Bytes → Option Bytes → List Bytes → Type 0
+Tells faults faults' old new [] = (faults' ≡ faults) × (new ≡ old)
+Tells faults faults' old new (line ∷ lines) =
+    (mid_faults : ℕ) × (mid : Option Bytes) × AppendsUnlessFailed faults mid_faults old mid line × Tells mid_faults faults' mid new lines
+
+-- a writer that is closed already is left as it is
+abbrev pub WritesUnlessClosed : Bool → Bool → ℕ → ℕ → Option Bytes → Option Bytes → Bytes → Type 0
+WritesUnlessClosed false closes faults faults' old new out = Writes closes faults faults' old new out
+WritesUnlessClosed true closes faults faults' old new out = (closes ≡ false) × (faults' ≡ faults) × (new ≡ old)
+
+-- ---- why a run of files is cut
+
+-- It is cut where a count of faults rose; where none is, none has risen. (Files, then standard output, each before and after.)
+abbrev pub IsCutBy : Cut → ℕ → ℕ → ℕ → ℕ → Type 0
+IsCutBy c.Whole files files' out out' = (files' ≡ files) × (out' ≡ out)
+IsCutBy c.Memory files files' out out' = Unit {0}
+IsCutBy c.Read files files' out out' = ⊥
+IsCutBy c.Write files files' out out' = Rises out out'
+IsCutBy c.Files files files' out out' = Rises files files'
+
+-- the count stays or rises
+pub record Counts (old new : ℕ) : Type 0 where
+  pub grows : old ≤ new
+  pub rises : (new ≡ old) ⊎ Rises old new

@@ -1,0 +1,55 @@
+-- The command line of buildifier: what its words say.
+use Rattle.std.specs.Prelude.{◌==◌, List, [], length, codes, bytes_eq, if◌then◌else◌, unwrap_or, Option, Some, None, Result, Ok, Err, true}
+use Rattle.clap.specs.Words.{App, Rule, Row, all_of, first_of, fault_of, matches_of, new_app, new_rule, with_rule}
+use Rattle.clap.specs.declared.builder.action.ArgAction.TheVariants.{Append}
+use Rattle.bz_value.specs.Gaps.{Bytes}
+use Rattle.bz_tools.specs.declared.mode.Mode.{Mode}
+use Rattle.bz_tools.specs.declared.mode.Mode.TheVariants.{Fix, Check, PrintIfChanged}
+
+-- ---- the line as clap's rules: `--mode` with a text, and any number of files
+
+abbrev pub mode_rule : Rule
+mode_rule = record (new_rule (codes "mode")) { long = Some (codes "mode") }
+
+abbrev pub file_rule : Rule
+file_rule = record (new_rule (codes "file")) { action = Some Append }
+
+-- the words are those behind the program's own name
+abbrev pub nameless_buildifier : App
+nameless_buildifier = let app = new_app (codes "buildifier") in record { top = record app.top { no_binary_name = true }; subs = [] }
+
+abbrev pub buildifier_app : App
+buildifier_app = with_rule (with_rule nameless_buildifier mode_rule) file_rule
+
+-- ---- what the words say
+
+abbrev pub mode_called : Bytes → Option Mode
+mode_called name = if bytes_eq name (codes "fix") then Some Fix
+    else (if bytes_eq name (codes "check") then Some Check
+    else (if bytes_eq name (codes "print_if_changed") then Some PrintIfChanged else None))
+
+-- a mode, and files by their names
+pub record FormatLine : Type 0 where
+  pub mode : Mode
+  pub files : List Bytes
+
+-- Why words are no line of buildifier's: a fault that clap finds, or a text that is no mode.
+pub data FormatUsage : Type 0 where
+  clap_fault : FormatUsage
+  no_mode : Bytes → FormatUsage
+
+abbrev pub with_mode : Bytes → Option Mode → List Bytes → Result FormatLine FormatUsage
+with_mode name None files = Err (no_mode name)
+with_mode name (Some mode) files = Ok (record { mode = mode; files = files })
+
+-- The mode is `fix` where none is named.
+abbrev pub mode_name : List Row → Bytes
+mode_name rows = unwrap_or (first_of (codes "mode") rows) (codes "fix")
+
+abbrev pub line_in : List Row → Result FormatLine FormatUsage
+line_in rows = with_mode (mode_name rows) (mode_called (mode_name rows)) (unwrap_or (all_of (codes "file") rows) [])
+
+-- the line of the words, or why they are none
+abbrev pub format_line : List Bytes → Result FormatLine FormatUsage
+format_line words =
+    if length (fault_of buildifier_app words) == 0 then line_in (matches_of buildifier_app words) else Err clap_fault

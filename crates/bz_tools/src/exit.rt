@@ -1,0 +1,25 @@
+//! How runs of the programs end.
+
+/// The first failure of a run.
+#[derive(Clone, Copy, Debug, PartialEq, Eq)]
+pub enum Cut {
+    /// There was none.
+    Whole,
+    /// Memory was refused.
+    Memory,
+    /// Standard input failed.
+    Read,
+    /// Standard output failed.
+    Write,
+    /// A file could not be opened, read or written.
+    Files,
+}
+
+/// How a run ended.
+#[derive(Clone, Copy, Debug, PartialEq, Eq)]
+pub struct Exit {
+    /// The status for the process.
+    pub status: u8,
+    /// The first failure, or that there was none.
+    pub cut: Cut,
+}
