@@ -1,16 +1,16 @@
 # make        proves and builds every program, leaves it in bin/, and shows a first run
-# make test   the tests: runs of the program (tests/), every proof from nothing, the edits that the prover must refuse, each program and each test
+# make test   the tests: runs of the programs (tests/), every proof from nothing, the edits that the prover must refuse, each program and each test
 # make bench  the time and the memory of a delete in a large file, and of reading one; with FOLDER=.. of the BUILD files there
-# make corpus FOLDER=..   reads each BUILD file below the folder, spells it back byte for byte, and lays it out twice
+# make corpus FOLDER=..   reads each BUILD file below the folder, spells it back byte for byte, and formats it twice
 
-PROGRAMS = bin/buildozer bin/measure
+PROGRAMS = bin/buildozer bin/buildifier bin/measure
 
 # what the programs are made of; a second 'make' with nothing changed does nothing
 SOURCES = crates.txt $(shell find crates -name out -prune -o -path '*/must-fail' -prune -o -type f -print)
 
 .PHONY: all test bench corpus clean rt
 
-all: bin/buildozer bin/measure bin/.shown
+all: $(PROGRAMS) bin/.shown
 
 rt:
 	@command -v rt > /dev/null || { \
@@ -22,16 +22,23 @@ bin/buildozer: $(SOURCES) | rt
 	cd crates/buildozer && rt run -- -- delete -:middle < ../../examples/BUILD > /dev/null
 	cp crates/buildozer/out/buildozer $@
 
+bin/buildifier: $(SOURCES) | rt
+	@mkdir -p bin
+	cd crates/buildifier && rt run < stdin > /dev/null
+	cp crates/buildifier/out/buildifier $@
+
 bin/measure: $(SOURCES) | rt
 	@mkdir -p bin
 	cd crates/measure && rt run -- copy < ../../examples/BUILD > /dev/null
 	cp crates/measure/out/measure $@
 
 # a first run, shown once for each program that was built
-bin/.shown: bin/buildozer examples/BUILD
+bin/.shown: bin/buildozer bin/buildifier examples/BUILD
 	@echo; echo "examples/BUILD:"; echo; cat examples/BUILD
 	@echo; echo "bin/buildozer -- delete -:middle < examples/BUILD"; echo
 	@bin/buildozer -- delete -:middle < examples/BUILD
+	@echo; echo "bin/buildifier < examples/BUILD"; echo
+	@bin/buildifier < examples/BUILD
 	@touch $@
 
 test: rt
@@ -41,7 +48,7 @@ bench: $(PROGRAMS)
 	@bench/delete.sh
 	@bench/reading.sh $(if $(FOLDER),"$(FOLDER)")
 
-corpus: bin/measure
+corpus: bin/measure bin/buildifier
 	@bench/corpus.sh "$(FOLDER)"
 	@bench/formats.sh "$(FOLDER)"
 

@@ -1,12 +1,12 @@
 #!/bin/sh
-# Lays out each BUILD, WORKSPACE and MODULE.bazel file below a folder: bench/formats.sh FOLDER. Prints the names of those that
-# were refused, whose layout has another layout, or in whose layout a comment stands more or less
+# Formats each BUILD, WORKSPACE and MODULE.bazel file below a folder: bench/formats.sh FOLDER. Prints the names of those that
+# were refused, whose formatted text is formatted to another one, or in which a comment stands more or less
 # often (blanks at its end aside), and how many there were of each; the status is 1 where any was. Names and sizes are those
 # that bench/corpus.sh takes. Build the program first (make).
 set -eu
 folder=${1:?"FOLDER is missing: bench/formats.sh FOLDER"}
-program=$(cd "$(dirname "$0")/.." && pwd)/bin/measure
-[ -x "$program" ] || { echo "bench/formats.sh: bin/measure is not there: run make first" >&2; exit 1; }
+program=$(cd "$(dirname "$0")/.." && pwd)/bin/buildifier
+[ -x "$program" ] || { echo "bench/formats.sh: bin/buildifier is not there: run make first" >&2; exit 1; }
 
 python3 - "$program" "$folder" <<'FORMATS'
 import collections, os, re, subprocess, sys
@@ -24,7 +24,7 @@ def is_taken(name):
 
 
 def formatted(text):
-    run = subprocess.run([program, "layout"], input=text, stdout=subprocess.PIPE, stderr=subprocess.PIPE)
+    run = subprocess.run([program], input=text, stdout=subprocess.PIPE, stderr=subprocess.PIPE)
     return run.stdout if run.returncode == 0 else None
 
 
@@ -45,15 +45,15 @@ for path, _, names in sorted(os.walk(folder)):
         if once is None:
             what = "refused"
         elif formatted(once) != once:
-            what = "with another layout of its layout"
+            what = "formatted to another text"
         elif comments(once) != comments(text):
-            what = "with other comments in its layout"
+            what = "with other comments"
         else:
             what = "formatted"
         counts[what] += 1
         if what != "formatted":
             print("%s: %s" % (file, what))
 others = sum(counts.values()) - counts["formatted"]
-print("%d files laid out, and again to the same bytes, each comment as often; %d not" % (counts["formatted"], others))
+print("%d files formatted, and again to the same bytes, each comment as often; %d not" % (counts["formatted"], others))
 sys.exit(1 if others or not counts["formatted"] else 0)
 FORMATS

@@ -1,5 +1,5 @@
 #!/bin/sh
-# How fast a text is copied, cut into tokens, parsed and spelled back, viewed as a file value and laid out, in MB a second, by one run of one program; and
+# How fast a text is copied, cut into tokens, parsed and spelled back, viewed as a file value, laid out, and formatted, in MB a second, by one run of one program; and
 # how much memory its tree takes at most while it is made. For two texts of about 2 and 4 MB: the BUILD files below a
 # folder joined, as often as it takes, or rules made here: bench/reading.sh [FOLDER]. The goal: twice the text takes at
 # most 2.2 times the time. Build the program first (make).

@@ -1,12 +1,13 @@
 #!/usr/bin/env python3
-"""Runs the program buildozer on each folder of tests/buildozer, and compares what the process leaves, byte for byte.
+"""Runs each program on each folder of tests/PROGRAM, and compares what the process leaves, byte for byte.
 
 A folder has the words (args, one a line) and standard input (stdin), and what must come: standard output (stdout),
-standard error (stderr) and the status. A file that is not there is empty, and the status then 0. The program is built
+standard error (stderr) and the status. A file that is not there is empty, and the status then 0. Each program is built
 once, by rt try, with no proof: what the engine does is proved, and here it is seen that main hands it the words and the
 streams, and passes its status on. A line for each failure; the last one is 'N passed, M failed'.
 
-With a command behind it, as 'tests/programs.py rt ci', that runs too, and the last line adds its last line's numbers.
+With a command behind it, as 'tests/programs.py rt ci', that runs too, and the last line adds its last line's numbers; the
+program buildifier that it built then runs over real files (tests/files.py).
 """
 import os
 import pathlib
@@ -15,6 +16,8 @@ import shutil
 import subprocess
 import sys
 import tempfile
+
+import files
 
 TOP = pathlib.Path(__file__).resolve().parent.parent
 # what rt try writes: behind a heading of its name each run's standard output, and in front of its result its standard error
@@ -27,14 +30,14 @@ def content(file, default=b""):
     return file.read_bytes() if file.exists() else default
 
 
-def results(folders):
-    """Runs all, and gives for each name how the run ended with its status, standard output and standard error."""
+def results(program, folders):
+    """Runs a program on all, and gives for each name how the run ended with its status, standard output and standard error."""
     with tempfile.TemporaryDirectory() as cases:
         for folder in folders:
             pathlib.Path(cases, folder.name).write_bytes(content(folder / "stdin"))
             pathlib.Path(cases, folder.name + ".args").write_bytes(content(folder / "args"))
         command = ["rt", "try", "--cases", cases]
-        run = subprocess.run(command, cwd=TOP / "crates/buildozer", stdout=subprocess.PIPE, stderr=subprocess.PIPE)
+        run = subprocess.run(command, cwd=TOP / "crates" / program, stdout=subprocess.PIPE, stderr=subprocess.PIPE)
     pieces = HEADING.split(run.stdout)
     outputs = dict(zip(pieces[1::2], pieces[2::2]))
     found, at = {}, 0
@@ -72,22 +75,38 @@ def counts_of(command):
     return passed, max(failed, 1) if run.returncode else failed
 
 
-def main():
-    folders = sorted(folder for folder in (TOP / "tests/buildozer").iterdir() if folder.is_dir())
-    found = results(folders)
+def run_folders(program):
+    """Runs a program on its folders, and gives how many runs passed and failed; none of them is a failure."""
+    folders = sorted(folder for folder in (TOP / "tests" / program).iterdir() if folder.is_dir())
+    found = results(program, folders)
     failed = 0
     for folder in folders:
         wrong = faults(folder, found)
         failed += bool(wrong)
         for fault in wrong:
-            print(f"tests/buildozer/{folder.name}: {fault}", flush=True)
-    passed = len(folders) - failed
+            print(f"tests/{program}/{folder.name}: {fault}", flush=True)
+    return len(folders) - failed, failed if folders else 1
+
+
+def run_files():
+    """Runs the built program over real files."""
+    built = TOP / "crates/buildifier/out/buildifier"
+    failed = files.failures(built) if built.exists() else ["no program was built"]
+    for name in failed:
+        print(f"tests/files.py: {name}", flush=True)
+    return max(len(files.SCENES) - len(failed), 0), len(failed)
+
+
+def main():
+    counts = [run_folders(program) for program in ("buildozer", "buildifier")]
     if sys.argv[1:]:
-        print(f"runs of buildozer: {passed} passed, {failed} failed", flush=True)
-        more = counts_of(sys.argv[1:])
-        passed, failed = passed + more[0], failed + more[1]
+        print("runs of the programs: {} passed, {} failed".format(*map(sum, zip(*counts))), flush=True)
+        counts.append(counts_of(sys.argv[1:]))
+        counts.append(run_files())
+        print("runs over real files: {} passed, {} failed".format(*counts[-1]), flush=True)
+    passed, failed = map(sum, zip(*counts))
     print(f"{passed} passed, {failed} failed")
-    return 1 if failed or not folders else 0
+    return 1 if failed else 0
 
 
 if __name__ == "__main__":

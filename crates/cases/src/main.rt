@@ -34,6 +34,7 @@
 //! | `kind`, `class` | a number | the kind of node or the class of leaf that has it, and its number |
 //! | `view` | a text | its file value, an item a line |
 //! | `layout` | a text | the layout of its file value, which has that layout in its turn |
+//! | `formatted` | a text | the layout of its file value tidied, which is formatted to that in its turn |
 //! | `token` | a text | the class and the bytes of the token that it begins with |
 //! | `tokens` | a text | its tokens, or its fault |
 //! | `leaves` | a text | class, gap and token of each leaf, and the fault |
@@ -47,6 +48,7 @@
 //! | `sorted KIND` | an attribute | whether its lists are sorted in a rule of the kind |
 //! | `labels`, `lists` | an attribute | whether its texts are labels, whether one value of it becomes a list |
 //! | `session PACKAGE` | actions, and a text | the reply to each, the place in the history, and the present text |
+//! | `buildifier WORDS` | standard input, and files, each behind a line with its name | status, standard error, standard output, and each file that is changed |
 //! | `buildozer WORDS` | standard input | status, standard error and standard output |
 //! | `words` | words of buildozer, and standard input | the same |
 //! | `status` | the same | the status, and on which of the two something is written |

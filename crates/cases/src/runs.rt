@@ -1,13 +1,15 @@
 //! Runs of the programs over readers and writers in memory.
-use crate::case::{Case, CaseFault};
+use crate::case::{Case, CaseFault, text_of};
 use crate::page::Page;
+use bz_files::MemoryFiles;
 use bz_items::Memory;
-use bz_tools::{Cut, Exit, MemorySink, MemorySource, buildozer};
+use bz_tools::{Cut, Exit, MemorySink, MemorySource, buildifier, buildozer};
 use std::alloc::Global;
 
 /// What is asked of a run.
 #[derive(Clone, Copy)]
 pub(crate) enum RunQuery {
+    Buildifier,
     Buildozer,
     Words,
     Status,
@@ -27,6 +29,7 @@ struct Left {
 impl RunQuery {
     pub(crate) fn named(name: &str) -> Option<RunQuery> {
         match name {
+            "buildifier" => Some(RunQuery::Buildifier),
             "buildozer" => Some(RunQuery::Buildozer),
             "words" => Some(RunQuery::Words),
             "status" => Some(RunQuery::Status),
@@ -36,6 +39,7 @@ impl RunQuery {
 
     pub(crate) fn answer(self, case: &Case, page: &mut Page) -> Result<(), CaseFault> {
         let (line, input) = match self {
+            RunQuery::Buildifier => return formatted(case, page),
             RunQuery::Buildozer => (case.argument()?, case.bytes(0)?),
             RunQuery::Words | RunQuery::Status => (case.text(0)?, case.bytes(1)?),
         };
@@ -43,10 +47,51 @@ impl RunQuery {
         let left = run(case.alloc, words.as_slice(), input);
         match self {
             RunQuery::Status => left.show_status(case.alloc, page)?,
-            RunQuery::Buildozer | RunQuery::Words => left.show(case.alloc, page)?,
+            _ => left.show(case.alloc, page)?,
         }
         Ok(())
     }
+}
+
+/// A file of a case: its text behind a line with its name.
+fn file_of(text: &[u8]) -> Result<(&str, &[u8]), CaseFault> {
+    match text.iter().position(|byte| *byte == b'\n') {
+        Some(end) => Ok((text_of(&text[..end])?, &text[end + 1..])),
+        None => Err(CaseFault::Sheet("a file has no name")),
+    }
+}
+
+/// Writes what a run of `buildifier` leaves over standard input, the first text of the case, and the files that the others
+/// are; then each file that it changed.
+fn formatted(case: &Case, page: &mut Page) -> Result<(), CaseFault> {
+    let alloc = case.alloc;
+    let input = case.bytes(0)?;
+    let words = words_of(alloc, case.argument()?)?;
+    let mut given = Vec::new(alloc);
+    for text in case.texts.as_slice().iter().skip(1) {
+        let file = file_of(text.as_slice())?;
+        given.push(file).map_err(Memory::from)?;
+    }
+    let mut files = MemoryFiles::of(alloc, given.as_slice())?;
+    let left = format_files(alloc, words.as_slice(), input, &mut files);
+    left.show(alloc, page)?;
+    for &(name, before) in given.as_slice() {
+        let after = files.bytes_at(name).unwrap_or_default();
+        if after != before {
+            page.answer(name.as_bytes())?;
+            page.text("<", after)?;
+        }
+    }
+    Ok(())
+}
+
+/// A run of `buildifier`, of which nothing has to be known here.
+fn format_files(alloc: Global, words: &[&str], input: &[u8], files: &mut MemoryFiles) -> Left {
+    let mut source = MemorySource::new(input, STEP, 0);
+    let mut out = MemorySink::new(alloc, STEP, 0);
+    let mut err = MemorySink::new(alloc, STEP, 0);
+    let exit = buildifier(alloc, words, &mut source, &mut out, &mut err, files);
+    Left { exit, out, err }
 }
 
 /// The words of a line: what stands between spaces, and what stands between double quotes.

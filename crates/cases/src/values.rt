@@ -1,8 +1,9 @@
-//! File values: what a text says, and its layout.
+//! File values: what a text says, its layout, and the layout of it tidied.
 use crate::case::{Case, CaseFault};
 use crate::page::Page;
 use crate::trees::{read, told};
 use bz_items::{Memory, Text};
+use bz_tidy::tidy;
 use bz_tree::Tree;
 use bz_value::{Comments, Expr, File, Form, Item};
 use bz_view::view;
@@ -14,6 +15,7 @@ use std::alloc::{AllocError, Global};
 pub(crate) enum ValueQuery {
     View,
     Layout,
+    Formatted,
 }
 
 impl ValueQuery {
@@ -21,6 +23,7 @@ impl ValueQuery {
         match name {
             "view" => Some(ValueQuery::View),
             "layout" => Some(ValueQuery::Layout),
+            "formatted" => Some(ValueQuery::Formatted),
             _ => None,
         }
     }
@@ -28,7 +31,8 @@ impl ValueQuery {
     pub(crate) fn answer(self, case: &Case, page: &mut Page) -> Result<(), CaseFault> {
         match self {
             ValueQuery::View => viewed(case, page),
-            ValueQuery::Layout => laid_out(case, page),
+            ValueQuery::Layout => laid_out(case, false, page),
+            ValueQuery::Formatted => laid_out(case, true, page),
         }
     }
 }
@@ -141,13 +145,24 @@ enum LaidOut {
     Refused(String),
 }
 
-fn layout_of(alloc: Global, text: &[u8]) -> Result<LaidOut, Memory> {
+/// `tidy`, of which nothing has to be known here.
+fn tidied(alloc: Global, file: File) -> Result<File, Memory> {
+    tidy(alloc, file)
+}
+
+/// The layout of what a text says, tidied where that is asked for.
+fn layout_of(alloc: Global, text: &[u8], is_tidied: bool) -> Result<LaidOut, Memory> {
     let tree = match read(alloc, text)? {
         Ok(tree) => tree,
         Err(fault) => return Ok(LaidOut::Refused(told(alloc, &fault)?)),
     };
     let Some(file) = value_of(alloc, &tree)? else {
         return Ok(LaidOut::Refused(String::from_str(alloc, "another copy")?));
+    };
+    let file = if is_tidied {
+        tidied(alloc, file)?
+    } else {
+        file
     };
     match tree_of(alloc, &file) {
         Ok(tree) => {
@@ -161,22 +176,22 @@ fn layout_of(alloc: Global, text: &[u8]) -> Result<LaidOut, Memory> {
 }
 
 /// Writes the layout of a text; and, where the layout has another layout in its turn, that it has.
-fn laid_out(case: &Case, page: &mut Page) -> Result<(), CaseFault> {
+fn laid_out(case: &Case, is_tidied: bool, page: &mut Page) -> Result<(), CaseFault> {
     let alloc = case.alloc;
-    let layout = match layout_of(alloc, case.bytes(0)?)? {
+    let layout = match layout_of(alloc, case.bytes(0)?, is_tidied)? {
         LaidOut::Text(layout) => layout,
         LaidOut::Refused(fault) => return Ok(page.answer(fault.as_bytes())?),
     };
     page.text("<", layout.as_slice())?;
-    if !is_settled(alloc, layout.as_slice())? {
+    if !is_settled(alloc, layout.as_slice(), is_tidied)? {
         page.answer(b"and another layout of that")?;
     }
     Ok(())
 }
 
 /// Whether a text is its own layout.
-fn is_settled(alloc: Global, text: &[u8]) -> Result<bool, Memory> {
-    match layout_of(alloc, text)? {
+fn is_settled(alloc: Global, text: &[u8], is_tidied: bool) -> Result<bool, Memory> {
+    match layout_of(alloc, text, is_tidied)? {
         LaidOut::Text(layout) => Ok(layout.as_slice() == text),
         LaidOut::Refused(_) => Ok(false),
     }

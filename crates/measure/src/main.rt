@@ -1,12 +1,13 @@
 //! Reads standard input and does one piece of work on it, for the scripts of bench/. `copy` copies the bytes, `lex` cuts
 //! the text into its tokens, `tree` makes its tree and `parse` also spells it: each prints how many bytes or tokens that
-//! gives; `view` makes its file value, and `format` its layout. `time` prints the nanoseconds of the fastest of several rounds of
-//! `copy`, `lex`, `parse`, `view` and `format`; `peak WORK` does a work once and prints how many KiB of memory the process took
+//! gives; `view` makes its file value, `set` the layout of that, and `format` the layout of it tidied. `time` prints the nanoseconds
+//! of the fastest of several rounds of `copy`, `lex`, `parse`, `view`, `set` and `format`; `peak WORK` does a work once and prints how many KiB of memory the process took
 //! at most. `spell` writes what the tree spells to standard output, and `layout` what it is laid out as, or the fault of a text
 //! that has none to standard error.
 #![tactic(auto)]
 
 use bz_lex::lex;
+use bz_tidy::tidy;
 use bz_tree::{ReadFault, Tree, parse};
 use bz_view::view;
 use bz_write::set;
@@ -26,6 +27,7 @@ enum Work {
     Tree,
     Parse,
     View,
+    Set,
     Format,
 }
 
@@ -37,6 +39,7 @@ impl Work {
             "tree" => Some(Work::Tree),
             "parse" => Some(Work::Parse),
             "view" => Some(Work::View),
+            "set" => Some(Work::Set),
             "format" => Some(Work::Format),
             _ => None,
         }
@@ -61,9 +64,16 @@ impl Work {
                 Some(out.len())
             }
             Work::View => Some(view(alloc, &parse(alloc, bytes).ok()?).ok()?.items.len()),
-            Work::Format => {
+            Work::Set => {
                 out.clear();
                 laid_out(alloc, &parse(alloc, bytes).ok()?)?
+                    .spell_into(out)
+                    .ok()?;
+                Some(out.len())
+            }
+            Work::Format => {
+                out.clear();
+                formatted(alloc, &parse(alloc, bytes).ok()?)?
                     .spell_into(out)
                     .ok()?;
                 Some(out.len())
@@ -75,6 +85,12 @@ impl Work {
 /// The tree of the layout of a tree.
 fn laid_out(alloc: Global, tree: &Tree) -> Option<Tree> {
     set(alloc, &view(alloc, tree).ok()?).ok()
+}
+
+/// The tree of the layout of a tree's value, tidied.
+fn formatted(alloc: Global, tree: &Tree) -> Option<Tree> {
+    let file = view(alloc, tree).ok()?;
+    set(alloc, &tidy(alloc, file).ok()?).ok()
 }
 
 /// The nanoseconds of the fastest round.
@@ -95,6 +111,7 @@ fn timed(rt: &HostRuntime, bytes: &[u8]) -> Option<()> {
         ("lex", Work::Lex),
         ("parse", Work::Parse),
         ("view", Work::View),
+        ("set", Work::Set),
         ("format", Work::Format),
     ] {
         let best = fastest(rt, work, bytes, &mut out)?;

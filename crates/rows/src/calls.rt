@@ -2,6 +2,7 @@
 use bz_items::{Items, Memory, Text};
 use bz_tree::{Class, Kind};
 use bz_value::{Comments, Expr, Form, Item, Seq, Token, push_others};
+use bz_words::{Command, is_identifier, is_kind, quoted, read_words};
 use std::alloc::Global;
 use std::test::Fail;
 
@@ -68,4 +69,41 @@ fn values_are_copied(rt: HostRuntime) -> Result<(), Fail> {
     assert!(rt; item.copy()?.equals(&item));
     assert!(rt; !Comments::none().equals(&comments(rt.alloc())?));
     Ok(())
+}
+
+/// Whether a text is read as a command, and can be copied.
+fn is_read(alloc: Global, text: &str) -> bool {
+    match Command::read(alloc, text) {
+        Ok(command) => command.copy().is_ok(),
+        Err(_) => false,
+    }
+}
+
+// Each command is read; which one it is, is proved.
+#[test]
+fn commands_are_read(rt: HostRuntime) {
+    for text in [
+        "new a.b c",
+        "new t a before b",
+        "delete",
+        "set kind t",
+        "set a 1",
+        "set_if_absent a b c",
+        "add a b\\ c",
+        "remove a",
+        "remove *",
+        "remove a b",
+        "replace * a b",
+        "move a b *",
+        "move a b c d",
+        "rename a b",
+        "copy a b",
+        "copy_no_overwrite a b",
+    ] {
+        assert!(rt; is_read(rt.alloc(), text), "{text}");
+    }
+    assert!(rt; !is_read(rt.alloc(), "delete all"));
+    assert!(rt; quoted(rt.alloc(), b"a").is_ok());
+    assert!(rt; read_words(rt.alloc(), b"a b").is_ok());
+    assert!(rt; is_identifier(b"a") && is_kind(b"a.b"));
 }

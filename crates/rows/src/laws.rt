@@ -23,20 +23,39 @@ fn laws_that_require_nothing(_rt: HostRuntime) {
     bz_tree::laws::worked_lines();
     bz_label::laws::path_law();
     bz_label::laws::key_laws();
+    bz_label::laws::label_functions();
     bz_value::worked_gaps();
     bz_view::worked_views();
+    bz_view::comments_kept();
+    bz_rule::worked_bodies();
     bz_hosts::hosts_by_place();
     bz_hosts::worked_hosts();
     bz_write::flags_keep_layout();
     bz_write::layout_is_accepted();
     bz_write::layout_reads_back();
     bz_write::worked_rows();
-    bz_command::worked_bodies();
+    bz_tidy::worked_passes();
+    bz_tidy::tidy_settles();
+    bz_tidy::tidy_stays();
+    bz_tidy::comments_stay();
+    bz_tidy::proper_stays();
+    bz_tidy::marks_move();
+    bz_files::worked_folders();
+    bz_files::folder_reads_back();
+    bz_files::other_files_stay();
+    bz_words::identifiers_are_names();
+    bz_words::worked_words();
+    bz_words::worked_identifiers();
+    bz_words::worked_commands();
+    bz_words::worked_strings();
     bz_command::worked_deletes();
+    bz_command::effects_stay_proper();
     bz_journal::worked_histories();
     bz_journal::formatted_once();
     bz_tools::worked_words();
     bz_tools::worked_refusals();
+    bz_tools::worked_formats();
+    bz_tools::whole_runs_are_exact();
 }
 
 fn one_label(alloc: Global) -> Result<(), LabelFault> {

@@ -5,6 +5,8 @@
 #[cfg(test)]
 mod calls;
 #[cfg(test)]
+mod files;
+#[cfg(test)]
 mod laws;
 #[cfg(test)]
 mod ports;
