@@ -2,15 +2,19 @@
 use Rattle.std.specs.Prelude.{◌≡◌, ℕ, Bool, true, false, List, [], ◌∷◌, Option, Some, None, nat_eq, ◌&&◌, if◌then◌else◌}
 use Rattle.bz_lex.specs.declared.gap.GapState.{GapState}
 use Rattle.bz_lex.specs.declared.gap.GapState.TheVariants.{Open, Escape, EscapeReturn, Comment}
-use Rattle.bz_token.specs.Bytes.{is_blank}
+use Rattle.bz_token.specs.Bytes.{line_feed, is_blank}
+use Rattle.bz_lex.specs.Characters.{carriage_return, number_sign, backslash}
 
 -- the state behind one more byte; None where no gap goes on with it
 abbrev pub gap_move : Bool → GapState → ℕ → Option GapState
 gap_move newlines Open byte =
-    if is_blank byte then Some Open else (if nat_eq byte 92 then Some Escape else (if nat_eq byte 35 then Some Comment else (if newlines && nat_eq byte 10 then Some Open else None)))
-gap_move newlines Escape byte = if nat_eq byte 10 then Some Open else (if nat_eq byte 13 then Some EscapeReturn else None)
-gap_move newlines EscapeReturn byte = if nat_eq byte 10 then Some Open else None
-gap_move newlines Comment byte = if nat_eq byte 10 then (if newlines then Some Open else None) else Some Comment
+    if is_blank byte then Some Open
+    else (if nat_eq byte backslash then Some Escape
+    else (if nat_eq byte number_sign then Some Comment
+    else (if newlines && nat_eq byte line_feed then Some Open else None)))
+gap_move newlines Escape byte = if nat_eq byte line_feed then Some Open else (if nat_eq byte carriage_return then Some EscapeReturn else None)
+gap_move newlines EscapeReturn byte = if nat_eq byte line_feed then Some Open else None
+gap_move newlines Comment byte = if nat_eq byte line_feed then (if newlines then Some Open else None) else Some Comment
 
 abbrev pub and_then : {A B : Type 0} → Option A → (A → Option B) → Option B
 and_then None f = None

@@ -1,11 +1,12 @@
 -- Gaps: what may stand before a token.
 use Rattle.std.specs.Prelude.{◌≡◌, ◌≢◌, ℕ, Bool, true, false, List, [], ◌∷◌, ◌++◌, ◌||◌, nat_eq, if◌then◌else◌}
-use Rattle.bz_token.specs.Bytes.{is_blank}
+use Rattle.bz_token.specs.Bytes.{line_feed, is_blank}
+use Rattle.bz_lex.specs.Characters.{tab, carriage_return, space, number_sign, backslash}
 
 -- no newline is in the text
 abbrev pub IsOneLine : List ℕ → Type 0
 IsOneLine [] = Unit {0}
-IsOneLine (byte ∷ rest) = (byte ≢ 10) × IsOneLine rest
+IsOneLine (byte ∷ rest) = (byte ≢ line_feed) × IsOneLine rest
 
 -- Starlark's gaps between tokens: a gap is a sequence of spaces, tabs, newlines, carriage returns, backslashes right
 -- before a newline or before CR LF (an escaped newline), and comments. A comment runs from # to the next newline or the
@@ -15,14 +16,14 @@ IsOneLine (byte ∷ rest) = (byte ≢ 10) × IsOneLine rest
 pub data IsGap (newlines unclosed : Bool) : List ℕ → Type 0 where
   nothing : {text : List ℕ} → text ≡ [] → IsGap newlines unclosed text
   blank : {text : List ℕ} (byte : ℕ) (rest : List ℕ) → text ≡ byte ∷ rest → is_blank byte ≡ true → IsGap newlines unclosed rest → IsGap newlines unclosed text
-  escaped : {text : List ℕ} (rest : List ℕ) → text ≡ 92 ∷ 10 ∷ rest → IsGap newlines unclosed rest → IsGap newlines unclosed text
-  escaped_return : {text : List ℕ} (rest : List ℕ) → text ≡ 92 ∷ 13 ∷ 10 ∷ rest → IsGap newlines unclosed rest → IsGap newlines unclosed text
-  unescaped : {text : List ℕ} (rest : List ℕ) → text ≡ 10 ∷ rest → newlines ≡ true → IsGap newlines unclosed rest → IsGap newlines unclosed text
-  comment : {text : List ℕ} (words rest : List ℕ) → text ≡ 35 ∷ (words ++ 10 ∷ rest) → IsOneLine words → newlines ≡ true → IsGap newlines unclosed rest → IsGap newlines unclosed text
-  last_comment : {text : List ℕ} (words : List ℕ) → text ≡ 35 ∷ words → IsOneLine words → unclosed ≡ true → IsGap newlines unclosed text
+  escaped : {text : List ℕ} (rest : List ℕ) → text ≡ backslash ∷ line_feed ∷ rest → IsGap newlines unclosed rest → IsGap newlines unclosed text
+  escaped_return : {text : List ℕ} (rest : List ℕ) → text ≡ backslash ∷ carriage_return ∷ line_feed ∷ rest → IsGap newlines unclosed rest → IsGap newlines unclosed text
+  unescaped : {text : List ℕ} (rest : List ℕ) → text ≡ line_feed ∷ rest → newlines ≡ true → IsGap newlines unclosed rest → IsGap newlines unclosed text
+  comment : {text : List ℕ} (words rest : List ℕ) → text ≡ number_sign ∷ (words ++ line_feed ∷ rest) → IsOneLine words → newlines ≡ true → IsGap newlines unclosed rest → IsGap newlines unclosed text
+  last_comment : {text : List ℕ} (words : List ℕ) → text ≡ number_sign ∷ words → IsOneLine words → unclosed ≡ true → IsGap newlines unclosed text
 
 -- The byte right before what follows is neither a space nor a tab.
 abbrev pub is_flush : List ℕ → Bool
 is_flush [] = true
-is_flush (byte ∷ []) = if nat_eq byte 32 || nat_eq byte 9 then false else true
+is_flush (byte ∷ []) = if nat_eq byte space || nat_eq byte tab then false else true
 is_flush (byte ∷ second ∷ rest) = is_flush (second ∷ rest)

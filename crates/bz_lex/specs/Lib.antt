@@ -1,3 +1,4 @@
+pub mod Characters
 pub mod Gaps
 pub mod Places
 pub mod Leaves

@@ -2,6 +2,7 @@
 use Rattle.std.specs.Prelude.{◌≡◌, ℕ, suc, Bool, true, false, List, [], ◌∷◌, ◌||◌, nat_eq, if◌then◌else◌}
 use Rattle.bz_token.specs.declared.class.Class.{Class}
 use Rattle.bz_token.specs.declared.class.Class.TheVariants.{Mark, Newline, End}
+use Rattle.bz_token.specs.Bytes.{line_feed}
 use Rattle.bz_lex.specs.declared.leaf.Leaf.{Leaf}
 use Rattle.bz_lex.specs.Gaps.{IsGap, is_flush}
 pub use Rattle.bz_lex.specs.declared.place.Place.{Place}
@@ -68,7 +69,7 @@ pub data May (IsToken : Class → List ℕ → List ℕ → Type 0) : Place → 
   first : {leaf : Leaf} {rest : List ℕ} → IsGap true false leaf.gap → is_flush leaf.gap ≡ true → IsToken leaf.class leaf.token rest → May IsToken Fresh leaf rest
   later : {leaf : Leaf} {rest : List ℕ} → IsGap false false leaf.gap → IsToken leaf.class leaf.token rest → May IsToken Behind leaf rest
   inner : {depth : ℕ} {leaf : Leaf} {rest : List ℕ} → IsGap true false leaf.gap → IsToken leaf.class leaf.token rest → May IsToken (Inside depth) leaf rest
-  newline : {gap rest : List ℕ} (unclosed : Bool) → IsGap false unclosed gap → May IsToken Behind (record { class = Newline; gap = gap; token = 10 ∷ [] }) rest
+  newline : {gap rest : List ℕ} (unclosed : Bool) → IsGap false unclosed gap → May IsToken Behind (record { class = Newline; gap = gap; token = line_feed ∷ [] }) rest
   no_newline : {gap : List ℕ} (unclosed : Bool) → IsGap false unclosed gap → May IsToken Behind (record { class = Newline; gap = gap; token = [] }) []
   end : {gap : List ℕ} (unclosed : Bool) → IsGap true unclosed gap → May IsToken Fresh (record { class = End; gap = gap; token = [] }) []
   end_at_once : May IsToken Last (record { class = End; gap = []; token = [] }) []

@@ -1,6 +1,7 @@
 ghost use Rattle.std.specs.Prelude.{◌≡◌, ℕ, ◌≤◌, ◌+◌, IfOk, length, drop, MatchOption, MatchResult, nat_eq, ◌||◌, IfErr, true, false};
 ghost use Rattle.bz_token.specs.Tokens.{NoToken, TokenAt};
 ghost use Rattle.bz_lex.specs.Fronts.{IsGapFront, IsLexemeFront, TellsFront, front_leaf, front_token, behind_front};
+ghost use Rattle.bz_lex.specs.Characters.{space, tab};
 ghost use Rattle.bz_lex.specs.Gaps.{IsGap, is_flush};
 ghost use Rattle.bz_lex.specs.Lexing.{NoLexemes};
 
@@ -208,7 +209,7 @@ fn is_flush(gap: &[u8]) -> bool
 }
 
 fn is_indent(byte: u8) -> bool
-    ensures { result ≡ (nat_eq byte 32 || nat_eq byte 9) }
+    ensures { result ≡ (nat_eq byte space || nat_eq byte tab) }
 {
     byte == b' ' || byte == b'\t'
 }

@@ -1,11 +1,11 @@
 ghost use Rattle.std.specs.Prelude.{◌≡◌, ◌≤◌, ◌-◌, ◌+◌, ◌^◌, ◌&&◌, length, min, not, count_by, take_while, reverse};
-ghost use Rattle.bz_lex.specs.Positions.{is_continuation, is_newline, line_of, column_of};
+ghost use Rattle.bz_lex.specs.Positions.{is_continuation, is_newline, line_at, column_of};
 
 /// The line and the column, both from 1, at which the byte at `offset` stands; columns count characters.
 /// A number past `u32::MAX` is told as `u32::MAX`.
 pub fn place_of(text: &[u8], offset: usize) -> (u32, u32)
     requires { offset ≤ length text.now }
-    ensures line { result.0 ≡ min (line_of text.now offset) u32.MAX }
+    ensures line { result.0 ≡ min (line_at text.now offset) u32.MAX }
     ensures column { result.1 ≡ min (column_of text.now offset) u32.MAX }
 {
     let before = &text[..offset];

@@ -1,7 +1,7 @@
 //! Reading a text as the tree that spells it.
 ghost use Rattle.std.specs.Prelude.{◌≡◌, ◌↔◌, ◌≤◌, ◌<◌, ℕ, min, length, IfOk, IfErr, IsUtf8};
 ghost use Rattle.std.specs.Str.{IsValidUpTo};
-ghost use Rattle.bz_lex.specs.Positions.{line_of, column_of};
+ghost use Rattle.bz_lex.specs.Positions.{line_at, column_of};
 ghost use Rattle.bz_tree.specs.Legal.{Reads, NoTree};
 ghost use Rattle.bz_tree.specs.Spell.{limit};
 ghost use Rattle.bz_tree.specs.Faults.{IsOfText, IsOther};
@@ -90,7 +90,7 @@ fn too_deep(text: &[u8], at: usize) -> ReadFault
 
 /// The fault `Unexpected` with line and column, from 1, of the byte at `at` (past the last one: of the end).
 pub fn unexpected_at(text: &[u8], at: usize) -> ReadFault
-    ensures told { result ≡ ReadFault.Unexpected (min (line_of text.now (min at (length text.now))) u32.MAX) (min (column_of text.now (min at (length text.now))) u32.MAX) }
+    ensures told { result ≡ ReadFault.Unexpected (min (line_at text.now (min at (length text.now))) u32.MAX) (min (column_of text.now (min at (length text.now))) u32.MAX) }
 {
     let (line, column) = place_of(text, at.min(text.len()));
     ReadFault::Unexpected { line, column }

@@ -18,7 +18,7 @@ use Rattle.bz_value.specs.Frames.{Frame, row, sequence, frame, has_brackets}
 use Rattle.bz_value.specs.Gaps.{Bytes}
 use Rattle.bz_value.specs.Proper.{comments_of}
 use Rattle.bz_write.specs.Layout.{Piece, mark, laid_in, rowed, headed, joined, stacked, is_broken, is_tuple, is_empty, gap_behind, margin_behind, firsts}
-use Rattle.bz_write.specs.Drawn.{part_of, parts_of, piece_part, line_of, before_next, lines_from, drawn}
+use Rattle.bz_write.specs.Drawn.{part_of, parts_of, piece_part, line_part, before_next, lines_from, drawn}
 use Rattle.bz_write.specs.Written.{comment_lines}
 use Rattle.bz_write.specs.Depths.{depth_in, depth_expr, depth_exprs, deepest_of, depth_inside, depth_items}
 use Rattle.bz_write.proofs.Made.{parts_row, items_row, parts_of_row, items_of_row, two}
@@ -91,7 +91,7 @@ mutual
 
 -- ---- files
 
-line_depth : (gap : Bytes) (x : Expr) → depth_part (line_of gap x) ≡ suc (depth_expr x)
+line_depth : (gap : Bytes) (x : Expr) → depth_part (line_part gap x) ≡ suc (depth_expr x)
 line_depth gap x =
     let here : depth_part (part_of x (gap ++ comment_lines (comments_of x).before) 0) ≡ depth_expr x = depth_drawn x (gap ++ comment_lines (comments_of x).before) 0 in
     depth_Node (record { kind = k.Line; parts = _ }) ∙ omega (arith, here)

@@ -20,7 +20,7 @@ use Rattle.bz_value.specs.Roots.{root}
 use Rattle.bz_write.specs.Layout.{Piece, mark, part, laid, laid_in, rowed, headed, joined, stacked, is_broken, is_empty, is_tuple, gap_behind, margin_behind, behind, has_comments, has_named, is_named, is_listed, is_call, line, above, firsts}
 use Rattle.bz_write.specs.Spaces.{is_spaced}
 use Rattle.bz_write.specs.Written.{text_of, texts_of, piece_text, comment_lines, between, behind_item, item_text, layout, is_load, is_assign}
-use Rattle.bz_write.specs.Drawn.{part_of, parts_of, drawings, piece_part, before_next, line_of, lines_from, drawn}
+use Rattle.bz_write.specs.Drawn.{part_of, parts_of, drawings, piece_part, before_next, line_part, lines_from, drawn}
 use Rattle.bz_write.specs.Flags.{settled_split, with_flags, each_with_flags, item_with_flags, flags}
 use Rattle.bz_write.proofs.Made.{two, writings, text_Form, part_Form}
 
@@ -208,7 +208,7 @@ same_next : (x : Item) (ys : List Item) → before_next (item_with_flags x) (fla
 same_next x [] = refl
 same_next x (y ∷ ys) = same_between x y
 
-same_line : (gap : Bytes) (x : Expr) → line_of gap (with_flags x) ≡ line_of gap x
+same_line : (gap : Bytes) (x : Expr) → line_part gap (with_flags x) ≡ line_part gap x
 same_line gap x = rw (same_comments x, part_flags x) refl
 
 same_lines : (gap : Bytes) (xs : List Item) → lines_from gap (flags xs) ≡ lines_from gap xs

@@ -33,7 +33,7 @@ use Rattle.bz_value.specs.Gaps.{Bytes}
 use Rattle.bz_value.specs.Proper.{IsComment, comments_of, has_statement_kind, IsProperItem, IsProper}
 use Rattle.bz_write.specs.Layout.{behind}
 use Rattle.bz_write.specs.Written.{comment_lines, between, layout}
-use Rattle.bz_write.specs.Drawn.{part_of, line_of, before_next, lines_from, drawn}
+use Rattle.bz_write.specs.Drawn.{part_of, line_part, before_next, lines_from, drawn}
 use Rattle.bz_write.specs.Laws.{LayoutIsAccepted}
 use Rattle.bz_write.proofs.Touching.{Toks, IsLex, FollowsAs, ends_plain, tokens}
 use Rattle.bz_write.proofs.Margins.{FitsAt, coded_byte, first_append, first_nothing, first_blank, lines_fit, newline_gap}
@@ -134,7 +134,7 @@ record IsLine (x : Part) : Type 0 where
 at_node : (here : Spot) (n : Node) → AtParts Stands here here n.parts → AtLeaves Stands here (p.Node n)
 at_node here n h = row_of_parts Stands here here _ (row_of n).1 (subst (AtParts Stands here here) (sym (items_of_row n)) h)
 
-line_stands : (gap : Bytes) (x : Expr) → IsProperItem (i.Stmt x) → FitsAt Begins gap → IsLine (line_of gap x)
+line_stands : (gap : Bytes) (x : Expr) → IsProperItem (i.Stmt x) → FitsAt Begins gap → IsLine (line_part gap x)
 line_stands gap x h g =
     let front : Bytes = gap ++ comment_lines (comments_of x).before in
     let statement : Part = part_of x front 0 in
@@ -174,13 +174,13 @@ lines_stand (i.Block texts ∷ xs) h gap g =
 lines_stand (i.Stmt x ∷ xs) h gap g =
     let more : AreLines (lines_from (before_next (i.Stmt x) xs) xs) = lines_stand xs h.1 (before_next (i.Stmt x) xs) (before_next_fits (i.Stmt x) xs) in
     let rest : List Leaf = flat_map leaves_part (lines_from (before_next (i.Stmt x) xs) xs) in
-    let here : IsLine (line_of gap x) = line_stands gap x h.0 g in
+    let here : IsLine (line_part gap x) = line_stands gap x h.0 g in
     record {
       legal = (here.legal, more.legal);
       fits = inr (here.is_line, more.fits);
       gaps = (here.gaps, subst (λ z. AtParts Stands Begins z (lines_from (before_next (i.Stmt x) xs) xs)) (sym here.begins) more.gaps);
       tokens_there = here.tokens_then rest more.tokens_there;
-      coded = all_append IsCodedLeaf (leaves_part (line_of gap x)) rest here.coded more.coded;
+      coded = all_append IsCodedLeaf (leaves_part (line_part gap x)) rest here.coded more.coded;
     }
 
 -- what is drawn of a proper file value is legal, where it is not too deep

@@ -20,7 +20,7 @@ use Rattle.bz_value.specs.Proper.{IsComment, comments_of, has_break, has_stateme
 use Rattle.bz_view.specs.View.{Seen, seen, first_gap, last_gap, blocks, statement, line_items, file_items, view_of}
 use Rattle.bz_write.specs.Layout.{behind}
 use Rattle.bz_write.specs.Written.{comment_lines}
-use Rattle.bz_write.specs.Drawn.{part_of, line_of, before_next, lines_from, drawn}
+use Rattle.bz_write.specs.Drawn.{part_of, line_part, before_next, lines_from, drawn}
 use Rattle.bz_write.specs.Flags.{with_flags, flags}
 use Rattle.bz_write.proofs.Gapped.{ended_line, told, suffix_line, lines_behind}
 use Rattle.bz_write.proofs.Made.{two}
@@ -67,7 +67,7 @@ behind_statement x (i.Block texts ∷ ys) = if_blank false
 behind_statement x (i.Stmt y ∷ ys) = if_blank _
 
 -- the statement of a line, the Blocks before it, and what stands behind the line
-statement_line : (x : Expr) → IsProperItem (i.Stmt x) → (gap : Bytes) (ls : List GapLine) (bs : List Item) (xs : List Part) → AreLines gap ls → Waits ls bs → file_items [] (line_of gap x ∷ xs) ≡ (bs ++ (i.Stmt (with_flags x) ∷ [])) ++ file_items [] xs
+statement_line : (x : Expr) → IsProperItem (i.Stmt x) → (gap : Bytes) (ls : List GapLine) (bs : List Item) (xs : List Part) → AreLines gap ls → Waits ls bs → file_items [] (line_part gap x ∷ xs) ≡ (bs ++ (i.Stmt (with_flags x) ∷ [])) ++ file_items [] xs
 statement_line x h gap ls bs xs lines waits =
     let own : HostComments = comments_of x in
     let before : Bytes = comment_lines own.before in

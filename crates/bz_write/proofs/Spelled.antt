@@ -20,7 +20,7 @@ use Rattle.bz_value.specs.Gaps.{Bytes}
 use Rattle.bz_value.specs.Proper.{IsProperItem, IsProper, in_frame, comments_of}
 use Rattle.bz_write.specs.Layout.{Piece, mark, laid_in, rowed, headed, joined, stacked, is_broken, is_empty, is_tuple, gap_behind, margin_behind, behind, firsts}
 use Rattle.bz_write.specs.Written.{text_of, texts_of, piece_text, comment_lines, behind_item, item_text, layout}
-use Rattle.bz_write.specs.Drawn.{part_of, parts_of, piece_part, before_next, line_of, lines_from, drawn}
+use Rattle.bz_write.specs.Drawn.{part_of, parts_of, piece_part, before_next, line_part, lines_from, drawn}
 use Rattle.bz_write.proofs.Readable.{Readable, EachReadable, IsRow, IsSequence, readable}
 
 -- the two readings of the same expressions, each spelling the other behind its gap
@@ -131,7 +131,7 @@ pub next_behind : (x : Item) (ys : List Item) → before_next x ys ++ layout ys 
 next_behind x [] = refl
 next_behind x (y ∷ ys) = refl
 
-spell_line : (gap : Bytes) (x : Expr) → Readable x → spell_part (line_of gap x) ≡ gap ++ item_text (i.Stmt x)
+spell_line : (gap : Bytes) (x : Expr) → Readable x → spell_part (line_part gap x) ≡ gap ++ item_text (i.Stmt x)
 spell_line gap x f =
     let before : Bytes = comment_lines (comments_of x).before in
     let after : Bytes = behind (comments_of x).suffix ++ (line_feed ∷ []) in

@@ -48,8 +48,8 @@ body f m closer =
     else joined m [] closer (is_tuple f.kind && nat_eq (length f.seq.items) 1) (drawings f.seq.items)
 
 -- the line of a statement: its suffix stands in the gap of the Newline
-abbrev pub line_of : Bytes → Expr → Part
-line_of gap x = p.Node (record {
+abbrev pub line_part : Bytes → Expr → Part
+line_part gap x = p.Node (record {
   kind = k.Line;
   parts = part_of x (gap ++ comment_lines (comments_of x).before) 0 ∷ p.Leaf (record { class = c.Newline; gap = behind (comments_of x).suffix; token = line_feed ∷ [] }) ∷ [];
 })
@@ -62,7 +62,7 @@ before_next item (next ∷ items) = between item next
 -- an item's own line, and the gap that it leaves to what follows
 abbrev pub own_lines : Bytes → Item → List Part
 own_lines gap (i.Block texts) = []
-own_lines gap (i.Stmt x) = line_of gap x ∷ []
+own_lines gap (i.Stmt x) = line_part gap x ∷ []
 
 abbrev pub left_gap : Bytes → Item → Bytes
 left_gap gap (i.Block texts) = gap ++ comment_lines texts
@@ -72,7 +72,7 @@ left_gap gap (i.Stmt x) = []
 abbrev pub lines_from : Bytes → List Item → List Part
 lines_from gap [] = p.Leaf (record { class = c.End; gap = gap; token = [] }) ∷ []
 lines_from gap (i.Block texts ∷ items) = lines_from ((gap ++ comment_lines texts) ++ before_next (i.Block texts) items) items
-lines_from gap (i.Stmt x ∷ items) = line_of gap x ∷ lines_from (before_next (i.Stmt x) items) items
+lines_from gap (i.Stmt x ∷ items) = line_part gap x ∷ lines_from (before_next (i.Stmt x) items) items
 
 -- the tree of the layout
 abbrev pub drawn : List Item → Node

@@ -1,7 +1,7 @@
 ghost use Rattle.std.specs.Prelude.{◌≡◌, ◌++◌, ◌∷◌, [], OnOk, IfOk, if◌then◌else◌};
 ghost use Rattle.bz_value.specs.Characters.{line_feed};
 ghost use Rattle.bz_write.specs.Written as written;
-ghost use Rattle.bz_write.specs.Drawn.{line_of, own_lines, left_gap, before_next, lines_from};
+ghost use Rattle.bz_write.specs.Drawn.{line_part, own_lines, left_gap, before_next, lines_from};
 
 use crate::drawing::{draw, nothing};
 use crate::gaps::{push_behind, push_comments};
@@ -61,7 +61,7 @@ fn push_between(gap: &mut Vec<u8>, item: &Item, others: &[Item]) -> Result<(), M
 
 /// The line of a statement behind a gap.
 fn draw_line(alloc: Global, expr: &Expr, gap: Vec<u8>) -> Result<Part, Memory>
-    ensures { IfOk result (λ part. part ≡ line_of gap.items expr.now) }
+    ensures { IfOk result (λ part. part ≡ line_part gap.items expr.now) }
 {
     let comments = expr.comments();
     let mut gap = gap;
