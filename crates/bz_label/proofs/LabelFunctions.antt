@@ -1,15 +1,16 @@
 -- Labels as functions are what the conditions say.
 use Rattle.std.proofs.Common.{ℕ, ◌+◌, Bool, true, false, not, ◌&&◌, ◌||◌, Option, Some, None, [], ◌∷◌, ◌++◌, ◌≡◌, ◌↔◌, IsTrue, refl, sym, ap, ◌∙◌, subst, inl, inr, codes, length, drop}
-use Rattle.std.specs.Prelude.{if◌then◌else◌}
+use Rattle.std.specs.Prelude.{if◌then◌else◌, MatchOption}
 use Rattle.std.specs.Str.{bytes_eq}
-use Rattle.std.specs.Option.{option_map_or}
+use Rattle.std.specs.Option.{option_map, option_map_or}
 use Rattle.std.proofs.lemmas.Bool.{cases_Bool, true≢false, and_parts, and_from, or_parts, eqb-true, both_ways, not-true}
 use Rattle.std.proofs.lemmas.Slice.Eq.{bytes_eq-Decides}
 use Rattle.bz_label.specs.Pieces.{Bytes, is_empty, last_piece, has_colon, has_slash, is_colon, is_slash, is_at, begins_with_at}
 use Rattle.bz_label.specs.Labels.{is_path, is_repository_name, IsWhole, IsPackageAlone, IsRepositoryAlone, IsColonName, IsBareName, IsLabel, whole, package_alone, repository_alone, colon_name, bare_name, IsSame, IsOwn, IsShortened, own, other}
-use Rattle.bz_label.specs.Forms.{are_whole, are_alone}
+use Rattle.bz_label.specs.Forms.{label_of, are_whole, are_alone}
 use Rattle.bz_label.specs.Shorter.{before_colon, behind_colon, before_slashes, before_slashes_from, behind_slashes}
 use Rattle.bz_label.specs.Read.{kept_if, absolute_label, has_slashes, other_label, label_in, is_equal, are_equal, is_same, is_own, shortened}
+use Rattle.bz_label.specs.declared.form.Parts.{Parts}
 use Rattle.bz_label.specs.declared.label.Label.{Label}
 use Rattle.bz_label.proofs.Equal.{equal_texts}
 use Rattle.bz_label.proofs.Paths.{joined_exact}
@@ -168,6 +169,19 @@ label_holds current text label h = elim (cases_Bool (has_slashes text)) [
 
 pub label_exact : (current text : Bytes) (label : Label) → IsLabel current text label ↔ (label_in current text ≡ Some label)
 label_exact current text label = (label_found current text label, label_holds current text label)
+
+-- a text that is no label is read as none
+no_label : (current text : Bytes) → ((label : Label) → IsLabel current text label → ⊥) → None ≡ label_in current text
+no_label current text none = unread (label_in current text) refl
+  where
+    unread : (read : Option Label) → label_in current text ≡ read → None ≡ label_in current text
+    unread None e = sym e
+    unread (Some label) e = absurd (none label (label_holds current text label e))
+
+-- the parts of the label that a text is, where it is one
+pub parts_read : (current text : Bytes) (found : Option Parts) → MatchOption found ((label : Label) → IsLabel current text label → ⊥) (λ parts. IsLabel current text (label_of parts)) → option_map label_of found ≡ label_in current text
+parts_read current text None none = no_label current text none
+parts_read current text (Some parts) one = sym (label_found current text (label_of parts) one)
 
 -- ---- whether two texts mean the same
 

@@ -4,17 +4,26 @@
 ghost use Rattle.std.specs.Prelude.{◌≡◌, ◌↔◌, ◌<◌, [], IsTrue, IfSome, position, length};
 ghost use Rattle.std.specs.Str.{bytes_eq};
 ghost use Rattle.std.specs.List.{list_any};
+ghost use Rattle.std.specs.Option.{option_map};
 ghost use Rattle.std.specs.Cmp.Lexicographic.{slice_cmp};
 ghost use Rattle.bz_label.specs.Forms.{label_of};
 ghost use Rattle.bz_label.specs.Keys.{group_of, key_pieces, bytes_order, key_order};
 ghost use Rattle.bz_label.specs.Labels.{IsSame, IsShortened, IsUnrepeated};
-ghost use Rattle.bz_label.specs.Read.{is_same, shortened};
+ghost use Rattle.bz_label.specs.Read.{label_in, is_same, shortened};
 ghost use Rattle.bz_label.specs.Shorter.{unrepeated};
 ghost use Rattle.bz_label.specs.Tables.{is_in, sorted_attributes, further_lists, first_arguments, last_arguments, is_sorted as is_sorted_in, is_label_attribute as is_label, is_list_attribute as is_list, priority_of};
 
-use crate::form::{Parts, parts_of, whole};
+pub use crate::form::Parts;
+use crate::form::{parts_of, whole};
 use crate::piece::last;
 use std::cmp::Ordering;
+
+/// The three parts of the label that a text is in the current package, as slices of both; none where it is no label.
+pub fn label_parts<'a>(current: &'a [u8], text: &'a [u8]) -> Option<Parts<'a>>
+    ensures { option_map label_of result ≡ label_in current.now text.now }
+{
+    parts_of(current, text)
+}
 
 fn equal_parts(one: Parts, other: Parts) -> bool
     ensures { IsTrue result ↔ (label_of one.entry ≡ label_of other.entry) }

@@ -9,7 +9,7 @@ use crate::piece::{after, cut, holds, joined, last};
 
 /// The three parts of a label, as slices of the texts that they stand in.
 #[derive(Clone, Copy)]
-pub(crate) struct Parts<'a> {
+pub struct Parts<'a> {
     pub repository: &'a [u8],
     pub package: &'a [u8],
     pub name: &'a [u8],
