@@ -147,15 +147,14 @@ rule_value : (name : Bytes) (item : Item) (o : Option Rule) → IfSome o (RuleIt
 rule_value name item None h = tt
 rule_value name item (Some rule) r = attribute_value name rule.arguments r.arguments
 
-source_value : (name rule : Bytes) (items : List Item) → AllByRecursion IsProperItem items → IfSome (source name rule items) IsValue
+pub source_value : (name rule : Bytes) (items : List Item) → AllByRecursion IsProperItem items → IfSome (source name rule items) IsValue
 source_value name rule [] h = tt
 source_value name rule (item ∷ items) h =
     by_test (λ (o : Option Expr). IfSome o IsValue) (has_name rule item) (value_in name (rule_of item)) (source name rule items)
     (rule_value name item (rule_of item) (rule_item item h.0)) (source_value name rule items h.1)
 
-pub copy_keeps : (name rule : Bytes) (items : List Item) → IsAttribute name → AllByRecursion IsProperItem items → Keeps (copy name rule items)
-copy_keeps name rule items a i xs h =
-    of_value (source name rule items) (Err NoSource) (λ value. Ok (put name value xs)) (source_value name rule items i) tt (λ value v. put_kept name value xs a v h)
+pub copy_keeps : (name : Bytes) (found : Option Expr) → IsAttribute name → IfSome found IsValue → Keeps (copy name found)
+copy_keeps name found a v xs h = of_value found (Err NoSource) (λ value. Ok (put name value xs)) v tt (λ value v. put_kept name value xs a v h)
 
-pub copy_no_overwrite_keeps : (name rule : Bytes) (items : List Item) → IsAttribute name → AllByRecursion IsProperItem items → Keeps (copy_no_overwrite name rule items)
-copy_no_overwrite_keeps name rule items a i xs h = by_test Made (has_attribute name xs) (Ok xs) (copy name rule items xs) h (copy_keeps name rule items a i xs h)
+pub copy_no_overwrite_keeps : (name : Bytes) (found : Option Expr) → IsAttribute name → IfSome found IsValue → Keeps (copy_no_overwrite name found)
+copy_no_overwrite_keeps name found a v xs h = by_test Made (has_attribute name xs) (Ok xs) (copy name found xs) h (copy_keeps name found a v xs h)

@@ -25,11 +25,11 @@ use Rattle.bz_rule.proofs.ProperItems.{all_joined}
 use Rattle.bz_rule.proofs.ProperRules.{RuleItem, rule_item, on_statement}
 use Rattle.bz_command.specs.Made.{function_of, rule_made}
 use Rattle.bz_command.specs.Targets.{is_rule, on_line, first_mark, meant, may_mean_none}
-use Rattle.bz_command.specs.Effect.{Arguments, NewItem, with_arguments, with_function, made_of, on_rule, on_arguments, behind_item, on_meant, unmarked, before_first, behind_first, placed, has_place, with_rule, on_rules, looks_at_rules, effect, set, set_if_absent, add, remove, remove_values, replace, move, rename, copy, copy_no_overwrite}
+use Rattle.bz_command.specs.Effect.{Arguments, NewItem, with_arguments, with_function, made_of, on_rule, on_arguments, behind_item, on_meant, unmarked, before_first, behind_first, placed, has_place, with_rule, on_rules, looks_at_rules, effect, set, set_if_absent, add, remove, remove_values, replace, move, rename, source, copy, copy_no_overwrite}
 use Rattle.bz_command.specs.declared.refusal.Refusal.{Refusal}
 use Rattle.bz_command.specs.declared.refusal.Refusal.TheVariants.{NoTarget, NameTaken}
 use Rattle.bz_command.specs.Laws.{EffectsStayProper}
-use Rattle.bz_command.proofs.ProperCommands.{Made, Keeps, set_keeps, set_if_absent_keeps, add_keeps, remove_keeps, remove_values_keeps, replace_keeps, move_keeps, rename_keeps, copy_keeps, copy_no_overwrite_keeps}
+use Rattle.bz_command.proofs.ProperCommands.{Made, Keeps, set_keeps, set_if_absent_keeps, add_keeps, remove_keeps, remove_values_keeps, replace_keeps, move_keeps, rename_keeps, source_value, copy_keeps, copy_no_overwrite_keeps}
 use Rattle.bz_command.proofs.ProperMade.{made_rule, kind_function}
 
 abbrev AreItems : List Item → Type 0
@@ -180,8 +180,8 @@ module _ (current : Bytes) (marks : List Bool) (items : List Item) (m : Marked m
   rules_made (w.Replace attributes old new) p = by_arguments (replace current attributes old new) (replace_keeps current attributes old new p.2)
   rules_made (w.Move from to values) p = by_arguments (move current from to values) (move_keeps current from to values p.1)
   rules_made (w.Rename from to) p = by_arguments (rename from to) (rename_keeps from to p.1)
-  rules_made (w.Copy name rule) p = by_arguments (copy name rule items) (copy_keeps name rule items p.0 h)
-  rules_made (w.CopyNoOverwrite name rule) p = by_arguments (copy_no_overwrite name rule items) (copy_no_overwrite_keeps name rule items p.0 h)
+  rules_made (w.Copy name rule) p = by_arguments (copy name (source name rule items)) (copy_keeps name (source name rule items) p.0 (source_value name rule items h))
+  rules_made (w.CopyNoOverwrite name rule) p = by_arguments (copy_no_overwrite name (source name rule items)) (copy_no_overwrite_keeps name (source name rule items) p.0 (source_value name rule items h))
 
 effect_made : (operation : Operation) (target : Target) (current : Bytes) (lines : List ℕ) (items : List Item) → IsProperCommand operation → AreItems items → MadeItems (effect operation target current lines items)
 effect_made operation target current lines items p h =

@@ -36,7 +36,9 @@ use Rattle.bz_rule.proofs.ProperSequences.{IsItem, AreOf, list_apart, list_in_pl
 use Rattle.bz_command.specs.Made.{token, string_text}
 use Rattle.bz_command.specs.Attributes.{on_first_that}
 use Rattle.bz_command.specs.Lists.{items_in, with_more, are_one, is_item, fresh, travelled, is_there, arriving}
-use Rattle.bz_command.specs.Effect.{Setting, one, many, is_constant, is_decimal, single, setting, value_of, replaced_item, replaced}
+use Rattle.bz_command.specs.declared.settings.Setting.{Setting}
+use Rattle.bz_command.specs.declared.settings.Setting.TheVariants.{One, Many}
+use Rattle.bz_command.specs.Effect.{is_constant, is_decimal, single, setting, value_of, replaced_item, replaced}
 use Rattle.bz_command.proofs.ProperMade.{token_new, new_value, list_value, string_value, string_strung, quoted_string, texts_are_items}
 use Rattle.bz_command.proofs.ProperTexts.{body_utf8, shortened_utf8}
 
@@ -190,9 +192,9 @@ digits (byte ∷ word) h = let w = and_parts (nat_lt 0 (length (byte ∷ word)))
 single_value : (current attribute word : Bytes) → IsUtf8 word → IsValue (value_of (single current attribute word))
 single_value current attribute word u =
     let set : Setting → Type 0 = λ made. IsValue (value_of made) in
-    by_case set (is_constant word) (one c.Name word) (if is_decimal word then one c.Number word else one c.String (string_text current attribute word))
+    by_case set (is_constant word) (One c.Name word) (if is_decimal word then One c.Number word else One c.String (string_text current attribute word))
     (λ h. new_value (token c.Name word) (token_new c.Name word (constant_name word h) u) refl)
-    (λ n. by_case set (is_decimal word) (one c.Number word) (one c.String (string_text current attribute word))
+    (λ n. by_case set (is_decimal word) (One c.Number word) (One c.String (string_text current attribute word))
     (λ h. new_value (token c.Number word) (token_new c.Number word (whole word (digits word h)) u) refl)
     (λ m. string_value (string_text current attribute word) (string_strung current attribute word u)))
 
@@ -200,7 +202,7 @@ texts_strung : (current attribute : Bytes) (words : List Bytes) → AreUtf8 word
 texts_strung current attribute [] u = tt
 texts_strung current attribute (word ∷ words) u = (string_strung current attribute word u.0, texts_strung current attribute words u.1)
 
-many_value : (current attribute : Bytes) (words : List Bytes) → AreUtf8 words → IsValue (value_of (many (map (string_text current attribute) words)))
+many_value : (current attribute : Bytes) (words : List Bytes) → AreUtf8 words → IsValue (value_of (Many (map (string_text current attribute) words)))
 many_value current attribute words u =
     let texts : List Bytes = map (string_text current attribute) words in
     list_value (map (token c.String) texts) (texts_are_items texts (texts_strung current attribute words u))
@@ -208,6 +210,6 @@ many_value current attribute words u =
 pub setting_value : (current attribute : Bytes) (words : List Bytes) → AreUtf8 words → IsValue (value_of (setting current attribute words))
 setting_value current attribute [] u = many_value current attribute [] u
 setting_value current attribute (word ∷ []) u =
-    by_test (λ (made : Setting). IsValue (value_of made)) (is_list_attribute attribute) (many (string_text current attribute word ∷ [])) (single current attribute word)
+    by_test (λ (made : Setting). IsValue (value_of made)) (is_list_attribute attribute) (Many (string_text current attribute word ∷ [])) (single current attribute word)
     (many_value current attribute (word ∷ []) u) (single_value current attribute word u.0)
 setting_value current attribute (word ∷ other ∷ words) u = many_value current attribute (word ∷ other ∷ words) u

@@ -23,6 +23,8 @@ use Rattle.bz_rule.specs.Rules.{Rule, rule_of, attribute, has_name}
 use Rattle.bz_rule.specs.Values.{has_kind, has_class, text_of, parts_of, items_of, with_items, with_parts, with_text, on_row, on_first, first_text, on_lists}
 use Rattle.bz_command.specs.declared.refusal.Refusal.{Refusal}
 use Rattle.bz_command.specs.declared.refusal.Refusal.TheVariants.{NoTarget, NoAttribute, AttributeExists, NotAList, NoSource, NameTaken}
+use Rattle.bz_command.specs.declared.settings.Setting.{Setting}
+use Rattle.bz_command.specs.declared.settings.Setting.TheVariants.{One, Many}
 use Rattle.bz_command.specs.Targets.{meant, may_mean_none}
 use Rattle.bz_command.specs.Made.{token, strings_of, string_text, string_of, list_of, plus, function_of, rule_made}
 use Rattle.bz_command.specs.Attributes.{is_attribute, has_attribute, is_other_attribute, on_first_that, on_value, with_value, with_new, without, put}
@@ -39,11 +41,6 @@ by_value (Some value) absent there = there value
 
 -- ---- set
 
--- what `set` makes: one token, or a list of strings
-pub data Setting : Type 0 where
-  one : Class → Bytes → Setting
-  many : List Bytes → Setting
-
 -- True, False, None and decimal digits are as they are
 abbrev pub is_constant : Bytes → Bool
 is_constant word = bytes_eq word (codes "True") || (bytes_eq word (codes "False") || bytes_eq word (codes "None"))
@@ -53,16 +50,16 @@ is_decimal word = nat_lt 0 (length word) && all_ascii_digits word
 
 abbrev pub single : Bytes → Bytes → Bytes → Setting
 single current attribute word =
-    if is_constant word then one c.Name word else (if is_decimal word then one c.Number word else one c.String (string_text current attribute word))
+    if is_constant word then One c.Name word else (if is_decimal word then One c.Number word else One c.String (string_text current attribute word))
 
 -- The value becomes a list of strings where the attribute is a list attribute or there are two or more words.
 abbrev pub setting : Bytes → Bytes → List Bytes → Setting
-setting current attribute (word ∷ []) = if is_list_attribute attribute then many (string_text current attribute word ∷ []) else single current attribute word
-setting current attribute words = many (map (string_text current attribute) words)
+setting current attribute (word ∷ []) = if is_list_attribute attribute then Many (string_text current attribute word ∷ []) else single current attribute word
+setting current attribute words = Many (map (string_text current attribute) words)
 
 abbrev pub value_of : Setting → Expr
-value_of (one class text) = token class text
-value_of (many texts) = list_of (map (token c.String) texts)
+value_of (One class text) = token class text
+value_of (Many texts) = list_of (map (token c.String) texts)
 
 abbrev pub are_texts : List Bytes → List Expr → Bool
 are_texts [] [] = true
@@ -71,8 +68,8 @@ are_texts _ _ = false
 
 -- the value differs from what is set only in comments and flags
 abbrev pub is_set : Setting → Expr → Bool
-is_set (one class text) value = has_class class value && bytes_eq (text_of value) text
-is_set (many texts) value = has_kind k.List value && are_texts texts (items_of value)
+is_set (One class text) value = has_class class value && bytes_eq (text_of value) text
+is_set (Many texts) value = has_kind k.List value && are_texts texts (items_of value)
 
 abbrev pub set : Bytes → Bytes → List Bytes → List Expr → Arguments
 set current name words arguments =
@@ -164,11 +161,12 @@ abbrev pub source : Bytes → Bytes → List Item → Option Expr
 source name rule [] = None
 source name rule (item ∷ items) = if has_name rule item then value_in name (rule_of item) else source name rule items
 
-abbrev pub copy : Bytes → Bytes → List Item → List Expr → Arguments
-copy name rule items arguments = by_value (source name rule items) (Err NoSource) (λ value. Ok (put name value arguments))
+-- `found` is the value in the source, where it is there
+abbrev pub copy : Bytes → Option Expr → List Expr → Arguments
+copy name found arguments = by_value found (Err NoSource) (λ value. Ok (put name value arguments))
 
-abbrev pub copy_no_overwrite : Bytes → Bytes → List Item → List Expr → Arguments
-copy_no_overwrite name rule items arguments = if has_attribute name arguments then Ok arguments else copy name rule items arguments
+abbrev pub copy_no_overwrite : Bytes → Option Expr → List Expr → Arguments
+copy_no_overwrite name found arguments = if has_attribute name arguments then Ok arguments else copy name found arguments
 
 -- ---- the meant rules, one after the other
 
@@ -240,21 +238,38 @@ with_rule kind name place items =
 
 -- ---- all commands
 
+-- the value that is copied, from the file as it was
+abbrev pub source_of : Operation → List Item → Option Expr
+source_of (w.Copy name rule) items = source name rule items
+source_of (w.CopyNoOverwrite name rule) items = source name rule items
+source_of _ items = None
+
+-- what a command makes of the arguments of a rule that it is meant for; `found` is the value that is copied
+abbrev pub change_of : Operation → Bytes → Option Expr → List Expr → Arguments
+change_of (w.Set name words) current found arguments = set current name words arguments
+change_of (w.SetIfAbsent name words) current found arguments = set_if_absent current name words arguments
+change_of (w.Add name words) current found arguments = add current name words arguments
+change_of (w.Remove attributes) current found arguments = remove attributes arguments
+change_of (w.RemoveValues name words) current found arguments = remove_values current name words arguments
+change_of (w.Replace attributes old new) current found arguments = replace current attributes old new arguments
+change_of (w.Move from to values) current found arguments = move current from to values arguments
+change_of (w.Rename from to) current found arguments = rename from to arguments
+change_of (w.Copy name rule) current found arguments = copy name found arguments
+change_of (w.CopyNoOverwrite name rule) current found arguments = copy_no_overwrite name found arguments
+change_of _ current found arguments = Ok arguments
+
+-- and of the rule itself
+abbrev pub on_one : Operation → Bytes → Option Expr → Item → NewItem
+on_one (w.New kind name place) current found item = Ok item
+on_one w.Delete current found item = Ok item
+on_one (w.SetKind kind) current found item = Ok (with_function (function_of kind) item)
+on_one operation current found item = on_arguments (change_of operation current found) item
+
 -- what a command makes of the rules that are marked
 abbrev pub on_rules : Operation → Bytes → List Bool → List Item → Result (List Item) Refusal
 on_rules (w.New kind name place) current marks items = with_rule kind name place items
 on_rules w.Delete current marks items = Ok (unmarked marks items)
-on_rules (w.SetKind kind) current marks items = on_meant (λ item. Ok (with_function (function_of kind) item)) marks items
-on_rules (w.Set name words) current marks items = on_meant (on_arguments (set current name words)) marks items
-on_rules (w.SetIfAbsent name words) current marks items = on_meant (on_arguments (set_if_absent current name words)) marks items
-on_rules (w.Add name words) current marks items = on_meant (on_arguments (add current name words)) marks items
-on_rules (w.Remove attributes) current marks items = on_meant (on_arguments (remove attributes)) marks items
-on_rules (w.RemoveValues name words) current marks items = on_meant (on_arguments (remove_values current name words)) marks items
-on_rules (w.Replace attributes old new) current marks items = on_meant (on_arguments (replace current attributes old new)) marks items
-on_rules (w.Move from to values) current marks items = on_meant (on_arguments (move current from to values)) marks items
-on_rules (w.Rename from to) current marks items = on_meant (on_arguments (rename from to)) marks items
-on_rules (w.Copy name rule) current marks items = on_meant (on_arguments (copy name rule items)) marks items
-on_rules (w.CopyNoOverwrite name rule) current marks items = on_meant (on_arguments (copy_no_overwrite name rule items)) marks items
+on_rules operation current marks items = on_meant (on_one operation current (source_of operation items)) marks items
 
 -- `new` looks only at the target's package; every other command at the rules that the target means.
 abbrev pub looks_at_rules : Operation → Bool

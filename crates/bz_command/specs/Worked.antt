@@ -1,5 +1,5 @@
--- Worked rows: small file values with what is deleted of them.
-use Rattle.std.specs.Prelude.{◌≡◌, false, List, [], ◌∷◌, Some, None, codes, option_map}
+-- Worked rows: small file values, and what commands make of them.
+use Rattle.std.specs.Prelude.{◌≡◌, false, List, [], ◌∷◌, Some, None, Result, Ok, Err, codes, option_map}
 use Rattle.bz_token.specs.declared.class.Class.{Class}
 use Rattle.bz_token.specs.declared.class.Class.TheVariants as c
 use Rattle.bz_tree.specs.declared.kind.Kind.{Kind}
@@ -10,12 +10,14 @@ use Rattle.bz_value.specs.declared.value.Item.{Item}
 use Rattle.bz_value.specs.declared.value.Item.TheVariants as i
 use Rattle.bz_value.specs.Comments.{no_comments}
 use Rattle.bz_value.specs.Gaps.{Bytes}
-use Rattle.bz_command.specs.declared.command.Command.TheVariants.{Delete}
-use Rattle.bz_command.specs.declared.command.Which.{Which}
-use Rattle.bz_command.specs.declared.command.Which.TheVariants.{Name, Package}
+use Rattle.bz_label.specs.declared.target.Which.{Which}
+use Rattle.bz_label.specs.declared.target.Which.TheVariants.{All, Kind as OfKind, Line, Package, Name}
+use Rattle.bz_words.specs.declared.command.Operation.{Operation}
+use Rattle.bz_words.specs.declared.command.Operation.TheVariants as w
 use Rattle.bz_command.specs.declared.refusal.Refusal.TheVariants.{NoTarget}
 use Rattle.bz_rule.specs.Rules.{rule_of}
-use Rattle.bz_command.specs.Deletes.{Effect, leaves, refuses, effect}
+use Rattle.bz_command.specs.declared.refusal.Refusal.{Refusal}
+use Rattle.bz_command.specs.Effect.{effect}
 
 -- ---- values
 
@@ -49,8 +51,12 @@ statement kind arguments = bare (call (name kind) arguments)
 abbrev block : Item
 block = i.Block (codes "# b" ∷ [])
 
-abbrev deleted : Which → List Item → Effect
-deleted which items = effect Delete (record { «package» = codes "-"; which = which }) items
+-- in the package `p`, on statements on lines 1 to 3
+abbrev made : Operation → Which → List Item → Result (List Item) Refusal
+made operation which items = effect operation (record { «package» = codes "-"; which = which }) (codes "p") (1 ∷ 2 ∷ 3 ∷ []) items
+
+abbrev deleted : Which → List Item → Result (List Item) Refusal
+deleted which items = made w.Delete which items
 
 abbrev Rules : Type 0
 Rules =
@@ -60,14 +66,21 @@ Rules =
     let raw : Item = statement (codes "f") (named (codes "r\"x\"") ∷ []) in
     let settings : Item = statement (codes "package") [] in
     -- every rule of the name goes, whatever its kind; of several attributes `name` the first is meant
-    (deleted (Name (codes "x")) (x ∷ block ∷ y ∷ other ∷ raw ∷ []) ≡ leaves (Some (block ∷ y ∷ raw ∷ [])) [])
-    × (deleted (Name (codes "y")) (y ∷ []) ≡ leaves (Some []) [])
+    (deleted (Name (codes "x")) (x ∷ block ∷ y ∷ other ∷ raw ∷ []) ≡ Ok (block ∷ y ∷ raw ∷ []))
+    × (deleted (Name (codes "y")) (y ∷ []) ≡ Ok [])
     -- none is meant
-    × (deleted (Name (codes "z")) (x ∷ block ∷ y ∷ []) ≡ refuses NoTarget)
-    × (deleted Package (x ∷ block ∷ y ∷ []) ≡ refuses NoTarget)
-    × (deleted (Name (codes "x")) [] ≡ refuses NoTarget)
+    × (deleted (Name (codes "z")) (x ∷ block ∷ y ∷ []) ≡ Err NoTarget)
+    × (deleted Package (x ∷ block ∷ y ∷ []) ≡ Err NoTarget)
+    × (deleted (Name (codes "x")) [] ≡ Err NoTarget)
     -- the first rule of kind `package` alone
-    × (deleted Package (x ∷ settings ∷ y ∷ settings ∷ []) ≡ leaves (Some (x ∷ y ∷ settings ∷ [])) [])
+    × (deleted Package (x ∷ settings ∷ y ∷ settings ∷ []) ≡ Ok (x ∷ y ∷ settings ∷ []))
+    -- all rules, those of a kind, the one on a line: a Block is on none
+    × (deleted All (x ∷ block ∷ other ∷ []) ≡ Ok (block ∷ []))
+    × (deleted All (block ∷ []) ≡ Ok (block ∷ []))
+    × (deleted (OfKind (codes "g")) (x ∷ other ∷ []) ≡ Ok (x ∷ []))
+    × (deleted (OfKind (codes "h")) (x ∷ other ∷ []) ≡ Ok (x ∷ other ∷ []))
+    × (deleted (Line 2) (x ∷ block ∷ other ∷ y ∷ []) ≡ Ok (x ∷ block ∷ y ∷ []))
+    × (deleted (Line 4) (x ∷ other ∷ []) ≡ Err NoTarget)
 
 -- f(name = "x") as an expression
 abbrev x_call : Expr
@@ -92,8 +105,8 @@ Statements =
     -- names joined by dots are a kind
     (option_map (λ rule. rule.kind) (rule_of dotted) ≡ Some (codes "a.b.c"))
     -- a rule among other statements
-    × (deleted (Name (codes "x")) (dotted ∷ others) ≡ leaves (Some others) [])
-    × (deleted (Name (codes "x")) others ≡ refuses NoTarget)
+    × (deleted (Name (codes "x")) (dotted ∷ others) ≡ Ok others)
+    × (deleted (Name (codes "x")) others ≡ Err NoTarget)
 
-abbrev pub WorkedDeletes : Type 0
-WorkedDeletes = Rules × Statements
+abbrev pub WorkedEffects : Type 0
+WorkedEffects = Rules × Statements

@@ -1,0 +1,30 @@
+-- The rows behind a form are its lists.
+use Rattle.std.proofs.Common.{◌≡◌, List}
+use mathlib.Core.Former.{Count}
+use Rattle.bz_value.specs.declared.value.Form.{Form}
+use Rattle.bz_value.specs.declared.value.Expr.{Expr, Form', Row_of-Expr, end_of-Expr, items-the_row-Expr, items_hidden-the_row-Expr-0}
+use Rattle.bz_value.specs.declared.value.Expr.TheVariants as e
+use Rattle.bz_rule.specs.Values.{items_of}
+
+abbrev pub Row : Type 0
+Row = (n : Count) × Row_of-Expr n
+
+abbrev pub listed : Row → List Expr
+listed r = items-the_row-Expr r.0 r.1
+
+abbrev pub part_row : Expr → Row
+part_row (Form' kind s parts s' items end_ split open_ comments) = (_, parts)
+part_row (e.Token t) = (_, end_of-Expr)
+
+abbrev pub item_row : Expr → Row
+item_row (Form' kind s parts s' items end_ split open_ comments) = (_, items)
+item_row (e.Token t) = (_, end_of-Expr)
+
+pub part_list : (f : Form) → listed (part_row (e.Form f)) ≡ f.parts
+part_list f = items_hidden-the_row-Expr-0 f.parts
+
+pub item_list : (f : Form) → listed (item_row (e.Form f)) ≡ f.seq.items
+item_list f = items_hidden-the_row-Expr-0 f.seq.items
+
+pub items_Form : (f : Form) → items_of (e.Form f) ≡ f.seq.items
+items_Form f = item_list f

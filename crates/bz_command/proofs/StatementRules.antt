@@ -1,0 +1,130 @@
+-- Rules by the calls that they are: their arguments changed in place.
+use Rattle.std.proofs.Common.{◌≡◌, ◌≢◌, Bool, true, false, List, [], ◌∷◌, refl, sym, ap, ◌∙◌, true≢false, inl, inr}
+use Rattle.std.specs.Prelude.{Option, Some, None, IfSome, Ok, option_map, is_some, if◌then◌else◌}
+use Rattle.std.proofs.lemmas.Bool.{cases_Bool}
+use Rattle.std.specs.Option.{option_and_then}
+use Rattle.bz_tree.specs.declared.kind.Kind.{Kind}
+use Rattle.bz_tree.specs.declared.kind.Kind.TheVariants as k
+use Rattle.bz_value.specs.declared.value.Form.{Form}
+use Rattle.bz_value.specs.declared.value.Expr.{Expr, Token, Form', items-the_row-Expr, items_hidden-the_row-Expr-0}
+use Rattle.bz_value.specs.declared.value.Expr.TheVariants as e
+use Rattle.bz_value.specs.declared.value.Item.{Item}
+use Rattle.bz_value.specs.declared.value.Item.TheVariants as i
+use Rattle.bz_value.specs.Comments.{HostComments}
+use Rattle.bz_value.specs.Gaps.{Bytes}
+use Rattle.bz_rule.specs.Rules.{Rule, only, form_in, called, named, rule_of, dotted_name}
+use Rattle.bz_rule.specs.Values.{has_kind, parts_of, with_parts, with_items, on_row, on_first}
+use Rattle.bz_words.specs.declared.command.Operation.{Operation}
+use Rattle.bz_words.specs.declared.command.Operation.TheVariants as w
+use Rattle.bz_words.specs.declared.command.Place.{Place}
+use Rattle.bz_command.specs.declared.statements.CallPart.TheVariants.{Arguments as InBrackets}
+use Rattle.bz_command.specs.CallParts.{with_list_in, before_in_call, before_in_row, before_in_statement, before_in}
+use Rattle.bz_command.specs.Targets.{is_rule}
+use Rattle.bz_command.specs.Effect.{Arguments, with_arguments, made_of, on_rule, on_arguments, change_of, on_one}
+
+-- ---- a list put into a place twice
+
+-- a form by its fields
+abbrev made : Kind → List Expr → List Expr → List Bytes → Bool → Bool → HostComments → Form
+made kind parts items end_ split open_ comments = record { kind = kind; parts = parts; seq = record { items = items; end_ = end_; split = split }; open_ = open_; comments = comments }
+
+parts_twice : (ys xs : List Expr) (x : Expr) → with_parts ys (with_parts xs x) ≡ with_parts ys x
+parts_twice ys xs (Token t) = refl
+parts_twice ys xs (Form' own s parts s' items end_ split open_ comments) =
+    ap (λ i. e.Form (made own ys i end_ split open_ comments)) (items_hidden-the_row-Expr-0 (items-the_row-Expr _ items))
+
+items_twice : (ys xs : List Expr) (x : Expr) → with_items ys (with_items xs x) ≡ with_items ys x
+items_twice ys xs (Token t) = refl
+items_twice ys xs (Form' own s parts s' items end_ split open_ comments) =
+    ap (λ p. e.Form (made own p ys end_ split open_ comments)) (items_hidden-the_row-Expr-0 (items-the_row-Expr _ parts))
+
+first_twice : (ys xs : List Expr) (row : List Expr) → on_first (with_items ys) (on_first (with_items xs) row) ≡ on_first (with_items ys) row
+first_twice ys xs [] = refl
+first_twice ys xs (x ∷ row) = ap (λ z. z ∷ row) (items_twice ys xs x)
+
+parts_kind : (kind : Kind) (xs : List Expr) (x : Expr) → has_kind kind (with_parts xs x) ≡ has_kind kind x
+parts_kind kind xs (Token t) = refl
+parts_kind kind xs (Form' own s parts s' items end_ split open_ comments) = refl
+
+parts_filled : (kind : Kind) (xs : List Expr) (x : Expr) → has_kind kind x ≡ true → parts_of (with_parts xs x) ≡ xs
+parts_filled kind xs (Token t) h = absurd (true≢false (sym h))
+parts_filled kind xs (Form' own s parts s' items end_ split open_ comments) h = items_hidden-the_row-Expr-0 xs
+
+row_there : (kind : Kind) (change : List Expr → List Expr) (x : Expr) → has_kind kind x ≡ true → on_row kind change x ≡ with_parts (change (parts_of x)) x
+row_there kind change x h = ap (λ b. if b then with_parts (change (parts_of x)) x else x) h
+
+row_apart : (kind : Kind) (change : List Expr → List Expr) (x : Expr) → has_kind kind x ≡ false → on_row kind change x ≡ x
+row_apart kind change x h = ap (λ b. if b then with_parts (change (parts_of x)) x else x) h
+
+-- a row changed twice
+row_twice : (kind : Kind) (f g : List Expr → List Expr) → ((row : List Expr) → g (f row) ≡ g row) → (x : Expr) → on_row kind g (on_row kind f x) ≡ on_row kind g x
+row_twice kind f g same x = elim (cases_Bool (has_kind kind x)) [
+  | inl h ↦
+      let once : List Expr = f (parts_of x) in
+      ap (on_row kind g) (row_there kind f x h)
+      ∙ (row_there kind g (with_parts once x) (parts_kind kind once x ∙ h)
+      ∙ (ap (λ z. with_parts (g z) (with_parts once x)) (parts_filled kind once x h)
+      ∙ (parts_twice (g once) once x ∙ (ap (λ z. with_parts z x) (same (parts_of x)) ∙ sym (row_there kind g x h)))))
+  | inr h ↦ ap (on_row kind g) (row_apart kind f x h)
+]
+
+arguments_twice : (ys xs : List Expr) (item : Item) → with_list_in InBrackets ys (with_list_in InBrackets xs item) ≡ with_arguments ys item
+arguments_twice ys xs (i.Block lines) = refl
+arguments_twice ys xs (i.Stmt x) = ap i.Stmt (row_twice k.Bare (on_first (with_items xs)) (on_first (with_items ys)) (first_twice ys xs) x)
+
+-- ---- what stands in the brackets of a rule are its arguments
+
+-- a call's arguments are these, where it is a rule
+abbrev Holds : List Expr → Option Rule → Type 0
+Holds list o = IfSome o (λ rule. list ≡ rule.arguments)
+
+by_name : (arguments : List Expr) (o : Option Bytes) → Holds arguments (option_map (λ kind. record { kind = kind; arguments = arguments }) o)
+by_name arguments None = tt
+by_name arguments (Some kind) = refl
+
+by_parts : (ps xs : List Expr) (end_ : List Bytes) (split open_ : Bool) (comments : HostComments) → Holds xs (option_and_then named (called (made k.Call ps xs end_ split open_ comments)))
+by_parts [] xs end_ split open_ comments = tt
+by_parts (p ∷ []) xs end_ split open_ comments = by_name xs (dotted_name p)
+by_parts (p ∷ q ∷ ps) xs end_ split open_ comments = tt
+
+in_call : (list : List Expr) (y : Expr) → Holds (before_in_call InBrackets list y) (option_and_then named (option_and_then called (form_in k.Call y)))
+in_call list (Token t) = tt
+in_call list (Form' k.Call s parts s' items end_ split open_ comments) = by_parts (items-the_row-Expr _ parts) (items-the_row-Expr _ items) end_ split open_ comments
+in_call list (Form' _ s parts s' items end_ split open_ comments) = tt
+
+in_row : (list ps : List Expr) → Holds (before_in_row InBrackets list ps) (option_and_then named (option_and_then called (option_and_then (form_in k.Call) (only ps))))
+in_row list [] = tt
+in_row list (y ∷ []) = in_call list y
+in_row list (y ∷ z ∷ ps) = tt
+
+in_statement : (list : List Expr) (x : Expr) → Holds (before_in_statement InBrackets list x) (rule_of (i.Stmt x))
+in_statement list (Token t) = tt
+in_statement list (Form' k.Bare s parts s' items end_ split open_ comments) = in_row list (items-the_row-Expr _ parts)
+in_statement list (Form' _ s parts s' items end_ split open_ comments) = tt
+
+in_item : (list : List Expr) (item : Item) → Holds (before_in InBrackets list item) (rule_of item)
+in_item list (i.Block lines) = tt
+in_item list (i.Stmt x) = in_statement list x
+
+-- ---- a rule by its arguments
+
+by_rule : (change : List Expr → Arguments) (item : Item) (list : List Expr) (o : Option Rule) → Holds list o → is_some o ≡ true → on_rule change o item ≡ made_of item (change list)
+by_rule change item list None h is = absurd (true≢false (sym is))
+by_rule change item list (Some rule) h is = ap (λ z. made_of item (change z)) (sym h)
+
+-- the new arguments in the place of a rule's
+pub rule_changed : (change : List Expr → Arguments) (item : Item) (list new : List Expr) → is_rule item ≡ true → change (before_in InBrackets list item) ≡ Ok new
+    → on_arguments change item ≡ Ok (with_list_in InBrackets new (with_list_in InBrackets list item))
+rule_changed change item list new is made =
+    by_rule change item (before_in InBrackets list item) (rule_of item) (in_item list item) is
+    ∙ (ap (made_of item) made ∙ ap Ok (sym (arguments_twice new list item)))
+
+-- ---- an operation on arguments
+
+pub by_arguments : (operation : Operation) (current : Bytes) (found : Option Expr) (item : Item)
+    → ((kind name : Bytes) (place : Place) → operation ≢ w.New kind name place) → operation ≢ w.Delete → ((kind : Bytes) → operation ≢ w.SetKind kind)
+    → on_one operation current found item ≡ on_arguments (change_of operation current found) item
+by_arguments (w.New kind name place) current found item new delete set_kind = absurd (new kind name place refl)
+by_arguments w.Delete current found item new delete set_kind = absurd (delete refl)
+by_arguments (w.SetKind kind) current found item new delete set_kind = absurd (set_kind kind refl)
+by_arguments _ current found item new delete set_kind = refl

@@ -1,0 +1,47 @@
+-- Marks of items.
+use Rattle.std.proofs.Common.{◌≡◌, ℕ, Bool, true, false, List, [], ◌∷◌, suc, length, map, refl, ap, ◌∙◌, Option, Some, None, option_map, is_some}
+use Rattle.std.specs.Option.{option_and_then, option_map_or}
+use Rattle.bz_label.specs.declared.target.Which.{Which}
+use Rattle.bz_label.specs.declared.target.Which.TheVariants as t
+use Rattle.bz_value.specs.declared.value.Expr.{Expr}
+use Rattle.bz_value.specs.declared.value.Item.{Item}
+use Rattle.bz_value.specs.declared.value.Item.TheVariants as i
+use Rattle.bz_value.specs.Gaps.{Bytes}
+use Rattle.bz_rule.specs.Rules.{Call, Rule, dotted_name, named, has_kind, has_name}
+use Rattle.bz_command.specs.Targets.{is_rule, on_line, first_mark, meant}
+
+abbrev made : List Expr → Bytes → Rule
+made arguments kind = record { kind = kind; arguments = arguments }
+
+-- a call is a rule by what is called
+pub rule_of_call : (call : Option Call) → is_some (option_and_then named call) ≡ option_map_or (λ (c : Call). is_some (dotted_name c.function)) call false
+rule_of_call None = refl
+rule_of_call (Some call) = of (dotted_name call.function)
+  where
+    of : (kind : Option Bytes) → is_some (option_map (made call.arguments) kind) ≡ is_some kind
+    of None = refl
+    of (Some kind) = refl
+
+-- ---- there are as many marks as items
+
+each_marked : {X : Type 0} (test : X → Bool) (xs : List X) → length (map test xs) ≡ length xs
+each_marked test [] = refl
+each_marked test (x ∷ xs) = ap (λ n. suc n) (each_marked test xs)
+
+line_marks : (line : ℕ) (lines : List ℕ) (items : List Item) → length (on_line line lines items) ≡ length items
+line_marks line lines [] = refl
+line_marks line lines (i.Block comments ∷ items) = ap (λ n. suc n) (line_marks line lines items)
+line_marks line [] (i.Stmt x ∷ items) = ap (λ n. suc n) (line_marks line [] items)
+line_marks line (first ∷ lines) (i.Stmt x ∷ items) = ap (λ n. suc n) (line_marks line lines items)
+
+first_marks : (marks : List Bool) → length (first_mark marks) ≡ length marks
+first_marks [] = refl
+first_marks (true ∷ marks) = ap (λ n. suc n) (each_marked (λ _. false) marks)
+first_marks (false ∷ marks) = ap (λ n. suc n) (first_marks marks)
+
+pub as_many : (which : Which) (lines : List ℕ) (items : List Item) → length (meant which lines items) ≡ length items
+as_many t.All lines items = each_marked is_rule items
+as_many (t.Kind kind) lines items = each_marked (has_kind kind) items
+as_many (t.Line line) lines items = line_marks line lines items
+as_many t.Package lines items = first_marks (map (has_kind _) items) ∙ each_marked (has_kind _) items
+as_many (t.Name name) lines items = each_marked (has_name name) items

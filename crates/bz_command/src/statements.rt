@@ -1,0 +1,235 @@
+//! What a command makes of one rule.
+ghost use Rattle.std.specs.Prelude.{◌≡◌, ◌⊎◌, [], ◌∷◌, Ok, Err, OnOk, IfErr};
+ghost use Rattle.std.specs.Option.{option_copied};
+ghost use Rattle.bz_rule.specs.Rules.{rule_of};
+ghost use Rattle.bz_tree.specs.declared.kind.Kind.TheVariants as k;
+ghost use Rattle.bz_rule.specs.Values.{on_first, on_row};
+ghost use Rattle.bz_command.specs.CallParts.{with_list, with_list_in, before_in_call, before_in_row, before_in_statement, before_in};
+ghost use Rattle.bz_command.specs.Made.{function_of};
+ghost use Rattle.bz_command.specs.Effect.{change_of, on_arguments, on_one, source, value_in, with_function};
+
+use crate::listed::{add, move_values, remove_values, replace};
+use crate::making::function_of;
+use crate::refusal::Refusal;
+use crate::targets::is_rule;
+use crate::whole::{copy, copy_no_overwrite, remove, rename, set, set_if_absent};
+use bz_items::{Items, Memory};
+use bz_rule::{attribute, call_of, has_name};
+use bz_tree::Kind;
+use bz_value::{Expr, Item};
+use bz_words::Operation;
+use std::alloc::Global;
+use std::mem;
+
+/// A list of the call that a rule is.
+#[derive(Clone, Copy)]
+pub(crate) enum CallPart {
+    /// The function that is called, alone.
+    Function,
+    /// The arguments.
+    Arguments,
+}
+
+/// Exchanges a list of a call with this one. A token has none, and the list stays.
+fn exchange_in_call(part: CallPart, list: &mut Items<Expr>, x: &mut Expr)
+    ensures here { x.new ≡ with_list part list.old x.old }
+    ensures there { list.new ≡ before_in_call part list.old x.old }
+{
+    match x {
+        Expr::Token(_) => {}
+        Expr::Form(form) => match part {
+            CallPart::Function => mem::swap(list, &mut form.parts),
+            CallPart::Arguments => mem::swap(list, &mut form.seq.items),
+        },
+    }
+}
+
+/// The same in the call that a row begins with.
+fn exchange_in_row(alloc: Global, part: CallPart, list: &mut Items<Expr>, row: &mut Items<Expr>)
+    ensures here { row.new ≡ on_first (with_list part list.old) row.old }
+    ensures there { list.new ≡ before_in_row part list.old row.old }
+{
+    let mut all = mem::replace(row, Items::new(alloc)).into_vec();
+    if let Some(call) = all.first_mut() {
+        exchange_in_call(part, list, call);
+    }
+    *row = Items::from_vec(all);
+}
+
+/// The same in the call that a statement is.
+fn exchange_in_statement(alloc: Global, part: CallPart, list: &mut Items<Expr>, x: &mut Expr)
+    ensures here { x.new ≡ on_row k.Bare (on_first (with_list part list.old)) x.old }
+    ensures there { list.new ≡ before_in_statement part list.old x.old }
+{
+    match x {
+        Expr::Token(_) => {}
+        Expr::Form(form) => {
+            if form.kind == Kind::Bare {
+                exchange_in_row(alloc, part, list, &mut form.parts);
+            }
+        }
+    }
+}
+
+/// The same in the call that an item is.
+fn exchange(alloc: Global, part: CallPart, list: &mut Items<Expr>, item: &mut Item)
+    ensures here { item.new ≡ with_list_in part list.old item.old }
+    ensures there { list.new ≡ before_in part list.old item.old }
+{
+    match item {
+        Item::Block(_) => {}
+        Item::Stmt(x) => exchange_in_statement(alloc, part, list, x),
+    }
+}
+
+/// What an operation makes of the arguments of a rule that it is meant for. `found` is the value that is copied.
+fn change_arguments(
+    alloc: Global,
+    operation: &Operation,
+    current: &[u8],
+    found: Option<&Expr>,
+    arguments: &mut Items<Expr>,
+) -> Result<(), Refusal>
+    ensures ok { OnOk result (change_of operation.now current.now (option_copied found.entry) arguments.old ≡ Ok arguments.new) }
+    ensures err { IfErr result (λ refusal. (change_of operation.now current.now (option_copied found.entry) arguments.old ≡ Err refusal) ⊎ (refusal ≡ Refusal.Memory)) }
+{
+    match operation {
+        Operation::Set { attribute, values } => set(
+            alloc,
+            current,
+            attribute.as_slice(),
+            values.as_slice(),
+            arguments,
+        ),
+        Operation::SetIfAbsent { attribute, values } => set_if_absent(
+            alloc,
+            current,
+            attribute.as_slice(),
+            values.as_slice(),
+            arguments,
+        ),
+        Operation::Add { attribute, values } => add(
+            alloc,
+            current,
+            attribute.as_slice(),
+            values.as_slice(),
+            arguments,
+        ),
+        Operation::Remove { attributes } => remove(attributes, arguments),
+        Operation::RemoveValues { attribute, values } => remove_values(
+            alloc,
+            current,
+            attribute.as_slice(),
+            values.as_slice(),
+            arguments,
+        ),
+        Operation::Replace {
+            attributes,
+            old,
+            new,
+        } => replace(
+            alloc,
+            current,
+            attributes,
+            old.as_slice(),
+            new.as_slice(),
+            arguments,
+        ),
+        Operation::Move { from, to, values } => move_values(
+            alloc,
+            current,
+            from.as_slice(),
+            to.as_slice(),
+            values,
+            arguments,
+        ),
+        Operation::Rename { from, to } => rename(alloc, from.as_slice(), to.as_slice(), arguments),
+        Operation::Copy { attribute, rule: _ } => copy(
+            alloc,
+            attribute.as_slice(),
+            found,
+            arguments,
+        ),
+        Operation::CopyNoOverwrite { attribute, rule: _ } => copy_no_overwrite(
+            alloc,
+            attribute.as_slice(),
+            found,
+            arguments,
+        ),
+        Operation::New { .. } | Operation::Delete | Operation::SetKind { .. } => Ok(()),
+    }
+}
+
+/// What an operation makes of a rule by changing its arguments; what is no rule stays.
+fn change_rule(
+    alloc: Global,
+    operation: &Operation,
+    current: &[u8],
+    found: Option<&Expr>,
+    item: &mut Item,
+) -> Result<(), Refusal>
+    ensures ok { OnOk result (on_arguments (change_of operation.now current.now (option_copied found.entry)) item.old ≡ Ok item.new) }
+    ensures err { IfErr result (λ refusal. (on_arguments (change_of operation.now current.now (option_copied found.entry)) item.old ≡ Err refusal) ⊎ (refusal ≡ Refusal.Memory)) }
+{
+    if !is_rule(item) {
+        return Ok(());
+    }
+    let mut arguments = Items::new(alloc);
+    exchange(alloc, CallPart::Arguments, &mut arguments, item);
+    change_arguments(alloc, operation, current, found, &mut arguments)?;
+    exchange(alloc, CallPart::Arguments, &mut arguments, item);
+    Ok(())
+}
+
+/// The rule's kind becomes this one.
+fn set_kind(alloc: Global, kind: &[u8], item: &mut Item) -> Result<(), Memory>
+    ensures { OnOk result (item.new ≡ with_function (function_of kind.now) item.old) }
+{
+    let mut parts = Items::new(alloc);
+    parts.push(function_of(alloc, kind)?)?;
+    exchange(alloc, CallPart::Function, &mut parts, item);
+    Ok(())
+}
+
+/// What an operation makes of a rule that it is meant for. `found` is the value that is copied.
+pub(crate) fn on_one(
+    alloc: Global,
+    operation: &Operation,
+    current: &[u8],
+    found: Option<&Expr>,
+    item: &mut Item,
+) -> Result<(), Refusal>
+    ensures ok { OnOk result (on_one operation.now current.now (option_copied found.entry) item.old ≡ Ok item.new) }
+    ensures err { IfErr result (λ refusal. (on_one operation.now current.now (option_copied found.entry) item.old ≡ Err refusal) ⊎ (refusal ≡ Refusal.Memory)) }
+{
+    match operation {
+        Operation::New { .. } | Operation::Delete => Ok(()),
+        Operation::SetKind { kind } => Ok(set_kind(alloc, kind.as_slice(), item)?),
+        _ => change_rule(alloc, operation, current, found, item),
+    }
+}
+
+/// The value that an attribute has in this item, where it is a rule.
+fn value_in<'a>(name: &[u8], item: &'a Item) -> Option<&'a Expr>
+    ensures { option_copied result ≡ value_in name.now (rule_of item.now) }
+{
+    if !is_rule(item) {
+        return None;
+    }
+    match call_of(item) {
+        Some(call) => attribute(name, call.arguments),
+        None => None,
+    }
+}
+
+/// The value that an attribute has in the first rule of a name.
+pub(crate) fn source<'a>(name: &[u8], rule: &[u8], items: &'a [Item]) -> Option<&'a Expr>
+    ensures { option_copied result ≡ source name.now rule.now items.now }
+{
+    for item in items {
+        if has_name(rule, item) {
+            return value_in(name, item);
+        }
+    }
+    None
+}
