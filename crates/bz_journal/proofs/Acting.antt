@@ -1,52 +1,79 @@
 -- What a session's command does is what the history says.
-use Rattle.std.proofs.Common.{◌≡◌, ◌⊎◌, inl, inr, true, Ok, Err, List, Option, Some, None, refl, sym, subst, ap, ◌∙◌}
+use Rattle.std.proofs.Common.{◌≡◌, ◌≢◌, ◌⊎◌, ◌↔◌, inl, inr, true, ℕ, Result, Ok, Err, List, Option, Some, None, refl, sym, subst, ap, ◌∙◌}
 use Rattle.std.specs.Option.{unwrap_or}
 use Rattle.std.specs.Str.{bytes_eq}
 use Rattle.std.proofs.lemmas.Slice.Eq.{bytes_eq-Decides}
 use Rattle.bz_value.specs.Gaps.{Bytes}
 use Rattle.bz_tree.specs.declared.tree.Node.{Node}
 use Rattle.bz_tree.specs.Legal.{Reads}
+use Rattle.bz_tree.specs.Statements.{lines_of}
+use Rattle.bz_label.specs.declared.target.Target.{Target}
 use Rattle.bz_value.specs.declared.value.Item.{Item}
 use Rattle.bz_view.specs.View.{view_of}
-use Rattle.bz_command.specs.Deletes.{Effect, leaves, effect}
-use Rattle.bz_command.specs.declared.command.Command.{Command}
-use Rattle.bz_command.specs.declared.command.Target.{Target}
+use Rattle.bz_words.specs.declared.command.Operation.{Operation}
+use Rattle.bz_command.specs.Effect.{effect}
 use Rattle.bz_command.specs.declared.refusal.Refusal.{Refusal}
 use Rattle.bz_command.specs.declared.refusal.Refusal.TheVariants.{Memory}
 use Rattle.bz_journal.specs.declared.action.Action.TheVariants.{Do, Format}
 use Rattle.bz_journal.specs.declared.action.Reply.{Reply}
-use Rattle.bz_journal.specs.Meaning.{gives, refuses, written, printed_by, meaning_of, Means, Formats}
+use Rattle.bz_journal.specs.Meaning.{Meaning, gives, refuses, written, EffectMeans, Means, Formats}
 use Rattle.bz_journal.specs.History.{History, Answer, present, unchanged, after_text, Acts}
 
-pub acts_refused : (command : Command) (target : Target) (h : History) (here : Bytes) (refusal : Refusal) → here ≡ present h
-    → Means command target here (refuses refusal) ⊎ (refusal ≡ Memory) → Acts (Do command target) h (Err refusal) h
-acts_refused command target h here refusal is (inl means) = inl (refuses refusal, subst (λ (text : Bytes). Means command target text (refuses refusal)) is means, refl)
-acts_refused command target h here refusal is (inr memory) = inr (λ none. none, ap Err memory, refl)
+-- ---- commands, in a history
+
+-- a meaning in the package and on the text of a history
+meant_there : (operation : Operation) (target : Target) (h : History) (current here : Bytes) (m : Meaning) → current ≡ h.package → here ≡ present h
+    → Means operation target current here m → Means operation target h.package (present h) m
+meant_there operation target h current here m own is means =
+    subst (λ (c : Bytes). Means operation target c (present h) m) own (subst (λ (text : Bytes). Means operation target current text m) is means)
+
+pub acts_refused : (operation : Operation) (target : Target) (h : History) (current here : Bytes) (refusal : Refusal) → current ≡ h.package → here ≡ present h
+    → Means operation target current here (refuses refusal) ⊎ (refusal ≡ Memory) → Acts (Do operation target) h (Err refusal) h
+acts_refused operation target h current here refusal own is (inl means) = inl (refuses refusal, meant_there operation target h current here (refuses refusal) own is means, refl)
+acts_refused operation target h current here refusal own is (inr memory) = inr (λ none. none, ap Err memory, refl)
 
 -- what a command leaves: a text, or the one that was there
-pub means_left : (command : Command) (target : Target) (here : Bytes) (left other : Option Bytes) (printed : Option Bytes) → left ≡ other
-    → Means command target here (gives (unwrap_or left here) printed) → Means command target here (gives (unwrap_or other here) printed)
-means_left command target here left other printed is = subst (λ (l : Option Bytes). Means command target here (gives (unwrap_or l here) printed)) is
+pub means_left : (operation : Operation) (target : Target) (current here : Bytes) (left other : Option Bytes) (printed : Option Bytes) → left ≡ other
+    → Means operation target current here (gives (unwrap_or left here) printed) → Means operation target current here (gives (unwrap_or other here) printed)
+means_left operation target current here left other printed is = subst (λ (l : Option Bytes). Means operation target current here (gives (unwrap_or l here) printed)) is
 
-pub acts_same : (command : Command) (target : Target) (h : History) (here : Bytes) (printed : Option Bytes) (reply : Reply) → here ≡ present h
-    → Means command target here (gives here printed) → reply ≡ unchanged printed → Acts (Do command target) h (Ok reply) h
-acts_same command target h here printed reply is means told =
+pub acts_same : (operation : Operation) (target : Target) (h : History) (current here : Bytes) (printed : Option Bytes) (reply : Reply) → current ≡ h.package → here ≡ present h
+    → Means operation target current here (gives here printed) → reply ≡ unchanged printed → Acts (Do operation target) h (Ok reply) h
+acts_same operation target h current here printed reply own is means told =
     let same : bytes_eq (present h) (present h) ≡ true = (bytes_eq-Decides (present h) (present h)).1 refl in
     let led : ◌≡◌ {A = Answer × History} (Ok reply, h) (after_text h (present h) printed) = rw (same, told) in
-    inl (gives (present h) printed, subst (λ (text : Bytes). Means command target text (gives text printed)) is means, led)
+    let given : Means operation target current here (gives (present h) printed) = subst (λ (text : Bytes). Means operation target current here (gives text printed)) is means in
+    inl (gives (present h) printed, meant_there operation target h current here (gives (present h) printed) own is given, led)
 
-pub acts_given : (command : Command) (target : Target) (h : History) (here text : Bytes) (printed : Option Bytes) (answer : Answer) (after : History) → here ≡ present h
-    → Means command target here (gives text printed) → ((answer, after) ≡ after_text h text printed) ⊎ ((answer ≡ Err Memory) × (after ≡ h)) → Acts (Do command target) h answer after
-acts_given command target h here text printed answer after is means (inl led) = inl (gives text printed, subst (λ (t : Bytes). Means command target t (gives text printed)) is means, led)
-acts_given command target h here text printed answer after is means (inr memory) = inr (λ none. none, memory.0, memory.1)
+pub acts_given : (operation : Operation) (target : Target) (h : History) (current here text : Bytes) (printed : Option Bytes) (answer : Answer) (after : History)
+    → current ≡ h.package → here ≡ present h → Means operation target current here (gives text printed)
+    → ((answer, after) ≡ after_text h text printed) ⊎ ((answer ≡ Err Memory) × (after ≡ h)) → Acts (Do operation target) h answer after
+acts_given operation target h current here text printed answer after own is means (inl led) = inl (gives text printed, meant_there operation target h current here (gives text printed) own is means, led)
+acts_given operation target h current here text printed answer after own is means (inr memory) = inr (λ none. none, memory.0, memory.1)
 
--- the text of a new value
-pub means_written : (command : Command) (target : Target) (text : Bytes) (tree : Node) (value : List Item) (left : Option (List Item)) (items : List Item)
-    (printed out : Bytes) (shown : Option Bytes) → Reads text tree → value ≡ view_of tree → effect command target value ≡ leaves left printed → left ≡ Some items
-    → ((p : Option Bytes) → written items p ≡ gives out p) → shown ≡ printed_by command printed → Means command target text (gives out shown)
-means_written command target text tree value left items printed out shown reads seen ran some laid is =
-    let ended : effect command target (view_of tree) ≡ leaves (Some items) printed = ap (effect command target) (sym seen) ∙ ran ∙ ap (λ (l : Option (List Item)). leaves l printed) some in
-    (tree, reads, ap (gives out) is ∙ sym (laid (printed_by command printed)) ∙ sym (ap (λ (e : Effect). meaning_of command e text) ended))
+-- ---- a new value
+
+-- the new value where one is left
+left_new : (made : Result (List Item) Refusal) (value new : List Item) (left : Option (List Item)) → left ≡ Some new → made ≡ Ok (unwrap_or left value) → made ≡ Ok new
+left_new made value new left some is = is ∙ ap (λ (l : Option (List Item)). Ok (unwrap_or l value)) some
+
+-- it is another one
+left_apart : (made : Result (List Item) Refusal) (value new : List Item) (left : Option (List Item)) → left ≡ Some new → (left ≡ None) ↔ (made ≡ Ok value) → made ≡ Ok new → new ≢ value
+left_apart made value new left some told is same = let none : left ≡ None = told.1 (is ∙ ap Ok same) in absurd (cc)
+
+-- A new value is written. `value` is the value that was seen, `lines` are those that were counted.
+pub means_written : (operation : Operation) (target : Target) (current text out : Bytes) (tree : Node) (value new : List Item) (lines : List ℕ) (left : Option (List Item))
+    → Reads text tree → value ≡ view_of tree → lines ≡ lines_of tree → left ≡ Some new
+    → effect operation target current lines value ≡ Ok (unwrap_or left value) → (left ≡ None) ↔ (effect operation target current lines value ≡ Ok value)
+    → ((printed : Option Bytes) → written new printed ≡ gives out printed) → Means operation target current text (gives out None)
+means_written operation target current text out tree value new lines left reads seen counted some ran told laid =
+    let made : Result (List Item) Refusal = effect operation target current lines value in
+    let is : made ≡ Ok new = left_new made value new left some ran in
+    let means : EffectMeans made value text (gives out None) =
+    subst (λ (r : Result (List Item) Refusal). EffectMeans r value text (gives out None)) (sym is) (inr (left_apart made value new left some told is, sym (laid None))) in
+    let on_view : EffectMeans (effect operation target current lines (view_of tree)) (view_of tree) text (gives out None) =
+    subst (λ (xs : List Item). EffectMeans (effect operation target current lines xs) xs text (gives out None)) seen means in
+    (tree, reads, subst (λ (ls : List ℕ). EffectMeans (effect operation target current ls (view_of tree)) (view_of tree) text (gives out None)) counted on_view)
 
 -- ---- formatting
 

@@ -11,8 +11,10 @@ use Rattle.bz_journal.specs.declared.action.Reply.{Reply}
 use Rattle.bz_journal.specs.declared.action.Reply.TheVariants.{Changed, Same, Printed, Moved}
 use Rattle.bz_journal.specs.Meaning.{Meaning, gives, refuses, Means, Formats}
 
--- texts in the order in which they came, the number of the present one, and the one that was present before it
+-- the path of the file's package, the texts in the order in which they came, the number of the present one, and the number of
+-- the one that was present before it
 pub record History : Type 0 where
+  pub «package» : Bytes
   pub texts : List Bytes
   pub cursor : ℕ
   pub before : ℕ
@@ -20,9 +22,9 @@ pub record History : Type 0 where
 abbrev pub present : History → Bytes
 present h = slice_index_or h.texts h.cursor []
 
--- the history of one text
-abbrev pub opened : Bytes → History
-opened text = record { texts = text ∷ []; cursor = 0; before = 0 }
+-- the history of one text of a package's file
+abbrev pub opened : Bytes → Bytes → History
+opened current text = record { «package» = current; texts = text ∷ []; cursor = 0; before = 0 }
 
 abbrev pub most_steps : ℕ
 most_steps = 100000
@@ -40,7 +42,7 @@ Answer = Result Reply Refusal
 
 -- The texts after the present one are cut, and the new one is appended and is the present one.
 abbrev pub changed : History → Bytes → History
-changed h text = record { texts = take (h.cursor + 1) h.texts ++ text ∷ []; cursor = h.cursor + 1; before = h.cursor }
+changed h text = record { «package» = h.package; texts = take (h.cursor + 1) h.texts ++ text ∷ []; cursor = h.cursor + 1; before = h.cursor }
 
 -- what is answered where the text is as it was
 abbrev pub unchanged : Option Bytes → Reply
@@ -69,7 +71,7 @@ redone n h = if nat_lt (h.cursor + n) (length h.texts) then (Ok Moved, moved h (
 
 -- what an action answers and leaves, with ample memory
 abbrev pub Leads : Action → History → Answer → History → Type 0
-Leads (Do command target) h answer after = (m : Meaning) × Means command target (present h) m × ((answer, after) ≡ after_meaning h m)
+Leads (Do command target) h answer after = (m : Meaning) × Means command target h.package (present h) m × ((answer, after) ≡ after_meaning h m)
 Leads Format h answer after = (m : Meaning) × Formats (present h) m × ((answer, after) ≡ after_meaning h m)
 Leads (Undo n) h answer after = (answer, after) ≡ undone n h
 Leads (Redo n) h answer after = (answer, after) ≡ redone n h

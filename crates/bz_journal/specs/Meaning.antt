@@ -1,19 +1,20 @@
 -- What a command means on a text, and what formatting it gives.
-use Rattle.std.specs.Prelude.{◌≡◌, List, Option, Some, None, nat_lt, length, if◌then◌else◌}
+use Rattle.std.specs.Prelude.{◌≡◌, ◌≢◌, ◌⊎◌, List, Option, None, Result, Ok, Err, nat_lt, length, if◌then◌else◌}
 use Rattle.bz_tree.specs.declared.tree.Node.{Node}
 use Rattle.bz_tree.specs.Spell.{depth_of, depth_limit, limit}
 use Rattle.bz_tree.specs.Legal.{Reads}
+use Rattle.bz_tree.specs.Statements.{lines_of}
+use Rattle.bz_label.specs.declared.target.Target.{Target}
 use Rattle.bz_value.specs.declared.value.Item.{Item}
 use Rattle.bz_value.specs.Gaps.{Bytes}
 use Rattle.bz_view.specs.View.{view_of}
 use Rattle.bz_write.specs.Written.{layout}
 use Rattle.bz_write.specs.Drawn.{drawn}
 use Rattle.bz_tidy.specs.Passes.{tidied}
-use Rattle.bz_command.specs.declared.command.Command.{Command}
-use Rattle.bz_command.specs.declared.command.Target.{Target}
+use Rattle.bz_words.specs.declared.command.Operation.{Operation}
 use Rattle.bz_command.specs.declared.refusal.Refusal.{Refusal}
 use Rattle.bz_command.specs.declared.refusal.Refusal.TheVariants.{TooLarge, TooDeep}
-use Rattle.bz_command.specs.Deletes as e
+use Rattle.bz_command.specs.Effect.{effect}
 
 -- A text, and what is printed where something is; or a refusal.
 pub data Meaning : Type 0 where
@@ -28,23 +29,17 @@ written items printed =
 
 -- ---- commands
 
--- what a command prints that prints
-abbrev pub printed_by : Command → Bytes → Option Bytes
-printed_by command printed = if e.prints command then Some printed else None
+-- What an effect on the value of a text means. Where the value is unchanged, the text is as it was and isn't formatted; a new
+-- value is written.
+abbrev pub EffectMeans : Result (List Item) Refusal → List Item → Bytes → Meaning → Type 0
+EffectMeans (Err refusal) items text m = m ≡ refuses refusal
+EffectMeans (Ok new) items text m = ((new ≡ items) × (m ≡ gives text None)) ⊎ ((new ≢ items) × (m ≡ written new None))
 
--- A command that leaves the value unchanged gives the very text.
-abbrev pub meaning_of : Command → e.Effect → Bytes → Meaning
-meaning_of command (e.refuses refusal) text = refuses refusal
-meaning_of command (e.leaves None printed) text = gives text (printed_by command printed)
-meaning_of command (e.leaves (Some items) printed) text = written items (printed_by command printed)
-
--- the meaning on a text that reads as this tree
-abbrev pub meaning : Command → Target → Node → Bytes → Meaning
-meaning command target tree text = meaning_of command (e.effect command target (view_of tree)) text
-
--- On a text that reads as a tree a command has the meaning that its effect on the file value gives.
-abbrev pub Means : Command → Target → Bytes → Meaning → Type 0
-Means command target text m = (tree : Node) × Reads text tree × (m ≡ meaning command target tree text)
+-- On a text that reads as a tree a command means what its effect on the file value means. `current` is the path of the file's
+-- package.
+abbrev pub Means : Operation → Target → Bytes → Bytes → Meaning → Type 0
+Means operation target current text m =
+    (tree : Node) × Reads text tree × EffectMeans (effect operation target current (lines_of tree) (view_of tree)) (view_of tree) text m
 
 -- ---- formatting
 

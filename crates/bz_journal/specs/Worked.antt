@@ -11,11 +11,12 @@ WorkedHistories =
     let a : Bytes = codes "f(name = 'x')\n" in
     let b : Bytes = codes "\n" in
     let c : Bytes = [] in
-    let first : History = opened a in
-    let second : History = record { texts = a ∷ b ∷ []; cursor = 1; before = 0 } in
-    let back : History = record { texts = a ∷ b ∷ []; cursor = 0; before = 1 } in
-    let cut : History = record { texts = a ∷ c ∷ []; cursor = 1; before = 0 } in
-    let full : History = record { texts = []; cursor = 100000; before = 0 } in
+    let current : Bytes = codes "p" in
+    let first : History = opened current a in
+    let second : History = record { «package» = current; texts = a ∷ b ∷ []; cursor = 1; before = 0 } in
+    let back : History = record { «package» = current; texts = a ∷ b ∷ []; cursor = 0; before = 1 } in
+    let cut : History = record { «package» = current; texts = a ∷ c ∷ []; cursor = 1; before = 0 } in
+    let full : History = record { «package» = current; texts = []; cursor = 100000; before = 0 } in
     (after_meaning first (gives b None) ≡ (Ok Changed, second))
     -- the present text again, with something printed or nothing; a refusal
     × (after_meaning first (gives a None) ≡ (Ok Same, first))

@@ -1,5 +1,6 @@
-use bz_command::{Command, Target};
 use bz_items::Text;
+use bz_label::Target;
+use bz_words::Command;
 
 /// What a session is asked to do.
 #[derive(Debug, Drop)]

@@ -3,14 +3,16 @@ ghost use Rattle.bz_value.specs.Gaps.{Bytes};
 ghost use Rattle.std.specs.Option.{unwrap_or};
 ghost use Rattle.bz_tree.specs.Legal.{Reads, Accepted};
 ghost use Rattle.bz_tree.specs.Spell.{spell_node};
-ghost use Rattle.bz_journal.specs.Meaning.{gives, refuses, written, printed_by, Means, Formats};
+ghost use Rattle.bz_journal.specs.Meaning.{gives, refuses, written, Means, Formats};
 
-use bz_command::{Command, Outcome, Refusal, Target, run};
+use bz_command::{Outcome, Refusal, run};
 use bz_items::{Memory, Text};
+use bz_label::Target;
 use bz_tidy::tidy;
 use bz_tree::{ReadFault, Tree, parse};
 use bz_value::File;
 use bz_view::view;
+use bz_words::Command;
 use bz_write::{SetFault, set};
 use std::alloc::Global;
 
@@ -61,42 +63,42 @@ pub(crate) fn written(alloc: Global, file: File) -> Result<Text, Refusal>
     Ok(spelled(alloc, &tree)?)
 }
 
-/// What is printed of what a command leaves to be printed.
-fn printed_by(command: &Command, printed: Text) -> Option<Text>
-    ensures { result ≡ printed_by command.now printed }
-{
-    if command.prints() {
-        Some(printed)
-    } else {
-        None
-    }
-}
-
-/// What a command makes of a text of the session.
+/// What a command makes of a text of the session. `current` is the path of the file's package.
 pub(crate) fn meaning(
     alloc: Global,
     command: &Command,
     target: &Target,
+    current: &[u8],
     text: &[u8],
 ) -> Result<Meant, Refusal>
     requires { Accepted text.now }
-    ensures ok { IfOk result (λ meant. Means command.now target.now text.now (gives (unwrap_or meant.text text.now) meant.printed)) }
+    ensures ok { IfOk result (λ meant. Means command.now target.now current.now text.now (gives (unwrap_or meant.text text.now) meant.printed)) }
     ensures accepted { IfOk result (λ meant. IfSome meant.text Accepted) }
-    ensures err { IfErr result (λ refusal. Means command.now target.now text.now (refuses refusal) ⊎ (refusal ≡ Refusal.Memory)) }
+    ensures err { IfErr result (λ refusal. Means command.now target.now current.now text.now (refuses refusal) ⊎ (refusal ≡ Refusal.Memory)) }
 {
     let tree = read(alloc, text)?;
     let value = view(alloc, &tree)?;
-    let Outcome { file, printed } = run(alloc, command, target, &value)?;
-    let printed = printed_by(command, printed);
+    let lines = tree.lines(alloc)?;
+    let Outcome { file, printed: _ } = run(
+        alloc,
+        command,
+        target,
+        current,
+        lines.as_slice(),
+        &value,
+    )?;
     match file {
         None => Ok(Meant {
             text: None,
-            printed,
+            printed: None,
         }),
-        Some(file) => Ok(Meant {
-            text: Some(written(alloc, file)?),
-            printed,
-        }),
+        Some(file) => match written(alloc, file) {
+            Ok(text) => Ok(Meant {
+                text: Some(text),
+                printed: None,
+            }),
+            Err(refusal) => Err(refusal),
+        },
     }
 }
 

@@ -12,17 +12,20 @@ ghost use Rattle.bz_journal.specs.Fixed.{IsFormatted};
 use crate::action::{Action, Reply};
 use crate::laws::formatted_once;
 use crate::meaning::{Meant, formatted, meaning};
-use bz_command::{Command, Refusal, Target};
+use bz_command::Refusal;
 use bz_items::{Memory, Text};
+use bz_label::Target;
 use bz_tree::{ReadFault, parse};
+use bz_words::Command;
 use std::alloc::Global;
 use std::marker::Model;
 
 const MOST_STEPS: u32 = 100_000;
 
-/// The texts of a BUILD file, one after another, and the place in them. Contracts see it as its history.
+/// The texts of a BUILD file of a package, one after another, and the place in them. Contracts see it as its history.
 #[derive(Drop)]
 pub struct Session {
+    package: Text,
     texts: Vec<Text>,
     cursor: u32,
     before: u32,
@@ -33,34 +36,29 @@ impl Model for Session {
 
     ghost Value = { History };
 
-    ghost view = { λ session. record { texts = session.texts.items; cursor = session.cursor; before = session.before } };
+    ghost view = { λ session. record { «package» = session.«package»; texts = session.texts.items; cursor = session.cursor; before = session.before } };
 
-    ghost invariant = { λ session. IsKept (record { texts = session.texts.items; cursor = session.cursor; before = session.before }) };
+    ghost invariant = { λ session. IsKept (record { «package» = session.«package»; texts = session.texts.items; cursor = session.cursor; before = session.before }) };
 }
 
 impl Session {
-    /// A session at the first text of a file of this package, whose name has at most 65,536 bytes. Errors: those of
-    /// reading the text: `TooLarge` past 4,194,304 bytes; `NotUtf8` with the length of the longest beginning that is UTF-8;
-    /// a fault with line and column where the text reads as no tree; `Memory` where a growth was refused.
+    /// A session at the first text of a file of the package with this path, which has at most 65,536 bytes. Errors: those
+    /// of reading the text: `TooLarge` past 4,194,304 bytes; `NotUtf8` with the length of the longest beginning that is
+    /// UTF-8; a fault with line and column where the text reads as no tree; `Memory` where a growth was refused.
     pub fn open(alloc: Global, package: &str, text: &[u8]) -> Result<Session, ReadFault>
         requires { length «package».now ≤ 65536 }
-        ensures ok { IfOk result (λ session. session ≡ opened text.now) }
+        ensures ok { IfOk result (λ session. session ≡ opened «package».now text.now) }
         ensures accepted { OnOk result (Accepted text.now) }
         ensures too_large { (result ≡ Err ReadFault.TooLarge) ↔ (limit < length text.now) }
         ensures not_utf8 { (at : ℕ) → ((result ≡ Err (ReadFault.NotUtf8 at)) ↔ ((length text.now ≤ limit) × IsValidUpTo text.now at)) }
         ensures refused { IfErr result (λ fault. IsOfText fault → Accepted text.now → ⊥) }
     {
-        let _ = package;
         let _tree = match parse(alloc, text) {
             Ok(tree) => tree,
             Err(fault) => return Err(fault),
         };
-        match one(alloc, text) {
-            Ok(texts) => Ok(Session {
-                texts,
-                cursor: 0,
-                before: 0,
-            }),
+        match first(alloc, package, text) {
+            Ok(session) => Ok(session),
             Err(_) => Err(ReadFault::Memory),
         }
     }
@@ -89,8 +87,8 @@ impl Session {
 
     /// Does an action. At an error the history is as before. Errors: those of the command; `TooLarge` and `TooDeep`
     /// where the new text would be past a limit; `TooFar` where there aren't so many steps; `Full` where a command or
-    /// formatting changes the text behind which there are 100,000 steps; `Memory`: a growth was refused, never at undo
-    /// and redo. Behind formatting the present text is formatted: to format it once more leaves it as it is.
+    /// formatting would change the present text, which is 100,000 steps from the first; `Memory`: a growth was refused,
+    /// never at undo and redo. Behind formatting the present text is formatted: to format it once more leaves it as it is.
     pub fn act(&mut self, action: &Action) -> Result<Reply, Refusal>
         ensures acts { Acts action.now self.old result self.new }
         ensures moves { IsMove action.now → Leads action.now self.old result self.new }
@@ -137,7 +135,13 @@ impl Session {
         ensures err { OnErr result (self.new ≡ self.old) }
     {
         let alloc = *self.texts.allocator();
-        let Meant { text, printed } = match meaning(alloc, command, target, self.present()) {
+        let Meant { text, printed } = match meaning(
+            alloc,
+            command,
+            target,
+            self.package.as_slice(),
+            self.present(),
+        ) {
             Ok(meant) => meant,
             Err(refusal) => return Err(refusal),
         };
@@ -221,6 +225,21 @@ fn unchanged(printed: Option<Text>) -> Reply
         None => Reply::Same,
         Some(text) => Reply::Printed(text),
     }
+}
+
+/// A session at the first text of a file of the package with this path.
+fn first(alloc: Global, package: &str, text: &[u8]) -> Result<Session, Memory>
+    requires { Accepted text.now }
+    ensures { IfOk result (λ session. session ≡ opened «package».now text.now) }
+{
+    let package = Text::from_slice(alloc, package.as_bytes())?;
+    let texts = one(alloc, text)?;
+    Ok(Session {
+        package,
+        texts,
+        cursor: 0,
+        before: 0,
+    })
 }
 
 /// A list of one text.

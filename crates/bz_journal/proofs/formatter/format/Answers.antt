@@ -1,4 +1,4 @@
-use Rattle.std.proofs.Common.{None, sym, rules}
+use Rattle.std.proofs.Common.{rules}
 use Rattle.bz_journal.proofs.Untold.{unread_told}
 use Rattle.bz_journal.proofs.formatter.format.Goals as goal
 

@@ -1,4 +1,4 @@
-use Rattle.bz_journal.proofs.Formatting.{LayersHold, formatted_again}
+use Rattle.bz_journal.proofs.Formatting.{formatted_again}
 use Rattle.bz_journal.proofs.laws.formatted_once.Goals as goal
 
 pub returns : goal.returns

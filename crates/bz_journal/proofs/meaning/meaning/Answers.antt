@@ -1,8 +1,9 @@
+use Rattle.std.proofs.Common.{◌∙◌}
 use Rattle.bz_journal.proofs.Acting.{means_written}
 use Rattle.bz_journal.proofs.meaning.meaning.Goals as goal
 
-pub returns-clause-ok : goal.returns-clause-ok
-returns-clause-ok c =
-    means_written c.args.command.now c.args.target.now c.args.text.now c.in_ok-tree.tree c.in_ok-value.value c.in_ok-file.field-0.file c.in-Some.file
-    c.in_ok-file.field-0.printed c.in_ok-written-in-Some.field-0 c.printed_by-printed.result c.in_ok-tree.ensures.ok c.in_ok-value.ensures.value c.in_ok-file.ensures.ok
-    (cc c.in-Some.is) c.in_ok-written-in-Some.ensures.ok (cc c.printed_by-printed.ensures)
+pub returns-in-Ok-clause-ok : goal.returns-in-Ok-clause-ok
+returns-in-Ok-clause-ok c =
+    means_written c.args.command.now c.args.target.now c.args.current.now c.args.text.now c.in-Ok.text c.in_ok-tree.tree c.in_ok-value.value c.in-Some.file
+    c.as_slice.result.now c.in_ok-file.field-0.file c.in_ok-tree.ensures.ok c.in_ok-value.ensures.value (c.as_slice.ensures.value ∙ c.in_ok-lines.ensures) c.in-Some.is
+    c.in_ok-file.ensures.ok c.in_ok-file.ensures.unchanged c.in-Ok.ensures.ok

@@ -4,8 +4,8 @@ use Rattle.bz_journal.proofs.session.Session.open.Goals as goal
 pub returns-in-Err-clause-not_utf8 : goal.returns-in-Err-clause-not_utf8
 returns-in-Err-clause-not_utf8 c = passed_tells c.args.text.now c.in-Err.fault c.in-Err.ensures.not_utf8
 
-pub returns-in-Ok-one-clause-not_utf8 : goal.returns-in-Ok-one-clause-not_utf8
-returns-in-Ok-one-clause-not_utf8 c = opened_tells c.args.text.now _ _ c.in-Ok.ensures.not_utf8
+pub returns-in-Ok-first-clause-not_utf8 : goal.returns-in-Ok-first-clause-not_utf8
+returns-in-Ok-first-clause-not_utf8 c = opened_tells c.args.text.now _ _ c.in-Ok.ensures.not_utf8
 
 pub returns-clause-not_utf8 : goal.returns-clause-not_utf8
 returns-clause-not_utf8 c = refused_tells c.args.text.now _ c.in-Ok.ensures.not_utf8
