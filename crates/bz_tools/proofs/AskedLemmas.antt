@@ -3,7 +3,7 @@ use Rattle.std.proofs.Common.{◌≡◌, ◌==◌, Bool, false, ℕ, List, [], �
 use Rattle.std.proofs.Math.Seq.{drop-cons}
 use Rattle.std.proofs.lemmas.Bool.{eqb-false}
 use Rattle.std.proofs.lemmas.List.{append-nil}
-use Rattle.bz_command.specs.declared.command.Target.{Target}
+use Rattle.bz_label.specs.declared.target.Target.{Target}
 use Rattle.bz_tools.specs.declared.verb.Verb.{Verb}
 use Rattle.bz_tools.specs.Asked.{Asked, Asking, Refused, aimed, wanted, joined, asked_by, asked_of, steps_asked, steps_for, complete}
 use Rattle.bz_tools.specs.Line.{operands_of}

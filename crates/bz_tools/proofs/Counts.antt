@@ -5,7 +5,12 @@ use Rattle.std.specs.Str.{all_ascii_digits}
 use Rattle.std.specs.Char.{is_ascii_digit}
 use Rattle.std.proofs.Math.Bool.{and-false}
 use Rattle.std.proofs.lemmas.Bool.{le-ltb, lt-ltb}
-use Rattle.bz_tools.specs.Operands.{number_after, count_of}
+use Rattle.std.specs.List.{fold}
+use Rattle.bz_tools.specs.Operands.{count_of}
+
+-- the number whose decimal digits are those of the first number and then these
+abbrev pub number_after : ℕ → List ℕ → ℕ
+number_after number digits = fold (λ so_far digit. so_far * 10 + (digit - 48)) number digits
 
 -- what a count is does not hang on the digits before what is left
 pub record Counted (word : List ℕ) (count : ℕ) (left : List ℕ) : Type 0 where

@@ -1,5 +1,4 @@
 pub mod Written
-pub mod Pieces
 pub mod Counts
 pub mod AskedLemmas
 pub mod Outcomes

@@ -2,14 +2,13 @@
 use Rattle.std.specs.Prelude.{List, [], ◌∷◌, ◌++◌, map, if◌then◌else◌, Option, Some, None, Result, Ok, Err}
 use Rattle.std.specs.List.{flat_map}
 use Rattle.bz_value.specs.Gaps.{Bytes}
-use Rattle.bz_command.specs.declared.command.Command.TheVariants as c
-use Rattle.bz_command.specs.declared.command.Target.{Target}
+use Rattle.bz_label.specs.declared.target.Target.{Target}
 use Rattle.bz_journal.specs.declared.action.Action.{Action}
 use Rattle.bz_journal.specs.declared.action.Action.TheVariants as a
 use Rattle.bz_tools.specs.Line.{operands_of}
 use Rattle.bz_tools.specs.Operands.{is_target, target_of, verb_of}
 use Rattle.bz_tools.specs.declared.verb.Verb.{Verb}
-use Rattle.bz_tools.specs.declared.verb.Verb.TheVariants.{Delete, Undo, Redo}
+use Rattle.bz_tools.specs.declared.verb.Verb.TheVariants.{Do, Undo, Redo}
 use Rattle.bz_tools.specs.declared.verb.OperandFault.{OperandFault}
 
 -- ---- the commands and the targets of a line
@@ -64,7 +63,7 @@ pub record Step : Type 0 where
   pub command : Bytes
 
 abbrev pub action_of : Target → Verb → Action
-action_of target Delete = a.Do c.Delete target
+action_of target (Do operation) = a.Do operation target
 action_of target (Undo count) = a.Undo count
 action_of target (Redo count) = a.Redo count
 

@@ -8,8 +8,8 @@ use Rattle.bz_tools.specs.declared.format_line.FormatLine.{FormatLine}
 use Rattle.bz_tools.specs.declared.format_line.FormatUsage.{FormatUsage}
 use Rattle.bz_tools.specs.declared.format_line.FormatUsage.TheVariants as u
 
-abbrev pub line_of : FormatLine → m.FormatLine
-line_of line = record { mode = line.mode; files = map (λ file. file.now) line.files.items }
+abbrev pub seen_line : FormatLine → m.FormatLine
+seen_line line = record { mode = line.mode; files = map (λ file. file.now) line.files.items }
 
 -- why the words are no line of buildifier's, where memory is not the cause
 abbrev pub usage_of : FormatUsage → Option m.FormatUsage

@@ -12,5 +12,4 @@ pub mod Ports
 pub mod Shown
 pub mod Told
 pub mod Verbs
-pub mod Words
 pub mod Worked

@@ -8,6 +8,7 @@ use Rattle.bz_journal.specs.declared.action.Reply.{Reply}
 use Rattle.bz_journal.specs.Faults.{IsFaultOf}
 use Rattle.bz_journal.specs.History.{History, opened, present, Leads, TakesNone}
 use Rattle.bz_tools.specs.Asked.{Step, Usage, steps_asked}
+use Rattle.bz_tools.specs.Operands.{input_package}
 use Rattle.bz_tools.specs.Told.{stdin, fault_line, refusal_line, IsUsageLine}
 
 -- ---- the run of the steps
@@ -45,7 +46,7 @@ pub record Edited (steps : List Step) (input output line : Bytes) (status : ℕ)
   pub accepted : Accepted input
   pub halt : Option Halt
   pub after : History
-  pub runs : RunsToRefusal (opened input) steps halt after
+  pub runs : RunsToRefusal (opened input_package input) steps halt after
   pub written : output ≡ present after
   pub told : line ≡ halt_line halt
   pub ended : status ≡ status_of (is_some halt) input output

@@ -1,19 +1,18 @@
 -- The names and the numbers of refused operands.
 use Rattle.std.specs.Prelude.{ℕ, codes}
 use Rattle.bz_value.specs.Gaps.{Bytes}
+use Rattle.bz_words.specs.Faults as c
 use Rattle.bz_tools.specs.declared.verb.OperandFault.{OperandFault}
-use Rattle.bz_tools.specs.declared.verb.OperandFault.TheVariants.{Memory, BadTarget, Unknown, Arguments}
+use Rattle.bz_tools.specs.declared.verb.OperandFault.TheVariants.{Memory, BadTarget, Command}
 
 -- the table of refusals: names
 abbrev pub fault_name : OperandFault → Bytes
 fault_name Memory = codes "Memory"
 fault_name BadTarget = codes "BadTarget"
-fault_name Unknown = codes "Unknown"
-fault_name Arguments = codes "Arguments"
+fault_name (Command fault) = c.fault_name fault
 
 -- the table of refusals: numbers
 abbrev pub fault_number : OperandFault → ℕ
 fault_number Memory = 8
 fault_number BadTarget = 12
-fault_number Unknown = 31
-fault_number Arguments = 32
+fault_number (Command fault) = c.fault_number fault

@@ -7,11 +7,11 @@ ghost use Rattle.bz_tools.specs.declared.verb.OperandFault.{OperandFault};
 
 use crate::target::{is_target, read_target};
 use crate::verb::{OperandFault, Verb, read_verb};
-use bz_command::Target;
+use bz_label::Target;
 use std::alloc::Global;
 
 /// A command, and its text.
-#[derive(Clone, Copy)]
+#[derive(Drop)]
 pub(crate) struct Asking<'a> {
     pub(crate) verb: Verb,
     pub(crate) text: &'a str,
@@ -35,7 +35,7 @@ fn add_target(alloc: Global, asked: &mut Asked<'_>, operand: &str) -> Result<(),
     ensures ok { OnOk result (a.joined (Ok (asked_in asked.old)) (a.aimed operand.now (target_of operand.now)) ≡ Ok (asked_in asked.new)) }
     ensures err { IfErr result (λ fault. (target_of operand.now ≡ Err fault) ⊎ (fault ≡ OperandFault.Memory)) }
 {
-    let target = read_target(alloc, operand.as_bytes())?;
+    let target = read_target(alloc, operand)?;
     if asked.targets.push(target).is_err() {
         return Err(OperandFault::Memory);
     }
@@ -50,7 +50,7 @@ fn add_command<'a>(
     ensures ok { OnOk result (a.joined (Ok (asked_in asked.old)) (a.wanted operand.entry.now (verb_of operand.entry.now)) ≡ Ok (asked_in asked.new)) }
     ensures err { IfErr result (λ fault. (verb_of operand.entry.now ≡ Err fault) ⊎ (fault ≡ OperandFault.Memory)) }
 {
-    let verb = read_verb(alloc, operand.as_bytes())?;
+    let verb = read_verb(alloc, operand)?;
     if asked
         .commands
         .push(Asking {

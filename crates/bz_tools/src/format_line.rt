@@ -2,7 +2,7 @@
 ghost use Rattle.std.specs.Prelude.{◌≡◌, ◌≢◌, [], false, Ok, Err, IfOk, IfErr, IfSome, IsErrOf, map, option_map};
 ghost use Rattle.clap.specs.Words.{app_of, rule_of, found_of, fault_of, matches_of, rows_of, first_of};
 ghost use Rattle.bz_tools.specs.Modes.{buildifier_app, mode_rule, file_rule, format_line};
-ghost use Rattle.bz_tools.specs.FormatShown.{line_of, usage_of};
+ghost use Rattle.bz_tools.specs.FormatShown.{seen_line, usage_of};
 
 use crate::line::{LineFault, texts_of};
 use crate::mode::Mode;
@@ -81,7 +81,7 @@ pub(crate) fn read_format_line<'a, S: AsStr>(
     alloc: Global,
     words: &'a [S],
 ) -> Result<FormatLine<'a>, FormatUsage<'a>>
-    ensures ok { IfOk result (λ line. format_line (map S.text words.entry.now) ≡ Ok (line_of line)) }
+    ensures ok { IfOk result (λ line. format_line (map S.text words.entry.now) ≡ Ok (seen_line line)) }
     ensures err { IfErr result (λ fault. IfSome (usage_of fault) (λ usage. format_line (map S.text words.entry.now) ≡ Err usage)) }
 {
     let matches = match parse(alloc, words) {

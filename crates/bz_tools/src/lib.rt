@@ -19,7 +19,6 @@ mod steps;
 mod target;
 mod told;
 mod verb;
-mod words;
 
 pub use device::Device;
 pub use engine::buildozer;

@@ -5,9 +5,10 @@ ghost use Rattle.bz_tools.specs.Shown.{asking_in, steps_in, refused_in, usage_in
 
 use crate::asked::{Asking, Refused, read_asked};
 use crate::line::{LineFault, read_operands};
+use crate::target::copy_target;
 use crate::verb::{OperandFault, Verb};
-use bz_command::{Command, Target, Which};
 use bz_journal::Action;
+use bz_label::Target;
 use std::alloc::{AllocError, Global};
 use std::convert::AsStr;
 
@@ -33,30 +34,13 @@ pub(crate) enum UsageFault<'a> {
     Memory,
 }
 
-fn copy_which(which: &Which) -> Result<Which, AllocError>
-    ensures { IfOk result (λ copy. copy ≡ which.now) }
-{
-    match which {
-        Which::Name(name) => Ok(Which::Name(name.copy()?)),
-        Which::Package => Ok(Which::Package),
-    }
-}
-
-fn copy_target(target: &Target) -> Result<Target, AllocError>
-    ensures { IfOk result (λ copy. copy ≡ target.now) }
-{
-    let package = target.package.copy()?;
-    let which = copy_which(&target.which)?;
-    Ok(Target { package, which })
-}
-
-fn action_of(verb: Verb, target: &Target) -> Result<Action, AllocError>
-    ensures { IfOk result (λ action. action ≡ a.action_of target.now verb) }
+fn action_of(verb: &Verb, target: &Target) -> Result<Action, AllocError>
+    ensures { IfOk result (λ action. action ≡ a.action_of target.now verb.now) }
 {
     match verb {
-        Verb::Delete => Ok(Action::Do(Command::Delete, copy_target(target)?)),
-        Verb::Undo(count) => Ok(Action::Undo(count)),
-        Verb::Redo(count) => Ok(Action::Redo(count)),
+        Verb::Do(command) => Ok(Action::Do(command.copy()?, copy_target(target)?)),
+        Verb::Undo(count) => Ok(Action::Undo(*count)),
+        Verb::Redo(count) => Ok(Action::Redo(*count)),
     }
 }
 
@@ -69,7 +53,7 @@ fn add_steps<'a>(
     ensures { OnOk result (steps_in steps.new.items ≡ steps_in steps.old.items ++ map (a.step_of target.now) (map asking_in commands.now)) }
 {
     for command in commands {
-        let action = action_of(command.verb, target)?;
+        let action = action_of(&command.verb, target)?;
         let command = command.text;
         steps.push(Step { action, command })?;
     }

@@ -1,17 +1,18 @@
 //! What a command's text asks for.
-ghost use Rattle.std.specs.Prelude.{◌≡◌, ◌⊎◌, Err, codes, map};
-ghost use Rattle.bz_tools.specs.Operands.{verb_of, verb_in, delete_of, steps_of, count_of};
+ghost use Rattle.std.specs.Prelude.{◌≡◌, ◌⊎◌, Err};
+ghost use Rattle.bz_words.specs.Commands.{command_of};
+ghost use Rattle.bz_tools.specs.Operands.{verb_of, by_command, by_steps, count_of, history_verb_in, steps_of, within_limit};
 ghost use Rattle.bz_tools.specs.Verbs.{fault_name, fault_number};
 
-use crate::words::read_words;
 use bz_items::Text;
+use bz_words::{Command, CommandFault, read_words};
 use std::alloc::Global;
 
 /// What a command asks for.
-#[derive(Clone, Copy, Debug)]
+#[derive(Debug, Drop)]
 pub(crate) enum Verb {
-    /// The rules that the target means go.
-    Delete,
+    /// The command, on the rules that the target means.
+    Do(Command),
     /// Back by so many steps.
     Undo(u32),
     /// Forward by so many steps.
@@ -23,12 +24,10 @@ pub(crate) enum Verb {
 pub(crate) enum OperandFault {
     /// A growth was refused.
     Memory,
-    /// Not a target of the program's.
+    /// Not a target of standard input.
     BadTarget,
-    /// No command of that name.
-    Unknown,
-    /// The number or the form of a command's arguments is wrong, or the command is longer than 65,536 bytes.
-    Arguments,
+    /// No command: no name of one, or the number or the form of its arguments is wrong, or it is too long.
+    Command(CommandFault),
 }
 
 impl OperandFault {
@@ -39,8 +38,7 @@ impl OperandFault {
         match self {
             OperandFault::Memory => "Memory",
             OperandFault::BadTarget => "BadTarget",
-            OperandFault::Unknown => "Unknown",
-            OperandFault::Arguments => "Arguments",
+            OperandFault::Command(fault) => fault.name(),
         }
     }
 
@@ -51,13 +49,29 @@ impl OperandFault {
         match self {
             OperandFault::Memory => 8,
             OperandFault::BadTarget => 12,
-            OperandFault::Unknown => 31,
-            OperandFault::Arguments => 32,
+            OperandFault::Command(fault) => fault.number(),
         }
     }
 }
 
-const LONGEST_COMMAND: usize = 65_536;
+impl From<CommandFault> for OperandFault {
+    ghost use Rattle.std.specs.Prelude.{◌≡◌};
+    ghost use Rattle.bz_tools.specs.Operands.{of_command};
+
+    ghost from_gives = { λ fault made. made ≡ of_command fault };
+
+    fn from(fault: CommandFault) -> OperandFault {
+        match fault {
+            CommandFault::Memory => OperandFault::Memory,
+            _ => OperandFault::Command(fault),
+        }
+    }
+}
+
+/// The most bytes of a text that asks for steps.
+const TEXT_LIMIT: usize = 65_536;
+
+const WRONG_ARGUMENTS: OperandFault = OperandFault::Command(CommandFault::Arguments);
 
 fn read_count(word: &[u8]) -> Option<u32>
     ensures { result ≡ count_of word.now }
@@ -75,51 +89,63 @@ fn read_count(word: &[u8]) -> Option<u32>
     if count > 0 { Some(count) } else { None }
 }
 
-fn read_delete(arguments: &[Text]) -> Result<Verb, OperandFault>
-    ensures { result ≡ delete_of arguments.now }
-{
-    match arguments {
-        [] => Ok(Verb::Delete),
-        _ => Err(OperandFault::Arguments),
-    }
-}
-
 // How many steps are asked for.
 fn read_steps(arguments: &[Text]) -> Result<u32, OperandFault>
     ensures { result ≡ steps_of arguments.now }
 {
     match arguments {
         [] => Ok(1),
-        [count] => read_count(count.as_slice()).ok_or(OperandFault::Arguments),
-        _ => Err(OperandFault::Arguments),
+        [count] => read_count(count.as_slice()).ok_or(WRONG_ARGUMENTS),
+        _ => Err(WRONG_ARGUMENTS),
     }
 }
 
-fn verb_in(words: &[Text]) -> Result<Verb, OperandFault>
-    ensures { result ≡ verb_in words.now }
+fn undo_in(arguments: &[Text]) -> Result<Verb, OperandFault>
+    ensures { result ≡ by_steps Verb.Undo (steps_of arguments.now) }
 {
-    let Some((name, arguments)) = words.split_first() else {
-        return Err(OperandFault::Unknown);
-    };
+    Ok(Verb::Undo(read_steps(arguments)?))
+}
+
+fn redo_in(arguments: &[Text]) -> Result<Verb, OperandFault>
+    ensures { result ≡ by_steps Verb.Redo (steps_of arguments.now) }
+{
+    Ok(Verb::Redo(read_steps(arguments)?))
+}
+
+// What `undo` or `redo` reads, where the words begin with one of them.
+fn history_verb_in(words: &[Text]) -> Option<Result<Verb, OperandFault>>
+    ensures { result ≡ history_verb_in words.now }
+{
+    let (name, arguments) = words.split_first()?;
     match name.as_slice() {
-        b"delete" => read_delete(arguments),
-        b"undo" => Ok(Verb::Undo(read_steps(arguments)?)),
-        b"redo" => Ok(Verb::Redo(read_steps(arguments)?)),
-        _ => Err(OperandFault::Unknown),
+        b"undo" => Some(undo_in(arguments)),
+        b"redo" => Some(redo_in(arguments)),
+        _ => None,
     }
 }
 
-/// What the command of this text asks for. Errors: `Unknown`: no command of that name; `Arguments`: its arguments are
-/// wrong, or it is too long; `Memory`: a growth was refused.
-pub(crate) fn read_verb(alloc: Global, text: &[u8]) -> Result<Verb, OperandFault>
+fn within_limit(fits: bool, verb: Result<Verb, OperandFault>) -> Result<Verb, OperandFault>
+    ensures { result ≡ within_limit fits verb }
+{
+    if fits { verb } else { Err(WRONG_ARGUMENTS) }
+}
+
+fn read_command(alloc: Global, text: &str) -> Result<Verb, OperandFault>
+    ensures { (result ≡ by_command (command_of text.now)) ⊎ (result ≡ Err OperandFault.Memory) }
+{
+    Ok(Verb::Do(Command::read(alloc, text)?))
+}
+
+/// What the command of this text asks for. Errors: `Command`: there is no command of that name, its arguments are wrong, or
+/// it is too long; `Memory`: a growth was refused.
+pub(crate) fn read_verb(alloc: Global, text: &str) -> Result<Verb, OperandFault>
     ensures { (result ≡ verb_of text.now) ⊎ (result ≡ Err OperandFault.Memory) }
 {
-    let Ok(words) = read_words(alloc, text) else {
+    let Ok(words) = read_words(alloc, text.as_bytes()) else {
         return Err(OperandFault::Memory);
     };
-    let verb = verb_in(&words)?;
-    if text.len() > LONGEST_COMMAND {
-        return Err(OperandFault::Arguments);
+    match history_verb_in(&words) {
+        Some(verb) => within_limit(text.len() <= TEXT_LIMIT, verb),
+        None => read_command(alloc, text),
     }
-    Ok(verb)
 }

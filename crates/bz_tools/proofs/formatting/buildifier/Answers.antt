@@ -1,6 +1,6 @@
 use Rattle.std.proofs.Common.{◌≡◌, ◌∙◌, ◌∷◌, [], inl, inr, refl, ap, map}
 use Rattle.bz_tools.specs.FormatRun as r
-use Rattle.bz_tools.specs.FormatShown.{line_of}
+use Rattle.bz_tools.specs.FormatShown.{seen_line}
 use Rattle.bz_tools.specs.declared.exit.Cut.TheVariants as cut
 use Rattle.bz_tools.specs.declared.effect.Progress.{Progress}
 use Rattle.bz_tools.proofs.Outcomes.{appends_nothing}
@@ -41,7 +41,7 @@ returns-then-is_empty-clause-run g c = λ _.
     let done : c.grown.result ≡ record { status = run.status; cut = run.cut; closed = run.closed } =
     grown_is _ c.grown.result c.input_effect-effect.result r.begun step.0 refl step.2 c.grown.ensures in (
       run,
-      input_outcome words (line_of c.in-Ok.line) known folder step.0 c.in-Ok.ensures.ok none step.1,
+      input_outcome words (seen_line c.in-Ok.line) known folder step.0 c.in-Ok.ensures.ok none step.1,
       c.ended.ensures ∙ ap (λ (p : Progress). record { status = p.status; cut = p.cut }) done,
       step.3,
       step.4,
