@@ -53,7 +53,7 @@
 //! | `words` | words of buildozer, and standard input | the same |
 //! | `status` | the same | the status, and on which of the two something is written |
 //!
-//! An action is `delete NAME`, `format`, `undo N` or `redo N`. Words are separated by spaces; one that is empty or holds spaces stands in double quotes.
+//! An action is `COMMAND TARGET`, `format`, `undo N` or `redo N`. Words are separated by spaces; one that is empty or holds spaces stands in double quotes.
 #![tactic(auto)]
 
 mod case;

@@ -4,10 +4,12 @@ ghost use Rattle.std.specs.Prelude.{◌≤◌, length};
 use crate::case::{Case, CaseFault};
 use crate::page::Page;
 use crate::trees::{apart, told};
-use bz_command::{Command, Refusal, Target, Which};
-use bz_items::{Memory, Text};
+use bz_command::Refusal;
+use bz_items::Memory;
 use bz_journal::{Action, Reply, Session};
+use bz_label::{Target, TargetFault};
 use bz_tree::ReadFault;
+use bz_words::{Command, CommandFault};
 use std::alloc::Global;
 
 /// Writes the answers to the actions, which all texts but the last one name; then where the session stands, and its text.
@@ -42,31 +44,44 @@ fn opened(alloc: Global, current: &str, text: &[u8]) -> Result<Result<Session, R
     apart(Session::open(alloc, current, text))
 }
 
-/// The action that a word and what stands behind it name.
-fn action_of(alloc: Global, text: &str) -> Result<Action, CaseFault> {
-    let (verb, word) = text.split_once(' ').unwrap_or((text, ""));
-    match verb {
-        "delete" => return Ok(delete(alloc, word)?),
-        "format" => return Ok(Action::Format),
-        _ => {}
+/// The action that a line names: a command and behind it, as the last word, its target.
+fn action_of(alloc: Global, line: &str) -> Result<Action, CaseFault> {
+    if line == "format" {
+        return Ok(Action::Format);
     }
-    let Ok(steps) = word.parse::<u32>() else {
-        return Err(CaseFault::Sheet("no number of steps"));
+    let Some((command, word)) = line.rsplit_once(' ') else {
+        return Err(CaseFault::Sheet("no such action"));
     };
-    match verb {
-        "undo" => Ok(Action::Undo(steps)),
-        "redo" => Ok(Action::Redo(steps)),
-        _ => Err(CaseFault::Sheet("no such action")),
+    match command {
+        "undo" => Ok(Action::Undo(steps_of(word)?)),
+        "redo" => Ok(Action::Redo(steps_of(word)?)),
+        _ => Ok(Action::Do(command_of(alloc, command)?, target_of(alloc, word)?)),
     }
 }
 
-fn delete(alloc: Global, word: &str) -> Result<Action, Memory> {
-    let package = Text::from_slice(alloc, b"-")?;
-    let which = match word {
-        "__pkg__" => Which::Package,
-        name => Which::Name(Text::from_slice(alloc, name.as_bytes())?),
-    };
-    Ok(Action::Do(Command::Delete, Target { package, which }))
+fn steps_of(word: &str) -> Result<u32, CaseFault> {
+    match word.parse::<u32>() {
+        Ok(steps) => Ok(steps),
+        Err(_) => Err(CaseFault::Sheet("no number of steps")),
+    }
+}
+
+/// `Command::read`, of which nothing has to be known here.
+fn command_of(alloc: Global, text: &str) -> Result<Command, CaseFault> {
+    match Command::read(alloc, text) {
+        Ok(command) => Ok(command),
+        Err(CommandFault::Memory) => Err(CaseFault::Memory),
+        Err(_) => Err(CaseFault::Sheet("no such command")),
+    }
+}
+
+/// `Target::read`, of which nothing has to be known here.
+fn target_of(alloc: Global, text: &str) -> Result<Target, CaseFault> {
+    match Target::read(alloc, text) {
+        Ok(target) => Ok(target),
+        Err(TargetFault::Memory) => Err(CaseFault::Memory),
+        Err(TargetFault::BadTarget) => Err(CaseFault::Sheet("no such target")),
+    }
 }
 
 /// `Session::run`, of which nothing has to be known here.

@@ -48,8 +48,13 @@ fn laws_that_require_nothing(_rt: HostRuntime) {
     bz_words::worked_identifiers();
     bz_words::worked_commands();
     bz_words::worked_strings();
-    bz_command::worked_deletes();
+    bz_command::worked_effects();
     bz_command::effects_stay_proper();
+    bz_command::adding_again();
+    bz_command::added_is_there();
+    bz_command::removing_again();
+    bz_command::renamed_back();
+    bz_command::comments_stay();
     bz_journal::worked_histories();
     bz_journal::formatted_once();
     bz_tools::worked_words();
