@@ -31,10 +31,6 @@ text_apart : (text last : Bytes) (front : Option Bytes) → ((f : Bytes) → tex
 text_apart text last None apart = refl
 text_apart text last (Some front) apart = not_true (bytes_eq (joined_by front last) text) (λ e. apart front (sym ((bytes_eq-Decides (joined_by front last) text).0 e)))
 
-pub text_none : (text : Bytes) (front : Option Bytes) → is_text text (dotted front None) ≡ false
-text_none text None = refl
-text_none text (Some front) = refl
-
 -- ---- what stands before a dot and a name
 
 abbrev Before : Bytes → Bytes → Option (Bor Bytes) → Type 0

@@ -1,5 +1,5 @@
 -- A form as an expression, and back.
-use Rattle.std.proofs.Common.{◌≡◌, List, ap, ◌∙◌, nat_eq, refl, Option, Some, None, if◌then◌else◌, ◌∷◌}
+use Rattle.std.proofs.Common.{suc, ◌≡◌, List, ap, ◌∙◌, nat_eq, refl, Option, Some, None, if◌then◌else◌, ◌∷◌}
 use mathlib.Core.Former.{Count}
 use Rattle.bz_tree.specs.declared.kind.Kind.{Kind}
 use Rattle.bz_tree.specs.declared.kind.Kind.TheVariants as k
@@ -8,7 +8,7 @@ use Rattle.bz_value.specs.declared.value.Form.{Form}
 use Rattle.bz_value.specs.declared.value.Expr.{Expr, Form', Row_of-Expr, end_of-Expr, more_of-Expr, items-the_row-Expr, items_hidden-the_row-Expr-0}
 use Rattle.bz_value.specs.declared.value.Expr.TheVariants as e
 use Rattle.bz_rule.specs.Rules.{form_in, joined, dotted_name, with_names}
-use Rattle.bz_rule.specs.Named.{each_named}
+use Rattle.bz_rule.specs.Named.{each_named, fronts, fronts_in_row, fronts_in}
 
 abbrev parts_behind : Expr → (m : Count) × Row_of-Expr m
 parts_behind (Form' kind s parts s' items end_ split open_ comments) = (_, parts)
@@ -46,3 +46,10 @@ pub dotted_name_Form : (f : Form) → dotted_name (e.Form f) ≡ (if nat_eq (kin
 dotted_name_Form f =
     ap (λ names. if nat_eq (kind_number f.kind) (kind_number k.Dot) then joined names else None)
     (named_row _ (parts_behind (e.Form f)).1 ∙ ap each_named (parts_are f))
+
+fronts_row : (m : _) (r : Row_of-Expr m) → fronts_in_row r ≡ fronts_in (items-the_row-Expr m r)
+fronts_row m end_of-Expr = refl
+fronts_row m (more_of-Expr x rest) = refl
+
+pub fronts_Form : (f : Form) → fronts (e.Form f) ≡ suc (fronts_in f.parts)
+fronts_Form f = ap suc (fronts_row _ (parts_behind (e.Form f)).1 ∙ ap fronts_in (parts_are f))

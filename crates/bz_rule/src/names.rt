@@ -1,8 +1,9 @@
 //! Names joined by dots.
-ghost use Rattle.std.specs.Prelude.{◌≡◌, ◌≢◌, MatchOption, [], ◌∷◌, ◌++◌, false, Option, Some, is_some};
+ghost use Rattle.std.specs.Prelude.{◌≡◌, ◌≢◌, ◌<◌, MatchOption, IfSome, [], ◌∷◌, ◌++◌, false, Option, Some, None, is_some};
 ghost use Rattle.bz_value.specs.Gaps.{Bytes};
-ghost use Rattle.bz_rule.specs.Rules.{is_text, dotted, joined, dotted_name};
-ghost use Rattle.bz_rule.specs.Named.{each_named};
+ghost use Rattle.bz_token.specs.declared.class.Class.TheVariants as c;
+ghost use Rattle.bz_rule.specs.Rules.{is_text, text_in, dotted, joined, dotted_name};
+ghost use Rattle.bz_rule.specs.Named.{each_named, fronts, fronts_in};
 ghost use Rattle.bz_rule.specs.Characters.{full_stop};
 
 use crate::parts::{is_text, text_in};
@@ -37,55 +38,67 @@ fn before_name<'a>(text: &'a [u8], name: &[u8]) -> Option<&'a [u8]>
     }
 }
 
-/// Whether the expression is a name, or names joined by dots, of this text.
-#[cycle(dotted)]
-#[tactic(auto, using(crate::proofs::Forms::dotted_name_Form))]
-pub fn is_dotted(text: &[u8], expr: &Expr) -> bool
-    ensures { result ≡ is_text text.now (dotted_name expr.now) }
-{
-    match expr {
-        Expr::Token(_) => is_text(text, text_in(Class::Name, expr)),
-        Expr::Form(form) => form.kind == Kind::Dot && is_joined(text, form.parts.as_slice()),
-    }
+// Names joined by dots, taken apart at the last dot.
+#[derive(Clone, Copy)]
+struct Joined<'a> {
+    front: &'a Expr,
+    last: &'a [u8],
 }
 
-// Whether these are the parts of names joined by dots, of this text.
-#[cycle(dotted)]
-#[tactic(auto, using(crate::proofs::Dotted::text_none))]
-fn is_joined(text: &[u8], parts: &[Expr]) -> bool
-    ensures { result ≡ is_text text.now (joined (each_named parts.now)) }
+// The parts of names joined by dots: what stands before the last dot may still be no name.
+fn cut_row(parts: &[Expr]) -> Option<Joined<'_>>
+    ensures name { MatchOption result (joined (each_named parts.now) ≡ None)
+        (λ names. joined (each_named parts.now) ≡ dotted (dotted_name names.front.now) (Some names.last.now)) }
+    ensures front { IfSome result (λ names. fronts names.front.now ≡ fronts_in parts.now) }
 {
     match parts {
         [front, _, last] => match text_in(Class::Name, last) {
-            Some(name) => match before_name(text, name) {
-                Some(left) => is_dotted(left, front),
-                None => false,
-            },
-            None => false,
+            Some(last) => Some(Joined { front, last }),
+            None => None,
         },
-        _ => false,
+        _ => None,
     }
 }
 
-/// Whether the expression is a name, or names joined by dots.
-#[cycle(named)]
-#[tactic(auto, using(crate::proofs::Forms::dotted_name_Form))]
+// The same, of an expression. One that is not joined is a name by itself, or none.
+#[tactic(auto, using(crate::proofs::Forms::dotted_name_Form, crate::proofs::Forms::fronts_Form))]
+fn cut(expr: &Expr) -> Option<Joined<'_>>
+    ensures name { MatchOption result (dotted_name expr.now ≡ text_in c.Name expr.now)
+        (λ names. dotted_name expr.now ≡ dotted (dotted_name names.front.now) (Some names.last.now)) }
+    ensures front { IfSome result (λ names. fronts names.front.now < fronts expr.now) }
+{
+    match expr {
+        Expr::Token(_) => None,
+        Expr::Form(form) if form.kind == Kind::Dot => cut_row(form.parts.as_slice()),
+        Expr::Form(_) => None,
+    }
+}
+
+/// Whether the expression is a name, or names joined by dots, of this text. However many names there are, no call goes
+/// deeper.
+pub fn is_dotted(text: &[u8], expr: &Expr) -> bool
+    ensures { result ≡ is_text text.now (dotted_name expr.now) }
+{
+    let mut left = text;
+    let mut at = expr;
+    while let Some(names) = cut(at) {
+        let Some(before) = before_name(left, names.last) else {
+            return false;
+        };
+        left = before;
+        at = names.front;
+    }
+    is_text(left, text_in(Class::Name, at))
+}
+
+/// Whether the expression is a name, or names joined by dots. However many names there are, no call goes
+/// deeper.
 pub fn is_named(expr: &Expr) -> bool
     ensures { result ≡ is_some (dotted_name expr.now) }
 {
-    match expr {
-        Expr::Token(_) => text_in(Class::Name, expr).is_some(),
-        Expr::Form(form) => form.kind == Kind::Dot && are_named(form.parts.as_slice()),
+    let mut at = expr;
+    while let Some(names) = cut(at) {
+        at = names.front;
     }
-}
-
-// Whether these are the parts of names joined by dots.
-#[cycle(named)]
-fn are_named(parts: &[Expr]) -> bool
-    ensures { result ≡ is_some (joined (each_named parts.now)) }
-{
-    match parts {
-        [front, _, last] => text_in(Class::Name, last).is_some() && is_named(front),
-        _ => false,
-    }
+    text_in(Class::Name, at).is_some()
 }

@@ -1,7 +1,8 @@
 -- What the definitions make of a form, said of its lists.
-use Rattle.std.proofs.Common.{◌≡◌, Bool, List, ◌∷◌, map, ap, ◌∙◌, refl, if◌then◌else◌}
+use Rattle.std.proofs.Common.{suc, ◌≡◌, Bool, List, [], ◌∷◌, map, ap, sym, ◌∙◌, refl, if◌then◌else◌}
 use mathlib.Core.Former.{Count}
 use Rattle.bz_tree.specs.declared.kind.Kind.{Kind}
+use Rattle.bz_tree.specs.declared.kind.Kind.TheVariants as k
 use Rattle.bz_tree.specs.Shapes.{is_kind}
 use Rattle.bz_value.specs.declared.value.Form.{Form}
 use Rattle.bz_value.specs.declared.value.Expr.{Expr, Token, Form', Row_of-Expr, end_of-Expr, more_of-Expr, items-the_row-Expr, items_hidden-the_row-Expr-0}
@@ -11,6 +12,8 @@ use Rattle.bz_value.specs.Gaps.{Bytes}
 use Rattle.bz_write.specs.Flags.{settled_split, with_flags, each_with_flags}
 use Rattle.bz_write.specs.Layout.{is_broken}
 use Rattle.bz_rule.specs.Values.{parts_of, items_of, with_parts, with_items, on_row, on_items}
+use Rattle.bz_rule.specs.Named.{fronts, fronts_in}
+use Rattle.bz_rule.proofs.Forms.{fronts_Form}
 use Rattle.bz_tidy.specs.Passes.{quoted, each_quoted}
 
 -- ---- the rows behind a form are its lists
@@ -89,3 +92,24 @@ split_of (sequence opener closer) kind split items end_ = refl
 
 pub split_by_kind : (kind : Kind) (split : Bool) (items : List Expr) (end_ : List Bytes) → settled_split (frame kind) kind split items end_ ≡ (if has_brackets (frame kind) then is_broken kind split items end_ else split)
 split_by_kind kind = split_of (frame kind) kind
+
+-- ---- what stays
+
+pub quoted_stays : (f : Form) → map quoted f.parts ≡ f.parts → f.seq.items ≡ [] → quoted (e.Form f) ≡ e.Form f
+quoted_stays f parts items =
+    quoted_Form f
+    ∙ ap (λ (ps : List Expr). in_form f ps (map quoted f.seq.items) f.seq.split) parts
+    ∙ ap (λ (xs : List Expr). in_form f f.parts xs f.seq.split) (ap (map quoted) items ∙ sym items)
+
+split_stays : (kind : Kind) (split : Bool) (items : List Expr) (end_ : List Bytes) → kind ≡ k.Dot → settled_split (frame kind) kind split items end_ ≡ split
+split_stays kind split items end_ is = ap (λ (own : Kind). settled_split (frame own) own split items end_) is
+
+pub flags_stay : (f : Form) → f.kind ≡ k.Dot → map with_flags f.parts ≡ f.parts → f.seq.items ≡ [] → with_flags (e.Form f) ≡ e.Form f
+flags_stay f kind parts items =
+    flags_Form f
+    ∙ ap (λ (ps : List Expr). in_form f ps (map with_flags f.seq.items) (settled_split (frame f.kind) f.kind f.seq.split f.seq.items f.seq.end_)) parts
+    ∙ ap (λ (xs : List Expr). in_form f f.parts xs (settled_split (frame f.kind) f.kind f.seq.split f.seq.items f.seq.end_)) (ap (map with_flags) items ∙ sym items)
+    ∙ ap (λ (split : Bool). in_form f f.parts f.seq.items split) (split_stays f.kind f.seq.split f.seq.items f.seq.end_ kind)
+
+pub fronts_of_Form : (f : Form) → fronts (e.Form f) ≡ suc (fronts_in f.parts)
+fronts_of_Form = fronts_Form

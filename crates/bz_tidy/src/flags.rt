@@ -3,7 +3,9 @@ ghost use Rattle.std.specs.Prelude.{◌≡◌, map};
 ghost use Rattle.bz_value.specs.Frames.{frame};
 ghost use Rattle.bz_write.specs.Flags.{settled_split, with_flags};
 
+use crate::names::are_called_names;
 use bz_items::Items;
+use bz_tree::Kind;
 use bz_value::{Expr, Form, is_sequence};
 use bz_write::is_broken;
 use std::mem;
@@ -30,10 +32,21 @@ pub(crate) fn settle(x: &mut Expr)
         Expr::Token(_) => {}
         Expr::Form(form) => {
             form.seq.split = settled_split(form);
-            settle_each(&mut form.parts);
+            settle_parts(form.kind, &mut form.parts);
             settle_each(&mut form.seq.items);
         }
     }
+}
+
+/// The same for the parts of a form of this kind. Names joined by dots that are called are passed over.
+#[cycle(settle)]
+fn settle_parts(kind: Kind, parts: &mut Items<Expr>)
+    ensures { parts.new ≡ map with_flags parts.old }
+{
+    if are_called_names(kind, parts.as_slice()) {
+        return;
+    }
+    settle_each(parts);
 }
 
 #[cycle(settle)]

@@ -8,6 +8,7 @@ mod laws;
 mod lists;
 mod loads;
 mod marks;
+mod names;
 mod ordering;
 mod proper_laws;
 mod quotes;
@@ -21,4 +22,5 @@ mod walk;
 
 pub use laws::{comments_stay, marks_move, tidy_settles, tidy_stays, worked_passes};
 pub use proper_laws::proper_stays;
+pub use symbols::local_name;
 pub use tidying::tidy;

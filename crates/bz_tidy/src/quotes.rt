@@ -2,9 +2,10 @@
 ghost use Rattle.std.specs.Prelude.{◌≡◌, OnOk, map};
 ghost use Rattle.bz_tidy.specs.Passes.{quoted};
 
+use crate::names::are_called_names;
 use crate::strings::double_quoted;
 use bz_items::{Items, Memory};
-use bz_tree::Class;
+use bz_tree::{Class, Kind};
 use bz_value::Expr;
 use std::alloc::Global;
 use std::mem;
@@ -24,11 +25,22 @@ pub(crate) fn quote(alloc: Global, x: &mut Expr) -> Result<(), Memory>
             Ok(())
         }
         Expr::Form(form) => {
-            quote_each(alloc, &mut form.parts)?;
+            quote_parts(alloc, form.kind, &mut form.parts)?;
             quote_each(alloc, &mut form.seq.items)?;
             Ok(())
         }
     }
+}
+
+/// The same for the parts of a form of this kind. Names joined by dots that are called are passed over.
+#[cycle(quote)]
+fn quote_parts(alloc: Global, kind: Kind, parts: &mut Items<Expr>) -> Result<(), Memory>
+    ensures { OnOk result (parts.new ≡ map quoted parts.old) }
+{
+    if are_called_names(kind, parts.as_slice()) {
+        return Ok(());
+    }
+    quote_each(alloc, parts)
 }
 
 #[cycle(quote)]

@@ -14,8 +14,8 @@ use std::alloc::Global;
 use std::cmp::Ordering;
 use std::mem;
 
-/// The name that a symbol has in the file that loads it.
-fn local_name(x: &Expr) -> &[u8]
+/// The name that a symbol has in the file that loads it: an alias's name, else the text between the quote marks.
+pub fn local_name(x: &Expr) -> &[u8]
     ensures { result.now ≡ name_in_file x.now }
 {
     match x {
