@@ -1,5 +1,5 @@
 -- What each command makes of a proper file value is proper.
-use Rattle.std.proofs.Common.{◌≡◌, ℕ, Bool, true, false, not, ◌&&◌, List, [], ◌∷◌, refl, sym, map, subst, true≢false}
+use Rattle.std.proofs.Common.{◌≡◌, ℕ, Bool, true, false, not, List, [], ◌∷◌, refl, sym, map, subst, true≢false}
 use Rattle.std.specs.Prelude.{IfSome, IfOk, Option, Some, None, Result, Ok, Err, codes, nat_eq, is_some, option_map, if◌then◌else◌}
 use Rattle.std.specs.List.{AllByRecursion, list_any}
 use Rattle.std.specs.Option.{option_and_then}
@@ -21,16 +21,28 @@ use Rattle.bz_words.specs.declared.command.Place.TheVariants.{End, Before, After
 use Rattle.bz_rule.specs.Rules.{Rule, rule_of, name_of, is_text, has_kind, has_name}
 use Rattle.bz_rule.specs.Values.{with_parts, with_items}
 use Rattle.bz_rule.proofs.ProperChanges.{by_test}
-use Rattle.bz_rule.proofs.ProperItems.{all_joined}
+use Rattle.bz_rule.proofs.ProperArguments.{attribute_value}
+use Rattle.bz_rule.proofs.ProperItems.{IsValue, all_joined}
 use Rattle.bz_rule.proofs.ProperRules.{RuleItem, rule_item, on_statement}
-use Rattle.bz_command.specs.Made.{function_of, rule_made}
+use Rattle.bz_attribute.specs.Made.{function_of, rule_made}
 use Rattle.bz_command.specs.Targets.{is_rule, on_line, first_mark, meant, may_mean_none}
-use Rattle.bz_command.specs.Effect.{Arguments, NewItem, with_arguments, with_function, made_of, on_rule, on_arguments, behind_item, on_meant, unmarked, before_first, behind_first, placed, has_place, with_rule, on_rules, looks_at_rules, effect, set, set_if_absent, add, remove, remove_values, replace, move, rename, source, copy, copy_no_overwrite}
-use Rattle.bz_command.specs.declared.refusal.Refusal.{Refusal}
-use Rattle.bz_command.specs.declared.refusal.Refusal.TheVariants.{NoTarget, NameTaken}
+use Rattle.bz_attribute.specs.Attributes.{Arguments}
+use Rattle.bz_change.specs.Changes.{set, set_if_absent, add, remove, remove_values, replace, move, rename, copy, copy_no_overwrite}
+use Rattle.bz_words.specs.declared.command.Host.TheVariants as r
+use Rattle.bz_words.specs.Printing.{prints}
+use Rattle.bz_dict.specs.Dicts.{dict_add, dict_set, dict_remove}
+use Rattle.bz_dict.proofs.ProperDicts.{dict_add_keeps, dict_set_keeps, dict_remove_keeps}
+use Rattle.bz_load.proofs.ProperLoads.{new_load_keeps, fix_keeps}
+use Rattle.bz_comment.specs.Hosts.{with_comment, without_comments, comment, remove_comment}
+use Rattle.bz_comment.proofs.ProperComments.{comment_keeps, remove_comment_keeps, statement_keeps, remove_statement_keeps}
+use Rattle.bz_command.specs.Printing.{printed_rules}
+use Rattle.bz_command.specs.Effect.{kept, lacks_rules, on_statement as statement_with, NewItem, with_arguments, with_function, made_of, on_rule, on_arguments, behind_item, on_meant, unmarked, before_first, behind_first, placed, has_place, with_rule, on_rules, effect, value_in, source}
+use Rattle.bz_attribute.specs.declared.refusal.Refusal.{Refusal}
+use Rattle.bz_attribute.specs.declared.refusal.Refusal.TheVariants.{NoTarget, NameTaken}
 use Rattle.bz_command.specs.Laws.{EffectsStayProper}
-use Rattle.bz_command.proofs.ProperCommands.{Made, Keeps, set_keeps, set_if_absent_keeps, add_keeps, remove_keeps, remove_values_keeps, replace_keeps, move_keeps, rename_keeps, source_value, copy_keeps, copy_no_overwrite_keeps}
-use Rattle.bz_command.proofs.ProperMade.{made_rule, kind_function}
+use Rattle.bz_attribute.proofs.ProperAttributes.{Made, Keeps}
+use Rattle.bz_change.proofs.ProperCommands.{set_keeps, set_if_absent_keeps, add_keeps, remove_keeps, remove_values_keeps, replace_keeps, move_keeps, rename_keeps, copy_keeps, copy_no_overwrite_keeps}
+use Rattle.bz_attribute.proofs.ProperMade.{made_rule, kind_function}
 
 abbrev AreItems : List Item → Type 0
 AreItems items = AllByRecursion IsProperItem items
@@ -70,6 +82,10 @@ function_changed : (kind : Bytes) → IsKind kind → (item : Item) → is_rule 
 function_changed kind a item is h =
     there_is (RuleItem item) (IsProperItem (with_function (function_of kind) item))
     (λ rule r. other_function (function_of kind) item (r.function (function_of kind) (kind_function kind a))) (rule_of item) is (rule_item item h)
+
+statement_changed : (change : Expr → Expr) → ((x : Expr) → IsProperItem (i.Stmt x) → IsProperItem (i.Stmt (change x))) → (item : Item) → IsProperItem item → IsProperItem (statement_with change item)
+statement_changed change f (i.Block lines) h = h
+statement_changed change f (i.Stmt x) h = f x h
 
 -- ---- the meant rules
 
@@ -162,11 +178,27 @@ with_rule_made kind name place items n h =
     by_test MadeItems (not (has_place place items)) (Err NoTarget) (if list_any (has_name name) items then Err NameTaken else Ok (placed place (rule_made kind name) items)) tt
     (by_test MadeItems (list_any (has_name name) items) (Err NameTaken) (Ok (placed place (rule_made kind name) items)) tt (placed_items place (rule_made kind name) items n h))
 
+-- ---- the value that is copied
+
+rule_value : (name : Bytes) (item : Item) (o : Option Rule) → IfSome o (RuleItem item) → IfSome (value_in name o) IsValue
+rule_value name item None h = tt
+rule_value name item (Some rule) r = attribute_value name rule.arguments r.arguments
+
+pub source_value : (name rule : Bytes) (items : List Item) → AllByRecursion IsProperItem items → IfSome (source name rule items) IsValue
+source_value name rule [] h = tt
+source_value name rule (item ∷ items) h =
+    by_test (λ (o : Option Expr). IfSome o IsValue) (has_name rule item) (value_in name (rule_of item)) (source name rule items)
+    (rule_value name item (rule_of item) (rule_item item h.0)) (source_value name rule items h.1)
+
 -- ---- all commands
 
 module _ (current : Bytes) (marks : List Bool) (items : List Item) (m : Marked marks items) (h : AreItems items) where
   by_arguments : (change : List Expr → Arguments) → Keeps change → MadeItems (on_meant (on_arguments change) marks items)
   by_arguments change f = meant_changed (on_arguments change) (λ item is p. arguments_changed change f item p) marks items m h
+
+  -- a change of the comments of a rule itself
+  by_statement : (change : Expr → Expr) → ((x : Expr) → IsProperItem (i.Stmt x) → IsProperItem (i.Stmt (change x))) → MadeItems (on_meant (λ item. Ok (statement_with change item)) marks items)
+  by_statement change f = meant_changed (λ item. Ok (statement_with change item)) (λ item is p. statement_changed change f item p) marks items m h
 
   rules_made : (operation : Operation) → IsProperCommand operation → MadeItems (on_rules operation current marks items)
   rules_made (w.New kind name place) p = with_rule_made kind name place items (made_rule kind name p.0 p.1) h
@@ -182,13 +214,33 @@ module _ (current : Bytes) (marks : List Bool) (items : List Item) (m : Marked m
   rules_made (w.Rename from to) p = by_arguments (rename from to) (rename_keeps from to p.1)
   rules_made (w.Copy name rule) p = by_arguments (copy name (source name rule items)) (copy_keeps name (source name rule items) p.0 (source_value name rule items h))
   rules_made (w.CopyNoOverwrite name rule) p = by_arguments (copy_no_overwrite name (source name rule items)) (copy_no_overwrite_keeps name (source name rule items) p.0 (source_value name rule items h))
+  rules_made (w.DictAdd name entries) p = by_arguments (dict_add current name entries) (dict_add_keeps current name entries p.0 p.1)
+  rules_made (w.DictSet name entries) p = by_arguments (dict_set current name entries) (dict_set_keeps current name entries p.0 p.1)
+  rules_made (w.DictRemove name keys) p = by_arguments (dict_remove name keys) (dict_remove_keeps name keys)
+  rules_made (w.NewLoad path symbols) p = new_load_keeps path symbols items p.0 p.1 h
+  rules_made (w.Comment r.Rule text) p = by_statement (with_comment text) (statement_keeps text p.1 p.2)
+  rules_made (w.Comment (r.Attribute name) text) p = by_arguments (comment current (r.Attribute name) text) (comment_keeps current (r.Attribute name) text p.0 p.1 p.2)
+  rules_made (w.Comment (r.Item name word) text) p = by_arguments (comment current (r.Item name word) text) (comment_keeps current (r.Item name word) text p.0 p.1 p.2)
+  rules_made (w.PrintComment host) p = by_arguments (λ xs. Ok xs) (λ xs h. h)
+  rules_made (w.RemoveComment r.Rule) p = by_statement without_comments remove_statement_keeps
+  rules_made (w.RemoveComment (r.Attribute name)) p = by_arguments (remove_comment current (r.Attribute name)) (remove_comment_keeps current (r.Attribute name) p)
+  rules_made (w.RemoveComment (r.Item name word)) p = by_arguments (remove_comment current (r.Item name word)) (remove_comment_keeps current (r.Item name word) p)
+  rules_made (w.Fix fixes) p = fix_keeps fixes items h
+  rules_made (w.Print fields) p = by_arguments (λ xs. Ok xs) (λ xs h. h)
+
+kept_items : (items : List Item) (text : Result Bytes Refusal) → AreItems items → MadeItems (kept items text)
+kept_items items (Err refusal) h = tt
+kept_items items (Ok text) h = h
 
 effect_made : (operation : Operation) (target : Target) (current : Bytes) (lines : List ℕ) (items : List Item) → IsProperCommand operation → AreItems items → MadeItems (effect operation target current lines items)
 effect_made operation target current lines items p h =
     let marks : List Bool = meant target.which lines items in
-    by_test MadeItems (looks_at_rules operation && not (list_any (λ mark. mark) marks)) (if may_mean_none target.which then Ok items else Err NoTarget) (on_rules operation current marks items)
+    let others : Result (List Item) Refusal = if prints operation then kept items (printed_rules operation current lines marks items) else on_rules operation current marks items in
+    by_test MadeItems (lacks_rules operation marks) (if may_mean_none target.which then Ok items else Err NoTarget) others
     (by_test MadeItems (may_mean_none target.which) (Ok items) (Err NoTarget) h tt)
-    (rules_made current marks items (meant_marked target.which lines items) h operation p)
+    (by_test MadeItems (prints operation) (kept items (printed_rules operation current lines marks items)) (on_rules operation current marks items)
+    (kept_items items (printed_rules operation current lines marks items) h)
+    (rules_made current marks items (meant_marked target.which lines items) h operation p))
 
 pub effects_stay_proper : EffectsStayProper
 effects_stay_proper operation target current lines items new p h e =

@@ -5,9 +5,7 @@ use Rattle.std.proofs.lemmas.Bool.{cases_Bool}
 use Rattle.std.specs.Option.{option_and_then}
 use Rattle.bz_tree.specs.declared.kind.Kind.{Kind}
 use Rattle.bz_tree.specs.declared.kind.Kind.TheVariants as k
-use Rattle.bz_value.specs.declared.value.Form.{Form}
-use Rattle.bz_value.specs.declared.value.Expr.{Expr, Token, Form', items-the_row-Expr, items_hidden-the_row-Expr-0}
-use Rattle.bz_value.specs.declared.value.Expr.TheVariants as e
+use Rattle.bz_value.specs.declared.value.Expr.{Expr, Token, Form', items-the_row-Expr}
 use Rattle.bz_value.specs.declared.value.Item.{Item}
 use Rattle.bz_value.specs.declared.value.Item.TheVariants as i
 use Rattle.bz_value.specs.Comments.{HostComments}
@@ -20,38 +18,16 @@ use Rattle.bz_words.specs.declared.command.Place.{Place}
 use Rattle.bz_command.specs.declared.statements.CallPart.TheVariants.{Arguments as InBrackets}
 use Rattle.bz_command.specs.CallParts.{with_list_in, before_in_call, before_in_row, before_in_statement, before_in}
 use Rattle.bz_command.specs.Targets.{is_rule}
-use Rattle.bz_command.specs.Effect.{Arguments, with_arguments, made_of, on_rule, on_arguments, change_of, on_one}
+use Rattle.bz_attribute.specs.Attributes.{Arguments}
+use Rattle.bz_attribute.proofs.FormsAgain.{made, parts_twice, items_twice, parts_kind, parts_filled, row_changed}
+use Rattle.bz_words.specs.declared.command.Host.{Host}
+use Rattle.bz_command.specs.Effect.{arguments_of, with_arguments, made_of, on_rule, on_arguments, on_one}
 
 -- ---- a list put into a place twice
-
--- a form by its fields
-abbrev made : Kind → List Expr → List Expr → List Bytes → Bool → Bool → HostComments → Form
-made kind parts items end_ split open_ comments = record { kind = kind; parts = parts; seq = record { items = items; end_ = end_; split = split }; open_ = open_; comments = comments }
-
-parts_twice : (ys xs : List Expr) (x : Expr) → with_parts ys (with_parts xs x) ≡ with_parts ys x
-parts_twice ys xs (Token t) = refl
-parts_twice ys xs (Form' own s parts s' items end_ split open_ comments) =
-    ap (λ i. e.Form (made own ys i end_ split open_ comments)) (items_hidden-the_row-Expr-0 (items-the_row-Expr _ items))
-
-items_twice : (ys xs : List Expr) (x : Expr) → with_items ys (with_items xs x) ≡ with_items ys x
-items_twice ys xs (Token t) = refl
-items_twice ys xs (Form' own s parts s' items end_ split open_ comments) =
-    ap (λ p. e.Form (made own p ys end_ split open_ comments)) (items_hidden-the_row-Expr-0 (items-the_row-Expr _ parts))
 
 first_twice : (ys xs : List Expr) (row : List Expr) → on_first (with_items ys) (on_first (with_items xs) row) ≡ on_first (with_items ys) row
 first_twice ys xs [] = refl
 first_twice ys xs (x ∷ row) = ap (λ z. z ∷ row) (items_twice ys xs x)
-
-parts_kind : (kind : Kind) (xs : List Expr) (x : Expr) → has_kind kind (with_parts xs x) ≡ has_kind kind x
-parts_kind kind xs (Token t) = refl
-parts_kind kind xs (Form' own s parts s' items end_ split open_ comments) = refl
-
-parts_filled : (kind : Kind) (xs : List Expr) (x : Expr) → has_kind kind x ≡ true → parts_of (with_parts xs x) ≡ xs
-parts_filled kind xs (Token t) h = absurd (true≢false (sym h))
-parts_filled kind xs (Form' own s parts s' items end_ split open_ comments) h = items_hidden-the_row-Expr-0 xs
-
-row_there : (kind : Kind) (change : List Expr → List Expr) (x : Expr) → has_kind kind x ≡ true → on_row kind change x ≡ with_parts (change (parts_of x)) x
-row_there kind change x h = ap (λ b. if b then with_parts (change (parts_of x)) x else x) h
 
 row_apart : (kind : Kind) (change : List Expr → List Expr) (x : Expr) → has_kind kind x ≡ false → on_row kind change x ≡ x
 row_apart kind change x h = ap (λ b. if b then with_parts (change (parts_of x)) x else x) h
@@ -61,10 +37,10 @@ row_twice : (kind : Kind) (f g : List Expr → List Expr) → ((row : List Expr)
 row_twice kind f g same x = elim (cases_Bool (has_kind kind x)) [
   | inl h ↦
       let once : List Expr = f (parts_of x) in
-      ap (on_row kind g) (row_there kind f x h)
-      ∙ (row_there kind g (with_parts once x) (parts_kind kind once x ∙ h)
+      ap (on_row kind g) (row_changed kind f x h)
+      ∙ (row_changed kind g (with_parts once x) (parts_kind kind once x ∙ h)
       ∙ (ap (λ z. with_parts (g z) (with_parts once x)) (parts_filled kind once x h)
-      ∙ (parts_twice (g once) once x ∙ (ap (λ z. with_parts z x) (same (parts_of x)) ∙ sym (row_there kind g x h)))))
+      ∙ (parts_twice (g once) once x ∙ (ap (λ z. with_parts z x) (same (parts_of x)) ∙ sym (row_changed kind g x h)))))
   | inr h ↦ ap (on_row kind g) (row_apart kind f x h)
 ]
 
@@ -123,8 +99,11 @@ rule_changed change item list new is made =
 
 pub by_arguments : (operation : Operation) (current : Bytes) (found : Option Expr) (item : Item)
     → ((kind name : Bytes) (place : Place) → operation ≢ w.New kind name place) → operation ≢ w.Delete → ((kind : Bytes) → operation ≢ w.SetKind kind)
-    → on_one operation current found item ≡ on_arguments (change_of operation current found) item
-by_arguments (w.New kind name place) current found item new delete set_kind = absurd (new kind name place refl)
-by_arguments w.Delete current found item new delete set_kind = absurd (delete refl)
-by_arguments (w.SetKind kind) current found item new delete set_kind = absurd (set_kind kind refl)
-by_arguments _ current found item new delete set_kind = refl
+    → ((host : Host) (text : Bytes) → operation ≢ w.Comment host text) → ((host : Host) → operation ≢ w.RemoveComment host)
+    → on_one operation current found item ≡ on_arguments (arguments_of operation current found) item
+by_arguments (w.New kind name place) current found item new delete set_kind comment remove = absurd (new kind name place refl)
+by_arguments w.Delete current found item new delete set_kind comment remove = absurd (delete refl)
+by_arguments (w.SetKind kind) current found item new delete set_kind comment remove = absurd (set_kind kind refl)
+by_arguments (w.Comment host text) current found item new delete set_kind comment remove = absurd (comment host text refl)
+by_arguments (w.RemoveComment host) current found item new delete set_kind comment remove = absurd (remove host refl)
+by_arguments _ current found item new delete set_kind comment remove = refl

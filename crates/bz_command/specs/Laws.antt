@@ -1,22 +1,14 @@
 -- Laws of the effects of commands.
-use Rattle.std.specs.Prelude.{◌≡◌, ◌≤◌, ℕ, Bool, true, false, not, List, Option, Some, Ok}
-use Rattle.std.specs.List.{list_any, list_all}
-use Rattle.std.specs.Option.{option_map_or}
+use Rattle.std.specs.Prelude.{◌≡◌, ◌≤◌, ℕ, Bool, true, false, List, Ok}
 use Rattle.bz_label.specs.declared.target.Target.{Target}
 use Rattle.bz_value.specs.declared.value.Item.{Item}
 use Rattle.bz_value.specs.Gaps.{Bytes}
-use Rattle.bz_value.specs.declared.value.Expr.{Expr}
 use Rattle.bz_value.specs.Counted.{times}
 use Rattle.bz_value.specs.Proper.{IsProper}
 use Rattle.bz_words.specs.declared.command.Operation.{Operation}
 use Rattle.bz_words.specs.declared.command.Operation.TheVariants as w
 use Rattle.bz_words.specs.Proper.{IsProperCommand}
-use Rattle.bz_words.specs.Quoted.{is_escaped}
-use Rattle.bz_words.specs.Words.{is_nonempty}
-use Rattle.bz_rule.specs.Rules.{attribute}
-use Rattle.bz_command.specs.Attributes.{has_attribute}
-use Rattle.bz_command.specs.Lists.{has_lists, items_in, is_item}
-use Rattle.bz_command.specs.Effect.{add, remove_values, rename, effect}
+use Rattle.bz_command.specs.Effect.{effect}
 
 -- What a command that was read makes of a proper file value is proper. The target, the current package and the lines may be
 -- any.
@@ -24,44 +16,6 @@ abbrev pub EffectsStayProper : Type 0
 EffectsStayProper =
     (operation : Operation) (target : Target) (current : Bytes) (lines : List ℕ) (items new : List Item)
     → IsProperCommand operation → IsProper items → effect operation target current lines items ≡ Ok new → IsProper new
-
--- ---- adding, removing and renaming
-
--- every word is an item of the value's lists
-abbrev pub are_there : Bytes → Bytes → List Bytes → Expr → Bool
-are_there current name words value = list_all (λ word. list_any (is_item current name word) (items_in value)) words
-
--- The words become strings that are plain: no quotation mark, no backslash and no newline in them.
-abbrev pub become_plain : List Bytes → Bool
-become_plain words = list_all (λ word. not (list_any is_escaped word)) words
-
--- Adding what is there changes nothing.
-abbrev pub AddedAgain : Type 0
-AddedAgain =
-    (current name : Bytes) (words : List Bytes) (arguments : List Expr) (value : Expr)
-    → attribute name arguments ≡ Some value → has_lists value ≡ true → are_there current name words value ≡ true
-    → add current name words arguments ≡ Ok arguments
-
--- What was added is there afterwards.
-abbrev pub AddedIsThere : Type 0
-AddedIsThere =
-    (current name : Bytes) (words : List Bytes) (arguments new : List Expr)
-    → become_plain words ≡ true → add current name words arguments ≡ Ok new
-    → option_map_or (are_there current name words) (attribute name new) false ≡ true
-
--- Removing what was added to an absent attribute gives the arguments before.
-abbrev pub RemovedAgain : Type 0
-RemovedAgain =
-    (current name : Bytes) (words : List Bytes) (arguments new : List Expr)
-    → has_attribute name arguments ≡ false → is_nonempty words ≡ true → become_plain words ≡ true → add current name words arguments ≡ Ok new
-    → remove_values current name words new ≡ Ok arguments
-
--- Renaming there and back gives the arguments before, unless a second attribute has the first name.
-abbrev pub RenamedBack : Type 0
-RenamedBack =
-    (from to : Bytes) (arguments new : List Expr)
-    → rename from to arguments ≡ Ok new → has_attribute from new ≡ false
-    → rename to from new ≡ Ok arguments
 
 -- ---- comments
 
@@ -73,6 +27,11 @@ keeps_comments (w.Add name words) = true
 keeps_comments (w.Replace attributes old new) = true
 keeps_comments (w.Rename from to) = true
 keeps_comments (w.CopyNoOverwrite name rule) = true
+keeps_comments (w.DictAdd name entries) = true
+keeps_comments (w.NewLoad path symbols) = true
+keeps_comments (w.Comment host text) = true
+keeps_comments (w.PrintComment host) = true
+keeps_comments (w.Print fields) = true
 keeps_comments _ = false
 
 -- They leave each comment at least as often as it stood there.

@@ -1,14 +1,6 @@
-pub mod Adding
-pub mod Attributes
 pub mod CallParts
 pub mod Effect
-pub mod KnownKeys
-pub mod KnownValues
 pub mod Laws
-pub mod Listing
-pub mod Lists
-pub mod Made
-pub mod Refusals
-pub mod Replacing
+pub mod Printing
 pub mod Targets
 pub mod Worked

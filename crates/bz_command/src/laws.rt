@@ -1,31 +1,10 @@
 //! Facts about the definitions, for readers: the functions do nothing.
-
-ghost use Rattle.bz_command.specs.Laws.{AddedAgain, AddedIsThere, RemovedAgain, RenamedBack, CommentsStay};
+ghost use Rattle.bz_command.specs.Laws.{CommentsStay};
 ghost use Rattle.bz_command.specs.Worked.{WorkedEffects};
 
 /// Worked rows: what commands make of small file values.
 pub fn worked_effects()
     ensures { WorkedEffects }
-{}
-
-/// Adding what is there changes nothing.
-pub fn adding_again()
-    ensures { AddedAgain }
-{}
-
-/// What was added is an item of the attribute's lists afterwards.
-pub fn added_is_there()
-    ensures { AddedIsThere }
-{}
-
-/// Removing what was added to an absent attribute gives the arguments before.
-pub fn removing_again()
-    ensures { RemovedAgain }
-{}
-
-/// Renaming there and back gives the arguments before.
-pub fn renamed_back()
-    ensures { RenamedBack }
 {}
 
 /// Commands that take nothing away lose no comment.

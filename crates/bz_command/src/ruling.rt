@@ -6,10 +6,10 @@ ghost use Rattle.bz_value.specs.declared.value.Item.{Item};
 ghost use Rattle.bz_rule.specs.Rules.{has_name};
 ghost use Rattle.bz_command.specs.Effect.{before_first, behind_first, has_place, on_meant, on_one, on_rules, placed, source_of, unmarked, with_rule};
 
-use crate::making::rule_made;
-use crate::refusal::Refusal;
 use crate::statements::{on_one, source};
+use bz_attribute::{Refusal, rule_made};
 use bz_items::{Items, Memory};
+use bz_load::{fix, new_load};
 use bz_rule::has_name;
 use bz_value::{Expr, Item};
 use bz_words::{Operation, Place};
@@ -118,15 +118,6 @@ fn push_copies(items: &[Item], all: &mut Items<Item>) -> Result<(), Memory>
     Ok(())
 }
 
-/// Copies of the items.
-pub(crate) fn copies(alloc: Global, items: &[Item]) -> Result<Items<Item>, Memory>
-    ensures { IfOk result (λ all. all ≡ items.now) }
-{
-    let mut all = Items::new(alloc);
-    push_copies(items, &mut all)?;
-    Ok(all)
-}
-
 /// Copies of the items, with a new one at this place.
 fn with_item(alloc: Global, at: usize, new: Item, items: &[Item]) -> Result<Items<Item>, Memory>
     requires { at ≤ length items.now }
@@ -191,6 +182,10 @@ pub(crate) fn on_rules(
             with_rule(alloc, kind.as_slice(), name.as_slice(), place, items)
         }
         Operation::Delete => Ok(unmarked(alloc, marks, items)?),
+        Operation::NewLoad { path, symbols } => {
+            Ok(new_load(alloc, path.as_slice(), symbols.as_slice(), items)?)
+        }
+        Operation::Fix { fixes } => Ok(fix(alloc, *fixes, items)?),
         _ => {
             let found = source_of(operation, items);
             on_meant(alloc, operation, current, found, marks, items)

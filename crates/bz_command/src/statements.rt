@@ -4,20 +4,22 @@ ghost use Rattle.std.specs.Option.{option_copied};
 ghost use Rattle.bz_rule.specs.Rules.{rule_of};
 ghost use Rattle.bz_tree.specs.declared.kind.Kind.TheVariants as k;
 ghost use Rattle.bz_rule.specs.Values.{on_first, on_row};
+ghost use Rattle.bz_comment.specs.Changes.{changed_by};
 ghost use Rattle.bz_command.specs.CallParts.{with_list, with_list_in, before_in_call, before_in_row, before_in_statement, before_in};
-ghost use Rattle.bz_command.specs.Made.{function_of};
-ghost use Rattle.bz_command.specs.Effect.{change_of, on_arguments, on_one, source, value_in, with_function};
+ghost use Rattle.bz_attribute.specs.Made.{function_of};
+ghost use Rattle.bz_change.specs.Changes.{change_of};
+ghost use Rattle.bz_command.specs.Effect.{arguments_of, on_arguments, on_host, on_one, on_statement, source, value_in, with_function};
 
-use crate::listed::{add, move_values, remove_values, replace};
-use crate::making::function_of;
-use crate::refusal::Refusal;
 use crate::targets::is_rule;
-use crate::whole::{copy, copy_no_overwrite, remove, rename, set, set_if_absent};
+use bz_attribute::{Refusal, function_of};
+use bz_change::change_arguments;
+use bz_comment::{Change, change_comments, change_own};
+use bz_dict::{dict_add, dict_remove, dict_set};
 use bz_items::{Items, Memory};
 use bz_rule::{attribute, call_of, has_name};
 use bz_tree::Kind;
 use bz_value::{Expr, Item};
-use bz_words::Operation;
+use bz_words::{Host, Operation};
 use std::alloc::Global;
 use std::mem;
 
@@ -83,80 +85,45 @@ fn exchange(alloc: Global, part: CallPart, list: &mut Items<Expr>, item: &mut It
 }
 
 /// What an operation makes of the arguments of a rule that it is meant for. `found` is the value that is copied.
-fn change_arguments(
+fn change(
     alloc: Global,
     operation: &Operation,
     current: &[u8],
     found: Option<&Expr>,
     arguments: &mut Items<Expr>,
 ) -> Result<(), Refusal>
-    ensures ok { OnOk result (change_of operation.now current.now (option_copied found.entry) arguments.old ≡ Ok arguments.new) }
-    ensures err { IfErr result (λ refusal. (change_of operation.now current.now (option_copied found.entry) arguments.old ≡ Err refusal) ⊎ (refusal ≡ Refusal.Memory)) }
+    ensures ok { OnOk result (arguments_of operation.now current.now (option_copied found.entry) arguments.old ≡ Ok arguments.new) }
+    ensures err { IfErr result (λ refusal. (arguments_of operation.now current.now (option_copied found.entry) arguments.old ≡ Err refusal) ⊎ (refusal ≡ Refusal.Memory)) }
 {
     match operation {
-        Operation::Set { attribute, values } => set(
+        Operation::DictAdd { attribute, entries } => dict_add(
             alloc,
             current,
             attribute.as_slice(),
-            values.as_slice(),
+            entries.as_slice(),
             arguments,
         ),
-        Operation::SetIfAbsent { attribute, values } => set_if_absent(
+        Operation::DictSet { attribute, entries } => dict_set(
             alloc,
             current,
             attribute.as_slice(),
-            values.as_slice(),
+            entries.as_slice(),
             arguments,
         ),
-        Operation::Add { attribute, values } => add(
+        Operation::DictRemove { attribute, keys } => {
+            dict_remove(alloc, attribute.as_slice(), keys.as_slice(), arguments)
+        }
+        Operation::Comment { host, text } => change_comments(
             alloc,
             current,
-            attribute.as_slice(),
-            values.as_slice(),
+            host,
+            Change::Add(text.as_slice()),
             arguments,
         ),
-        Operation::Remove { attributes } => remove(attributes, arguments),
-        Operation::RemoveValues { attribute, values } => remove_values(
-            alloc,
-            current,
-            attribute.as_slice(),
-            values.as_slice(),
-            arguments,
-        ),
-        Operation::Replace {
-            attributes,
-            old,
-            new,
-        } => replace(
-            alloc,
-            current,
-            attributes,
-            old.as_slice(),
-            new.as_slice(),
-            arguments,
-        ),
-        Operation::Move { from, to, values } => move_values(
-            alloc,
-            current,
-            from.as_slice(),
-            to.as_slice(),
-            values,
-            arguments,
-        ),
-        Operation::Rename { from, to } => rename(alloc, from.as_slice(), to.as_slice(), arguments),
-        Operation::Copy { attribute, rule: _ } => copy(
-            alloc,
-            attribute.as_slice(),
-            found,
-            arguments,
-        ),
-        Operation::CopyNoOverwrite { attribute, rule: _ } => copy_no_overwrite(
-            alloc,
-            attribute.as_slice(),
-            found,
-            arguments,
-        ),
-        Operation::New { .. } | Operation::Delete | Operation::SetKind { .. } => Ok(()),
+        Operation::RemoveComment { host } => {
+            change_comments(alloc, current, host, Change::Remove, arguments)
+        }
+        _ => change_arguments(alloc, operation, current, found, arguments),
     }
 }
 
@@ -168,15 +135,15 @@ fn change_rule(
     found: Option<&Expr>,
     item: &mut Item,
 ) -> Result<(), Refusal>
-    ensures ok { OnOk result (on_arguments (change_of operation.now current.now (option_copied found.entry)) item.old ≡ Ok item.new) }
-    ensures err { IfErr result (λ refusal. (on_arguments (change_of operation.now current.now (option_copied found.entry)) item.old ≡ Err refusal) ⊎ (refusal ≡ Refusal.Memory)) }
+    ensures ok { OnOk result (on_arguments (arguments_of operation.now current.now (option_copied found.entry)) item.old ≡ Ok item.new) }
+    ensures err { IfErr result (λ refusal. (on_arguments (arguments_of operation.now current.now (option_copied found.entry)) item.old ≡ Err refusal) ⊎ (refusal ≡ Refusal.Memory)) }
 {
     if !is_rule(item) {
         return Ok(());
     }
     let mut arguments = Items::new(alloc);
     exchange(alloc, CallPart::Arguments, &mut arguments, item);
-    change_arguments(alloc, operation, current, found, &mut arguments)?;
+    change(alloc, operation, current, found, &mut arguments)?;
     exchange(alloc, CallPart::Arguments, &mut arguments, item);
     Ok(())
 }
@@ -189,6 +156,37 @@ fn set_kind(alloc: Global, kind: &[u8], item: &mut Item) -> Result<(), Memory>
     parts.push(function_of(alloc, kind)?)?;
     exchange(alloc, CallPart::Function, &mut parts, item);
     Ok(())
+}
+
+/// The comments of a statement, changed.
+fn change_statement(alloc: Global, change: Change<'_>, item: &mut Item) -> Result<(), Memory>
+    ensures { OnOk result (item.new ≡ on_statement (changed_by change.entry) item.old) }
+{
+    match item {
+        Item::Block(_) => Ok(()),
+        Item::Stmt(x) => change_own(alloc, change, x),
+    }
+}
+
+/// What an operation makes of the comments of a host in a rule: of the rule itself, or in its arguments.
+fn on_host(
+    alloc: Global,
+    operation: &Operation,
+    current: &[u8],
+    found: Option<&Expr>,
+    host: &Host,
+    change: Change<'_>,
+    item: &mut Item,
+) -> Result<(), Refusal>
+    ensures ok { OnOk result (on_host host.now (changed_by change.entry) (on_arguments (arguments_of operation.now current.now (option_copied found.entry)) item.old) item.old ≡ Ok item.new) }
+    ensures err { IfErr result (λ refusal. (on_host host.now (changed_by change.entry) (on_arguments (arguments_of operation.now current.now (option_copied found.entry)) item.old) item.old ≡ Err refusal) ⊎ (refusal ≡ Refusal.Memory)) }
+{
+    match host {
+        Host::Rule => Ok(change_statement(alloc, change, item)?),
+        Host::Attribute(_) | Host::Item { .. } => {
+            change_rule(alloc, operation, current, found, item)
+        }
+    }
 }
 
 /// What an operation makes of a rule that it is meant for. `found` is the value that is copied.
@@ -205,6 +203,13 @@ pub(crate) fn on_one(
     match operation {
         Operation::New { .. } | Operation::Delete => Ok(()),
         Operation::SetKind { kind } => Ok(set_kind(alloc, kind.as_slice(), item)?),
+        Operation::Comment { host, text } => {
+            let change = Change::Add(text.as_slice());
+            on_host(alloc, operation, current, found, host, change, item)
+        }
+        Operation::RemoveComment { host } => {
+            on_host(alloc, operation, current, found, host, Change::Remove, item)
+        }
         _ => change_rule(alloc, operation, current, found, item),
     }
 }

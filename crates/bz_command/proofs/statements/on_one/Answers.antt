@@ -4,5 +4,5 @@ use Rattle.bz_command.proofs.statements.on_one.Goals as goal
 
 pub returns-in_default : goal.returns-in_default
 returns-in_default c =
-    let same = by_arguments c.args.operation.now c.args.current.now (option_copied c.args.found) c.args.item.now c.in_default.not-New c.in_default.not-Delete c.in_default.not-SetKind in
+    let same = by_arguments c.args.operation.now c.args.current.now (option_copied c.args.found) c.args.item.now c.in_default.not-New c.in_default.not-Delete c.in_default.not-SetKind c.in_default.not-Comment c.in_default.not-RemoveComment in
     record { ok = rw same c.change_rule.ensures.ok; err = rw same c.change_rule.ensures.err }

@@ -1,0 +1,100 @@
+-- The first element of a list that passes a test, by its index.
+use Rattle.std.proofs.Common.{◌≡◌, ℕ, ◌<◌, ◌≤◌, Bool, true, false, List, [], ◌∷◌, ◌++◌, length, get_or, set, refl, ap, sym, arith, zero, suc, ◌∙◌, true≢false}
+use Rattle.std.specs.Prelude.{Option, Some, None, cond, not, is_some}
+use Rattle.std.specs.List.{position, position_or_len, insert, remove}
+use Rattle.std.specs.Option.{option_or}
+use Rattle.std.proofs.lemmas.List.Quantifiers.{position-Some}
+use Rattle.std.proofs.lemmas.List.Sums.{prefix_len_passes}
+use Rattle.std.proofs.lemmas.Bool.{ltb-false, not-true}
+use Rattle.std.proofs.lemmas.List.Edits.{insert_end}
+use Rattle.bz_tree.specs.declared.kind.Kind.TheVariants as k
+use Rattle.bz_value.specs.declared.value.Expr.{Expr}
+use Rattle.bz_value.specs.Gaps.{Bytes}
+use Rattle.bz_rule.specs.Rules.{attribute, value_named}
+use Rattle.bz_rule.specs.Values.{has_kind}
+use Rattle.bz_attribute.specs.Attributes.{is_attribute, on_first_that, without_first, inserted}
+
+-- i is the index of the first element that passes
+pub record IsFirst {X : Type 0} (test : X → Bool) (xs : List X) (i : ℕ) : Type 0 where
+  pub within : i < length xs
+  pub passes : (d : X) → test (get_or xs i d) ≡ true
+  pub others : (k : ℕ) (d : X) → k < i → test (get_or xs k d) ≡ false
+
+pub is_first : {X : Type 0} (test : X → Bool) (xs : List X) (i : ℕ) (d : X) → Some i ≡ position test xs → IsFirst test xs i
+is_first test xs i d h = record {
+  within = (position-Some test xs i d (sym h)).0;
+  passes = λ y. (position-Some test xs i y (sym h)).1;
+  others = λ k y. (position-Some test xs i y (sym h)).2 k;
+}
+
+pub later : {X : Type 0} (test : X → Bool) (x : X) (xs : List X) (i : ℕ) → IsFirst test (x ∷ xs) (suc i) → IsFirst test xs i
+later test x xs i h = record { within = omega (arith, h.within); passes = h.passes; others = λ k d l. h.others (suc k) d (omega arith) }
+
+-- a write and a removal at that index
+pub changed_at : {X : Type 0} (test : X → Bool) (change : X → X) (xs : List X) (i : ℕ) (d : X) → IsFirst test xs i → on_first_that test change xs ≡ set xs i (change (get_or xs i d))
+changed_at test change [] i d h = absurd (omega (arith, h.within))
+changed_at test change (x ∷ xs) zero d h = rw (h.passes x) refl
+changed_at test change (x ∷ xs) (suc i) d h = rw (h.others 0 x (omega arith)) (ap (λ ys. x ∷ ys) (changed_at test change xs i d (later test x xs i h)))
+
+pub removed_at : {X : Type 0} (test : X → Bool) (xs : List X) (i : ℕ) → IsFirst test xs i → without_first test xs ≡ remove xs i
+removed_at test [] i h = absurd (omega (arith, h.within))
+removed_at test (x ∷ xs) zero h = rw (h.passes x) refl
+removed_at test (x ∷ xs) (suc i) h = rw (h.others 0 x (omega arith)) (ap (λ ys. x ∷ ys) (removed_at test xs i (later test x xs i h)))
+
+-- no element passes
+pub record NonePasses {X : Type 0} (test : X → Bool) (xs : List X) : Type 0 where
+  pub all : (k : ℕ) (d : X) → k < length xs → test (get_or xs k d) ≡ false
+
+at_end : (b : Bool) (i : ℕ) → cond b (Some i) None ≡ None → b ≡ false
+at_end true i h = cc
+at_end false i h = refl
+
+pub none_passes : {X : Type 0} (test : X → Bool) (xs : List X) → None ≡ position test xs → NonePasses test xs
+none_passes test xs h =
+    let past : length xs ≤ position_or_len test xs = ltb-false (position_or_len test xs) (length xs) (at_end _ _ (sym h)) in
+    record { all = λ k d l. not-true (test (get_or xs k d)) (prefix_len_passes (λ x. not (test x)) xs k d (omega arith)) }
+
+pub none_later : {X : Type 0} (test : X → Bool) (x : X) (xs : List X) → NonePasses test (x ∷ xs) → NonePasses test xs
+none_later test x xs h = record { all = λ k d l. h.all (suc k) d (omega arith) }
+
+pub unchanged : {X : Type 0} (test : X → Bool) (change : X → X) (xs : List X) → NonePasses test xs → on_first_that test change xs ≡ xs
+unchanged test change [] h = refl
+unchanged test change (x ∷ xs) h = rw (h.all 0 x (omega arith)) (ap (λ ys. x ∷ ys) (unchanged test change xs (none_later test x xs h)))
+
+pub unremoved : {X : Type 0} (test : X → Bool) (xs : List X) → NonePasses test xs → without_first test xs ≡ xs
+unremoved test [] h = refl
+unremoved test (x ∷ xs) h = rw (h.all 0 x (omega arith)) (ap (λ ys. x ∷ ys) (unremoved test xs (none_later test x xs h)))
+
+-- ---- an argument before the first starred one
+
+pub inserted_at : (argument : Expr) (xs : List Expr) (i : ℕ) → IsFirst (has_kind k.Star) xs i → inserted argument xs ≡ insert xs i argument
+inserted_at argument [] i h = absurd (omega (arith, h.within))
+inserted_at argument (x ∷ xs) zero h = rw (h.passes x) refl
+inserted_at argument (x ∷ xs) (suc i) h = rw (h.others 0 x (omega arith)) (ap (λ ys. x ∷ ys) (inserted_at argument xs i (later (has_kind k.Star) x xs i h)))
+
+inserted_last : (argument : Expr) (xs : List Expr) → NonePasses (has_kind k.Star) xs → inserted argument xs ≡ xs ++ argument ∷ []
+inserted_last argument [] h = refl
+inserted_last argument (x ∷ xs) h = rw (h.all 0 x (omega arith)) (ap (λ ys. x ∷ ys) (inserted_last argument xs (none_later (has_kind k.Star) x xs h)))
+
+pub inserted_behind : (argument : Expr) (xs : List Expr) (i : ℕ) → NonePasses (has_kind k.Star) xs → i ≡ length xs → inserted argument xs ≡ insert xs i argument
+inserted_behind argument xs i h e = inserted_last argument xs h ∙ (sym (insert_end xs argument) ∙ ap (λ n. insert xs n argument) (sym e))
+
+-- ---- the first attribute
+
+same_some : (a b : Option Expr) → is_some a ≡ true → option_or a b ≡ a
+same_some None b h = absurd (true≢false (sym h))
+same_some (Some x) b h = refl
+
+other_some : (a b : Option Expr) → is_some a ≡ false → option_or a b ≡ b
+other_some None b h = refl
+other_some (Some x) b h = absurd (true≢false h)
+
+pub attribute_at : (name : Bytes) (xs : List Expr) (i : ℕ) (d : Expr) → IsFirst (is_attribute name) xs i → attribute name xs ≡ value_named name (get_or xs i d)
+attribute_at name [] i d h = absurd (omega (arith, h.within))
+attribute_at name (x ∷ xs) zero d h = same_some (value_named name x) (attribute name xs) (h.passes x)
+attribute_at name (x ∷ xs) (suc i) d h =
+    other_some (value_named name x) (attribute name xs) (h.others 0 x (omega arith)) ∙ attribute_at name xs i d (later (is_attribute name) x xs i h)
+
+pub attribute_none : (name : Bytes) (xs : List Expr) → NonePasses (is_attribute name) xs → attribute name xs ≡ None
+attribute_none name [] h = refl
+attribute_none name (x ∷ xs) h = other_some (value_named name x) (attribute name xs) (h.all 0 x (omega arith)) ∙ attribute_none name xs (none_later (is_attribute name) x xs h)

@@ -1,0 +1,189 @@
+-- Expressions whose parts or items were changed, once and back again; named arguments; and tests in turn.
+use Rattle.std.proofs.Common.{◌≡◌, Bool, true, false, ◌||◌, List, ◌∷◌, Option, Some, None, refl, sym, ap, ◌∙◌, true≢false}
+use Rattle.std.specs.Prelude.{if◌then◌else◌, is_some}
+use Rattle.std.specs.Option.{option_and_then, option_or}
+use Rattle.bz_tree.specs.declared.kind.Kind.{Kind}
+use Rattle.bz_tree.specs.declared.kind.Kind.TheVariants as k
+use Rattle.bz_tree.specs.Shapes.{is_kind}
+use Rattle.bz_value.specs.declared.value.Form.{Form}
+use Rattle.bz_value.specs.declared.value.Seq.{Seq}
+use Rattle.bz_value.specs.declared.value.Expr.{Expr, Token, Form', items-the_row-Expr, items_hidden-the_row-Expr-0, items_shown-the_row-Expr-0}
+use Rattle.bz_value.specs.declared.value.Expr.TheVariants as e
+use Rattle.bz_value.specs.declared.value.Expr.TheOpen as o
+use Rattle.bz_value.specs.declared.value.Expr.TheViews.{roll-Expr, out-Expr, roll-out-Expr}
+use Rattle.bz_value.specs.Comments.{HostComments}
+use Rattle.bz_value.specs.Gaps.{Bytes}
+use Rattle.bz_rule.specs.Rules.{value_behind, value_named, attribute}
+use Rattle.bz_rule.specs.Values.{has_kind, parts_of, items_of, with_parts, with_items, on_row, on_items}
+use Rattle.bz_rule.proofs.ProperChanges.{by_case}
+use Rattle.bz_attribute.specs.Attributes.{is_attribute, has_attribute}
+
+-- ---- tests
+
+pub if_true : {X : Type 0} (b : Bool) (x y : X) → b ≡ true → (if b then x else y) ≡ x
+if_true true x y h = refl
+if_true false x y h = absurd (true≢false (sym h))
+
+pub if_false : {X : Type 0} (b : Bool) (x y : X) → b ≡ false → (if b then x else y) ≡ y
+if_false true x y h = absurd (true≢false h)
+if_false false x y h = refl
+
+-- either way the same
+pub if_either : {X : Type 0} (b : Bool) (x y z : X) → x ≡ z → y ≡ z → (if b then x else y) ≡ z
+if_either true x y z h i = h
+if_either false x y z h i = i
+
+pub both : {X Y Z : Type 0} (f : X → Y → Z) {h h' : X} {i i' : Y} → h ≡ h' → i ≡ i' → f h i ≡ f h' i'
+both f {h} {h'} {i} {i'} d e = ap (λ z. f z i) d ∙ ap (λ z. f h' z) e
+
+-- what is found behind a test
+pub some_if : {X : Type 0} (b : Bool) (found : Option X) → is_some (if b then found else None) ≡ true → (b ≡ true) × (is_some found ≡ true)
+some_if true found h = (refl, h)
+some_if false found h = absurd (true≢false (sym h))
+
+pub found_if : {X : Type 0} (b : Bool) (found : Option X) (x : X) → (if b then found else None) ≡ Some x → (b ≡ true) × (found ≡ Some x)
+found_if true found x h = (refl, h)
+found_if false found x h = cc
+
+pub then_if : {X Y : Type 0} (b : Bool) (f : X → Option Y) (x : X) → option_and_then f (if b then Some x else None) ≡ (if b then f x else None)
+then_if true f x = refl
+then_if false f x = refl
+
+-- ---- an expression by rows is the one by lists
+
+-- a form by its fields
+abbrev pub made : Kind → List Expr → List Expr → List Bytes → Bool → Bool → HostComments → Form
+made kind parts items end_ split open_ comments = record { kind = kind; parts = parts; seq = record { items = items; end_ = end_; split = split }; open_ = open_; comments = comments }
+
+abbrev opened : Expr → o.Expr-F Expr Form Seq
+opened (Token t) = o.Token t
+opened (Form' kind s parts s' items end_ split open_ comments) = o.Form (made kind (items-the_row-Expr _ parts) (items-the_row-Expr _ items) end_ split open_ comments)
+
+opens : (x : Expr) → out-Expr x ≡ opened x
+unfolding out-Expr denote.Hole.Carrier.out Rattle.bz_value.specs.declared.value.Expr.TheBlock.shown-the_row-Expr-0 denote.Hole.Carrier.shown
+opens (Token t) = refl
+opens (Form' kind s parts s' items end_ split open_ comments) =
+    both (λ p i. o.Form (made kind p i end_ split open_ comments)) (items_shown-the_row-Expr-0 s parts) (items_shown-the_row-Expr-0 s' items)
+
+-- an expression with the parts that it has, and with the items that it has
+pub own_parts : (x : Expr) → with_parts (parts_of x) x ≡ x
+own_parts (Token t) = refl
+own_parts (Form' kind s parts s' items end_ split open_ comments) =
+    sym (e.rolls-Form _) ∙ (ap roll-Expr (sym (opens (Form' kind s parts s' items end_ split open_ comments))) ∙ roll-out-Expr _)
+
+pub own_items : (x : Expr) → with_items (items_of x) x ≡ x
+own_items (Token t) = refl
+own_items (Form' kind s parts s' items end_ split open_ comments) = own_parts (Form' kind s parts s' items end_ split open_ comments)
+
+-- ---- other parts, and other items
+
+pub parts_kind : (kind : Kind) (xs : List Expr) (x : Expr) → has_kind kind (with_parts xs x) ≡ has_kind kind x
+parts_kind kind xs (Token t) = refl
+parts_kind kind xs (Form' own s parts s' items end_ split open_ comments) = refl
+
+pub items_kind : (kind : Kind) (xs : List Expr) (x : Expr) → has_kind kind (with_items xs x) ≡ has_kind kind x
+items_kind kind xs (Token t) = refl
+items_kind kind xs (Form' own s parts s' items end_ split open_ comments) = refl
+
+pub parts_filled : (kind : Kind) (xs : List Expr) (x : Expr) → has_kind kind x ≡ true → parts_of (with_parts xs x) ≡ xs
+parts_filled kind xs (Token t) h = absurd (true≢false (sym h))
+parts_filled kind xs (Form' own s parts s' items end_ split open_ comments) h = items_hidden-the_row-Expr-0 xs
+
+pub items_filled : (kind : Kind) (xs : List Expr) (x : Expr) → has_kind kind x ≡ true → items_of (with_items xs x) ≡ xs
+items_filled kind xs (Token t) h = absurd (true≢false (sym h))
+items_filled kind xs (Form' own s parts s' items end_ split open_ comments) h = items_hidden-the_row-Expr-0 xs
+
+-- the items stay where the parts change
+pub items_beside : (xs : List Expr) (x : Expr) → items_of (with_parts xs x) ≡ items_of x
+items_beside xs (Token t) = refl
+items_beside xs (Form' own s parts s' items end_ split open_ comments) = items_hidden-the_row-Expr-0 (items-the_row-Expr _ items)
+
+pub parts_twice : (ys xs : List Expr) (x : Expr) → with_parts ys (with_parts xs x) ≡ with_parts ys x
+parts_twice ys xs (Token t) = refl
+parts_twice ys xs (Form' own s parts s' items end_ split open_ comments) =
+    ap (λ i. e.Form (made own ys i end_ split open_ comments)) (items_hidden-the_row-Expr-0 (items-the_row-Expr _ items))
+
+pub items_twice : (ys xs : List Expr) (x : Expr) → with_items ys (with_items xs x) ≡ with_items ys x
+items_twice ys xs (Token t) = refl
+items_twice ys xs (Form' own s parts s' items end_ split open_ comments) =
+    ap (λ p. e.Form (made own p ys end_ split open_ comments)) (items_hidden-the_row-Expr-0 (items-the_row-Expr _ parts))
+
+-- ---- the row of a kind
+
+pub row_changed : (kind : Kind) (change : List Expr → List Expr) (x : Expr) → has_kind kind x ≡ true → on_row kind change x ≡ with_parts (change (parts_of x)) x
+row_changed kind change x h = if_true (has_kind kind x) (with_parts (change (parts_of x)) x) x h
+
+pub items_changed : (kind : Kind) (change : List Expr → List Expr) (x : Expr) → has_kind kind x ≡ true → on_items kind change x ≡ with_items (change (items_of x)) x
+items_changed kind change x h = if_true (has_kind kind x) (with_items (change (items_of x)) x) x h
+
+-- a change that leaves the row as it is
+pub row_same : (kind : Kind) (change : List Expr → List Expr) (x : Expr) → change (parts_of x) ≡ parts_of x → on_row kind change x ≡ x
+row_same kind change x h = if_either (has_kind kind x) (with_parts (change (parts_of x)) x) x x (ap (λ ps. with_parts ps x) h ∙ own_parts x) refl
+
+pub items_same : (kind : Kind) (change : List Expr → List Expr) (x : Expr) → change (items_of x) ≡ items_of x → on_items kind change x ≡ x
+items_same kind change x h = if_either (has_kind kind x) (with_items (change (items_of x)) x) x x (ap (λ xs. with_items xs x) h ∙ own_items x) refl
+
+-- two changes in turn
+pub row_twice : (kind : Kind) (f g : List Expr → List Expr) (x : Expr) → has_kind kind x ≡ true → on_row kind f (on_row kind g x) ≡ with_parts (f (g (parts_of x))) x
+row_twice kind f g x h =
+    let y : Expr = with_parts (g (parts_of x)) x in
+    ap (on_row kind f) (row_changed kind g x h)
+    ∙ (row_changed kind f y (parts_kind kind (g (parts_of x)) x ∙ h)
+    ∙ (ap (λ ps. with_parts (f ps) y) (parts_filled kind (g (parts_of x)) x h) ∙ parts_twice (f (g (parts_of x))) (g (parts_of x)) x))
+
+-- ---- two changes, of which the second takes the first back
+
+module _ (kind : Kind) (f g : List Expr → List Expr) where
+  pub row_back : (x : Expr) → (has_kind kind x ≡ true → g (f (parts_of x)) ≡ parts_of x) → on_row kind g (on_row kind f x) ≡ x
+  row_back x h =
+      by_case (λ y. on_row kind g y ≡ x) (has_kind kind x) (with_parts (f (parts_of x)) x) x
+      (λ is.
+      let y : Expr = with_parts (f (parts_of x)) x in
+      if_true (has_kind kind y) (with_parts (g (parts_of y)) y) y (parts_kind kind (f (parts_of x)) x ∙ is)
+      ∙ (ap (λ ps. with_parts (g ps) y) (parts_filled kind (f (parts_of x)) x is)
+      ∙ (parts_twice (g (f (parts_of x))) (f (parts_of x)) x
+      ∙ (ap (λ ps. with_parts ps x) (h is) ∙ own_parts x))))
+      (λ n. if_false (has_kind kind x) (with_parts (g (parts_of x)) x) x n)
+
+  pub items_back : (x : Expr) → (has_kind kind x ≡ true → g (f (items_of x)) ≡ items_of x) → on_items kind g (on_items kind f x) ≡ x
+  items_back x h =
+      by_case (λ y. on_items kind g y ≡ x) (has_kind kind x) (with_items (f (items_of x)) x) x
+      (λ is.
+      let y : Expr = with_items (f (items_of x)) x in
+      if_true (has_kind kind y) (with_items (g (items_of y)) y) y (items_kind kind (f (items_of x)) x ∙ is)
+      ∙ (ap (λ xs. with_items (g xs) y) (items_filled kind (f (items_of x)) x is)
+      ∙ (items_twice (g (f (items_of x))) (f (items_of x)) x
+      ∙ (ap (λ xs. with_items xs x) (h is) ∙ own_items x))))
+      (λ n. if_false (has_kind kind x) (with_items (g (items_of x)) x) x n)
+
+-- ---- named arguments
+
+-- the value of a named argument, by its kind and its parts
+pub value_told : (name : Bytes) (x : Expr) → value_named name x ≡ (if has_kind k.Named x then value_behind name (parts_of x) else None)
+value_told name (Token t) = refl
+value_told name (Form' own s parts s' items end_ split open_ comments) =
+    then_if (is_kind own k.Named) (λ (argument : Form). value_behind name argument.parts) (made own (items-the_row-Expr _ parts) (items-the_row-Expr _ items) end_ split open_ comments)
+
+pub attribute_parts : (name : Bytes) (x : Expr) → is_attribute name x ≡ true → (has_kind k.Named x ≡ true) × (is_some (value_behind name (parts_of x)) ≡ true)
+attribute_parts name x h = some_if (has_kind k.Named x) (value_behind name (parts_of x)) (sym (ap (λ (found : Option Expr). is_some found) (value_told name x)) ∙ h)
+
+pub value_parts : (name : Bytes) (value x : Expr) → value_named name x ≡ Some value → (has_kind k.Named x ≡ true) × (value_behind name (parts_of x) ≡ Some value)
+value_parts name value x h = found_if (has_kind k.Named x) (value_behind name (parts_of x)) value (sym (value_told name x) ∙ h)
+
+-- the value of a named argument whose row was changed
+pub value_changed : (name : Bytes) (change : List Expr → List Expr) (x : Expr) → has_kind k.Named x ≡ true → value_named name (on_row k.Named change x) ≡ value_behind name (change (parts_of x))
+value_changed name change x h =
+    let y : Expr = with_parts (change (parts_of x)) x in
+    ap (value_named name) (row_changed k.Named change x h)
+    ∙ (value_told name y
+    ∙ (if_true (has_kind k.Named y) (value_behind name (parts_of y)) None (parts_kind k.Named (change (parts_of x)) x ∙ h)
+    ∙ ap (value_behind name) (parts_filled k.Named (change (parts_of x)) x h)))
+
+-- ---- attributes among arguments
+
+some_or : {X : Type 0} (found rest : Option X) → is_some (option_or found rest) ≡ (is_some found || is_some rest)
+some_or None rest = refl
+some_or (Some x) rest = refl
+
+pub attribute_first : (name : Bytes) (x : Expr) (xs : List Expr) → has_attribute name (x ∷ xs) ≡ (is_attribute name x || has_attribute name xs)
+attribute_first name x xs = some_or (value_named name x) (attribute name xs)

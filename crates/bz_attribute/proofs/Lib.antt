@@ -1,0 +1,16 @@
+pub mod ArgumentForms
+pub mod ArgumentPlaces
+pub mod ArgumentValues
+pub mod AttributesAgain
+pub mod FormsAgain
+pub mod Grown
+pub mod GrownArguments
+pub mod KeySets
+pub mod ListsThere
+pub mod MakingForms
+pub mod MakingPieces
+pub mod MakingSums
+pub mod PlainWords
+pub mod ProperAttributes
+pub mod ProperMade
+pub mod ProperTexts

@@ -1,0 +1,328 @@
+-- New parts of a file value are proper where they go.
+use Rattle.std.proofs.Common.{◌≡◌, ◌<◌, ℕ, Bool, true, false, ◌&&◌, List, [], ◌∷◌, ◌++◌, inl, inr, refl, sym, ap, ◌∙◌, subst, map, arith, true≢false}
+use Rattle.std.specs.Prelude.{IsUtf8, codes, nat_lt, nat_eq}
+use Rattle.std.specs.List.{AllByRecursion, slice_split}
+use Rattle.std.proofs.lemmas.List.Elements.{All-nil}
+use Rattle.bz_token.specs.declared.class.Class.{Class}
+use Rattle.bz_token.specs.declared.class.Class.TheVariants as c
+use Rattle.bz_token.specs.Lexemes.{IsLexeme, is_mark}
+use Rattle.bz_tree.specs.declared.kind.Kind.{Kind}
+use Rattle.bz_tree.specs.declared.kind.Kind.TheVariants as k
+use Rattle.bz_tree.specs.Shapes as s
+use Rattle.bz_tree.specs.Shapes.{Fits, Listed, Behind, rank, is_kind}
+use Rattle.bz_tree.specs.Legal.{IsSort}
+use Rattle.bz_tree.specs.Spots.{Spot, Begins, Within}
+use Rattle.bz_label.specs.Tables.{is_label_attribute}
+use Rattle.bz_label.specs.Read.{shortened}
+use Rattle.bz_value.specs.declared.value.Expr.{Expr, Token, Form'}
+use Rattle.bz_value.specs.Comments.{no_comments}
+use Rattle.bz_value.specs.Gaps.{Bytes}
+use Rattle.bz_value.specs.Proper.{IsComment, AreComments, comments_of, has_break, is_sign, is_operator, behind_expr, ProperExpr, IsProperItem}
+use Rattle.bz_value.specs.Roots.{root}
+use Rattle.bz_value.specs.Roots as r
+use Rattle.bz_value.proofs.FormParts.{AreParts, form_proper}
+use Rattle.bz_words.specs.Proper.{AreUtf8, IsAttribute, IsKind}
+use Rattle.bz_words.specs.Quoted.{quoted_of}
+use Rattle.bz_words.proofs.NameTests.{identifiers_are_names}
+use Rattle.bz_words.proofs.Strings.{quoted_lexeme}
+use Rattle.bz_words.proofs.Utf8Texts.{quoted_utf8}
+use Rattle.bz_rule.specs.Characters.{full_stop}
+use Rattle.bz_rule.specs.Values.{has_kind, on_row}
+use Rattle.bz_rule.proofs.ProperChanges.{by_test, by_case, Strung}
+use Rattle.bz_rule.proofs.ProperItems.{IsValue, KeepsRow, row_within, value_within}
+use Rattle.bz_rule.proofs.ProperRules.{IsFunction}
+use Rattle.bz_rule.proofs.ProperSequences.{IsItem, AreOf, items_again, each_item}
+use Rattle.bz_attribute.specs.Made.{token, node, sequence, name, mark, shortened_in, string_text, string_of, list_of, binds_looser, operand, plus, dotted_behind, dotted_from, function_of, argument_of, rule_made}
+use Rattle.bz_attribute.proofs.ProperTexts.{one_ascii, shortened_utf8, IsFull, split_full, kind_pieces}
+
+-- ---- tokens and lists
+
+-- What is new is proper at every spot, without comments and without a break.
+pub record IsNew (x : Expr) : Type 0 where
+  pub proper : (here : Spot) → ProperExpr here x
+  pub comments : comments_of x ≡ no_comments
+  pub breaks : has_break x ≡ false
+
+none_there : AreComments no_comments
+none_there = (All-nil IsComment, tt)
+
+pub new_value : (x : Expr) → IsNew x → IsSort s.test (root x) → IsValue x
+new_value x n h = (((n.proper Within, subst AreComments (sym n.comments) none_there, n.breaks), h), n.comments)
+
+pub token_new : (class : Class) (text : Bytes) → IsLexeme class text → IsUtf8 text → IsNew (token class text)
+token_new class text l u = record { proper = λ here. (l, u); comments = refl; breaks = refl }
+
+mark_new : (byte : ℕ) → byte < 128 → is_mark (byte ∷ []) ≡ true → IsNew (mark (byte ∷ []))
+mark_new byte l h = token_new c.Mark (byte ∷ []) h (one_ascii byte l)
+
+name_new : (text : Bytes) → IsAttribute text → IsNew (name text)
+name_new text a = token_new c.Name text ((identifiers_are_names text).0 a.0) a.1
+
+-- a new part of a row before others
+new_part : (binary : Bool) (outer here : Spot) (x : Expr) (xs : List Expr) → IsNew x → AreParts binary outer (behind_expr outer here x) xs → AreParts binary outer here (x ∷ xs)
+new_part binary outer here x xs n h = (n.proper here, n.comments, λ b. absurd (true≢false (sym b ∙ n.breaks)), h)
+
+list_new : (items : List Expr) → AreOf s.test items → IsNew (list_of items)
+list_new items h = record {
+  proper = λ here.
+      form_proper here (record { kind = k.List; parts = []; seq = record { items = items; end_ = []; split = false }; open_ = false; comments = no_comments })
+      (refl, items_again s.test s.close_square (r.mark 93) refl items h) (tt, each_item s.test s.close_square (r.mark 93) items h, All-nil IsComment, refl);
+  comments = refl;
+  breaks = refl;
+}
+
+pub list_value : (items : List Expr) → AreOf s.test items → IsValue (list_of items)
+list_value items h = new_value (list_of items) (list_new items h) refl
+
+-- ---- words as values
+
+pub quoted_string : (word : Bytes) → IsUtf8 word → Strung (quoted_of word)
+quoted_string word u = (quoted_lexeme word, quoted_utf8 word u)
+
+pub string_strung : (current attribute word : Bytes) → IsUtf8 word → Strung (string_text current attribute word)
+string_strung current attribute word u =
+    quoted_string (shortened_in current attribute word) (by_test IsUtf8 (is_label_attribute attribute) (shortened current word) word (shortened_utf8 current word u) u)
+
+pub string_value : (text : Bytes) → Strung text → IsValue (token c.String text)
+string_value text h = new_value (token c.String text) (token_new c.String text h.0 h.1) refl
+
+pub words_are_items : (current attribute : Bytes) (words : List Bytes) → AreUtf8 words → AreOf s.test (map (string_of current attribute) words)
+words_are_items current attribute [] u = tt
+words_are_items current attribute (word ∷ words) u =
+    ((string_value (string_text current attribute word) (string_strung current attribute word u.0)).0, words_are_items current attribute words u.1)
+
+pub texts_are_items : (texts : List Bytes) → AllByRecursion Strung texts → AreOf s.test (map (token c.String) texts)
+texts_are_items [] h = tt
+texts_are_items (text ∷ texts) h = ((string_value text h.0).0, texts_are_items texts h.1)
+
+-- ---- arguments
+
+pub argument_item : (attribute : Bytes) (value : Expr) → IsAttribute attribute → IsValue value → IsItem s.argument (argument_of attribute value)
+argument_item attribute value a v = (
+  (
+    form_proper Within (record { kind = k.Named; parts = name attribute ∷ mark (codes "=") ∷ value ∷ []; seq = record { items = []; end_ = []; split = false }; open_ = false; comments = no_comments })
+        (refl, (refl, (v.0.1, tt))) (
+          new_part false Within Within (name attribute) (mark (codes "=") ∷ value ∷ []) (name_new attribute a)
+              (new_part false Within Within (mark (codes "=")) (value ∷ []) (mark_new 61 (omega arith) refl)
+              (v.0.0.0, v.1, λ b. absurd (true≢false (sym b ∙ v.0.0.2)), tt)),
+          tt,
+          refl,
+          refl,
+          λ e. absurd (true≢false (sym e)),
+        ),
+    none_there,
+    refl,
+  ),
+  refl,
+)
+
+-- ---- functions and rules
+
+dot_function : (front : Expr) (text : Bytes) → IsFunction front → IsAttribute text → IsFunction (node k.Dot (front ∷ mark (codes ".") ∷ name text ∷ []))
+dot_function front text f a = (
+  λ here.
+      form_proper here (record { kind = k.Dot; parts = front ∷ mark (codes ".") ∷ name text ∷ []; seq = record { items = []; end_ = []; split = false }; open_ = false; comments = no_comments })
+      (f.2, (refl, (refl, tt))) (
+        new_part false here here front (mark (codes ".") ∷ name text ∷ []) (record { proper = f.0; comments = f.1.0; breaks = f.1.1 })
+            (new_part false here (behind_expr here here front) (mark (codes ".")) (name text ∷ []) (mark_new 46 (omega arith) refl)
+            (new_part false here (behind_expr here (behind_expr here here front) (mark (codes "."))) (name text) [] (name_new text a) tt)),
+        tt,
+        refl,
+        refl,
+        λ e. absurd (true≢false (sym e)),
+      ),
+  (refl, refl),
+  refl,
+)
+
+dotted_function : (front : Expr) (texts : List Bytes) → IsFunction front → AllByRecursion IsAttribute texts → IsFunction (dotted_behind front texts)
+dotted_function front [] f h = f
+dotted_function front (text ∷ texts) f h = dotted_function (node k.Dot (front ∷ mark (codes ".") ∷ name text ∷ [])) texts (dot_function front text f h.0) h.1
+
+names_function : (texts : List Bytes) → IsFull texts → AllByRecursion IsAttribute texts → IsFunction (dotted_from texts)
+names_function [] full h = absurd full
+names_function (text ∷ texts) full h = let n = name_new text h.0 in dotted_function (name text) texts (n.proper, (refl, refl), refl) h.1
+
+pub kind_function : (kind : Bytes) → IsKind kind → IsFunction (function_of kind)
+kind_function kind h = names_function (slice_split (λ byte. nat_eq byte full_stop) kind) (split_full kind) (kind_pieces kind h)
+
+call_new : (function argument : Expr) → IsFunction function → IsItem s.argument argument → IsNew (sequence k.Call (function ∷ []) (argument ∷ []))
+call_new function argument f a = record {
+  proper = λ here.
+      form_proper here (record { kind = k.Call; parts = function ∷ []; seq = record { items = argument ∷ []; end_ = []; split = false }; open_ = false; comments = no_comments })
+      (f.2, (refl, items_again s.argument s.close_round (r.mark 41) refl (argument ∷ []) (a, tt)))
+      ((f.0 here, f.1, tt), each_item s.argument s.close_round (r.mark 41) (argument ∷ []) (a, tt), All-nil IsComment, refl);
+  comments = refl;
+  breaks = refl;
+}
+
+name_coded : IsUtf8 (codes "name")
+unfolding lib.Utf8.encode
+name_coded = (codes "name", (refl, refl))
+
+pub made_rule : (kind word : Bytes) → IsKind kind → IsUtf8 word → IsProperItem (rule_made kind word)
+made_rule kind word h u =
+    let argument = argument_item (codes "name") (token c.String (quoted_of word)) (refl, name_coded) (string_value (quoted_of word) (quoted_string word u)) in
+    let call : Expr = sequence k.Call (function_of kind ∷ []) (argument_of (codes "name") (token c.String (quoted_of word)) ∷ []) in (
+      refl,
+      form_proper Begins (record { kind = k.Bare; parts = call ∷ []; seq = record { items = []; end_ = []; split = false }; open_ = false; comments = no_comments })
+          (refl, tt) (
+            new_part false Begins Begins call [] (call_new (function_of kind) (argument_of (codes "name") (token c.String (quoted_of word))) (kind_function kind h) argument) tt,
+            tt,
+            refl,
+            refl,
+            λ e. absurd (true≢false (sym e)),
+          ),
+      none_there,
+    )
+
+-- ---- sums
+
+-- what may stand in a sum
+abbrev IsOperand : Expr → Type 0
+IsOperand x = (ProperExpr Within x × (comments_of x ≡ no_comments) × (has_break x ≡ false)) × IsSort (s.level 2) (root x)
+
+tight_kind : (kind : Kind) → is_kind kind k.Sum ≡ false → nat_lt (rank k.Sum) (rank kind) ≡ false → s.has_kind s.test kind ≡ true → s.has_kind (s.level 2) kind ≡ true
+tight_kind k.Sum n t h = absurd (true≢false n)
+tight_kind k.Shift n t h = absurd (true≢false t)
+tight_kind k.BitAnd n t h = absurd (true≢false t)
+tight_kind k.Xor n t h = absurd (true≢false t)
+tight_kind k.BitOr n t h = absurd (true≢false t)
+tight_kind k.Compare n t h = absurd (true≢false t)
+tight_kind k.Not n t h = absurd (true≢false t)
+tight_kind k.And n t h = absurd (true≢false t)
+tight_kind k.Or n t h = absurd (true≢false t)
+tight_kind k.Cond n t h = absurd (true≢false t)
+tight_kind k.Row n t h = absurd (true≢false t)
+tight_kind _ n t h = h
+
+tight : (x : Expr) → has_kind k.Sum x ≡ false → binds_looser x ≡ false → IsSort s.test (root x) → IsSort (s.level 2) (root x)
+tight (Token t) n b h = h
+tight (Form' kind s parts s' items end_ split open_ comments) n b h = tight_kind kind n b h
+
+paren_operand : (x : Expr) → IsValue x → IsOperand (node k.Paren (mark (codes "(") ∷ x ∷ mark (codes ")") ∷ []))
+paren_operand x v = (
+  (
+    form_proper Within (record { kind = k.Paren; parts = mark (codes "(") ∷ x ∷ mark (codes ")") ∷ []; seq = record { items = []; end_ = []; split = false }; open_ = false; comments = no_comments })
+        (refl, (v.0.1, (refl, tt))) (
+          new_part false Within Within (mark (codes "(")) (x ∷ mark (codes ")") ∷ []) (mark_new 40 (omega arith) refl) (
+            v.0.0.0,
+            v.1,
+            λ b. absurd (true≢false (sym b ∙ v.0.0.2)),
+            new_part false Within (behind_expr Within Within x) (mark (codes ")")) [] (mark_new 41 (omega arith) refl) tt,
+          ),
+          tt,
+          refl,
+          refl,
+          λ e. absurd (true≢false (sym e)),
+        ),
+    refl,
+    refl,
+  ),
+  refl,
+)
+
+operand_proper : (x : Expr) → has_kind k.Sum x ≡ false → IsValue x → IsOperand (operand x)
+operand_proper x n v =
+    by_case IsOperand (binds_looser x) (node k.Paren (mark (codes "(") ∷ x ∷ mark (codes ")") ∷ [])) x
+    (λ b. paren_operand x v) (λ b. ((v.0.0.0, v.1, v.0.0.2), tight x n b v.0.1))
+
+-- `+` and a list behind an operand
+abbrev more_operands : List Expr → List Expr
+more_operands items = mark (codes "+") ∷ list_of items ∷ []
+
+more_parts : (outer here : Spot) (items : List Expr) → AreOf s.test items → AreParts true outer here (more_operands items)
+more_parts outer here items h =
+    new_part true outer here (mark (codes "+")) (list_of items ∷ []) (mark_new 43 (omega arith) refl)
+    (new_part true outer (behind_expr outer here (mark (codes "+"))) (list_of items) [] (list_new items h) tt)
+
+sum_value : (first : Expr) (items : List Expr) → IsOperand first → AreOf s.test items → IsValue (node k.Sum (first ∷ more_operands items))
+sum_value first items o h = (
+  (
+    (
+      form_proper Within (record { kind = k.Sum; parts = first ∷ more_operands items; seq = record { items = []; end_ = []; split = false }; open_ = false; comments = no_comments })
+          (o.1, (refl, (refl, tt))) (
+            (o.0.0, o.0.1, λ b. absurd (true≢false (sym b ∙ o.0.2)), more_parts Within (behind_expr Within Within first) items h),
+            tt,
+            refl,
+            refl,
+            λ e. absurd (true≢false (sym e)),
+          ),
+      none_there,
+      refl,
+    ),
+    refl,
+  ),
+  refl,
+)
+
+-- a sum with a further operand
+
+word_class : (class : Class) (text : Bytes) → s.is_one_of s.simple (record { class = class; gap = []; token = text }) ≡ true → is_sign class ≡ false
+word_class c.Mark text h = absurd (true≢false (sym h))
+word_class c.Keyword text h = absurd (true≢false (sym h))
+word_class _ text h = refl
+
+no_sign : (x : Expr) → IsSort (s.level 2) (root x) → is_operator x ≡ false
+no_sign (Token t) h = word_class t.class t.text h
+no_sign (Form' kind s parts s' items end_ split open_ comments) h = refl
+
+abbrev ends_operator : List Expr → Bool
+ends_operator [] = false
+ends_operator (x ∷ []) = is_operator x
+ends_operator (x ∷ y ∷ ys) = ends_operator (y ∷ ys)
+
+abbrev Operands : List Expr → Type 0
+Operands xs = Listed (IsSort (s.level 2)) s.sums false (Fits IsSort s.done) (map root xs)
+
+abbrev BehindOperand : List Expr → Type 0
+BehindOperand xs = Behind (IsSort (s.level 2)) s.sums false (Fits IsSort s.done) (map root xs)
+
+mutual
+  operands_more : (items xs : List Expr) → Operands xs → Operands (xs ++ more_operands items)
+  operands_more items [] h = absurd h
+  operands_more items (x ∷ xs) h = (h.0, behind_more items xs h.1)
+
+  behind_more : (items xs : List Expr) → BehindOperand xs → BehindOperand (xs ++ more_operands items)
+  behind_more items [] h = inr (refl, inl (refl, tt))
+  behind_more items (x ∷ xs) (inl h) = absurd h
+  behind_more items (x ∷ xs) (inr (t, inl h)) = inr (t, inl (operands_more items xs h))
+  behind_more items (x ∷ xs) (inr (t, inr h)) = absurd (true≢false (sym h.0))
+
+operands_end : (xs : List Expr) → Operands xs → ends_operator xs ≡ false
+operands_end [] h = refl
+operands_end (x ∷ []) h = no_sign x h.0
+operands_end (x ∷ y ∷ ys) (h, inl e) = absurd e
+operands_end (x ∷ y ∷ []) (h, inr (t, inl e)) = absurd e
+operands_end (x ∷ y ∷ z ∷ zs) (h, inr (t, inl e)) = operands_end (z ∷ zs) e
+operands_end (x ∷ y ∷ ys) (h, inr (t, inr e)) = absurd (true≢false (sym e.0))
+
+parts_more : (outer here : Spot) (items xs : List Expr) → AreOf s.test items → ends_operator xs ≡ false → AreParts true outer here xs → AreParts true outer here (xs ++ more_operands items)
+parts_more outer here items [] h n a = more_parts outer here items h
+parts_more outer here items (x ∷ []) h n a = (
+  a.0,
+  a.1,
+  λ b. absurd (true≢false (sym (a.2 b).0 ∙ ap (λ z. z && true) n)),
+  more_parts outer (behind_expr outer here x) items h,
+)
+parts_more outer here items (x ∷ y ∷ ys) h n a = (a.0, a.1, a.2, parts_more outer (behind_expr outer here x) items (y ∷ ys) h n a.3)
+
+sum_kept : (items : List Expr) → AreOf s.test items → KeepsRow k.Sum (λ parts. parts ++ more_operands items)
+sum_kept items h end_ split open_ [] xs g = absurd g.0
+sum_kept items h end_ split open_ (x ∷ []) xs g = absurd g.0.1
+sum_kept items h end_ split open_ (x ∷ y ∷ []) xs g = absurd g.0.1.1
+sum_kept items h end_ split open_ (x ∷ y ∷ z ∷ zs) xs g = (
+  (g.0.0, (g.0.1.0, operands_more items (z ∷ zs) g.0.1.1)),
+  (parts_more Within Within items (x ∷ y ∷ z ∷ zs) h (operands_end (z ∷ zs) g.0.1.1) g.1.0, g.1.1, g.1.2, g.1.3, g.1.4),
+)
+
+only_sum : (change : List Expr → List Expr) → KeepsRow k.Sum change → (kind : Kind) → is_kind kind k.Sum ≡ true → KeepsRow kind change
+only_sum change keeps k.Sum is = keeps
+only_sum change keeps _ is = absurd (true≢false (sym is))
+
+pub plus_value : (x : Expr) (items : List Expr) → IsValue x → AreOf s.test items → IsValue (plus x (list_of items))
+plus_value x items v h =
+    let change : List Expr → List Expr = λ parts. parts ++ more_operands items in
+    by_case IsValue (has_kind k.Sum x) (on_row k.Sum change x) (node k.Sum (operand x ∷ more_operands items))
+    (λ is. value_within x (on_row k.Sum change x) (row_within k.Sum change (only_sum change (sum_kept items h)) x) v)
+    (λ n. sum_value (operand x) items (operand_proper x n v) h)

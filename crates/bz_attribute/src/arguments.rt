@@ -1,0 +1,196 @@
+//! The arguments of a rule, changed. An attribute is a named argument; of several with one name the first is meant.
+ghost use Rattle.std.specs.Prelude.{◌≡◌, OnOk, None, Some, true, if◌then◌else◌};
+ghost use Rattle.std.specs.List.{position, slice_index_or};
+ghost use Rattle.bz_tree.specs.declared.kind.Kind.TheVariants as kinds;
+ghost use Rattle.bz_value.specs.declared.value.Expr.{Expr};
+ghost use Rattle.bz_value.specs.Gaps.{Bytes};
+ghost use Rattle.bz_rule.specs.Rules.{attribute, value_named};
+ghost use Rattle.bz_rule.specs.Values.{has_kind, on_third};
+ghost use Rattle.bz_attribute.specs.Attributes.{is_attribute, has_attribute, is_other_attribute, inserted, on_value, with_value, with_new, without, put};
+
+use crate::making::{argument_of, token};
+use bz_items::{Items, Memory, Text};
+use bz_rule::{attribute, value_named};
+use bz_tree::{Class, Kind};
+use bz_value::Expr;
+use std::alloc::Global;
+use std::mem;
+
+/// Whether the expression is a node of this kind.
+pub fn has_kind(kind: Kind, x: &Expr) -> bool
+    ensures { result ≡ has_kind kind x.now }
+{
+    match x {
+        Expr::Token(_) => false,
+        Expr::Form(form) => form.kind.number() == kind.number(),
+    }
+}
+
+/// Whether the expression is a named argument of this name.
+pub fn is_attribute(name: &[u8], x: &Expr) -> bool
+    ensures { result ≡ is_attribute name.now x.now }
+{
+    value_named(name, x).is_some()
+}
+
+/// Whether there is an attribute of this name.
+pub fn has_attribute(name: &[u8], arguments: &[Expr]) -> bool
+    ensures { result ≡ has_attribute name.now arguments.now }
+{
+    attribute(name, arguments).is_some()
+}
+
+/// Whether the expression is a named argument, but not `name`: what `*` means.
+pub fn is_other_attribute(x: &Expr) -> bool
+    ensures { result ≡ is_other_attribute x.now }
+{
+    has_kind(Kind::Named, x) && !is_attribute(b"name", x)
+}
+
+/// Where the first attribute of the name stands.
+pub fn place_of(name: &[u8], arguments: &[Expr]) -> Option<usize>
+    ensures { result ≡ position (is_attribute name.now) arguments.now }
+{
+    arguments.iter().position(|x| is_attribute(name, x))
+}
+
+/// Where the first starred argument stands.
+fn first_starred(arguments: &[Expr]) -> Option<usize>
+    ensures { result ≡ position (has_kind kinds.Star) arguments.now }
+{
+    arguments.iter().position(|x| has_kind(Kind::Star, x))
+}
+
+/// Exchanges an expression for the operand behind the sign.
+fn swap_third(other: &mut Expr, parts: &mut [Expr])
+    ensures parts { parts.new ≡ on_third (λ _. other.old) parts.old }
+    ensures other { other.new ≡ slice_index_or parts.old 2 other.old }
+{
+    if let [_, _, third, ..] = parts {
+        mem::swap(third, other);
+    }
+}
+
+/// Exchanges an expression for the value of a named argument.
+fn swap_value(alloc: Global, other: &mut Expr, argument: &mut Expr)
+    ensures argument { argument.new ≡ on_value (λ _. other.old) argument.old }
+    ensures other { (name : Bytes) → is_attribute name argument.old ≡ true → Some other.new ≡ value_named name argument.old }
+{
+    match argument {
+        Expr::Token(_) => {}
+        Expr::Form(form) => {
+            if form.kind == Kind::Named {
+                let mut parts = mem::replace(&mut form.parts, Items::new(alloc)).into_vec();
+                swap_third(other, parts.as_mut_slice());
+                form.parts = Items::from_vec(parts);
+            }
+        }
+    }
+}
+
+/// Exchanges an expression for the value of the first attribute of the name.
+fn swap_in(alloc: Global, name: &[u8], other: &mut Expr, arguments: &mut [Expr])
+    ensures arguments { arguments.new ≡ with_value name.now other.old arguments.old }
+    ensures other { has_attribute name.now arguments.old ≡ true → Some other.new ≡ attribute name.now arguments.old }
+{
+    if let Some(at) = place_of(name, arguments) {
+        swap_value(alloc, other, &mut arguments[at]);
+    }
+}
+
+/// The same for a list that can grow.
+fn swap_first(alloc: Global, name: &[u8], other: &mut Expr, arguments: &mut Items<Expr>)
+    ensures arguments { arguments.new ≡ with_value name.now other.old arguments.old }
+    ensures other { has_attribute name.now arguments.old ≡ true → Some other.new ≡ attribute name.now arguments.old }
+{
+    let mut all = mem::replace(arguments, Items::new(alloc)).into_vec();
+    swap_in(alloc, name, other, all.as_mut_slice());
+    *arguments = Items::from_vec(all);
+}
+
+/// Takes the value of the attribute out. What stands in its place until `set_value` puts a value there, or `remove_first`
+/// takes the attribute away, is of no matter.
+pub fn take_value(alloc: Global, name: &[u8], arguments: &mut Items<Expr>) -> Option<Expr>
+    ensures value { result ≡ attribute name.now arguments.old }
+    ensures place { (other : Expr) → with_value name.now other arguments.new ≡ with_value name.now other arguments.old }
+    ensures gone { without name.now arguments.new ≡ without name.now arguments.old }
+    ensures none { result ≡ None → arguments.new ≡ arguments.old }
+{
+    if !has_attribute(name, arguments.as_slice()) {
+        return None;
+    }
+    let mut value = token(Class::Name, Text::from_vec(Vec::new(alloc)));
+    swap_first(alloc, name, &mut value, arguments);
+    Some(value)
+}
+
+/// The value becomes the attribute's.
+pub fn set_value(alloc: Global, name: &[u8], value: Expr, arguments: &mut Items<Expr>)
+    ensures { arguments.new ≡ with_value name.now value arguments.old }
+{
+    let mut old = value;
+    swap_first(alloc, name, &mut old, arguments);
+}
+
+/// Puts an argument before the first starred one, else last.
+fn insert_argument(argument: Expr, arguments: &mut Vec<Expr>) -> Result<(), Memory>
+    ensures { OnOk result (arguments.new.items ≡ inserted argument arguments.old.items) }
+{
+    let at = match first_starred(arguments.as_slice()) {
+        Some(at) => at,
+        None => arguments.len(),
+    };
+    arguments.insert(at, argument)?;
+    Ok(())
+}
+
+/// A new attribute, before the first starred argument, else last.
+pub fn add_attribute(
+    alloc: Global,
+    name: &[u8],
+    value: Expr,
+    arguments: &mut Items<Expr>,
+) -> Result<(), Memory>
+    ensures { OnOk result (arguments.new ≡ with_new name.now value arguments.old) }
+{
+    let argument = argument_of(alloc, name, value)?;
+    let mut all = mem::replace(arguments, Items::new(alloc)).into_vec();
+    insert_argument(argument, &mut all)?;
+    *arguments = Items::from_vec(all);
+    Ok(())
+}
+
+/// Takes the first attribute of the name out of a list.
+fn remove_in(name: &[u8], arguments: &mut Vec<Expr>)
+    ensures { arguments.new.items ≡ without name.now arguments.old.items }
+{
+    if let Some(at) = place_of(name, arguments.as_slice()) {
+        let _gone = arguments.remove(at);
+    }
+}
+
+/// The first attribute of the name goes.
+pub fn remove_first(name: &[u8], arguments: &mut Items<Expr>)
+    ensures { arguments.new ≡ without name.now arguments.old }
+{
+    let alloc = arguments.alloc();
+    let mut all = mem::replace(arguments, Items::new(alloc)).into_vec();
+    remove_in(name, &mut all);
+    *arguments = Items::from_vec(all);
+}
+
+/// The value replaces the attribute's, or becomes it.
+pub fn put(
+    alloc: Global,
+    name: &[u8],
+    value: Expr,
+    arguments: &mut Items<Expr>,
+) -> Result<(), Memory>
+    ensures { OnOk result (arguments.new ≡ put name.now value arguments.old) }
+{
+    if has_attribute(name, arguments.as_slice()) {
+        set_value(alloc, name, value, arguments);
+        return Ok(());
+    }
+    add_attribute(alloc, name, value, arguments)
+}

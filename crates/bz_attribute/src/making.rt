@@ -1,0 +1,281 @@
+//! New parts of a file value: no comments, no sequence split, no break.
+ghost use Rattle.std.specs.Prelude.{◌≡◌, IfOk, [], ◌∷◌, ◌++◌, nat_eq, nat_lt, codes, position, length, ◌<◌, IfSome};
+ghost use Rattle.std.specs.List.{slice_split};
+ghost use Rattle.std.specs.Option.{option_map_or};
+ghost use Rattle.bz_tree.specs.declared.kind.Kind.TheVariants as k;
+ghost use Rattle.bz_tree.specs.Shapes.{rank};
+ghost use Rattle.bz_rule.specs.Characters.{full_stop};
+ghost use Rattle.bz_rule.specs.Values.{with_text};
+ghost use Rattle.bz_attribute.specs.Made.{token, node, sequence, name, mark, shortened_in, string_text, string_of, list_of, binds_looser, operand, plus, function_of, argument_of, rule_made};
+
+use bz_items::{Items, Memory, Text};
+use bz_label::bytes::{is_label_attribute, shortened};
+use bz_tree::{Class, Kind};
+use bz_value::{Comments, Expr, Form, Item, Seq, Token};
+use bz_words::quoted;
+use std::alloc::Global;
+
+/// A token of this class and text.
+pub fn token(class: Class, text: Text) -> Expr
+    ensures { result ≡ token class text }
+{
+    Expr::Token(Token {
+        class,
+        text,
+        break_: false,
+        comments: Comments::none(),
+    })
+}
+
+/// A node with a sequence behind these parts.
+fn sequence(alloc: Global, kind: Kind, parts: Items<Expr>, items: Items<Expr>) -> Expr
+    ensures { result ≡ sequence kind parts items }
+{
+    Expr::Form(Form {
+        kind,
+        parts,
+        seq: Seq {
+            items,
+            end_: Items::new(alloc),
+            split: false,
+        },
+        open_: false,
+        comments: Comments::none(),
+    })
+}
+
+/// A node of a row of parts.
+fn node(alloc: Global, kind: Kind, parts: Items<Expr>) -> Expr
+    ensures { result ≡ node kind parts }
+{
+    sequence(alloc, kind, parts, Items::new(alloc))
+}
+
+/// A name of this text.
+fn name(alloc: Global, text: &[u8]) -> Result<Expr, Memory>
+    ensures { IfOk result (λ x. x ≡ name text.now) }
+{
+    let text = Text::from_slice(alloc, text)?;
+    Ok(token(Class::Name, text))
+}
+
+/// A mark of this text.
+fn mark(alloc: Global, text: &[u8]) -> Result<Expr, Memory>
+    ensures { IfOk result (λ x. x ≡ mark text.now) }
+{
+    let text = Text::from_slice(alloc, text)?;
+    Ok(token(Class::Mark, text))
+}
+
+/// A list of this one.
+fn alone(alloc: Global, x: Expr) -> Result<Items<Expr>, Memory>
+    ensures { IfOk result (λ row. row ≡ x ∷ []) }
+{
+    let row = Vec::from_array(alloc, [x])?;
+    Ok(Items::from_vec(row))
+}
+
+/// The row of these three.
+fn row(alloc: Global, left: Expr, middle: Expr, right: Expr) -> Result<Items<Expr>, Memory>
+    ensures { IfOk result (λ row. row ≡ left ∷ middle ∷ right ∷ []) }
+{
+    let row = Vec::from_array(alloc, [left, middle, right])?;
+    Ok(Items::from_vec(row))
+}
+
+/// The word as it is put into an attribute: shortened where that is a label attribute.
+fn shortened_in<'a>(current: &[u8], attribute: &[u8], word: &'a [u8]) -> &'a [u8]
+    ensures { result.now ≡ shortened_in current.now attribute.now word.entry.now }
+{
+    if is_label_attribute(attribute) {
+        shortened(current, word)
+    } else {
+        word
+    }
+}
+
+/// The string that a word becomes in an attribute.
+pub fn string_text(
+    alloc: Global,
+    current: &[u8],
+    attribute: &[u8],
+    word: &[u8],
+) -> Result<Text, Memory>
+    ensures { IfOk result (λ text. text ≡ string_text current.now attribute.now word.now) }
+{
+    let text = quoted(alloc, shortened_in(current, attribute, word))?;
+    Ok(text)
+}
+
+/// The same, as an expression.
+pub fn string_of(
+    alloc: Global,
+    current: &[u8],
+    attribute: &[u8],
+    word: &[u8],
+) -> Result<Expr, Memory>
+    ensures { IfOk result (λ x. x ≡ string_of current.now attribute.now word.now) }
+{
+    let text = string_text(alloc, current, attribute, word)?;
+    Ok(token(Class::String, text))
+}
+
+/// A token gets another text; a form stays.
+pub fn set_text(text: Text, x: &mut Expr)
+    ensures { x.new ≡ with_text text x.old }
+{
+    match x {
+        Expr::Token(token) => token.text = text,
+        Expr::Form(_) => {}
+    }
+}
+
+/// A list of these items.
+pub fn list_of(alloc: Global, items: Items<Expr>) -> Expr
+    ensures { result ≡ list_of items }
+{
+    sequence(alloc, Kind::List, Items::new(alloc), items)
+}
+
+/// Whether expressions of this kind bind looser than a sum.
+fn is_looser(kind: Kind) -> bool
+    ensures { result ≡ nat_lt (rank k.Sum) (rank kind) }
+{
+    match kind {
+        Kind::Shift
+        | Kind::BitAnd
+        | Kind::Xor
+        | Kind::BitOr
+        | Kind::Compare
+        | Kind::Not
+        | Kind::And
+        | Kind::Or
+        | Kind::Cond
+        | Kind::Row => true,
+        _ => false,
+    }
+}
+
+/// Whether the expression binds looser than a sum.
+fn binds_looser(x: &Expr) -> bool
+    ensures { result ≡ binds_looser x.now }
+{
+    match x {
+        Expr::Token(_) => false,
+        Expr::Form(form) => is_looser(form.kind),
+    }
+}
+
+/// The expression between brackets.
+fn bracketed(alloc: Global, x: Expr) -> Result<Expr, Memory>
+    ensures { IfOk result (λ y. y ≡ node k.Paren (mark (codes "(") ∷ x ∷ mark (codes ")") ∷ [])) }
+{
+    let parts = row(alloc, mark(alloc, b"(")?, x, mark(alloc, b")")?)?;
+    Ok(node(alloc, Kind::Paren, parts))
+}
+
+/// The expression as an operand of a sum: between brackets where it binds looser.
+fn operand(alloc: Global, x: Expr) -> Result<Expr, Memory>
+    ensures { IfOk result (λ y. y ≡ operand x) }
+{
+    if binds_looser(&x) {
+        return bracketed(alloc, x);
+    }
+    Ok(x)
+}
+
+/// The sum of a value that is no sum and a list.
+fn sum_of(alloc: Global, value: Expr, list: Expr) -> Result<Expr, Memory>
+    ensures { IfOk result (λ x. x ≡ node k.Sum (operand value ∷ mark (codes "+") ∷ list ∷ [])) }
+{
+    let parts = row(alloc, operand(alloc, value)?, mark(alloc, b"+")?, list)?;
+    Ok(node(alloc, Kind::Sum, parts))
+}
+
+/// A sum with a further operand behind a sign.
+fn with_operand(mut sum: Form, sign: Expr, value: Expr) -> Result<Form, Memory>
+    ensures { IfOk result (λ more. more ≡ record sum { parts = sum.parts ++ sign ∷ value ∷ [] }) }
+{
+    sum.parts.push(sign)?;
+    sum.parts.push(value)?;
+    Ok(sum)
+}
+
+/// A value and a list: a sum takes the list as a further operand.
+#[tactic(auto, using(crate::proofs::MakingSums::plus_Form))]
+pub fn plus(alloc: Global, value: Expr, list: Expr) -> Result<Expr, Memory>
+    ensures { IfOk result (λ x. x ≡ plus value list) }
+{
+    match value {
+        Expr::Token(token) => sum_of(alloc, Expr::Token(token), list),
+        Expr::Form(form) => {
+            if form.kind != Kind::Sum {
+                return sum_of(alloc, Expr::Form(form), list);
+            }
+            let sign = mark(alloc, b"+")?;
+            let sum = with_operand(form, sign, list)?;
+            Ok(Expr::Form(sum))
+        }
+    }
+}
+
+/// Where the first dot stands.
+fn dot_place(text: &[u8]) -> Option<usize>
+    ensures { result ≡ position (λ byte. nat_eq byte full_stop) text.now }
+{
+    text.iter().position(|byte| *byte == b'.')
+}
+
+/// What stands before the first dot, and what stands behind it.
+fn cut(text: &[u8]) -> (&[u8], Option<&[u8]>)
+    ensures pieces { slice_split (λ byte. nat_eq byte full_stop) text.now
+        ≡ result.0.now ∷ option_map_or (λ rest. slice_split (λ byte. nat_eq byte full_stop) rest.now) result.1 [] }
+    ensures shorter { IfSome result.1 (λ rest. length rest.now < length text.now) }
+{
+    match dot_place(text) {
+        Some(at) => (&text[..at], Some(&text[at + 1..])),
+        None => (text, None),
+    }
+}
+
+/// A name behind a dot.
+fn dotted(alloc: Global, front: Expr, text: &[u8]) -> Result<Expr, Memory>
+    ensures { IfOk result (λ x. x ≡ node k.Dot (front ∷ mark (codes ".") ∷ name text.now ∷ [])) }
+{
+    let parts = row(alloc, front, mark(alloc, b".")?, name(alloc, text)?)?;
+    Ok(node(alloc, Kind::Dot, parts))
+}
+
+/// The function of a call, by a kind: names joined by dots.
+pub fn function_of(alloc: Global, kind: &[u8]) -> Result<Expr, Memory>
+    ensures { IfOk result (λ x. x ≡ function_of kind.now) }
+{
+    let (first, mut rest) = cut(kind);
+    let mut function = name(alloc, first)?;
+    while let Some(text) = rest {
+        let (piece, behind) = cut(text);
+        function = dotted(alloc, function, piece)?;
+        rest = behind;
+    }
+    Ok(function)
+}
+
+/// `attribute = value`.
+pub fn argument_of(alloc: Global, attribute: &[u8], value: Expr) -> Result<Expr, Memory>
+    ensures { IfOk result (λ x. x ≡ argument_of attribute.now value) }
+{
+    let parts = row(alloc, name(alloc, attribute)?, mark(alloc, b"=")?, value)?;
+    Ok(node(alloc, Kind::Named, parts))
+}
+
+/// `kind(name = "word")`.
+pub fn rule_made(alloc: Global, kind: &[u8], word: &[u8]) -> Result<Item, Memory>
+    ensures { IfOk result (λ item. item ≡ rule_made kind.now word.now) }
+{
+    let text = quoted(alloc, word)?;
+    let argument = argument_of(alloc, b"name", token(Class::String, text))?;
+    let function = alone(alloc, function_of(alloc, kind)?)?;
+    let call = sequence(alloc, Kind::Call, function, alone(alloc, argument)?);
+    let statement = node(alloc, Kind::Bare, alone(alloc, call)?);
+    Ok(Item::Stmt(statement))
+}

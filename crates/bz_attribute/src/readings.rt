@@ -1,0 +1,125 @@
+//! Readings of values: whether they are lists, and the bodies of plain strings.
+ghost use Rattle.std.specs.Prelude.{◌≡◌};
+ghost use Rattle.std.specs.List.{list_any};
+ghost use Rattle.std.specs.Option.{option_copied};
+ghost use Rattle.bz_tree.specs.declared.kind.Kind.TheVariants as kinds;
+ghost use Rattle.bz_rule.specs.Values.{has_kind as is_of, has_class as is_in, first_text as first, parts_of as parts, items_of as items, text_of as text};
+ghost use Rattle.bz_attribute.specs.Lists.{has_lists as has_any, is_no_list as is_none, is_empty_list as is_empty, body_of as plain, are_one, is_item as item};
+
+use crate::arguments::has_kind;
+use bz_label::bytes::{is_label_attribute, same};
+use bz_rule::{body, text_in};
+use bz_tree::{Class, Kind};
+use bz_value::Expr;
+
+/// Whether the expression is a token of this class.
+fn has_class(class: Class, x: &Expr) -> bool
+    ensures { result ≡ is_in class x.now }
+{
+    match x {
+        Expr::Token(token) => token.class.number() == class.number(),
+        Expr::Form(_) => false,
+    }
+}
+
+/// The text of a token; of a form none.
+fn text_of(x: &Expr) -> &[u8]
+    ensures { result.now ≡ text x.now }
+{
+    match x {
+        Expr::Token(token) => token.text.as_slice(),
+        Expr::Form(_) => &[],
+    }
+}
+
+/// The text of the first part: of a named argument, its name.
+pub fn first_text(parts: &[Expr]) -> &[u8]
+    ensures { result.now ≡ first parts.now }
+{
+    match parts {
+        [] => &[],
+        [first, ..] => text_of(first),
+    }
+}
+
+/// The row of a node.
+pub fn parts_of(x: &Expr) -> &[Expr]
+    ensures { result.now ≡ parts x.now }
+{
+    match x {
+        Expr::Token(_) => &[],
+        Expr::Form(form) => form.parts.as_slice(),
+    }
+}
+
+/// The items of a sequence.
+pub fn items_of(x: &Expr) -> &[Expr]
+    ensures { result.now ≡ items x.now }
+{
+    match x {
+        Expr::Token(_) => &[],
+        Expr::Form(form) => form.seq.items.as_slice(),
+    }
+}
+
+/// Whether one of the operands of a sum is a list.
+fn is_any_list(operands: &[Expr]) -> bool
+    ensures { result ≡ list_any (is_of kinds.List) operands.now }
+{
+    operands.iter().any(|x| has_kind(Kind::List, x))
+}
+
+/// Whether the value is a list, or a sum with one.
+#[tactic(auto, using(crate::proofs::ListsThere::lists_there))]
+pub fn has_lists(value: &Expr) -> bool
+    ensures { result ≡ has_any value.now }
+{
+    has_kind(Kind::List, value) || (has_kind(Kind::Sum, value) && is_any_list(parts_of(value)))
+}
+
+/// Whether the value can't be taken as a list.
+pub fn is_no_list(value: &Expr) -> bool
+    ensures { result ≡ is_none value.now }
+{
+    has_class(Class::String, value)
+        || has_class(Class::Number, value)
+        || has_kind(Kind::Dict, value)
+}
+
+/// Whether the value is a list without items.
+pub fn is_empty_list(value: &Expr) -> bool
+    ensures { result ≡ is_empty value.now }
+{
+    has_kind(Kind::List, value) && items_of(value).is_empty()
+}
+
+/// The body of a plain string.
+pub fn body_of(x: &Expr) -> Option<&[u8]>
+    ensures { option_copied result ≡ plain x.now }
+{
+    let Some(text) = text_in(Class::String, x) else {
+        return None;
+    };
+    body(text)
+}
+
+/// Whether two words mean one value of the attribute.
+fn are_one(current: &[u8], attribute: &[u8], word: &[u8], other: &[u8]) -> bool
+    ensures { result ≡ are_one current.now attribute.now word.now other.now }
+{
+    if is_label_attribute(attribute) {
+        same(current, word, other)
+    } else {
+        word == other
+    }
+}
+
+/// Whether the value is an item: a plain string that means the same.
+pub fn is_item(current: &[u8], attribute: &[u8], word: &[u8], x: &Expr) -> bool
+    ensures { result ≡ item current.now attribute.now word.now x.now }
+{
+    match body_of(x) {
+        Some(other) => are_one(current, attribute, word, other),
+        None => false,
+    }
+}

@@ -1,0 +1,107 @@
+-- Renaming an attribute there and back.
+use Rattle.std.proofs.Common.{◌≡◌, Bool, true, false, not, ◌||◌, List, [], ◌∷◌, Option, Some, None, Ok, Err, inl, inr, refl, sym, ap, ◌∙◌, true≢false}
+use Rattle.std.specs.Prelude.{if◌then◌else◌, is_some}
+use Rattle.std.proofs.lemmas.Bool.{cases_Bool, or_parts}
+use Rattle.std.proofs.lemmas.Slice.Eq.{bytes_eq-Decides}
+use Rattle.bz_token.specs.declared.class.Class.TheVariants as c
+use Rattle.bz_tree.specs.declared.kind.Kind.TheVariants as k
+use Rattle.bz_tree.specs.Shapes.{is_class}
+use Rattle.bz_value.specs.declared.value.Expr.{Expr, Token, Form'}
+use Rattle.bz_value.specs.declared.value.Expr.TheVariants as e
+use Rattle.bz_value.specs.Gaps.{Bytes}
+use Rattle.bz_rule.specs.Rules.{text_in, is_text, value_behind}
+use Rattle.bz_rule.specs.Values.{parts_of, with_parts, with_text, on_row, on_first}
+use Rattle.bz_attribute.specs.Attributes.{is_attribute, has_attribute, on_first_that}
+use Rattle.bz_attribute.specs.Attributes.{Arguments}
+use Rattle.bz_attribute.proofs.FormsAgain.{if_true, if_false, some_if, own_parts, row_twice, attribute_parts, value_changed, attribute_first}
+use Rattle.bz_change.specs.Laws.{RenamedBack}
+use Rattle.bz_attribute.specs.declared.refusal.Refusal.TheVariants.{NoAttribute, AttributeExists}
+
+-- ---- the name of an argument
+
+text_if : (b : Bool) (text other : Bytes) → is_text text (if b then Some other else None) ≡ true → (b ≡ true) × (other ≡ text)
+text_if true text other h = (refl, (bytes_eq-Decides other text).0 h)
+text_if false text other h = absurd (true≢false (sym h))
+
+own_text : (b : Bool) (text : Bytes) → b ≡ true → is_text text (if b then Some text else None) ≡ true
+own_text true text h = (bytes_eq-Decides text text).1 refl
+own_text false text h = absurd (true≢false (sym h))
+
+name_back : (from to : Bytes) (x : Expr) → is_text from (text_in c.Name x) ≡ true → with_text from (with_text to x) ≡ x
+name_back from to (Token t) h = ap (λ (text : Bytes). e.Token (record t { text = text })) (sym (text_if (is_class t.class c.Name) from t.text h).1)
+name_back from to (Form' own s parts s' items end_ split open_ comments) h = absurd (true≢false (sym h))
+
+name_found : (from to : Bytes) (x : Expr) → is_text from (text_in c.Name x) ≡ true → is_text to (text_in c.Name (with_text to x)) ≡ true
+name_found from to (Token t) h = own_text (is_class t.class c.Name) to (text_if (is_class t.class c.Name) from t.text h).0
+name_found from to (Form' own s parts s' items end_ split open_ comments) h = absurd (true≢false (sym h))
+
+-- ---- an argument
+
+abbrev renamed : Bytes → Expr → Expr
+renamed text = on_row k.Named (on_first (with_text text))
+
+parts_back : (from to : Bytes) (ps : List Expr) → is_some (value_behind from ps) ≡ true
+    → (on_first (with_text from) (on_first (with_text to) ps) ≡ ps) × (is_some (value_behind to (on_first (with_text to) ps)) ≡ true)
+parts_back from to [] h = absurd (true≢false (sym h))
+parts_back from to (x ∷ []) h = absurd (true≢false (sym h))
+parts_back from to (x ∷ y ∷ []) h = absurd (true≢false (sym h))
+parts_back from to (x ∷ y ∷ v ∷ []) h =
+    let named : is_text from (text_in c.Name x) ≡ true = (some_if (is_text from (text_in c.Name x)) (Some v) h).0 in
+    (ap (λ z. z ∷ y ∷ v ∷ []) (name_back from to x named), ap (λ (b : Bool). is_some (if b then Some v else None)) (name_found from to x named))
+parts_back from to (x ∷ y ∷ v ∷ w ∷ rest) h = absurd (true≢false (sym h))
+
+argument_back : (from to : Bytes) (x : Expr) → is_attribute from x ≡ true → (renamed from (renamed to x) ≡ x) × (is_attribute to (renamed to x) ≡ true)
+argument_back from to x h =
+    let p = attribute_parts from x h in
+    let b = parts_back from to (parts_of x) p.1 in (
+      row_twice k.Named (on_first (with_text from)) (on_first (with_text to)) x p.0 ∙ (ap (λ ps. with_parts ps x) b.0 ∙ own_parts x),
+      ap (λ (found : Option Expr). is_some found) (value_changed to (on_first (with_text to)) x p.0) ∙ b.1,
+    )
+
+-- ---- the arguments
+
+list_back : (from to : Bytes) (xs : List Expr) → has_attribute from xs ≡ true → has_attribute to xs ≡ false
+    → (on_first_that (is_attribute to) (renamed from) (on_first_that (is_attribute from) (renamed to) xs) ≡ xs) × (has_attribute to (on_first_that (is_attribute from) (renamed to) xs) ≡ true)
+list_back from to [] h n = absurd (true≢false (sym h))
+list_back from to (x ∷ xs) h n = elim (cases_Bool (is_attribute from x)) [
+  | inl w ↦
+      let b : (renamed from (renamed to x) ≡ x) × (is_attribute to (renamed to x) ≡ true) = argument_back from to x w in
+      let first : on_first_that (is_attribute from) (renamed to) (x ∷ xs) ≡ renamed to x ∷ xs =
+      if_true (is_attribute from x) (renamed to x ∷ xs) (x ∷ on_first_that (is_attribute from) (renamed to) xs) w in (
+        ap (on_first_that (is_attribute to) (renamed from)) first
+            ∙ (if_true (is_attribute to (renamed to x)) (renamed from (renamed to x) ∷ xs) (renamed to x ∷ on_first_that (is_attribute to) (renamed from) xs) b.1 ∙ ap (λ z. z ∷ xs) b.0),
+        ap (has_attribute to) first ∙ (attribute_first to (renamed to x) xs ∙ ap (λ t. t || has_attribute to xs) b.1),
+      )
+  | inr w ↦
+      let rest : List Expr = on_first_that (is_attribute from) (renamed to) xs in
+      let none : (is_attribute to x ≡ false) × (has_attribute to xs ≡ false) = or_parts (is_attribute to x) (has_attribute to xs) (sym (attribute_first to x xs) ∙ n) in
+      let later : has_attribute from xs ≡ true = sym (ap (λ t. t || has_attribute from xs) w) ∙ (sym (attribute_first from x xs) ∙ h) in
+      let b : (on_first_that (is_attribute to) (renamed from) rest ≡ xs) × (has_attribute to rest ≡ true) = list_back from to xs later none.1 in
+      let behind : on_first_that (is_attribute from) (renamed to) (x ∷ xs) ≡ x ∷ rest = if_false (is_attribute from x) (renamed to x ∷ xs) (x ∷ rest) w in (
+        ap (on_first_that (is_attribute to) (renamed from)) behind
+            ∙ (if_false (is_attribute to x) (renamed from x ∷ rest) (x ∷ on_first_that (is_attribute to) (renamed from) rest) none.0 ∙ ap (λ zs. x ∷ zs) b.0),
+        ap (has_attribute to) behind ∙ (attribute_first to x rest ∙ (ap (λ t. t || has_attribute to rest) none.0 ∙ b.1)),
+      )
+]
+
+-- renaming by its two tests
+abbrev tested : Bool → Bool → List Expr → Arguments
+tested there taken made = if not there then Err NoAttribute else (if taken then Err AttributeExists else Ok made)
+
+not_refused : (there taken : Bool) (made new : List Expr) → tested there taken made ≡ Ok new → (there ≡ true) × (taken ≡ false) × (made ≡ new)
+not_refused true false made new e = (refl, refl, cc)
+not_refused true true made new e = cc
+not_refused false taken made new e = cc
+
+accepted : (there taken : Bool) (made : List Expr) → there ≡ true → taken ≡ false → tested there taken made ≡ Ok made
+accepted true false made h n = refl
+accepted true true made h n = absurd (true≢false n)
+accepted false taken made h n = absurd (true≢false (sym h))
+
+pub renamed_back : RenamedBack
+renamed_back from to xs new e n =
+    let made : List Expr = on_first_that (is_attribute from) (renamed to) xs in
+    let p : (has_attribute from xs ≡ true) × (has_attribute to xs ≡ false) × (made ≡ new) = not_refused (has_attribute from xs) (has_attribute to xs) made new e in
+    let b = list_back from to xs p.0 p.1 in
+    accepted (has_attribute to new) (has_attribute from new) (on_first_that (is_attribute to) (renamed from) new) (sym (ap (has_attribute to) p.2) ∙ b.1) n
+    ∙ ap Ok (sym (ap (on_first_that (is_attribute to) (renamed from)) p.2) ∙ b.0)

@@ -1,0 +1,100 @@
+-- A word put into an attribute and what it means there: its string means the same, and meaning the same carries on.
+use Rattle.std.proofs.Common.{◌≡◌, Bool, true, false, ◌&&◌, ◌||◌, [], ◌∷◌, ◌++◌, Option, Some, None, inl, inr, refl, sym, ap, ◌∙◌, subst, codes, true≢false}
+use Rattle.std.specs.Prelude.{if◌then◌else◌, bytes_eq}
+use Rattle.std.specs.List.{list_any}
+use Rattle.std.specs.Option.{option_map_or}
+use Rattle.std.proofs.lemmas.Bool.{and_parts, and_from, or_parts, or_cases, or_right}
+use Rattle.std.proofs.lemmas.Slice.Eq.{bytes_eq-Decides}
+use Rattle.bz_label.specs.declared.label.Label.{Label}
+use Rattle.bz_label.specs.Pieces.{is_colon}
+use Rattle.bz_label.specs.Read.{are_equal, label_in, is_same, is_own, shortened}
+use Rattle.bz_label.specs.Shorter.{before_colon, behind_colon, is_repeated, unrepeated}
+use Rattle.bz_label.specs.Tables.{is_label_attribute}
+use Rattle.bz_label.proofs.LabelFunctions.{same_exactly, is_shortened}
+use Rattle.bz_label.proofs.Shorter.{shortened_same}
+use Rattle.bz_value.specs.declared.value.Expr.{Expr}
+use Rattle.bz_value.specs.Gaps.{Bytes}
+use Rattle.bz_words.specs.Quoted.{is_escaped}
+use Rattle.bz_attribute.specs.Lists.{body_of, are_one, is_item}
+use Rattle.bz_attribute.specs.Made.{shortened_in, string_of}
+use Rattle.bz_rule.proofs.ProperChanges.{by_test}
+use Rattle.bz_attribute.proofs.PlainWords.{IsPlain, equal_self, body_quoted}
+use Rattle.bz_attribute.proofs.FormsAgain.{both}
+
+-- ---- a shorter label of a plain word
+
+before_plain : (text : Bytes) → IsPlain text → IsPlain (before_colon text)
+before_plain [] h = refl
+before_plain (byte ∷ text) h =
+    let p = or_parts (is_escaped byte) (list_any is_escaped text) h in
+    by_test IsPlain (is_colon byte) [] (byte ∷ before_colon text) refl (both (λ x y. x || y) p.0 (before_plain text p.1))
+
+behind_plain : (text : Bytes) → IsPlain text → IsPlain (behind_colon text)
+behind_plain [] h = refl
+behind_plain (byte ∷ text) h =
+    let p = or_parts (is_escaped byte) (list_any is_escaped text) h in
+    by_test IsPlain (is_colon byte) text (behind_colon text) p.1 (behind_plain text p.1)
+
+unrepeated_plain : (text : Bytes) → IsPlain text → IsPlain (unrepeated text)
+unrepeated_plain text h = by_test IsPlain (is_repeated (before_colon text) (behind_colon text)) (before_colon text) text (before_plain text h) h
+
+shortened_plain : (current text : Bytes) → IsPlain text → IsPlain (shortened current text)
+shortened_plain current text h =
+    by_test IsPlain (is_own current text) (codes ":" ++ behind_colon text) (unrepeated text) (behind_plain text h) (unrepeated_plain text h)
+
+word_plain : (current attribute word : Bytes) → IsPlain word → IsPlain (shortened_in current attribute word)
+word_plain current attribute word h = by_test IsPlain (is_label_attribute attribute) (shortened current word) word (shortened_plain current word h) h
+
+-- ---- what a word means
+
+shorter_is_one : (label : Bool) (current word : Bytes)
+    → (if label then is_same current word (if label then shortened current word else word) else bytes_eq word (if label then shortened current word else word)) ≡ true
+shorter_is_one true current word = (same_exactly current word (shortened current word)).1 (shortened_same current word (shortened current word) (is_shortened current word))
+shorter_is_one false current word = equal_self word
+
+-- the string that a plain word becomes is the item that the word means
+pub word_is_item : (current attribute word : Bytes) → IsPlain word → is_item current attribute word (string_of current attribute word) ≡ true
+word_is_item current attribute word h =
+    let short : Bytes = shortened_in current attribute word in
+    ap (λ (found : Option Bytes). option_map_or (are_one current attribute word) found false) (body_quoted short (word_plain current attribute word h))
+    ∙ shorter_is_one (is_label_attribute attribute) current word
+
+equal_on : (one two three : Bytes) → bytes_eq one two ≡ true → bytes_eq two three ≡ true → bytes_eq one three ≡ true
+equal_on one two three h i = subst (λ z. bytes_eq one z ≡ true) ((bytes_eq-Decides two three).0 i) h
+
+labels_on : (one two three : Option Label) → are_equal one two ≡ true → are_equal two three ≡ true → are_equal one three ≡ true
+labels_on (Some one) (Some two) (Some three) h i =
+    let p = and_parts (bytes_eq one.repository two.repository && bytes_eq one.package two.package) (bytes_eq one.name two.name) h in
+    let p' = and_parts (bytes_eq one.repository two.repository) (bytes_eq one.package two.package) p.0 in
+    let q = and_parts (bytes_eq two.repository three.repository && bytes_eq two.package three.package) (bytes_eq two.name three.name) i in
+    let q' = and_parts (bytes_eq two.repository three.repository) (bytes_eq two.package three.package) q.0 in
+    and_from (bytes_eq one.repository three.repository && bytes_eq one.package three.package) (bytes_eq one.name three.name)
+    (and_from (bytes_eq one.repository three.repository) (bytes_eq one.package three.package)
+    (equal_on one.repository two.repository three.repository p'.0 q'.0) (equal_on one.package two.package three.package p'.1 q'.1))
+    (equal_on one.name two.name three.name p.1 q.1)
+labels_on None two three h i = absurd (true≢false (sym h))
+labels_on (Some one) None three h i = absurd (true≢false (sym h))
+labels_on (Some one) (Some two) None h i = absurd (true≢false (sym i))
+
+same_on : (current one two three : Bytes) → is_same current one two ≡ true → is_same current two three ≡ true → is_same current one three ≡ true
+same_on current one two three h i = elim (or_cases (bytes_eq one two) (are_equal (label_in current one) (label_in current two)) h) [
+  | inl e ↦ subst (λ z. is_same current z three ≡ true) (sym ((bytes_eq-Decides one two).0 e)) i
+  | inr l ↦ elim (or_cases (bytes_eq two three) (are_equal (label_in current two) (label_in current three)) i) [
+    | inl e ↦ subst (λ z. is_same current one z ≡ true) ((bytes_eq-Decides two three).0 e) h
+    | inr m ↦ or_right (bytes_eq one three) (are_equal (label_in current one) (label_in current three)) (labels_on (label_in current one) (label_in current two) (label_in current three) l m)
+  ]
+]
+
+one_on : (label : Bool) (current one two three : Bytes) → (if label then is_same current one two else bytes_eq one two) ≡ true → (if label then is_same current two three else bytes_eq two three) ≡ true
+    → (if label then is_same current one three else bytes_eq one three) ≡ true
+one_on true current one two three h i = same_on current one two three h i
+one_on false current one two three h i = equal_on one two three h i
+
+body_on : (current attribute word other : Bytes) → are_one current attribute word other ≡ true → (found : Option Bytes) → option_map_or (are_one current attribute other) found false ≡ true
+    → option_map_or (are_one current attribute word) found false ≡ true
+body_on current attribute word other h None i = i
+body_on current attribute word other h (Some text) i = one_on (is_label_attribute attribute) current word other text h i
+
+-- what a word that means the same as another means is what the other means
+pub item_on : (current attribute word other : Bytes) → are_one current attribute word other ≡ true → (x : Expr) → is_item current attribute other x ≡ true → is_item current attribute word x ≡ true
+item_on current attribute word other h x i = body_on current attribute word other h (body_of x) i

@@ -1,0 +1,210 @@
+-- Lists of values with further items, with fewer and with other ones, and what is set.
+use Rattle.std.proofs.Common.{◌≡◌, Bool, true, false, not, ◌&&◌, ◌||◌, List, [], ◌∷◌, ◌++◌, inl, inr, refl, sym, subst, map, true≢false}
+use Rattle.std.specs.Prelude.{IsUtf8, IfSome, Option, Some, None, if◌then◌else◌, codes, bytes_eq, nat_lt, length}
+use Rattle.std.specs.List.{AllByRecursion, filter, flat_map, list_any}
+use Rattle.std.specs.Option.{option_and_then, option_map_or}
+use Rattle.std.specs.Char.{is_ascii_digit}
+use Rattle.std.specs.Str.{all_ascii_digits}
+use Rattle.std.proofs.lemmas.Bool.{and_parts, or_cases}
+use Rattle.std.proofs.lemmas.Slice.Eq.{bytes_eq-Decides}
+use Rattle.bz_token.specs.declared.class.Class.{Class}
+use Rattle.bz_token.specs.declared.class.Class.TheVariants as c
+use Rattle.bz_token.specs.Bytes.{is_digit}
+use Rattle.bz_token.specs.Lexemes.{IsLexeme, IsDigits, Each, whole}
+use Rattle.bz_tree.specs.declared.kind.Kind.{Kind}
+use Rattle.bz_tree.specs.declared.kind.Kind.TheVariants as k
+use Rattle.bz_tree.specs.Shapes as s
+use Rattle.bz_tree.specs.Shapes.{is_class, is_kind}
+use Rattle.bz_tree.specs.Spots.{Spot, Within}
+use Rattle.bz_label.specs.Tables.{is_label_attribute, is_list_attribute}
+use Rattle.bz_label.specs.Read.{shortened}
+use Rattle.bz_value.specs.declared.value.Expr.{Expr, Token, Form', items-the_row-Expr}
+use Rattle.bz_value.specs.declared.value.Expr.TheVariants as e
+use Rattle.bz_value.specs.Comments.{HostComments}
+use Rattle.bz_value.specs.Gaps.{Bytes}
+use Rattle.bz_value.specs.Proper.{ProperExpr, behind_expr}
+use Rattle.bz_value.proofs.FormParts.{AreParts}
+use Rattle.bz_words.specs.Proper.{AreUtf8}
+use Rattle.bz_words.specs.Quoted.{quoted_of}
+use Rattle.bz_words.proofs.NameTests.{identifiers_are_names}
+use Rattle.bz_rule.specs.Rules.{body}
+use Rattle.bz_rule.specs.Values.{has_kind, has_class, parts_of, items_of, with_text, on_row, on_items, on_lists}
+use Rattle.bz_rule.proofs.ProperChanges.{by_test, by_case, Stays, Strung, row_stays, items_stay, lists_stay, string_in_place}
+use Rattle.bz_rule.proofs.ProperForms.{InPlace, AsForm, each_mapped, opened}
+use Rattle.bz_rule.proofs.ProperItems.{IsValue, value_in_place, all_joined, all_kept}
+use Rattle.bz_rule.proofs.ProperSequences.{IsItem, AreOf, list_apart, list_in_place, where_true}
+use Rattle.bz_attribute.specs.Made.{token, string_text}
+use Rattle.bz_attribute.specs.Attributes.{on_first_that}
+use Rattle.bz_attribute.specs.Lists.{items_in, with_more, are_one, is_item, fresh, travelled, is_there, arriving}
+use Rattle.bz_attribute.proofs.ProperAttributes.{first_that_stays}
+use Rattle.bz_change.specs.declared.settings.Setting.{Setting}
+use Rattle.bz_change.specs.declared.settings.Setting.TheVariants.{One, Many}
+use Rattle.bz_change.specs.Changes.{is_constant, is_decimal, single, setting, value_of, replaced_item, replaced}
+use Rattle.bz_attribute.proofs.ProperMade.{token_new, new_value, list_value, string_value, string_strung, quoted_string, texts_are_items}
+use Rattle.bz_attribute.proofs.ProperTexts.{body_utf8, shortened_utf8}
+
+-- ---- the items of a value
+
+-- proper somewhere
+abbrev Stands : Expr → Type 0
+Stands x = (here : Spot) × ProperExpr here x
+
+list_items : (kind : Kind) (here : Spot) (end_ : List Bytes) (split open_ : Bool) (ps xs : List Expr) → is_kind kind k.List ≡ true → AsForm here kind ps xs end_ split open_ → AreOf s.test xs
+list_items k.List here end_ split open_ ps xs is h = list_apart here end_ split open_ ps xs h
+list_items _ here end_ split open_ ps xs is h = absurd (true≢false (sym is))
+
+items_there : (x : Expr) → has_kind k.List x ≡ true → Stands x → AreOf s.test (items_of x)
+items_there (Token t) is h = tt
+items_there (Form' kind s parts s' items end_ split open_ comments) is h =
+    list_items kind h.0 end_ split open_ (items-the_row-Expr _ parts) (items-the_row-Expr _ items) is (opened h.0 (Form' kind s parts s' items end_ split open_ comments) h.1)
+
+-- the items of the lists among some expressions
+lists_items : (xs : List Expr) → AllByRecursion Stands xs → AreOf s.test (flat_map items_of (filter (has_kind k.List) xs))
+lists_items [] h = tt
+lists_items (x ∷ xs) h =
+    by_case (λ (ys : List Expr). AreOf s.test (flat_map items_of ys)) (has_kind k.List x) (x ∷ filter (has_kind k.List) xs) (filter (has_kind k.List) xs)
+    (λ is. all_joined (IsItem s.test) (items_of x) (flat_map items_of (filter (has_kind k.List) xs)) (items_there x is h.0) (lists_items xs h.1))
+    (λ is. lists_items xs h.1)
+
+each_stands : (binary : Bool) (outer here : Spot) (xs : List Expr) → AreParts binary outer here xs → AllByRecursion Stands xs
+each_stands binary outer here [] h = tt
+each_stands binary outer here (x ∷ xs) h = ((here, h.0), each_stands binary outer (behind_expr outer here x) xs h.3)
+
+sum_parts : (kind : Kind) (here : Spot) (end_ : List Bytes) (split open_ : Bool) (ps xs : List Expr) → is_kind kind k.Sum ≡ true → AsForm here kind ps xs end_ split open_ → AllByRecursion Stands ps
+sum_parts k.Sum here end_ split open_ ps xs is h = each_stands true here here ps h.1.0
+sum_parts _ here end_ split open_ ps xs is h = absurd (true≢false (sym is))
+
+parts_there : (x : Expr) → has_kind k.Sum x ≡ true → Stands x → AllByRecursion Stands (parts_of x)
+parts_there (Token t) is h = tt
+parts_there (Form' kind s parts s' items end_ split open_ comments) is h =
+    sum_parts kind h.0 end_ split open_ (items-the_row-Expr _ parts) (items-the_row-Expr _ items) is (opened h.0 (Form' kind s parts s' items end_ split open_ comments) h.1)
+
+pub value_items : (x : Expr) → IsValue x → AreOf s.test (items_in x)
+value_items x v =
+    let h : Stands x = (Within, v.0.0.0) in
+    let of : List Expr → Type 0 = λ ys. AreOf s.test (flat_map items_of ys) in
+    by_case of (has_kind k.List x) (x ∷ []) (if has_kind k.Sum x then filter (has_kind k.List) (parts_of x) else [])
+    (λ is. all_joined (IsItem s.test) (items_of x) [] (items_there x is h) tt)
+    (λ n. by_case of (has_kind k.Sum x) (filter (has_kind k.List) (parts_of x)) [] (λ is. lists_items (parts_of x) (parts_there x is h)) (λ m. tt))
+
+-- ---- further items
+
+pub more_value : (more : List Expr) (x : Expr) → AreOf s.test more → IsValue x → IsValue (with_more more x)
+more_value more x h v =
+    let grown : List Expr → List Expr = λ items. items ++ more in
+    let stays : Stays (on_items k.List grown) = list_in_place grown (λ xs a. all_joined (IsItem s.test) xs more a h) in
+    value_in_place x (with_more more x)
+    (by_test (InPlace x) (has_kind k.Sum x) (on_row k.Sum (on_first_that (has_kind k.List) (on_items k.List grown)) x) (on_items k.List grown x)
+    (row_stays k.Sum (on_first_that (has_kind k.List) (on_items k.List grown)) (first_that_stays (has_kind k.List) (on_items k.List grown) stays) x) (stays x)) v
+
+-- ---- fewer items
+
+pub fewer_value : (test : Expr → Bool) (x : Expr) → IsValue x → IsValue (on_lists (filter test) x)
+fewer_value test x v = value_in_place x (on_lists (filter test) x) (lists_stay (filter test) (list_in_place (filter test) (λ xs a. all_kept (IsItem s.test) test xs a)) x) v
+
+-- ---- other items
+
+is_string : (class : Class) (text : Bytes) (said : Bytes → Bool) → option_map_or said (option_and_then body (if is_class class c.String then Some text else None)) false ≡ true → is_class class c.String ≡ true
+is_string c.String text said h = refl
+is_string _ text said h = absurd (true≢false (sym h))
+
+item_is_string : (current attribute word : Bytes) (x : Expr) → is_item current attribute word x ≡ true → has_class c.String x ≡ true
+item_is_string current attribute word (Token t) h = is_string t.class t.text (are_one current attribute word) h
+item_is_string current attribute word (Form' kind s parts s' items end_ split open_ comments) h = absurd (true≢false (sym h))
+
+replaced_item_stays : (current name old new : Bytes) → IsUtf8 new → Stays (replaced_item current name old new)
+replaced_item_stays current name old new u x =
+    where_true (is_item current name old x) x (with_text (string_text current name new) x)
+    (λ is. string_in_place (string_text current name new) x (item_is_string current name old x is) (λ _. string_strung current name new u))
+
+pub replaced_value : (current name old new : Bytes) → IsUtf8 new → (x : Expr) → IsValue x → IsValue (replaced current name old new x)
+replaced_value current name old new u x v =
+    let change : Expr → Expr = replaced_item current name old new in
+    let stays : Stays change = replaced_item_stays current name old new u in
+    value_in_place (change x) (on_lists (map change) (change x)) (lists_stay (map change) (items_stay k.List (map change) (each_mapped change stays)) (change x))
+    (value_in_place x (change x) (stays x) v)
+
+-- ---- words and items that are not there
+
+pub fresh_utf8 : (current attribute : Bytes) (items : List Expr) (earlier words : List Bytes) → AreUtf8 words → AreUtf8 (fresh current attribute items earlier words)
+fresh_utf8 current attribute items earlier [] u = tt
+fresh_utf8 current attribute items earlier (word ∷ words) u =
+    by_test AreUtf8 (list_any (are_one current attribute word) earlier || list_any (is_item current attribute word) items)
+    (fresh current attribute items earlier words) (word ∷ fresh current attribute items (word ∷ earlier) words)
+    (fresh_utf8 current attribute items earlier words u.1) (u.0, fresh_utf8 current attribute items (word ∷ earlier) words u.1)
+
+-- a plain string with a shorter label
+shorter_item : (current attribute text : Bytes) (break_ : Bool) (comments : HostComments) (found : Option Bytes) → IfSome found IsUtf8
+    → IsItem s.test (e.Token (record { class = c.String; text = text; break_ = break_; comments = comments }))
+    → IsItem s.test (option_map_or (λ inside. if is_label_attribute attribute && not (bytes_eq (shortened current inside) inside)
+    then with_text (quoted_of (shortened current inside)) (e.Token (record { class = c.String; text = text; break_ = break_; comments = comments }))
+    else e.Token (record { class = c.String; text = text; break_ = break_; comments = comments })) found (e.Token (record { class = c.String; text = text; break_ = break_; comments = comments })))
+shorter_item current attribute text break_ comments None u h = h
+shorter_item current attribute text break_ comments (Some inside) u h =
+    by_test (IsItem s.test) (is_label_attribute attribute && not (bytes_eq (shortened current inside) inside))
+    (e.Token (record { class = c.String; text = quoted_of (shortened current inside); break_ = break_; comments = comments }))
+    (e.Token (record { class = c.String; text = text; break_ = break_; comments = comments }))
+    ((quoted_string (shortened current inside) (shortened_utf8 current inside u), h.0.1, h.0.2), refl) h
+
+travelled_token : (current attribute : Bytes) (class : Class) (text : Bytes) (break_ : Bool) (comments : HostComments)
+    → IsItem s.test (e.Token (record { class = class; text = text; break_ = break_; comments = comments }))
+    → IsItem s.test (travelled current attribute (e.Token (record { class = class; text = text; break_ = break_; comments = comments })))
+travelled_token current attribute c.String text break_ comments h = shorter_item current attribute text break_ comments (body text) (body_utf8 text h.0.0.1) h
+travelled_token current attribute _ text break_ comments h = h
+
+travelled_item : (current attribute : Bytes) (x : Expr) → IsItem s.test x → IsItem s.test (travelled current attribute x)
+travelled_item current attribute (Token t) h = travelled_token current attribute t.class t.text t.break_ t.comments h
+travelled_item current attribute (Form' kind s parts s' items end_ split open_ comments) h = h
+
+pub arriving_items : (current attribute : Bytes) (there xs : List Expr) → AreOf s.test xs → AreOf s.test (arriving current attribute there xs)
+arriving_items current attribute there [] h = tt
+arriving_items current attribute there (x ∷ xs) h =
+    by_test (AreOf s.test) (is_there current attribute there x) (arriving current attribute there xs) (travelled current attribute x ∷ arriving current attribute (x ∷ there) xs)
+    (arriving_items current attribute there xs h.1) (travelled_item current attribute x h.0, arriving_items current attribute (x ∷ there) xs h.1)
+
+-- ---- what is set
+
+same_text : (word text : Bytes) → bytes_eq word text ≡ true → word ≡ text
+same_text word text h = (bytes_eq-Decides word text).0 h
+
+constant_name : (word : Bytes) → is_constant word ≡ true → IsLexeme c.Name word
+constant_name word h = elim (or_cases (bytes_eq word (codes "True")) (bytes_eq word (codes "False") || bytes_eq word (codes "None")) h) [
+  | inl a ↦ subst (IsLexeme c.Name) (sym (same_text word (codes "True") a)) ((identifiers_are_names (codes "True")).0 refl)
+  | inr b ↦ elim (or_cases (bytes_eq word (codes "False")) (bytes_eq word (codes "None")) b) [
+    | inl a ↦ subst (IsLexeme c.Name) (sym (same_text word (codes "False") a)) ((identifiers_are_names (codes "False")).0 refl)
+    | inr a ↦ subst (IsLexeme c.Name) (sym (same_text word (codes "None") a)) ((identifiers_are_names (codes "None")).0 refl)
+  ]
+]
+
+each_digit : (word : Bytes) → all_ascii_digits word ≡ true → Each is_digit word
+each_digit [] h = tt
+each_digit (byte ∷ word) h = let w = and_parts (is_ascii_digit byte) (all_ascii_digits word) h in (w.0, each_digit word w.1)
+
+digits : (word : Bytes) → is_decimal word ≡ true → IsDigits word
+digits [] h = absurd (true≢false (sym h))
+digits (byte ∷ word) h = let w = and_parts (nat_lt 0 (length (byte ∷ word))) (all_ascii_digits (byte ∷ word)) h in each_digit (byte ∷ word) w.1
+
+single_value : (current attribute word : Bytes) → IsUtf8 word → IsValue (value_of (single current attribute word))
+single_value current attribute word u =
+    let set : Setting → Type 0 = λ made. IsValue (value_of made) in
+    by_case set (is_constant word) (One c.Name word) (if is_decimal word then One c.Number word else One c.String (string_text current attribute word))
+    (λ h. new_value (token c.Name word) (token_new c.Name word (constant_name word h) u) refl)
+    (λ n. by_case set (is_decimal word) (One c.Number word) (One c.String (string_text current attribute word))
+    (λ h. new_value (token c.Number word) (token_new c.Number word (whole word (digits word h)) u) refl)
+    (λ m. string_value (string_text current attribute word) (string_strung current attribute word u)))
+
+texts_strung : (current attribute : Bytes) (words : List Bytes) → AreUtf8 words → AllByRecursion Strung (map (string_text current attribute) words)
+texts_strung current attribute [] u = tt
+texts_strung current attribute (word ∷ words) u = (string_strung current attribute word u.0, texts_strung current attribute words u.1)
+
+many_value : (current attribute : Bytes) (words : List Bytes) → AreUtf8 words → IsValue (value_of (Many (map (string_text current attribute) words)))
+many_value current attribute words u =
+    let texts : List Bytes = map (string_text current attribute) words in
+    list_value (map (token c.String) texts) (texts_are_items texts (texts_strung current attribute words u))
+
+pub setting_value : (current attribute : Bytes) (words : List Bytes) → AreUtf8 words → IsValue (value_of (setting current attribute words))
+setting_value current attribute [] u = many_value current attribute [] u
+setting_value current attribute (word ∷ []) u =
+    by_test (λ (made : Setting). IsValue (value_of made)) (is_list_attribute attribute) (Many (string_text current attribute word ∷ [])) (single current attribute word)
+    (many_value current attribute (word ∷ []) u) (single_value current attribute word u.0)
+setting_value current attribute (word ∷ other ∷ words) u = many_value current attribute (word ∷ other ∷ words) u

@@ -1,0 +1,21 @@
+use Rattle.std.proofs.Common.{sym, ap, ◌∙◌, slice_set}
+use Rattle.bz_tree.specs.declared.kind.Kind.TheVariants as kinds
+use Rattle.bz_rule.specs.Values.{on_first, on_row, with_text}
+use Rattle.bz_attribute.specs.Attributes.{is_attribute}
+use Rattle.bz_attribute.proofs.ArgumentPlaces.{is_first, none_passes, changed_at, unchanged}
+use Rattle.bz_change.proofs.whole.rename_in.Goals as goal
+
+pub returns-in_default : goal.returns-in_default
+returns-in_default c =
+    let test = is_attribute c.args.from.now in
+    let xs = c.args.arguments.now in
+    sym (unchanged test (on_row kinds.Named (on_first (with_text c.args.to.now))) xs (none_passes test xs c.in_default.ensures))
+
+pub returns : goal.returns
+returns c =
+    let test = is_attribute c.args.from.now in
+    let xs = c.args.arguments.now in
+    let x = c.index-arguments-at.result in
+    let change = on_row kinds.Named (on_first (with_text c.args.to.now)) in
+    ap (slice_set xs c.in-Some.at) c.in_ok-set_name.ensures
+    ∙ sym (changed_at test change xs c.in-Some.at x (is_first test xs c.in-Some.at x c.in-Some.ensures))

@@ -1,0 +1,193 @@
+//! Commands on whole attributes.
+ghost use Rattle.std.specs.Prelude.{◌≡◌, ◌⊎◌, Ok, Err, OnOk, IfErr, false, not};
+ghost use Rattle.std.specs.List.{filter};
+ghost use Rattle.std.specs.Option.{option_copied, option_map_or};
+ghost use Rattle.bz_tree.specs.declared.kind.Kind.TheVariants as kinds;
+ghost use Rattle.bz_rule.specs.Rules.{attribute};
+ghost use Rattle.bz_rule.specs.Values.{on_first, on_row, with_text};
+ghost use Rattle.bz_attribute.specs.Attributes.{is_attribute, is_other_attribute, on_first_that};
+ghost use Rattle.bz_change.specs.Changes.{set, set_if_absent, is_set, remove, rename, copy, copy_no_overwrite};
+
+use crate::settings::{Setting, is_set, setting_of, value_of};
+use bz_attribute::{
+    Refusal, has_attribute, is_other_attribute, place_of, put, remove_first, set_text,
+};
+use bz_items::{Items, Memory, Text};
+use bz_rule::attribute;
+use bz_tree::Kind;
+use bz_value::Expr;
+use bz_words::Attributes;
+use std::alloc::Global;
+use std::mem;
+
+/// Whether the attribute is there with this value already.
+fn has_setting(made: &Setting, name: &[u8], arguments: &[Expr]) -> bool
+    ensures { result ≡ option_map_or (is_set made.now) (attribute name.now arguments.now) false }
+{
+    match attribute(name, arguments) {
+        Some(value) => is_set(made, value),
+        None => false,
+    }
+}
+
+/// The attribute's value becomes these words.
+#[tactic(auto, using(crate::proofs::WholeSettings::set_by_put))]
+pub(crate) fn set(
+    alloc: Global,
+    current: &[u8],
+    name: &[u8],
+    words: &[Text],
+    arguments: &mut Items<Expr>,
+) -> Result<(), Refusal>
+    ensures ok { OnOk result (set current.now name.now words.now arguments.old ≡ Ok arguments.new) }
+    ensures err { IfErr result (λ refusal. (set current.now name.now words.now arguments.old ≡ Err refusal) ⊎ (refusal ≡ Refusal.Memory)) }
+{
+    let made = setting_of(alloc, current, name, words)?;
+    if has_setting(&made, name, arguments.as_slice()) {
+        return Ok(());
+    }
+    put(alloc, name, value_of(alloc, made)?, arguments)?;
+    Ok(())
+}
+
+/// The same where there is no such attribute.
+pub(crate) fn set_if_absent(
+    alloc: Global,
+    current: &[u8],
+    name: &[u8],
+    words: &[Text],
+    arguments: &mut Items<Expr>,
+) -> Result<(), Refusal>
+    ensures ok { OnOk result (set_if_absent current.now name.now words.now arguments.old ≡ Ok arguments.new) }
+    ensures err { IfErr result (λ refusal. (set_if_absent current.now name.now words.now arguments.old ≡ Err refusal) ⊎ (refusal ≡ Refusal.Memory)) }
+{
+    if has_attribute(name, arguments.as_slice()) {
+        return Ok(());
+    }
+    set(alloc, current, name, words, arguments)
+}
+
+/// Keeps what is no attribute that `*` means.
+fn keep_others(arguments: &mut Vec<Expr>)
+    ensures { arguments.new.items ≡ filter (λ x. not (is_other_attribute x)) arguments.old.items }
+{
+    arguments.retain(|x| !is_other_attribute(x));
+}
+
+/// All named arguments but `name` go.
+fn remove_all(arguments: &mut Items<Expr>)
+    ensures { arguments.new ≡ filter (λ x. not (is_other_attribute x)) arguments.old }
+{
+    let alloc = arguments.alloc();
+    let mut all = mem::replace(arguments, Items::new(alloc)).into_vec();
+    keep_others(&mut all);
+    *arguments = Items::from_vec(all);
+}
+
+/// Whole attributes go.
+pub(crate) fn remove(attributes: &Attributes, arguments: &mut Items<Expr>) -> Result<(), Refusal>
+    ensures ok { OnOk result (remove attributes.now arguments.old ≡ Ok arguments.new) }
+    ensures err { IfErr result (λ refusal. (remove attributes.now arguments.old ≡ Err refusal) ⊎ (refusal ≡ Refusal.Memory)) }
+{
+    match attributes {
+        Attributes::All => remove_all(arguments),
+        Attributes::Named(name) => remove_first(name.as_slice(), arguments),
+    }
+    Ok(())
+}
+
+/// The text becomes that of the first part.
+fn set_first_text(alloc: Global, text: &[u8], parts: &mut [Expr]) -> Result<(), Memory>
+    ensures { OnOk result (parts.new ≡ on_first (with_text text.now) parts.old) }
+{
+    match parts {
+        [] => Ok(()),
+        [first, ..] => {
+            set_text(Text::from_slice(alloc, text)?, first);
+            Ok(())
+        }
+    }
+}
+
+/// A named argument gets this name.
+fn set_name(alloc: Global, name: &[u8], argument: &mut Expr) -> Result<(), Memory>
+    ensures { OnOk result (argument.new ≡ on_row kinds.Named (on_first (with_text name.now)) argument.old) }
+{
+    match argument {
+        Expr::Token(_) => Ok(()),
+        Expr::Form(form) => {
+            if form.kind == Kind::Named {
+                let mut parts = mem::replace(&mut form.parts, Items::new(alloc)).into_vec();
+                set_first_text(alloc, name, parts.as_mut_slice())?;
+                form.parts = Items::from_vec(parts);
+            }
+            Ok(())
+        }
+    }
+}
+
+/// The first attribute of a name gets another one.
+fn rename_in(alloc: Global, from: &[u8], to: &[u8], arguments: &mut [Expr]) -> Result<(), Memory>
+    ensures { OnOk result (arguments.new ≡ on_first_that (is_attribute from.now) (on_row kinds.Named (on_first (with_text to.now))) arguments.old) }
+{
+    let Some(at) = place_of(from, arguments) else {
+        return Ok(());
+    };
+    set_name(alloc, to, &mut arguments[at])?;
+    Ok(())
+}
+
+/// The attribute gets another name.
+pub(crate) fn rename(
+    alloc: Global,
+    from: &[u8],
+    to: &[u8],
+    arguments: &mut Items<Expr>,
+) -> Result<(), Refusal>
+    ensures ok { OnOk result (rename from.now to.now arguments.old ≡ Ok arguments.new) }
+    ensures err { IfErr result (λ refusal. (rename from.now to.now arguments.old ≡ Err refusal) ⊎ (refusal ≡ Refusal.Memory)) }
+{
+    if !has_attribute(from, arguments.as_slice()) {
+        return Err(Refusal::NoAttribute);
+    }
+    if has_attribute(to, arguments.as_slice()) {
+        return Err(Refusal::AttributeExists);
+    }
+    let mut all = mem::replace(arguments, Items::new(alloc)).into_vec();
+    rename_in(alloc, from, to, all.as_mut_slice())?;
+    *arguments = Items::from_vec(all);
+    Ok(())
+}
+
+/// The attribute gets the value that was found.
+pub(crate) fn copy(
+    alloc: Global,
+    name: &[u8],
+    found: Option<&Expr>,
+    arguments: &mut Items<Expr>,
+) -> Result<(), Refusal>
+    ensures ok { OnOk result (copy name.now (option_copied found.entry) arguments.old ≡ Ok arguments.new) }
+    ensures err { IfErr result (λ refusal. (copy name.now (option_copied found.entry) arguments.old ≡ Err refusal) ⊎ (refusal ≡ Refusal.Memory)) }
+{
+    let Some(value) = found else {
+        return Err(Refusal::NoSource);
+    };
+    put(alloc, name, value.copy()?, arguments)?;
+    Ok(())
+}
+
+/// The same where there is no such attribute.
+pub(crate) fn copy_no_overwrite(
+    alloc: Global,
+    name: &[u8],
+    found: Option<&Expr>,
+    arguments: &mut Items<Expr>,
+) -> Result<(), Refusal>
+    ensures ok { OnOk result (copy_no_overwrite name.now (option_copied found.entry) arguments.old ≡ Ok arguments.new) }
+    ensures err { IfErr result (λ refusal. (copy_no_overwrite name.now (option_copied found.entry) arguments.old ≡ Err refusal) ⊎ (refusal ≡ Refusal.Memory)) }
+{
+    if has_attribute(name, arguments.as_slice()) {
+        return Ok(());
+    }
+    copy(alloc, name, found, arguments)
+}
