@@ -1,6 +1,11 @@
+pub mod CommentWords
+pub mod CutTexts
+pub mod EachForms
 pub mod NameTests
 pub mod Named
 pub mod Pieces
 pub mod ProperCommands
+pub mod ProperEntries
+pub mod ProperReads
 pub mod Strings
 pub mod Utf8Texts

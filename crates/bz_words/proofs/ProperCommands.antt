@@ -1,44 +1,24 @@
 -- Every command that is read is proper.
-use Rattle.std.proofs.Common.{◌≡◌, Bool, true, false, List, [], ◌∷◌, ◌&&◌, not, Option, Some, None, Ok, Err, refl, sym, subst, IsUtf8, IfSome, IfOk, codes, bytes_eq, option_map}
+use Rattle.std.proofs.Common.{◌≡◌, Bool, true, false, List, [], ◌∷◌, ◌&&◌, not, drop, Option, Some, None, Ok, Err, sym, subst, IsUtf8, IfSome, codes, bytes_eq}
 use Rattle.std.specs.Prelude.{if◌then◌else◌}
 use Rattle.std.specs.List.{list_any}
-use Rattle.std.specs.Option.{option_map_or, ok_or}
+use Rattle.std.specs.Option.{option_map_or}
 use Rattle.std.proofs.lemmas.Bool.{and_parts}
 use Rattle.bz_words.specs.Characters.{Bytes}
 use Rattle.bz_words.specs.Words.{words_of, is_nonempty}
 use Rattle.bz_words.specs.Identifiers.{is_identifier, is_kind}
 use Rattle.bz_words.specs.Commands as c
 use Rattle.bz_words.specs.Commands.{Read}
-use Rattle.bz_words.specs.Proper.{AreUtf8, IsAttribute, AreValues, IsPlace, AreAttributes, AreMoved, IsProperCommand}
+use Rattle.bz_words.specs.Proper.{AreUtf8, AreValues, IsPlace, AreAttributes, AreMoved, IsProperCommand}
 use Rattle.bz_words.specs.declared.command.Operation.{Operation}
 use Rattle.bz_words.specs.declared.command.Operation.TheVariants.{New, SetKind, Set, SetIfAbsent, Add, Remove, RemoveValues, Replace, Move, Rename, Copy, CopyNoOverwrite}
 use Rattle.bz_words.specs.declared.command.Values.TheVariants.{All, These}
 use Rattle.bz_words.specs.declared.fault.CommandFault.TheVariants.{Unknown, Arguments}
+use Rattle.bz_words.proofs.ProperEntries.{dict_add_proper, dict_set_proper, dict_remove_proper, new_load_proper, comment_proper, print_comment_proper, remove_comment_proper, fix_proper, print_proper}
+use Rattle.bz_words.proofs.ProperReads.{ReadsProper, given_proper, if_proper, made_proper, either, with_values}
 use Rattle.bz_words.proofs.Utf8Texts.{words_utf8}
 
--- the command is proper, where there is one
-abbrev pub ReadsProper : Read → Type 0
-ReadsProper (Ok command) = IsProperCommand command
-ReadsProper (Err fault) = Unit {0}
-
-given_proper : (holds : Bool) (command : Operation) → (holds ≡ true → IsProperCommand command) → ReadsProper (c.given holds command)
-given_proper true command f = f refl
-given_proper false command f = tt
-
-if_proper : (t : Bool) (x y : Read) → (t ≡ true → ReadsProper x) → ReadsProper y → ReadsProper (if t then x else y)
-if_proper true x y f h = f refl
-if_proper false x y f h = h
-
-made_proper : {A : Type 0} (P : A → Type 0) (make : A → Operation) (o : Option A) → IfSome o P → ((x : A) → P x → IsProperCommand (make x))
-    → ReadsProper (ok_or (option_map make o) Arguments)
-made_proper P make (Some x) h f = f x h
-made_proper P make None h f = tt
-
 -- ---- parts
-
-either : {A : Type 0} (P : A → Type 0) (t : Bool) (x y : Option A) → (t ≡ true → IfSome x P) → IfSome y P → IfSome (if t then x else y) P
-either P true x y f h = f refl
-either P false x y f h = h
 
 attributes_proper : (word : Bytes) → IsUtf8 word → IfSome (c.attributes_of word) AreAttributes
 attributes_proper word u = either AreAttributes (c.is_star word) _ _ (λ _. tt) (either AreAttributes (is_identifier word) _ _ (λ i. (i, u)) tt)
@@ -53,11 +33,6 @@ place_proper (side ∷ []) u = tt
 place_proper (side ∷ rule ∷ []) u =
     either IsPlace (bytes_eq side (codes "before")) _ _ (λ _. u.1.0) (either IsPlace (bytes_eq side (codes "after")) _ _ (λ _. u.1.0) tt)
 place_proper (side ∷ rule ∷ more ∷ words) u = tt
-
--- an attribute and its values
-with_values : (attribute : Bytes) (values : List Bytes) → IsUtf8 attribute → AreUtf8 values → (is_identifier attribute && is_nonempty values) ≡ true
-    → IsAttribute attribute × AreValues values
-with_values attribute values u v h = let w = and_parts (is_identifier attribute) (is_nonempty values) h in ((w.0, u), (w.1, v))
 
 -- ---- commands
 
@@ -146,8 +121,12 @@ abbrev AllReadProper : List (Bytes × Reader) → Type 0
 AllReadProper [] = Unit {0}
 AllReadProper (command ∷ table) = ((words : List Bytes) → AreUtf8 words → ReadsProper (command.1 words)) × AllReadProper table
 
+-- the commands on dicts, loads and comments, fixes and printed fields
+later_proper : AllReadProper (drop 11 c.commands)
+later_proper = (dict_add_proper, (dict_set_proper, (dict_remove_proper, (new_load_proper, (comment_proper, (print_comment_proper, (remove_comment_proper, (fix_proper, (print_proper, tt)))))))))
+
 commands_proper : AllReadProper c.commands
-commands_proper = (new_proper, (delete_proper, (set_proper, (set_if_absent_proper, (add_proper, (remove_proper, (replace_proper, (move_proper, (rename_proper, (copy_proper, (copy_no_overwrite_proper, tt)))))))))))
+commands_proper = (new_proper, (delete_proper, (set_proper, (set_if_absent_proper, (add_proper, (remove_proper, (replace_proper, (move_proper, (rename_proper, (copy_proper, (copy_no_overwrite_proper, later_proper)))))))))))
 
 named_proper : (table : List (Bytes × Reader)) → AllReadProper table → (name : Bytes) (words : List Bytes) → AreUtf8 words → IfSome (c.named_in table name words) ReadsProper
 named_proper [] h name words u = tt

@@ -1,5 +1,5 @@
 -- What is UTF-8 and cut beside ASCII stays UTF-8.
-use Rattle.std.proofs.Common.{◌≡◌, ◌==◌, ◌<◌, ◌+◌, ℕ, Bool, true, false, List, [], ◌∷◌, ◌++◌, ◌&&◌, ◌||◌, not, map, filter, length, drop, get_or, refl, sym, ap, ◌∙◌, subst, inl, inr, arith, length-append, append_assoc, IsUtf8}
+use Rattle.std.proofs.Common.{◌≡◌, ◌==◌, ◌<◌, ◌+◌, ℕ, Bool, true, false, List, [], ◌∷◌, ◌++◌, ◌&&◌, ◌||◌, not, map, filter, length, drop, get_or, refl, sym, ap, ◌∙◌, subst, inl, inr, arith, length-append, append_assoc, IsUtf8, IfSome, Option, Some, None, option_map}
 use Rattle.std.specs.Prelude.{if◌then◌else◌}
 use Rattle.std.specs.List.{flat_map, onto_first}
 use Rattle.std.proofs.lemmas.Bool.{cases_Bool, eqb-true, or_cases, and_parts}
@@ -10,13 +10,14 @@ use Rattle.std.proofs.lemmas.List.Elements.{All-cons}
 use Rattle.std.proofs.Math.Seq.{get_or-append_seam}
 use Rattle.bz_token.specs.Bytes.{line_feed}
 use Rattle.bz_words.specs.Characters.{Bytes, space, quotation_mark, backslash, letter_n}
+use Rattle.bz_words.specs.Commands.{cut_at}
 use Rattle.bz_words.specs.Proper.{AreUtf8}
 use Rattle.bz_words.specs.Quoted.{escaped, quoted_of}
 use Rattle.bz_words.specs.Words.{pieces, begins_with_space, unescaped, is_nonempty, words_of}
 use Rattle.bz_words.proofs.Pieces.{joined, joined-onto_first}
 
 -- a text on both sides of an ASCII byte
-beside_ascii : (front : Bytes) (byte : ℕ) (rest : Bytes) → byte < 128 → IsUtf8 (front ++ byte ∷ rest) → IsUtf8 front × IsUtf8 rest
+pub beside_ascii : (front : Bytes) (byte : ℕ) (rest : Bytes) → byte < 128 → IsUtf8 (front ++ byte ∷ rest) → IsUtf8 front × IsUtf8 rest
 beside_ascii front byte rest h u =
     let all : Bytes = front ++ byte ∷ rest in
     let long : length all ≡ length front + length (byte ∷ rest) = length-append front (byte ∷ rest) in
@@ -27,6 +28,28 @@ beside_ascii front byte rest h u =
       subst IsUtf8 (take_at front (byte ∷ rest) (length front) refl) (IsUtf8-take all (length front) u (IsCharBoundary-before_ascii all (length front) (omega arith) (omega arith))),
       subst IsUtf8 past (IsUtf8-drop all (length front + 1) u (IsCharBoundary-after_ascii all (length front) u (omega arith) (omega arith))),
     )
+
+-- two texts, the first of which goes behind a front
+abbrev pub AreBehind : Bytes → Bytes × Bytes → Type 0
+AreBehind front parts = IsUtf8 (front ++ parts.0) × IsUtf8 parts.1
+
+byte_behind : (front : Bytes) (byte : ℕ) (parts : Option (Bytes × Bytes)) → IfSome parts (AreBehind (front ++ byte ∷ []))
+    → IfSome (option_map (λ both. (byte ∷ both.0, both.1)) parts) (AreBehind front)
+byte_behind front byte None h = tt
+byte_behind front byte (Some both) h = (subst IsUtf8 (append_assoc front (byte ∷ []) both.0) h.0, h.1)
+
+-- both sides of a cut
+pub cut_utf8 : (byte : ℕ) (front text : Bytes) → byte < 128 → IsUtf8 (front ++ text) → IfSome (cut_at byte text) (AreBehind front)
+cut_utf8 byte front [] l u = tt
+cut_utf8 byte front (first ∷ rest) l u =
+    elim (cases_Bool (first == byte)) [
+      | inl e ↦
+          let same : first ≡ byte = eqb-true first byte e in
+          let w = beside_ascii front first rest (omega arith) u in
+          rw e (subst IsUtf8 (sym (append-nil front)) w.0, w.1)
+      | inr e ↦
+          rw e (byte_behind front first (cut_at byte rest) (cut_utf8 byte (front ++ first ∷ []) rest l (subst IsUtf8 (sym (append_assoc front (first ∷ []) rest)) u)))
+    ]
 
 one_ascii : (byte : ℕ) → byte < 128 → IsUtf8 (byte ∷ [])
 one_ascii byte h = IsUtf8-from_ascii (byte ∷ []) (IsAscii-from_all (byte ∷ []) (All-cons (λ b. b < 128) byte [] h (λ k d l. absurd (omega arith))))

@@ -1,18 +1,25 @@
 -- The commands, by their words.
-use Rattle.std.specs.Prelude.{ℕ, Bool, true, false, ◌&&◌, not, if◌then◌else◌, List, [], ◌∷◌, length, Option, Some, None, Result, Ok, Err, codes, bytes_eq, nat_le, option_map}
+use Rattle.std.specs.Prelude.{ℕ, ◌==◌, Bool, true, false, ◌&&◌, ◌||◌, not, if◌then◌else◌, List, [], ◌∷◌, length, Option, Some, None, Result, Ok, Err, codes, bytes_eq, nat_le, option_map}
 use Rattle.std.specs.List.{list_any}
-use Rattle.std.specs.Option.{option_map_or, ok_or}
-use Rattle.bz_words.specs.Characters.{Bytes, asterisk}
+use Rattle.std.specs.Option.{option_and_then, option_map_or, ok_or}
+use Rattle.bz_words.specs.Characters.{Bytes, asterisk, colon, equals_sign, line_feed}
 use Rattle.bz_words.specs.Words.{words_of, is_nonempty}
 use Rattle.bz_words.specs.Identifiers.{is_identifier, is_kind}
 use Rattle.bz_words.specs.declared.command.Operation.{Operation}
-use Rattle.bz_words.specs.declared.command.Operation.TheVariants.{New, Delete, SetKind, Set, SetIfAbsent, Add, Remove, RemoveValues, Replace, Move, Rename, Copy, CopyNoOverwrite}
+use Rattle.bz_words.specs.declared.command.Operation.TheVariants.{New, Delete, SetKind, Set, SetIfAbsent, Add, Remove, RemoveValues, Replace, Move, Rename, Copy, CopyNoOverwrite, DictAdd, DictSet, DictRemove, NewLoad, Comment, PrintComment, RemoveComment, Fix, Print}
 use Rattle.bz_words.specs.declared.command.Place.{Place}
 use Rattle.bz_words.specs.declared.command.Place.TheVariants.{End, Before, After}
 use Rattle.bz_words.specs.declared.command.Attributes.{Attributes}
 use Rattle.bz_words.specs.declared.command.Attributes.TheVariants.{All as AllAttributes, Named}
 use Rattle.bz_words.specs.declared.command.Values.{Values}
 use Rattle.bz_words.specs.declared.command.Values.TheVariants.{All as AllValues, These}
+use Rattle.bz_words.specs.declared.command.Entry.{Entry}
+use Rattle.bz_words.specs.declared.command.Symbol.{Symbol}
+use Rattle.bz_words.specs.declared.command.Host.{Host}
+use Rattle.bz_words.specs.declared.command.Host.TheVariants as h
+use Rattle.bz_words.specs.declared.command.Fixes.{Fixes}
+use Rattle.bz_words.specs.declared.command.Field.{Field}
+use Rattle.bz_words.specs.declared.command.Field.TheVariants as f
 use Rattle.bz_words.specs.declared.fault.CommandFault.{CommandFault}
 use Rattle.bz_words.specs.declared.fault.CommandFault.TheVariants.{Unknown, Arguments}
 
@@ -119,6 +126,114 @@ abbrev pub copy_no_overwrite_of : List Bytes → Read
 copy_no_overwrite_of (attribute ∷ rule ∷ []) = given (is_identifier attribute) (CopyNoOverwrite attribute rule)
 copy_no_overwrite_of _ = Err Arguments
 
+-- what stands before the first such byte, and what stands behind it
+abbrev pub cut_at : ℕ → Bytes → Option (Bytes × Bytes)
+cut_at byte [] = None
+cut_at byte (first ∷ rest) = if first == byte then Some ([], rest) else option_map (λ parts. (first ∷ parts.0, parts.1)) (cut_at byte rest)
+
+-- KEY:VALUE; the key ends at the first colon
+abbrev pub entry_of : Bytes → Option Entry
+entry_of word = option_map (λ parts. record { key = parts.0; value = parts.1 }) (cut_at colon word)
+
+-- what each word is, where all are something
+abbrev pub each_of : {X : Type 0} → (Bytes → Option X) → List Bytes → Option (List X)
+each_of form [] = Some []
+each_of form (word ∷ words) = option_and_then (λ x. option_map (λ xs. x ∷ xs) (each_of form words)) (form word)
+
+-- dict_add ATTRIBUTE KEY:VALUE.. and dict_set ATTRIBUTE KEY:VALUE..
+abbrev pub entries_of : (Bytes → List Entry → Operation) → List Bytes → Read
+entries_of operation [] = Err Arguments
+entries_of operation (attribute ∷ words) =
+    if is_identifier attribute && is_nonempty words then ok_or (option_map (operation attribute) (each_of entry_of words)) Arguments else Err Arguments
+
+-- dict_remove ATTRIBUTE KEY..
+abbrev pub dict_remove_of : List Bytes → Read
+dict_remove_of [] = Err Arguments
+dict_remove_of (attribute ∷ keys) = given (is_identifier attribute && is_nonempty keys) (DictRemove attribute keys)
+
+-- two names of a symbol, which are identifiers
+abbrev pub symbol_of_names : Bytes → Bytes → Option Symbol
+symbol_of_names to from = if is_identifier to && is_identifier from then Some (record { to = to; from = from }) else None
+
+-- TO=FROM, or one name for both
+abbrev pub symbol_of : Bytes → Option Symbol
+symbol_of word = option_map_or (λ parts. symbol_of_names parts.0 parts.1) (cut_at equals_sign word) (symbol_of_names word word)
+
+-- new_load PATH [TO=]FROM..
+abbrev pub new_load_of : List Bytes → Read
+new_load_of [] = Err Arguments
+new_load_of (path ∷ words) = if is_nonempty words then ok_or (option_map (NewLoad path) (each_of symbol_of words)) Arguments else Err Arguments
+
+-- nothing, ATTRIBUTE, or ATTRIBUTE VALUE
+abbrev pub host_of : List Bytes → Option Host
+host_of [] = Some h.Rule
+host_of (attribute ∷ []) = if is_identifier attribute then Some (h.Attribute attribute) else None
+host_of (attribute ∷ value ∷ []) = if is_identifier attribute then Some (h.Item attribute value) else None
+host_of _ = None
+
+-- what stands before the last word, and the last word
+abbrev pub split_last : List Bytes → Option (List Bytes × Bytes)
+split_last [] = None
+split_last (word ∷ []) = Some ([], word)
+split_last (word ∷ words) = option_map (λ parts. (word ∷ parts.0, parts.1)) (split_last words)
+
+abbrev pub is_one_line : Bytes → Bool
+is_one_line text = not (list_any (λ byte. byte == line_feed) text)
+
+-- comment [ATTRIBUTE [VALUE]] TEXT; the text has no newline
+abbrev pub comment_of : List Bytes → Read
+comment_of words =
+    option_map_or (λ parts. if is_one_line parts.1 then ok_or (option_map (λ host. Comment host parts.1) (host_of parts.0)) Arguments else Err Arguments)
+    (split_last words) (Err Arguments)
+
+-- print_comment [ATTRIBUTE [VALUE]]
+abbrev pub print_comment_of : List Bytes → Read
+print_comment_of words = ok_or (option_map PrintComment (host_of words)) Arguments
+
+-- remove_comment [ATTRIBUTE [VALUE]]
+abbrev pub remove_comment_of : List Bytes → Read
+remove_comment_of words = ok_or (option_map RemoveComment (host_of words)) Arguments
+
+-- one more fix, which isn't named yet
+abbrev pub with_fix : Bytes → Fixes → Option Fixes
+with_fix word fixes =
+    if bytes_eq word (codes "movePackageToTop") && not fixes.move_package_to_top then Some (record fixes { move_package_to_top = true })
+    else (if bytes_eq word (codes "unusedLoads") && not fixes.unused_loads then Some (record fixes { unused_loads = true }) else None)
+
+abbrev pub fixes_from : Fixes → List Bytes → Option Fixes
+fixes_from fixes [] = Some fixes
+fixes_from fixes (word ∷ words) = option_and_then (λ more. fixes_from more words) (with_fix word fixes)
+
+-- Where none is named, all are meant; in any order, each at most once.
+abbrev pub fixes_of : List Bytes → Option Fixes
+fixes_of [] = Some (record { move_package_to_top = true; unused_loads = true })
+fixes_of words = fixes_from (record { move_package_to_top = false; unused_loads = false }) words
+
+-- fix [unusedLoads] [movePackageToTop]
+abbrev pub fix_of : List Bytes → Read
+fix_of words = ok_or (option_map Fix (fixes_of words)) Arguments
+
+-- these words name fields that are not known
+abbrev pub is_unknown_field : Bytes → Bool
+is_unknown_field word = bytes_eq word (codes "label") || (bytes_eq word (codes "endline") || bytes_eq word (codes "path"))
+
+-- a field's name, else an attribute
+abbrev pub field_of : Bytes → Option Field
+field_of word =
+    if bytes_eq word (codes "kind") then Some f.Kind
+    else (if bytes_eq word (codes "startline") then Some f.StartLine
+    else (if bytes_eq word (codes "rule") then Some f.Rule
+    else (if is_identifier word && not (is_unknown_field word) then Some (f.Attribute word) else None)))
+
+-- Where none is named, the name and the kind are meant.
+abbrev pub fields_of : List Bytes → Option (List Field)
+fields_of [] = Some (f.Attribute (codes "name") ∷ f.Kind ∷ [])
+fields_of words = each_of field_of words
+
+-- print [FIELD..]
+abbrev pub print_of : List Bytes → Read
+print_of words = ok_or (option_map Print (fields_of words)) Arguments
+
 -- ---- all commands
 
 -- the table of commands, each with what it reads
@@ -135,6 +250,15 @@ commands =
     ∷ (codes "rename", rename_of)
     ∷ (codes "copy", copy_of)
     ∷ (codes "copy_no_overwrite", copy_no_overwrite_of)
+    ∷ (codes "dict_add", entries_of DictAdd)
+    ∷ (codes "dict_set", entries_of DictSet)
+    ∷ (codes "dict_remove", dict_remove_of)
+    ∷ (codes "new_load", new_load_of)
+    ∷ (codes "comment", comment_of)
+    ∷ (codes "print_comment", print_comment_of)
+    ∷ (codes "remove_comment", remove_comment_of)
+    ∷ (codes "fix", fix_of)
+    ∷ (codes "print", print_of)
     ∷ []
 
 -- what the command of this name reads in these words, where there is one

@@ -2,6 +2,7 @@ pub mod Characters
 pub mod Commands
 pub mod Faults
 pub mod Identifiers
+pub mod Printing
 pub mod Proper
 pub mod Quoted
 pub mod Words

@@ -5,7 +5,14 @@ use Rattle.bz_words.specs.Characters.{Bytes}
 use Rattle.bz_words.specs.Words.{is_nonempty}
 use Rattle.bz_words.specs.Identifiers.{is_identifier, is_kind}
 use Rattle.bz_words.specs.declared.command.Operation.{Operation}
-use Rattle.bz_words.specs.declared.command.Operation.TheVariants.{New, Delete, SetKind, Set, SetIfAbsent, Add, Remove, RemoveValues, Replace, Move, Rename, Copy, CopyNoOverwrite}
+use Rattle.bz_words.specs.declared.command.Operation.TheVariants.{New, Delete, SetKind, Set, SetIfAbsent, Add, Remove, RemoveValues, Replace, Move, Rename, Copy, CopyNoOverwrite, DictAdd, DictSet, DictRemove, NewLoad, Comment, PrintComment, RemoveComment, Fix, Print}
+use Rattle.bz_words.specs.declared.command.Entry.{Entry}
+use Rattle.bz_words.specs.declared.command.Symbol.{Symbol}
+use Rattle.bz_words.specs.declared.command.Host.{Host}
+use Rattle.bz_words.specs.declared.command.Host.TheVariants as h
+use Rattle.bz_words.specs.declared.command.Field.{Field}
+use Rattle.bz_words.specs.declared.command.Field.TheVariants as f
+use Rattle.bz_words.specs.Commands.{is_one_line}
 use Rattle.bz_words.specs.declared.command.Place.{Place}
 use Rattle.bz_words.specs.declared.command.Place.TheVariants.{End, Before, After}
 use Rattle.bz_words.specs.declared.command.Attributes.{Attributes}
@@ -40,6 +47,32 @@ abbrev pub AreMoved : Values → Type 0
 AreMoved AllValues = Unit {0}
 AreMoved (These values) = AreValues values
 
+-- each of them
+abbrev pub EachIs : {X : Type 0} → (X → Type 0) → List X → Type 0
+EachIs P [] = Unit {0}
+EachIs P (x ∷ xs) = P x × EachIs P xs
+
+abbrev pub IsEntry : Entry → Type 0
+IsEntry entry = IsUtf8 entry.key × IsUtf8 entry.value
+
+abbrev pub IsSymbol : Symbol → Type 0
+IsSymbol symbol = IsAttribute symbol.to × IsAttribute symbol.from
+
+abbrev pub IsHost : Host → Type 0
+IsHost h.Rule = Unit {0}
+IsHost (h.Attribute name) = IsAttribute name
+IsHost (h.Item name value) = IsAttribute name × IsUtf8 value
+
+abbrev pub IsField : Field → Type 0
+IsField f.Kind = Unit {0}
+IsField f.StartLine = Unit {0}
+IsField f.Rule = Unit {0}
+IsField (f.Attribute name) = IsAttribute name
+
+-- one or more
+abbrev pub AreSome : {X : Type 0} → (X → Type 0) → List X → Type 0
+AreSome P xs = (is_nonempty xs ≡ true) × EachIs P xs
+
 abbrev pub IsProperCommand : Operation → Type 0
 IsProperCommand (New kind name place) = IsKind kind × IsUtf8 name × IsPlace place
 IsProperCommand Delete = Unit {0}
@@ -54,3 +87,12 @@ IsProperCommand (Move from to values) = IsAttribute from × IsAttribute to × Ar
 IsProperCommand (Rename from to) = IsAttribute from × IsAttribute to
 IsProperCommand (Copy attribute rule) = IsAttribute attribute × IsUtf8 rule
 IsProperCommand (CopyNoOverwrite attribute rule) = IsAttribute attribute × IsUtf8 rule
+IsProperCommand (DictAdd attribute entries) = IsAttribute attribute × AreSome IsEntry entries
+IsProperCommand (DictSet attribute entries) = IsAttribute attribute × AreSome IsEntry entries
+IsProperCommand (DictRemove attribute keys) = IsAttribute attribute × AreValues keys
+IsProperCommand (NewLoad path symbols) = IsUtf8 path × AreSome IsSymbol symbols
+IsProperCommand (Comment host text) = IsHost host × (is_one_line text ≡ true) × IsUtf8 text
+IsProperCommand (PrintComment host) = IsHost host
+IsProperCommand (RemoveComment host) = IsHost host
+IsProperCommand (Fix fixes) = Unit {0}
+IsProperCommand (Print fields) = AreSome IsField fields

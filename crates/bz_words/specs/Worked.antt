@@ -1,14 +1,19 @@
 -- Worked rows: what texts are cut into, which commands they are, and words as strings.
-use Rattle.std.specs.Prelude.{◌≡◌, true, false, [], ◌∷◌, Ok, Err, codes}
+use Rattle.std.specs.Prelude.{◌≡◌, Bool, true, false, [], ◌∷◌, Ok, Err, codes}
 use Rattle.bz_words.specs.Characters.{Bytes}
 use Rattle.bz_words.specs.Words.{words_of}
 use Rattle.bz_words.specs.Identifiers.{is_identifier, is_kind}
 use Rattle.bz_words.specs.Commands.{Read, command_in, command_of}
 use Rattle.bz_words.specs.Quoted.{quoted_of}
-use Rattle.bz_words.specs.declared.command.Operation.TheVariants.{New, Delete, SetKind, Set, SetIfAbsent, Add, Remove, RemoveValues, Replace, Move, Rename, Copy, CopyNoOverwrite}
+use Rattle.bz_words.specs.declared.command.Operation.TheVariants.{New, Delete, SetKind, Set, SetIfAbsent, Add, Remove, RemoveValues, Replace, Move, Rename, Copy, CopyNoOverwrite, DictAdd, DictSet, DictRemove, NewLoad, Comment, PrintComment, RemoveComment, Fix, Print}
 use Rattle.bz_words.specs.declared.command.Place.TheVariants.{End, Before, After}
 use Rattle.bz_words.specs.declared.command.Attributes.TheVariants.{All as AllAttributes, Named}
 use Rattle.bz_words.specs.declared.command.Values.TheVariants.{All as AllValues, These}
+use Rattle.bz_words.specs.declared.command.Entry.{Entry}
+use Rattle.bz_words.specs.declared.command.Symbol.{Symbol}
+use Rattle.bz_words.specs.declared.command.Host.TheVariants as h
+use Rattle.bz_words.specs.declared.command.Fixes.{Fixes}
+use Rattle.bz_words.specs.declared.command.Field.TheVariants as f
 use Rattle.bz_words.specs.declared.fault.CommandFault.TheVariants.{Unknown, Arguments}
 
 abbrev pub WorkedWords : Type 0
@@ -73,6 +78,53 @@ Attributes =
     × reads (codes "copy a *") (Ok (Copy (codes "a") (codes "*"))) × is_refused (codes "copy * a") × is_refused (codes "copy a")
     × reads (codes "copy_no_overwrite a b") (Ok (CopyNoOverwrite (codes "a") (codes "b"))) × is_refused (codes "copy_no_overwrite a b c")
 
+abbrev entry : Bytes → Bytes → Entry
+entry key value = record { key = key; value = value }
+
+abbrev symbol : Bytes → Bytes → Symbol
+symbol to from = record { to = to; from = from }
+
+abbrev Dicts : Type 0
+Dicts =
+    -- the key ends at the first colon
+    reads (codes "dict_add env A:1:2") (Ok (DictAdd (codes "env") (entry (codes "A") (codes "1:2") ∷ [])))
+    × reads (codes "dict_add env A:1 :") (Ok (DictAdd (codes "env") (entry (codes "A") (codes "1") ∷ entry [] [] ∷ [])))
+    × is_refused (codes "dict_add env A") × is_refused (codes "dict_add env A:1 B") × is_refused (codes "dict_add env") × is_refused (codes "dict_add a.b A:1")
+    × reads (codes "dict_set env A:1") (Ok (DictSet (codes "env") (entry (codes "A") (codes "1") ∷ []))) × is_refused (codes "dict_set env A")
+    × reads (codes "dict_remove env A:1 B") (Ok (DictRemove (codes "env") (codes "A:1" ∷ codes "B" ∷ []))) × is_refused (codes "dict_remove env")
+
+abbrev Loads : Type 0
+Loads =
+    reads (codes "new_load //a:b.bzl x y=z") (Ok (NewLoad (codes "//a:b.bzl") (symbol (codes "x") (codes "x") ∷ symbol (codes "y") (codes "z") ∷ [])))
+    × is_refused (codes "new_load p a=b=c") × is_refused (codes "new_load p =a") × is_refused (codes "new_load p a-b") × is_refused (codes "new_load p")
+
+abbrev Comments : Type 0
+Comments =
+    reads (codes "comment deps :x why\\ not") (Ok (Comment (h.Item (codes "deps") (codes ":x")) (codes "why not")))
+    × reads (codes "comment deps why") (Ok (Comment (h.Attribute (codes "deps")) (codes "why")))
+    × reads (codes "comment why") (Ok (Comment h.Rule (codes "why")))
+    × is_refused (codes "comment") × is_refused (codes "comment why\nnot") × is_refused (codes "comment a-b why") × is_refused (codes "comment a b c d")
+    × reads (codes "print_comment deps :x") (Ok (PrintComment (h.Item (codes "deps") (codes ":x"))))
+    × is_refused (codes "print_comment a b c") × is_refused (codes "print_comment a-b")
+    × reads (codes "remove_comment") (Ok (RemoveComment h.Rule)) × is_refused (codes "remove_comment in x")
+
+abbrev fixes : Bool → Bool → Fixes
+fixes move_package_to_top unused_loads = record { move_package_to_top = move_package_to_top; unused_loads = unused_loads }
+
+abbrev Fixing : Type 0
+Fixing =
+    reads (codes "fix") (Ok (Fix (fixes true true)))
+    × reads (codes "fix unusedLoads") (Ok (Fix (fixes false true)))
+    × reads (codes "fix unusedLoads movePackageToTop") (Ok (Fix (fixes true true)))
+    × is_refused (codes "fix unusedLoads unusedLoads") × is_refused (codes "fix all")
+
+abbrev Printing : Type 0
+Printing =
+    reads (codes "print") (Ok (Print (f.Attribute (codes "name") ∷ f.Kind ∷ [])))
+    × reads (codes "print name kind") (Ok (Print (f.Attribute (codes "name") ∷ f.Kind ∷ [])))
+    × reads (codes "print rule startline") (Ok (Print (f.Rule ∷ f.StartLine ∷ [])))
+    × is_refused (codes "print label") × is_refused (codes "print a-b")
+
 abbrev Names : Type 0
 Names =
     reads [] (Err Unknown) × reads (codes "grow") (Err Unknown) × reads (codes "Delete") (Err Unknown)
@@ -81,7 +133,7 @@ Names =
     × (command_in false [] ≡ Err Unknown)
 
 abbrev pub WorkedCommands : Type 0
-WorkedCommands = Rules × Values × Attributes × Names
+WorkedCommands = Rules × Values × Attributes × Dicts × Loads × Comments × Fixing × Printing × Names
 
 abbrev pub WorkedStrings : Type 0
 WorkedStrings = (quoted_of (codes "x") ≡ codes "\"x\"") × (quoted_of [] ≡ codes "\"\"") × (quoted_of (codes "it's") ≡ codes "\"it's\"")

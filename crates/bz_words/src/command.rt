@@ -20,6 +20,21 @@ impl Model for Command {
     ghost invariant = { λ command. IsProperCommand command.operation };
 }
 
+impl Command {
+    ghost use Rattle.std.specs.Prelude.{◌≡◌};
+    ghost use Rattle.bz_words.specs.Printing.{prints};
+
+    /// Whether the command prints, and leaves the file as it is.
+    pub fn prints(&self) -> bool
+        ensures { result ≡ prints self.now }
+    {
+        matches!(
+            self.operation,
+            Operation::PrintComment { .. } | Operation::Print { .. }
+        )
+    }
+}
+
 /// What is done to the rules that a target means. Attributes, kinds and values are as they are written: no value is
 /// shortened yet, and none stands in quotation marks.
 #[derive(Debug, Drop)]
@@ -87,6 +102,47 @@ pub enum Operation {
         attribute: Text,
         rule: Text,
     },
+    /// Entries whose key isn't there, one or more, go to the end of the attribute's dict.
+    DictAdd {
+        attribute: Text,
+        entries: Items<Entry>,
+    },
+    /// The same, and the value of a key that is there becomes this one.
+    DictSet {
+        attribute: Text,
+        entries: Items<Entry>,
+    },
+    /// The entries of these keys, one or more, go from the attribute's dict.
+    DictRemove {
+        attribute: Text,
+        keys: Items<Text>,
+    },
+    /// Symbols, one or more, are loaded from a path.
+    NewLoad {
+        path: Text,
+        symbols: Items<Symbol>,
+    },
+    /// A comment is put above.
+    Comment {
+        host: Host,
+        text: Text,
+    },
+    /// The comments are printed.
+    PrintComment {
+        host: Host,
+    },
+    /// The comments go.
+    RemoveComment {
+        host: Host,
+    },
+    /// The file is mended.
+    Fix {
+        fixes: Fixes,
+    },
+    /// Fields of the rules, one or more, are printed.
+    Print {
+        fields: Items<Field>,
+    },
 }
 
 /// Where a new rule goes.
@@ -116,4 +172,51 @@ pub enum Values {
     All,
     /// These values, one or more.
     These(Items<Text>),
+}
+
+/// An entry of a dict, as it is written.
+#[derive(Debug, Drop)]
+pub struct Entry {
+    pub key: Text,
+    pub value: Text,
+}
+
+/// A symbol that is loaded: its name in the file that loads it, and its name in the file that is loaded.
+#[derive(Debug, Drop)]
+pub struct Symbol {
+    pub to: Text,
+    pub from: Text,
+}
+
+/// What carries the comments that a command is meant for.
+#[derive(Debug, Drop)]
+pub enum Host {
+    /// The rule itself.
+    Rule,
+    /// The attribute of this name.
+    Attribute(Text),
+    /// The first item of the attribute's lists that is this value.
+    Item { attribute: Text, value: Text },
+}
+
+/// What `fix` mends.
+#[derive(Clone, Copy, Debug)]
+pub struct Fixes {
+    /// The first rule of kind `package` goes behind the loads.
+    pub move_package_to_top: bool,
+    /// Symbols that nothing uses are loaded no more.
+    pub unused_loads: bool,
+}
+
+/// A field of a rule that is printed.
+#[derive(Debug, Drop)]
+pub enum Field {
+    /// The rule's kind.
+    Kind,
+    /// The line on which the rule begins.
+    StartLine,
+    /// The rule's text.
+    Rule,
+    /// The value of the attribute of this name.
+    Attribute(Text),
 }

@@ -1,7 +1,7 @@
 //! Equal commands.
 ghost use Rattle.std.specs.Prelude.{◌≡◌, IfOk};
 
-use crate::command::{Attributes, Command, Operation, Place, Values};
+use crate::command::{Attributes, Command, Entry, Field, Host, Operation, Place, Symbol, Values};
 use bz_items::{Items, Memory, Text};
 
 fn copied(texts: &Items<Text>) -> Result<Items<Text>, Memory>
@@ -46,6 +46,86 @@ impl Values {
             Values::These(values) => Values::These(copied(values)?),
         })
     }
+}
+
+impl Entry {
+    fn copy(&self) -> Result<Entry, Memory>
+        ensures { IfOk result (λ entry. entry ≡ self.now) }
+    {
+        Ok(Entry {
+            key: self.key.copy()?,
+            value: self.value.copy()?,
+        })
+    }
+}
+
+fn copied_entries(entries: &Items<Entry>) -> Result<Items<Entry>, Memory>
+    ensures { IfOk result (λ copied. copied ≡ entries.now) }
+{
+    let mut copied = Vec::with_capacity(entries.alloc(), entries.len())?;
+    for entry in entries.as_slice() {
+        copied.push(entry.copy()?)?;
+    }
+    Ok(Items::from_vec(copied))
+}
+
+impl Symbol {
+    fn copy(&self) -> Result<Symbol, Memory>
+        ensures { IfOk result (λ symbol. symbol ≡ self.now) }
+    {
+        Ok(Symbol {
+            to: self.to.copy()?,
+            from: self.from.copy()?,
+        })
+    }
+}
+
+fn copied_symbols(symbols: &Items<Symbol>) -> Result<Items<Symbol>, Memory>
+    ensures { IfOk result (λ copied. copied ≡ symbols.now) }
+{
+    let mut copied = Vec::with_capacity(symbols.alloc(), symbols.len())?;
+    for symbol in symbols.as_slice() {
+        copied.push(symbol.copy()?)?;
+    }
+    Ok(Items::from_vec(copied))
+}
+
+impl Host {
+    fn copy(&self) -> Result<Host, Memory>
+        ensures { IfOk result (λ host. host ≡ self.now) }
+    {
+        Ok(match self {
+            Host::Rule => Host::Rule,
+            Host::Attribute(name) => Host::Attribute(name.copy()?),
+            Host::Item { attribute, value } => Host::Item {
+                attribute: attribute.copy()?,
+                value: value.copy()?,
+            },
+        })
+    }
+}
+
+impl Field {
+    fn copy(&self) -> Result<Field, Memory>
+        ensures { IfOk result (λ field. field ≡ self.now) }
+    {
+        Ok(match self {
+            Field::Kind => Field::Kind,
+            Field::StartLine => Field::StartLine,
+            Field::Rule => Field::Rule,
+            Field::Attribute(name) => Field::Attribute(name.copy()?),
+        })
+    }
+}
+
+fn copied_fields(fields: &Items<Field>) -> Result<Items<Field>, Memory>
+    ensures { IfOk result (λ copied. copied ≡ fields.now) }
+{
+    let mut copied = Vec::with_capacity(fields.alloc(), fields.len())?;
+    for field in fields.as_slice() {
+        copied.push(field.copy()?)?;
+    }
+    Ok(Items::from_vec(copied))
 }
 
 impl Operation {
@@ -104,6 +184,32 @@ impl Operation {
             Operation::CopyNoOverwrite { attribute, rule } => Operation::CopyNoOverwrite {
                 attribute: attribute.copy()?,
                 rule: rule.copy()?,
+            },
+            Operation::DictAdd { attribute, entries } => Operation::DictAdd {
+                attribute: attribute.copy()?,
+                entries: copied_entries(entries)?,
+            },
+            Operation::DictSet { attribute, entries } => Operation::DictSet {
+                attribute: attribute.copy()?,
+                entries: copied_entries(entries)?,
+            },
+            Operation::DictRemove { attribute, keys } => Operation::DictRemove {
+                attribute: attribute.copy()?,
+                keys: copied(keys)?,
+            },
+            Operation::NewLoad { path, symbols } => Operation::NewLoad {
+                path: path.copy()?,
+                symbols: copied_symbols(symbols)?,
+            },
+            Operation::Comment { host, text } => Operation::Comment {
+                host: host.copy()?,
+                text: text.copy()?,
+            },
+            Operation::PrintComment { host } => Operation::PrintComment { host: host.copy()? },
+            Operation::RemoveComment { host } => Operation::RemoveComment { host: host.copy()? },
+            Operation::Fix { fixes } => Operation::Fix { fixes: *fixes },
+            Operation::Print { fields } => Operation::Print {
+                fields: copied_fields(fields)?,
             },
         })
     }

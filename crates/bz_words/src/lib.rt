@@ -3,14 +3,22 @@
 
 mod command;
 mod copy;
+mod dicts;
 mod fault;
+mod fixing;
+mod forms;
+mod hosts;
 mod identifier;
 mod laws;
+mod loads;
+mod printing;
 mod quoting;
 mod reading;
 mod words;
 
-pub use command::{Attributes, Command, Operation, Place, Values};
+pub use command::{
+    Attributes, Command, Entry, Field, Fixes, Host, Operation, Place, Symbol, Values,
+};
 pub use fault::CommandFault;
 pub use identifier::{is_identifier, is_kind};
 pub use laws::{

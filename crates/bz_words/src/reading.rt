@@ -1,53 +1,21 @@
 //! What each command reads in the words behind its name.
-ghost use Rattle.std.specs.Prelude.{◌≡◌, ◌⊎◌, ◌∷◌, [], bytes_eq, MatchResult, IfOk, IfErr};
+ghost use Rattle.std.specs.Prelude.{◌≡◌, ◌⊎◌, ◌∷◌, [], Ok, Err, Some, is_some, IfOk, IfErr, IfSome, if◌then◌else◌};
 ghost use Rattle.std.specs.List.{list_any};
 ghost use Rattle.bz_words.specs.Commands as c;
-ghost use Rattle.bz_words.specs.Identifiers.{is_identifier as is_identifier_in};
-ghost use Rattle.bz_words.specs.Words.{is_nonempty};
 
 use crate::command::{Attributes, Command, Operation, Place, Values};
+use crate::dicts::{dict_add_of, dict_remove_of, dict_set_of};
 use crate::fault::CommandFault;
-use crate::identifier::{is_identifier, is_kind};
+use crate::fixing::fix_of;
+use crate::forms::{Read, given, has_values, is_attribute, is_text, take_first};
+use crate::hosts::{comment_of, print_comment_of, remove_comment_of};
+use crate::identifier::is_kind;
+use crate::loads::new_load_of;
+use crate::printing::print_of;
 use crate::words::read_words;
 use bz_items::{Items, Text};
 use std::alloc::Global;
 use std::str;
-
-/// What a command reads.
-type Read = Result<Operation, CommandFault>;
-
-// The first word is taken off.
-fn take_first(words: &mut Vec<Text>) -> Result<Text, CommandFault>
-    ensures { MatchResult result (λ first. words.old.items ≡ first ∷ words.new.items) (λ fault. (words.old.items ≡ []) × (fault ≡ CommandFault.Arguments)) }
-{
-    if words.is_empty() {
-        return Err(CommandFault::Arguments);
-    }
-    Ok(words.remove(0))
-}
-
-// The command, where its words have the form that it asks for.
-fn given(holds: bool, operation: Operation) -> Read
-    ensures { result ≡ c.given holds operation }
-{
-    if holds {
-        Ok(operation)
-    } else {
-        Err(CommandFault::Arguments)
-    }
-}
-
-fn is_attribute(word: &Text) -> bool
-    ensures { result ≡ is_identifier_in word.now }
-{
-    is_identifier(word.as_slice())
-}
-
-fn is_text(word: &Text, text: &[u8]) -> bool
-    ensures { result ≡ bytes_eq word.now text.now }
-{
-    word.as_slice() == text
-}
 
 fn is_star(word: &Text) -> bool
     ensures { result ≡ c.is_star word.now }
@@ -65,15 +33,6 @@ fn is_word_kind(word: &Text) -> bool
     ensures { result ≡ c.is_word_kind word.now }
 {
     is_text(word, b"kind")
-}
-
-fn has_values(words: &Vec<Text>) -> bool
-    ensures { result ≡ is_nonempty words.now.items }
-{
-    match words.as_slice() {
-        [] => false,
-        _ => true,
-    }
 }
 
 fn attributes_of(word: Text) -> Option<Attributes>
@@ -271,26 +230,39 @@ fn copy_no_overwrite_of(words: Vec<Text>) -> Read
 
 // What the command of this name reads in the words behind it.
 fn named_of(name: &str, words: Vec<Text>) -> Option<Read>
-    ensures { result ≡ c.named_in c.commands name.now words.items }
+    ensures known { is_some result ≡ is_some (c.named_in c.commands name.now words.items) }
+    ensures ok { IfSome result (λ read. IfOk read (λ operation. c.named_in c.commands name.now words.items ≡ Some (Ok operation))) }
+    ensures err { IfSome result (λ read. IfErr read (λ fault. (c.named_in c.commands name.now words.items ≡ Some (Err fault)) ⊎ (fault ≡ CommandFault.Memory))) }
 {
-    Some(match name {
-        "new" => new_of(words),
-        "delete" => delete_of(words),
-        "set" => set_of(words),
-        "set_if_absent" => set_if_absent_of(words),
-        "add" => add_of(words),
-        "remove" => remove_of(words),
-        "replace" => replace_of(words),
-        "move" => move_of(words),
-        "rename" => rename_of(words),
-        "copy" => copy_of(words),
-        "copy_no_overwrite" => copy_no_overwrite_of(words),
-        _ => return None,
-    })
+    match name {
+        "new" => Some(new_of(words)),
+        "delete" => Some(delete_of(words)),
+        "set" => Some(set_of(words)),
+        "set_if_absent" => Some(set_if_absent_of(words)),
+        "add" => Some(add_of(words)),
+        "remove" => Some(remove_of(words)),
+        "replace" => Some(replace_of(words)),
+        "move" => Some(move_of(words)),
+        "rename" => Some(rename_of(words)),
+        "copy" => Some(copy_of(words)),
+        "copy_no_overwrite" => Some(copy_no_overwrite_of(words)),
+        "dict_add" => Some(dict_add_of(words)),
+        "dict_set" => Some(dict_set_of(words)),
+        "dict_remove" => Some(dict_remove_of(words)),
+        "new_load" => Some(new_load_of(words)),
+        "comment" => Some(comment_of(words)),
+        "print_comment" => Some(print_comment_of(words)),
+        "remove_comment" => Some(remove_comment_of(words)),
+        "fix" => Some(fix_of(words.as_slice())),
+        "print" => Some(print_of(words)),
+        _ => None,
+    }
 }
 
 fn known(name: &Text, words: Vec<Text>) -> Option<Read>
-    ensures { result ≡ c.named_in c.commands name.now words.items }
+    ensures known { is_some result ≡ is_some (c.named_in c.commands name.now words.items) }
+    ensures ok { IfSome result (λ read. IfOk read (λ operation. c.named_in c.commands name.now words.items ≡ Some (Ok operation))) }
+    ensures err { IfSome result (λ read. IfErr read (λ fault. (c.named_in c.commands name.now words.items ≡ Some (Err fault)) ⊎ (fault ≡ CommandFault.Memory))) }
 {
     match str::from_utf8(name.as_slice()) {
         Ok(name) => named_of(name, words),
@@ -298,17 +270,27 @@ fn known(name: &Text, words: Vec<Text>) -> Option<Read>
     }
 }
 
+// A text that is too long is wrong in its arguments.
+fn within_limit(fits: bool, read: Read) -> Read
+    ensures { result ≡ (if fits then read else Err CommandFault.Arguments) }
+{
+    if fits {
+        read
+    } else {
+        Err(CommandFault::Arguments)
+    }
+}
+
 // An unknown name is told first, then a text that is too long, then what is wrong with the words.
 fn command_in(fits: bool, mut words: Vec<Text>) -> Read
-    ensures { result ≡ c.command_in fits words.items }
+    ensures ok { IfOk result (λ operation. c.command_in fits words.items ≡ Ok operation) }
+    ensures err { IfErr result (λ fault. (c.command_in fits words.items ≡ Err fault) ⊎ (fault ≡ CommandFault.Memory)) }
 {
-    if words.is_empty() {
+    let Ok(name) = take_first(&mut words) else {
         return Err(CommandFault::Unknown);
-    }
-    let name = words.remove(0);
+    };
     match known(&name, words) {
-        Some(read) if fits => read,
-        Some(_read) => Err(CommandFault::Arguments),
+        Some(read) => within_limit(fits, read),
         None => Err(CommandFault::Unknown),
     }
 }

@@ -1,8 +1,8 @@
-use Rattle.std.proofs.Common.{sym, ◌∙◌}
+use Rattle.std.proofs.Common.{sym}
 use Rattle.bz_words.proofs.ProperCommands.{read_proper}
 use Rattle.bz_words.proofs.command.Command.read.Goals as goal
 
 pub invariant_of-result : goal.invariant_of-result
 invariant_of-result c =
     read_proper c.as_bytes.result.now _ c.in_ok-words.words.items c.in_ok-operation.operation c.as_bytes.ensures.utf8 c.in_ok-words.ensures
-    (sym c.in_ok-operation.was ∙ c.command_in.ensures)
+    (sym c.in_ok-operation.ensures.ok)
