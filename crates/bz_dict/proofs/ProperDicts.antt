@@ -1,0 +1,204 @@
+-- What each command on dicts makes of the arguments of a rule is arguments.
+use Rattle.std.proofs.Common.{◌≡◌, Bool, true, false, not, List, [], ◌∷◌, ◌++◌, Ok, Err, refl, sym, ◌∙◌, map, arith, codes, true≢false}
+use Rattle.std.specs.Prelude.{if◌then◌else◌}
+use Rattle.std.specs.List.{list_any}
+use Rattle.std.proofs.lemmas.List.Elements.{All-nil}
+use Rattle.bz_token.specs.declared.class.Class.TheVariants as c
+use Rattle.bz_tree.specs.declared.kind.Kind.{Kind}
+use Rattle.bz_tree.specs.declared.kind.Kind.TheVariants as k
+use Rattle.bz_tree.specs.Shapes as s
+use Rattle.bz_tree.specs.Shapes.{is_kind}
+use Rattle.bz_tree.specs.Legal.{IsSort}
+use Rattle.bz_tree.specs.Spots.{Spot, Within}
+use Rattle.bz_value.specs.declared.value.Expr.{Expr, Token, Form', items-the_row-Expr}
+use Rattle.bz_value.specs.Comments.{no_comments}
+use Rattle.bz_value.specs.Gaps.{Bytes}
+use Rattle.bz_value.specs.Proper.{IsComment, AreComments, behind_expr}
+use Rattle.bz_value.specs.Roots.{root}
+use Rattle.bz_value.specs.Roots as r
+use Rattle.bz_value.proofs.FormParts.{AreParts, form_proper}
+use Rattle.bz_words.specs.declared.command.Entry.{Entry}
+use Rattle.bz_words.specs.Proper.{IsAttribute, IsEntry, EachIs, AreSome}
+use Rattle.bz_words.specs.Quoted.{quoted_of}
+use Rattle.bz_write.specs.Layout.{is_empty}
+use Rattle.bz_rule.specs.Values.{has_kind, items_of, with_items, on_row, on_items, on_third}
+use Rattle.bz_rule.proofs.ProperBrackets.{lead_before}
+use Rattle.bz_rule.proofs.ProperChanges.{by_test}
+use Rattle.bz_rule.proofs.ProperForms.{AsForm, InPlace, itself, form_in_place}
+use Rattle.bz_rule.proofs.ProperItems.{IsValue, KeepsRow, row_within, item_within, value_in_place, all_joined, all_kept}
+use Rattle.bz_rule.proofs.ProperSequences.{IsItem, AreOf, items_apart, each_item, items_again, where_true}
+use Rattle.bz_rule.proofs.ProperSequences as sequences
+use Rattle.bz_attribute.specs.declared.refusal.Refusal.TheVariants.{NotADict}
+use Rattle.bz_attribute.specs.Attributes.{on_first_that, with_value, with_new, without}
+use Rattle.bz_attribute.specs.Made.{token, mark, string_text, string_of}
+use Rattle.bz_attribute.proofs.ProperAttributes.{AreArguments, Made, Keeps, of_attribute, with_value_kept, without_kept, with_new_kept}
+use Rattle.bz_attribute.proofs.ProperMade.{IsNew, new_value, token_new, quoted_string, string_strung}
+use Rattle.bz_attribute.proofs.ProperTexts.{one_ascii}
+use Rattle.bz_dict.specs.Dicts.{has_key, has_some_key, entry_made, with_entry, with_entries, with_entry_value, with_entry_set, with_entries_set, without_entries, dict_of, on_dict, dict_add, dict_set, cleared, without_keys, dict_remove}
+
+-- ---- new entries and new dicts
+
+none_there : AreComments no_comments
+none_there = (All-nil IsComment, tt)
+
+-- a new part of a row before others
+new_part : (outer here : Spot) (x : Expr) (xs : List Expr) → IsNew x → AreParts false outer (behind_expr outer here x) xs → AreParts false outer here (x ∷ xs)
+new_part outer here x xs n h = (n.proper here, n.comments, λ b. absurd (true≢false (sym b ∙ n.breaks)), h)
+
+key_new : (entry : Entry) → IsEntry entry → IsNew (token c.String (quoted_of entry.key))
+key_new entry e = let strung = quoted_string entry.key e.0 in token_new c.String (quoted_of entry.key) strung.0 strung.1
+
+value_new : (current name : Bytes) (entry : Entry) → IsEntry entry → IsNew (string_of current name entry.value)
+value_new current name entry e = let strung = string_strung current name entry.value e.1 in token_new c.String (string_text current name entry.value) strung.0 strung.1
+
+colon_new : IsNew (mark (codes ":"))
+colon_new = token_new c.Mark (58 ∷ []) refl (one_ascii 58 (omega arith))
+
+entry_item : (current name : Bytes) (entry : Entry) → IsEntry entry → IsItem s.entry (entry_made current name entry)
+entry_item current name entry e =
+    let key : Expr = token c.String (quoted_of entry.key) in
+    let colon : Expr = mark (codes ":") in
+    let value : Expr = string_of current name entry.value in (
+      (
+        form_proper Within (record { kind = k.Entry; parts = key ∷ colon ∷ value ∷ []; seq = record { items = []; end_ = []; split = false }; open_ = false; comments = no_comments })
+            (refl, (refl, (refl, tt))) (
+              new_part Within Within key (colon ∷ value ∷ []) (key_new entry e)
+                  (new_part Within (behind_expr Within Within key) colon (value ∷ []) colon_new
+                  (new_part Within (behind_expr Within (behind_expr Within Within key) colon) value [] (value_new current name entry e) tt)),
+              tt,
+              refl,
+              refl,
+              λ o. absurd (true≢false (sym o)),
+            ),
+        none_there,
+        refl,
+      ),
+      refl,
+    )
+
+dict_new : (items : List Expr) → AreOf s.entry items → IsNew (dict_of items)
+dict_new items h = record {
+  proper = λ here.
+      form_proper here (record { kind = k.Dict; parts = []; seq = record { items = items; end_ = []; split = false }; open_ = false; comments = no_comments })
+      (refl, items_again s.entry s.close_curly (r.mark 125) refl items h) (tt, each_item s.entry s.close_curly (r.mark 125) items h, All-nil IsComment, refl);
+  comments = refl;
+  breaks = refl;
+}
+
+dict_value : (items : List Expr) → AreOf s.entry items → IsValue (dict_of items)
+dict_value items h = new_value (dict_of items) (dict_new items h) refl
+
+-- ---- a dict with other entries
+
+-- a change of items that keeps what entries are
+abbrev KeepsEntries : (List Expr → List Expr) → Type 0
+KeepsEntries change = sequences.Keeps s.entry change
+
+dict_items : (change : List Expr → List Expr) → KeepsEntries change → (here : Spot) (end_ : List Bytes) (split open_ : Bool) (ps xs : List Expr)
+    → AsForm here k.Dict ps xs end_ split open_ → AsForm here k.Dict ps (change xs) end_ split open_
+dict_items change keeps here end_ split open_ [] xs h =
+    let all : AreOf s.entry (change xs) = keeps xs (items_apart s.entry s.close_curly (r.mark 125) xs h.1.1 h.0.1) in
+    ((h.0.0, items_again s.entry s.close_curly (r.mark 125) refl (change xs) all), (h.1.0, each_item s.entry s.close_curly (r.mark 125) (change xs) all, h.1.2, h.1.3))
+dict_items change keeps here end_ split open_ (p ∷ ps) xs h = let n = lead_before k.Dict (map root (p ∷ ps)) (map root xs) h.0 in absurd (omega arith)
+
+only_dict : (change : List Expr → List Expr) → KeepsEntries change → (kind : Kind) → is_kind kind k.Dict ≡ true → (here : Spot) (end_ : List Bytes) (split open_ : Bool) (ps xs : List Expr)
+    → AsForm here kind ps xs end_ split open_ → AsForm here kind ps (change xs) end_ split open_
+only_dict change keeps k.Dict is = dict_items change keeps
+only_dict change keeps _ is = absurd (true≢false (sym is))
+
+changed_dict : (change : List Expr → List Expr) → KeepsEntries change → (x : Expr) → has_kind k.Dict x ≡ true → InPlace x (with_items (change (items_of x)) x)
+changed_dict change keeps (Token t) is = itself (Token t)
+changed_dict change keeps (Form' kind s parts s' items end_ split open_ comments) is =
+    form_in_place (items-the_row-Expr _ parts) (change (items-the_row-Expr _ items)) (Form' kind s parts s' items end_ split open_ comments)
+    (λ here h. only_dict change keeps kind is here end_ split open_ (items-the_row-Expr _ parts) (items-the_row-Expr _ items) h)
+
+dict_in_place : (change : List Expr → List Expr) → KeepsEntries change → (x : Expr) → InPlace x (on_items k.Dict change x)
+dict_in_place change keeps x = where_true (has_kind k.Dict x) x (with_items (change (items_of x)) x) (changed_dict change keeps x)
+
+-- ---- an entry with another value
+
+module _ (value : Expr) (new : IsNew value) (sort : IsSort s.test (root value)) where
+  value_kept : KeepsRow k.Entry (on_third (λ old. value))
+  value_kept end_ split open_ [] xs h = absurd h.0
+  value_kept end_ split open_ (x ∷ []) xs h = absurd h.0.1
+  value_kept end_ split open_ (x ∷ y ∷ []) xs h = absurd h.0.1.1
+  value_kept end_ split open_ (x ∷ y ∷ v ∷ []) xs h =
+      let g = h.1.0 in (
+        (h.0.0, (h.0.1.0, (sort, tt))),
+        (
+          (g.0, g.1, g.2, (g.3.0, g.3.1, g.3.2, new_part Within (behind_expr Within (behind_expr Within Within x) y) value [] new tt)),
+          h.1.1,
+          h.1.2,
+          h.1.3,
+          h.1.4,
+        ),
+      )
+  value_kept end_ split open_ (x ∷ y ∷ v ∷ w ∷ rest) xs h = absurd h.0.1.1.1
+
+  only_entry : (kind : Kind) → is_kind kind k.Entry ≡ true → KeepsRow kind (on_third (λ old. value))
+  only_entry k.Entry is = value_kept
+  only_entry _ is = absurd (true≢false (sym is))
+
+  entry_changed : (x : Expr) → IsItem s.entry x → IsItem s.entry (on_row k.Entry (on_third (λ old. value)) x)
+  entry_changed x = item_within s.entry x (on_row k.Entry (on_third (λ old. value)) x) (row_within k.Entry (on_third (λ old. value)) only_entry x)
+
+-- ---- the entries of a dict
+
+module _ (current name : Bytes) where
+  entry_pushed : (entry : Entry) → IsEntry entry → KeepsEntries (λ items. items ++ entry_made current name entry ∷ [])
+  entry_pushed entry e items h = all_joined (IsItem s.entry) items (entry_made current name entry ∷ []) h (entry_item current name entry e, tt)
+
+  entry_added : (entry : Entry) → IsEntry entry → KeepsEntries (with_entry current name entry)
+  entry_added entry e items h = by_test (AreOf s.entry) (list_any (has_key entry.key) items) items (items ++ entry_made current name entry ∷ []) h (entry_pushed entry e items h)
+
+  entries_added : (entries : List Entry) → EachIs IsEntry entries → KeepsEntries (with_entries current name entries)
+  entries_added [] e items h = h
+  entries_added (entry ∷ entries) e items h = entries_added entries e.1 (with_entry current name entry items) (entry_added entry e.0 items h)
+
+  first_set : (entry : Entry) → IsEntry entry → KeepsEntries (on_first_that (has_key entry.key) (with_entry_value current name entry))
+  first_set entry e [] h = tt
+  first_set entry e (x ∷ xs) h =
+      let value : Expr = string_of current name entry.value in
+      by_test (AreOf s.entry) (has_key entry.key x) (with_entry_value current name entry x ∷ xs) (x ∷ on_first_that (has_key entry.key) (with_entry_value current name entry) xs)
+      (entry_changed value (value_new current name entry e) refl x h.0, h.1) (h.0, first_set entry e xs h.1)
+
+  entry_set : (entry : Entry) → IsEntry entry → KeepsEntries (with_entry_set current name entry)
+  entry_set entry e items h =
+      by_test (AreOf s.entry) (list_any (has_key entry.key) items) (on_first_that (has_key entry.key) (with_entry_value current name entry) items) (items ++ entry_made current name entry ∷ [])
+      (first_set entry e items h) (entry_pushed entry e items h)
+
+  entries_set : (entries : List Entry) → EachIs IsEntry entries → KeepsEntries (with_entries_set current name entries)
+  entries_set [] e items h = h
+  entries_set (entry ∷ entries) e items h = entries_set entries e.1 (with_entry_set current name entry items) (entry_set entry e.0 items h)
+
+-- ---- the commands
+
+dict_changed : (name : Bytes) (change : List Expr → List Expr) → IsAttribute name → KeepsEntries change → Keeps (on_dict name change)
+dict_changed name change a keeps xs h =
+    let new : Expr = dict_of (change []) in
+    of_attribute name xs (Ok (with_new name new xs)) (λ value. if has_kind k.Dict value then Ok (with_value name (on_items k.Dict change value) xs) else Err NotADict) h
+    (with_new_kept name new xs a (dict_value (change []) (keeps [] tt)) h)
+    (λ value v. by_test Made (has_kind k.Dict value) (Ok (with_value name (on_items k.Dict change value) xs)) (Err NotADict)
+    (with_value_kept name (on_items k.Dict change value) xs (value_in_place value (on_items k.Dict change value) (dict_in_place change keeps value) v) h) tt)
+
+pub dict_add_keeps : (current name : Bytes) (entries : List Entry) → IsAttribute name → AreSome IsEntry entries → Keeps (dict_add current name entries)
+dict_add_keeps current name entries a e = dict_changed name (with_entries current name entries) a (entries_added current name entries e.1)
+
+pub dict_set_keeps : (current name : Bytes) (entries : List Entry) → IsAttribute name → AreSome IsEntry entries → Keeps (dict_set current name entries)
+dict_set_keeps current name entries a e = dict_changed name (with_entries_set current name entries) a (entries_set current name entries e.1)
+
+fewer_entries : (keys : List Bytes) → KeepsEntries (without_entries keys)
+fewer_entries keys items h = all_kept (IsItem s.entry) (λ x. not (has_some_key keys x)) items h
+
+without_keys_kept : (name : Bytes) (keys : List Bytes) (value : Expr) (xs : List Expr) → IsValue value → AreArguments xs → AreArguments (without_keys name keys value xs)
+without_keys_kept name keys value xs v h =
+    let less : Expr = on_items k.Dict (without_entries keys) value in
+    by_test AreArguments (list_any (has_some_key keys) (items_of value)) (cleared name (without_entries keys (items_of value)) value xs) xs
+    (by_test AreArguments (is_empty (without_entries keys (items_of value))) (without name xs) (with_value name less xs) (without_kept name xs h)
+    (with_value_kept name less xs (value_in_place value less (dict_in_place (without_entries keys) (fewer_entries keys) value) v) h))
+    h
+
+pub dict_remove_keeps : (name : Bytes) (keys : List Bytes) → Keeps (dict_remove name keys)
+dict_remove_keeps name keys xs h =
+    of_attribute name xs (Ok xs) (λ value. if has_kind k.Dict value then Ok (without_keys name keys value xs) else Err NotADict) h h
+    (λ value v. by_test Made (has_kind k.Dict value) (Ok (without_keys name keys value xs)) (Err NotADict) (without_keys_kept name keys value xs v h) tt)

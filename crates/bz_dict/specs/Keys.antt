@@ -1,0 +1,49 @@
+-- What is known of the keys of a dict while its entries change, and of the keys that go.
+use Rattle.std.specs.Prelude.{◌≡◌, ℕ, Bool, false, List, Vec, Option, map, bytes_eq}
+use Rattle.std.specs.List.{list_any, position_from}
+use Rattle.std.specs.Option.{option_map_or}
+use Rattle.std.specs.Ordering.{nat_cmp}
+use Rattle.std.specs.Cmp.Lexicographic.{slice_cmp}
+use Rattle.std.specs.BTreeMap as tree
+use Rattle.std.specs.BTreeMap.{BTreeMap}
+use Rattle.std.specs.BTreeSet.{BTreeSet}
+use Rattle.std.specs.declared.alloc.Global.{Global}
+use Rattle.bz_value.specs.declared.value.Expr.{Expr}
+use Rattle.bz_value.specs.Gaps.{Bytes}
+use Rattle.bz_words.specs.declared.command.Entry.{Entry}
+use Rattle.bz_dict.specs.declared.entries.Change.{Change}
+use Rattle.bz_dict.specs.declared.entries.Change.TheVariants.{Add, Set}
+use Rattle.bz_dict.specs.Dicts.{key_of, has_key, with_entry, with_entries, with_entry_set, with_entries_set}
+
+-- ---- the places of the keys
+
+-- what the map has at a key
+abbrev pub place_at : BTreeMap (Vec ℕ Global) ℕ → Bytes → Option ℕ
+place_at places key = tree.get_by (λ (text : Vec ℕ Global). slice_cmp nat_cmp key text.items) places
+
+-- where the first entry of a key stands
+abbrev pub first_place : List Expr → Bytes → Option ℕ
+first_place items key = position_from (has_key key) 0 items
+
+-- The map has each key of these entries, at the place of its first entry, and no other key.
+abbrev pub AreIndexed : BTreeMap (Vec ℕ Global) ℕ → List Expr → Type 0
+AreIndexed places items = (key : Bytes) → place_at places key ≡ first_place items key
+
+-- ---- the change of the entries, by what becomes of an entry whose key is there
+
+abbrev pub entry_put : Change → Bytes → Bytes → Entry → List Expr → List Expr
+entry_put Add current name entry items = with_entry current name entry items
+entry_put Set current name entry items = with_entry_set current name entry items
+
+abbrev pub entries_put : Change → Bytes → Bytes → List Entry → List Expr → List Expr
+entries_put Add current name entries items = with_entries current name entries items
+entries_put Set current name entries items = with_entries_set current name entries items
+
+-- ---- the keys that go
+
+abbrev pub texts_of : BTreeSet (Vec ℕ Global) → List Bytes
+texts_of set = map (λ (text : Vec ℕ Global). text.items) set.keys
+
+-- whether an entry's key is in the set
+abbrev pub is_chosen : BTreeSet (Vec ℕ Global) → Expr → Bool
+is_chosen chosen x = option_map_or (λ key. list_any (bytes_eq key) (texts_of chosen)) (key_of x) false

@@ -1,0 +1,224 @@
+//! Entries that are added to the dict of an attribute, and values that are set in it.
+ghost use Rattle.std.specs.Prelude.{◌≡◌, ◌⊎◌, ◌∷◌, ◌++◌, [], Ok, Err, IfOk, OnOk, IfErr, true, false};
+ghost use Rattle.bz_tree.specs.declared.kind.Kind.TheVariants as kinds;
+ghost use Rattle.bz_rule.specs.Values.{has_kind as is_of, on_items};
+ghost use Rattle.bz_attribute.specs.declared.refusal.Refusal.TheVariants.{NotADict};
+ghost use Rattle.bz_dict.specs.Dicts as d;
+ghost use Rattle.bz_dict.specs.Keys.{AreIndexed, entry_put, entries_put};
+
+use crate::entries::{self, Change, dict_of, entry_made};
+use crate::keys::{place_at, places_of, put_place};
+use bz_attribute::{Refusal, add_attribute, has_kind, set_value, string_of, take_value};
+use bz_items::{Items, Memory};
+use bz_tree::Kind;
+use bz_value::Expr;
+use bz_words::Entry;
+use std::alloc::Global;
+use std::collections::BTreeMap;
+use std::mem;
+
+/// A new entry goes last.
+fn push_entry(
+    alloc: Global,
+    current: &[u8],
+    name: &[u8],
+    entry: &Entry,
+    places: &mut BTreeMap<Vec<u8>, usize>,
+    items: &mut Vec<Expr>,
+) -> Result<(), Memory>
+    requires { AreIndexed places.old items.old.items }
+    ensures items { OnOk result (items.new.items ≡ items.old.items ++ d.entry_made current.now name.now entry.now ∷ []) }
+    ensures places { OnOk result (AreIndexed places.new items.new.items) }
+{
+    let x = entry_made(alloc, current, name, entry)?;
+    put_place(alloc, &x, items.len(), places)?;
+    items.push(x)?;
+    Ok(())
+}
+
+/// An entry gets the value of this one.
+fn set_entry(
+    alloc: Global,
+    current: &[u8],
+    name: &[u8],
+    entry: &Entry,
+    x: &mut Expr,
+) -> Result<(), Memory>
+    ensures { OnOk result (x.new ≡ d.with_entry_value current.now name.now entry.now x.old) }
+{
+    let value = string_of(alloc, current, name, entry.value.as_slice())?;
+    entries::set_value(alloc, value, x);
+    Ok(())
+}
+
+/// Puts an entry to those of a dict.
+fn put_entry(
+    alloc: Global,
+    change: Change,
+    current: &[u8],
+    name: &[u8],
+    entry: &Entry,
+    places: &mut BTreeMap<Vec<u8>, usize>,
+    items: &mut Vec<Expr>,
+) -> Result<(), Memory>
+    requires { AreIndexed places.old items.old.items }
+    ensures items { OnOk result (items.new.items ≡ entry_put change current.now name.now entry.now items.old.items) }
+    ensures places { OnOk result (AreIndexed places.new items.new.items) }
+{
+    let Some(at) = place_at(places, entry.key.as_slice()) else {
+        push_entry(alloc, current, name, entry, places, items)?;
+        return Ok(());
+    };
+    match change {
+        Change::Add => Ok(()),
+        Change::Set => {
+            set_entry(alloc, current, name, entry, &mut items[at])?;
+            Ok(())
+        }
+    }
+}
+
+/// Puts entries to those of a dict, one after the other.
+fn put_entries(
+    alloc: Global,
+    change: Change,
+    current: &[u8],
+    name: &[u8],
+    entries: &[Entry],
+    items: &mut Vec<Expr>,
+) -> Result<(), Memory>
+    ensures { OnOk result (items.new.items ≡ entries_put change current.now name.now entries.now items.old.items) }
+{
+    let mut places = places_of(alloc, items.as_slice())?;
+    for entry in entries {
+        put_entry(alloc, change, current, name, entry, &mut places, items)?;
+    }
+    Ok(())
+}
+
+/// The same for items that can grow.
+fn put_into_items(
+    alloc: Global,
+    change: Change,
+    current: &[u8],
+    name: &[u8],
+    entries: &[Entry],
+    items: &mut Items<Expr>,
+) -> Result<(), Memory>
+    ensures { OnOk result (items.new ≡ entries_put change current.now name.now entries.now items.old) }
+{
+    let mut all = mem::replace(items, Items::new(alloc)).into_vec();
+    put_entries(alloc, change, current, name, entries, &mut all)?;
+    *items = Items::from_vec(all);
+    Ok(())
+}
+
+/// The same for a dict; any other expression stays.
+fn put_into_dict(
+    alloc: Global,
+    change: Change,
+    current: &[u8],
+    name: &[u8],
+    entries: &[Entry],
+    x: &mut Expr,
+) -> Result<(), Memory>
+    ensures { OnOk result (x.new ≡ on_items kinds.Dict (entries_put change current.now name.now entries.now) x.old) }
+{
+    match x {
+        Expr::Token(_) => Ok(()),
+        Expr::Form(form) => {
+            if form.kind == Kind::Dict {
+                put_into_items(alloc, change, current, name, entries, &mut form.seq.items)?;
+            }
+            Ok(())
+        }
+    }
+}
+
+/// A dict of the entries where there are none.
+fn new_dict(
+    alloc: Global,
+    change: Change,
+    current: &[u8],
+    name: &[u8],
+    entries: &[Entry],
+) -> Result<Expr, Memory>
+    ensures { IfOk result (λ dict. dict ≡ d.dict_of (entries_put change current.now name.now entries.now [])) }
+{
+    let mut items = Vec::new(alloc);
+    put_entries(alloc, change, current, name, entries, &mut items)?;
+    Ok(dict_of(alloc, Items::from_vec(items)))
+}
+
+/// A value with the entries, where it is a dict.
+fn value_with(
+    alloc: Global,
+    change: Change,
+    current: &[u8],
+    name: &[u8],
+    entries: &[Entry],
+    mut value: Expr,
+) -> Result<Expr, Refusal>
+    ensures ok { IfOk result (λ new. (new ≡ on_items kinds.Dict (entries_put change current.now name.now entries.now) value) × (is_of kinds.Dict value ≡ true)) }
+    ensures err { IfErr result (λ refusal. ((refusal ≡ NotADict) × (is_of kinds.Dict value ≡ false)) ⊎ (refusal ≡ Refusal.Memory)) }
+{
+    if !has_kind(Kind::Dict, &value) {
+        return Err(Refusal::NotADict);
+    }
+    put_into_dict(alloc, change, current, name, entries, &mut value)?;
+    Ok(value)
+}
+
+/// Puts entries into the dict of an attribute; where that is absent, into a new one.
+fn change_dict(
+    alloc: Global,
+    change: Change,
+    current: &[u8],
+    name: &[u8],
+    entries: &[Entry],
+    arguments: &mut Items<Expr>,
+) -> Result<(), Refusal>
+    ensures ok { OnOk result (d.on_dict name.now (entries_put change current.now name.now entries.now) arguments.old ≡ Ok arguments.new) }
+    ensures err { IfErr result (λ refusal. (d.on_dict name.now (entries_put change current.now name.now entries.now) arguments.old ≡ Err refusal) ⊎ (refusal ≡ Refusal.Memory)) }
+{
+    let Some(value) = take_value(alloc, name, arguments) else {
+        let dict = new_dict(alloc, change, current, name, entries)?;
+        add_attribute(alloc, name, dict, arguments)?;
+        return Ok(());
+    };
+    let new = value_with(alloc, change, current, name, entries, value)?;
+    set_value(alloc, name, new, arguments);
+    Ok(())
+}
+
+/// Adds entries, as strings, to the end of the attribute's dict, each where no entry has its key; where the attribute is
+/// absent, it gets a dict of them. `current` is the path of the file's package. A key is there where an entry's key is a
+/// plain string of that body. Errors: `NotADict`: the attribute's value is no dict; `Memory`: a growth was refused. Part of
+/// the arguments is then lost.
+pub fn dict_add(
+    alloc: Global,
+    current: &[u8],
+    name: &[u8],
+    entries: &[Entry],
+    arguments: &mut Items<Expr>,
+) -> Result<(), Refusal>
+    ensures ok { OnOk result (d.dict_add current.now name.now entries.now arguments.old ≡ Ok arguments.new) }
+    ensures err { IfErr result (λ refusal. (d.dict_add current.now name.now entries.now arguments.old ≡ Err refusal) ⊎ (refusal ≡ Refusal.Memory)) }
+{
+    change_dict(alloc, Change::Add, current, name, entries, arguments)
+}
+
+/// As `dict_add`, but where an entry has the key, the first such entry gets the new value. The errors are those of
+/// `dict_add`.
+pub fn dict_set(
+    alloc: Global,
+    current: &[u8],
+    name: &[u8],
+    entries: &[Entry],
+    arguments: &mut Items<Expr>,
+) -> Result<(), Refusal>
+    ensures ok { OnOk result (d.dict_set current.now name.now entries.now arguments.old ≡ Ok arguments.new) }
+    ensures err { IfErr result (λ refusal. (d.dict_set current.now name.now entries.now arguments.old ≡ Err refusal) ⊎ (refusal ≡ Refusal.Memory)) }
+{
+    change_dict(alloc, Change::Set, current, name, entries, arguments)
+}

@@ -1,0 +1,115 @@
+//! Entries of a dict: their keys, new entries, and entries with another value.
+ghost use Rattle.std.specs.Prelude.{◌≡◌, IfOk};
+ghost use Rattle.std.specs.Option.{option_copied};
+ghost use Rattle.bz_tree.specs.declared.kind.Kind.TheVariants as kinds;
+ghost use Rattle.bz_rule.specs.Values.{on_row, on_third};
+ghost use Rattle.bz_attribute.specs.Made.{sequence};
+ghost use Rattle.bz_dict.specs.Dicts.{dict_of, entry_made, key_of};
+
+use bz_attribute::{body_of, has_kind, parts_of, string_of, token};
+use bz_items::{Items, Memory, Text};
+use bz_tree::{Class, Kind};
+use bz_value::{Comments, Expr, Form, Seq};
+use bz_words::{Entry, quoted};
+use std::alloc::Global;
+use std::mem;
+
+/// What becomes of an entry whose key is there.
+#[derive(Clone, Copy)]
+pub(crate) enum Change {
+    /// It stays.
+    Add,
+    /// It gets the new value.
+    Set,
+}
+
+/// A node of these parts and items, without comments.
+fn node(alloc: Global, kind: Kind, parts: Items<Expr>, items: Items<Expr>) -> Expr
+    ensures { result ≡ sequence kind parts items }
+{
+    Expr::Form(Form {
+        kind,
+        parts,
+        seq: Seq {
+            items,
+            end_: Items::new(alloc),
+            split: false,
+        },
+        open_: false,
+        comments: Comments::none(),
+    })
+}
+
+/// A dict of these entries.
+pub(crate) fn dict_of(alloc: Global, items: Items<Expr>) -> Expr
+    ensures { result ≡ dict_of items }
+{
+    node(alloc, Kind::Dict, Items::new(alloc), items)
+}
+
+/// The entry that is put into the dict of an attribute.
+pub(crate) fn entry_made(
+    alloc: Global,
+    current: &[u8],
+    name: &[u8],
+    entry: &Entry,
+) -> Result<Expr, Memory>
+    ensures { IfOk result (λ x. x ≡ entry_made current.now name.now entry.now) }
+{
+    let key = token(Class::String, quoted(alloc, entry.key.as_slice())?);
+    let colon = token(Class::Mark, Text::from_slice(alloc, b":")?);
+    let value = string_of(alloc, current, name, entry.value.as_slice())?;
+    let parts = Vec::from_array(alloc, [key, colon, value])?;
+    Ok(node(
+        alloc,
+        Kind::Entry,
+        Items::from_vec(parts),
+        Items::new(alloc),
+    ))
+}
+
+/// The key of an entry, where it is a plain string.
+pub(crate) fn key_of(x: &Expr) -> Option<&[u8]>
+    ensures { option_copied result ≡ key_of x.now }
+{
+    if !has_kind(Kind::Entry, x) {
+        return None;
+    }
+    match parts_of(x) {
+        [] => None,
+        [key, ..] => body_of(key),
+    }
+}
+
+/// Exchanges an expression for the value behind the colon.
+fn swap_third(other: &mut Expr, parts: &mut [Expr])
+    ensures { parts.new ≡ on_third (λ old. other.old) parts.old }
+{
+    if let [_, _, third, ..] = parts {
+        mem::swap(third, other);
+    }
+}
+
+/// Exchanges an expression for the value of an entry.
+fn swap_value(alloc: Global, other: &mut Expr, x: &mut Expr)
+    ensures { x.new ≡ on_row kinds.Entry (on_third (λ old. other.old)) x.old }
+{
+    match x {
+        Expr::Token(_) => {}
+        Expr::Form(form) => {
+            if form.kind == Kind::Entry {
+                let mut parts = mem::replace(&mut form.parts, Items::new(alloc)).into_vec();
+                swap_third(other, parts.as_mut_slice());
+                form.parts = Items::from_vec(parts);
+            }
+        }
+    }
+}
+
+/// The value of an entry becomes this one.
+pub(crate) fn set_value(alloc: Global, value: Expr, x: &mut Expr)
+    ensures { x.new ≡ on_row kinds.Entry (on_third (λ old. value)) x.old }
+{
+    let mut old = value;
+    swap_value(alloc, &mut old, x);
+}

@@ -1,0 +1,14 @@
+//! The dicts of attributes: entries that are added, set and removed.
+#![tactic(auto)]
+
+mod changing;
+mod entries;
+mod keys;
+mod laws;
+mod removing;
+
+pub use changing::{dict_add, dict_set};
+pub use laws::{
+    added_entries_are_there, adding_entries_again, removing_entries_again, set_entries_are_there,
+};
+pub use removing::dict_remove;
