@@ -1,0 +1,153 @@
+-- Symbols that are loaded already, collected, and those that are none of them.
+use Rattle.std.proofs.Common.{◌≡◌, Bool, true, false, ◌||◌, ◌&&◌, List, [], ◌∷◌, ◌++◌, map, refl, sym, ap, ◌∙◌, true≢false, append_assoc}
+use Rattle.std.specs.Prelude.{bytes_eq, if◌then◌else◌, not, Option, Some, None, option_map}
+use Rattle.std.specs.List.{list_any}
+use Rattle.std.specs.Option.{option_map_or}
+use Rattle.std.proofs.Math.Path.{fun_ext}
+use Rattle.std.proofs.lemmas.Cmp.{nat_list_eq_equiv}
+use Rattle.std.proofs.lemmas.Slice.Eq.{bytes_eq-Decides}
+use Rattle.bz_tree.specs.declared.kind.Kind.TheVariants as k
+use Rattle.bz_value.specs.declared.value.Expr.{Expr}
+use Rattle.bz_value.specs.declared.value.Item.{Item}
+use Rattle.bz_value.specs.Gaps.{Bytes}
+use Rattle.bz_words.specs.declared.command.Symbol.{Symbol}
+use Rattle.bz_rule.specs.Rules.{is_text}
+use Rattle.bz_rule.specs.Values.{has_kind, parts_of, text_of}
+use Rattle.bz_attribute.specs.Lists.{body_of}
+use Rattle.bz_attribute.proofs.KeySets.{or_group, or_none}
+use Rattle.bz_load.specs.Loads.{is_alias_of, loads_symbol, is_load_from, symbols_of, is_loaded}
+use Rattle.bz_load.specs.NewLoad.{is_symbol, new_symbols, symbol_made}
+use Rattle.bz_load.specs.Known.{symbol, alias_in, symbol_in, knows, and_symbol, and_loaded, and_each, and_load, and_loads, unknown}
+use Rattle.bz_load.proofs.KeySets.{known_again}
+
+abbrev Test : Type 0
+Test = Symbol → Bool
+
+-- ---- the symbol that an item of a load loads
+
+alike : (xs ys : Bytes) → bytes_eq xs ys ≡ bytes_eq ys xs
+alike xs ys = nat_list_eq_equiv.symm xs ys
+
+abbrev is_found : Symbol → Option Symbol → Bool
+is_found other found = option_map_or (is_symbol other) found false
+
+alias_found : (other : Symbol) (to : Bytes) (found : Option Bytes) → (bytes_eq to other.to && is_text other.from found) ≡ is_found other (option_map (symbol to) found)
+alias_found other to None = never (bytes_eq to other.to)
+  where
+    never : (b : Bool) → (b && false) ≡ false
+    never true = refl
+    never false = refl
+alias_found other to (Some from) = ap (λ z. z && bytes_eq from other.from) (alike to other.to) ∙ ap (λ z. bytes_eq other.to to && z) (alike from other.from)
+
+alias_told : (other : Symbol) (ps : List Expr) → is_alias_of other ps ≡ is_found other (alias_in ps)
+alias_told other [] = refl
+alias_told other (x ∷ []) = refl
+alias_told other (x ∷ y ∷ []) = refl
+alias_told other (to ∷ equals ∷ from ∷ []) = alias_found other (text_of to) (body_of from)
+alias_told other (x ∷ y ∷ z ∷ w ∷ ps) = refl
+
+both_names : (other : Symbol) (text : Bytes) (b : Bool) → bytes_eq text other.to ≡ b → (b && bytes_eq other.to other.from) ≡ (b && bytes_eq other.from text)
+both_names other text true e = ap (λ z. bytes_eq z other.from) (sym ((bytes_eq-Decides text other.to).0 e)) ∙ alike text other.from
+both_names other text false e = refl
+
+plain_told : (other : Symbol) (found : Option Bytes) → (is_text other.to found && bytes_eq other.to other.from) ≡ is_found other (option_map (λ text. symbol text text) found)
+plain_told other None = refl
+plain_told other (Some text) = both_names other text (bytes_eq text other.to) refl ∙ ap (λ z. z && bytes_eq other.from text) (alike text other.to)
+
+told_by : (other : Symbol) (b : Bool) (one two : Bool) (first second : Option Symbol) → one ≡ is_found other first → two ≡ is_found other second
+    → (if b then one else two) ≡ is_found other (if b then first else second)
+told_by other true one two first second e f = e
+told_by other false one two first second e f = f
+
+symbol_told : (other : Symbol) (x : Expr) → loads_symbol other x ≡ is_found other (symbol_in x)
+symbol_told other x =
+    told_by other (has_kind k.Alias x) (is_alias_of other (parts_of x)) (is_text other.to (body_of x) && bytes_eq other.to other.from) (alias_in (parts_of x)) (option_map (λ text. symbol text text) (body_of x))
+    (alias_told other (parts_of x)) (plain_told other (body_of x))
+
+-- ---- what is known
+
+found_told : (other : Symbol) (found : Option Symbol) (test : Test) → option_map_or (λ added. and_symbol added test) found test other ≡ (is_found other found || test other)
+found_told other None test = refl
+found_told other (Some added) test = refl
+
+each_told : (other : Symbol) (xs : List Expr) (test : Test) → and_each xs test other ≡ (list_any (loads_symbol other) xs || test other)
+each_told other [] test = refl
+each_told other (x ∷ xs) test =
+    each_told other xs (and_loaded x test)
+    ∙ (ap (λ z. list_any (loads_symbol other) xs || z) (found_told other (symbol_in x) test ∙ ap (λ z. z || test other) (sym (symbol_told other x)))
+    ∙ or_group (list_any (loads_symbol other) xs) (loads_symbol other x) (test other))
+
+load_told : (other : Symbol) (b : Bool) (xs : List Expr) (test : Test) → (if b then and_each xs test else test) other ≡ ((b && list_any (loads_symbol other) xs) || test other)
+load_told other true xs test = each_told other xs test
+load_told other false xs test = refl
+
+loads_told : (other : Symbol) (path : Bytes) (items : List Item) (test : Test) → and_loads path items test other ≡ (is_loaded path items other || test other)
+loads_told other path [] test = refl
+loads_told other path (item ∷ items) test =
+    loads_told other path items (and_load path item test)
+    ∙ (ap (λ z. is_loaded path items other || z) (load_told other (is_load_from path item) (symbols_of item) test)
+    ∙ or_group (is_loaded path items other) (is_load_from path item && list_any (loads_symbol other) (symbols_of item)) (test other))
+
+known_told : (path : Bytes) (items : List Item) → and_loads path items (knows []) ≡ is_loaded path items
+known_told path items = fun_ext (λ other. loads_told other path items (knows []) ∙ or_none (is_loaded path items other))
+
+-- ---- the symbols that are not known
+
+or_apart : (a b c : Bool) → ((a || b) || c) ≡ (a || (b || c))
+or_apart true b c = refl
+or_apart false b c = refl
+
+abbrev after : Bytes → List Item → List Symbol → Test
+after path items earlier other = list_any (is_symbol other) earlier || is_loaded path items other
+
+both_ways : (first : Symbol) (b : Bool) {xs ys xs' ys' : List Symbol} → xs ≡ xs' → ys ≡ ys' → (if b then xs else first ∷ ys) ≡ (if b then xs' else first ∷ ys')
+both_ways first true e f = e
+both_ways first false e f = ap (λ zs. first ∷ zs) f
+
+unknown_by : (path : Bytes) (items : List Item) (earlier symbols : List Symbol) → new_symbols path items earlier symbols ≡ unknown (after path items earlier) symbols
+unknown_by path items earlier [] = refl
+unknown_by path items earlier (first ∷ rest) =
+    both_ways first (after path items earlier first) (unknown_by path items earlier rest)
+    (unknown_by path items (first ∷ earlier) rest
+    ∙ ap (λ (test : Test). unknown test rest) (fun_ext (λ other. or_apart (is_symbol other first) (list_any (is_symbol other) earlier) (is_loaded path items other))))
+
+pub unknown_symbols : (path : Bytes) (items : List Item) (symbols : List Symbol) → new_symbols path items [] symbols ≡ unknown (and_loads path items (knows [])) symbols
+unknown_symbols path items symbols = unknown_by path items [] symbols ∙ ap (λ (test : Test). unknown test symbols) (sym (known_told path items))
+
+-- ---- one symbol more
+
+not_not : (b : Bool) → false ≡ not b → b ≡ true
+not_not true e = refl
+not_not false e = absurd (true≢false (sym e))
+
+not_false : (b : Bool) → true ≡ not b → b ≡ false
+not_false true e = absurd (true≢false e)
+not_false false e = refl
+
+not_new : (xs ys rest : List Symbol) (first : Symbol) → false ≡ not (knows xs first) → knows ys ≡ and_symbol first (knows xs)
+    → unknown (knows ys) rest ≡ unknown (knows xs) (first ∷ rest)
+not_new xs ys rest first h e =
+    let there : knows xs first ≡ true = not_not (knows xs first) h in
+    ap (λ (test : Test). unknown test rest) (e ∙ known_again xs first there) ∙ sym (ap (λ b. if b then unknown (knows xs) rest else first ∷ unknown (and_symbol first (knows xs)) rest) there)
+
+is_new : (xs ys rest : List Symbol) (first : Symbol) → true ≡ not (knows xs first) → knows ys ≡ and_symbol first (knows xs)
+    → first ∷ unknown (knows ys) rest ≡ unknown (knows xs) (first ∷ rest)
+is_new xs ys rest first h e =
+    let apart : knows xs first ≡ false = not_false (knows xs first) h in
+    ap (λ (test : Test). first ∷ unknown test rest) e ∙ sym (ap (λ b. if b then unknown (knows xs) rest else first ∷ unknown (and_symbol first (knows xs)) rest) apart)
+
+-- what is made of a symbol, by whether it was new
+pub old_pushed : (made : List Expr) (xs ys : List Symbol) (key first : Symbol) (new : Bool) → key ≡ first → new ≡ not (knows xs key) → knows ys ≡ and_symbol key (knows xs) → new ≡ false
+    → (rest : List Symbol) → made ++ map symbol_made (unknown (knows ys) rest) ≡ made ++ map symbol_made (unknown (knows xs) (first ∷ rest))
+old_pushed made xs ys key first true same h e is rest = absurd (true≢false is)
+old_pushed made xs ys key first false same h e is rest =
+    ap (λ zs. made ++ map symbol_made zs) (not_new xs ys rest key h e ∙ ap (λ z. unknown (knows xs) (z ∷ rest)) same)
+
+pub new_pushed : (made : List Expr) (xs ys : List Symbol) (key first : Symbol) (new : Bool) → key ≡ first → new ≡ not (knows xs key) → knows ys ≡ and_symbol key (knows xs) → new ≡ true
+    → (rest : List Symbol) → (made ++ symbol_made first ∷ []) ++ map symbol_made (unknown (knows ys) rest) ≡ made ++ map symbol_made (unknown (knows xs) (first ∷ rest))
+new_pushed made xs ys key first false same h e is rest = absurd (true≢false (sym is))
+new_pushed made xs ys key first true same h e is rest =
+    append_assoc made (symbol_made first ∷ []) (map symbol_made (unknown (knows ys) rest))
+    ∙ ap (λ zs. made ++ zs)
+    (ap (λ z. symbol_made z ∷ map symbol_made (unknown (knows ys) rest)) (sym same)
+    ∙ (ap (map symbol_made) (is_new xs ys rest key h e) ∙ ap (λ z. map symbol_made (unknown (knows xs) (z ∷ rest))) same))

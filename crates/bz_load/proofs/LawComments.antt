@@ -1,0 +1,288 @@
+-- new_load and fix keep each comment as often as it stood there.
+use Rattle.std.proofs.Common.{◌≡◌, ℕ, ◌+◌, Bool, true, false, not, ◌&&◌, ◌||◌, List, [], ◌∷◌, ◌++◌, Option, Some, None, refl, sym, ap, ◌∙◌, map, codes, arith, true≢false}
+use Rattle.std.specs.Prelude.{IfSome, bytes_eq, if◌then◌else◌}
+use Rattle.std.specs.List.{AllByRecursion, list_any, filter}
+use Rattle.std.specs.Option.{option_map_or}
+use Rattle.std.proofs.lemmas.Bool.{and_parts, or_parts, not-true}
+use Rattle.std.proofs.lemmas.List.Elements.{recursion_from_All}
+use Rattle.bz_token.specs.declared.class.Class.TheVariants as c
+use Rattle.bz_tree.specs.declared.kind.Kind.TheVariants as k
+use Rattle.bz_tree.specs.Shapes as s
+use Rattle.bz_tree.specs.Shapes.{Terminal, has_token}
+use Rattle.bz_tree.specs.Spots.{Begins}
+use Rattle.bz_value.specs.declared.value.Expr.{Expr, Token, Form', items-the_row-Expr}
+use Rattle.bz_value.specs.declared.value.Item.{Item}
+use Rattle.bz_value.specs.declared.value.Item.TheVariants as i
+use Rattle.bz_value.specs.Comments.{HostComments, no_comments}
+use Rattle.bz_value.specs.Counted.{total, suffix_amount, host_amount, row_amount, item_amount, one_if}
+use Rattle.bz_value.specs.Gaps.{Bytes}
+use Rattle.bz_value.specs.Proper.{comments_of, IsProperItem}
+use Rattle.bz_value.specs.Roots.{root}
+use Rattle.bz_view.proofs.Sums.{append_total, form_amount}
+use Rattle.bz_write.specs.Layout.{is_empty, is_none}
+use Rattle.bz_words.specs.Quoted.{quoted_of}
+use Rattle.bz_words.specs.declared.command.Symbol.{Symbol}
+use Rattle.bz_rule.specs.Values.{has_kind, parts_of, items_of, with_items, on_items, behind_first}
+use Rattle.bz_rule.proofs.ProperSequences.{IsItem, AreOf}
+use Rattle.bz_attribute.specs.Made.{token, node, mark, name}
+use Rattle.bz_attribute.specs.Attributes.{on_first_that, without_first}
+use Rattle.bz_attribute.proofs.FormsAgain.{if_false, made}
+use Rattle.bz_attribute.proofs.GrownArguments.{whole, row_total}
+use Rattle.bz_load.specs.Loads.{is_load, is_load_from, behind_path}
+use Rattle.bz_load.specs.Places.{is_block, behind_last, behind_blocks, behind_loads}
+use Rattle.bz_load.specs.NewLoad.{new_symbols, symbol_made, load_made, with_symbols, new_load}
+use Rattle.bz_load.specs.Uses.{is_used}
+use Rattle.bz_load.specs.Fixes.{has_comments, path_comments, end_of, has_own_comments, stays, is_emptied, used_alone, is_package, first_that, package_behind_blocks, package_moved, move_package_to_top, fix}
+use Rattle.bz_load.specs.Laws.{CommentsStay}
+use Rattle.bz_load.proofs.PlaceSteps.{block_no_package}
+use Rattle.bz_load.proofs.ProperLoads.{fix_keeps}
+use Rattle.bz_load.proofs.LoadParts.{alias_parts, load_parts}
+
+-- ---- lists
+
+module _ {X : Type 0} (number : X → ℕ) where
+  first_same : (test : X → Bool) (change : X → X) → ((x : X) → number (change x) ≡ number x) → (xs : List X) → total number (on_first_that test change xs) ≡ total number xs
+  first_same test change f [] = refl
+  first_same test change f (x ∷ xs) = by (test x) (first_same test change f xs)
+    where
+      by : (b : Bool) → total number (on_first_that test change xs) ≡ total number xs → total number (if b then change x ∷ xs else x ∷ on_first_that test change xs) ≡ number x + total number xs
+      by true rest = ap (λ n. n + total number xs) (f x)
+      by false rest = ap (λ n. number x + n) rest
+
+-- ---- expressions
+
+module _ (number : Bytes → ℕ) where
+  abbrev host : HostComments → ℕ
+  host = host_amount number
+
+  amount_told : (x : Expr) → whole number x ≡ host (comments_of x) + (total (whole number) (parts_of x) + (total (whole number) (items_of x) + total number (end_of x)))
+  amount_told (Token t) = omega arith
+  amount_told (Form' kind s parts s' items end_ split open_ comments) =
+      ap (λ a. host comments + (a + (row_amount number items + total number end_))) (row_total number _ parts)
+      ∙ ap (λ a. host comments + (total (whole number) (items-the_row-Expr _ parts) + (a + total number end_))) (row_total number _ items)
+
+  items_same : (ys : List Expr) (x : Expr) → total (whole number) ys ≡ total (whole number) (items_of x) → whole number (with_items ys x) ≡ whole number x
+  items_same ys (Token t) h = refl
+  items_same ys (Form' kind s parts s' items end_ split open_ comments) h =
+      form_amount number (made kind (items-the_row-Expr _ parts) ys end_ split open_ comments)
+      ∙ (ap (λ a. host comments + (total (whole number) (items-the_row-Expr _ parts) + (a + total number end_))) h
+      ∙ sym (amount_told (Form' kind s parts s' items end_ split open_ comments)))
+
+  -- ---- new symbols, and a new load
+
+  symbol_none : (symbol : Symbol) → whole number (symbol_made symbol) ≡ 0
+  symbol_none symbol = by (bytes_eq symbol.to symbol.from)
+    where
+      by : (b : Bool) → whole number (if b then token c.String (quoted_of symbol.from) else node k.Alias (name symbol.to ∷ mark (codes "=") ∷ token c.String (quoted_of symbol.from) ∷ [])) ≡ 0
+      by true = refl
+      by false = form_amount number (made k.Alias (name symbol.to ∷ mark (codes "=") ∷ token c.String (quoted_of symbol.from) ∷ []) [] [] false false no_comments)
+
+  symbols_none : (symbols : List Symbol) → total (whole number) (map symbol_made symbols) ≡ 0
+  symbols_none [] = refl
+  symbols_none (symbol ∷ symbols) =
+      let a = symbol_none symbol in
+      let b = symbols_none symbols in
+      omega arith
+
+  load_none : (path : Bytes) (symbols : List Symbol) → item_amount number (load_made path symbols) ≡ 0
+  load_none path symbols =
+      let all = symbols_none symbols in
+      let h = form_amount number (made k.Load (token c.Keyword (codes "load") ∷ []) (token c.String (quoted_of path) ∷ map symbol_made symbols) [] false false no_comments) in
+      omega arith
+
+  more_same : (symbols : List Symbol) (item : Item) → item_amount number (with_symbols symbols item) ≡ item_amount number item
+  more_same symbols (i.Block lines) = refl
+  more_same symbols (i.Stmt x) = by (has_kind k.Load x)
+    where
+      by : (b : Bool) → whole number (if b then with_items (items_of x ++ map symbol_made symbols) x else x) ≡ whole number x
+      by true =
+          let a = append_total (whole number) (items_of x) (map symbol_made symbols) in
+          let z = symbols_none symbols in
+          items_same (items_of x ++ map symbol_made symbols) x (omega arith)
+      by false = refl
+
+  -- ---- places
+
+  abbrev file : List Item → ℕ
+  file = total (item_amount number)
+
+  last_total : (test : Item → Bool) (new : Item) (xs : List Item) → file (behind_last test new xs) ≡ item_amount number new + file xs
+  last_total test new [] = refl
+  last_total test new (x ∷ xs) = by (list_any test (x ∷ xs)) (last_total test new xs)
+    where
+      by : (b : Bool) → file (behind_last test new xs) ≡ item_amount number new + file xs
+          → file (if b then x ∷ behind_last test new xs else new ∷ x ∷ xs) ≡ item_amount number new + (item_amount number x + file xs)
+      by true rest = omega arith
+      by false rest = refl
+
+  blocks_total : (new : Item) (xs : List Item) → file (behind_blocks new xs) ≡ item_amount number new + file xs
+  blocks_total new [] = refl
+  blocks_total new (x ∷ xs) = by (is_block x) (blocks_total new xs)
+    where
+      by : (b : Bool) → file (behind_blocks new xs) ≡ item_amount number new + file xs
+          → file (if b then x ∷ behind_blocks new xs else new ∷ x ∷ xs) ≡ item_amount number new + (item_amount number x + file xs)
+      by true rest = omega arith
+      by false rest = refl
+
+  loads_total : (new : Item) (xs : List Item) → file (behind_loads new xs) ≡ item_amount number new + file xs
+  loads_total new xs = by (list_any is_load xs)
+    where
+      by : (b : Bool) → file (if b then behind_last is_load new xs else behind_blocks new xs) ≡ item_amount number new + file xs
+      by true = last_total is_load new xs
+      by false = blocks_total new xs
+
+  pub new_load_same : (path : Bytes) (symbols : List Symbol) (items : List Item) → file (new_load path symbols items) ≡ file items
+  new_load_same path symbols items = by (list_any (is_load_from path) items)
+    where
+      by : (b : Bool) → file (if b then on_first_that (is_load_from path) (with_symbols (new_symbols path items [] symbols)) items else behind_loads (load_made path (new_symbols path items [] symbols)) items) ≡ file items
+      by true = first_same (item_amount number) (is_load_from path) (with_symbols (new_symbols path items [] symbols)) (more_same (new_symbols path items [] symbols)) items
+      by false =
+          let a = loads_total (load_made path (new_symbols path items [] symbols)) items in
+          let z = load_none path (new_symbols path items [] symbols) in
+          omega arith
+
+  -- ---- what is dropped has no comments
+
+  by_parts : (before : List Bytes) (suffix : Option Bytes) → not (is_empty before && is_none suffix) ≡ false → total number before + suffix_amount number suffix ≡ 0
+  by_parts [] None h = refl
+  by_parts [] (Some text) h = absurd (true≢false h)
+  by_parts (text ∷ before) suffix h = absurd (true≢false h)
+
+  host_none : (comments : HostComments) → has_comments comments ≡ false → host comments ≡ 0
+  host_none comments h = by_parts comments.before comments.suffix h
+
+  token_amount : (terminals : List Terminal) (x : Expr) → has_token terminals (root x) ≡ true → whole number x ≡ host (comments_of x)
+  token_amount terminals (Token t) h = refl
+  token_amount terminals (Form' kind s parts s' items end_ split open_ comments) h = absurd (true≢false (sym h))
+
+  bare_amount : (terminals : List Terminal) (x : Expr) → has_token terminals (root x) ≡ true → comments_of x ≡ no_comments → whole number x ≡ 0
+  bare_amount terminals x h e = token_amount terminals x h ∙ ap host e
+
+  loaded_amount : (x : Expr) → IsItem s.loaded x → has_comments (comments_of x) ≡ false → whole number x ≡ 0
+  loaded_amount (Token t) h e = host_none t.comments e
+  loaded_amount (Form' kind m parts m' items end_ split open_ comments) h e =
+      let x : Expr = Form' kind m parts m' items end_ split open_ comments in
+      let a = alias_parts x h.1 h.0.0 in
+      let l = bare_amount s.name a.left a.at_left a.bare_left in
+      let n = bare_amount s.equals a.sign a.at_sign a.bare_sign in
+      let r = bare_amount s.string a.right a.at_right a.bare_right in
+      let z = host_none comments e in
+      amount_told x
+      ∙ (ap (λ ps. host comments + (total (whole number) ps + (total (whole number) (items_of x) + total number (end_of x)))) a.parts
+      ∙ (ap (λ xs. host comments + (total (whole number) (a.left ∷ a.sign ∷ a.right ∷ []) + (total (whole number) xs + total number (end_of x)))) a.items
+      ∙ (ap (λ ts. host comments + (total (whole number) (a.left ∷ a.sign ∷ a.right ∷ []) + (0 + total number ts))) a.ends ∙ omega arith)))
+
+  kept_amount : (used : Bytes → Bool) (xs : List Expr) → AreOf s.loaded xs → total (whole number) (filter (stays used) xs) ≡ total (whole number) xs
+  kept_amount used [] h = refl
+  kept_amount used (x ∷ xs) h = by (stays used x) refl (kept_amount used xs h.1)
+    where
+      by : (b : Bool) → stays used x ≡ b → total (whole number) (filter (stays used) xs) ≡ total (whole number) xs → total (whole number) (if b then x ∷ filter (stays used) xs else filter (stays used) xs) ≡ whole number x + total (whole number) xs
+      by true e rest = ap (λ n. whole number x + n) rest
+      by false e rest =
+          let z = loaded_amount x h.0 (or_parts (has_comments (comments_of x)) _ e).0 in
+          omega arith
+
+  abbrev kept : (Bytes → Bool) → List Expr → List Expr
+  kept used = behind_first (filter (stays used))
+
+  used_amount : (used : Bytes → Bool) (item : Item) → IsProperItem item → item_amount number (used_alone used item) ≡ item_amount number item
+  used_amount used (i.Block lines) h = refl
+  used_amount used (i.Stmt x) h = by (has_own_comments x)
+    where
+      other : (b : Bool) → has_kind k.Load x ≡ b → whole number (if b then with_items (kept used (items_of x)) x else x) ≡ whole number x
+      other true is =
+          let a = load_parts Begins x is h.1 in
+          items_same (kept used (items_of x)) x
+          (ap (λ xs. total (whole number) (kept used xs)) a.items ∙ (ap (λ n. whole number a.path + n) (kept_amount used a.symbols a.loaded) ∙ ap (total (whole number)) (sym a.items)))
+      other false is = refl
+
+      by : (b : Bool) → whole number (if b then x else on_items k.Load (kept used) x) ≡ whole number x
+      by true = refl
+      by false = other (has_kind k.Load x) refl
+
+  none_kept : (test : Expr → Bool) (xs : List Expr) → list_any test xs ≡ false → filter test xs ≡ []
+  none_kept test [] h = refl
+  none_kept test (x ∷ xs) h = let p = or_parts (test x) (list_any test xs) h in if_false (test x) _ _ p.0 ∙ none_kept test xs p.1
+
+  ends_none : (end_ : List Bytes) → not (is_empty end_) ≡ false → total number end_ ≡ 0
+  ends_none [] h = refl
+  ends_none (text ∷ end_) h = absurd (true≢false h)
+
+  emptied_amount : (used : Bytes → Bool) (item : Item) → IsProperItem item → is_emptied used item ≡ true → item_amount number item ≡ 0
+  emptied_amount used (i.Block lines) h e = absurd (true≢false (sym e))
+  emptied_amount used (i.Stmt x) h e =
+      let p = and_parts (has_kind k.Load x && not (has_own_comments x)) (not (is_empty (behind_path (items_of x))) && not (list_any (stays used) (behind_path (items_of x)))) e in
+      let q = and_parts (has_kind k.Load x) (not (has_own_comments x)) p.0 in
+      let a = load_parts Begins x q.0 h.1 in
+      let loose = or_parts (has_comments (comments_of x)) (not (is_empty (end_of x)) || path_comments (items_of x)) (not-true (has_own_comments x) q.1) in
+      let ends = or_parts (not (is_empty (end_of x))) (path_comments (items_of x)) loose.1 in
+      let gone = not-true (list_any (stays used) (behind_path (items_of x))) (and_parts (not (is_empty (behind_path (items_of x)))) _ p.1).1 in
+      let top : host (comments_of x) ≡ 0 = host_none (comments_of x) loose.0 in
+      let word : whole number a.word ≡ 0 = bare_amount (s.keyword (codes "load")) a.word a.at_word a.bare_word in
+      let path : whole number a.path ≡ 0 = token_amount s.string a.path a.at_path ∙ host_none (comments_of a.path) (ap path_comments (sym a.items) ∙ ends.1) in
+      let symbols : total (whole number) a.symbols ≡ 0 =
+      sym (kept_amount used a.symbols a.loaded) ∙ ap (total (whole number)) (none_kept (stays used) a.symbols (ap (λ xs. list_any (stays used) (behind_path xs)) (sym a.items) ∙ gone)) in
+      let end_ : total number (end_of x) ≡ 0 = ends_none (end_of x) ends.0 in
+      amount_told x
+      ∙ (ap (λ ps. host (comments_of x) + (total (whole number) ps + (total (whole number) (items_of x) + total number (end_of x)))) a.parts
+      ∙ (ap (λ xs. host (comments_of x) + ((whole number a.word + 0) + (total (whole number) xs + total number (end_of x)))) a.items ∙ omega arith))
+
+  unused_amount : (used : Bytes → Bool) (items : List Item) → AllByRecursion IsProperItem items → file (map (used_alone used) (filter (λ item. not (is_emptied used item)) items)) ≡ file items
+  unused_amount used [] h = refl
+  unused_amount used (item ∷ items) h = by (is_emptied used item) refl (unused_amount used items h.1)
+    where
+      rest_of : List Item
+      rest_of = filter (λ x. not (is_emptied used x)) items
+
+      by : (b : Bool) → is_emptied used item ≡ b → file (map (used_alone used) rest_of) ≡ file items
+          → file (map (used_alone used) (if not b then item ∷ rest_of else rest_of)) ≡ item_amount number item + file items
+      by true e rest = let z = emptied_amount used item h.0 e in omega arith
+      by false e rest = let z = used_amount used item h.0 in omega arith
+
+  -- ---- the package
+
+  taken_total : (test : Item → Bool) (xs : List Item) → IfSome (first_that test xs) (λ new. file xs ≡ item_amount number new + file (without_first test xs))
+  taken_total test [] = tt
+  taken_total test (x ∷ xs) = by (test x) (first_that test xs) (taken_total test xs)
+    where
+      by : (b : Bool) (found : Option Item) → IfSome found (λ new. file xs ≡ item_amount number new + file (without_first test xs))
+          → IfSome (if b then Some x else found) (λ new. item_amount number x + file xs ≡ item_amount number new + file (if b then xs else x ∷ without_first test xs))
+      by true found rest = refl
+      by false None rest = tt
+      by false (Some new) rest = omega arith
+
+  top_total : (new : Item) (xs : List Item) → file (package_behind_blocks new xs) ≡ item_amount number new + file (without_first is_package xs)
+  top_total new [] = refl
+  top_total new (x ∷ xs) = by (is_block x) refl (top_total new xs)
+    where
+      by : (b : Bool) → is_block x ≡ b → file (package_behind_blocks new xs) ≡ item_amount number new + file (without_first is_package xs)
+          → file (if b then x ∷ package_behind_blocks new xs else new ∷ without_first is_package (x ∷ xs)) ≡ item_amount number new + file (without_first is_package (x ∷ xs))
+      by true e rest =
+          let z = ap file (if_false (is_package x) xs (x ∷ without_first is_package xs) (block_no_package x e)) in
+          omega arith
+      by false e rest = refl
+
+  moved_by : (items : List Item) (found : Option Item) → IfSome found (λ new. file items ≡ item_amount number new + file (without_first is_package items))
+      → file (option_map_or (package_moved items) found items) ≡ file items
+  moved_by items None h = refl
+  moved_by items (Some new) h = by (list_any is_load items)
+    where
+      by : (b : Bool) → file (if b then behind_last is_load new (without_first is_package items) else package_behind_blocks new items) ≡ file items
+      by true = last_total is_load new (without_first is_package items) ∙ sym h
+      by false = top_total new items ∙ sym h
+
+  moved_same : (items : List Item) → file (move_package_to_top items) ≡ file items
+  moved_same items = moved_by items (first_that is_package items) (taken_total is_package items)
+
+  by_fixes : (top unused : Bool) (items : List Item) → AllByRecursion IsProperItem items → file (fix (record { move_package_to_top = top; unused_loads = unused }) items) ≡ file items
+  by_fixes false false items h = refl
+  by_fixes true false items h = moved_same items
+  by_fixes false true items h = unused_amount (is_used items) items h
+  by_fixes true true items h =
+      unused_amount (is_used (move_package_to_top items)) (move_package_to_top items) (fix_keeps (record { move_package_to_top = true; unused_loads = false }) items h) ∙ moved_same items
+
+pub comments_stay : CommentsStay
+comments_stay = (
+  λ path symbols items text. new_load_same (one_if text) path symbols items,
+  λ fixes items h text. by_fixes (one_if text) fixes.move_package_to_top fixes.unused_loads items (recursion_from_All IsProperItem items h),
+)

@@ -1,0 +1,114 @@
+-- A file mended twice.
+use Rattle.std.proofs.Common.{◌≡◌, Bool, true, false, not, ◌||◌, List, [], ◌∷◌, map, refl, sym, ap, ◌∙◌, true≢false, inl, inr}
+use Rattle.std.specs.Prelude.{Option, Some, None, option_map, if◌then◌else◌}
+use Rattle.std.specs.List.{list_any, filter}
+use Rattle.std.specs.Option.{option_map_or}
+use Rattle.std.proofs.lemmas.Bool.{cases_Bool, or_parts}
+use Rattle.std.proofs.lemmas.List.Elements.{All-from_recursion, recursion_from_All}
+use Rattle.bz_value.specs.declared.value.Item.{Item}
+use Rattle.bz_value.specs.declared.value.Item.TheVariants as i
+use Rattle.bz_value.specs.Proper.{IsProper, IsProperItem}
+use Rattle.bz_value.specs.Gaps.{Bytes}
+use Rattle.bz_attribute.specs.Attributes.{without_first}
+use Rattle.bz_attribute.proofs.FormsAgain.{if_true, if_false}
+use Rattle.bz_load.specs.Loads.{is_load}
+use Rattle.bz_load.specs.Places.{is_block, behind_last}
+use Rattle.bz_load.specs.Uses.{is_used}
+use Rattle.bz_load.specs.Fixes.{is_emptied, used_alone, unused_loads, is_package, first_that, package_behind_blocks, package_moved, move_package_to_top, fix}
+use Rattle.bz_load.specs.Laws.{has_second_package, loses_load, FixedAgain}
+use Rattle.bz_load.proofs.PlaceSteps.{package_no_load}
+use Rattle.bz_load.proofs.ProperLoads.{fix_keeps}
+use Rattle.bz_load.proofs.LawPackage.{moved_again}
+use Rattle.bz_load.proofs.LawUnused.{unused_again, used_load, other_stays}
+
+-- ---- items that are changed, each by itself, so that the tests see no difference
+
+module _ (f : Item → Item) where
+  any_map : (test : Item → Bool) → ((x : Item) → test (f x) ≡ test x) → (xs : List Item) → list_any test (map f xs) ≡ list_any test xs
+  any_map test same [] = refl
+  any_map test same (x ∷ xs) = ap (λ z. z || list_any test (map f xs)) (same x) ∙ ap (λ z. test x || z) (any_map test same xs)
+
+  by_same : {X Y : Type 0} (g : X → Y) (a b : Bool) {x x' : Y} {y y' : X} → a ≡ b → x ≡ g y → x' ≡ g y' → (if a then x else x') ≡ g (if b then y else y')
+  by_same g a true e p q = if_true a _ _ e ∙ p
+  by_same g a false e p q = if_false a _ _ e ∙ q
+
+  found_map : (test : Item → Bool) → ((x : Item) → test (f x) ≡ test x) → (xs : List Item) → first_that test (map f xs) ≡ option_map f (first_that test xs)
+  found_map test same [] = refl
+  found_map test same (x ∷ xs) = by_same (option_map f) (test (f x)) (test x) (same x) refl (found_map test same xs)
+
+  left_map : (test : Item → Bool) → ((x : Item) → test (f x) ≡ test x) → (xs : List Item) → without_first test (map f xs) ≡ map f (without_first test xs)
+  left_map test same [] = refl
+  left_map test same (x ∷ xs) = by_same (map f) (test (f x)) (test x) (same x) refl (ap (λ ys. f x ∷ ys) (left_map test same xs))
+
+  last_map : (test : Item → Bool) → ((x : Item) → test (f x) ≡ test x) → (new : Item) (xs : List Item) → behind_last test (f new) (map f xs) ≡ map f (behind_last test new xs)
+  last_map test same new [] = refl
+  last_map test same new (x ∷ xs) = by_same (map f) (list_any test (map f (x ∷ xs))) (list_any test (x ∷ xs)) (any_map test same (x ∷ xs)) (ap (λ ys. f x ∷ ys) (last_map test same new xs)) refl
+
+  module _ (loads : (x : Item) → is_load (f x) ≡ is_load x) (blocks : (x : Item) → is_block (f x) ≡ is_block x) (packages : (x : Item) → is_package (f x) ≡ is_package x) where
+    top_map : (new : Item) (xs : List Item) → package_behind_blocks (f new) (map f xs) ≡ map f (package_behind_blocks new xs)
+    top_map new [] = refl
+    top_map new (x ∷ xs) =
+        by_same (map f) (is_block (f x)) (is_block x) (blocks x) (ap (λ ys. f x ∷ ys) (top_map new xs)) (ap (λ ys. f new ∷ ys) (left_map is_package packages (x ∷ xs)))
+
+    placed_map : (xs : List Item) (found : Option Item) → option_map_or (package_moved (map f xs)) (option_map f found) (map f xs) ≡ map f (option_map_or (package_moved xs) found xs)
+    placed_map xs None = refl
+    placed_map xs (Some new) =
+        by_same (map f) (list_any is_load (map f xs)) (list_any is_load xs) (any_map is_load loads xs)
+        (ap (behind_last is_load (f new)) (left_map is_package packages xs) ∙ last_map is_load loads new (without_first is_package xs)) (top_map new xs)
+
+    moved_map : (xs : List Item) → move_package_to_top (map f xs) ≡ map f (move_package_to_top xs)
+    moved_map xs = ap (λ o. option_map_or (package_moved (map f xs)) o (map f xs)) (found_map is_package packages xs) ∙ placed_map xs (first_that is_package xs)
+
+-- ---- loads without some of their symbols
+
+load_no_package : (item : Item) → is_load item ≡ true → is_package item ≡ false
+load_no_package item is = by (is_package item) refl
+  where
+    by : (b : Bool) → is_package item ≡ b → b ≡ false
+    by true e = absurd (true≢false (sym is ∙ package_no_load item e))
+    by false e = refl
+
+used_package : (used : Bytes → Bool) (item : Item) → is_package (used_alone used item) ≡ is_package item
+used_package used item = elim (cases_Bool (is_load item)) [
+  | inl is ↦ load_no_package (used_alone used item) (used_load used item ∙ is) ∙ sym (load_no_package item is)
+  | inr is ↦ ap is_package (other_stays used item is)
+]
+
+used_block : (used : Bytes → Bool) (item : Item) → is_block (used_alone used item) ≡ is_block item
+used_block used (i.Block lines) = refl
+used_block used (i.Stmt x) = refl
+
+none_goes : (test : Item → Bool) (xs : List Item) → list_any test xs ≡ false → filter (λ x. not (test x)) xs ≡ xs
+none_goes test [] h = refl
+none_goes test (x ∷ xs) h =
+    let p = or_parts (test x) (list_any test xs) h in
+    if_true (not (test x)) _ _ (ap not p.0) ∙ ap (λ ys. x ∷ ys) (none_goes test xs p.1)
+
+-- ---- twice
+
+unused_moved : (items : List Item) → has_second_package items ≡ false → loses_load (move_package_to_top items) ≡ false
+    → move_package_to_top (unused_loads (move_package_to_top items)) ≡ unused_loads (move_package_to_top items)
+unused_moved items one none =
+    let moved : List Item = move_package_to_top items in
+    let used : Bytes → Bool = is_used moved in
+    let same : unused_loads moved ≡ map (used_alone used) moved = ap (map (used_alone used)) (none_goes (is_emptied used) moved none) in
+    ap move_package_to_top same
+    ∙ (moved_map (used_alone used) (used_load used) (used_block used) (used_package used) moved
+    ∙ (ap (map (used_alone used)) (moved_again items one) ∙ sym same))
+
+moved_proper : (items : List Item) → IsProper items → IsProper (move_package_to_top items)
+moved_proper items h =
+    All-from_recursion IsProperItem (move_package_to_top items)
+    (fix_keeps (record { move_package_to_top = true; unused_loads = false }) items (recursion_from_All IsProperItem items h))
+
+by_fixes : (top unused : Bool) (items : List Item) → IsProper items → has_second_package items ≡ false → loses_load (move_package_to_top items) ≡ false
+    → fix (record { move_package_to_top = top; unused_loads = unused }) (fix (record { move_package_to_top = top; unused_loads = unused }) items)
+    ≡ fix (record { move_package_to_top = top; unused_loads = unused }) items
+by_fixes false false items h one none = refl
+by_fixes true false items h one none = moved_again items one
+by_fixes false true items h one none = unused_again items h
+by_fixes true true items h one none =
+    ap unused_loads (unused_moved items one none) ∙ unused_again (move_package_to_top items) (moved_proper items h)
+
+pub fixed_again : FixedAgain
+fixed_again fixes = by_fixes fixes.move_package_to_top fixes.unused_loads

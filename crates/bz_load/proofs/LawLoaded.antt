@@ -1,0 +1,294 @@
+-- The same symbols, loaded once more.
+use Rattle.std.proofs.Common.{◌≡◌, Bool, true, false, ◌&&◌, ◌||◌, List, [], ◌∷◌, ◌++◌, map, refl, sym, ap, ◌∙◌, subst, true≢false, inl, inr}
+use Rattle.std.specs.Prelude.{bytes_eq, codes, if◌then◌else◌}
+use Rattle.std.specs.List.{AllByRecursion, list_any, list_all}
+use Rattle.std.proofs.lemmas.Bool.{and_parts, and_from, or_cases, not-true, or_left, or_right}
+use Rattle.std.proofs.lemmas.List.{append-nil}
+use Rattle.std.proofs.lemmas.Slice.Eq.{bytes_eq-Decides}
+use Rattle.bz_token.specs.declared.class.Class.TheVariants as c
+use Rattle.bz_tree.specs.declared.kind.Kind.TheVariants as k
+use Rattle.bz_value.specs.declared.value.Expr.{Expr, items_hidden-the_row-Expr-0}
+use Rattle.bz_value.specs.declared.value.Item.{Item}
+use Rattle.bz_value.specs.declared.value.Item.TheVariants as i
+use Rattle.bz_value.specs.Gaps.{Bytes}
+use Rattle.bz_words.specs.Quoted.{is_escaped, quoted_of}
+use Rattle.bz_words.specs.declared.command.Symbol.{Symbol}
+use Rattle.bz_rule.specs.Rules.{is_text}
+use Rattle.bz_rule.specs.Values.{has_kind, items_of, with_items, on_items}
+use Rattle.bz_attribute.specs.Made.{token, node, mark, name}
+use Rattle.bz_attribute.specs.Attributes.{on_first_that}
+use Rattle.bz_attribute.specs.Lists.{body_of}
+use Rattle.bz_attribute.proofs.FormsAgain.{if_true, own_items, items_kind, items_filled}
+use Rattle.bz_attribute.proofs.PlainWords.{IsPlain, equal_self, body_quoted}
+use Rattle.bz_attribute.proofs.KeySets.{or_turn}
+use Rattle.bz_load.specs.Loads.{is_load, path_in, is_load_from, is_alias_of, loads_symbol, behind_path, symbols_of, is_loaded}
+use Rattle.bz_load.specs.Places.{is_block, behind_last, behind_blocks, behind_loads}
+use Rattle.bz_load.specs.NewLoad.{is_symbol, new_symbols, symbol_made, load_made, with_symbols, new_load}
+use Rattle.bz_load.specs.Laws.{becomes_plain, LoadedAgain}
+use Rattle.bz_load.proofs.KeySets.{same_symbol}
+use Rattle.bz_load.proofs.LawPackage.{any_placed}
+
+-- ---- a new symbol is loaded
+
+text_quoted : (text : Bytes) → IsPlain text → is_text text (body_of (token c.String (quoted_of text))) ≡ true
+text_quoted text h = ap (is_text text) (body_quoted text h) ∙ equal_self text
+
+made_string : (symbol : Symbol) → IsPlain symbol.from → bytes_eq symbol.to symbol.from ≡ true → loads_symbol symbol (token c.String (quoted_of symbol.from)) ≡ true
+made_string symbol h e =
+    let same : symbol.to ≡ symbol.from = (bytes_eq-Decides symbol.to symbol.from).0 e in
+    and_from (is_text symbol.to (body_of (token c.String (quoted_of symbol.from)))) (bytes_eq symbol.to symbol.from)
+    (ap (λ to. is_text to (body_of (token c.String (quoted_of symbol.from)))) same ∙ text_quoted symbol.from h) e
+
+made_alias : (symbol : Symbol) → IsPlain symbol.from → loads_symbol symbol (node k.Alias (name symbol.to ∷ mark (codes "=") ∷ token c.String (quoted_of symbol.from) ∷ [])) ≡ true
+made_alias symbol h =
+    ap (is_alias_of symbol) (items_hidden-the_row-Expr-0 (name symbol.to ∷ mark (codes "=") ∷ token c.String (quoted_of symbol.from) ∷ []))
+    ∙ and_from (bytes_eq symbol.to symbol.to) (is_text symbol.from (body_of (token c.String (quoted_of symbol.from)))) (equal_self symbol.to) (text_quoted symbol.from h)
+
+made_loads : (symbol : Symbol) → IsPlain symbol.from → loads_symbol symbol (symbol_made symbol) ≡ true
+made_loads symbol h = by (bytes_eq symbol.to symbol.from) refl
+  where
+    by : (b : Bool) → bytes_eq symbol.to symbol.from ≡ b
+        → loads_symbol symbol (if b then token c.String (quoted_of symbol.from) else node k.Alias (name symbol.to ∷ mark (codes "=") ∷ token c.String (quoted_of symbol.from) ∷ [])) ≡ true
+    by true e = made_string symbol h e
+    by false e = made_alias symbol h
+
+abbrev Plain : Symbol → Type 0
+Plain symbol = IsPlain symbol.from
+
+weaker : {X : Type 0} (P Q : X → Type 0) → ((x : X) → P x → Q x) → (xs : List X) → AllByRecursion P xs → AllByRecursion Q xs
+weaker P Q f [] h = tt
+weaker P Q f (x ∷ xs) h = (f x h.0, weaker P Q f xs h.1)
+
+-- each of the symbols is loaded by one of the items made
+abbrev IsIn : List Expr → Symbol → Type 0
+IsIn made symbol = list_any (loads_symbol symbol) made ≡ true
+
+each_made : (symbols : List Symbol) → AllByRecursion Plain symbols → AllByRecursion (IsIn (map symbol_made symbols)) symbols
+each_made [] h = tt
+each_made (first ∷ rest) h = (
+  or_left (loads_symbol first (symbol_made first)) (list_any (loads_symbol first) (map symbol_made rest)) (made_loads first h.0),
+  weaker (IsIn (map symbol_made rest)) (IsIn (map symbol_made (first ∷ rest)))
+      (λ symbol e. or_right (loads_symbol symbol (symbol_made first)) (list_any (loads_symbol symbol) (map symbol_made rest)) e) rest (each_made rest h.1),
+)
+
+-- ---- the symbols that are new
+
+module _ (path : Bytes) (items : List Item) where
+  chosen_plain : (earlier symbols : List Symbol) → AllByRecursion Plain symbols → AllByRecursion Plain (new_symbols path items earlier symbols)
+  chosen_plain earlier [] h = tt
+  chosen_plain earlier (first ∷ rest) h =
+      by (list_any (is_symbol first) earlier || is_loaded path items first) (chosen_plain earlier rest h.1) (chosen_plain (first ∷ earlier) rest h.1)
+    where
+      by : (b : Bool) → AllByRecursion Plain (new_symbols path items earlier rest) → AllByRecursion Plain (new_symbols path items (first ∷ earlier) rest)
+          → AllByRecursion Plain (if b then new_symbols path items earlier rest else first ∷ new_symbols path items (first ∷ earlier) rest)
+      by true old new = old
+      by false old new = (h.0, new)
+
+  -- where what was loaded and what is new is loaded, all symbols are
+  module _ (P : Symbol → Type 0) (stays : (symbol : Symbol) → is_loaded path items symbol ≡ true → P symbol) where
+    all_loaded : (earlier symbols : List Symbol) → ((symbol : Symbol) → list_any (is_symbol symbol) earlier ≡ true → P symbol)
+        → AllByRecursion P (new_symbols path items earlier symbols) → AllByRecursion P symbols
+    all_loaded earlier [] before new = tt
+    all_loaded earlier (first ∷ rest) before new =
+        step earlier first rest before (list_any (is_symbol first) earlier || is_loaded path items first) refl (all_loaded earlier rest) (all_loaded (first ∷ earlier) rest) new
+      where
+        step : (earlier : List Symbol) (first : Symbol) (rest : List Symbol) → ((symbol : Symbol) → list_any (is_symbol symbol) earlier ≡ true → P symbol)
+            → (b : Bool) → (list_any (is_symbol first) earlier || is_loaded path items first) ≡ b
+            → (((symbol : Symbol) → list_any (is_symbol symbol) earlier ≡ true → P symbol) → AllByRecursion P (new_symbols path items earlier rest) → AllByRecursion P rest)
+            → (((symbol : Symbol) → list_any (is_symbol symbol) (first ∷ earlier) ≡ true → P symbol) → AllByRecursion P (new_symbols path items (first ∷ earlier) rest) → AllByRecursion P rest)
+            → AllByRecursion P (if b then new_symbols path items earlier rest else first ∷ new_symbols path items (first ∷ earlier) rest) → AllByRecursion P (first ∷ rest)
+        step earlier first rest before true e old more new = (
+          elim (or_cases (list_any (is_symbol first) earlier) (is_loaded path items first) e) [ inl w ↦ before first w | inr w ↦ stays first w ],
+          old before new,
+        )
+        step earlier first rest before false e old more new = (
+          new.0,
+          more
+              (λ symbol h. elim (or_cases (is_symbol symbol first) (list_any (is_symbol symbol) earlier) h) [
+                | inl w ↦ subst P (sym (same_symbol symbol first w)) new.0
+                | inr w ↦ before symbol w
+              ])
+              new.1,
+        )
+
+none_new : (path : Bytes) (items : List Item) (symbols : List Symbol) → AllByRecursion (λ symbol. is_loaded path items symbol ≡ true) symbols → new_symbols path items [] symbols ≡ []
+none_new path items [] h = refl
+none_new path items (first ∷ rest) h = if_true (is_loaded path items first) _ _ h.0 ∙ none_new path items rest h.1
+
+-- ---- nothing is put behind
+
+same_with_none : (item : Item) → with_symbols [] item ≡ item
+same_with_none (i.Block lines) = refl
+same_with_none (i.Stmt x) = ap i.Stmt (by (has_kind k.Load x))
+  where
+    by : (b : Bool) → (if b then with_items (items_of x ++ []) x else x) ≡ x
+    by true = ap (λ xs. with_items xs x) (append-nil (items_of x)) ∙ own_items x
+    by false = refl
+
+first_same : (test : Item → Bool) (change : Item → Item) → ((x : Item) → change x ≡ x) → (xs : List Item) → on_first_that test change xs ≡ xs
+first_same test change f [] = refl
+first_same test change f (x ∷ xs) = by (test x) (first_same test change f xs)
+  where
+    by : (b : Bool) → on_first_that test change xs ≡ xs → (if b then change x ∷ xs else x ∷ on_first_that test change xs) ≡ x ∷ xs
+    by true rest = ap (λ y. y ∷ xs) (f x)
+    by false rest = ap (λ ys. x ∷ ys) rest
+
+-- a file that has a load from the path, and loads all these symbols from it
+loaded_stays : (path : Bytes) (symbols : List Symbol) (items : List Item) → list_any (is_load_from path) items ≡ true
+    → AllByRecursion (λ symbol. is_loaded path items symbol ≡ true) symbols → new_load path symbols items ≡ items
+loaded_stays path symbols items there all =
+    if_true (list_any (is_load_from path) items) _ _ there
+    ∙ (ap (λ more. on_first_that (is_load_from path) (with_symbols more) items) (none_new path items symbols all) ∙ first_same (is_load_from path) (with_symbols []) same_with_none items)
+
+-- ---- the first load from the path, with more symbols
+
+first_any : (test other : Item → Bool) (change : Item → Item) → ((x : Item) → test x ≡ true → other (change x) ≡ true) → (xs : List Item) → list_any test xs ≡ true
+    → list_any other (on_first_that test change xs) ≡ true
+first_any test other change f [] h = absurd (true≢false (sym h))
+first_any test other change f (x ∷ xs) h = by (test x) refl h (first_any test other change f xs)
+  where
+    by : (b : Bool) → test x ≡ b → (b || list_any test xs) ≡ true → (list_any test xs ≡ true → list_any other (on_first_that test change xs) ≡ true)
+        → list_any other (if b then change x ∷ xs else x ∷ on_first_that test change xs) ≡ true
+    by true e h rest = or_left (other (change x)) (list_any other xs) (f x e)
+    by false e h rest = or_right (other x) (list_any other (on_first_that test change xs)) (rest h)
+
+still_any : (test other : Item → Bool) (change : Item → Item) → ((x : Item) → test x ≡ true → other x ≡ true → other (change x) ≡ true) → (xs : List Item) → list_any other xs ≡ true
+    → list_any other (on_first_that test change xs) ≡ true
+still_any test other change f [] h = h
+still_any test other change f (x ∷ xs) h = by (test x) refl (still_any test other change f xs)
+  where
+    by : (b : Bool) → test x ≡ b → (list_any other xs ≡ true → list_any other (on_first_that test change xs) ≡ true)
+        → list_any other (if b then change x ∷ xs else x ∷ on_first_that test change xs) ≡ true
+    by true e rest = elim (or_cases (other x) (list_any other xs) h) [
+      | inl w ↦ or_left (other (change x)) (list_any other xs) (f x e w)
+      | inr w ↦ or_right (other (change x)) (list_any other xs) w
+    ]
+    by false e rest = elim (or_cases (other x) (list_any other xs) h) [
+      | inl w ↦ or_left (other x) (list_any other (on_first_that test change xs)) w
+      | inr w ↦ or_right (other x) (list_any other (on_first_that test change xs)) (rest w)
+    ]
+
+any_front : {X : Type 0} (test : X → Bool) (xs ys : List X) → list_any test xs ≡ true → list_any test (xs ++ ys) ≡ true
+any_front test [] ys h = absurd (true≢false (sym h))
+any_front test (x ∷ xs) ys h = elim (or_cases (test x) (list_any test xs) h) [
+  | inl w ↦ or_left (test x) (list_any test (xs ++ ys)) w
+  | inr w ↦ or_right (test x) (list_any test (xs ++ ys)) (any_front test xs ys w)
+]
+
+any_back : {X : Type 0} (test : X → Bool) (xs ys : List X) → list_any test ys ≡ true → list_any test (xs ++ ys) ≡ true
+any_back test [] ys h = h
+any_back test (x ∷ xs) ys h = or_right (test x) (list_any test (xs ++ ys)) (any_back test xs ys h)
+
+module _ (path : Bytes) (symbols : List Symbol) where
+  abbrev more : List Expr
+  more = map symbol_made symbols
+
+  path_kept : (xs : List Expr) → is_text path (path_in xs) ≡ true → is_text path (path_in (xs ++ more)) ≡ true
+  path_kept [] h = absurd (true≢false (sym h))
+  path_kept (x ∷ xs) h = h
+
+  behind_kept : (xs : List Expr) → is_text path (path_in xs) ≡ true → behind_path (xs ++ more) ≡ behind_path xs ++ more
+  behind_kept [] h = absurd (true≢false (sym h))
+  behind_kept (x ∷ xs) h = refl
+
+  -- a load from the path stays one, and has these symbols behind its own
+  more_behind : (item : Item) → is_load_from path item ≡ true → (is_load_from path (with_symbols symbols item) ≡ true) × (symbols_of (with_symbols symbols item) ≡ symbols_of item ++ more)
+  more_behind (i.Block lines) h = absurd (true≢false (sym h))
+  more_behind (i.Stmt x) h =
+      let p = and_parts (has_kind k.Load x) (is_text path (path_in (items_of x))) h in
+      let changed : on_items k.Load (λ xs. xs ++ more) x ≡ with_items (items_of x ++ more) x = if_true (has_kind k.Load x) _ _ p.0 in
+      let filled : items_of (with_items (items_of x ++ more) x) ≡ items_of x ++ more = items_filled k.Load (items_of x ++ more) x p.0 in (
+        ap (λ y. is_load_from path (i.Stmt y)) changed
+            ∙ and_from (has_kind k.Load (with_items (items_of x ++ more) x)) (is_text path (path_in (items_of (with_items (items_of x ++ more) x))))
+            (items_kind k.Load (items_of x ++ more) x ∙ p.0)
+            (ap (λ xs. is_text path (path_in xs)) filled ∙ path_kept (items_of x) p.1),
+        ap (λ y. behind_path (items_of y)) changed ∙ (ap behind_path filled ∙ behind_kept (items_of x) p.1),
+      )
+
+  abbrev loads : Symbol → Item → Bool
+  loads symbol item = is_load_from path item && list_any (loads_symbol symbol) (symbols_of item)
+
+  more_loads : (symbol : Symbol) → IsIn more symbol → (item : Item) → is_load_from path item ≡ true → loads symbol (with_symbols symbols item) ≡ true
+  more_loads symbol e item h =
+      let w = more_behind item h in
+      and_from (is_load_from path (with_symbols symbols item)) (list_any (loads_symbol symbol) (symbols_of (with_symbols symbols item))) w.0
+      (ap (list_any (loads_symbol symbol)) w.1 ∙ any_back (loads_symbol symbol) (symbols_of item) more e)
+
+  still_loads : (symbol : Symbol) (item : Item) → is_load_from path item ≡ true → loads symbol item ≡ true → loads symbol (with_symbols symbols item) ≡ true
+  still_loads symbol item h e =
+      let w = more_behind item h in
+      and_from (is_load_from path (with_symbols symbols item)) (list_any (loads_symbol symbol) (symbols_of (with_symbols symbols item))) w.0
+      (ap (list_any (loads_symbol symbol)) w.1 ∙ any_front (loads_symbol symbol) (symbols_of item) more (and_parts (is_load_from path item) (list_any (loads_symbol symbol) (symbols_of item)) e).1)
+
+  -- ---- a new load
+
+  block_any : (other : Item → Bool) (new : Item) (xs : List Item) → list_any other (behind_blocks new xs) ≡ (other new || list_any other xs)
+  block_any other new [] = refl
+  block_any other new (x ∷ xs) = by (is_block x) (block_any other new xs)
+    where
+      by : (b : Bool) → list_any other (behind_blocks new xs) ≡ (other new || list_any other xs)
+          → list_any other (if b then x ∷ behind_blocks new xs else new ∷ x ∷ xs) ≡ (other new || (other x || list_any other xs))
+      by true rest = ap (λ z. other x || z) rest ∙ or_turn (other x) (other new) (list_any other xs)
+      by false rest = refl
+
+  load_any : (other : Item → Bool) (new : Item) (xs : List Item) → list_any other (behind_loads new xs) ≡ (other new || list_any other xs)
+  load_any other new xs = by (list_any is_load xs)
+    where
+      by : (b : Bool) → list_any other (if b then behind_last is_load new xs else behind_blocks new xs) ≡ (other new || list_any other xs)
+      by true = any_placed is_load other new xs
+      by false = block_any other new xs
+
+  abbrev made_items : List Expr
+  made_items = token c.String (quoted_of path) ∷ more
+
+  new_from : IsPlain path → is_load_from path (load_made path symbols) ≡ true
+  new_from h = ap (λ xs. is_text path (path_in xs)) (items_hidden-the_row-Expr-0 made_items) ∙ text_quoted path h
+
+  new_loads : IsPlain path → (symbol : Symbol) → IsIn more symbol → loads symbol (load_made path symbols) ≡ true
+  new_loads h symbol e =
+      and_from (is_load_from path (load_made path symbols)) (list_any (loads_symbol symbol) (symbols_of (load_made path symbols))) (new_from h)
+      (ap (λ xs. list_any (loads_symbol symbol) (behind_path xs)) (items_hidden-the_row-Expr-0 made_items) ∙ e)
+
+-- ---- once more
+
+each_plain : (symbols : List Symbol) → list_all (λ symbol. becomes_plain symbol.from) symbols ≡ true → AllByRecursion Plain symbols
+each_plain [] h = tt
+each_plain (first ∷ rest) h =
+    let p = and_parts (becomes_plain first.from) (list_all (λ symbol. becomes_plain symbol.from) rest) h in
+    (not-true (list_any is_escaped first.from) p.0, each_plain rest p.1)
+
+module _ (path : Bytes) (symbols : List Symbol) (items : List Item) (plain_path : IsPlain path) (plain : AllByRecursion Plain symbols) where
+  abbrev chosen : List Symbol
+  chosen = new_symbols path items [] symbols
+
+  all_made : AllByRecursion (IsIn (map symbol_made chosen)) chosen
+  all_made = each_made chosen (chosen_plain path items [] symbols plain)
+
+  -- a file that has the symbols that are new and what it had
+  abbrev Loads : List Item → Symbol → Type 0
+  Loads new symbol = is_loaded path new symbol ≡ true
+
+  again : (new : List Item) → list_any (is_load_from path) new ≡ true → ((symbol : Symbol) → IsIn (map symbol_made chosen) symbol → Loads new symbol)
+      → ((symbol : Symbol) → Loads items symbol → Loads new symbol) → new_load path symbols new ≡ new
+  again new there added still =
+      loaded_stays path symbols new there
+      (all_loaded path items (Loads new) still [] symbols (λ symbol e. absurd (true≢false (sym e))) (weaker (IsIn (map symbol_made chosen)) (Loads new) added chosen all_made))
+
+  by_load : (b : Bool) → list_any (is_load_from path) items ≡ b
+      → new_load path symbols (if b then on_first_that (is_load_from path) (with_symbols chosen) items else behind_loads (load_made path chosen) items)
+      ≡ (if b then on_first_that (is_load_from path) (with_symbols chosen) items else behind_loads (load_made path chosen) items)
+  by_load true e =
+      again (on_first_that (is_load_from path) (with_symbols chosen) items)
+      (first_any (is_load_from path) (is_load_from path) (with_symbols chosen) (λ x h. (more_behind path chosen x h).0) items e)
+      (λ symbol h. first_any (is_load_from path) (loads path chosen symbol) (with_symbols chosen) (more_loads path chosen symbol h) items e)
+      (λ symbol h. still_any (is_load_from path) (loads path chosen symbol) (with_symbols chosen) (still_loads path chosen symbol) items h)
+  by_load false e =
+      let new : Item = load_made path chosen in
+      again (behind_loads new items)
+      (load_any path chosen (is_load_from path) new items ∙ or_left (is_load_from path new) (list_any (is_load_from path) items) (new_from path chosen plain_path))
+      (λ symbol h. load_any path chosen (loads path chosen symbol) new items ∙ or_left (loads path chosen symbol new) (is_loaded path items symbol) (new_loads path chosen plain_path symbol h))
+      (λ symbol h. load_any path chosen (loads path chosen symbol) new items ∙ or_right (loads path chosen symbol new) (is_loaded path items symbol) h)
+
+pub loaded_again : LoadedAgain
+loaded_again path symbols items plain_path plain =
+    by_load path symbols items (not-true (list_any is_escaped path) plain_path) (each_plain symbols plain) (list_any (is_load_from path) items) refl

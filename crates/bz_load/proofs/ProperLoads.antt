@@ -1,0 +1,216 @@
+-- What new_load and fix make of proper items is proper.
+use Rattle.std.proofs.Common.{◌≡◌, Bool, true, false, not, List, [], ◌∷◌, ◌++◌, inr, refl, sym, ◌∙◌, subst, map, arith, true≢false}
+use Rattle.std.specs.Prelude.{IsUtf8, IfSome, Option, Some, None, codes, bytes_eq, if◌then◌else◌, ◌||◌}
+use Rattle.std.specs.List.{AllByRecursion, filter, list_any}
+use Rattle.std.specs.Option.{option_map_or}
+use Rattle.std.proofs.lemmas.Bool.{and_parts}
+use Rattle.std.proofs.lemmas.List.Elements.{All-nil, All-from_recursion, recursion_from_All}
+use Rattle.bz_token.specs.declared.class.Class.TheVariants as c
+use Rattle.bz_tree.specs.declared.kind.Kind.TheVariants as k
+use Rattle.bz_tree.specs.Shapes as s
+use Rattle.bz_tree.specs.Spots.{Spot, Begins, Within}
+use Rattle.bz_value.specs.declared.value.Expr.{Expr}
+use Rattle.bz_value.specs.declared.value.Item.{Item}
+use Rattle.bz_value.specs.declared.value.Item.TheVariants as i
+use Rattle.bz_value.specs.Comments.{no_comments}
+use Rattle.bz_value.specs.Gaps.{Bytes}
+use Rattle.bz_value.specs.Proper.{IsComment, AreComments, behind_expr, IsProperItem}
+use Rattle.bz_value.specs.Roots as r
+use Rattle.bz_value.proofs.FormParts.{AreParts, form_proper}
+use Rattle.bz_words.specs.Proper.{IsSymbol, IsAttribute, EachIs, AreSome}
+use Rattle.bz_words.specs.Quoted.{quoted_of}
+use Rattle.bz_words.specs.declared.command.Symbol.{Symbol}
+use Rattle.bz_words.specs.declared.command.Fixes.{Fixes}
+use Rattle.bz_words.proofs.NameTests.{identifiers_are_names}
+use Rattle.bz_rule.specs.Rules.{is_text}
+use Rattle.bz_rule.specs.Values.{has_kind, items_of, with_items, on_items, behind_first}
+use Rattle.bz_rule.proofs.ProperChanges.{by_test, by_case}
+use Rattle.bz_rule.proofs.ProperForms.{InPlace, itself}
+use Rattle.bz_rule.proofs.ProperItems.{all_joined}
+use Rattle.bz_rule.proofs.ProperSequences.{IsItem, AreOf, Keeps, items_again, each_item, load_in_place}
+use Rattle.bz_attribute.specs.Made.{token, node, mark, name}
+use Rattle.bz_attribute.specs.Attributes.{on_first_that, without_first}
+use Rattle.bz_attribute.proofs.ProperTexts.{one_ascii}
+use Rattle.bz_attribute.proofs.ProperMade.{IsNew, token_new, quoted_string}
+use Rattle.bz_load.specs.Loads.{is_load, path_in, is_load_from, is_loaded}
+use Rattle.bz_load.specs.Places.{is_block, behind_last, behind_blocks, behind_loads}
+use Rattle.bz_load.specs.NewLoad.{is_symbol, new_symbols, symbol_made, load_made, with_symbols, new_load}
+use Rattle.bz_load.specs.Uses.{is_used}
+use Rattle.bz_load.specs.Laws.{LoadsStayProper}
+use Rattle.bz_load.specs.Fixes.{has_own_comments, stays, with_used, is_emptied, used_alone, unused_loads, is_package, first_that, package_behind_blocks, package_moved, move_package_to_top, fix}
+
+abbrev AreFine : List Item → Type 0
+AreFine items = AllByRecursion IsProperItem items
+
+-- ---- a new symbol
+
+none_there : AreComments no_comments
+none_there = (All-nil IsComment, tt)
+
+string_new : (word : Bytes) → IsUtf8 word → IsNew (token c.String (quoted_of word))
+string_new word u = let h = quoted_string word u in token_new c.String (quoted_of word) h.0 h.1
+
+-- a new part of a row before others
+new_part : (outer here : Spot) (x : Expr) (xs : List Expr) → IsNew x → AreParts false outer (behind_expr outer here x) xs → AreParts false outer here (x ∷ xs)
+new_part outer here x xs n h = (n.proper here, n.comments, λ b. absurd (true≢false (sym b ∙ n.breaks)), h)
+
+alias_item : (to from : Bytes) → IsAttribute to → IsUtf8 from → IsItem s.loaded (node k.Alias (name to ∷ mark (codes "=") ∷ token c.String (quoted_of from) ∷ []))
+alias_item to from a u = (
+  (
+    form_proper Within (record { kind = k.Alias; parts = name to ∷ mark (codes "=") ∷ token c.String (quoted_of from) ∷ []; seq = record { items = []; end_ = []; split = false }; open_ = false; comments = no_comments })
+        (refl, (refl, (refl, tt))) (
+          new_part Within Within (name to) (mark (codes "=") ∷ token c.String (quoted_of from) ∷ []) (token_new c.Name to ((identifiers_are_names to).0 a.0) a.1)
+              (new_part Within Within (mark (codes "=")) (token c.String (quoted_of from) ∷ []) (token_new c.Mark (codes "=") refl (one_ascii 61 (omega arith)))
+              (new_part Within Within (token c.String (quoted_of from)) [] (string_new from u) tt)),
+          tt,
+          refl,
+          refl,
+          λ e. absurd (true≢false (sym e)),
+        ),
+    none_there,
+    refl,
+  ),
+  refl,
+)
+
+string_item : (from : Bytes) → IsUtf8 from → IsItem s.loaded (token c.String (quoted_of from))
+string_item from u = (((string_new from u).proper Within, none_there, refl), refl)
+
+symbol_item : (symbol : Symbol) → IsSymbol symbol → IsItem s.loaded (symbol_made symbol)
+symbol_item symbol h =
+    by_test (IsItem s.loaded) (bytes_eq symbol.to symbol.from) (token c.String (quoted_of symbol.from)) (node k.Alias (name symbol.to ∷ mark (codes "=") ∷ token c.String (quoted_of symbol.from) ∷ []))
+    (string_item symbol.from h.1.1) (alias_item symbol.to symbol.from h.0 h.1.1)
+
+symbol_items : (symbols : List Symbol) → EachIs IsSymbol symbols → AreOf s.loaded (map symbol_made symbols)
+symbol_items [] h = tt
+symbol_items (symbol ∷ symbols) h = (symbol_item symbol h.0, symbol_items symbols h.1)
+
+chosen_symbols : (path : Bytes) (items : List Item) (earlier symbols : List Symbol) → EachIs IsSymbol symbols → EachIs IsSymbol (new_symbols path items earlier symbols)
+chosen_symbols path items earlier [] h = tt
+chosen_symbols path items earlier (symbol ∷ symbols) h =
+    by_test (EachIs IsSymbol) (list_any (is_symbol symbol) earlier || is_loaded path items symbol) (new_symbols path items earlier symbols) (symbol ∷ new_symbols path items (symbol ∷ earlier) symbols)
+    (chosen_symbols path items earlier symbols h.1) (h.0, chosen_symbols path items (symbol ∷ earlier) symbols h.1)
+
+-- ---- a new load
+
+load_coded : IsUtf8 (codes "load")
+unfolding lib.Utf8.encode
+load_coded = (codes "load", (refl, refl))
+
+load_proper : (path : Bytes) (symbols : List Symbol) → IsUtf8 path → EachIs IsSymbol symbols → IsProperItem (load_made path symbols)
+load_proper path symbols u h =
+    let all : AreOf s.loaded (map symbol_made symbols) = symbol_items symbols h in
+    let word = token_new c.Keyword (codes "load") refl load_coded in (
+      refl,
+      form_proper Begins (record { kind = k.Load; parts = token c.Keyword (codes "load") ∷ []; seq = record { items = token c.String (quoted_of path) ∷ map symbol_made symbols; end_ = []; split = false }; open_ = false; comments = no_comments })
+          (refl, (refl, (refl, inr (refl, items_again s.loaded s.close_round (r.mark 41) refl (map symbol_made symbols) all))))
+          ((word.proper Begins, (refl, refl), tt), ((string_new path u).proper Within, none_there, refl, each_item s.loaded s.close_round (r.mark 41) (map symbol_made symbols) all), All-nil IsComment, refl),
+      none_there,
+    )
+
+-- ---- further symbols of a load
+
+-- where a path stands first, what is put behind all items is put behind it
+behind_the_path : (path : Bytes) (more xs : List Expr) → is_text path (path_in xs) ≡ true → behind_first (λ ys. ys ++ more) xs ≡ xs ++ more
+behind_the_path path more [] h = absurd (true≢false (sym h))
+behind_the_path path more (x ∷ xs) h = refl
+
+stays_statement : (x y : Expr) → InPlace x y → IsProperItem (i.Stmt x) → IsProperItem (i.Stmt y)
+stays_statement x y p w = (subst (λ b. b ≡ true) p.statement w.0, p.proper Begins w.1, subst AreComments p.comments w.2)
+
+more_keeps : (more : List Expr) → AreOf s.loaded more → Keeps s.loaded (λ ys. ys ++ more)
+more_keeps more m xs h = all_joined (IsItem s.loaded) xs more h m
+
+more_symbols : (path : Bytes) (symbols : List Symbol) → EachIs IsSymbol symbols → (item : Item) → is_load_from path item ≡ true → IsProperItem item → IsProperItem (with_symbols symbols item)
+more_symbols path symbols h (i.Block lines) is w = w
+more_symbols path symbols h (i.Stmt x) is w =
+    let more : List Expr = map symbol_made symbols in
+    let p = and_parts (has_kind k.Load x) (is_text path (path_in (items_of x))) is in
+    subst (λ (ys : List Expr). IsProperItem (i.Stmt (if has_kind k.Load x then with_items ys x else x))) (behind_the_path path more (items_of x) p.1)
+    (stays_statement x (on_items k.Load (behind_first (λ ys. ys ++ more)) x) (load_in_place (λ ys. ys ++ more) (more_keeps more (symbol_items symbols h)) x) w)
+
+-- ---- places
+
+first_changed : (test : Item → Bool) (change : Item → Item) → ((item : Item) → test item ≡ true → IsProperItem item → IsProperItem (change item)) → (items : List Item) → AreFine items → AreFine (on_first_that test change items)
+first_changed test change f [] h = tt
+first_changed test change f (item ∷ items) h =
+    by_case AreFine (test item) (change item ∷ items) (item ∷ on_first_that test change items) (λ is. (f item is h.0, h.1)) (λ is. (h.0, first_changed test change f items h.1))
+
+last_placed : (test : Item → Bool) (new : Item) (items : List Item) → IsProperItem new → AreFine items → AreFine (behind_last test new items)
+last_placed test new [] n h = (n, tt)
+last_placed test new (item ∷ items) n h =
+    by_test AreFine (list_any test (item ∷ items)) (item ∷ behind_last test new items) (new ∷ item ∷ items) (h.0, last_placed test new items n h.1) (n, h)
+
+block_placed : (new : Item) (items : List Item) → IsProperItem new → AreFine items → AreFine (behind_blocks new items)
+block_placed new [] n h = (n, tt)
+block_placed new (item ∷ items) n h = by_test AreFine (is_block item) (item ∷ behind_blocks new items) (new ∷ item ∷ items) (h.0, block_placed new items n h.1) (n, h)
+
+load_placed : (new : Item) (items : List Item) → IsProperItem new → AreFine items → AreFine (behind_loads new items)
+load_placed new items n h = by_test AreFine (list_any is_load items) (behind_last is_load new items) (behind_blocks new items) (last_placed is_load new items n h) (block_placed new items n h)
+
+pub new_load_keeps : (path : Bytes) (symbols : List Symbol) (items : List Item) → IsUtf8 path → AreSome IsSymbol symbols → AllByRecursion IsProperItem items → AllByRecursion IsProperItem (new_load path symbols items)
+new_load_keeps path symbols items u some h =
+    let chosen : List Symbol = new_symbols path items [] symbols in
+    let fine : EachIs IsSymbol chosen = chosen_symbols path items [] symbols some.1 in
+    by_test AreFine (list_any (is_load_from path) items) (on_first_that (is_load_from path) (with_symbols chosen) items) (behind_loads (load_made path chosen) items)
+    (first_changed (is_load_from path) (with_symbols chosen) (more_symbols path chosen fine) items h)
+    (load_placed (load_made path chosen) items (load_proper path chosen u fine) h)
+
+-- ---- unused symbols
+
+filtered : {X : Type 0} (P : X → Type 0) (test : X → Bool) (xs : List X) → AllByRecursion P xs → AllByRecursion P (filter test xs)
+filtered P test [] h = tt
+filtered P test (x ∷ xs) h = by_test (AllByRecursion P) (test x) (x ∷ filter test xs) (filter test xs) (h.0, filtered P test xs h.1) (filtered P test xs h.1)
+
+pub used_statement : (used : Bytes → Bool) (item : Item) → IsProperItem item → IsProperItem (used_alone used item)
+used_statement used (i.Block lines) h = h
+used_statement used (i.Stmt x) h =
+    let change : List Expr → List Expr = filter (stays used) in
+    stays_statement x (with_used used x)
+    (by_test (InPlace x) (has_own_comments x) x (on_items k.Load (behind_first change) x) (itself x) (load_in_place change (λ xs m. filtered (IsItem s.loaded) (stays used) xs m) x)) h
+
+used_each : (used : Bytes → Bool) (items : List Item) → AreFine items → AreFine (map (used_alone used) items)
+used_each used [] h = tt
+used_each used (item ∷ items) h = (used_statement used item h.0, used_each used items h.1)
+
+unused_keeps : (items : List Item) → AreFine items → AreFine (unused_loads items)
+unused_keeps items h =
+    let used : Bytes → Bool = is_used items in
+    used_each used (filter (λ item. not (is_emptied used item)) items) (filtered IsProperItem (λ item. not (is_emptied used item)) items h)
+
+-- ---- the package
+
+first_fine : (test : Item → Bool) (items : List Item) → AreFine items → IfSome (first_that test items) IsProperItem
+first_fine test [] h = tt
+first_fine test (item ∷ items) h = by_test (λ (o : Option Item). IfSome o IsProperItem) (test item) (Some item) (first_that test items) h.0 (first_fine test items h.1)
+
+others_fine : (test : Item → Bool) (items : List Item) → AreFine items → AreFine (without_first test items)
+others_fine test [] h = tt
+others_fine test (item ∷ items) h = by_test AreFine (test item) items (item ∷ without_first test items) h.1 (h.0, others_fine test items h.1)
+
+top_placed : (new : Item) (items : List Item) → IsProperItem new → AreFine items → AreFine (package_behind_blocks new items)
+top_placed new [] n h = (n, tt)
+top_placed new (item ∷ items) n h =
+    by_test AreFine (is_block item) (item ∷ package_behind_blocks new items) (new ∷ without_first is_package (item ∷ items))
+    (h.0, top_placed new items n h.1) (n, others_fine is_package (item ∷ items) h)
+
+package_placed : (items : List Item) → AreFine items → (found : Option Item) → IfSome found IsProperItem → AreFine (option_map_or (package_moved items) found items)
+package_placed items h None f = h
+package_placed items h (Some new) f =
+    by_test AreFine (list_any is_load items) (behind_last is_load new (without_first is_package items)) (package_behind_blocks new items)
+    (last_placed is_load new (without_first is_package items) f (others_fine is_package items h)) (top_placed new items f h)
+
+package_keeps : (items : List Item) → AreFine items → AreFine (move_package_to_top items)
+package_keeps items h = package_placed items h (first_that is_package items) (first_fine is_package items h)
+
+pub fix_keeps : (fixes : Fixes) (items : List Item) → AllByRecursion IsProperItem items → AllByRecursion IsProperItem (fix fixes items)
+fix_keeps fixes items h =
+    let moved : List Item = if fixes.move_package_to_top then move_package_to_top items else items in
+    let fine : AreFine moved = by_test AreFine fixes.move_package_to_top (move_package_to_top items) items (package_keeps items h) h in
+    by_test AreFine fixes.unused_loads (unused_loads moved) moved (unused_keeps moved fine) fine
+
+pub loads_stay_proper : LoadsStayProper
+loads_stay_proper = (
+  λ path symbols items u some h. All-from_recursion IsProperItem (new_load path symbols items) (new_load_keeps path symbols items u some (recursion_from_All IsProperItem items h)),
+  λ fixes items h. All-from_recursion IsProperItem (fix fixes items) (fix_keeps fixes items (recursion_from_All IsProperItem items h)),
+)

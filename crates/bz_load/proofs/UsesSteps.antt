@@ -1,0 +1,66 @@
+-- The names of values, collected.
+use Rattle.std.proofs.Common.{◌≡◌, Bool, true, false, ◌||◌, List, [], ◌∷◌, ◌++◌, map, refl, sym, ap, ◌∙◌}
+use Rattle.std.specs.Prelude.{bytes_eq, if◌then◌else◌}
+use Rattle.std.specs.List.{list_any}
+use Rattle.std.proofs.Math.Path.{fun_ext}
+use Rattle.bz_tree.specs.declared.kind.Kind.{Kind}
+use Rattle.bz_tree.specs.declared.kind.Kind.TheVariants as k
+use Rattle.bz_tree.specs.Shapes.{is_kind}
+use Rattle.bz_value.specs.declared.value.Form.{Form}
+use Rattle.bz_value.specs.declared.value.Expr.{Expr}
+use Rattle.bz_value.specs.declared.value.Expr.TheVariants as e
+use Rattle.bz_value.specs.declared.value.Item.{Item}
+use Rattle.bz_value.specs.Gaps.{Bytes}
+use Rattle.bz_attribute.proofs.KeySets.{or_group, or_none}
+use Rattle.bz_load.specs.Uses.{all_of, behind_head, head, with_operands, operands, operands_in, is_used}
+use Rattle.bz_load.specs.Known.{has_name, and_name, and_names, and_operands, and_uses}
+use Rattle.bz_load.proofs.UsesForms.{operands_Form}
+
+abbrev Test : Type 0
+Test = Bytes → Bool
+
+names_append : (xs ys : List Bytes) (test : Test) → and_names (xs ++ ys) test ≡ and_names ys (and_names xs test)
+names_append [] ys test = refl
+names_append (x ∷ xs) ys test = names_append xs ys (and_name x test)
+
+operands_all : (xs : List Expr) (test : Test) → and_names (all_of (map operands xs)) test ≡ and_operands xs test
+operands_all [] test = refl
+operands_all (x ∷ xs) test = names_append (operands x) (all_of (map operands xs)) test ∙ operands_all xs (and_names (operands x) test)
+
+behind_map : {X Y : Type 0} (f : X → Y) (xs : List X) → behind_head (map f xs) ≡ map f (behind_head xs)
+behind_map f [] = refl
+behind_map f (x ∷ xs) = refl
+
+head_map : {X Y : Type 0} (f : X → Y) (xs : List X) → head (map f xs) ≡ map f (head xs)
+head_map f [] = refl
+head_map f (x ∷ xs) = refl
+
+chosen_map : {X Y : Type 0} (f : X → Y) (a b : Bool) (xs : List X)
+    → (if a then behind_head (map f xs) else (if b then head (map f xs) else map f xs)) ≡ map f (if a then behind_head xs else (if b then head xs else xs))
+chosen_map f true b xs = behind_map f xs
+chosen_map f false true xs = head_map f xs
+chosen_map f false false xs = refl
+
+operands_map : (kind : Kind) (xs : List Expr) → with_operands kind (map operands xs) ≡ map operands (with_operands kind xs)
+operands_map kind xs = chosen_map operands (is_kind kind k.Named || is_kind kind k.Alias) (is_kind kind k.Dot) xs
+
+-- the names of a form: of its parts, and of its items
+pub form_names : (f : Form) (test : Test) → and_names (operands (e.Form f)) test ≡ and_operands f.seq.items (and_operands (with_operands f.kind f.parts) test)
+form_names f test =
+    ap (λ xs. and_names xs test) (operands_Form f)
+    ∙ (names_append (all_of (with_operands f.kind (map operands f.parts))) (all_of (map operands f.seq.items)) test
+    ∙ (operands_all f.seq.items (and_names (all_of (with_operands f.kind (map operands f.parts))) test)
+    ∙ ap (and_operands f.seq.items) (ap (λ xs. and_names (all_of xs) test) (operands_map f.kind f.parts) ∙ operands_all (with_operands f.kind f.parts) test)))
+
+uses_all : (items : List Item) (test : Test) → and_names (all_of (map operands_in items)) test ≡ and_uses items test
+uses_all [] test = refl
+uses_all (item ∷ items) test = names_append (operands_in item) (all_of (map operands_in items)) test ∙ uses_all items (and_names (operands_in item) test)
+
+names_told : (xs : List Bytes) (test : Test) (text : Bytes) → and_names xs test text ≡ (list_any (bytes_eq text) xs || test text)
+names_told [] test text = refl
+names_told (x ∷ xs) test text = names_told xs (and_name x test) text ∙ or_group (list_any (bytes_eq text) xs) (bytes_eq text x) (test text)
+
+pub names_used : (items : List Item) → and_uses items (has_name []) ≡ is_used items
+names_used items = fun_ext (λ text.
+    ap (λ (test : Test). test text) (sym (uses_all items (has_name [])))
+    ∙ (names_told (all_of (map operands_in items)) (has_name []) text ∙ or_none (list_any (bytes_eq text) (all_of (map operands_in items)))))

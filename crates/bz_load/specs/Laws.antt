@@ -1,0 +1,63 @@
+-- Laws of new_load and of fix.
+use Rattle.std.specs.Prelude.{◌≡◌, Bool, true, false, not, List, IsUtf8}
+use Rattle.std.specs.List.{list_any, list_all}
+use Rattle.bz_value.specs.declared.value.Item.{Item}
+use Rattle.bz_value.specs.Counted.{times}
+use Rattle.bz_value.specs.Gaps.{Bytes}
+use Rattle.bz_value.specs.Proper.{IsProper}
+use Rattle.bz_words.specs.Proper.{IsSymbol, AreSome}
+use Rattle.bz_words.specs.Quoted.{is_escaped}
+use Rattle.bz_words.specs.declared.command.Symbol.{Symbol}
+use Rattle.bz_words.specs.declared.command.Fixes.{Fixes}
+use Rattle.bz_attribute.specs.Attributes.{without_first}
+use Rattle.bz_load.specs.NewLoad.{new_load}
+use Rattle.bz_load.specs.Uses.{is_used}
+use Rattle.bz_load.specs.Fixes.{is_emptied, unused_loads, is_package, move_package_to_top, fix}
+
+-- What new_load makes of proper items by words that were read is proper, and what fix makes of them too.
+abbrev pub LoadsStayProper : Type 0
+LoadsStayProper =
+    ((path : Bytes) (symbols : List Symbol) (items : List Item) → IsUtf8 path → AreSome IsSymbol symbols → IsProper items → IsProper (new_load path symbols items))
+    × ((fixes : Fixes) (items : List Item) → IsProper items → IsProper (fix fixes items))
+
+-- ---- once more
+
+-- It becomes a string that is plain: no quotation mark, no backslash and no newline in it.
+abbrev pub becomes_plain : Bytes → Bool
+becomes_plain text = not (list_any is_escaped text)
+
+-- Loading the same symbols once more changes nothing.
+abbrev pub LoadedAgain : Type 0
+LoadedAgain =
+    (path : Bytes) (symbols : List Symbol) (items : List Item)
+    → becomes_plain path ≡ true → list_all (λ symbol. becomes_plain symbol.from) symbols ≡ true
+    → new_load path symbols (new_load path symbols items) ≡ new_load path symbols items
+
+-- In a proper file no load uses a name, so what is unused is unused whatever goes.
+abbrev pub UnusedAgain : Type 0
+UnusedAgain = (items : List Item) → IsProper items → unused_loads (unused_loads items) ≡ unused_loads items
+
+-- a second rule of kind `package`
+abbrev pub has_second_package : List Item → Bool
+has_second_package items = list_any is_package (without_first is_package items)
+
+abbrev pub MovedAgain : Type 0
+MovedAgain = (items : List Item) → has_second_package items ≡ false → move_package_to_top (move_package_to_top items) ≡ move_package_to_top items
+
+-- one of the loads loses its last symbol
+abbrev pub loses_load : List Item → Bool
+loses_load items = list_any (is_emptied (is_used items)) items
+
+-- Where a load goes, the package may go behind another one the next time.
+abbrev pub FixedAgain : Type 0
+FixedAgain =
+    (fixes : Fixes) (items : List Item) → IsProper items → has_second_package items ≡ false → loses_load (move_package_to_top items) ≡ false
+    → fix fixes (fix fixes items) ≡ fix fixes items
+
+-- ---- comments
+
+-- Each comment stands there as often as before.
+abbrev pub CommentsStay : Type 0
+CommentsStay =
+    ((path : Bytes) (symbols : List Symbol) (items : List Item) (text : Bytes) → times text (new_load path symbols items) ≡ times text items)
+    × ((fixes : Fixes) (items : List Item) → IsProper items → (text : Bytes) → times text (fix fixes items) ≡ times text items)

@@ -1,0 +1,48 @@
+-- The loads of a file, and what they load.
+use Rattle.std.specs.Prelude.{Bool, false, ◌&&◌, List, [], ◌∷◌, Option, None, bytes_eq, if◌then◌else◌}
+use Rattle.std.specs.List.{list_any}
+use Rattle.bz_tree.specs.declared.kind.Kind.TheVariants as k
+use Rattle.bz_value.specs.declared.value.Expr.{Expr}
+use Rattle.bz_value.specs.declared.value.Item.{Item}
+use Rattle.bz_value.specs.declared.value.Item.TheVariants as i
+use Rattle.bz_value.specs.Gaps.{Bytes}
+use Rattle.bz_words.specs.declared.command.Symbol.{Symbol}
+use Rattle.bz_rule.specs.Rules.{is_text}
+use Rattle.bz_rule.specs.Values.{has_kind, parts_of, items_of, text_of}
+use Rattle.bz_attribute.specs.Lists.{body_of}
+
+abbrev pub is_load : Item → Bool
+is_load (i.Block lines) = false
+is_load (i.Stmt x) = has_kind k.Load x
+
+-- the path: the body of the first item, where that is a plain string
+abbrev pub path_in : List Expr → Option Bytes
+path_in [] = None
+path_in (x ∷ xs) = body_of x
+
+abbrev pub is_load_from : Bytes → Item → Bool
+is_load_from path (i.Block lines) = false
+is_load_from path (i.Stmt x) = has_kind k.Load x && is_text path (path_in (items_of x))
+
+-- to = "from", where the string is plain
+abbrev pub is_alias_of : Symbol → List Expr → Bool
+is_alias_of symbol (to ∷ equals ∷ from ∷ []) = bytes_eq (text_of to) symbol.to && is_text symbol.from (body_of from)
+is_alias_of symbol _ = false
+
+-- an item of a load that loads this symbol by this name: an alias, or a plain string, which is both names
+abbrev pub loads_symbol : Symbol → Expr → Bool
+loads_symbol symbol x =
+    if has_kind k.Alias x then is_alias_of symbol (parts_of x) else is_text symbol.to (body_of x) && bytes_eq symbol.to symbol.from
+
+-- the items behind the path
+abbrev pub behind_path : List Expr → List Expr
+behind_path [] = []
+behind_path (x ∷ xs) = xs
+
+abbrev pub symbols_of : Item → List Expr
+symbols_of (i.Block lines) = []
+symbols_of (i.Stmt x) = behind_path (items_of x)
+
+-- one of the loads from the path loads it so
+abbrev pub is_loaded : Bytes → List Item → Symbol → Bool
+is_loaded path items symbol = list_any (λ item. is_load_from path item && list_any (loads_symbol symbol) (symbols_of item)) items

@@ -1,0 +1,45 @@
+-- Symbols that are loaded too. (Own profile of buildozer's `new_load`.)
+use Rattle.std.specs.Prelude.{Bool, ◌&&◌, ◌||◌, List, [], ◌∷◌, ◌++◌, codes, map, bytes_eq, if◌then◌else◌}
+use Rattle.std.specs.List.{list_any}
+use Rattle.bz_token.specs.declared.class.Class.TheVariants as c
+use Rattle.bz_tree.specs.declared.kind.Kind.TheVariants as k
+use Rattle.bz_value.specs.declared.value.Expr.{Expr}
+use Rattle.bz_value.specs.declared.value.Item.{Item}
+use Rattle.bz_value.specs.declared.value.Item.TheVariants as i
+use Rattle.bz_value.specs.Gaps.{Bytes}
+use Rattle.bz_words.specs.declared.command.Symbol.{Symbol}
+use Rattle.bz_words.specs.Quoted.{quoted_of}
+use Rattle.bz_rule.specs.Values.{on_items}
+use Rattle.bz_attribute.specs.Made.{token, node, mark, sequence, name}
+use Rattle.bz_attribute.specs.Attributes.{on_first_that}
+use Rattle.bz_load.specs.Loads.{is_load_from, is_loaded}
+use Rattle.bz_load.specs.Places.{behind_loads}
+
+abbrev pub is_symbol : Symbol → Symbol → Bool
+is_symbol symbol other = bytes_eq symbol.to other.to && bytes_eq symbol.from other.from
+
+-- the symbols that are not loaded so yet, each once
+abbrev pub new_symbols : Bytes → List Item → List Symbol → List Symbol → List Symbol
+new_symbols path items earlier [] = []
+new_symbols path items earlier (symbol ∷ symbols) =
+    if list_any (is_symbol symbol) earlier || is_loaded path items symbol then new_symbols path items earlier symbols
+    else symbol ∷ new_symbols path items (symbol ∷ earlier) symbols
+
+-- an alias, or where both names are one the string alone
+abbrev pub symbol_made : Symbol → Expr
+symbol_made symbol =
+    if bytes_eq symbol.to symbol.from then token c.String (quoted_of symbol.from)
+    else node k.Alias (name symbol.to ∷ mark (codes "=") ∷ token c.String (quoted_of symbol.from) ∷ [])
+
+abbrev pub load_made : Bytes → List Symbol → Item
+load_made path symbols = i.Stmt (sequence k.Load (token c.Keyword (codes "load") ∷ []) (token c.String (quoted_of path) ∷ map symbol_made symbols))
+
+abbrev pub with_symbols : List Symbol → Item → Item
+with_symbols symbols (i.Block lines) = i.Block lines
+with_symbols symbols (i.Stmt x) = i.Stmt (on_items k.Load (λ items. items ++ map symbol_made symbols) x)
+
+-- Symbols that are not loaded so from the path go to the end of its first load; without such a load a new one is made.
+abbrev pub new_load : Bytes → List Symbol → List Item → List Item
+new_load path symbols items =
+    if list_any (is_load_from path) items then on_first_that (is_load_from path) (with_symbols (new_symbols path items [] symbols)) items
+    else behind_loads (load_made path (new_symbols path items [] symbols)) items

@@ -1,0 +1,21 @@
+//! The loads of a file: symbols that are loaded too, symbols that nothing uses, and the package behind the loads.
+#![tactic(auto)]
+
+mod adding;
+mod fixing;
+mod known;
+mod laws;
+mod making;
+mod names;
+mod package;
+mod places;
+mod readings;
+mod unused;
+mod uses;
+
+pub use adding::new_load;
+pub use fixing::fix;
+pub use laws::{
+    comments_stay, dropping_again, fixing_again, loading_again, loads_stay_proper, moving_again,
+    worked_loads,
+};

@@ -1,0 +1,37 @@
+//! The package behind the loads.
+ghost use Rattle.std.specs.Prelude.{◌≡◌, OnOk, codes};
+ghost use Rattle.std.specs.List.{position};
+ghost use Rattle.bz_load.specs.Fixes.{is_package as is_any_package, move_package_to_top};
+
+use crate::places::{count_of_blocks, count_to_last_load};
+use bz_items::Memory;
+use bz_rule::has_kind;
+use bz_value::Item;
+
+fn is_package(item: &Item) -> bool
+    ensures { result ≡ is_any_package item.now }
+{
+    has_kind(b"package", item)
+}
+
+fn place_of_package(items: &[Item]) -> Option<usize>
+    ensures { result ≡ position is_any_package items.now }
+{
+    items.iter().position(is_package)
+}
+
+/// The first rule of kind `package` goes right behind the last load; without a load behind the comment blocks that the items
+/// begin with. The error: memory was refused; the items are then lost.
+pub(crate) fn move_package(items: &mut Vec<Item>) -> Result<(), Memory>
+    ensures { OnOk result (items.new.items ≡ move_package_to_top items.old.items) }
+{
+    let Some(from) = place_of_package(items.as_slice()) else {
+        return Ok(());
+    };
+    let blocks = count_of_blocks(items.as_slice());
+    let package = items.remove(from);
+    let loads = count_to_last_load(items.as_slice());
+    let to = if loads > 0 { loads } else { blocks };
+    items.insert(to, package)?;
+    Ok(())
+}

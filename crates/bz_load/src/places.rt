@@ -1,0 +1,64 @@
+//! Places among the items of a file.
+ghost use Rattle.std.specs.Prelude.{◌≡◌, ◌++◌, ◌∷◌, ◌≤◌, true, length, nat_lt, take, drop, OnOk};
+ghost use Rattle.std.specs.List.{list_all, list_any};
+ghost use Rattle.bz_value.specs.declared.value.Item.{Item};
+ghost use Rattle.bz_load.specs.Fixes.{package_behind_blocks, is_package};
+ghost use Rattle.bz_load.specs.Loads.{is_load as is_any_load};
+ghost use Rattle.bz_load.specs.Places.{behind_blocks, behind_last, behind_loads, is_block as is_any_block};
+ghost use Rattle.bz_attribute.specs.Attributes.{without_first};
+
+use crate::readings::is_load;
+use bz_items::Memory;
+use bz_value::Item;
+
+/// How many items stand up to the last load; without a load none.
+pub(crate) fn count_to_last_load(items: &[Item]) -> usize
+    ensures within { result ≤ length items.now }
+    ensures some { list_any is_any_load items.now ≡ nat_lt 0 result }
+    ensures place { (new : Item) → behind_last is_any_load new items.now ≡ take result items.now ++ new ∷ drop result items.now }
+{
+    let mut count = items.len();
+    while count > 0 && !is_load(&items[count - 1]) {
+        count -= 1;
+    }
+    count
+}
+
+fn is_block(item: &Item) -> bool
+    ensures { result ≡ is_any_block item.now }
+{
+    match item {
+        Item::Block(_) => true,
+        Item::Stmt(_) => false,
+    }
+}
+
+/// With how many comment blocks the items begin.
+pub(crate) fn count_of_blocks(items: &[Item]) -> usize
+    ensures within { result ≤ length items.now }
+    ensures blocks { list_all is_any_block (take result items.now) ≡ true }
+    ensures place { (new : Item) → behind_blocks new items.now ≡ take result items.now ++ new ∷ drop result items.now }
+    ensures top { (new : Item) → package_behind_blocks new items.now ≡ take result items.now ++ new ∷ without_first is_package (drop result items.now) }
+{
+    for at in 0..items.len() {
+        if !is_block(&items[at]) {
+            return at;
+        }
+    }
+    items.len()
+}
+
+/// Puts an item behind the last load; without a load behind the comment blocks that the items begin with. The error: memory
+/// was refused; the item is then lost.
+pub(crate) fn insert_behind_loads(new: Item, items: &mut Vec<Item>) -> Result<(), Memory>
+    ensures { OnOk result (items.new.items ≡ behind_loads new items.old.items) }
+{
+    let loads = count_to_last_load(items.as_slice());
+    let at = if loads > 0 {
+        loads
+    } else {
+        count_of_blocks(items.as_slice())
+    };
+    items.insert(at, new)?;
+    Ok(())
+}

@@ -1,0 +1,100 @@
+//! Loads, and what they load, read off values.
+ghost use Rattle.std.specs.Prelude.{◌≡◌};
+ghost use Rattle.std.specs.Option.{option_copied, option_map};
+ghost use Rattle.bz_load.specs.Known.{alias_in, symbol_in};
+ghost use Rattle.bz_load.specs.KnownKeys.{symbol_of_key};
+ghost use Rattle.bz_load.specs.Loads.{behind_path as behind, is_load as is_any_load, is_load_from as is_from, path_in as path_of, symbols_of as symbols};
+
+use bz_attribute::{body_of, first_text, has_kind, items_of, parts_of};
+use bz_rule::is_text;
+use bz_tree::Kind;
+use bz_value::{Expr, Item};
+
+/// A symbol that is loaded: its name in the file that loads it, and its name in the file that is loaded.
+#[derive(Clone, Copy, PartialEq, Eq, Hash)]
+pub(crate) struct Loaded<'a> {
+    pub(crate) to: &'a [u8],
+    pub(crate) from: &'a [u8],
+}
+
+/// Whether the item is a load.
+pub(crate) fn is_load(item: &Item) -> bool
+    ensures { result ≡ is_any_load item.now }
+{
+    match item {
+        Item::Block(_) => false,
+        Item::Stmt(x) => has_kind(Kind::Load, x),
+    }
+}
+
+/// The body of the first item of a load, where that is a plain string.
+fn path_in(items: &[Expr]) -> Option<&[u8]>
+    ensures { option_copied result ≡ path_of items.now }
+{
+    match items {
+        [] => None,
+        [path, ..] => body_of(path),
+    }
+}
+
+/// Whether the item is a load from this path.
+pub(crate) fn is_load_from(path: &[u8], item: &Item) -> bool
+    ensures { result ≡ is_from path.now item.now }
+{
+    match item {
+        Item::Block(_) => false,
+        Item::Stmt(x) => has_kind(Kind::Load, x) && is_text(path, path_in(items_of(x))),
+    }
+}
+
+/// The items of a load behind its path.
+pub(crate) fn behind_path(items: &[Expr]) -> &[Expr]
+    ensures { result.now ≡ behind items.now }
+{
+    match items {
+        [] => &[],
+        [_, symbols @ ..] => symbols,
+    }
+}
+
+/// What a load has behind its path.
+pub(crate) fn symbols_of(item: &Item) -> &[Expr]
+    ensures { result.now ≡ symbols item.now }
+{
+    match item {
+        Item::Block(_) => &[],
+        Item::Stmt(x) => behind_path(items_of(x)),
+    }
+}
+
+/// The symbol of an alias.
+fn alias_in(parts: &[Expr]) -> Option<Loaded<'_>>
+    ensures { option_map symbol_of_key result ≡ alias_in parts.now }
+{
+    match parts {
+        [_, _, from] => match body_of(from) {
+            Some(text) => Some(Loaded {
+                to: first_text(parts),
+                from: text,
+            }),
+            None => None,
+        },
+        _ => None,
+    }
+}
+
+/// The symbol that an item of a load loads: an alias, or a plain string, which is both names.
+pub(crate) fn symbol_in(x: &Expr) -> Option<Loaded<'_>>
+    ensures { option_map symbol_of_key result ≡ symbol_in x.now }
+{
+    if has_kind(Kind::Alias, x) {
+        return alias_in(parts_of(x));
+    }
+    match body_of(x) {
+        Some(text) => Some(Loaded {
+            to: text,
+            from: text,
+        }),
+        None => None,
+    }
+}

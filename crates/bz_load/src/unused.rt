@@ -1,0 +1,172 @@
+//! Symbols that nothing uses are loaded no more.
+ghost use Rattle.std.specs.Prelude.{◌≡◌, ◌&&◌, OnOk, not, map};
+ghost use Rattle.std.specs.List.{filter, list_any};
+ghost use Rattle.bz_tree.specs.declared.kind.Kind.TheVariants as k;
+ghost use Rattle.bz_rule.specs.Values.{behind_first, on_items};
+ghost use Rattle.bz_write.specs.Layout.{is_empty};
+ghost use Rattle.bz_load.specs.Fixes.{end_of, has_comments as has_any, has_own_comments as has_own, is_emptied as empties, path_comments as path_has, stays as stays_by, unused_loads, used_alone as alone, with_used as used_in};
+ghost use Rattle.bz_load.specs.Known.{has_name};
+
+use crate::names::UsedNames;
+use crate::readings::behind_path;
+use crate::uses::used_names;
+use bz_attribute::{has_kind, items_of};
+use bz_items::{Items, Memory};
+use bz_tidy::local_name;
+use bz_tree::Kind;
+use bz_value::{Comments, Expr, Item};
+use std::alloc::Global;
+use std::mem;
+
+fn has_comments(comments: &Comments) -> bool
+    ensures { result ≡ has_any comments.now }
+{
+    !(comments.before().is_empty() && comments.suffix().is_none())
+}
+
+/// Whether comments stand below the last item of the sequence.
+fn has_end(x: &Expr) -> bool
+    ensures { result ≡ not (is_empty (end_of x.now)) }
+{
+    match x {
+        Expr::Token(_) => false,
+        Expr::Form(form) => !form.seq.end_.is_empty(),
+    }
+}
+
+fn path_has_comments(items: &[Expr]) -> bool
+    ensures { result ≡ path_has items.now }
+{
+    match items {
+        [] => false,
+        [path, ..] => has_comments(path.comments()),
+    }
+}
+
+/// Whether a load has comments that are no symbol's: above it, behind it, at its end, or the path's.
+fn has_own_comments(x: &Expr) -> bool
+    ensures { result ≡ has_own x.now }
+{
+    has_comments(x.comments()) || has_end(x) || path_has_comments(items_of(x))
+}
+
+/// Whether a symbol stays: it has a comment, or its local name is used.
+fn stays(names: &UsedNames, x: &Expr) -> bool
+    ensures { result ≡ stays_by (has_name names.now) x.now }
+{
+    has_comments(x.comments()) || names.has(local_name(x))
+}
+
+fn any_stays(names: &UsedNames, symbols: &[Expr]) -> bool
+    ensures { result ≡ list_any (stays_by (has_name names.now)) symbols.now }
+{
+    symbols.iter().any(|x| stays(names, x))
+}
+
+fn keep_used(names: &UsedNames, symbols: &mut Vec<Expr>)
+    ensures { symbols.new.items ≡ filter (stays_by (has_name names.now)) symbols.old.items }
+{
+    symbols.retain(|x| stays(names, x));
+}
+
+/// Of the items of a load the path stays, and of its symbols those that are to stay.
+fn keep_path_and_used(names: &UsedNames, items: &mut Vec<Expr>) -> Result<(), Memory>
+    ensures { OnOk result (items.new.items ≡ behind_first (filter (stays_by (has_name names.now))) items.old.items) }
+{
+    if items.is_empty() {
+        return Ok(());
+    }
+    let path = items.remove(0);
+    keep_used(names, items);
+    items.insert(0, path)?;
+    Ok(())
+}
+
+fn keep_in_items(alloc: Global, names: &UsedNames, items: &mut Items<Expr>) -> Result<(), Memory>
+    ensures { OnOk result (items.new ≡ behind_first (filter (stays_by (has_name names.now))) items.old) }
+{
+    let mut all = mem::replace(items, Items::new(alloc)).into_vec();
+    keep_path_and_used(names, &mut all)?;
+    *items = Items::from_vec(all);
+    Ok(())
+}
+
+fn keep_in_load(alloc: Global, names: &UsedNames, x: &mut Expr) -> Result<(), Memory>
+    ensures { OnOk result (x.new ≡ on_items k.Load (behind_first (filter (stays_by (has_name names.now)))) x.old) }
+{
+    match x {
+        Expr::Token(_) => Ok(()),
+        Expr::Form(form) => {
+            if form.kind == Kind::Load {
+                keep_in_items(alloc, names, &mut form.seq.items)?;
+            }
+            Ok(())
+        }
+    }
+}
+
+/// A load without comments of its own keeps the symbols that are to stay.
+fn keep_in_expr(alloc: Global, names: &UsedNames, x: &mut Expr) -> Result<(), Memory>
+    ensures { OnOk result (x.new ≡ used_in (has_name names.now) x.old) }
+{
+    if has_own_comments(x) {
+        return Ok(());
+    }
+    keep_in_load(alloc, names, x)
+}
+
+fn keep_in_item(alloc: Global, names: &UsedNames, item: &mut Item) -> Result<(), Memory>
+    ensures { OnOk result (item.new ≡ alone (has_name names.now) item.old) }
+{
+    match item {
+        Item::Block(_) => Ok(()),
+        Item::Stmt(x) => keep_in_expr(alloc, names, x),
+    }
+}
+
+fn keep_in_each(alloc: Global, names: &UsedNames, items: &mut Vec<Item>) -> Result<(), Memory>
+    ensures { OnOk result (items.new.items ≡ map (alone (has_name names.now)) items.old.items) }
+{
+    for item in items.iter_mut() {
+        keep_in_item(alloc, names, item)?;
+    }
+    Ok(())
+}
+
+/// Whether none of these symbols, of which there are some, stays.
+fn loses_all(names: &UsedNames, symbols: &[Expr]) -> bool
+    ensures { result ≡ (not (is_empty symbols.now) && not (list_any (stays_by (has_name names.now)) symbols.now)) }
+{
+    !symbols.is_empty() && !any_stays(names, symbols)
+}
+
+/// Whether the item is a load that loses its last symbol.
+fn is_emptied(names: &UsedNames, item: &Item) -> bool
+    ensures { result ≡ empties (has_name names.now) item.now }
+{
+    match item {
+        Item::Block(_) => false,
+        Item::Stmt(x) => {
+            has_kind(Kind::Load, x)
+                && !has_own_comments(x)
+                && loses_all(names, behind_path(items_of(x)))
+        }
+    }
+}
+
+fn drop_emptied(names: &UsedNames, items: &mut Vec<Item>)
+    ensures { items.new.items ≡ filter (λ item. not (empties (has_name names.now) item)) items.old.items }
+{
+    items.retain(|item| !is_emptied(names, item));
+}
+
+/// Symbols without a comment whose local name nothing uses are loaded no more, and a load that loses its last one goes; loads
+/// with comments of their own stay as they are. The error: memory was refused; the items are then lost.
+pub(crate) fn drop_unused(alloc: Global, items: &mut Vec<Item>) -> Result<(), Memory>
+    ensures { OnOk result (items.new.items ≡ unused_loads items.old.items) }
+{
+    let names = used_names(alloc, items.as_slice())?;
+    drop_emptied(&names, items);
+    keep_in_each(alloc, &names, items)?;
+    Ok(())
+}
