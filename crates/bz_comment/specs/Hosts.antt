@@ -1,0 +1,110 @@
+-- The comments that a command is meant for: those of a rule, of an attribute, or of an item of an attribute's lists. (Own
+-- profile of buildozer's comment commands.)
+use Rattle.std.specs.Prelude.{ℕ, Bool, not, ◌&&◌, List, [], ◌∷◌, ◌++◌, Option, Some, None, Result, Ok, Err, nat_eq, if◌then◌else◌}
+use Rattle.std.specs.List.{find, list_any, flat_map}
+use Rattle.bz_tree.specs.declared.kind.Kind.TheVariants as k
+use Rattle.bz_value.specs.declared.value.Expr.{Expr}
+use Rattle.bz_value.specs.Characters.{line_feed, number_sign}
+use Rattle.bz_value.specs.Comments.{HostComments, no_comments}
+use Rattle.bz_value.specs.Commented.{with_comments}
+use Rattle.bz_value.specs.Gaps.{Bytes, trimmed}
+use Rattle.bz_value.specs.Proper.{comments_of}
+use Rattle.bz_words.specs.declared.command.Host.{Host}
+use Rattle.bz_words.specs.declared.command.Host.TheVariants as h
+use Rattle.bz_words.specs.Characters.{space}
+use Rattle.bz_rule.specs.Rules.{attribute}
+use Rattle.bz_rule.specs.Values.{has_kind, items_of, on_row, on_items, above, with_above}
+use Rattle.bz_attribute.specs.declared.refusal.Refusal.{Refusal}
+use Rattle.bz_attribute.specs.declared.refusal.Refusal.TheVariants.{NoAttribute, NotAList}
+use Rattle.bz_attribute.specs.Attributes.{is_attribute, has_attribute, on_first_that, with_value, Arguments}
+use Rattle.bz_attribute.specs.Lists.{has_lists, items_in, is_item}
+
+-- ---- comments of an expression
+
+-- `# text`, without spaces, tabs and carriage returns at its end
+abbrev pub comment_made : Bytes → Bytes
+comment_made text = trimmed (number_sign ∷ space ∷ text)
+
+-- the comment becomes the last one above
+abbrev pub with_comment : Bytes → Expr → Expr
+with_comment text x = with_above (above x ++ comment_made text ∷ []) x
+
+abbrev pub without_comments : Expr → Expr
+without_comments x = with_comments x no_comments
+
+-- without `#`, and without one space behind it
+abbrev pub without_space : Bytes → Bytes
+without_space [] = []
+without_space (first ∷ rest) = if nat_eq first space then rest else first ∷ rest
+
+abbrev pub comment_text : Bytes → Bytes
+comment_text [] = []
+comment_text (sign ∷ rest) = without_space rest
+
+-- one comment a line
+abbrev pub comment_line : Bytes → Bytes
+comment_line comment = comment_text comment ++ line_feed ∷ []
+
+abbrev pub suffix_line : Option Bytes → Bytes
+suffix_line None = []
+suffix_line (Some comment) = comment_line comment
+
+-- those above, then the suffix
+abbrev pub printed_comments : HostComments → Bytes
+printed_comments comments = flat_map comment_line comments.before ++ suffix_line comments.suffix
+
+-- ---- hosts among the arguments of a rule
+
+abbrev pub has_item : (Expr → Bool) → Expr → Bool
+has_item test x = has_kind k.List x && list_any test (items_of x)
+
+-- the first item of a value's lists that passes a test, changed
+abbrev pub on_first_item : (Expr → Bool) → (Expr → Expr) → Expr → Expr
+on_first_item test change value =
+    if has_kind k.Sum value then on_row k.Sum (on_first_that (has_item test) (on_items k.List (on_first_that test change))) value
+    else on_items k.List (on_first_that test change) value
+
+-- a value that is no list, or a sum without one, is refused; so is an item that isn't there
+abbrev pub on_item_of : (Expr → Bool) → (Expr → Expr) → Expr → Result Expr Refusal
+on_item_of test change value =
+    if not (has_lists value) then Err NotAList
+    else (if list_any test (items_in value) then Ok (on_first_item test change value) else Err NoAttribute)
+
+abbrev pub put_value : Bytes → Result Expr Refusal → List Expr → Arguments
+put_value name (Err refusal) arguments = Err refusal
+put_value name (Ok value) arguments = Ok (with_value name value arguments)
+
+abbrev pub on_item : Bytes → (Expr → Bool) → (Expr → Expr) → Option Expr → List Expr → Arguments
+on_item name test change None arguments = Err NoAttribute
+on_item name test change (Some value) arguments = put_value name (on_item_of test change value) arguments
+
+-- The host in the arguments of a rule, changed. The rule itself is no part of its arguments.
+abbrev pub on_host : Bytes → Host → (Expr → Expr) → List Expr → Arguments
+on_host current h.Rule change arguments = Ok arguments
+on_host current (h.Attribute name) change arguments =
+    if has_attribute name arguments then Ok (on_first_that (is_attribute name) change arguments) else Err NoAttribute
+on_host current (h.Item name word) change arguments = on_item name (is_item current name word) change (attribute name arguments) arguments
+
+-- ---- the commands, on a rule's statement and on its arguments
+
+abbrev pub comment : Bytes → Host → Bytes → List Expr → Arguments
+comment current host text arguments = on_host current host (with_comment text) arguments
+
+abbrev pub remove_comment : Bytes → Host → List Expr → Arguments
+remove_comment current host arguments = on_host current host without_comments arguments
+
+-- ---- print_comment
+
+abbrev pub found_comments : Option Expr → Result Bytes Refusal
+found_comments None = Err NoAttribute
+found_comments (Some x) = Ok (printed_comments (comments_of x))
+
+abbrev pub item_comments : (Expr → Bool) → Option Expr → Result Bytes Refusal
+item_comments test None = Err NoAttribute
+item_comments test (Some value) = if not (has_lists value) then Err NotAList else found_comments (find test (items_in value))
+
+-- `own` are the comments of the rule itself
+abbrev pub print_comment : Bytes → Host → HostComments → List Expr → Result Bytes Refusal
+print_comment current h.Rule own arguments = Ok (printed_comments own)
+print_comment current (h.Attribute name) own arguments = found_comments (find (is_attribute name) arguments)
+print_comment current (h.Item name word) own arguments = item_comments (is_item current name word) (attribute name arguments)

@@ -1,0 +1,111 @@
+//! The comments of one expression, changed.
+ghost use Rattle.std.specs.Prelude.{◌≡◌, [], ◌∷◌, ◌++◌, IfOk, OnOk};
+ghost use Rattle.std.specs.Option.{option_copied};
+ghost use Rattle.bz_token.specs.Bytes.{is_blank as blank};
+ghost use Rattle.bz_value.specs.Commented.{with_comments};
+ghost use Rattle.bz_value.specs.Gaps.{trimmed};
+ghost use Rattle.bz_comment.specs.Changes.{changed_by, comments_made};
+ghost use Rattle.bz_comment.specs.Hosts.{comment_made};
+
+use bz_items::{Items, Memory, Text};
+use bz_value::{Comments, Expr};
+use std::alloc::Global;
+
+/// What is done to comments.
+#[derive(Clone, Copy, Debug)]
+pub enum Change<'a> {
+    /// `#`, a space and this text, without blanks at its end, becomes the last comment above.
+    Add(&'a [u8]),
+    /// All comments go: those above, and the one on the last line.
+    Remove,
+}
+
+/// Whether the byte is a space, a tab or a carriage return.
+fn is_blank(byte: u8) -> bool
+    ensures { result ≡ blank byte }
+{
+    byte == b' ' || byte == b'\t' || byte == b'\r'
+}
+
+/// The text without spaces, tabs and carriage returns at its end.
+fn trim_end(text: &[u8]) -> &[u8]
+    ensures { result.now ≡ trimmed text.now }
+{
+    let mut end = text.len();
+    while end > 0 && is_blank(text[end - 1]) {
+        end -= 1;
+    }
+    &text[..end]
+}
+
+/// The comment that a text becomes. The error: memory was refused.
+fn comment_made(alloc: Global, text: &[u8]) -> Result<Text, Memory>
+    ensures { IfOk result (λ comment. comment ≡ comment_made text.now) }
+{
+    let mut line = Vec::new(alloc);
+    line.extend_from_slice(b"# ")?;
+    line.extend_from_slice(text)?;
+    Text::from_slice(alloc, trim_end(line.as_slice()))
+}
+
+/// Equal texts. The error: memory was refused.
+fn copied(alloc: Global, texts: &[Text]) -> Result<Vec<Text>, Memory>
+    ensures { IfOk result (λ copied. copied.items ≡ texts.now) }
+{
+    let mut copied = Vec::new(alloc);
+    for text in texts {
+        copied.push(text.copy()?)?;
+    }
+    Ok(copied)
+}
+
+/// An equal comment, where there is one. The error: memory was refused.
+fn copied_suffix(suffix: Option<&Text>) -> Result<Option<Text>, Memory>
+    ensures { IfOk result (λ copied. copied ≡ option_copied suffix.entry) }
+{
+    match suffix {
+        None => Ok(None),
+        Some(comment) => Ok(Some(comment.copy()?)),
+    }
+}
+
+/// These comments and the one that the text becomes, last above. The error: memory was refused.
+fn with_more(alloc: Global, text: &[u8], comments: &Comments) -> Result<Comments, Memory>
+    ensures { IfOk result (λ more. more ≡ record { before = comments.now.before ++ comment_made text.now ∷ []; suffix = comments.now.suffix }) }
+{
+    let mut before = copied(alloc, comments.before())?;
+    before.push(comment_made(alloc, text)?)?;
+    let suffix = copied_suffix(comments.suffix())?;
+    Comments::new(alloc, Items::from_vec(before), suffix)
+}
+
+/// The comments that a change makes of these. The error: memory was refused.
+fn comments_made(alloc: Global, change: Change<'_>, comments: &Comments) -> Result<Comments, Memory>
+    ensures { IfOk result (λ made. made ≡ comments_made change.entry comments.now) }
+{
+    match change {
+        Change::Add(text) => with_more(alloc, text, comments),
+        Change::Remove => Ok(Comments::none()),
+    }
+}
+
+/// The comments become the expression's.
+fn set_comments(comments: Comments, x: &mut Expr)
+    ensures { x.new ≡ with_comments x.old comments }
+{
+    match x {
+        Expr::Token(token) => token.comments = comments,
+        Expr::Form(form) => form.comments = comments,
+    }
+}
+
+/// Changes the comments of an expression: of a rule's statement, of a named argument or of an item. The error: memory was
+/// refused.
+#[tactic(auto, using(crate::proofs::ChangeForms::by_comments))]
+pub fn change_own(alloc: Global, change: Change<'_>, x: &mut Expr) -> Result<(), Memory>
+    ensures { OnOk result (x.new ≡ changed_by change.entry x.old) }
+{
+    let comments = comments_made(alloc, change, x.comments())?;
+    set_comments(comments, x);
+    Ok(())
+}

@@ -1,0 +1,219 @@
+//! The comments of hosts among the arguments of a rule, changed.
+ghost use Rattle.std.specs.Prelude.{◌≡◌, ◌⊎◌, Ok, Err, OnOk, IfErr};
+ghost use Rattle.bz_tree.specs.declared.kind.Kind.TheVariants as kinds;
+ghost use Rattle.bz_rule.specs.Rules.{attribute as value_there};
+ghost use Rattle.bz_rule.specs.Values.{on_items};
+ghost use Rattle.bz_attribute.specs.Attributes.{is_attribute, on_first_that};
+ghost use Rattle.bz_comment.specs.Changes.{changed_by, changed_comments, changed_attribute, changed_item, is_sought, item_refused};
+ghost use Rattle.bz_comment.specs.Hosts.{has_item, on_first_item};
+
+use crate::changing::{Change, change_own};
+use crate::seeking::{Sought, first_sought, place_of_item, place_of_list};
+use bz_attribute::{Refusal, has_attribute, has_lists, place_of, set_value, take_value};
+use bz_items::{Items, Memory};
+use bz_rule::attribute;
+use bz_tree::Kind;
+use bz_value::Expr;
+use bz_words::Host;
+use std::alloc::Global;
+use std::mem;
+
+/// Changes the comments of the first argument of this name.
+fn change_named(
+    alloc: Global,
+    name: &[u8],
+    change: Change<'_>,
+    arguments: &mut [Expr],
+) -> Result<(), Memory>
+    ensures { OnOk result (arguments.new ≡ on_first_that (is_attribute name.now) (changed_by change.entry) arguments.old) }
+{
+    if let Some(at) = place_of(name, arguments) {
+        change_own(alloc, change, &mut arguments[at])?;
+    }
+    Ok(())
+}
+
+/// The same, where the attribute is there.
+fn change_attribute(
+    alloc: Global,
+    name: &[u8],
+    change: Change<'_>,
+    arguments: &mut Items<Expr>,
+) -> Result<(), Refusal>
+    ensures ok { OnOk result (changed_attribute name.now change.entry arguments.old ≡ Ok arguments.new) }
+    ensures err { IfErr result (λ refusal. (changed_attribute name.now change.entry arguments.old ≡ Err refusal) ⊎ (refusal ≡ Refusal.Memory)) }
+{
+    if !has_attribute(name, arguments.as_slice()) {
+        return Err(Refusal::NoAttribute);
+    }
+    let mut all = mem::replace(arguments, Items::new(alloc)).into_vec();
+    change_named(alloc, name, change, all.as_mut_slice())?;
+    *arguments = Items::from_vec(all);
+    Ok(())
+}
+
+/// Changes the comments of the first item that is the value.
+fn change_first(
+    alloc: Global,
+    sought: Sought<'_>,
+    change: Change<'_>,
+    items: &mut [Expr],
+) -> Result<(), Memory>
+    ensures { OnOk result (items.new ≡ on_first_that (is_sought sought.entry) (changed_by change.entry) items.old) }
+{
+    if let Some(at) = place_of_item(sought, items) {
+        change_own(alloc, change, &mut items[at])?;
+    }
+    Ok(())
+}
+
+/// The same in a list that can grow.
+fn change_in_items(
+    alloc: Global,
+    sought: Sought<'_>,
+    change: Change<'_>,
+    items: &mut Items<Expr>,
+) -> Result<(), Memory>
+    ensures { OnOk result (items.new ≡ on_first_that (is_sought sought.entry) (changed_by change.entry) items.old) }
+{
+    let mut all = mem::replace(items, Items::new(alloc)).into_vec();
+    change_first(alloc, sought, change, all.as_mut_slice())?;
+    *items = Items::from_vec(all);
+    Ok(())
+}
+
+/// The same of the items of a list; any other expression stays.
+fn change_in_list(
+    alloc: Global,
+    sought: Sought<'_>,
+    change: Change<'_>,
+    x: &mut Expr,
+) -> Result<(), Memory>
+    ensures { OnOk result (x.new ≡ on_items kinds.List (on_first_that (is_sought sought.entry) (changed_by change.entry)) x.old) }
+{
+    match x {
+        Expr::Token(_) => Ok(()),
+        Expr::Form(form) => {
+            if form.kind == Kind::List {
+                change_in_items(alloc, sought, change, &mut form.seq.items)?;
+            }
+            Ok(())
+        }
+    }
+}
+
+/// The same of the first operand that is a list with the value.
+fn change_first_list(
+    alloc: Global,
+    sought: Sought<'_>,
+    change: Change<'_>,
+    operands: &mut [Expr],
+) -> Result<(), Memory>
+    ensures { OnOk result (operands.new ≡ on_first_that (has_item (is_sought sought.entry)) (on_items kinds.List (on_first_that (is_sought sought.entry) (changed_by change.entry))) operands.old) }
+{
+    if let Some(at) = place_of_list(sought, operands) {
+        change_in_list(alloc, sought, change, &mut operands[at])?;
+    }
+    Ok(())
+}
+
+/// The same of a sum's row.
+fn change_in_operands(
+    alloc: Global,
+    sought: Sought<'_>,
+    change: Change<'_>,
+    operands: &mut Items<Expr>,
+) -> Result<(), Memory>
+    ensures { OnOk result (operands.new ≡ on_first_that (has_item (is_sought sought.entry)) (on_items kinds.List (on_first_that (is_sought sought.entry) (changed_by change.entry))) operands.old) }
+{
+    let mut all = mem::replace(operands, Items::new(alloc)).into_vec();
+    change_first_list(alloc, sought, change, all.as_mut_slice())?;
+    *operands = Items::from_vec(all);
+    Ok(())
+}
+
+/// Changes the comments of the first item of a value's lists that is the value sought.
+fn change_in_value(
+    alloc: Global,
+    sought: Sought<'_>,
+    change: Change<'_>,
+    value: &mut Expr,
+) -> Result<(), Memory>
+    ensures { OnOk result (value.new ≡ on_first_item (is_sought sought.entry) (changed_by change.entry) value.old) }
+{
+    match value {
+        Expr::Token(_) => Ok(()),
+        Expr::Form(form) => {
+            if form.kind == Kind::Sum {
+                change_in_operands(alloc, sought, change, &mut form.parts)?;
+            } else if form.kind == Kind::List {
+                change_in_items(alloc, sought, change, &mut form.seq.items)?;
+            }
+            Ok(())
+        }
+    }
+}
+
+/// Why the item's comments can't be changed, where they can't.
+fn refusal_of(sought: Sought<'_>, arguments: &[Expr]) -> Option<Refusal>
+    ensures { result ≡ item_refused sought.entry (value_there sought.entry.attribute.now arguments.now) }
+{
+    let Some(value) = attribute(sought.attribute, arguments) else {
+        return Some(Refusal::NoAttribute);
+    };
+    if !has_lists(value) {
+        return Some(Refusal::NotAList);
+    }
+    match first_sought(sought, value) {
+        Some(_) => None,
+        None => Some(Refusal::NoAttribute),
+    }
+}
+
+/// Changes the comments of the first item of the attribute's lists that is the value.
+fn change_item(
+    alloc: Global,
+    sought: Sought<'_>,
+    change: Change<'_>,
+    arguments: &mut Items<Expr>,
+) -> Result<(), Refusal>
+    ensures ok { OnOk result (changed_item sought.entry change.entry arguments.old ≡ Ok arguments.new) }
+    ensures err { IfErr result (λ refusal. (changed_item sought.entry change.entry arguments.old ≡ Err refusal) ⊎ (refusal ≡ Refusal.Memory)) }
+{
+    if let Some(refusal) = refusal_of(sought, arguments.as_slice()) {
+        return Err(refusal);
+    }
+    let Some(mut value) = take_value(alloc, sought.attribute, arguments) else {
+        return Err(Refusal::NoAttribute);
+    };
+    change_in_value(alloc, sought, change, &mut value)?;
+    set_value(alloc, sought.attribute, value, arguments);
+    Ok(())
+}
+
+/// Changes the comments of a host among the arguments of a rule; the rule itself is no part of them. The errors: the
+/// attribute isn't there, or no item of it is the value (`NoAttribute`); its value is no list, and no sum with one
+/// (`NotAList`), and the arguments are as before; memory was refused, and they are of no use.
+pub fn change_comments(
+    alloc: Global,
+    current: &[u8],
+    host: &Host,
+    change: Change<'_>,
+    arguments: &mut Items<Expr>,
+) -> Result<(), Refusal>
+    ensures ok { OnOk result (changed_comments change.entry current.now host.now arguments.old ≡ Ok arguments.new) }
+    ensures err { IfErr result (λ refusal. (changed_comments change.entry current.now host.now arguments.old ≡ Err refusal) ⊎ (refusal ≡ Refusal.Memory)) }
+{
+    match host {
+        Host::Rule => Ok(()),
+        Host::Attribute(name) => change_attribute(alloc, name.as_slice(), change, arguments),
+        Host::Item { attribute, value } => {
+            let sought = Sought {
+                current,
+                attribute: attribute.as_slice(),
+                value: value.as_slice(),
+            };
+            change_item(alloc, sought, change, arguments)
+        }
+    }
+}
