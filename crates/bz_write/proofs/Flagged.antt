@@ -22,7 +22,8 @@ use Rattle.bz_write.specs.Spaces.{is_spaced}
 use Rattle.bz_write.specs.Written.{text_of, texts_of, piece_text, comment_lines, between, behind_item, item_text, layout, is_load, is_assign}
 use Rattle.bz_write.specs.Drawn.{part_of, parts_of, drawings, piece_part, before_next, line_part, lines_from, drawn}
 use Rattle.bz_write.specs.Flags.{settled_split, with_flags, each_with_flags, item_with_flags, flags}
-use Rattle.bz_write.proofs.Made.{two, writings, text_Form, part_Form}
+use Rattle.bz_write.specs.Writings.{writings}
+use Rattle.bz_write.proofs.Made.{two, text_Form, part_Form}
 
 -- ---- what the flags leave as it is
 

@@ -30,3 +30,4 @@ pub mod Spelled
 pub mod Viewed
 pub mod ViewedItems
 pub mod Waiting
+pub mod Writing

@@ -1,5 +1,5 @@
 -- What each reading by rows is at a form by lists.
-use Rattle.std.proofs.Common.{ℕ, List, [], ◌∷◌, ◌≡◌, refl, ap, ◌∙◌, map}
+use Rattle.std.proofs.Common.{ℕ, [], ◌∷◌, ◌≡◌, refl, ap, ◌∙◌, map}
 use mathlib.Core.Former.{Count}
 use Rattle.std.specs.List.{flat_map}
 use Rattle.bz_tree.specs.declared.tree.Part.TheVariants as p
@@ -12,6 +12,7 @@ use Rattle.bz_value.specs.Roots.{root}
 use Rattle.bz_write.specs.Layout.{laid}
 use Rattle.bz_write.specs.Written.{text_of, texts_of, piece_text}
 use Rattle.bz_write.specs.Drawn.{part_of, parts_of, parts_in, drawings, piece_part}
+use Rattle.bz_write.specs.Writings.{writings}
 
 abbrev parts_behind : Expr → (m : Count) × Row_of-Expr m
 parts_behind (Form' kind s parts s' items end_ split open_ comments) = (_, parts)
@@ -42,10 +43,6 @@ two f {h} {h'} {i} {i'} d e = ap (λ z. f z i) d ∙ ap (λ z. f h' z) e
 pub drawn_row : (m : _) (r : Row_of-Expr m) → parts_of r ≡ drawings (items-the_row-Expr m r)
 drawn_row m end_of-Expr = refl
 drawn_row m (more_of-Expr x rest) = ap (λ t. (x, part_of x) ∷ t) (drawn_row _ rest)
-
--- each expression with its reading as a text
-abbrev pub writings : List Expr → List (Expr × (ℕ → Bytes))
-writings xs = map (λ x. (x, text_of x)) xs
 
 pub written_row : (m : _) (r : Row_of-Expr m) → texts_of r ≡ writings (items-the_row-Expr m r)
 written_row m end_of-Expr = refl

@@ -13,17 +13,18 @@ use Rattle.bz_value.specs.Proper.{comments_of}
 use Rattle.bz_write.specs.Layout.{Piece, mark, line, above, ended, behind, stacked, joined, rowed, headed, laid_in, is_broken, is_tuple, is_empty, gap_behind, margin_behind, firsts}
 use Rattle.bz_write.specs.Written.{piece_text, text_of}
 use Rattle.bz_write.specs.Sizes.{row_size, head_size, comma_size, joined_size, stacked_item_size, stacked_size, body_size, size_in, form_size}
+use Rattle.bz_write.specs.Writings.{writings}
 use Rattle.bz_write.proofs.Loops.{stacked_behind, stacked_so}
-use Rattle.bz_write.proofs.Made.{writings, text_Form}
+use Rattle.bz_write.proofs.Made.{text_Form}
 
 abbrev written : List (Piece (ℕ → Bytes)) → Bytes
 written ps = flat_map piece_text ps
 
-values_writings : (xs : List Expr) → firsts (writings xs) ≡ xs
+pub values_writings : (xs : List Expr) → firsts (writings xs) ≡ xs
 values_writings [] = refl
 values_writings (x ∷ xs) = ap (λ ys. x ∷ ys) (values_writings xs)
 
-length-writings : (xs : List Expr) → length (writings xs) ≡ length xs
+pub length-writings : (xs : List Expr) → length (writings xs) ≡ length xs
 length-writings [] = refl
 length-writings (x ∷ xs) = ap suc (length-writings xs)
 

@@ -10,3 +10,4 @@ pub mod RowGaps
 pub mod Sizes
 pub mod Pending
 pub mod Depths
+pub mod Writings

@@ -14,7 +14,9 @@ mod room;
 mod row_gaps;
 mod setting;
 mod spaces;
+mod texts;
 
 pub use breaks::is_broken;
 pub use laws::{flags_keep_layout, layout_is_accepted, layout_reads_back, worked_rows};
 pub use setting::{SetFault, set};
+pub use texts::{expr_text, item_text};

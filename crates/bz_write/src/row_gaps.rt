@@ -1,5 +1,5 @@
 //! What stands between two parts of a row.
-ghost use Rattle.std.specs.Prelude.{◌≡◌, ◌<◌, ◌+◌, drop, length, IfOk};
+ghost use Rattle.std.specs.Prelude.{◌≡◌, ◌<◌, ◌+◌, ◌++◌, drop, length, IfOk, OnOk};
 ghost use Rattle.bz_value.specs.Proper.{has_break};
 ghost use Rattle.bz_write.specs.Layout as layout;
 ghost use Rattle.bz_write.specs.RowGaps.{written_gap};
@@ -87,6 +87,32 @@ fn text_of_gap(alloc: Global, gap: RowGap) -> Result<Text, Memory>
             Ok(Text::from_vec(out))
         }
     }
+}
+
+fn push_gap(out: &mut Vec<u8>, gap: RowGap) -> Result<(), Memory>
+    ensures { OnOk result (out.new.items ≡ out.old.items ++ written_gap gap) }
+{
+    match gap {
+        RowGap::Nothing => Ok(()),
+        RowGap::Space => {
+            out.push(b' ')?;
+            Ok(())
+        }
+        RowGap::Line(margin) => push_line(out, margin),
+    }
+}
+
+/// Appends the gap behind a part of a row, before the others. The error: a growth was refused.
+pub fn push_row_gap(
+    out: &mut Vec<u8>,
+    form: &Form,
+    margin: usize,
+    part: &Expr,
+    others: &[Expr],
+) -> Result<(), Memory>
+    ensures { OnOk result (out.new.items ≡ out.old.items ++ layout.gap_behind form.now.kind form.now.open_ margin part.now others.now) }
+{
+    push_gap(out, gap_behind(form, margin, part, others)?)
 }
 
 /// The text of the gap behind a part of a row, before the others. The error: a growth was refused.

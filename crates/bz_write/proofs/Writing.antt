@@ -1,0 +1,137 @@
+-- The steps of the loops that write rows and sequences as text, and the text of a form by its frame.
+use Rattle.std.proofs.Common.{ℕ, Bool, true, false, ◌&&◌, ◌≡◌, ◌<◌, List, [], ◌∷◌, ◌++◌, ◌+◌, if◌then◌else◌, length, get_or, drop, refl, sym, ap, ◌∙◌, append_assoc}
+use Rattle.std.specs.Prelude.{Option, None, Some, nat_eq}
+use Rattle.std.specs.List.{flat_map}
+use Rattle.std.proofs.lemmas.List.{drop_more}
+use Rattle.std.proofs.lemmas.Option.{same_Some}
+use Rattle.bz_tree.specs.declared.kind.Kind.{Kind}
+use Rattle.bz_value.specs.declared.value.Form.{Form}
+use Rattle.bz_value.specs.declared.value.Expr.{Expr}
+use Rattle.bz_value.specs.declared.value.Expr.TheVariants as e
+use Rattle.bz_value.specs.Characters.{comma}
+use Rattle.bz_value.specs.Frames.{Frame, row, sequence, frame}
+use Rattle.bz_value.specs.Gaps.{Bytes}
+use Rattle.bz_value.specs.Proper.{comments_of}
+use Rattle.bz_write.specs.declared.brackets.Brackets.{Brackets}
+use Rattle.bz_write.specs.Brackets.{brackets_of}
+use Rattle.bz_write.specs.Layout.{Piece, line, above, ended, behind, stacked, joined, rowed, headed, laid_in, is_broken, is_tuple, gap_behind, margin_behind}
+use Rattle.bz_write.specs.Written.{piece_text, text_of}
+use Rattle.bz_write.specs.Writings.{writings, row_text, head_text, comma_text, joined_text, stacked_item_text, stacked_text, sequence_text}
+use Rattle.bz_write.proofs.Made.{text_Form}
+use Rattle.bz_write.proofs.Sized.{values_writings, length-writings}
+
+abbrev written : List (Piece (ℕ → Bytes)) → Bytes
+written ps = flat_map piece_text ps
+
+-- ---- rows
+
+-- the gap before the rest of a row stands before its text
+row_gap : (kind : Kind) (open_ : Bool) (m n : ℕ) (x : Expr) (xs : List Expr) →
+    written (rowed kind open_ m (gap_behind kind open_ m x xs) n (writings xs)) ≡ gap_behind kind open_ m x xs ++ row_text kind open_ m n xs
+row_gap kind open_ m n x [] = refl
+row_gap kind open_ m n x (y ∷ ys) = append_assoc (gap_behind kind open_ m x (y ∷ ys)) (text_of y n) _
+
+row_first : (kind : Kind) (open_ : Bool) (m n : ℕ) (x : Expr) (xs : List Expr) →
+    row_text kind open_ m n (x ∷ xs) ≡ text_of x n ++ (gap_behind kind open_ m x xs ++ row_text kind open_ m (margin_behind open_ m x) xs)
+row_first kind open_ m n x xs =
+    ap (λ ys. text_of x n ++ written (rowed kind open_ m (gap_behind kind open_ m x ys) (margin_behind open_ m x) (writings xs))) (values_writings xs) ∙
+    ap (λ t. text_of x n ++ t) (row_gap kind open_ m (margin_behind open_ m x) x xs)
+
+-- a turn of the loop over a row
+pub row_turn : (out there new : Bytes) (kind : Kind) (open_ : Bool) (m n : ℕ) (xs ys : List Expr) (k : ℕ) (y : Expr) (n' : ℕ) (all : Bytes) →
+    k < length xs → y ≡ get_or xs k y → there ≡ out ++ text_of y n → ys ≡ drop (k + 1) xs → new ≡ there ++ gap_behind kind open_ m y ys → n' ≡ margin_behind open_ m y →
+    out ++ row_text kind open_ m n (drop k xs) ≡ all → new ++ row_text kind open_ m n' (drop (k + 1) xs) ≡ all
+row_turn out there new kind open_ m n xs ys k y n' all h is written_ others behind_ margin before =
+    let rest : List Expr = drop (k + 1) xs in
+    let tail : Bytes = row_text kind open_ m (margin_behind open_ m y) rest in
+    let first : drop k xs ≡ y ∷ rest = drop_more xs k y h ∙ ap (λ z. z ∷ rest) (sym is) in
+    rw (behind_, written_, margin, others)
+    (append_assoc (out ++ text_of y n) (gap_behind kind open_ m y rest) tail ∙
+    (append_assoc out (text_of y n) (gap_behind kind open_ m y rest ++ tail) ∙
+    (ap (λ t. out ++ t) (sym (ap (λ zs. row_text kind open_ m n zs) first ∙ row_first kind open_ m n y rest)) ∙ before)))
+
+-- ---- sequences
+
+joined_first : (m closer : ℕ) (one : Bool) (x : Expr) (xs : List Expr) → joined_text m closer one (x ∷ xs) ≡ text_of x m ++ (comma_text one xs ++ joined_text m closer false xs)
+joined_first m closer true x [] = refl
+joined_first m closer false x [] = refl
+joined_first m closer one x (y ∷ ys) = refl
+
+pub joined_next : (m closer : ℕ) (one : Bool) (xs : List Expr) (k : ℕ) (d : Expr) → k < length xs →
+    joined_text m closer one (drop k xs) ≡ text_of (get_or xs k d) m ++ (comma_text one (drop (k + 1) xs) ++ joined_text m closer false (drop (k + 1) xs))
+joined_next m closer one xs k d h = ap (λ ys. joined_text m closer one ys) (drop_more xs k d h) ∙ joined_first m closer one (get_or xs k d) (drop (k + 1) xs)
+
+-- three texts behind a first one
+behind_first : (a b c d : Bytes) → ((a ++ b) ++ c) ++ d ≡ a ++ ((b ++ c) ++ d)
+behind_first a b c d = ap (λ z. z ++ d) (append_assoc a b c) ∙ append_assoc a (b ++ c) d
+
+-- the suffix of the item before stands first
+suffix_first : (m : ℕ) (suffix : Option Bytes) (closer : ℕ) (end_ : List Bytes) (xs : List Expr) → written (stacked m suffix closer end_ (writings xs)) ≡ behind suffix ++ stacked_text m closer end_ xs
+suffix_first m suffix closer end_ [] = behind_first (behind suffix) (ended m end_) (closer ∷ []) []
+suffix_first m suffix closer end_ (x ∷ xs) =
+    behind_first (behind suffix) (line (m + 4) ++ above (m + 4) (comments_of x).before) (text_of x (m + 4)) (comma ∷ written (stacked m (comments_of x).suffix closer end_ (writings xs)))
+
+stacked_first : (m closer : ℕ) (end_ : List Bytes) (x : Expr) (xs : List Expr) → stacked_text m closer end_ (x ∷ xs) ≡ stacked_item_text m x ++ stacked_text m closer end_ xs
+stacked_first m closer end_ x xs =
+    let start : Bytes = line (m + 4) in
+    let comments : Bytes = above (m + 4) (comments_of x).before in
+    let text : Bytes = text_of x (m + 4) in
+    let suffix : Bytes = behind (comments_of x).suffix in
+    let rest : Bytes = stacked_text m closer end_ xs in
+    ap (λ t. ((start ++ comments) ++ text) ++ (comma ∷ t)) (suffix_first m (comments_of x).suffix closer end_ xs) ∙
+    (append_assoc (start ++ comments) text (comma ∷ (suffix ++ rest)) ∙
+    (append_assoc start comments (text ++ (comma ∷ (suffix ++ rest))) ∙
+    sym
+    (append_assoc start (comments ++ (text ++ (comma ∷ suffix))) rest ∙
+    ap (λ t. start ++ t) (append_assoc comments (text ++ (comma ∷ suffix)) rest ∙ ap (λ t. comments ++ t) (append_assoc text (comma ∷ suffix) rest)))))
+
+-- a turn of the loop over items on lines of their own
+pub stacked_turn : (out new : Bytes) (m closer : ℕ) (end_ : List Bytes) (xs : List Expr) (k : ℕ) (y : Expr) (all : Bytes) → k < length xs → y ≡ get_or xs k y → new ≡ out ++ stacked_item_text m y →
+    out ++ stacked_text m closer end_ (drop k xs) ≡ all → new ++ stacked_text m closer end_ (drop (k + 1) xs) ≡ all
+stacked_turn out new m closer end_ xs k y all h is written_ before =
+    let rest : List Expr = drop (k + 1) xs in
+    let first : drop k xs ≡ y ∷ rest = drop_more xs k y h ∙ ap (λ z. z ∷ rest) (sym is) in
+    ap (λ t. t ++ stacked_text m closer end_ rest) written_ ∙
+    (append_assoc out (stacked_item_text m y) (stacked_text m closer end_ rest) ∙
+    (ap (λ t. out ++ t) (sym (ap (λ zs. stacked_text m closer end_ zs) first ∙ stacked_first m closer end_ y rest)) ∙ before))
+
+-- ---- forms by their frames
+
+row_laid : (f : Frame) (kind : Kind) (split open_ : Bool) (m : ℕ) (hs xs : List (Expr × (ℕ → Bytes))) (end_ : List Bytes) → brackets_of f ≡ None →
+    laid_in f kind split open_ [] m hs xs end_ ≡ rowed kind open_ m [] m hs
+row_laid row kind split open_ m hs xs end_ h = refl
+row_laid (sequence opener closer) kind split open_ m hs xs end_ h = absurd cc
+
+pub row_form : (f : Form) (m : ℕ) → brackets_of (frame f.kind) ≡ None → text_of (e.Form f) m ≡ row_text f.kind f.open_ m m f.parts
+row_form f m h =
+    text_Form f m ∙ ap written (row_laid (frame f.kind) f.kind f.seq.split f.open_ m (writings f.parts) (writings f.seq.items) f.seq.end_ h)
+
+-- what stands before the bracket, the bracket, then
+head_first : (m opener : ℕ) (xs : List Expr) (after : List (Piece (ℕ → Bytes))) → written (headed m [] opener (writings xs) after) ≡ head_text m xs ++ (opener ∷ written after)
+head_first m opener [] after = refl
+head_first m opener (x ∷ xs) after =
+    ap (λ t. text_of x m ++ t) (head_first m opener xs after) ∙ sym (append_assoc (text_of x m) (head_text m xs) (opener ∷ written after))
+
+chosen : (b one : Bool) (m closer : ℕ) (end_ : List Bytes) (xs : List Expr) →
+    written (if b then stacked m None closer end_ (writings xs) else joined m [] closer one (writings xs)) ≡ (if b then stacked_text m closer end_ xs else joined_text m closer one xs)
+chosen true one m closer end_ xs = refl
+chosen false one m closer end_ xs = refl
+
+sequence_laid : (f : Frame) (b : Brackets) (kind : Kind) (split open_ : Bool) (m : ℕ) (hs xs : List Expr) (end_ : List Bytes) → brackets_of f ≡ Some b →
+    written (laid_in f kind split open_ [] m (writings hs) (writings xs) end_) ≡
+    head_text m hs ++ (b.opener ∷ (if is_broken kind split xs end_ then stacked_text m b.closer end_ xs else joined_text m b.closer (is_tuple kind && nat_eq (length xs) 1) xs))
+sequence_laid row b kind split open_ m hs xs end_ h = absurd cc
+sequence_laid (sequence opener closer) b kind split open_ m hs xs end_ h =
+    let here : Brackets = record { opener = opener; closer = closer } in
+    let is : here ≡ b = same_Some here b h in
+    let after : List Expr → ℕ → List (Piece (ℕ → Bytes)) = λ ys n.
+    if is_broken kind split ys end_ then stacked m None closer end_ (writings xs) else joined m [] closer (is_tuple kind && nat_eq n 1) (writings xs) in
+    let all : List Expr → ℕ → Bytes = λ ys n. written (headed m [] opener (writings hs) (after ys n)) in
+    ap (λ ys. all ys (length (writings xs))) (values_writings xs) ∙
+    (ap (λ n. all xs n) (length-writings xs) ∙
+    (head_first m opener hs (after xs (length xs)) ∙
+    (ap (λ t. head_text m hs ++ (opener ∷ t)) (chosen (is_broken kind split xs end_) (is_tuple kind && nat_eq (length xs) 1) m closer end_ xs) ∙
+    ap (λ z. head_text m hs ++ (z.opener ∷ (if is_broken kind split xs end_ then stacked_text m z.closer end_ xs else joined_text m z.closer (is_tuple kind && nat_eq (length xs) 1) xs))) is)))
+
+pub sequence_form : (f : Form) (b : Brackets) (m : ℕ) → brackets_of (frame f.kind) ≡ Some b → text_of (e.Form f) m ≡ sequence_text b f m
+sequence_form f b m h = text_Form f m ∙ sequence_laid (frame f.kind) b f.kind f.seq.split f.open_ m f.parts f.seq.items f.seq.end_ h
