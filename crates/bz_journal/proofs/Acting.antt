@@ -11,12 +11,12 @@ use Rattle.bz_label.specs.declared.target.Target.{Target}
 use Rattle.bz_value.specs.declared.value.Item.{Item}
 use Rattle.bz_view.specs.View.{view_of}
 use Rattle.bz_words.specs.declared.command.Operation.{Operation}
-use Rattle.bz_command.specs.Effect.{effect}
-use Rattle.bz_command.specs.declared.refusal.Refusal.{Refusal}
-use Rattle.bz_command.specs.declared.refusal.Refusal.TheVariants.{Memory}
+use Rattle.bz_command.specs.Effect.{effect, printed}
+use Rattle.bz_attribute.specs.declared.refusal.Refusal.{Refusal}
+use Rattle.bz_attribute.specs.declared.refusal.Refusal.TheVariants.{Memory}
 use Rattle.bz_journal.specs.declared.action.Action.TheVariants.{Do, Format}
 use Rattle.bz_journal.specs.declared.action.Reply.{Reply}
-use Rattle.bz_journal.specs.Meaning.{Meaning, gives, refuses, written, EffectMeans, Means, Formats}
+use Rattle.bz_journal.specs.Meaning.{Meaning, gives, refuses, told, written, EffectMeans, Means, Formats}
 use Rattle.bz_journal.specs.History.{History, Answer, present, unchanged, after_text, Acts}
 
 -- ---- commands, in a history
@@ -61,19 +61,33 @@ left_new made value new left some is = is ∙ ap (λ (l : Option (List Item)). O
 left_apart : (made : Result (List Item) Refusal) (value new : List Item) (left : Option (List Item)) → left ≡ Some new → (left ≡ None) ↔ (made ≡ Ok value) → made ≡ Ok new → new ≢ value
 left_apart made value new left some told is same = let none : left ≡ None = told.1 (is ∙ ap Ok same) in absurd (cc)
 
+-- what an effect means on the value that was seen and the lines that were counted, it means on the text
+means_on : (operation : Operation) (target : Target) (current text : Bytes) (m : Meaning) (tree : Node) (value : List Item) (lines : List ℕ)
+    → Reads text tree → value ≡ view_of tree → lines ≡ lines_of tree
+    → EffectMeans (effect operation target current lines value) (told operation (printed operation target current lines value)) value text m
+    → Means operation target current text m
+means_on operation target current text m tree value lines reads seen counted means =
+    let on_view : EffectMeans (effect operation target current lines (view_of tree)) (told operation (printed operation target current lines (view_of tree))) (view_of tree) text m =
+    subst (λ (xs : List Item). EffectMeans (effect operation target current lines xs) (told operation (printed operation target current lines xs)) xs text m) seen means in
+    (tree, reads, subst (λ (ls : List ℕ). EffectMeans (effect operation target current ls (view_of tree)) (told operation (printed operation target current ls (view_of tree))) (view_of tree) text m) counted on_view)
+
+-- what is told of what was printed
+told_of : (operation : Operation) (made : Result Bytes Refusal) (out : Bytes) (answer : Option Bytes) → made ≡ Ok out → answer ≡ told operation (Ok out) → answer ≡ told operation made
+told_of operation made out answer printed_is answer_is = answer_is ∙ sym (ap (told operation) printed_is)
+
 -- A new value is written. `value` is the value that was seen, `lines` are those that were counted.
-pub means_written : (operation : Operation) (target : Target) (current text out : Bytes) (tree : Node) (value new : List Item) (lines : List ℕ) (left : Option (List Item))
+pub means_written : (operation : Operation) (target : Target) (current text out laid : Bytes) (tree : Node) (value new : List Item) (lines : List ℕ) (left : Option (List Item)) (answer : Option Bytes)
     → Reads text tree → value ≡ view_of tree → lines ≡ lines_of tree → left ≡ Some new
     → effect operation target current lines value ≡ Ok (unwrap_or left value) → (left ≡ None) ↔ (effect operation target current lines value ≡ Ok value)
-    → ((printed : Option Bytes) → written new printed ≡ gives out printed) → Means operation target current text (gives out None)
-means_written operation target current text out tree value new lines left reads seen counted some ran told laid =
+    → printed operation target current lines value ≡ Ok out → answer ≡ told operation (Ok out)
+    → ((answer : Option Bytes) → written new answer ≡ gives laid answer) → Means operation target current text (gives laid answer)
+means_written operation target current text out laid tree value new lines left answer reads seen counted some ran is printed_is answer_is spelled =
     let made : Result (List Item) Refusal = effect operation target current lines value in
-    let is : made ≡ Ok new = left_new made value new left some ran in
-    let means : EffectMeans made value text (gives out None) =
-    subst (λ (r : Result (List Item) Refusal). EffectMeans r value text (gives out None)) (sym is) (inr (left_apart made value new left some told is, sym (laid None))) in
-    let on_view : EffectMeans (effect operation target current lines (view_of tree)) (view_of tree) text (gives out None) =
-    subst (λ (xs : List Item). EffectMeans (effect operation target current lines xs) xs text (gives out None)) seen means in
-    (tree, reads, subst (λ (ls : List ℕ). EffectMeans (effect operation target current ls (view_of tree)) (view_of tree) text (gives out None)) counted on_view)
+    let new_is : made ≡ Ok new = left_new made value new left some ran in
+    let other : Option Bytes = told operation (printed operation target current lines value) in
+    means_on operation target current text (gives laid answer) tree value lines reads seen counted
+    (subst (λ (r : Result (List Item) Refusal). EffectMeans r other value text (gives laid answer)) (sym new_is)
+    (inr (left_apart made value new left some is new_is, sym (spelled answer) ∙ ap (written new) (told_of operation (printed operation target current lines value) out answer printed_is answer_is))))
 
 -- ---- formatting
 

@@ -1,4 +1,5 @@
 pub mod Acting
+pub mod FirstParts
 pub mod Formatting
 pub mod Kept
 pub mod Opening

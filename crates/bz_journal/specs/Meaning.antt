@@ -1,5 +1,5 @@
 -- What a command means on a text, and what formatting it gives.
-use Rattle.std.specs.Prelude.{◌≡◌, ◌≢◌, ◌⊎◌, List, Option, None, Result, Ok, Err, nat_lt, length, if◌then◌else◌}
+use Rattle.std.specs.Prelude.{◌≡◌, ◌≢◌, ◌⊎◌, List, Option, Some, None, Result, Ok, Err, nat_lt, length, if◌then◌else◌}
 use Rattle.bz_tree.specs.declared.tree.Node.{Node}
 use Rattle.bz_tree.specs.Spell.{depth_of, depth_limit, limit}
 use Rattle.bz_tree.specs.Legal.{Reads}
@@ -12,9 +12,10 @@ use Rattle.bz_write.specs.Written.{layout}
 use Rattle.bz_write.specs.Drawn.{drawn}
 use Rattle.bz_tidy.specs.Passes.{tidied}
 use Rattle.bz_words.specs.declared.command.Operation.{Operation}
-use Rattle.bz_command.specs.declared.refusal.Refusal.{Refusal}
-use Rattle.bz_command.specs.declared.refusal.Refusal.TheVariants.{TooLarge, TooDeep}
-use Rattle.bz_command.specs.Effect.{effect}
+use Rattle.bz_attribute.specs.declared.refusal.Refusal.{Refusal}
+use Rattle.bz_attribute.specs.declared.refusal.Refusal.TheVariants.{TooLarge, TooDeep}
+use Rattle.bz_words.specs.Printing.{prints}
+use Rattle.bz_command.specs.Effect.{effect, printed}
 
 -- A text, and what is printed where something is; or a refusal.
 pub data Meaning : Type 0 where
@@ -29,17 +30,23 @@ written items printed =
 
 -- ---- commands
 
+-- what is answered beside the text: of a command that prints, what it prints
+abbrev pub told : Operation → Result Bytes Refusal → Option Bytes
+told operation (Err refusal) = None
+told operation (Ok text) = if prints operation then Some text else None
+
 -- What an effect on the value of a text means. Where the value is unchanged, the text is as it was and isn't formatted; a new
 -- value is written.
-abbrev pub EffectMeans : Result (List Item) Refusal → List Item → Bytes → Meaning → Type 0
-EffectMeans (Err refusal) items text m = m ≡ refuses refusal
-EffectMeans (Ok new) items text m = ((new ≡ items) × (m ≡ gives text None)) ⊎ ((new ≢ items) × (m ≡ written new None))
+abbrev pub EffectMeans : Result (List Item) Refusal → Option Bytes → List Item → Bytes → Meaning → Type 0
+EffectMeans (Err refusal) answer items text m = m ≡ refuses refusal
+EffectMeans (Ok new) answer items text m = ((new ≡ items) × (m ≡ gives text answer)) ⊎ ((new ≢ items) × (m ≡ written new answer))
 
--- On a text that reads as a tree a command means what its effect on the file value means. `current` is the path of the file's
--- package.
+-- On a text that reads as a tree a command means what its effect on the file value means, and prints what it prints of that.
+-- `current` is the path of the file's package.
 abbrev pub Means : Operation → Target → Bytes → Bytes → Meaning → Type 0
 Means operation target current text m =
-    (tree : Node) × Reads text tree × EffectMeans (effect operation target current (lines_of tree) (view_of tree)) (view_of tree) text m
+    (tree : Node) × Reads text tree
+    × EffectMeans (effect operation target current (lines_of tree) (view_of tree)) (told operation (printed operation target current (lines_of tree) (view_of tree))) (view_of tree) text m
 
 -- ---- formatting
 

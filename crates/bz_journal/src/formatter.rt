@@ -5,7 +5,7 @@ ghost use Rattle.bz_journal.specs.Fixed.{IsFormatted};
 
 use crate::laws::formatted_once;
 use crate::meaning::written;
-use bz_command::Refusal;
+use bz_attribute::Refusal;
 use bz_items::Text;
 use bz_tree::{ReadFault, parse};
 use bz_view::view;

@@ -2,6 +2,7 @@
 #![tactic(auto)]
 
 mod action;
+mod apart;
 mod formatter;
 mod laws;
 mod meaning;

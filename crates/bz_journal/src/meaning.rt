@@ -1,11 +1,13 @@
-ghost use Rattle.std.specs.Prelude.{◌≡◌, ◌⊎◌, Option, None, IfOk, IfErr, IfSome};
+ghost use Rattle.std.specs.Prelude.{◌≡◌, ◌⊎◌, Option, None, Ok, IfOk, IfErr, IfSome};
 ghost use Rattle.bz_value.specs.Gaps.{Bytes};
 ghost use Rattle.std.specs.Option.{unwrap_or};
 ghost use Rattle.bz_tree.specs.Legal.{Reads, Accepted};
 ghost use Rattle.bz_tree.specs.Spell.{spell_node};
-ghost use Rattle.bz_journal.specs.Meaning.{gives, refuses, written, Means, Formats};
+ghost use Rattle.bz_journal.specs.Meaning.{gives, refuses, told, written, Means, Formats};
 
-use bz_command::{Outcome, Refusal, run};
+use crate::apart::take_apart;
+use bz_attribute::Refusal;
+use bz_command::{Outcome, run};
 use bz_items::{Memory, Text};
 use bz_label::Target;
 use bz_tidy::tidy;
@@ -54,13 +56,26 @@ pub(crate) fn written(alloc: Global, file: File) -> Result<Text, Refusal>
     ensures err { IfErr result (λ refusal. ((printed : Option Bytes) → written file printed ≡ refuses refusal) ⊎ (refusal ≡ Refusal.Memory)) }
 {
     let tidied = tidy(alloc, file)?;
-    let tree = match set(alloc, &tidied) {
+    let drawn = set(alloc, &tidied);
+    take_apart(tidied);
+    let tree = match drawn {
         Ok(tree) => tree,
         Err(SetFault::Memory) => return Err(Refusal::Memory),
         Err(SetFault::TooLarge) => return Err(Refusal::TooLarge),
         Err(SetFault::TooDeep) => return Err(Refusal::TooDeep),
     };
     Ok(spelled(alloc, &tree)?)
+}
+
+/// What is answered beside the text: of a command that prints, what it prints.
+fn told(command: &Command, printed: Text) -> Option<Text>
+    ensures { result ≡ told command.now (Ok printed) }
+{
+    if command.prints() {
+        Some(printed)
+    } else {
+        None
+    }
 }
 
 /// What a command makes of a text of the session. `current` is the path of the file's package.
@@ -79,23 +94,17 @@ pub(crate) fn meaning(
     let tree = read(alloc, text)?;
     let value = view(alloc, &tree)?;
     let lines = tree.lines(alloc)?;
-    let Outcome { file, printed: _ } = run(
-        alloc,
-        command,
-        target,
-        current,
-        lines.as_slice(),
-        &value,
-    )?;
+    let Outcome { file, printed } = run(alloc, command, target, current, lines.as_slice(), &value)?;
+    let printed = told(command, printed);
     match file {
         None => Ok(Meant {
             text: None,
-            printed: None,
+            printed,
         }),
         Some(file) => match written(alloc, file) {
             Ok(text) => Ok(Meant {
                 text: Some(text),
-                printed: None,
+                printed,
             }),
             Err(refusal) => Err(refusal),
         },

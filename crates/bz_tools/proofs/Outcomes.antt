@@ -1,5 +1,5 @@
 -- A run of steps on a session, and the outcome of a run of the program.
-use Rattle.std.proofs.Common.{◌≡◌, ◌⊎◌, ◌↔◌, inl, inr, ℕ, ◌≤◌, ◌<◌, List, [], ◌∷◌, length, take, Option, Some, None, Result, Ok, Err, arith, refl, sym, ap, subst, length-take}
+use Rattle.std.proofs.Common.{◌≡◌, ◌⊎◌, ◌↔◌, inl, inr, ℕ, ◌≤◌, ◌<◌, List, [], ◌∷◌, ◌++◌, length, take, Option, Some, None, Result, Ok, Err, arith, refl, sym, ap, ◌∙◌, subst, append_assoc, length-take}
 use Rattle.std.specs.Prelude.{IfSome, is_some, option_map}
 use Rattle.std.specs.Io.KnownBytes.{Appends}
 use Rattle.std.specs.Str.{IsValidUpTo}
@@ -9,15 +9,15 @@ use Rattle.bz_lex.specs.declared.fault.ReadFault.{ReadFault}
 use Rattle.bz_lex.specs.declared.fault.ReadFault.TheVariants as f
 use Rattle.bz_tree.specs.Spell.{limit}
 use Rattle.bz_tree.specs.Faults.{IsOfText}
-use Rattle.bz_command.specs.declared.refusal.Refusal.{Refusal}
-use Rattle.bz_command.specs.declared.refusal.Refusal.TheVariants.{Memory}
+use Rattle.bz_attribute.specs.declared.refusal.Refusal.{Refusal}
+use Rattle.bz_attribute.specs.declared.refusal.Refusal.TheVariants.{Memory}
 use Rattle.bz_journal.specs.declared.action.Action.{Action}
 use Rattle.bz_journal.specs.declared.action.Reply.{Reply}
 use Rattle.bz_journal.specs.Faults.{IsFaultOf}
 use Rattle.bz_journal.specs.History.{History, Acts, Leads}
 use Rattle.bz_tools.specs.Asked.{Step, Usage, steps_asked}
 use Rattle.bz_tools.specs.Told.{IsUsageLine}
-use Rattle.bz_tools.specs.Outcome.{Halt, RunsToRefusal, RunsToMemory, Unread, Edits, Outcome, IsInput}
+use Rattle.bz_tools.specs.Outcome.{Halt, printed_in, RunsToRefusal, RunsToMemory, Unread, Edits, Outcome, IsInput}
 use Rattle.bz_tree.specs.Legal.{Accepted}
 
 -- a step that is not refused
@@ -26,8 +26,14 @@ led h mid action reply (inl done) = done
 led h mid action reply (inr wanting) = let e = wanting.1 in absurd (cc)
 
 pub run_goes_on : (h mid : History) (step : Step) (left rest : List Step) (reply : Reply) → left ≡ step ∷ rest → Acts step.action h (Ok reply) mid
-    → (halt : Option Halt) (after : History) → RunsToRefusal mid rest halt after → RunsToRefusal h left halt after
-run_goes_on h mid step left rest reply split acts halt after more = rw (split) (inr (reply, mid, led h mid step.action reply acts, more))
+    → (more : List ℕ) (halt : Option Halt) (after : History) → RunsToRefusal mid rest more halt after
+    → RunsToRefusal h left (printed_in reply ++ more) halt after
+run_goes_on h mid step left rest reply split acts more halt after runs =
+    rw (split) (inr (reply, mid, more, led h mid step.action reply acts, refl, runs))
+
+-- what is printed behind what was printed before
+pub printed_on : (P : List ℕ → Type 0) (before now said more : List ℕ) → now ≡ before ++ said → P (before ++ (said ++ more)) → P (now ++ more)
+printed_on P before now said more put h = subst P (sym (ap (λ text. text ++ more) put ∙ append_assoc before said more)) h
 
 pub wanting_goes_on : (h mid : History) (step : Step) (left rest : List Step) (reply : Reply) → left ≡ step ∷ rest → Acts step.action h (Ok reply) mid
     → RunsToMemory mid rest → RunsToMemory h left
@@ -36,8 +42,8 @@ wanting_goes_on h mid step left rest reply split acts more = rw (split) (inr (re
 -- a step that is refused, for another cause than memory, ends the run
 pub run_halts : (h after : History) (step : Step) (left rest : List Step) (refusal : Refusal) → left ≡ step ∷ rest
     → Acts step.action h (Err refusal) after → (refusal ≡ Memory → ⊥)
-    → RunsToRefusal h left (Some (record { command = step.command; refusal = refusal })) after
-run_halts h after step left rest refusal split acts other = rw (split) (inl (refusal, leads acts, refl))
+    → RunsToRefusal h left [] (Some (record { command = step.command; refusal = refusal })) after
+run_halts h after step left rest refusal split acts other = rw (split) (inl (refusal, leads acts, refl, refl))
   where
     leads : Acts step.action h (Err refusal) after → Leads step.action h (Err refusal) after
     leads (inl done) = done

@@ -1,10 +1,15 @@
 -- What a run of buildozer over standard input writes on standard output and on standard error, and its status.
-use Rattle.std.specs.Prelude.{◌≡◌, ◌⊎◌, ℕ, List, [], ◌∷◌, Bool, if◌then◌else◌, bytes_eq, is_some, Option, Some, None, Result, Ok, Err, IfSome}
+use Rattle.std.specs.Prelude.{◌≡◌, ◌⊎◌, ℕ, List, [], ◌∷◌, ◌++◌, Bool, false, if◌then◌else◌, bytes_eq, is_some, Option, Some, None, Result, Ok, Err, IfSome}
+use Rattle.std.specs.List.{list_all}
 use Rattle.bz_lex.specs.declared.fault.ReadFault.{ReadFault}
 use Rattle.bz_tree.specs.Legal.{Accepted}
 use Rattle.bz_value.specs.Gaps.{Bytes}
-use Rattle.bz_command.specs.declared.refusal.Refusal.{Refusal}
+use Rattle.bz_attribute.specs.declared.refusal.Refusal.{Refusal}
+use Rattle.bz_words.specs.Printing.{prints}
+use Rattle.bz_journal.specs.declared.action.Action.{Action}
+use Rattle.bz_journal.specs.declared.action.Action.TheVariants.{Do}
 use Rattle.bz_journal.specs.declared.action.Reply.{Reply}
+use Rattle.bz_journal.specs.declared.action.Reply.TheVariants.{Printed}
 use Rattle.bz_journal.specs.Faults.{IsFaultOf}
 use Rattle.bz_journal.specs.History.{History, opened, present, Leads, TakesNone}
 use Rattle.bz_tools.specs.Asked.{Step, Usage, steps_asked}
@@ -18,12 +23,19 @@ pub record Halt : Type 0 where
   pub command : Bytes
   pub refusal : Refusal
 
--- Steps are run in order, up to the first that is refused, if one is.
-abbrev pub RunsToRefusal : History → List Step → Option Halt → History → Type 0
-RunsToRefusal h [] halt after = (halt ≡ None) × (after ≡ h)
-RunsToRefusal h (step ∷ steps) halt after =
-    ((refusal : Refusal) × Leads step.action h (Err refusal) after × (halt ≡ Some (record { command = step.command; refusal = refusal })))
-    ⊎ ((reply : Reply) × (mid : History) × Leads step.action h (Ok reply) mid × RunsToRefusal mid steps halt after)
+-- what a reply prints
+abbrev pub printed_in : Reply → Bytes
+printed_in (Printed text) = text
+printed_in _ = []
+
+-- Steps are run in order, up to the first that is refused, if one is; what they print follows in that order.
+abbrev pub RunsToRefusal : History → List Step → Bytes → Option Halt → History → Type 0
+RunsToRefusal h [] printed halt after = (printed ≡ []) × (halt ≡ None) × (after ≡ h)
+RunsToRefusal h (step ∷ steps) printed halt after =
+    ((refusal : Refusal) × Leads step.action h (Err refusal) after × (printed ≡ [])
+    × (halt ≡ Some (record { command = step.command; refusal = refusal })))
+    ⊎ ((reply : Reply) × (mid : History) × (rest : Bytes) × Leads step.action h (Ok reply) mid × (printed ≡ printed_in reply ++ rest)
+    × RunsToRefusal mid steps rest halt after)
 
 -- Steps are run in order, up to one that takes memory, which is refused to it.
 abbrev pub RunsToMemory : History → List Step → Type 0
@@ -32,24 +44,40 @@ RunsToMemory h (step ∷ steps) =
     (TakesNone step.action h → ⊥)
     ⊎ ((reply : Reply) × (mid : History) × Leads step.action h (Ok reply) mid × RunsToMemory mid steps)
 
--- 2 where a step was refused; else 0 where the text written is another one than was read, and 3 where it is the same
+-- ---- what is written
+
+-- the action of a command that prints
+abbrev pub is_printing : Action → Bool
+is_printing (Do command target) = prints command
+is_printing _ = false
+
+abbrev pub all_print : List Step → Bool
+all_print steps = list_all (λ (step : Step). is_printing step.action) steps
+
+-- The text is written where a step is not the action of a command that prints.
+abbrev pub shown : List Step → Bytes → Bytes
+shown steps text = if all_print steps then [] else text
+
+-- 2 where a step was refused; else 0 where the text at the end is another one than was read, and 3 where it is the same
 abbrev pub status_of : Bool → Bytes → Bytes → ℕ
-status_of refused read written = if refused then 2 else (if bytes_eq written read then 3 else 0)
+status_of refused read text = if refused then 2 else (if bytes_eq text read then 3 else 0)
 
 -- the line of the refused command, or nothing where none was refused
 abbrev pub halt_line : Option Halt → Bytes
 halt_line None = []
 halt_line (Some halt) = refusal_line halt.command halt.refusal
 
--- An accepted text is opened, the steps are run on it, and the text that is then present is written.
+-- An accepted text is opened and the steps are run on it; what they print is written, and behind it the text that is then
+-- present, where it is shown.
 pub record Edited (steps : List Step) (input output line : Bytes) (status : ℕ) : Type 0 where
   pub accepted : Accepted input
+  pub printed : Bytes
   pub halt : Option Halt
   pub after : History
-  pub runs : RunsToRefusal (opened input_package input) steps halt after
-  pub written : output ≡ present after
+  pub runs : RunsToRefusal (opened input_package input) steps printed halt after
+  pub written : output ≡ printed ++ shown steps (present after)
   pub told : line ≡ halt_line halt
-  pub ended : status ≡ status_of (is_some halt) input output
+  pub ended : status ≡ status_of (is_some halt) input (present after)
 
 -- ---- texts that are not accepted
 

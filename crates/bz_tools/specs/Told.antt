@@ -3,8 +3,8 @@ use Rattle.std.specs.Prelude.{◌≡◌, ℕ, ◌++◌, codes, decimal}
 use Rattle.bz_lex.specs.declared.fault.ReadFault.{ReadFault}
 use Rattle.bz_lex.specs.declared.fault.ReadFault.TheVariants as f
 use Rattle.bz_value.specs.Gaps.{Bytes}
-use Rattle.bz_command.specs.Refusals.{refusal_name, refusal_number}
-use Rattle.bz_command.specs.declared.refusal.Refusal.{Refusal}
+use Rattle.bz_attribute.specs.Refusals.{refusal_name, refusal_number}
+use Rattle.bz_attribute.specs.declared.refusal.Refusal.{Refusal}
 use Rattle.bz_tools.specs.Asked.{Refused, Usage, of_clap, of_operand, no_command, no_target}
 use Rattle.bz_tools.specs.Verbs.{fault_name, fault_number}
 

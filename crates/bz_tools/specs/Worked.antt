@@ -5,7 +5,7 @@ use Rattle.bz_label.specs.declared.target.Which.{Which}
 use Rattle.bz_label.specs.declared.target.Which.TheVariants.{All, Kind, Line, Name, Package}
 use Rattle.bz_words.specs.declared.command.Operation.TheVariants.{Add, Delete}
 use Rattle.bz_words.specs.declared.fault.CommandFault.TheVariants.{Unknown, Arguments}
-use Rattle.bz_command.specs.declared.refusal.Refusal.TheVariants.{TooFar}
+use Rattle.bz_attribute.specs.declared.refusal.Refusal.TheVariants.{TooFar}
 use Rattle.bz_lex.specs.declared.fault.ReadFault.TheVariants.{NotUtf8, Unexpected}
 use Rattle.bz_files.specs.declared.files.FileFault.TheVariants.{Absent}
 use Rattle.bz_journal.specs.declared.formatter.FormatFault.TheVariants.{Unread, TooLarge}

@@ -1,19 +1,20 @@
 //! The program buildozer over any reader and writers.
-ghost use Rattle.std.specs.Prelude.{◌≡◌, ◌≢◌, ◌⊎◌, [], List, ℕ, IfOk, OnErr, IsErr, IsNone, Some, map, option_map};
+ghost use Rattle.std.specs.Prelude.{◌≡◌, ◌≢◌, ◌⊎◌, ◌++◌, [], List, ℕ, IfOk, OnOk, OnErr, IsErr, IsNone, Some, map, option_map};
 ghost use Rattle.std.specs.Io.KnownBytes.{Appends};
 ghost use Rattle.bz_tools.specs.Faults.{Rises, AppendsSome, AppendsUnlessFailed};
 ghost use Rattle.bz_tools.specs.Shown.{halt_in, steps_in, usage_in};
 ghost use Rattle.bz_tools.specs.Asked.{Usage, steps_asked};
 ghost use Rattle.bz_tools.specs.Told.{stdin, fault_line, IsUsageLine};
-ghost use Rattle.bz_tools.specs.Outcome.{RunsToRefusal, RunsToMemory, Edits, Outcome, IsInput, halt_line, status_of};
+ghost use Rattle.bz_tools.specs.Outcome.{RunsToRefusal, RunsToMemory, Edits, Outcome, IsInput, printed_in, is_printing, all_print, shown, halt_line, status_of};
+ghost use Rattle.bz_journal.specs.History.{present};
 
 use crate::sink::write_whole;
 use crate::source::{InputFault, MOST, read_most};
 use crate::steps::{Step, UsageFault, read_steps};
 use crate::told::{STDIN, tell_fault, tell_refusal, tell_usage};
 use crate::{Cut, Exit, Sink, Source};
-use bz_command::Refusal;
-use bz_journal::Session;
+use bz_attribute::Refusal;
+use bz_journal::{Action, Reply, Session};
 use bz_tree::ReadFault;
 use std::alloc::{AllocError, Global};
 use std::convert::AsStr;
@@ -34,33 +35,85 @@ struct Halt<'a> {
     refusal: Refusal,
 }
 
+// What steps print, and the command that was refused, if one was.
+#[derive(Drop)]
+struct Ran<'a> {
+    printed: Vec<u8>,
+    halt: Option<Halt<'a>>,
+}
+
 // What a run leaves for standard output, and its status.
 #[derive(Drop)]
 struct Edited {
-    text: Vec<u8>,
+    output: Vec<u8>,
     status: u8,
 }
 
-// Runs the steps in order up to the first that is refused, which is answered. The error: memory was refused.
-fn run<'a>(session: &mut Session, steps: &[Step<'a>]) -> Result<Option<Halt<'a>>, AllocError>
-    ensures ok { IfOk result (λ halt. RunsToRefusal session.old (steps_in steps.now) (option_map halt_in halt) session.new) }
+// Appends what a reply prints. The error: memory was refused; only a reply that prints takes some.
+fn put_printed(reply: &Reply, printed: &mut Vec<u8>) -> Result<(), AllocError>
+    ensures ok { OnOk result (printed.new.items ≡ printed.old.items ++ printed_in reply.now) }
+    ensures err { OnErr result ((text : List ℕ) × (reply.now ≡ Reply.Printed text)) }
+{
+    if let Reply::Printed(text) = reply {
+        printed.extend_from_slice(text.as_slice())?;
+    }
+    Ok(())
+}
+
+// A command that is refused. The error: memory was refused to it.
+fn halted(command: &str, refusal: Refusal) -> Result<Halt<'_>, AllocError>
+    ensures ok { IfOk result (λ halt. (halt_in halt ≡ record { command = command.now; refusal = refusal }) × (refusal ≢ Refusal.Memory)) }
+    ensures err { OnErr result (refusal ≡ Refusal.Memory) }
+{
+    match refusal {
+        Refusal::Memory => Err(AllocError),
+        _ => Ok(Halt { command, refusal }),
+    }
+}
+
+// Runs the steps in order up to the first that is refused, which is answered with what was printed before. The error:
+// memory was refused.
+fn run<'a>(alloc: Global, session: &mut Session, steps: &[Step<'a>]) -> Result<Ran<'a>, AllocError>
+    ensures ok { IfOk result (λ ran. RunsToRefusal session.old (steps_in steps.now) ran.printed.items (option_map halt_in ran.halt) session.new) }
     ensures err { OnErr result (RunsToMemory session.old (steps_in steps.now)) }
 {
+    let mut printed = Vec::new(alloc);
     for step in steps {
-        if let Err(refusal) = session.act(&step.action) {
-            let command = step.command;
-            return match refusal {
-                Refusal::Memory => Err(AllocError),
-                _ => Ok(Some(Halt { command, refusal })),
-            };
+        match session.act(&step.action) {
+            Ok(reply) => put_printed(&reply, &mut printed)?,
+            Err(refusal) => {
+                let command = step.command;
+                let halt = Some(halted(command, refusal)?);
+                return Ok(Ran { printed, halt });
+            }
         }
     }
-    Ok(None)
+    Ok(Ran {
+        printed,
+        halt: None,
+    })
+}
+
+// Whether the step is the action of a command that prints.
+fn is_printing(step: &Step<'_>) -> bool
+    ensures { result ≡ is_printing step.now.action }
+{
+    match &step.action {
+        Action::Do(command, _) => command.prints(),
+        Action::Format | Action::Undo(_) | Action::Redo(_) => false,
+    }
+}
+
+// Whether each step is.
+fn all_print(steps: &[Step<'_>]) -> bool
+    ensures { result ≡ all_print (steps_in steps.now) }
+{
+    steps.iter().all(|step| is_printing(step))
 }
 
 // Nothing is written of a text that is not accepted, which is told. The error: memory was refused.
 fn unread<E: Sink>(alloc: Global, fault: &ReadFault, err: &mut E) -> Result<Edited, AllocError>
-    ensures ok { IfOk result (λ edited. (fault.now ≢ ReadFault.Memory) × (edited.text.items ≡ []) × (edited.status ≡ 2)
+    ensures ok { IfOk result (λ edited. (fault.now ≢ ReadFault.Memory) × (edited.output.items ≡ []) × (edited.status ≡ 2)
         × AppendsUnlessFailed (E.faults err.old) (E.faults err.new) (E.contents err.old) (E.contents err.new) (fault_line stdin fault.now)) }
     ensures err { OnErr result (err.new ≡ err.old) }
 {
@@ -68,22 +121,44 @@ fn unread<E: Sink>(alloc: Global, fault: &ReadFault, err: &mut E) -> Result<Edit
         ReadFault::Memory => Err(AllocError),
         _ => {
             tell_fault(err, STDIN, fault);
-            let text = Vec::new(alloc);
+            let output = Vec::new(alloc);
             Ok(Edited {
-                text,
+                output,
                 status: REFUSED,
             })
         }
     }
 }
 
-fn status_of(refused: bool, read: &[u8], written: &[u8]) -> u8
-    ensures { result ≡ status_of refused read.now written.now }
+// The status of a run that read one text and ends with another.
+fn status_of(refused: bool, read: &[u8], text: &[u8]) -> u8
+    ensures { result ≡ status_of refused read.now text.now }
 {
     if refused {
         return REFUSED;
     }
-    if written == read { SAME } else { CHANGED }
+    if text == read { SAME } else { CHANGED }
+}
+
+// Puts the text at the cursor behind what is printed, where it is shown, and answers the status of the run. The error:
+// memory was refused.
+fn show(
+    session: &Session,
+    steps: &[Step<'_>],
+    refused: bool,
+    input: &[u8],
+    output: &mut Vec<u8>,
+) -> Result<u8, AllocError>
+    ensures { IfOk result (λ status. (output.new.items ≡ output.old.items ++ shown (steps_in steps.now) (present session.now))
+        × (status ≡ status_of refused input.now (present session.now))) }
+{
+    let start = output.len();
+    session.text_into(output)?;
+    let status = status_of(refused, input, &output[start..]);
+    if all_print(steps) {
+        output.truncate(start);
+    }
+    Ok(status)
 }
 
 // Tells the command that is refused, if one is.
@@ -104,7 +179,7 @@ fn edit<E: Sink>(
     input: &[u8],
     err: &mut E,
 ) -> Result<Edited, AllocError>
-    ensures ok { IfOk result (λ edited. (line : List ℕ) × Edits (steps_in steps.now) input.now edited.text.items line edited.status
+    ensures ok { IfOk result (λ edited. (line : List ℕ) × Edits (steps_in steps.now) input.now edited.output.items line edited.status
         × AppendsUnlessFailed (E.faults err.old) (E.faults err.new) (E.contents err.old) (E.contents err.new) line) }
     ensures silent { IfOk result (λ edited. edited.status ≢ 2 → err.new ≡ err.old) }
     ensures err { OnErr result (err.new ≡ err.old) }
@@ -113,12 +188,13 @@ fn edit<E: Sink>(
         Ok(session) => session,
         Err(fault) => return unread(alloc, &fault, err),
     };
-    let halt = run(&mut session, steps)?;
-    let mut text = Vec::new(alloc);
-    session.text_into(&mut text)?;
+    let Ran { mut printed, halt } = run(alloc, &mut session, steps)?;
+    let status = show(&session, steps, halt.is_some(), input, &mut printed)?;
     tell_halt(err, &halt);
-    let status = status_of(halt.is_some(), input, &text);
-    Ok(Edited { text, status })
+    Ok(Edited {
+        output: printed,
+        status,
+    })
 }
 
 // A run that is cut has the status of a refusal.
@@ -142,14 +218,14 @@ fn cut_by_input(fault: InputFault) -> Exit
     }
 }
 
-// Writes the text of a run that comes to its end.
+// Writes what a run leaves that comes to its end.
 fn finish<W: Sink>(out: &mut W, edited: &Edited) -> Exit
     ensures whole { result.cut ≡ Cut.Whole → (result.status ≡ edited.now.status)
-        × Appends (W.contents out.old) (W.contents out.new) edited.now.text.items × (W.faults out.new ≡ W.faults out.old) }
+        × Appends (W.contents out.old) (W.contents out.new) edited.now.output.items × (W.faults out.new ≡ W.faults out.old) }
     ensures write { result.cut ≢ Cut.Whole → (result ≡ record { status = 2; cut = Cut.Write })
-        × AppendsSome (W.contents out.old) (W.contents out.new) edited.now.text.items × Rises (W.faults out.old) (W.faults out.new) }
+        × AppendsSome (W.contents out.old) (W.contents out.new) edited.now.output.items × Rises (W.faults out.old) (W.faults out.new) }
 {
-    match write_whole(out, &edited.text) {
+    match write_whole(out, &edited.output) {
         Ok(()) => Exit {
             status: edited.status,
             cut: Cut::Whole,
@@ -176,11 +252,12 @@ fn unasked<E: Sink>(alloc: Global, fault: &UsageFault<'_>, err: &mut E) -> Exit
     }
 }
 
-/// Reads the words of a line and standard input, runs the commands on each target in order, up to the first that is
-/// refused, and writes the text that is then present to `out`. Statuses: 1 where the words are no line of the program's
-/// (nothing is then read or written), 2 where the text or a command is refused or the run is cut, 0 where the text is
-/// another one than was read, 3 where it is the same. Each refusal is told by one line on `err`, whose faults are passed
-/// over; where nothing is refused, and where memory or the reader cuts the run, nothing is told.
+/// Reads the words of a line and standard input, and runs the commands on each target in order, up to the first that is
+/// refused. What they print is written to `out`, in that order; then the text that is present at the end, unless each
+/// command of the line is one that prints. Statuses: 1 where the words are no line of the program's (nothing is then read
+/// or written), 2 where the text or a command is refused or the run is cut, 0 where the text at the end is another one
+/// than was read, 3 where it is the same. Each refusal is told by one line on `err`, whose faults are passed over; where
+/// nothing is refused, and where memory or the reader cuts the run, nothing is told.
 pub fn buildozer<S: AsStr, R: Source, W: Sink, E: Sink>(
     alloc: Global,
     words: &[S],

@@ -9,7 +9,7 @@ use crate::Sink;
 use crate::asked::Refused;
 use crate::sink::write_whole;
 use crate::steps::UsageFault;
-use bz_command::Refusal;
+use bz_attribute::Refusal;
 use bz_tree::ReadFault;
 use itoa::Buffer;
 use std::alloc::{AllocError, Global};

@@ -15,18 +15,18 @@ returns-in-Ok-edit-clause-whole g c = λ whole.
     let edits = rw (c.deref.ensures.value, c.deref-2.ensures.value) at c.in-Ok-edit.ensures.ok in
     let done = c.finish.ensures.whole whole in
     let some = outcome_of_front (g.R.Source.remaining c.args.input.now) c.in-Ok-read_most.bytes.items (map g.S.AsStr.text c.args.words.now)
-    (steps_in c.in-Ok.steps.items) c.in-Ok-edit.edited.text.items edits.0 c.in-Ok-edit.edited.status
+    (steps_in c.in-Ok.steps.items) c.in-Ok-edit.edited.output.items edits.0 c.in-Ok-edit.edited.status
     c.in-Ok-read_most.ensures.ok c.in-Ok.ensures.ok edits.1 in
-    (some.0, c.in-Ok-edit.edited.text.items, edits.0, some.1, rw (done.0) some.2, done.1, edits.2)
+    (some.0, c.in-Ok-edit.edited.output.items, edits.0, some.1, rw (done.0) some.2, done.1, edits.2)
 
 pub returns-in-Ok-edit-clause-write : goal.returns-in-Ok-edit-clause-write
 returns-in-Ok-edit-clause-write g c = λ cut.
     let edits = rw (c.deref.ensures.value, c.deref-2.ensures.value) at c.in-Ok-edit.ensures.ok in
     let failed = c.finish.ensures.write (λ whole. absurd (cc)) in
     let some = outcome_of_front (g.R.Source.remaining c.args.input.now) c.in-Ok-read_most.bytes.items (map g.S.AsStr.text c.args.words.now)
-    (steps_in c.in-Ok.steps.items) c.in-Ok-edit.edited.text.items edits.0 c.in-Ok-edit.edited.status
+    (steps_in c.in-Ok.steps.items) c.in-Ok-edit.edited.output.items edits.0 c.in-Ok-edit.edited.status
     c.in-Ok-read_most.ensures.ok c.in-Ok.ensures.ok edits.1 in
-    (some.0, c.in-Ok-edit.edited.text.items, edits.0, c.in-Ok-edit.edited.status, some.1, some.2, failed.1, edits.2)
+    (some.0, c.in-Ok-edit.edited.output.items, edits.0, c.in-Ok-edit.edited.status, some.1, some.2, failed.1, edits.2)
 
 -- nothing was read
 pub returns-in-Err-clause-unread : goal.returns-in-Err-clause-unread

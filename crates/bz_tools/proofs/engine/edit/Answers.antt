@@ -16,8 +16,8 @@ returns-in-Err-clause-ok g c =
     let Tells : List ℕ → Type 0 = AppendsUnlessFailed (g.E.Sink.faults c.args.err.now) (g.E.Sink.faults c.unread.new.err)
     (g.E.Sink.contents c.args.err.now) (g.E.Sink.contents c.unread.new.err) in
     IfOk-weaker c.unread.result
-    (λ edited. (fault ≡ f.Memory → ⊥) × (edited.text.items ≡ []) × (edited.status ≡ 2) × Tells (fault_line stdin fault))
-    (λ edited. (line : List ℕ) × Edits (steps_in c.args.steps.now) text edited.text.items line edited.status × Tells line)
+    (λ edited. (fault ≡ f.Memory → ⊥) × (edited.output.items ≡ []) × (edited.status ≡ 2) × Tells (fault_line stdin fault))
+    (λ edited. (line : List ℕ) × Edits (steps_in c.args.steps.now) text edited.output.items line edited.status × Tells line)
     (λ edited told. (
       fault_line stdin fault,
       inr (
@@ -36,17 +36,19 @@ returns-in-Err-clause-ok g c =
 
 pub returns-clause-ok : goal.returns-clause-ok
 returns-clause-ok g c =
-    let halt = option_map halt_in c.in_ok-halt.halt in (
+    let ran = c.in_ok-printed.field-0 in
+    let halt = option_map halt_in ran.halt in (
       halt_line halt,
       inl (record {
         accepted = c.in-Ok.ensures.accepted;
+        printed = ran.printed.items;
         halt = halt;
         after = c.run.new.session;
-        runs = (let P : History → Type 0 = λ h. RunsToRefusal h (steps_in c.args.steps.now) halt c.run.new.session in
-            subst P c.in-Ok.ensures.ok c.in_ok-halt.ensures.ok);
-        written = rw (c.new-text.ensures.items) at c.in_ok-text_into.ensures.ok;
+        runs = (let P : History → Type 0 = λ h. RunsToRefusal h (steps_in c.args.steps.now) ran.printed.items halt c.run.new.session in
+            subst P c.in-Ok.ensures.ok c.in_ok-printed.ensures.ok);
+        written = c.in_ok-status.ensures.0;
         told = refl;
-        ended = rw (is_some-mapped halt_in c.in_ok-halt.halt) (rw (c.deref.ensures.value, c.is_some.ensures) at c.status_of-status.ensures);
+        ended = rw (is_some-mapped halt_in ran.halt) (rw (c.is_some.ensures) at c.in_ok-status.ensures.1);
       }),
       c.tell_halt.ensures.told,
     )

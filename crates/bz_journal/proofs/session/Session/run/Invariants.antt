@@ -1,5 +1,5 @@
 use Rattle.std.proofs.Common.{◌≡◌, ◌≤◌, ◌+◌, ◌-◌, ◌++◌, List, take, length, vec_len, vec_capacity, Result}
-use Rattle.bz_command.specs.declared.refusal.Refusal.{Refusal}
+use Rattle.bz_attribute.specs.declared.refusal.Refusal.{Refusal}
 use Rattle.bz_journal.specs.History.{Runs}
 use Rattle.bz_journal.specs.declared.action.Reply.{Reply}
 use Rattle.bz_journal.proofs.session.Session.run.Given as goal

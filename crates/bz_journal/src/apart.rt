@@ -1,0 +1,42 @@
+//! Letting go of values. A drop calls itself for each form in another, and the function of a call may be 32,000 names joined by
+//! dots, each in the next: more than a stack holds.
+ghost use Rattle.std.specs.Prelude.{◌≡◌, ◌<◌, IfSome};
+ghost use Rattle.bz_rule.specs.Named.{fronts, fronts_in};
+
+use bz_value::{Expr, File, Item};
+
+/// The first of some parts; the others are let go.
+fn first_of(parts: Vec<Expr>) -> Option<Expr>
+    ensures { IfSome result (λ part. fronts part ≡ fronts_in parts.items) }
+{
+    parts.into_iter().next()
+}
+
+/// The first part of a form; what else stands in it is let go.
+#[tactic(auto, using(crate::proofs::FirstParts::fronts_of_Form))]
+fn first_part(x: Expr) -> Option<Expr>
+    ensures { IfSome result (λ part. fronts part < fronts x) }
+{
+    match x {
+        Expr::Token(_token) => None,
+        Expr::Form(form) => first_of(form.parts.into_vec()),
+    }
+}
+
+/// Lets go of a statement from the outside to the inside of its first parts, so that none of them is let go in another.
+fn take_statement_apart(x: Expr) {
+    let mut at = x;
+    while let Some(part) = first_part(at) {
+        at = part;
+    }
+}
+
+/// Lets go of a file value whose statements may begin with any number of forms, each in the next.
+pub(crate) fn take_apart(file: File) {
+    let File { items } = file;
+    for item in items.into_vec() {
+        if let Item::Stmt(x) = item {
+            take_statement_apart(x);
+        }
+    }
+}
