@@ -4,7 +4,7 @@ ghost use Rattle.std.specs.Prelude.{◌≤◌, length};
 use crate::case::{Case, CaseFault};
 use crate::page::Page;
 use crate::trees::{apart, told};
-use bz_command::Refusal;
+use bz_attribute::Refusal;
 use bz_items::Memory;
 use bz_journal::{Action, Reply, Session};
 use bz_label::{Target, TargetFault};
@@ -32,7 +32,7 @@ pub(crate) fn answer(case: &Case, page: &mut Page) -> Result<(), CaseFault> {
     }
     let replies = replies_of(case.alloc, &mut session, actions.as_slice())?;
     for reply in replies.as_slice() {
-        page.answer(word_of(case.alloc, reply)?.as_bytes())?;
+        show_reply(case.alloc, reply, page)?;
     }
     Ok(show_present(case.alloc, &session, page)?)
 }
@@ -95,12 +95,20 @@ fn replies_of(
     Ok(replies)
 }
 
-fn word_of(alloc: Global, reply: &Result<Reply, Refusal>) -> Result<String, Memory> {
+fn show_reply(
+    alloc: Global,
+    reply: &Result<Reply, Refusal>,
+    page: &mut Page,
+) -> Result<(), Memory> {
     match reply {
-        Ok(reply) => format!(in alloc; "{reply:?}"),
+        Ok(Reply::Printed(text)) => {
+            page.answer(b"Printed")?;
+            page.text("<", text.as_slice())
+        }
+        Ok(reply) => page.answer(format!(in alloc; "{reply:?}")?.as_bytes()),
         Err(refusal) => {
             let number = refusal.number();
-            format!(in alloc; "{number} {refusal}")
+            page.answer(format!(in alloc; "{number} {refusal}")?.as_bytes())
         }
     }
 }
