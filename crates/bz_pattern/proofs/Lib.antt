@@ -1,0 +1,4 @@
+pub mod Alike
+pub mod PlainTexts
+pub mod TextMatches
+pub mod TextParts
