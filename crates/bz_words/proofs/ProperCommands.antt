@@ -11,7 +11,7 @@ use Rattle.bz_words.specs.Commands as c
 use Rattle.bz_words.specs.Commands.{Read}
 use Rattle.bz_words.specs.Proper.{AreUtf8, AreValues, IsPlace, AreAttributes, AreMoved, IsProperCommand}
 use Rattle.bz_words.specs.declared.command.Operation.{Operation}
-use Rattle.bz_words.specs.declared.command.Operation.TheVariants.{New, SetKind, Set, SetIfAbsent, Add, Remove, RemoveValues, Replace, Move, Rename, Copy, CopyNoOverwrite}
+use Rattle.bz_words.specs.declared.command.Operation.TheVariants.{New, SetKind, Set, SetIfAbsent, Add, Remove, RemoveValues, Replace, Substitute, Move, Rename, Copy, CopyNoOverwrite}
 use Rattle.bz_words.specs.declared.command.Values.TheVariants.{All, These}
 use Rattle.bz_words.specs.declared.fault.CommandFault.TheVariants.{Unknown, Arguments}
 use Rattle.bz_words.proofs.ProperEntries.{dict_add_proper, dict_set_proper, dict_remove_proper, new_load_proper, comment_proper, print_comment_proper, remove_comment_proper, fix_proper, print_proper}
@@ -83,6 +83,15 @@ replace_proper (attribute ∷ old ∷ new ∷ []) u =
     made_proper AreAttributes (λ attributes. Replace attributes old new) (c.attributes_of attribute) (attributes_proper attribute u.0) (λ attributes a. (a, u.1.0, u.1.1.0))
 replace_proper (attribute ∷ old ∷ new ∷ more ∷ words) u = tt
 
+substitute_proper : (words : List Bytes) → AreUtf8 words → ReadsProper (c.substitute_of words)
+substitute_proper [] u = tt
+substitute_proper (attribute ∷ []) u = tt
+substitute_proper (attribute ∷ pattern ∷ []) u = tt
+substitute_proper (attribute ∷ pattern ∷ template ∷ []) u =
+    made_proper AreAttributes (λ attributes. Substitute attributes pattern template) (c.attributes_of attribute) (attributes_proper attribute u.0)
+    (λ attributes a. (a, u.1.0, u.1.1.0))
+substitute_proper (attribute ∷ pattern ∷ template ∷ more ∷ words) u = tt
+
 move_proper : (words : List Bytes) → AreUtf8 words → ReadsProper (c.move_of words)
 move_proper [] u = tt
 move_proper (from ∷ []) u = tt
@@ -122,11 +131,11 @@ AllReadProper [] = Unit {0}
 AllReadProper (command ∷ table) = ((words : List Bytes) → AreUtf8 words → ReadsProper (command.1 words)) × AllReadProper table
 
 -- the commands on dicts, loads and comments, fixes and printed fields
-later_proper : AllReadProper (drop 11 c.commands)
+later_proper : AllReadProper (drop 12 c.commands)
 later_proper = (dict_add_proper, (dict_set_proper, (dict_remove_proper, (new_load_proper, (comment_proper, (print_comment_proper, (remove_comment_proper, (fix_proper, (print_proper, tt)))))))))
 
 commands_proper : AllReadProper c.commands
-commands_proper = (new_proper, (delete_proper, (set_proper, (set_if_absent_proper, (add_proper, (remove_proper, (replace_proper, (move_proper, (rename_proper, (copy_proper, (copy_no_overwrite_proper, later_proper)))))))))))
+commands_proper = (new_proper, (delete_proper, (set_proper, (set_if_absent_proper, (add_proper, (remove_proper, (replace_proper, (substitute_proper, (move_proper, (rename_proper, (copy_proper, (copy_no_overwrite_proper, later_proper))))))))))))
 
 named_proper : (table : List (Bytes × Reader)) → AllReadProper table → (name : Bytes) (words : List Bytes) → AreUtf8 words → IfSome (c.named_in table name words) ReadsProper
 named_proper [] h name words u = tt

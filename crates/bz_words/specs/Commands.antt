@@ -6,7 +6,7 @@ use Rattle.bz_words.specs.Characters.{Bytes, asterisk, colon, equals_sign, line_
 use Rattle.bz_words.specs.Words.{words_of, is_nonempty}
 use Rattle.bz_words.specs.Identifiers.{is_identifier, is_kind}
 use Rattle.bz_words.specs.declared.command.Operation.{Operation}
-use Rattle.bz_words.specs.declared.command.Operation.TheVariants.{New, Delete, SetKind, Set, SetIfAbsent, Add, Remove, RemoveValues, Replace, Move, Rename, Copy, CopyNoOverwrite, DictAdd, DictSet, DictRemove, NewLoad, Comment, PrintComment, RemoveComment, Fix, Print}
+use Rattle.bz_words.specs.declared.command.Operation.TheVariants.{New, Delete, SetKind, Set, SetIfAbsent, Add, Remove, RemoveValues, Replace, Substitute, Move, Rename, Copy, CopyNoOverwrite, DictAdd, DictSet, DictRemove, NewLoad, Comment, PrintComment, RemoveComment, Fix, Print}
 use Rattle.bz_words.specs.declared.command.Place.{Place}
 use Rattle.bz_words.specs.declared.command.Place.TheVariants.{End, Before, After}
 use Rattle.bz_words.specs.declared.command.Attributes.{Attributes}
@@ -105,6 +105,12 @@ remove_of (attribute ∷ values) =
 abbrev pub replace_of : List Bytes → Read
 replace_of (attribute ∷ old ∷ new ∷ []) = ok_or (option_map (λ attributes. Replace attributes old new) (attributes_of attribute)) Arguments
 replace_of _ = Err Arguments
+
+-- substitute ATTRIBUTE PATTERN TEMPLATE or substitute * PATTERN TEMPLATE, for each text that `regex` takes as a pattern
+abbrev pub substitute_of : List Bytes → Read
+substitute_of (attribute ∷ pattern ∷ template ∷ []) =
+    ok_or (option_map (λ attributes. Substitute attributes pattern template) (attributes_of attribute)) Arguments
+substitute_of _ = Err Arguments
 
 -- move FROM TO VALUE..
 abbrev pub move_of : List Bytes → Read
@@ -246,6 +252,7 @@ commands =
     ∷ (codes "add", add_of)
     ∷ (codes "remove", remove_of)
     ∷ (codes "replace", replace_of)
+    ∷ (codes "substitute", substitute_of)
     ∷ (codes "move", move_of)
     ∷ (codes "rename", rename_of)
     ∷ (codes "copy", copy_of)

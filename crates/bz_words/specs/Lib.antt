@@ -5,5 +5,6 @@ pub mod Identifiers
 pub mod Printing
 pub mod Proper
 pub mod Quoted
+pub mod Refused
 pub mod Words
 pub mod Worked

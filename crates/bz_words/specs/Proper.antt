@@ -5,7 +5,7 @@ use Rattle.bz_words.specs.Characters.{Bytes}
 use Rattle.bz_words.specs.Words.{is_nonempty}
 use Rattle.bz_words.specs.Identifiers.{is_identifier, is_kind}
 use Rattle.bz_words.specs.declared.command.Operation.{Operation}
-use Rattle.bz_words.specs.declared.command.Operation.TheVariants.{New, Delete, SetKind, Set, SetIfAbsent, Add, Remove, RemoveValues, Replace, Move, Rename, Copy, CopyNoOverwrite, DictAdd, DictSet, DictRemove, NewLoad, Comment, PrintComment, RemoveComment, Fix, Print}
+use Rattle.bz_words.specs.declared.command.Operation.TheVariants.{New, Delete, SetKind, Set, SetIfAbsent, Add, Remove, RemoveValues, Replace, Substitute, Move, Rename, Copy, CopyNoOverwrite, DictAdd, DictSet, DictRemove, NewLoad, Comment, PrintComment, RemoveComment, Fix, Print}
 use Rattle.bz_words.specs.declared.command.Entry.{Entry}
 use Rattle.bz_words.specs.declared.command.Symbol.{Symbol}
 use Rattle.bz_words.specs.declared.command.Host.{Host}
@@ -83,6 +83,7 @@ IsProperCommand (Add attribute values) = IsAttribute attribute × AreValues valu
 IsProperCommand (Remove attributes) = AreAttributes attributes
 IsProperCommand (RemoveValues attribute values) = IsAttribute attribute × AreValues values
 IsProperCommand (Replace attributes old new) = AreAttributes attributes × IsUtf8 old × IsUtf8 new
+IsProperCommand (Substitute attributes pattern template) = AreAttributes attributes × IsUtf8 pattern × IsUtf8 template
 IsProperCommand (Move from to values) = IsAttribute from × IsAttribute to × AreMoved values
 IsProperCommand (Rename from to) = IsAttribute from × IsAttribute to
 IsProperCommand (Copy attribute rule) = IsAttribute attribute × IsUtf8 rule

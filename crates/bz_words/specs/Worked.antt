@@ -5,7 +5,7 @@ use Rattle.bz_words.specs.Words.{words_of}
 use Rattle.bz_words.specs.Identifiers.{is_identifier, is_kind}
 use Rattle.bz_words.specs.Commands.{Read, command_in, command_of}
 use Rattle.bz_words.specs.Quoted.{quoted_of}
-use Rattle.bz_words.specs.declared.command.Operation.TheVariants.{New, Delete, SetKind, Set, SetIfAbsent, Add, Remove, RemoveValues, Replace, Move, Rename, Copy, CopyNoOverwrite, DictAdd, DictSet, DictRemove, NewLoad, Comment, PrintComment, RemoveComment, Fix, Print}
+use Rattle.bz_words.specs.declared.command.Operation.TheVariants.{New, Delete, SetKind, Set, SetIfAbsent, Add, Remove, RemoveValues, Replace, Substitute, Move, Rename, Copy, CopyNoOverwrite, DictAdd, DictSet, DictRemove, NewLoad, Comment, PrintComment, RemoveComment, Fix, Print}
 use Rattle.bz_words.specs.declared.command.Place.TheVariants.{End, Before, After}
 use Rattle.bz_words.specs.declared.command.Attributes.TheVariants.{All as AllAttributes, Named}
 use Rattle.bz_words.specs.declared.command.Values.TheVariants.{All as AllValues, These}
@@ -71,6 +71,12 @@ Attributes =
     reads (codes "replace * a b") (Ok (Replace AllAttributes (codes "a") (codes "b")))
     × reads (codes "replace deps a b") (Ok (Replace (Named (codes "deps")) (codes "a") (codes "b")))
     × is_refused (codes "replace deps a") × is_refused (codes "replace deps a b c")
+    -- a backslash stays unless a space follows
+    × reads (codes "substitute srcs ^(.*)\\.c$ ${1}.cc") (Ok (Substitute (Named (codes "srcs")) (codes "^(.*)\\.c$") (codes "${1}.cc")))
+    × reads (codes "substitute * a\\ b c") (Ok (Substitute AllAttributes (codes "a b") (codes "c")))
+    -- what is no pattern is seen later
+    × reads (codes "substitute srcs ( x") (Ok (Substitute (Named (codes "srcs")) (codes "(") (codes "x")))
+    × is_refused (codes "substitute srcs x") × is_refused (codes "substitute srcs x y z") × is_refused (codes "substitute a-b x y")
     × reads (codes "move a b c d") (Ok (Move (codes "a") (codes "b") (These (codes "c" ∷ codes "d" ∷ []))))
     × reads (codes "move a b c *") (Ok (Move (codes "a") (codes "b") AllValues))
     × is_refused (codes "move a b") × is_refused (codes "move * b c") × is_refused (codes "move a * c")

@@ -1,5 +1,6 @@
 //! Commands, as their words give them.
 use bz_items::{Items, Text};
+use bz_pattern::Pattern;
 use std::marker::Model;
 
 /// A command as it can be read: the attributes of its operation are identifiers, its kinds are kinds, where values are
@@ -80,6 +81,12 @@ pub enum Operation {
         attributes: Attributes,
         old: Text,
         new: Text,
+    },
+    /// In the plain strings of lists, or in one alone, each match of the pattern is replaced by the template.
+    Substitute {
+        attributes: Attributes,
+        pattern: Pattern,
+        template: Text,
     },
     /// Values go from one attribute's lists to another's.
     Move {

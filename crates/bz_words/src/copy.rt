@@ -132,86 +132,97 @@ impl Operation {
     fn copy(&self) -> Result<Operation, Memory>
         ensures { IfOk result (λ operation. operation ≡ self.now) }
     {
-        Ok(match self {
-            Operation::New { kind, name, place } => Operation::New {
+        match self {
+            Operation::New { kind, name, place } => Ok(Operation::New {
                 kind: kind.copy()?,
                 name: name.copy()?,
                 place: place.copy()?,
-            },
-            Operation::Delete => Operation::Delete,
-            Operation::SetKind { kind } => Operation::SetKind { kind: kind.copy()? },
-            Operation::Set { attribute, values } => Operation::Set {
+            }),
+            Operation::Delete => Ok(Operation::Delete),
+            Operation::SetKind { kind } => Ok(Operation::SetKind { kind: kind.copy()? }),
+            Operation::Set { attribute, values } => Ok(Operation::Set {
                 attribute: attribute.copy()?,
                 values: copied(values)?,
-            },
-            Operation::SetIfAbsent { attribute, values } => Operation::SetIfAbsent {
+            }),
+            Operation::SetIfAbsent { attribute, values } => Ok(Operation::SetIfAbsent {
                 attribute: attribute.copy()?,
                 values: copied(values)?,
-            },
-            Operation::Add { attribute, values } => Operation::Add {
+            }),
+            Operation::Add { attribute, values } => Ok(Operation::Add {
                 attribute: attribute.copy()?,
                 values: copied(values)?,
-            },
-            Operation::Remove { attributes } => Operation::Remove {
+            }),
+            Operation::Remove { attributes } => Ok(Operation::Remove {
                 attributes: attributes.copy()?,
-            },
-            Operation::RemoveValues { attribute, values } => Operation::RemoveValues {
+            }),
+            Operation::RemoveValues { attribute, values } => Ok(Operation::RemoveValues {
                 attribute: attribute.copy()?,
                 values: copied(values)?,
-            },
+            }),
             Operation::Replace {
                 attributes,
                 old,
                 new,
-            } => Operation::Replace {
+            } => Ok(Operation::Replace {
                 attributes: attributes.copy()?,
                 old: old.copy()?,
                 new: new.copy()?,
-            },
-            Operation::Move { from, to, values } => Operation::Move {
+            }),
+            Operation::Substitute {
+                attributes,
+                pattern,
+                template,
+            } => Ok(Operation::Substitute {
+                attributes: attributes.copy()?,
+                pattern: pattern.copy()?,
+                template: template.copy()?,
+            }),
+            Operation::Move { from, to, values } => Ok(Operation::Move {
                 from: from.copy()?,
                 to: to.copy()?,
                 values: values.copy()?,
-            },
-            Operation::Rename { from, to } => Operation::Rename {
+            }),
+            Operation::Rename { from, to } => Ok(Operation::Rename {
                 from: from.copy()?,
                 to: to.copy()?,
-            },
-            Operation::Copy { attribute, rule } => Operation::Copy {
+            }),
+            Operation::Copy { attribute, rule } => Ok(Operation::Copy {
                 attribute: attribute.copy()?,
                 rule: rule.copy()?,
-            },
-            Operation::CopyNoOverwrite { attribute, rule } => Operation::CopyNoOverwrite {
+            }),
+            Operation::CopyNoOverwrite { attribute, rule } => Ok(Operation::CopyNoOverwrite {
                 attribute: attribute.copy()?,
                 rule: rule.copy()?,
-            },
-            Operation::DictAdd { attribute, entries } => Operation::DictAdd {
+            }),
+            Operation::DictAdd { attribute, entries } => Ok(Operation::DictAdd {
                 attribute: attribute.copy()?,
                 entries: copied_entries(entries)?,
-            },
-            Operation::DictSet { attribute, entries } => Operation::DictSet {
+            }),
+            Operation::DictSet { attribute, entries } => Ok(Operation::DictSet {
                 attribute: attribute.copy()?,
                 entries: copied_entries(entries)?,
-            },
-            Operation::DictRemove { attribute, keys } => Operation::DictRemove {
+            }),
+            Operation::DictRemove { attribute, keys } => Ok(Operation::DictRemove {
                 attribute: attribute.copy()?,
                 keys: copied(keys)?,
-            },
-            Operation::NewLoad { path, symbols } => Operation::NewLoad {
+            }),
+            Operation::NewLoad { path, symbols } => Ok(Operation::NewLoad {
                 path: path.copy()?,
                 symbols: copied_symbols(symbols)?,
-            },
-            Operation::Comment { host, text } => Operation::Comment {
+            }),
+            Operation::Comment { host, text } => Ok(Operation::Comment {
                 host: host.copy()?,
                 text: text.copy()?,
-            },
-            Operation::PrintComment { host } => Operation::PrintComment { host: host.copy()? },
-            Operation::RemoveComment { host } => Operation::RemoveComment { host: host.copy()? },
-            Operation::Fix { fixes } => Operation::Fix { fixes: *fixes },
-            Operation::Print { fields } => Operation::Print {
+            }),
+            Operation::PrintComment { host } => Ok(Operation::PrintComment { host: host.copy()? }),
+            Operation::RemoveComment { host } => Ok(Operation::RemoveComment {
+                host: host.copy()?,
+            }),
+            Operation::Fix { fixes } => Ok(Operation::Fix { fixes: *fixes }),
+            Operation::Print { fields } => Ok(Operation::Print {
                 fields: copied_fields(fields)?,
-            },
-        })
+            }),
+        }
     }
 }
 

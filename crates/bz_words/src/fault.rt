@@ -13,7 +13,7 @@ pub enum CommandFault {
     /// The number or the form of the command's arguments is wrong, or the text is longer than 65,536 bytes.
     #[error("Arguments")]
     Arguments,
-    /// A pattern is refused. No command has one so far.
+    /// `regex` refuses the command's pattern for another cause than memory, and nothing else is wrong.
     #[error("BadPattern")]
     BadPattern,
     /// A growth was refused.

@@ -4,7 +4,7 @@ ghost use Rattle.bz_words.specs.Commands as c;
 ghost use Rattle.bz_words.specs.Identifiers.{is_identifier as is_identifier_in};
 ghost use Rattle.bz_words.specs.Words.{is_nonempty};
 
-use crate::command::Operation;
+use crate::command::{Attributes, Operation};
 use crate::fault::CommandFault;
 use crate::identifier::is_identifier;
 use bz_items::Text;
@@ -45,6 +45,27 @@ pub(crate) fn is_text(word: &Text, text: &[u8]) -> bool
     ensures { result ≡ bytes_eq word.now text.now }
 {
     word.as_slice() == text
+}
+
+/// Whether the word is `*`.
+pub(crate) fn is_star(word: &Text) -> bool
+    ensures { result ≡ c.is_star word.now }
+{
+    is_text(word, b"*")
+}
+
+/// The attributes that the word names: all, or one.
+pub(crate) fn attributes_of(word: Text) -> Option<Attributes>
+    ensures { result ≡ c.attributes_of word }
+{
+    if is_star(&word) {
+        return Some(Attributes::All);
+    }
+    if is_attribute(&word) {
+        Some(Attributes::Named(word))
+    } else {
+        None
+    }
 }
 
 /// Whether there is a word.

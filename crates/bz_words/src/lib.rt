@@ -14,6 +14,7 @@ mod loads;
 mod printing;
 mod quoting;
 mod reading;
+mod substituting;
 mod words;
 
 pub use command::{

@@ -1,27 +1,27 @@
 //! What each command reads in the words behind its name.
-ghost use Rattle.std.specs.Prelude.{◌≡◌, ◌⊎◌, ◌∷◌, [], Ok, Err, Some, is_some, IfOk, IfErr, IfSome, if◌then◌else◌};
+ghost use Rattle.std.specs.Prelude.{◌≡◌, ◌⊎◌, ◌∷◌, [], false, List, Ok, Err, Some, is_some, IfOk, IfErr, IfSome, IsSomeAnd};
 ghost use Rattle.std.specs.List.{list_any};
+ghost use Rattle.bz_words.specs.Characters.{Bytes};
 ghost use Rattle.bz_words.specs.Commands as c;
+ghost use Rattle.bz_words.specs.Proper.{AreUtf8};
+ghost use Rattle.bz_words.specs.Refused.{HasBadPattern, IsCommandFault};
 
-use crate::command::{Attributes, Command, Operation, Place, Values};
+use crate::command::{Command, Operation, Place, Values};
 use crate::dicts::{dict_add_of, dict_remove_of, dict_set_of};
 use crate::fault::CommandFault;
 use crate::fixing::fix_of;
-use crate::forms::{Read, given, has_values, is_attribute, is_text, take_first};
+use crate::forms::{
+    Read, attributes_of, given, has_values, is_attribute, is_star, is_text, take_first,
+};
 use crate::hosts::{comment_of, print_comment_of, remove_comment_of};
 use crate::identifier::is_kind;
 use crate::loads::new_load_of;
 use crate::printing::print_of;
+use crate::substituting::substitute_of;
 use crate::words::read_words;
 use bz_items::{Items, Text};
 use std::alloc::Global;
 use std::str;
-
-fn is_star(word: &Text) -> bool
-    ensures { result ≡ c.is_star word.now }
-{
-    is_text(word, b"*")
-}
 
 fn has_star(words: &[Text]) -> bool
     ensures { result ≡ list_any c.is_star words.now }
@@ -33,19 +33,6 @@ fn is_word_kind(word: &Text) -> bool
     ensures { result ≡ c.is_word_kind word.now }
 {
     is_text(word, b"kind")
-}
-
-fn attributes_of(word: Text) -> Option<Attributes>
-    ensures { result ≡ c.attributes_of word }
-{
-    if is_star(&word) {
-        return Some(Attributes::All);
-    }
-    if is_attribute(&word) {
-        Some(Attributes::Named(word))
-    } else {
-        None
-    }
 }
 
 fn values_of(words: Vec<Text>) -> Values
@@ -230,9 +217,11 @@ fn copy_no_overwrite_of(words: Vec<Text>) -> Read
 
 // What the command of this name reads in the words behind it.
 fn named_of(name: &str, words: Vec<Text>) -> Option<Read>
+    requires { AreUtf8 words.items }
     ensures known { is_some result ≡ is_some (c.named_in c.commands name.now words.items) }
     ensures ok { IfSome result (λ read. IfOk read (λ operation. c.named_in c.commands name.now words.items ≡ Some (Ok operation))) }
-    ensures err { IfSome result (λ read. IfErr read (λ fault. (c.named_in c.commands name.now words.items ≡ Some (Err fault)) ⊎ (fault ≡ CommandFault.Memory))) }
+    ensures err { IfSome result (λ read. IfErr read (λ fault. ((c.named_in c.commands name.now words.items ≡ Some (Err fault))
+        ⊎ ((fault ≡ CommandFault.BadPattern) × IsSomeAnd (c.named_in c.commands name.now words.items) HasBadPattern)) ⊎ (fault ≡ CommandFault.Memory))) }
 {
     match name {
         "new" => Some(new_of(words)),
@@ -242,6 +231,7 @@ fn named_of(name: &str, words: Vec<Text>) -> Option<Read>
         "add" => Some(add_of(words)),
         "remove" => Some(remove_of(words)),
         "replace" => Some(replace_of(words)),
+        "substitute" => Some(substitute_of(words)),
         "move" => Some(move_of(words)),
         "rename" => Some(rename_of(words)),
         "copy" => Some(copy_of(words)),
@@ -260,9 +250,11 @@ fn named_of(name: &str, words: Vec<Text>) -> Option<Read>
 }
 
 fn known(name: &Text, words: Vec<Text>) -> Option<Read>
+    requires { AreUtf8 words.items }
     ensures known { is_some result ≡ is_some (c.named_in c.commands name.now words.items) }
     ensures ok { IfSome result (λ read. IfOk read (λ operation. c.named_in c.commands name.now words.items ≡ Some (Ok operation))) }
-    ensures err { IfSome result (λ read. IfErr read (λ fault. (c.named_in c.commands name.now words.items ≡ Some (Err fault)) ⊎ (fault ≡ CommandFault.Memory))) }
+    ensures err { IfSome result (λ read. IfErr read (λ fault. ((c.named_in c.commands name.now words.items ≡ Some (Err fault))
+        ⊎ ((fault ≡ CommandFault.BadPattern) × IsSomeAnd (c.named_in c.commands name.now words.items) HasBadPattern)) ⊎ (fault ≡ CommandFault.Memory))) }
 {
     match str::from_utf8(name.as_slice()) {
         Ok(name) => named_of(name, words),
@@ -270,27 +262,32 @@ fn known(name: &Text, words: Vec<Text>) -> Option<Read>
     }
 }
 
-// A text that is too long is wrong in its arguments.
-fn within_limit(fits: bool, read: Read) -> Read
-    ensures { result ≡ (if fits then read else Err CommandFault.Arguments) }
+// What is told of a text that is too long: an unknown name first. The further words are not read, so that no pattern is
+// compiled.
+fn too_long(alloc: Global, name: &Text) -> CommandFault
+    ensures { (words : List Bytes) → c.command_in false (name.now ∷ words) ≡ Err result }
 {
-    if fits {
-        read
-    } else {
-        Err(CommandFault::Arguments)
+    match known(name, Vec::new(alloc)) {
+        Some(_read) => CommandFault::Arguments,
+        None => CommandFault::Unknown,
     }
 }
 
 // An unknown name is told first, then a text that is too long, then what is wrong with the words.
 fn command_in(fits: bool, mut words: Vec<Text>) -> Read
+    requires { AreUtf8 words.items }
     ensures ok { IfOk result (λ operation. c.command_in fits words.items ≡ Ok operation) }
-    ensures err { IfErr result (λ fault. (c.command_in fits words.items ≡ Err fault) ⊎ (fault ≡ CommandFault.Memory)) }
+    ensures err { IfErr result (λ fault. ((c.command_in fits words.items ≡ Err fault)
+        ⊎ ((fault ≡ CommandFault.BadPattern) × HasBadPattern (c.command_in fits words.items))) ⊎ (fault ≡ CommandFault.Memory)) }
 {
     let Ok(name) = take_first(&mut words) else {
         return Err(CommandFault::Unknown);
     };
+    if !fits {
+        return Err(too_long(*words.allocator(), &name));
+    }
     match known(&name, words) {
-        Some(read) => within_limit(fits, read),
+        Some(read) => read,
         None => Err(CommandFault::Unknown),
     }
 }
@@ -302,10 +299,10 @@ impl Command {
     /// The command of a text: its words are separated by runs of spaces, where a space right behind a backslash belongs
     /// to the word and the backslash goes. The errors, in this order: `Unknown`: the first word is no command's name, or
     /// there is none; `Arguments`: the text is longer than 65,536 bytes, or the further words don't have the command's form;
-    /// `Memory`: a growth was refused.
+    /// `BadPattern`: `regex` refuses the pattern of `substitute`; at any time `Memory`: a growth was refused.
     pub fn read(alloc: Global, text: &str) -> Result<Command, CommandFault>
         ensures ok { IfOk result (λ command. c.command_of text.now ≡ Ok command) }
-        ensures err { IfErr result (λ fault. (c.command_of text.now ≡ Err fault) ⊎ (fault ≡ CommandFault.Memory)) }
+        ensures err { IfErr result (λ fault. IsCommandFault text.now fault ⊎ (fault ≡ CommandFault.Memory)) }
     {
         let words = read_words(alloc, text.as_bytes())?;
         let operation = command_in(text.len() <= TEXT_LIMIT, words)?;

@@ -1,0 +1,17 @@
+-- Why a text gives no command.
+use Rattle.std.specs.Prelude.{◌≡◌, ◌⊎◌, Ok, Err}
+use Rattle.bz_pattern.specs.Patterns.{IsRefusedPattern}
+use Rattle.bz_words.specs.Characters.{Bytes}
+use Rattle.bz_words.specs.Commands.{Read, command_of}
+use Rattle.bz_words.specs.declared.command.Operation.TheVariants.{Substitute}
+use Rattle.bz_words.specs.declared.fault.CommandFault.{CommandFault}
+use Rattle.bz_words.specs.declared.fault.CommandFault.TheVariants.{BadPattern}
+
+-- a substitution whose pattern `regex` refuses
+abbrev pub HasBadPattern : Read → Type 0
+HasBadPattern (Ok (Substitute attributes pattern template)) = IsRefusedPattern pattern
+HasBadPattern _ = ⊥
+
+-- memory aside: what the text reads as, or a pattern that is refused where nothing else is wrong
+abbrev pub IsCommandFault : Bytes → CommandFault → Type 0
+IsCommandFault text fault = (command_of text ≡ Err fault) ⊎ ((fault ≡ BadPattern) × HasBadPattern (command_of text))
