@@ -13,16 +13,16 @@ use Rattle.bz_words.specs.declared.command.Values.{Values}
 use Rattle.bz_words.proofs.NameTests.{identifiers_are_names}
 use Rattle.bz_rule.specs.Values.{parts_of, with_text, on_row, on_first, first_text, on_lists}
 use Rattle.bz_rule.proofs.ProperArguments.{argument_changed, name_kept}
-use Rattle.bz_rule.proofs.ProperChanges.{by_test}
+use Rattle.bz_rule.proofs.ProperChanges.{by_test, Stays}
 use Rattle.bz_rule.proofs.ProperItems.{IsValue, all_kept, all_changed}
 use Rattle.bz_rule.proofs.ProperSequences.{IsItem, AreOf}
 use Rattle.bz_attribute.specs.Made.{list_of, string_of, plus}
 use Rattle.bz_attribute.specs.Attributes.{is_attribute, has_attribute, is_other_attribute, on_first_that, on_value, with_value, with_new, without, put}
 use Rattle.bz_attribute.specs.Lists.{has_lists, items_in, is_no_list, is_empty_list, with_more, is_some_item, fresh, arriving}
-use Rattle.bz_change.specs.Changes.{value_of, setting, is_set, set, set_if_absent, with_items_added, add, cleared, without_items, remove, remove_values, replaced, replace, is_moved, moved, move, rename, copy, copy_no_overwrite}
+use Rattle.bz_change.specs.Changes.{value_of, setting, is_set, set, set_if_absent, with_items_added, add, cleared, without_items, remove, remove_values, in_value, in_attributes, replaced_item, replace, substituted_item, substitute, is_moved, moved, move, rename, copy, copy_no_overwrite}
 use Rattle.bz_attribute.specs.declared.refusal.Refusal.TheVariants.{NoAttribute, AttributeExists, NotAList, NoSource}
 use Rattle.bz_attribute.proofs.ProperAttributes.{AreArguments, Made, Keeps, of_value, of_attribute, first_that_kept, value_stays, with_value_kept, without_kept, with_new_kept, put_kept}
-use Rattle.bz_change.proofs.ProperLists.{value_items, more_value, fewer_value, replaced_value, fresh_utf8, arriving_items, setting_value}
+use Rattle.bz_change.proofs.ProperLists.{value_items, more_value, fewer_value, changed_value, KeepsText, replaced_item_stays, substituted_item_stays, fresh_utf8, arriving_items, setting_value}
 use Rattle.bz_attribute.proofs.ProperMade.{list_value, plus_value, words_are_items}
 
 -- ---- set
@@ -80,16 +80,24 @@ remove_values_keeps current name words xs h =
     (λ value v. by_test Made (is_no_list value) (Err NotAList) (Ok (without_items name (is_some_item current name words) value xs)) tt
     (without_items_kept name (is_some_item current name words) value xs v h))
 
--- ---- replace
+-- ---- replace and substitute
+
+in_attributes_keeps : (attributes : Attributes) (change : Bytes → Expr → Expr) → ((name : Bytes) → Stays (change name)) → Keeps (λ xs. Ok (in_attributes attributes (λ name. in_value (change name)) xs))
+in_attributes_keeps t.All change stays xs h =
+    all_changed (IsItem s.argument) (λ x. if is_other_attribute x then on_value (in_value (change (first_text (parts_of x)))) x else x)
+    (λ x i. by_test (IsItem s.argument) (is_other_attribute x) (on_value (in_value (change (first_text (parts_of x)))) x) x
+    (value_stays (in_value (change (first_text (parts_of x)))) (changed_value (change (first_text (parts_of x))) (stays (first_text (parts_of x)))) x i) i)
+    xs h
+in_attributes_keeps (t.Named name) change stays xs h =
+    first_that_kept (is_attribute name) (on_value (in_value (change name))) (value_stays (in_value (change name)) (changed_value (change name) (stays name))) xs h
 
 pub replace_keeps : (current : Bytes) (attributes : Attributes) (old new : Bytes) → IsUtf8 new → Keeps (replace current attributes old new)
-replace_keeps current t.All old new u xs h =
-    all_changed (IsItem s.argument) (λ x. if is_other_attribute x then on_value (replaced current (first_text (parts_of x)) old new) x else x)
-    (λ x i. by_test (IsItem s.argument) (is_other_attribute x) (on_value (replaced current (first_text (parts_of x)) old new) x) x
-    (value_stays (replaced current (first_text (parts_of x)) old new) (replaced_value current (first_text (parts_of x)) old new u) x i) i)
-    xs h
-replace_keeps current (t.Named name) old new u xs h =
-    first_that_kept (is_attribute name) (on_value (replaced current name old new)) (value_stays (replaced current name old new) (replaced_value current name old new u)) xs h
+replace_keeps current attributes old new u =
+    in_attributes_keeps attributes (λ name. replaced_item current name old new) (λ name. replaced_item_stays current name old new u)
+
+pub substitute_keeps : (current : Bytes) (attributes : Attributes) (pattern template : Bytes) → KeepsText pattern template → Keeps (substitute current attributes pattern template)
+substitute_keeps current attributes pattern template keeps =
+    in_attributes_keeps attributes (λ name. substituted_item current name pattern template) (λ name. substituted_item_stays current name pattern template keeps)
 
 -- ---- move
 

@@ -24,22 +24,23 @@ use Rattle.bz_value.specs.Comments.{HostComments}
 use Rattle.bz_value.specs.Gaps.{Bytes}
 use Rattle.bz_value.specs.Proper.{ProperExpr, behind_expr}
 use Rattle.bz_value.proofs.FormParts.{AreParts}
+use Rattle.bz_pattern.specs.Patterns.{substituted}
 use Rattle.bz_words.specs.Proper.{AreUtf8}
 use Rattle.bz_words.specs.Quoted.{quoted_of}
 use Rattle.bz_words.proofs.NameTests.{identifiers_are_names}
 use Rattle.bz_rule.specs.Rules.{body}
-use Rattle.bz_rule.specs.Values.{has_kind, has_class, parts_of, items_of, with_text, on_row, on_items, on_lists}
+use Rattle.bz_rule.specs.Values.{has_kind, has_class, text_of, parts_of, items_of, with_text, on_row, on_items, on_lists}
 use Rattle.bz_rule.proofs.ProperChanges.{by_test, by_case, Stays, Strung, row_stays, items_stay, lists_stay, string_in_place}
-use Rattle.bz_rule.proofs.ProperForms.{InPlace, AsForm, each_mapped, opened}
+use Rattle.bz_rule.proofs.ProperForms.{InPlace, AsForm, itself, each_mapped, opened}
 use Rattle.bz_rule.proofs.ProperItems.{IsValue, value_in_place, all_joined, all_kept}
 use Rattle.bz_rule.proofs.ProperSequences.{IsItem, AreOf, list_apart, list_in_place, where_true}
 use Rattle.bz_attribute.specs.Made.{token, string_text}
 use Rattle.bz_attribute.specs.Attributes.{on_first_that}
-use Rattle.bz_attribute.specs.Lists.{items_in, with_more, are_one, is_item, fresh, travelled, is_there, arriving}
+use Rattle.bz_attribute.specs.Lists.{items_in, with_more, body_of, are_one, is_item, fresh, travelled, is_there, arriving}
 use Rattle.bz_attribute.proofs.ProperAttributes.{first_that_stays}
 use Rattle.bz_change.specs.declared.settings.Setting.{Setting}
 use Rattle.bz_change.specs.declared.settings.Setting.TheVariants.{One, Many}
-use Rattle.bz_change.specs.Changes.{is_constant, is_decimal, single, setting, value_of, replaced_item, replaced}
+use Rattle.bz_change.specs.Changes.{is_constant, is_decimal, single, setting, value_of, in_value, replaced_item, with_body, substituted_item}
 use Rattle.bz_attribute.proofs.ProperMade.{token_new, new_value, list_value, string_value, string_strung, quoted_string, texts_are_items}
 use Rattle.bz_attribute.proofs.ProperTexts.{body_utf8, shortened_utf8}
 
@@ -112,17 +113,42 @@ item_is_string : (current attribute word : Bytes) (x : Expr) → is_item current
 item_is_string current attribute word (Token t) h = is_string t.class t.text (are_one current attribute word) h
 item_is_string current attribute word (Form' kind s parts s' items end_ split open_ comments) h = absurd (true≢false (sym h))
 
-replaced_item_stays : (current name old new : Bytes) → IsUtf8 new → Stays (replaced_item current name old new)
+pub replaced_item_stays : (current name old new : Bytes) → IsUtf8 new → Stays (replaced_item current name old new)
 replaced_item_stays current name old new u x =
     where_true (is_item current name old x) x (with_text (string_text current name new) x)
     (λ is. string_in_place (string_text current name new) x (item_is_string current name old x is) (λ _. string_strung current name new u))
 
-pub replaced_value : (current name old new : Bytes) → IsUtf8 new → (x : Expr) → IsValue x → IsValue (replaced current name old new x)
-replaced_value current name old new u x v =
-    let change : Expr → Expr = replaced_item current name old new in
-    let stays : Stays change = replaced_item_stays current name old new u in
+-- what stands in the value itself and in the items of its lists
+pub changed_value : (change : Expr → Expr) → Stays change → (x : Expr) → IsValue x → IsValue (in_value change x)
+changed_value change stays x v =
     value_in_place (change x) (on_lists (map change) (change x)) (lists_stay (map change) (items_stay k.List (map change) (each_mapped change stays)) (change x))
     (value_in_place x (change x) (stays x) v)
+
+-- a plain string is a string, and its body is a text of characters where it is one
+string_body : (class : Class) (text inside : Bytes) → option_and_then body (if is_class class c.String then Some text else None) ≡ Some inside
+    → (is_class class c.String ≡ true) × (IsUtf8 text → IsUtf8 inside)
+string_body c.String text inside e = (refl, λ u. subst (λ (o : Option Bytes). IfSome o IsUtf8) e (body_utf8 text u))
+string_body _ text inside e = absurd cc
+
+body_there : (x : Expr) (inside : Bytes) → body_of x ≡ Some inside → (has_class c.String x ≡ true) × (IsUtf8 (text_of x) → IsUtf8 inside)
+body_there (Token t) inside e = string_body t.class t.text inside e
+body_there (Form' kind s parts s' items end_ split open_ comments) inside e = absurd cc
+
+-- what a substitution makes of a text of characters is one
+abbrev pub KeepsText : Bytes → Bytes → Type 0
+KeepsText pattern template = (text : Bytes) → IsUtf8 text → IsUtf8 (substituted pattern template text)
+
+substituted_string : (current name pattern template : Bytes) → KeepsText pattern template → (x : Expr) (found : Option Bytes) → body_of x ≡ found
+    → InPlace x (option_map_or (λ inside. with_body current name inside (substituted pattern template inside) x) found x)
+substituted_string current name pattern template keeps x None e = itself x
+substituted_string current name pattern template keeps x (Some inside) e =
+    let new : Bytes = substituted pattern template inside in
+    let w = body_there x inside e in
+    by_test (InPlace x) (bytes_eq new inside) x (with_text (string_text current name new) x) (itself x)
+    (string_in_place (string_text current name new) x w.0 (λ h. string_strung current name new (keeps inside (w.1 h.1))))
+
+pub substituted_item_stays : (current name pattern template : Bytes) → KeepsText pattern template → Stays (substituted_item current name pattern template)
+substituted_item_stays current name pattern template keeps x = substituted_string current name pattern template keeps x (body_of x) refl
 
 -- ---- words and items that are not there
 

@@ -1,12 +1,14 @@
 -- What the commands on attributes make of the arguments of a rule.
 use Rattle.std.specs.Prelude.{Bool, true, false, not, ◌&&◌, ◌||◌, List, [], ◌∷◌, Option, None, Ok, Err, codes, map, if◌then◌else◌, bytes_eq, length, nat_lt}
 use Rattle.std.specs.List.{list_any, filter}
+use Rattle.std.specs.Option.{option_map_or}
 use Rattle.std.specs.Str.{all_ascii_digits}
 use Rattle.bz_token.specs.declared.class.Class.TheVariants as c
 use Rattle.bz_tree.specs.declared.kind.Kind.TheVariants as k
 use Rattle.bz_label.specs.Tables.{is_list_attribute}
 use Rattle.bz_value.specs.declared.value.Expr.{Expr}
 use Rattle.bz_value.specs.Gaps.{Bytes}
+use Rattle.bz_pattern.specs.Patterns.{substituted}
 use Rattle.bz_words.specs.declared.command.Operation.{Operation}
 use Rattle.bz_words.specs.declared.command.Operation.TheVariants as w
 use Rattle.bz_words.specs.declared.command.Attributes.{Attributes}
@@ -20,7 +22,7 @@ use Rattle.bz_change.specs.declared.settings.Setting.{Setting}
 use Rattle.bz_change.specs.declared.settings.Setting.TheVariants.{One, Many}
 use Rattle.bz_attribute.specs.Made.{token, string_text, string_of, list_of, plus}
 use Rattle.bz_attribute.specs.Attributes.{is_attribute, has_attribute, is_other_attribute, on_first_that, on_value, with_value, with_new, without, put, Arguments, by_value}
-use Rattle.bz_attribute.specs.Lists.{has_lists, items_in, is_no_list, is_empty_list, with_more, is_item, is_some_item, fresh, arriving}
+use Rattle.bz_attribute.specs.Lists.{has_lists, items_in, is_no_list, is_empty_list, with_more, body_of, is_item, is_some_item, fresh, arriving}
 
 -- ---- set
 
@@ -96,17 +98,36 @@ remove_values current name words arguments =
 
 -- ---- replace
 
+-- in the value itself, and in each item of its lists
+abbrev pub in_value : (Expr → Expr) → Expr → Expr
+in_value f value = on_lists (map f) (f value)
+
+-- in the values of the attributes that are meant; f knows the attribute's name
+abbrev pub in_attributes : Attributes → (Bytes → Expr → Expr) → List Expr → List Expr
+in_attributes a.All f arguments = map (λ x. if is_other_attribute x then on_value (f (first_text (parts_of x))) x else x) arguments
+in_attributes (a.Named name) f arguments = on_first_that (is_attribute name) (on_value (f name)) arguments
+
 -- items that are the old value, or a plain string value that is, become the new one
 abbrev pub replaced_item : Bytes → Bytes → Bytes → Bytes → Expr → Expr
 replaced_item current name old new x = if is_item current name old x then with_text (string_text current name new) x else x
 
-abbrev pub replaced : Bytes → Bytes → Bytes → Bytes → Expr → Expr
-replaced current name old new value = on_lists (map (replaced_item current name old new)) (replaced_item current name old new value)
-
 abbrev pub replace : Bytes → Attributes → Bytes → Bytes → List Expr → Arguments
-replace current a.All old new arguments =
-    Ok (map (λ x. if is_other_attribute x then on_value (replaced current (first_text (parts_of x)) old new) x else x) arguments)
-replace current (a.Named name) old new arguments = Ok (on_first_that (is_attribute name) (on_value (replaced current name old new)) arguments)
+replace current attributes old new arguments = Ok (in_attributes attributes (λ name. in_value (replaced_item current name old new)) arguments)
+
+-- ---- substitute
+
+-- the string with another body, put in as a value is; an equal body leaves it as it is
+abbrev pub with_body : Bytes → Bytes → Bytes → Bytes → Expr → Expr
+with_body current name body new x = if bytes_eq new body then x else with_text (string_text current name new) x
+
+-- the body of a plain string, with each match replaced
+abbrev pub substituted_item : Bytes → Bytes → Bytes → Bytes → Expr → Expr
+substituted_item current name pattern template x =
+    option_map_or (λ body. with_body current name body (substituted pattern template body) x) (body_of x) x
+
+abbrev pub substitute : Bytes → Attributes → Bytes → Bytes → List Expr → Arguments
+substitute current attributes pattern template arguments =
+    Ok (in_attributes attributes (λ name. in_value (substituted_item current name pattern template)) arguments)
 
 -- ---- move
 
@@ -152,6 +173,7 @@ change_of (w.Add name words) current found arguments = add current name words ar
 change_of (w.Remove attributes) current found arguments = remove attributes arguments
 change_of (w.RemoveValues name words) current found arguments = remove_values current name words arguments
 change_of (w.Replace attributes old new) current found arguments = replace current attributes old new arguments
+change_of (w.Substitute attributes pattern template) current found arguments = substitute current attributes pattern template arguments
 change_of (w.Move from to values) current found arguments = move current from to values arguments
 change_of (w.Rename from to) current found arguments = rename from to arguments
 change_of (w.Copy name rule) current found arguments = copy name found arguments

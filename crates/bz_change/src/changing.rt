@@ -3,7 +3,8 @@ ghost use Rattle.std.specs.Prelude.{◌≡◌, ◌⊎◌, Ok, Err, OnOk, IfErr};
 ghost use Rattle.std.specs.Option.{option_copied};
 ghost use Rattle.bz_change.specs.Changes.{change_of};
 
-use crate::listed::{add, move_values, remove_values, replace};
+use crate::listed::{add, move_values, remove_values};
+use crate::replacing::{replace, substitute};
 use crate::whole::{copy, copy_no_overwrite, remove, rename, set, set_if_absent};
 use bz_attribute::Refusal;
 use bz_items::Items;
@@ -64,6 +65,18 @@ pub fn change_arguments(
             attributes,
             old.as_slice(),
             new.as_slice(),
+            arguments,
+        ),
+        Operation::Substitute {
+            attributes,
+            pattern,
+            template,
+        } => substitute(
+            alloc,
+            current,
+            attributes,
+            pattern,
+            template.as_slice(),
             arguments,
         ),
         Operation::Move { from, to, values } => move_values(

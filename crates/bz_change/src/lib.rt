@@ -6,6 +6,7 @@ mod changing;
 mod known;
 mod laws;
 mod listed;
+mod replacing;
 mod settings;
 mod whole;
 

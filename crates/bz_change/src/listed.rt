@@ -4,25 +4,22 @@ ghost use Rattle.std.specs.List.{filter, flat_map};
 ghost use Rattle.bz_tree.specs.declared.kind.Kind.TheVariants as kinds;
 ghost use Rattle.bz_value.specs.declared.value.Expr.{Expr as Value};
 ghost use Rattle.bz_rule.specs.Rules.{attribute as value_there};
-ghost use Rattle.bz_rule.specs.Values.{first_text as first_text_of, parts_of, on_items, on_lists, on_third};
+ghost use Rattle.bz_rule.specs.Values.{on_items, on_lists};
 ghost use Rattle.bz_write.specs.Layout.{is_empty};
-ghost use Rattle.bz_attribute.specs.Attributes.{is_attribute, on_first_that, on_value};
 ghost use Rattle.bz_attribute.specs.Lists.{items_in};
-ghost use Rattle.bz_change.specs.Changes.{add, remove_values, replace, is_moved, move};
+ghost use Rattle.bz_change.specs.Changes.{add, remove_values, is_moved, move};
 ghost use Rattle.bz_change.specs.Listing.{chooses, is_left, listed, put_back, without_chosen, chosen_in};
-ghost use Rattle.bz_change.specs.Replacing.{item_replaced, value_replaced, other_replaced};
 
 use crate::adding::{Added, add_items};
 use crate::known::Chosen;
 use bz_attribute::{
-    Refusal, first_text, has_lists, is_empty_list, is_item, is_no_list, is_other_attribute,
-    remove_first, set_text, set_value, string_text, take_value,
+    Refusal, has_lists, is_empty_list, is_no_list, remove_first, set_value, take_value,
 };
 use bz_items::{Items, Memory, Text};
 use bz_rule::attribute;
 use bz_tree::Kind;
 use bz_value::Expr;
-use bz_words::{Attributes, Values};
+use bz_words::Values;
 use std::alloc::Global;
 use std::mem;
 
@@ -148,209 +145,6 @@ fn take_items(
     Ok(Items::from_vec(taken))
 }
 
-/// A value that becomes another one, in the current package.
-#[derive(Clone, Copy)]
-struct Replacement<'a> {
-    current: &'a [u8],
-    old: &'a [u8],
-    new: &'a [u8],
-}
-
-/// The item becomes the new value, where it is the old one.
-fn replace_item(
-    alloc: Global,
-    change: Replacement<'_>,
-    name: &[u8],
-    x: &mut Expr,
-) -> Result<(), Memory>
-    ensures { OnOk result (x.new ≡ item_replaced change.entry name.now x.old) }
-{
-    if !is_item(change.current, name, change.old, x) {
-        return Ok(());
-    }
-    let text = string_text(alloc, change.current, name, change.new)?;
-    set_text(text, x);
-    Ok(())
-}
-
-/// The same of each of the items.
-fn replace_items(
-    alloc: Global,
-    change: Replacement<'_>,
-    name: &[u8],
-    items: &mut Items<Expr>,
-) -> Result<(), Memory>
-    ensures { OnOk result (items.new ≡ map (item_replaced change.entry name.now) items.old) }
-{
-    let mut all = mem::replace(items, Items::new(alloc)).into_vec();
-    for x in all.iter_mut() {
-        replace_item(alloc, change, name, x)?;
-    }
-    *items = Items::from_vec(all);
-    Ok(())
-}
-
-/// The same of the items of a list; any other expression stays.
-fn replace_in_list(
-    alloc: Global,
-    change: Replacement<'_>,
-    name: &[u8],
-    x: &mut Expr,
-) -> Result<(), Memory>
-    ensures { OnOk result (x.new ≡ on_items kinds.List (map (item_replaced change.entry name.now)) x.old) }
-{
-    match x {
-        Expr::Token(_) => Ok(()),
-        Expr::Form(form) => {
-            if form.kind == Kind::List {
-                replace_items(alloc, change, name, &mut form.seq.items)?;
-            }
-            Ok(())
-        }
-    }
-}
-
-/// The same of the lists among the operands of a sum.
-fn replace_in_operands(
-    alloc: Global,
-    change: Replacement<'_>,
-    name: &[u8],
-    operands: &mut Items<Expr>,
-) -> Result<(), Memory>
-    ensures { OnOk result (operands.new ≡ map (on_items kinds.List (map (item_replaced change.entry name.now))) operands.old) }
-{
-    let mut all = mem::replace(operands, Items::new(alloc)).into_vec();
-    for x in all.iter_mut() {
-        replace_in_list(alloc, change, name, x)?;
-    }
-    *operands = Items::from_vec(all);
-    Ok(())
-}
-
-/// The same of the lists of a value.
-fn replace_in_lists(
-    alloc: Global,
-    change: Replacement<'_>,
-    name: &[u8],
-    value: &mut Expr,
-) -> Result<(), Memory>
-    ensures { OnOk result (value.new ≡ on_lists (map (item_replaced change.entry name.now)) value.old) }
-{
-    match value {
-        Expr::Token(_) => Ok(()),
-        Expr::Form(form) => {
-            if form.kind == Kind::Sum {
-                replace_in_operands(alloc, change, name, &mut form.parts)?;
-            } else if form.kind == Kind::List {
-                replace_items(alloc, change, name, &mut form.seq.items)?;
-            }
-            Ok(())
-        }
-    }
-}
-
-/// The same of a value and of its lists.
-fn replace_value(
-    alloc: Global,
-    change: Replacement<'_>,
-    name: &[u8],
-    value: &mut Expr,
-) -> Result<(), Memory>
-    ensures { OnOk result (value.new ≡ value_replaced change.entry name.now value.old) }
-{
-    replace_item(alloc, change, name, value)?;
-    replace_in_lists(alloc, change, name, value)?;
-    Ok(())
-}
-
-/// The same of the value behind a name and a sign.
-fn replace_third(
-    alloc: Global,
-    change: Replacement<'_>,
-    name: &[u8],
-    parts: &mut Items<Expr>,
-) -> Result<(), Memory>
-    ensures { OnOk result (parts.new ≡ on_third (value_replaced change.entry name.now) parts.old) }
-{
-    let mut all = mem::replace(parts, Items::new(alloc)).into_vec();
-    if let Some(value) = all.get_mut(2) {
-        replace_value(alloc, change, name, value)?;
-    }
-    *parts = Items::from_vec(all);
-    Ok(())
-}
-
-/// The same in the attribute that has this name and this value.
-fn replace_in_parts(
-    alloc: Global,
-    change: Replacement<'_>,
-    parts: &mut Items<Expr>,
-) -> Result<(), Memory>
-    ensures { OnOk result (parts.new ≡ on_third (value_replaced change.entry (first_text_of parts.old)) parts.old) }
-{
-    let name = Text::from_slice(alloc, first_text(parts.as_slice()))?;
-    replace_third(alloc, change, name.as_slice(), parts)?;
-    Ok(())
-}
-
-/// The same of the value of a named argument; any other argument stays.
-fn replace_in_argument(alloc: Global, change: Replacement<'_>, x: &mut Expr) -> Result<(), Memory>
-    ensures { OnOk result (x.new ≡ on_value (value_replaced change.entry (first_text_of (parts_of x.old))) x.old) }
-{
-    match x {
-        Expr::Token(_) => Ok(()),
-        Expr::Form(form) => {
-            if form.kind == Kind::Named {
-                replace_in_parts(alloc, change, &mut form.parts)?;
-            }
-            Ok(())
-        }
-    }
-}
-
-/// The same of an attribute that `*` means; any other argument stays.
-fn replace_in_other(alloc: Global, change: Replacement<'_>, x: &mut Expr) -> Result<(), Memory>
-    ensures { OnOk result (x.new ≡ other_replaced change.entry x.old) }
-{
-    if is_other_attribute(x) {
-        replace_in_argument(alloc, change, x)?;
-    }
-    Ok(())
-}
-
-/// The same of all attributes that `*` means.
-fn replace_in_all(
-    alloc: Global,
-    change: Replacement<'_>,
-    arguments: &mut Items<Expr>,
-) -> Result<(), Memory>
-    ensures { OnOk result (arguments.new ≡ map (other_replaced change.entry) arguments.old) }
-{
-    let mut all = mem::replace(arguments, Items::new(alloc)).into_vec();
-    for x in all.iter_mut() {
-        replace_in_other(alloc, change, x)?;
-    }
-    *arguments = Items::from_vec(all);
-    Ok(())
-}
-
-/// The same of the first attribute of the name.
-fn replace_in_named(
-    alloc: Global,
-    change: Replacement<'_>,
-    name: &[u8],
-    arguments: &mut Items<Expr>,
-) -> Result<(), Memory>
-    ensures { OnOk result (arguments.new ≡ on_first_that (is_attribute name.now) (on_value (value_replaced change.entry name.now)) arguments.old) }
-{
-    let Some(mut value) = take_value(alloc, name, arguments) else {
-        return Ok(());
-    };
-    replace_value(alloc, change, name, &mut value)?;
-    set_value(alloc, name, value, arguments);
-    Ok(())
-}
-
 /// Words that are no items of the attribute's lists become items at the end of the first one.
 pub(crate) fn add(
     alloc: Global,
@@ -384,26 +178,6 @@ pub(crate) fn remove_values(
     }
     let chosen = Chosen::of_words(alloc, current, name, words)?;
     let _gone = take_items(alloc, name, &chosen, arguments)?;
-    Ok(())
-}
-
-/// A value becomes another one, in lists or alone.
-pub(crate) fn replace(
-    alloc: Global,
-    current: &[u8],
-    attributes: &Attributes,
-    old: &[u8],
-    new: &[u8],
-    arguments: &mut Items<Expr>,
-) -> Result<(), Refusal>
-    ensures ok { OnOk result (replace current.now attributes.now old.now new.now arguments.old ≡ Ok arguments.new) }
-    ensures err { IfErr result (λ refusal. (replace current.now attributes.now old.now new.now arguments.old ≡ Err refusal) ⊎ (refusal ≡ Refusal.Memory)) }
-{
-    let change = Replacement { current, old, new };
-    match attributes {
-        Attributes::All => replace_in_all(alloc, change, arguments)?,
-        Attributes::Named(name) => replace_in_named(alloc, change, name.as_slice(), arguments)?,
-    }
     Ok(())
 }
 

@@ -1,8 +1,8 @@
 -- Commands that take nothing away lose no comment.
 use Rattle.std.proofs.Common.{◌≡◌, ◌≤◌, ℕ, Bool, true, false, not, List, [], ◌∷◌, Option, Some, None, Result, Ok, Err, refl, sym, ap, ◌∙◌, subst, map, true≢false}
-use Rattle.std.specs.Prelude.{if◌then◌else◌, is_some, IfOk, option_map}
+use Rattle.std.specs.Prelude.{if◌then◌else◌, is_some, IfOk, option_map, bytes_eq}
 use Rattle.std.specs.List.{list_any}
-use Rattle.std.specs.Option.{option_and_then}
+use Rattle.std.specs.Option.{option_and_then, option_map_or}
 use Rattle.bz_tree.specs.declared.kind.Kind.TheVariants as k
 use Rattle.bz_tree.specs.Shapes.{is_kind}
 use Rattle.bz_label.specs.declared.target.Target.{Target}
@@ -12,6 +12,7 @@ use Rattle.bz_value.specs.declared.value.Item.{Item}
 use Rattle.bz_value.specs.declared.value.Item.TheVariants as i
 use Rattle.bz_value.specs.Counted.{total, amount, item_amount, one_if}
 use Rattle.bz_value.specs.Gaps.{Bytes}
+use Rattle.bz_pattern.specs.Patterns.{substituted}
 use Rattle.bz_words.specs.declared.command.Operation.{Operation}
 use Rattle.bz_words.specs.declared.command.Operation.TheVariants as w
 use Rattle.bz_words.specs.declared.command.Place.{Place}
@@ -25,7 +26,7 @@ use Rattle.bz_attribute.specs.declared.refusal.Refusal.{Refusal}
 use Rattle.bz_attribute.specs.declared.refusal.Refusal.TheVariants.{NoTarget, NoAttribute, AttributeExists, NotAList, NoSource, NameTaken}
 use Rattle.bz_attribute.specs.Attributes.{is_attribute, has_attribute, is_other_attribute, on_first_that, on_value, with_value, with_new, put}
 use Rattle.bz_attribute.specs.Attributes.{Arguments}
-use Rattle.bz_change.specs.Changes.{value_of, setting, is_set, set, set_if_absent, with_items_added, add, replaced_item, replaced, replace, rename, copy, copy_no_overwrite}
+use Rattle.bz_change.specs.Changes.{value_of, setting, is_set, set, set_if_absent, with_items_added, add, in_value, in_attributes, replaced_item, replace, with_body, substituted_item, substitute, rename, copy, copy_no_overwrite}
 use Rattle.bz_command.specs.Effect.{NewItem, with_arguments, made_of, on_rule, on_arguments, behind_item, on_meant, before_first, behind_first, placed, has_place, with_rule, source_of, on_rules, lacks_rules, kept, on_statement, effect}
 use Rattle.bz_words.specs.declared.command.Host.{Host}
 use Rattle.bz_words.specs.declared.command.Host.TheVariants.{Rule, Attribute, Item as ItemHost}
@@ -37,7 +38,7 @@ use Rattle.bz_comment.specs.Hosts.{with_comment, comment}
 use Rattle.bz_comment.proofs.LawKeeping.{own_grows, comment_grows}
 use Rattle.bz_command.specs.Printing.{printed_rules}
 use Rattle.bz_command.specs.Laws.{keeps_comments, CommentsStay}
-use Rattle.bz_attribute.specs.Lists.{has_lists, items_in, is_no_list, with_more, is_item}
+use Rattle.bz_attribute.specs.Lists.{has_lists, items_in, is_no_list, with_more, body_of, is_item}
 use Rattle.bz_attribute.specs.Made.{list_of, string_text, plus, argument_of, rule_made}
 use Rattle.bz_command.specs.Targets.{meant, may_mean_none}
 use Rattle.bz_attribute.proofs.AttributesAgain.{by_absent, of_found}
@@ -85,11 +86,19 @@ module _ (number : Bytes → ℕ) where
   item_replaced_grows current name old new x =
       by_test (λ (y : Expr). whole x ≤ whole y) (is_item current name old x) (with_text (string_text current name new) x) x (text_grows number (string_text current name new) x) (itself (whole x))
 
-  replaced_grows : (current name : Bytes) (old new : Bytes) → Grows whole (replaced current name old new)
-  replaced_grows current name old new x =
-      let change : Expr → Expr = replaced_item current name old new in
-      let g : Grows whole change = item_replaced_grows current name old new in
-      in_turn (whole x) (whole (change x)) (whole (replaced current name old new x)) (g x) (on_lists_grows number (map change) (map_grows whole change g) (change x))
+  text_substituted : (current name pattern template : Bytes) (x : Expr) (found : Option Bytes)
+      → whole x ≤ whole (option_map_or (λ inside. with_body current name inside (substituted pattern template inside) x) found x)
+  text_substituted current name pattern template x None = itself (whole x)
+  text_substituted current name pattern template x (Some inside) =
+      let new : Bytes = substituted pattern template inside in
+      by_test (λ (y : Expr). whole x ≤ whole y) (bytes_eq new inside) x (with_text (string_text current name new) x) (itself (whole x)) (text_grows number (string_text current name new) x)
+
+  item_substituted_grows : (current name pattern template : Bytes) → Grows whole (substituted_item current name pattern template)
+  item_substituted_grows current name pattern template x = text_substituted current name pattern template x (body_of x)
+
+  in_value_grows : (change : Expr → Expr) → Grows whole change → Grows whole (in_value change)
+  in_value_grows change g x =
+      in_turn (whole x) (whole (change x)) (whole (in_value change x)) (g x) (on_lists_grows number (map change) (map_grows whole change g) (change x))
 
   -- ---- commands on arguments
 
@@ -113,14 +122,21 @@ module _ (number : Bytes → ℕ) where
       (by_test (Grown number xs) (is_no_list value) (Err NotAList) (Ok (with_value name (plus value (list_of (added []))) xs)) tt
       (with_value_grows number name value (plus value (list_of (added []))) xs e (plus_grows number (list_of (added [])) value))))
 
-  replace_keeps : (current : Bytes) (attributes : Attributes) (old new : Bytes) → Keeps (replace current attributes old new)
-  replace_keeps current t.All old new xs =
-      map_grows whole (λ x. if is_other_attribute x then on_value (replaced current (first_text (parts_of x)) old new) x else x)
-      (λ x. by_test (λ (y : Expr). whole x ≤ whole y) (is_other_attribute x) (on_value (replaced current (first_text (parts_of x)) old new) x) x
-      (on_value_grows number (replaced current (first_text (parts_of x)) old new) (replaced_grows current (first_text (parts_of x)) old new) x) (itself (whole x)))
+  in_attributes_keeps : (attributes : Attributes) (change : Bytes → Expr → Expr) → ((name : Bytes) → Grows whole (change name)) → Keeps (λ xs. Ok (in_attributes attributes (λ name. in_value (change name)) xs))
+  in_attributes_keeps t.All change g xs =
+      map_grows whole (λ x. if is_other_attribute x then on_value (in_value (change (first_text (parts_of x)))) x else x)
+      (λ x. by_test (λ (y : Expr). whole x ≤ whole y) (is_other_attribute x) (on_value (in_value (change (first_text (parts_of x)))) x) x
+      (on_value_grows number (in_value (change (first_text (parts_of x)))) (in_value_grows (change (first_text (parts_of x))) (g (first_text (parts_of x)))) x) (itself (whole x)))
       xs
-  replace_keeps current (t.Named name) old new xs =
-      first_that_grows whole (is_attribute name) (on_value (replaced current name old new)) (on_value_grows number (replaced current name old new) (replaced_grows current name old new)) xs
+  in_attributes_keeps (t.Named name) change g xs =
+      first_that_grows whole (is_attribute name) (on_value (in_value (change name))) (on_value_grows number (in_value (change name)) (in_value_grows (change name) (g name))) xs
+
+  replace_keeps : (current : Bytes) (attributes : Attributes) (old new : Bytes) → Keeps (replace current attributes old new)
+  replace_keeps current attributes old new = in_attributes_keeps attributes (λ name. replaced_item current name old new) (λ name. item_replaced_grows current name old new)
+
+  substitute_keeps : (current : Bytes) (attributes : Attributes) (pattern template : Bytes) → Keeps (substitute current attributes pattern template)
+  substitute_keeps current attributes pattern template =
+      in_attributes_keeps attributes (λ name. substituted_item current name pattern template) (λ name. item_substituted_grows current name pattern template)
 
   rename_keeps : (from to : Bytes) → Keeps (rename from to)
   rename_keeps from to xs =
@@ -234,6 +250,8 @@ module _ (number : Bytes → ℕ) where
       meant_keeps (on_arguments (add current name words)) (arguments_keep (add current name words) (added_keeps name (strings_for current name words))) marks items
   rules_keep (w.Replace attributes old new) current marks items h =
       meant_keeps (on_arguments (replace current attributes old new)) (arguments_keep (replace current attributes old new) (replace_keeps current attributes old new)) marks items
+  rules_keep (w.Substitute attributes pattern template) current marks items h =
+      meant_keeps (on_arguments (substitute current attributes pattern template)) (arguments_keep (substitute current attributes pattern template) (substitute_keeps current attributes pattern template)) marks items
   rules_keep (w.Rename from to) current marks items h =
       meant_keeps (on_arguments (rename from to)) (arguments_keep (rename from to) (rename_keeps from to)) marks items
   rules_keep (w.CopyNoOverwrite name rule) current marks items h =

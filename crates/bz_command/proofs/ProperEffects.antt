@@ -27,7 +27,7 @@ use Rattle.bz_rule.proofs.ProperRules.{RuleItem, rule_item, on_statement}
 use Rattle.bz_attribute.specs.Made.{function_of, rule_made}
 use Rattle.bz_command.specs.Targets.{is_rule, on_line, first_mark, meant, may_mean_none}
 use Rattle.bz_attribute.specs.Attributes.{Arguments}
-use Rattle.bz_change.specs.Changes.{set, set_if_absent, add, remove, remove_values, replace, move, rename, copy, copy_no_overwrite}
+use Rattle.bz_change.specs.Changes.{set, set_if_absent, add, remove, remove_values, replace, substitute, move, rename, copy, copy_no_overwrite}
 use Rattle.bz_words.specs.declared.command.Host.TheVariants as r
 use Rattle.bz_words.specs.Printing.{prints}
 use Rattle.bz_dict.specs.Dicts.{dict_add, dict_set, dict_remove}
@@ -41,7 +41,8 @@ use Rattle.bz_attribute.specs.declared.refusal.Refusal.{Refusal}
 use Rattle.bz_attribute.specs.declared.refusal.Refusal.TheVariants.{NoTarget, NameTaken}
 use Rattle.bz_command.specs.Laws.{EffectsStayProper}
 use Rattle.bz_attribute.proofs.ProperAttributes.{Made, Keeps}
-use Rattle.bz_change.proofs.ProperCommands.{set_keeps, set_if_absent_keeps, add_keeps, remove_keeps, remove_values_keeps, replace_keeps, move_keeps, rename_keeps, copy_keeps, copy_no_overwrite_keeps}
+use Rattle.bz_pattern.proofs.TextMatches.{substituted_utf8}
+use Rattle.bz_change.proofs.ProperCommands.{set_keeps, set_if_absent_keeps, add_keeps, remove_keeps, remove_values_keeps, replace_keeps, substitute_keeps, move_keeps, rename_keeps, copy_keeps, copy_no_overwrite_keeps}
 use Rattle.bz_attribute.proofs.ProperMade.{made_rule, kind_function}
 
 abbrev AreItems : List Item → Type 0
@@ -210,6 +211,8 @@ module _ (current : Bytes) (marks : List Bool) (items : List Item) (m : Marked m
   rules_made (w.Remove attributes) p = by_arguments (remove attributes) (remove_keeps attributes)
   rules_made (w.RemoveValues name words) p = by_arguments (remove_values current name words) (remove_values_keeps current name words)
   rules_made (w.Replace attributes old new) p = by_arguments (replace current attributes old new) (replace_keeps current attributes old new p.2)
+  rules_made (w.Substitute attributes pattern template) p =
+      by_arguments (substitute current attributes pattern template) (substitute_keeps current attributes pattern template (λ text u. substituted_utf8 pattern template text p.1 p.2 u))
   rules_made (w.Move from to values) p = by_arguments (move current from to values) (move_keeps current from to values p.1)
   rules_made (w.Rename from to) p = by_arguments (rename from to) (rename_keeps from to p.1)
   rules_made (w.Copy name rule) p = by_arguments (copy name (source name rule items)) (copy_keeps name (source name rule items) p.0 (source_value name rule items h))

@@ -25,6 +25,7 @@ keeps_comments (w.New kind name place) = true
 keeps_comments (w.SetIfAbsent name words) = true
 keeps_comments (w.Add name words) = true
 keeps_comments (w.Replace attributes old new) = true
+keeps_comments (w.Substitute attributes pattern template) = true
 keeps_comments (w.Rename from to) = true
 keeps_comments (w.CopyNoOverwrite name rule) = true
 keeps_comments (w.DictAdd name entries) = true
