@@ -1,11 +1,12 @@
 -- What a session's command does is what the history says.
-use Rattle.std.proofs.Common.{◌≡◌, ◌≢◌, ◌⊎◌, ◌↔◌, inl, inr, true, ℕ, Result, Ok, Err, List, Option, Some, None, refl, sym, subst, ap, ◌∙◌}
+use Rattle.std.proofs.Common.{◌≡◌, ◌≢◌, ◌⊎◌, ◌↔◌, inl, inr, true, ℕ, Result, Ok, Err, List, Option, Some, None, option_map, refl, sym, subst, ap, ◌∙◌}
 use Rattle.std.specs.Option.{unwrap_or}
 use Rattle.std.specs.Str.{bytes_eq}
 use Rattle.std.proofs.lemmas.Slice.Eq.{bytes_eq-Decides}
 use Rattle.bz_value.specs.Gaps.{Bytes}
 use Rattle.bz_tree.specs.declared.tree.Node.{Node}
 use Rattle.bz_tree.specs.Legal.{Reads}
+use Rattle.bz_tree.specs.Spell.{spell_node}
 use Rattle.bz_tree.specs.Statements.{lines_of}
 use Rattle.bz_label.specs.declared.target.Target.{Target}
 use Rattle.bz_value.specs.declared.value.Item.{Item}
@@ -32,10 +33,12 @@ pub acts_refused : (operation : Operation) (target : Target) (h : History) (curr
 acts_refused operation target h current here refusal own is (inl means) = inl (refuses refusal, meant_there operation target h current here (refuses refusal) own is means, refl)
 acts_refused operation target h current here refusal own is (inr memory) = inr (λ none. none, ap Err memory, refl)
 
--- what a command leaves: a text, or the one that was there
-pub means_left : (operation : Operation) (target : Target) (current here : Bytes) (left other : Option Bytes) (printed : Option Bytes) → left ≡ other
-    → Means operation target current here (gives (unwrap_or left here) printed) → Means operation target current here (gives (unwrap_or other here) printed)
-means_left operation target current here left other printed is = subst (λ (l : Option Bytes). Means operation target current here (gives (unwrap_or l here) printed)) is
+-- what a command leaves: the text of a tree, or the one that was there
+pub means_left : (operation : Operation) (target : Target) (current here : Bytes) (left other : Option Node) (printed : Option Bytes) → left ≡ other
+    → Means operation target current here (gives (unwrap_or (option_map spell_node left) here) printed)
+    → Means operation target current here (gives (unwrap_or (option_map spell_node other) here) printed)
+means_left operation target current here left other printed is =
+    subst (λ (l : Option Node). Means operation target current here (gives (unwrap_or (option_map spell_node l) here) printed)) is
 
 pub acts_same : (operation : Operation) (target : Target) (h : History) (current here : Bytes) (printed : Option Bytes) (reply : Reply) → current ≡ h.package → here ≡ present h
     → Means operation target current here (gives here printed) → reply ≡ unchanged printed → Acts (Do operation target) h (Ok reply) h

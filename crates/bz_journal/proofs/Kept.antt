@@ -1,20 +1,25 @@
 -- What each history of a session keeps.
-use Rattle.std.proofs.Common.{◌≡◌, ◌<◌, ◌+◌, ℕ, List, [], ◌∷◌, ◌++◌, length, take, get_or, sym, subst, arith, length-append, length-take}
+use Rattle.std.proofs.Common.{◌≡◌, ◌≤◌, ◌<◌, ◌+◌, ℕ, List, [], ◌∷◌, ◌++◌, length, take, get_or, sym, subst, arith, length-append, length-take}
 use Rattle.std.specs.List.{All}
+use Rattle.std.proofs.Math.Logic.{∥∥₁_elim, ∥∥₁_map, ∥∥₁_prop}
 use Rattle.std.proofs.lemmas.List.Elements.{All-push, All-take}
 use Rattle.bz_tree.specs.Legal.{Accepted}
 use Rattle.bz_value.specs.Gaps.{Bytes}
-use Rattle.bz_journal.specs.History.{IsKept, most_steps}
+use Rattle.bz_journal.specs.declared.session.Session.{Session}
+use Rattle.bz_journal.specs.History.{IsKept}
+use Rattle.bz_journal.specs.Shown.{history_of}
 
-pub accepted_at : (texts : List Bytes) (n : ℕ) (text other : Bytes) → All Accepted texts → n < length texts → text ≡ get_or texts n other → Accepted text
-accepted_at texts n text other all within is = subst Accepted (sym is) (all n other within)
+pub always_kept : (session : Session) → ∥ IsKept (history_of session) ∥₁
+always_kept session =
+    ∥∥₁_map session.accepted (λ each. record { accepted = each; within = session.within; known = session.known; bounded = session.bounded })
 
-pub kept_changed : (current : Bytes) (texts now : List Bytes) (cursor : ℕ) (text : Bytes) → All Accepted texts → Accepted text → cursor < length texts → cursor < most_steps
-    → now ≡ take (cursor + 1) texts ++ text ∷ [] → IsKept (record { «package» = current; texts = now; cursor = cursor + 1; before = cursor })
-kept_changed current texts now cursor text all accepted within below is =
-    let same : length now ≡ cursor + 2 = rw is (simp (length-append, length-take) (omega arith)) in
-    record {
-      accepted = subst (All Accepted) (sym is) (All-push Accepted (take (cursor + 1) texts) text (All-take Accepted (cursor + 1) texts all) accepted);
-      within = omega arith;
-      bounded = omega arith;
-    }
+pub accepted_at : (texts : List Bytes) (n : ℕ) (text other : Bytes) → ∥ All Accepted texts ∥₁ → n < length texts → text ≡ get_or texts n other → ∥ Accepted text ∥₁
+accepted_at texts n text other all within is = ∥∥₁_map all (λ each. subst Accepted (sym is) (each n other within))
+
+pub accepted_more : (texts now : List Bytes) (n : ℕ) (text : Bytes) → ∥ All Accepted texts ∥₁ → Accepted text → now ≡ take n texts ++ text ∷ [] → ∥ All Accepted now ∥₁
+accepted_more texts now n text all accepted is =
+    ∥∥₁_map all (λ each. subst (All Accepted) (sym is) (All-push Accepted (take n texts) text (All-take Accepted n texts each) accepted))
+
+-- as many texts as were left, and one
+pub length_more : (texts now : List Bytes) (n : ℕ) (text : Bytes) → n ≤ length texts → now ≡ take n texts ++ text ∷ [] → length now ≡ n + 1
+length_more texts now n text within is = rw is (simp (length-append, length-take) (omega arith))

@@ -11,7 +11,7 @@ use Rattle.bz_journal.specs.declared.formatter.FormatFault.{FormatFault}
 use Rattle.bz_journal.specs.declared.formatter.FormatFault.TheVariants.{Unread, Memory}
 
 -- a fault of the text says that it is not accepted
-refused_text : (text : List ℕ) (fault : ReadFault) → (IsOfText fault → NoTree text) → (fault ≡ f.Memory → ⊥) → Accepted text → ⊥
+pub refused_text : (text : List ℕ) (fault : ReadFault) → (IsOfText fault → NoTree text) → (fault ≡ f.Memory → ⊥) → Accepted text → ⊥
 refused_text text f.Memory none memory accepted = memory refl
 refused_text text _ none memory accepted = none tt accepted.0 accepted.1
 

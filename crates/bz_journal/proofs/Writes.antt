@@ -42,10 +42,10 @@ written_too_deep items tidy is h d printed =
     (subst (λ (xs : List Item). length (layout xs) ≤ limit) is h) (subst (λ (xs : List Item). depth_limit < depth_of (drawn xs)) is d)
 
 -- the spelling of the tree that the writer gives
-pub written_spelled : (items tidy : List Item) (tree : Node) (text : Bytes) → tidy ≡ tidied items → tree ≡ drawn tidy → spell_node tree ≡ layout tidy → Reads text tree
-    → (printed : Option Bytes) → written items printed ≡ gives text printed
-written_spelled items tidy tree text tidy_is drawn_is spelled reads printed =
-    let is : layout tidy ≡ text = sym spelled ∙ reads.1 in
+pub written_spelled : (items tidy : List Item) (tree : Node) → tidy ≡ tidied items → tree ≡ drawn tidy → spell_node tree ≡ layout tidy → Reads (spell_node tree) tree
+    → (printed : Option Bytes) → written items printed ≡ gives (spell_node tree) printed
+written_spelled items tidy tree tidy_is drawn_is spelled reads printed =
+    let is : layout tidy ≡ spell_node tree = sym spelled in
     let deep : depth_of (drawn tidy) ≤ depth_limit = subst (λ (t : Node). depth_of t ≤ depth_limit) drawn_is reads.0.depth in
     let long : length (layout tidy) ≤ limit = subst (λ (t : Bytes). length t ≤ limit) (sym is) reads.2 in
     ap (λ (xs : List Item). limited (depth_of (drawn xs)) (layout xs) printed) (sym tidy_is)

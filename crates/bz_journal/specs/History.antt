@@ -29,10 +29,11 @@ opened current text = record { «package» = current; texts = text ∷ []; curso
 abbrev pub most_steps : ℕ
 most_steps = 100000
 
--- Every text is accepted, one is the present one, and there are no more steps than may be.
+-- Every text is accepted, one is the present one and one the one before it, and there are no more steps than may be.
 pub record IsKept (h : History) : Type 0 where
   pub accepted : All Accepted h.texts
   pub within : h.cursor < length h.texts
+  pub known : h.before < length h.texts
   pub bounded : length h.texts ≤ most_steps + 1
 
 -- ---- one action: what is answered, and the history after it
@@ -86,13 +87,6 @@ TakesNone (Redo n) h = (n ≡ 0) ⊎ (length h.texts ≤ h.cursor + n)
 -- Memory may be refused to an action that takes some, and then nothing changes.
 abbrev pub Acts : Action → History → Answer → History → Type 0
 Acts action h answer after = Leads action h answer after ⊎ ((TakesNone action h → ⊥) × (answer ≡ Err Memory) × (after ≡ h))
-
--- An action that only moves the cursor takes no memory.
-abbrev pub IsMove : Action → Type 0
-IsMove (Do command target) = ⊥
-IsMove Format = ⊥
-IsMove (Undo n) = Unit {0}
-IsMove (Redo n) = Unit {0}
 
 abbrev pub IsFormat : Action → Type 0
 IsFormat (Do command target) = ⊥

@@ -4,7 +4,7 @@ ghost use Rattle.bz_journal.specs.Faults.{FormatsTo};
 ghost use Rattle.bz_journal.specs.Fixed.{IsFormatted};
 
 use crate::laws::formatted_once;
-use crate::meaning::written;
+use crate::meaning::{spelled, written};
 use bz_attribute::Refusal;
 use bz_items::Text;
 use bz_tree::{ReadFault, parse};
@@ -53,10 +53,14 @@ pub fn format(alloc: Global, text: &[u8]) -> Result<Text, FormatFault>
         return Err(FormatFault::Memory);
     };
     formatted_once();
-    match written(alloc, value) {
+    let drawn = match written(alloc, value) {
+        Ok(drawn) => drawn,
+        Err(Refusal::TooLarge) => return Err(FormatFault::TooLarge),
+        Err(Refusal::TooDeep) => return Err(FormatFault::TooDeep),
+        Err(_) => return Err(FormatFault::Memory),
+    };
+    match spelled(alloc, &drawn) {
         Ok(formatted) => Ok(formatted),
-        Err(Refusal::TooLarge) => Err(FormatFault::TooLarge),
-        Err(Refusal::TooDeep) => Err(FormatFault::TooDeep),
         Err(_) => Err(FormatFault::Memory),
     }
 }

@@ -1,8 +1,11 @@
 //! Facts about the definitions, for readers: the functions do nothing.
 
 ghost use Rattle.bz_journal.specs.Fixed.{FixedPoint};
+ghost use Rattle.bz_journal.specs.History.{IsKept};
+ghost use Rattle.bz_journal.specs.Shown.{history_of};
 ghost use Rattle.bz_journal.specs.Worked.{WorkedHistories};
 
+use crate::session::Session;
 use bz_tidy::{comments_stay, proper_stays, tidy_settles, tidy_stays};
 use bz_view::comments_kept;
 use bz_write::{layout_is_accepted, layout_reads_back};
@@ -11,6 +14,14 @@ use bz_write::{layout_is_accepted, layout_reads_back};
 pub fn worked_histories()
     ensures { WorkedHistories }
 {}
+
+/// What the history of each session keeps.
+#[tactic(auto, using(crate::proofs::Kept::always_kept))]
+pub fn history_kept(session: &Session)
+    ensures { ∥ IsKept (history_of session.now) ∥₁ }
+{
+    let _session = session;
+}
 
 /// A formatted text is formatted to itself, its value is that of the text it was made of, tidied, and each comment stands
 /// in it as often as in that text.

@@ -10,5 +10,5 @@ mod session;
 
 pub use action::{Action, Reply};
 pub use formatter::{FormatFault, format};
-pub use laws::{formatted_once, worked_histories};
+pub use laws::{formatted_once, history_kept, worked_histories};
 pub use session::Session;

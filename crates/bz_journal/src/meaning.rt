@@ -1,4 +1,4 @@
-ghost use Rattle.std.specs.Prelude.{◌≡◌, ◌⊎◌, Option, None, Ok, IfOk, IfErr, IfSome};
+ghost use Rattle.std.specs.Prelude.{◌≡◌, ◌⊎◌, Option, None, Ok, IfOk, IfErr, option_map};
 ghost use Rattle.bz_value.specs.Gaps.{Bytes};
 ghost use Rattle.std.specs.Option.{unwrap_or};
 ghost use Rattle.bz_tree.specs.Legal.{Reads, Accepted};
@@ -18,53 +18,65 @@ use bz_words::Command;
 use bz_write::{SetFault, set};
 use std::alloc::Global;
 
-/// What a command makes of a text: a new one, or none where the file is unchanged; and what it prints, where it prints.
+/// What a command makes of a text: the tree of a new one, or none where the file is unchanged; and what it prints, where it
+/// prints.
 #[derive(Drop)]
 pub(crate) struct Meant {
-    pub(crate) text: Option<Text>,
+    pub(crate) tree: Option<Tree>,
     pub(crate) printed: Option<Text>,
 }
 
 /// The tree that a text of the session reads as.
 fn read(alloc: Global, text: &[u8]) -> Result<Tree, Refusal>
-    requires { Accepted text.now }
+    requires { ∥ Accepted text.now ∥₁ }
     ensures ok { IfOk result (λ tree. Reads text.now tree) }
     ensures err { IfErr result (λ refusal. refusal ≡ Refusal.Memory) }
 {
     match parse(alloc, text) {
         Ok(tree) => Ok(tree),
-        Err(ReadFault::Memory) => Err(Refusal::Memory),
-        Err(_) => unreachable!(),
+        Err(fault) => match fault {
+            ReadFault::Memory => Err(Refusal::Memory),
+            _ => unreachable!(),
+        },
     }
 }
 
-/// The text of a tree, which reads as it.
-fn spelled(alloc: Global, tree: &Tree) -> Result<Text, Memory>
-    ensures { IfOk result (λ text. (text ≡ spell_node tree.now) × Reads text tree.now) }
+/// What a tree spells reads as it.
+fn reads_back(tree: &Tree)
+    ensures { Reads (spell_node tree.now) tree.now }
 {
     let _root = &tree.root;
+}
+
+/// The text of a tree.
+pub(crate) fn spelled(alloc: Global, tree: &Tree) -> Result<Text, Memory>
+    ensures text { IfOk result (λ text. text ≡ spell_node tree.now) }
+    ensures accepted { IfOk result Accepted }
+{
+    reads_back(tree);
     let mut text = Vec::new(alloc);
     tree.spell_into(&mut text)?;
     Ok(Text::from_vec(text))
 }
 
-/// The text of a new value: the layout of it tidied.
+/// The tree of a new value: it spells the layout of the value tidied.
 #[tactic(auto, using(crate::proofs::Writes::written_too_large, crate::proofs::Writes::written_too_deep, crate::proofs::Writes::written_spelled))]
-pub(crate) fn written(alloc: Global, file: File) -> Result<Text, Refusal>
-    ensures ok { IfOk result (λ text. (printed : Option Bytes) → written file printed ≡ gives text printed) }
-    ensures accepted { IfOk result Accepted }
+pub(crate) fn written(alloc: Global, file: File) -> Result<Tree, Refusal>
+    ensures ok { IfOk result (λ tree. (printed : Option Bytes) → written file printed ≡ gives (spell_node tree) printed) }
     ensures err { IfErr result (λ refusal. ((printed : Option Bytes) → written file printed ≡ refuses refusal) ⊎ (refusal ≡ Refusal.Memory)) }
 {
     let tidied = tidy(alloc, file)?;
     let drawn = set(alloc, &tidied);
     take_apart(tidied);
-    let tree = match drawn {
-        Ok(tree) => tree,
-        Err(SetFault::Memory) => return Err(Refusal::Memory),
-        Err(SetFault::TooLarge) => return Err(Refusal::TooLarge),
-        Err(SetFault::TooDeep) => return Err(Refusal::TooDeep),
-    };
-    Ok(spelled(alloc, &tree)?)
+    match drawn {
+        Ok(tree) => {
+            reads_back(&tree);
+            Ok(tree)
+        }
+        Err(SetFault::Memory) => Err(Refusal::Memory),
+        Err(SetFault::TooLarge) => Err(Refusal::TooLarge),
+        Err(SetFault::TooDeep) => Err(Refusal::TooDeep),
+    }
 }
 
 /// What is answered beside the text: of a command that prints, what it prints.
@@ -86,9 +98,9 @@ pub(crate) fn meaning(
     current: &[u8],
     text: &[u8],
 ) -> Result<Meant, Refusal>
-    requires { Accepted text.now }
-    ensures ok { IfOk result (λ meant. Means command.now target.now current.now text.now (gives (unwrap_or meant.text text.now) meant.printed)) }
-    ensures accepted { IfOk result (λ meant. IfSome meant.text Accepted) }
+    requires { ∥ Accepted text.now ∥₁ }
+    ensures ok { IfOk result (λ meant. Means command.now target.now current.now text.now
+        (gives (unwrap_or (option_map spell_node meant.tree) text.now) meant.printed)) }
     ensures err { IfErr result (λ refusal. Means command.now target.now current.now text.now (refuses refusal) ⊎ (refusal ≡ Refusal.Memory)) }
 {
     let tree = read(alloc, text)?;
@@ -98,12 +110,12 @@ pub(crate) fn meaning(
     let printed = told(command, printed);
     match file {
         None => Ok(Meant {
-            text: None,
+            tree: None,
             printed,
         }),
         Some(file) => match written(alloc, file) {
-            Ok(text) => Ok(Meant {
-                text: Some(text),
+            Ok(new) => Ok(Meant {
+                tree: Some(new),
                 printed,
             }),
             Err(refusal) => Err(refusal),
@@ -111,11 +123,10 @@ pub(crate) fn meaning(
     }
 }
 
-/// The formatted text of a text of the session.
-pub(crate) fn formatted(alloc: Global, text: &[u8]) -> Result<Text, Refusal>
-    requires { Accepted text.now }
-    ensures ok { IfOk result (λ new. Formats text.now (gives new None)) }
-    ensures accepted { IfOk result Accepted }
+/// The tree of the formatted text of a text of the session.
+pub(crate) fn formatted(alloc: Global, text: &[u8]) -> Result<Tree, Refusal>
+    requires { ∥ Accepted text.now ∥₁ }
+    ensures ok { IfOk result (λ new. Formats text.now (gives (spell_node new) None)) }
     ensures err { IfErr result (λ refusal. Formats text.now (refuses refusal) ⊎ (refusal ≡ Refusal.Memory)) }
 {
     let tree = read(alloc, text)?;

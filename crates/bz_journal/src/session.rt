@@ -1,53 +1,53 @@
 ghost use Rattle.std.specs.Prelude.{◌≡◌, ◌≤◌, ◌<◌, ◌+◌, ◌++◌, ◌↔◌, ◌⊎◌, [], ◌∷◌, take, vec_len, vec_capacity, Err, ℕ, List, IfOk, IfErr, OnOk, OnErr, IsOk, length, Result};
-ghost use Rattle.bz_tree.specs.Spell.{limit};
+ghost use Rattle.std.specs.List.{All};
+ghost use Rattle.bz_tree.specs.Spell.{limit, spell_node};
 ghost use Rattle.std.specs.Str.{IsValidUpTo};
 ghost use Rattle.bz_tree.specs.Legal.{Accepted};
 ghost use Rattle.bz_tree.specs.Faults.{IsOfText};
 ghost use Rattle.bz_attribute.specs.declared.refusal.Refusal.{Refusal};
 ghost use Rattle.bz_journal.specs.declared.action.Reply.{Reply};
 ghost use Rattle.bz_journal.specs.declared.action.Action.{Action};
-ghost use Rattle.bz_journal.specs.History.{History, present, opened, after_text, undone, redone, unchanged, IsMove, IsFormat, Leads, Acts, Runs};
+ghost use Rattle.bz_journal.specs.History.{present, opened, after_text, undone, redone, unchanged, most_steps, IsFormat, Acts, Runs};
 ghost use Rattle.bz_journal.specs.Fixed.{IsFormatted};
 
 use crate::action::{Action, Reply};
 use crate::laws::formatted_once;
-use crate::meaning::{Meant, formatted, meaning};
+use crate::meaning::{Meant, formatted, meaning, spelled};
 use bz_attribute::Refusal;
 use bz_items::{Memory, Text};
 use bz_label::Target;
-use bz_tree::{ReadFault, parse};
+use bz_tree::{ReadFault, Tree, parse};
 use bz_words::Command;
 use std::alloc::Global;
-use std::marker::Model;
 
 const MOST_STEPS: u32 = 100_000;
 
-/// The texts of a BUILD file of a package, one after another, and the place in them. Contracts see it as its history.
+/// The texts of a BUILD file of a package, one after another, and the place in them. Contracts speak of its history alone.
 #[derive(Drop)]
 pub struct Session {
-    package: Text,
-    texts: Vec<Text>,
-    cursor: u32,
-    before: u32,
-}
-
-impl Model for Session {
-    ghost use Rattle.bz_journal.specs.History.{History, IsKept};
-
-    ghost Value = { History };
-
-    ghost view = { λ session. record { «package» = session.«package»; texts = session.texts.items; cursor = session.cursor; before = session.before } };
-
-    ghost invariant = { λ session. IsKept (record { «package» = session.«package»; texts = session.texts.items; cursor = session.cursor; before = session.before }) };
+    /// The path of the file's package.
+    pub package: Text,
+    /// The texts in the order in which they came.
+    pub texts: Vec<Text>,
+    /// The number of the present one, from 0.
+    pub cursor: u32,
+    /// The number of the one that was present before it.
+    pub before: u32,
+    pub ghost accepted: { ∥ All Accepted texts.items ∥₁ },
+    pub ghost within: { cursor < length texts.items },
+    pub ghost known: { before < length texts.items },
+    pub ghost bounded: { length texts.items ≤ most_steps + 1 },
 }
 
 impl Session {
+    ghost use Rattle.bz_journal.specs.Shown.{history_of};
+
     /// A session at the first text of a file of the package with this path, which has at most 65,536 bytes. Errors: those
     /// of reading the text: `TooLarge` past 4,194,304 bytes; `NotUtf8` with the length of the longest beginning that is
     /// UTF-8; a fault with line and column where the text reads as no tree; `Memory` where a growth was refused.
     pub fn open(alloc: Global, package: &str, text: &[u8]) -> Result<Session, ReadFault>
         requires { length «package».now ≤ 65536 }
-        ensures ok { IfOk result (λ session. session ≡ opened «package».now text.now) }
+        ensures ok { IfOk result (λ session. history_of session ≡ opened «package».now text.now) }
         ensures accepted { OnOk result (Accepted text.now) }
         ensures too_large { (result ≡ Err ReadFault.TooLarge) ↔ (limit < length text.now) }
         ensures not_utf8 { (at : ℕ) → ((result ≡ Err (ReadFault.NotUtf8 at)) ↔ ((length text.now ≤ limit) × IsValidUpTo text.now at)) }
@@ -57,29 +57,44 @@ impl Session {
             Ok(tree) => tree,
             Err(fault) => return Err(fault),
         };
-        match first(alloc, package, text) {
+        match Session::first(alloc, package, text) {
             Ok(session) => Ok(session),
             Err(_) => Err(ReadFault::Memory),
         }
     }
 
+    /// A session at the first text of a file of the package with this path.
+    fn first(alloc: Global, package: &str, text: &[u8]) -> Result<Session, Memory>
+        requires { Accepted text.now }
+        ensures { IfOk result (λ session. history_of session ≡ opened «package».now text.now) }
+    {
+        let package = Text::from_slice(alloc, package.as_bytes())?;
+        let texts = one(alloc, text)?;
+        Ok(Session {
+            package,
+            texts,
+            cursor: 0,
+            before: 0,
+        })
+    }
+
     /// The number of the present text; the first is 0.
     pub fn cursor(&self) -> u32
-        ensures { result ≡ self.now.cursor }
+        ensures { result ≡ (history_of self.now).cursor }
     {
         self.cursor // from 0
     }
 
     /// How many steps there are between the first text and the last.
     pub fn steps(&self) -> u32
-        ensures { result + 1 ≡ length self.now.texts }
+        ensures { result + 1 ≡ length (history_of self.now).texts }
     {
         (self.texts.len() - 1) as u32
     }
 
     /// Appends the present text to `out`. The error: a growth was refused; `out` is then as before.
     pub fn text_into(&self, out: &mut Vec<u8>) -> Result<(), Memory>
-        ensures ok { OnOk result (out.new.items ≡ out.old.items ++ present self.now) }
+        ensures ok { OnOk result (out.new.items ≡ out.old.items ++ present (history_of self.now)) }
         ensures err { OnErr result (out.new.items ≡ out.old.items) }
     {
         out.extend_from_slice(self.present())
@@ -90,10 +105,9 @@ impl Session {
     /// formatting would change the present text, which is 100,000 steps from the first; `Memory`: a growth was refused,
     /// never at undo and redo. Behind formatting the present text is formatted: to format it once more leaves it as it is.
     pub fn act(&mut self, action: &Action) -> Result<Reply, Refusal>
-        ensures acts { Acts action.now self.old result self.new }
-        ensures moves { IsMove action.now → Leads action.now self.old result self.new }
-        ensures formatted { OnOk result (IsFormat action.now → IsFormatted (present self.old) (present self.new)) }
-        ensures err { OnErr result (self.new ≡ self.old) }
+        ensures acts { Acts action.now (history_of self.old) result (history_of self.new) }
+        ensures formatted { OnOk result (IsFormat action.now → IsFormatted (present (history_of self.old)) (present (history_of self.new))) }
+        ensures err { OnErr result (history_of self.new ≡ history_of self.old) }
     {
         match action {
             Action::Do(command, target) => self.edit(command, target),
@@ -105,8 +119,8 @@ impl Session {
 
     /// The present text.
     fn present(&self) -> &[u8]
-        ensures text { result.now ≡ present self.now }
-        ensures accepted { Accepted result.now }
+        ensures text { result.now ≡ present (history_of self.now) }
+        ensures accepted { ∥ Accepted result.now ∥₁ }
     {
         self.texts[self.cursor as usize].as_slice()
     }
@@ -114,7 +128,8 @@ impl Session {
     /// Puts a text behind the present one; where it is the same one, tells what is printed.
     fn push(&mut self, text: Text, printed: Option<Text>) -> Result<Reply, Refusal>
         requires { Accepted text }
-        ensures acts { ((result, self.new) ≡ after_text self.old text printed) ⊎ ((result ≡ Err Refusal.Memory) × (self.new ≡ self.old)) }
+        ensures acts { ((result, history_of self.new) ≡ after_text (history_of self.old) text printed)
+            ⊎ ((result ≡ Err Refusal.Memory) × (history_of self.new ≡ history_of self.old)) }
     {
         if text.as_slice() == self.present() {
             return Ok(unchanged(printed));
@@ -129,13 +144,25 @@ impl Session {
         Ok(Reply::Changed)
     }
 
-    /// Does a command on the present text.
-    fn edit(&mut self, command: &Command, target: &Target) -> Result<Reply, Refusal>
-        ensures acts { Acts (Action.Do command.now target.now) self.old result self.new }
-        ensures err { OnErr result (self.new ≡ self.old) }
+    /// Takes up a new tree: what it spells is the text behind the present one.
+    fn take_up(&mut self, tree: &Tree, printed: Option<Text>) -> Result<Reply, Refusal>
+        ensures acts { ((result, history_of self.new) ≡ after_text (history_of self.old) (spell_node tree.now) printed)
+            ⊎ ((result ≡ Err Refusal.Memory) × (history_of self.new ≡ history_of self.old)) }
     {
         let alloc = *self.texts.allocator();
-        let Meant { text, printed } = match meaning(
+        match spelled(alloc, tree) {
+            Ok(text) => self.push(text, printed),
+            Err(_) => Err(Refusal::Memory),
+        }
+    }
+
+    /// Does a command on the present text.
+    fn edit(&mut self, command: &Command, target: &Target) -> Result<Reply, Refusal>
+        ensures acts { Acts (Action.Do command.now target.now) (history_of self.old) result (history_of self.new) }
+        ensures err { OnErr result (history_of self.new ≡ history_of self.old) }
+    {
+        let alloc = *self.texts.allocator();
+        let Meant { tree, printed } = match meaning(
             alloc,
             command,
             target,
@@ -145,29 +172,29 @@ impl Session {
             Ok(meant) => meant,
             Err(refusal) => return Err(refusal),
         };
-        match text {
-            Some(text) => self.push(text, printed),
+        match tree {
+            Some(tree) => self.take_up(&tree, printed),
             None => Ok(unchanged(printed)),
         }
     }
 
     /// Formats the present text.
     fn format(&mut self) -> Result<Reply, Refusal>
-        ensures acts { Acts Action.Format self.old result self.new }
-        ensures formatted { OnOk result (IsFormatted (present self.old) (present self.new)) }
-        ensures err { OnErr result (self.new ≡ self.old) }
+        ensures acts { Acts Action.Format (history_of self.old) result (history_of self.new) }
+        ensures formatted { OnOk result (IsFormatted (present (history_of self.old)) (present (history_of self.new))) }
+        ensures err { OnErr result (history_of self.new ≡ history_of self.old) }
     {
         let alloc = *self.texts.allocator();
         formatted_once();
         match formatted(alloc, self.present()) {
-            Ok(text) => self.push(text, None),
+            Ok(tree) => self.take_up(&tree, None),
             Err(refusal) => Err(refusal),
         }
     }
 
     /// Goes back by n steps.
     fn undo(&mut self, n: u32) -> Result<Reply, Refusal>
-        ensures { (result, self.new) ≡ undone n self.old }
+        ensures { (result, history_of self.new) ≡ undone n (history_of self.old) }
     {
         let cursor = self.cursor;
         if n > cursor {
@@ -182,7 +209,7 @@ impl Session {
 
     /// Goes forward by n steps.
     fn redo(&mut self, n: u32) -> Result<Reply, Refusal>
-        ensures { (result, self.new) ≡ redone n self.old }
+        ensures { (result, history_of self.new) ≡ redone n (history_of self.old) }
     {
         let cursor = self.cursor;
         let last = self.texts.len() - 1;
@@ -204,8 +231,8 @@ impl Session {
         replies: &mut Vec<Result<Reply, Refusal>>,
     ) -> Result<(), Memory>
         ensures ok { OnOk result ((added : List (Result Reply Refusal)) × (replies.new.items ≡ replies.old.items ++ added)
-            × Runs self.old actions.now added self.new) }
-        ensures err { OnErr result ((replies.new.items ≡ replies.old.items) × (self.new ≡ self.old)) }
+            × Runs (history_of self.old) actions.now added (history_of self.new)) }
+        ensures err { OnErr result ((replies.new.items ≡ replies.old.items) × (history_of self.new ≡ history_of self.old)) }
         ensures room { vec_len replies.old + length actions.now ≤ vec_capacity replies.old → IsOk result }
     {
         replies.reserve(actions.len())?;
@@ -225,21 +252,6 @@ fn unchanged(printed: Option<Text>) -> Reply
         None => Reply::Same,
         Some(text) => Reply::Printed(text),
     }
-}
-
-/// A session at the first text of a file of the package with this path.
-fn first(alloc: Global, package: &str, text: &[u8]) -> Result<Session, Memory>
-    requires { Accepted text.now }
-    ensures { IfOk result (λ session. session ≡ opened «package».now text.now) }
-{
-    let package = Text::from_slice(alloc, package.as_bytes())?;
-    let texts = one(alloc, text)?;
-    Ok(Session {
-        package,
-        texts,
-        cursor: 0,
-        before: 0,
-    })
 }
 
 /// A list of one text.

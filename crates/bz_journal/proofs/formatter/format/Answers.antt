@@ -1,4 +1,7 @@
-use Rattle.std.proofs.Common.{rules}
+use Rattle.std.proofs.Common.{List, None, sym, ap, ◌∙◌}
+use Rattle.bz_value.specs.Gaps.{Bytes}
+use Rattle.bz_value.specs.declared.value.Item.{Item}
+use Rattle.bz_journal.specs.Meaning.{gives, written}
 use Rattle.bz_journal.proofs.Untold.{unread_told}
 use Rattle.bz_journal.proofs.formatter.format.Goals as goal
 
@@ -9,5 +12,10 @@ returns-in-Err c = record {
   fixed = tt;
 }
 
-pub returns-in-Ok-written-clause-fixed : goal.returns-in-Ok-written-clause-fixed
-returns-in-Ok-written-clause-fixed c = c.formatted_once.ensures c.args.text.now c.in-Ok-written.formatted (c.in-Ok.tree, c.in-Ok.ensures.ok, search rules)
+pub returns-in-Ok-spelled-clause-fixed : goal.returns-in-Ok-spelled-clause-fixed
+returns-in-Ok-spelled-clause-fixed c = c.formatted_once.ensures c.args.text.now c.in-Ok-spelled.formatted (
+  c.in-Ok.tree,
+  c.in-Ok.ensures.ok,
+  ap (λ (text : Bytes). gives text None) c.in-Ok-spelled.ensures.text ∙ sym (c.in-Ok-written.ensures.ok None)
+      ∙ ap (λ (items : List Item). written items None) c.in-Ok-view.ensures.value,
+)
