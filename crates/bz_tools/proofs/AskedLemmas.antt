@@ -1,12 +1,13 @@
 -- Operands one after the other.
-use Rattle.std.proofs.Common.{◌≡◌, ◌==◌, Bool, false, ℕ, List, [], ◌∷◌, ◌++◌, ◌<◌, ◌+◌, length, drop, get_or, add-one, Some, arith, append_assoc, Result, Ok, Err, refl, ap, sym, ◌∙◌}
-use Rattle.std.proofs.Math.Seq.{drop-cons}
+use Rattle.std.proofs.Common.{◌≡◌, ◌⊎◌, inl, inr, ◌==◌, Bool, false, ℕ, List, [], ◌∷◌, ◌++◌, ◌<◌, ◌+◌, length, Some, arith, append_assoc, Result, Ok, Err, refl, ap, sym, ◌∙◌}
 use Rattle.std.proofs.lemmas.Bool.{eqb-false}
 use Rattle.std.proofs.lemmas.List.{append-nil}
 use Rattle.bz_label.specs.declared.target.Target.{Target}
 use Rattle.bz_tools.specs.declared.verb.Verb.{Verb}
-use Rattle.bz_tools.specs.Asked.{Asked, Asking, Refused, aimed, wanted, joined, asked_by, asked_of, steps_asked, steps_for, complete}
+use Rattle.bz_tools.specs.Asked.{Asked, Asking, Refused, IsBadPattern, nothing, aimed, wanted, joined, asked_by, asked_of, steps_asked, steps_for, complete}
 use Rattle.bz_tools.specs.Line.{operands_of}
+use Rattle.bz_tools.specs.Operands.{IsPatternFault}
+use Rattle.bz_tools.specs.declared.verb.OperandFault.TheVariants.{Memory}
 
 pub joined-target : (commands : List Asking) (targets more : List Target) (operand : List ℕ) (target : Target) → more ≡ targets ++ target ∷ []
     → joined (Ok (record { commands = commands; targets = targets })) (aimed operand (Ok target)) ≡ Ok (record { commands = commands; targets = more })
@@ -23,16 +24,45 @@ joined-assoc (Ok first) (Err refused) c = refl
 joined-assoc (Ok first) (Ok more) (Err refused) = refl
 joined-assoc (Ok first) (Ok more) (Ok last) = rw (append_assoc first.commands more.commands last.commands, append_assoc first.targets more.targets last.targets) refl
 
--- one operand more is read
-pub asked_turn : (asked more : Asked) (operand : List ℕ) (left rest : List (List ℕ)) (full : Result Asked Refused) → left ≡ operand ∷ rest
-    → joined (Ok asked) (asked_of left) ≡ full → joined (Ok asked) (asked_by operand) ≡ Ok more → joined (Ok more) (asked_of rest) ≡ full
-asked_turn asked more operand left rest full split so_far one =
-    ap (λ first. joined first (asked_of rest)) (sym one) ∙ joined-assoc (Ok asked) (asked_by operand) (asked_of rest)
-    ∙ ap (λ texts. joined (Ok asked) (asked_of texts)) (sym split) ∙ so_far
+joined-nothing : (a : Result Asked Refused) → joined (Ok nothing) a ≡ a
+joined-nothing (Ok asked) = refl
+joined-nothing (Err refused) = refl
 
--- what is left at a place is the item there and what is left behind it
-pub left-cons : {A : Type 0} (items : List A) (at : ℕ) (default : A) → at < length items → drop at items ≡ get_or items at default ∷ drop (at + 1) items
-left-cons items at default within = rw (add-one) (drop-cons items at default within)
+joined-end : (a : Result Asked Refused) → joined a (Ok nothing) ≡ a
+joined-end (Ok asked) = rw (append-nil asked.commands, append-nil asked.targets) refl
+joined-end (Err refused) = refl
+
+asked_of-append : (front rest : List (List ℕ)) → asked_of (front ++ rest) ≡ joined (asked_of front) (asked_of rest)
+asked_of-append [] rest = sym (joined-nothing (asked_of rest))
+asked_of-append (operand ∷ front) rest =
+    ap (joined (asked_by operand)) (asked_of-append front rest) ∙ sym (joined-assoc (asked_by operand) (asked_of front) (asked_of rest))
+
+-- one operand more is read
+pub asked_turn : (front more : List (List ℕ)) (operand : List ℕ) (asked after : Asked) → more ≡ front ++ operand ∷ [] → asked_of front ≡ Ok asked
+    → joined (Ok asked) (asked_by operand) ≡ Ok after → asked_of more ≡ Ok after
+asked_turn front more operand asked after split before one =
+    ap asked_of split ∙ asked_of-append front (operand ∷ []) ∙ ap (λ first. joined first (asked_of (operand ∷ []))) before
+    ∙ ap (joined (Ok asked)) (joined-end (asked_by operand)) ∙ one
+
+-- an operand is refused
+pub refused_turn : (operands front rest : List (List ℕ)) (refused : Refused) (asked : Asked) → operands ≡ front ++ refused.operand ∷ rest
+    → asked_of front ≡ Ok asked
+    → (asked_by refused.operand ≡ Err refused) ⊎ IsPatternFault refused.operand refused.fault ⊎ (refused.fault ≡ Memory)
+    → (asked_of operands ≡ Err refused) ⊎ IsBadPattern operands refused ⊎ (refused.fault ≡ Memory)
+refused_turn operands front rest refused asked split before (inl read) =
+    inl (ap asked_of split ∙ asked_of-append front (refused.operand ∷ rest) ∙ ap (λ first. joined first (asked_of (refused.operand ∷ rest))) before
+    ∙ ap (λ first. joined (Ok asked) (joined first (asked_of rest))) read)
+refused_turn operands front rest refused asked split before (inr (inl pattern)) = inr (inl (record {
+  front = front;
+  rest = rest;
+  asked = asked;
+  split = split;
+  before = before;
+  command = pattern.0;
+  pattern = pattern.2;
+  fault = pattern.1;
+}))
+refused_turn operands front rest refused asked split before (inr (inr memory)) = inr (inr memory)
 
 -- words without a fault, with a command and a target
 pub steps_asked-some : (words operands : List (List ℕ)) (asked : Asked) → operands_of words ≡ Some operands → asked_of operands ≡ Ok asked

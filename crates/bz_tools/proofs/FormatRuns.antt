@@ -1,38 +1,21 @@
 -- What several texts of buildifier's do, one after the other.
-use Rattle.std.proofs.Common.{◌≡◌, ◌⊎◌, ◌≤◌, ◌∙◌, ◌++◌, ◌∷◌, ◌==◌, ◌||◌, inl, inr, ℕ, List, [], length, Option, Ok, Err, Bool, Bor, map, true, false, refl, sym, ap, subst, arith}
+use Rattle.std.proofs.Common.{◌≡◌, ◌∙◌, ◌∷◌, ◌==◌, ◌||◌, inr, ℕ, List, [], length, Option, Ok, Err, Bool, Bor, map, true, false, refl, sym, ap, subst}
 use Rattle.std.specs.Prelude.{if◌then◌else◌}
-use Rattle.std.specs.Io.KnownBytes.{Appends}
-use Rattle.std.proofs.lemmas.List.{append-nil, nil_from_length}
+use Rattle.std.proofs.lemmas.List.{nil_from_length}
 use Rattle.std.proofs.lemmas.Bool.{eqb-true}
 use Rattle.bz_files.specs.Folder.{Folder}
-use Rattle.bz_tools.specs.Faults.{Rises, AppendsSome}
+use Rattle.bz_ports.specs.Outputs.{Counts}
+use Rattle.bz_ports.specs.declared.exit.Cut.{Cut}
+use Rattle.bz_ports.specs.declared.exit.Cut.TheVariants as c
+use Rattle.bz_ports.proofs.Outputs.{rises_more}
 use Rattle.bz_tools.specs.Modes as m
-use Rattle.bz_tools.specs.FormatRun.{Effect, Run, Files, FileStep, InputStep, FormatOutcome, RunOf, IsFormatUsageLine, begun, Writes, WritesUnlessClosed, Tells, IsCutBy, Counts, grown, worse, first_cut}
+use Rattle.bz_tools.specs.FormatRun.{Effect, Run, Files, FileStep, InputStep, FormatOutcome, RunOf, IsFormatUsageLine, begun, IsCutBy, grown, worse, first_cut}
 use Rattle.bz_tools.specs.FormatShown.{effect_of, progress_of}
 use Rattle.bz_tools.specs.declared.effect.Effect as e
 use Rattle.bz_tools.specs.declared.effect.Progress.{Progress}
-use Rattle.bz_tools.specs.declared.exit.Cut.{Cut}
-use Rattle.bz_tools.specs.declared.exit.Cut.TheVariants as c
 use Rattle.bz_tools.specs.declared.mode.Mode.{Mode}
-use Rattle.bz_tools.proofs.Written.{begins, piece_written, piece_begun, all_written}
 
--- ---- counts
-
-pub rises_more : (a b d : ℕ) → a ≤ b → Rises a b → Counts b d → Rises a d
-rises_more a b d le rises counts = go counts.rises
-  where
-    go : (d ≡ b) ⊎ Rises b d → Rises a d
-    go (inl same) = subst (Rises a) (sym same) rises
-    go (inr (inl more)) = inl (omega (arith, le, more))
-    go (inr (inr most)) = inr most
-
-pub counts_more : (a b d : ℕ) → Counts a b → Counts b d → Counts a d
-counts_more a b d first more = let le = first.grows in let le' = more.grows in record { grows = omega (arith, le, le'); rises = go first.rises more.rises }
-  where
-    go : (b ≡ a) ⊎ Rises a b → (d ≡ b) ⊎ Rises b d → (d ≡ a) ⊎ Rises a d
-    go (inl same) (inl still) = inl (still ∙ same)
-    go (inl same) (inr rises) = inr (subst (λ (n : ℕ). Rises n d) same rises)
-    go (inr rises) other = inr (rises_more a b d first.grows rises more)
+-- ---- why a run is cut
 
 pub cut_more : (cut later : Cut) (f g h u v w : ℕ) → IsCutBy cut f g u v → IsCutBy later g h v w → Counts f g → Counts g h → Counts u v → Counts v w
     → IsCutBy (first_cut cut later) f h u w
@@ -56,35 +39,6 @@ status_more c.Memory later a b first last other = rw (first other) refl
 status_more c.Read later a b first last other = rw (first other) refl
 status_more c.Write later a b first last other = rw (first other) refl
 status_more c.Files later a b first last other = rw (first other) refl
-
--- ---- outputs
-
-some_more : (old new : Option (List ℕ)) (out more : List ℕ) → AppendsSome old new out → AppendsSome old new (out ++ more)
-some_more old new out more some = piece_begun old old new (out ++ more) (out ++ more) out more refl (begins old (out ++ more)) some
-
-all_more : (old mid new : Option (List ℕ)) (out more : List ℕ) → Appends old mid out → Appends mid new more → Appends old new (out ++ more)
-all_more old mid new out more first last =
-    all_written old new (out ++ more) (piece_written old mid new (out ++ more) more more [] (sym (append-nil more))
-    (piece_written old old mid (out ++ more) (out ++ more) out more refl (begins old (out ++ more)) first) last)
-
-begun_more : (old mid new : Option (List ℕ)) (out more : List ℕ) → Appends old mid out → AppendsSome mid new more → AppendsSome old new (out ++ more)
-begun_more old mid new out more first last =
-    piece_begun old mid new (out ++ more) more more [] (sym (append-nil more))
-    (piece_written old old mid (out ++ more) (out ++ more) out more refl (begins old (out ++ more)) first) last
-
-pub writes_more : (closed closes : Bool) (f g h : ℕ) (old mid new : Option (List ℕ)) (out more : List ℕ) → Writes closed f g old mid out
-    → WritesUnlessClosed closed closes g h mid new more → Writes (closed || closes) f h old new (out ++ more)
-writes_more true closes f g h old mid new out more first last =
-    (subst (Rises f) (sym last.1) first.0, some_more old new out more (subst (λ (held : Option (List ℕ)). AppendsSome old held out) (sym last.2) first.1))
-writes_more false false f g h old mid new out more first last = (last.0 ∙ first.0, all_more old mid new out more first.1 last.1)
-writes_more false true f g h old mid new out more first last =
-    (subst (λ (n : ℕ). Rises n h) first.0 last.0, begun_more old mid new out more first.1 last.1)
-
-pub tells_more : (f g h : ℕ) (old mid new : Option (List ℕ)) (lines more : List (List ℕ)) → Tells f g old mid lines → Tells g h mid new more
-    → Tells f h old new (lines ++ more)
-tells_more f g h old mid new [] more first last =
-    subst (λ (n : ℕ). Tells n h old new more) first.0 (subst (λ (held : Option (List ℕ)). Tells g h held new more) first.1 last)
-tells_more f g h old mid new (line ∷ lines) more first last = (first.0, first.1, first.2, tells_more first.0 g h first.1 mid new lines more first.3 last)
 
 -- ---- a run goes on by one file
 

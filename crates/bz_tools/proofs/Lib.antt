@@ -1,4 +1,3 @@
-pub mod Written
 pub mod Counts
 pub mod AskedLemmas
 pub mod Outcomes

@@ -1,9 +1,8 @@
 -- A run of steps on a session, and the outcome of a run of the program.
 use Rattle.std.proofs.Common.{◌≡◌, ◌⊎◌, ◌↔◌, inl, inr, ℕ, ◌≤◌, ◌<◌, List, [], ◌∷◌, ◌++◌, length, take, Option, Some, None, Result, Ok, Err, arith, refl, sym, ap, ◌∙◌, subst, append_assoc, length-take}
 use Rattle.std.specs.Prelude.{IfSome, is_some, option_map}
-use Rattle.std.specs.Io.KnownBytes.{Appends}
 use Rattle.std.specs.Str.{IsValidUpTo}
-use Rattle.std.proofs.lemmas.List.{take_all, append-nil}
+use Rattle.std.proofs.lemmas.List.{take_all}
 use Rattle.std.proofs.lemmas.Bool.{cases_lt}
 use Rattle.bz_lex.specs.declared.fault.ReadFault.{ReadFault}
 use Rattle.bz_lex.specs.declared.fault.ReadFault.TheVariants as f
@@ -15,7 +14,7 @@ use Rattle.bz_journal.specs.declared.action.Action.{Action}
 use Rattle.bz_journal.specs.declared.action.Reply.{Reply}
 use Rattle.bz_journal.specs.Faults.{IsFaultOf}
 use Rattle.bz_journal.specs.History.{History, Acts, Leads}
-use Rattle.bz_tools.specs.Asked.{Step, Usage, steps_asked}
+use Rattle.bz_tools.specs.Asked.{Step, Usage, IsUsage, steps_asked}
 use Rattle.bz_tools.specs.Told.{IsUsageLine}
 use Rattle.bz_tools.specs.Outcome.{Halt, printed_in, RunsToRefusal, RunsToMemory, Unread, Edits, Outcome, IsInput}
 use Rattle.bz_tree.specs.Legal.{Accepted}
@@ -118,21 +117,17 @@ edits_of_front steps all output line status edits = go (cut_at_limit all) edits
 pub outcome_of_front : (known : Option (List ℕ)) (front : List ℕ) (words : List (List ℕ)) (steps : List Step) (output line : List ℕ) (status : ℕ)
     → IfSome known (λ all. front ≡ take 4194305 all) → steps_asked words ≡ Ok steps → Edits steps front output line status
     → (input : List ℕ) × IsInput known input × Outcome words input output line status
-outcome_of_front None front words steps output line status read asked edits = (front, tt, rw (asked) edits)
+outcome_of_front None front words steps output line status read asked edits = (front, tt, inr (steps, asked, edits))
 outcome_of_front (Some all) front words steps output line status read asked edits =
-    (all, refl, rw (asked) (edits_of_front steps all output line status (rw (read) at edits)))
+    (all, refl, inr (steps, asked, edits_of_front steps all output line status (rw (read) at edits)))
 
 pub some_input : (known : Option (List ℕ)) → (input : List ℕ) × IsInput known input
 some_input None = ([], tt)
 some_input (Some all) = (all, refl)
 
--- words that are no line of the program's
+-- words that ask for nothing
 pub outcome_of_none : (known : Option (List ℕ)) (words : List (List ℕ)) (usage : Usage) (line : List ℕ) (status : ℕ)
-    → steps_asked words ≡ Err usage → IsUsageLine usage line → status ≡ 1
+    → IsUsage words usage → IsUsageLine usage line → status ≡ 1
     → (input : List ℕ) × IsInput known input × Outcome words input [] line status
 outcome_of_none known words usage line status none told ended =
-    let some = some_input known in (some.0, some.1, rw (none) (refl, told, ended))
-
-pub appends_nothing : (held : Option (List ℕ)) → Appends held held []
-appends_nothing None = tt
-appends_nothing (Some bytes) = sym (append-nil bytes)
+    let some = some_input known in (some.0, some.1, inl (usage, none, refl, told, ended))

@@ -1,8 +1,11 @@
 -- What the words of a line ask for: actions, in order, each with the text of its command.
-use Rattle.std.specs.Prelude.{List, [], ◌∷◌, ◌++◌, map, if◌then◌else◌, Option, Some, None, Result, Ok, Err}
+use Rattle.std.specs.Prelude.{◌≡◌, ◌⊎◌, false, List, [], ◌∷◌, ◌++◌, map, if◌then◌else◌, Option, Some, None, Result, Ok, Err}
 use Rattle.std.specs.List.{flat_map}
 use Rattle.bz_value.specs.Gaps.{Bytes}
 use Rattle.bz_label.specs.declared.target.Target.{Target}
+use Rattle.bz_words.specs.Commands.{command_of}
+use Rattle.bz_words.specs.Refused.{HasBadPattern}
+use Rattle.bz_words.specs.declared.fault.CommandFault.TheVariants.{BadPattern}
 use Rattle.bz_journal.specs.declared.action.Action.{Action}
 use Rattle.bz_journal.specs.declared.action.Action.TheVariants as a
 use Rattle.bz_tools.specs.Line.{operands_of}
@@ -10,6 +13,7 @@ use Rattle.bz_tools.specs.Operands.{is_target, target_of, verb_of}
 use Rattle.bz_tools.specs.declared.verb.Verb.{Verb}
 use Rattle.bz_tools.specs.declared.verb.Verb.TheVariants.{Do, Undo, Redo}
 use Rattle.bz_tools.specs.declared.verb.OperandFault.{OperandFault}
+use Rattle.bz_tools.specs.declared.verb.OperandFault.TheVariants.{Command}
 
 -- ---- the commands and the targets of a line
 
@@ -55,6 +59,17 @@ abbrev pub asked_of : List Bytes → Result Asked Refused
 asked_of [] = Ok nothing
 asked_of (operand ∷ operands) = joined (asked_by operand) (asked_of operands)
 
+-- A command whose pattern is refused, behind operands that aren't.
+pub record IsBadPattern (operands : List Bytes) (refused : Refused) : Type 0 where
+  pub front : List Bytes
+  pub rest : List Bytes
+  pub asked : Asked
+  pub split : operands ≡ front ++ refused.operand ∷ rest
+  pub before : asked_of front ≡ Ok asked
+  pub command : is_target refused.operand ≡ false
+  pub pattern : HasBadPattern (command_of refused.operand)
+  pub fault : refused.fault ≡ Command BadPattern
+
 -- ---- steps
 
 -- an action, and the text of its command
@@ -98,3 +113,10 @@ steps_read (Some operands) = accepted (asked_of operands)
 -- the steps that the words ask for, or why they are no line of the program's
 abbrev pub steps_asked : List Bytes → Result (List Step) Usage
 steps_asked words = steps_read (operands_of words)
+
+-- Why the words ask for nothing: what they read as, or a refused pattern.
+abbrev pub IsUsage : List Bytes → Usage → Type 0
+IsUsage words usage =
+    (steps_asked words ≡ Err usage)
+    ⊎ ((operands : List Bytes) × (refused : Refused) × (operands_of words ≡ Some operands) × IsBadPattern operands refused
+    × (usage ≡ of_operand refused))

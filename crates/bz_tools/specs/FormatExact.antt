@@ -7,7 +7,7 @@ use Rattle.bz_files.specs.Folder.{Folder, IsAside, SameFolders, with_file}
 use Rattle.bz_journal.specs.Faults.{FormatsTo}
 use Rattle.bz_journal.specs.declared.formatter.FormatFault.{FormatFault}
 use Rattle.bz_tools.specs.FormatRun.{Effect, Run, Files, begun, grown, printed, refused, unopened, file_out, text_status, is_rewritten}
-use Rattle.bz_tools.specs.declared.exit.Cut.TheVariants as c
+use Rattle.bz_ports.specs.declared.exit.Cut.TheVariants as c
 use Rattle.bz_tools.specs.declared.mode.Mode.{Mode}
 
 -- A file is absent, is not formatted, or is formatted; in the last case the folder has the formatted text there where the

@@ -1,7 +1,6 @@
 -- What buildifier makes of standard input, or of files one after the other.
-use Rattle.std.specs.Prelude.{◌≡◌, ◌⊎◌, ◌==◌, ◌||◌, ◌≤◌, ℕ, List, [], ◌∷◌, ◌++◌, codes, bytes_eq, Bool, true, false, not, if◌then◌else◌, Option, Some, None, Result, Ok, Err}
+use Rattle.std.specs.Prelude.{◌≡◌, ◌⊎◌, ◌==◌, ◌||◌, ℕ, List, [], ◌∷◌, ◌++◌, codes, bytes_eq, Bool, true, false, not, if◌then◌else◌, Option, Some, None, Result, Ok, Err}
 use Rattle.std.specs.FinMap.{get}
-use Rattle.std.specs.Io.KnownBytes.{Appends}
 use Rattle.bz_value.specs.Gaps.{Bytes}
 use Rattle.bz_files.specs.Folder.{Folder, SameBut, new_name, with_file, IsReplacing}
 use Rattle.bz_files.specs.declared.files.FileFault.{FileFault}
@@ -9,14 +8,14 @@ use Rattle.bz_files.specs.declared.files.FileFault.TheVariants as file
 use Rattle.bz_journal.specs.Faults.{FormatsTo}
 use Rattle.bz_journal.specs.declared.formatter.FormatFault.{FormatFault}
 use Rattle.bz_journal.specs.declared.formatter.FormatFault.TheVariants as f
-use Rattle.bz_tools.specs.declared.exit.Cut.{Cut}
-use Rattle.bz_tools.specs.declared.exit.Cut.TheVariants as c
+use Rattle.bz_ports.specs.declared.exit.Cut.{Cut}
+use Rattle.bz_ports.specs.declared.exit.Cut.TheVariants as c
+use Rattle.bz_ports.specs.Faults.{Rises}
+use Rattle.bz_ports.specs.Told.{stdin, named_line, fault_line}
 use Rattle.bz_tools.specs.declared.mode.Mode.{Mode}
 use Rattle.bz_tools.specs.declared.mode.Mode.TheVariants.{Fix, Check, PrintIfChanged}
-use Rattle.bz_tools.specs.Faults.{Rises, AppendsSome, AppendsUnlessFailed}
 use Rattle.bz_tools.specs.Modes.{FormatLine, FormatUsage, clap_fault, no_mode, format_line}
 use Rattle.bz_tools.specs.Outcome.{IsInput}
-use Rattle.bz_tools.specs.Told.{stdin, named_line, fault_line}
 
 -- ---- what one text does
 
@@ -186,25 +185,6 @@ abbrev pub FormatOutcome : List Bytes → Option Bytes → Folder → Run → Fo
 FormatOutcome words known folder after folder' =
     ((after ≡ record begun { status = 3; cut = c.Memory }) × (folder' ≡ folder)) ⊎ FormatOutcomeOf (format_line words) known folder after folder'
 
--- ---- what the outputs then hold
-
--- By a writer with these counts of faults before and after, a text was written; or, where the writer is closed, a failure
--- left a beginning of it.
-abbrev pub Writes : Bool → ℕ → ℕ → Option Bytes → Option Bytes → Bytes → Type 0
-Writes false faults faults' old new out = (faults' ≡ faults) × Appends old new out
-Writes true faults faults' old new out = Rises faults faults' × AppendsSome old new out
-
--- Lines were told one after the other, each whole unless its writing failed.
-abbrev pub Tells : ℕ → ℕ → Option Bytes → Option Bytes → List Bytes → Type 0
-Tells faults faults' old new [] = (faults' ≡ faults) × (new ≡ old)
-Tells faults faults' old new (line ∷ lines) =
-    (mid_faults : ℕ) × (mid : Option Bytes) × AppendsUnlessFailed faults mid_faults old mid line × Tells mid_faults faults' mid new lines
-
--- a writer that is closed already is left as it is
-abbrev pub WritesUnlessClosed : Bool → Bool → ℕ → ℕ → Option Bytes → Option Bytes → Bytes → Type 0
-WritesUnlessClosed false closes faults faults' old new out = Writes closes faults faults' old new out
-WritesUnlessClosed true closes faults faults' old new out = (closes ≡ false) × (faults' ≡ faults) × (new ≡ old)
-
 -- ---- why a run of files is cut
 
 -- It is cut where a count of faults rose; where none is, none has risen. (Files, then standard output, each before and after.)
@@ -214,8 +194,3 @@ IsCutBy c.Memory files files' out out' = Unit {0}
 IsCutBy c.Read files files' out out' = ⊥
 IsCutBy c.Write files files' out out' = Rises out out'
 IsCutBy c.Files files files' out out' = Rises files files'
-
--- the count stays or rises
-pub record Counts (old new : ℕ) : Type 0 where
-  pub grows : old ≤ new
-  pub rises : (new ≡ old) ⊎ Rises old new

@@ -1,6 +1,5 @@
 pub mod App
 pub mod Asked
-pub mod Faults
 pub mod FormatExact
 pub mod FormatRun
 pub mod FormatShown
@@ -8,7 +7,6 @@ pub mod Line
 pub mod Modes
 pub mod Operands
 pub mod Outcome
-pub mod Ports
 pub mod Shown
 pub mod Told
 pub mod Verbs

@@ -1,5 +1,5 @@
 -- What an operand of the command line says: a command or a target.
-use Rattle.std.specs.Prelude.{◌==◌, ℕ, ◌^◌, List, [], ◌∷◌, length, take, codes, bytes_eq, nat_lt, nat_le, Bool, not, ◌&&◌, ◌||◌, if◌then◌else◌, Option, Some, None, Result, Ok, Err}
+use Rattle.std.specs.Prelude.{◌≡◌, ◌⊎◌, ◌==◌, ℕ, ◌^◌, List, [], ◌∷◌, length, take, codes, bytes_eq, nat_lt, nat_le, Bool, false, not, ◌&&◌, ◌||◌, if◌then◌else◌, Option, Some, None, Result, Ok, Err}
 use Rattle.std.specs.Str.{all_ascii_digits}
 use Rattle.std.specs.Option.{ok_or, option_map_or}
 use Rattle.std.specs.List.{list_any}
@@ -10,6 +10,7 @@ use Rattle.bz_label.specs.declared.target.Target.{Target}
 use Rattle.bz_value.specs.Gaps.{Bytes}
 use Rattle.bz_words.specs.Characters.{space}
 use Rattle.bz_words.specs.Commands.{command_of, text_limit}
+use Rattle.bz_words.specs.Refused.{HasBadPattern}
 use Rattle.bz_words.specs.Words.{words_of}
 use Rattle.bz_words.specs.declared.command.Operation.{Operation}
 use Rattle.bz_words.specs.declared.fault.CommandFault.{CommandFault}
@@ -83,3 +84,11 @@ by_command (Err fault) = Err (of_command fault)
 -- `undo` or `redo`, else a command on the rules of a target
 abbrev pub verb_of : Bytes → Result Verb OperandFault
 verb_of text = option_map_or (within_limit (nat_le (length text) text_limit)) (history_verb_in (words_of text)) (by_command (command_of text))
+
+-- why a text asks for nothing, memory aside: what it reads as, or a pattern that is refused where nothing else is wrong
+abbrev pub IsVerbFault : Bytes → OperandFault → Type 0
+IsVerbFault text fault = (verb_of text ≡ Err fault) ⊎ ((fault ≡ Command c.BadPattern) × HasBadPattern (command_of text))
+
+-- a command whose pattern is refused where nothing else is wrong
+abbrev pub IsPatternFault : Bytes → OperandFault → Type 0
+IsPatternFault operand fault = (is_target operand ≡ false) × (fault ≡ Command c.BadPattern) × HasBadPattern (command_of operand)

@@ -1,5 +1,5 @@
 -- What a run of buildozer over standard input writes on standard output and on standard error, and its status.
-use Rattle.std.specs.Prelude.{◌≡◌, ◌⊎◌, ℕ, List, [], ◌∷◌, ◌++◌, Bool, false, if◌then◌else◌, bytes_eq, is_some, Option, Some, None, Result, Ok, Err, IfSome}
+use Rattle.std.specs.Prelude.{◌≡◌, ◌⊎◌, ℕ, List, [], ◌∷◌, ◌++◌, Bool, false, if◌then◌else◌, bytes_eq, is_some, Option, Some, None, Ok, Err, IfSome}
 use Rattle.std.specs.List.{list_all}
 use Rattle.bz_lex.specs.declared.fault.ReadFault.{ReadFault}
 use Rattle.bz_tree.specs.Legal.{Accepted}
@@ -12,9 +12,10 @@ use Rattle.bz_journal.specs.declared.action.Reply.{Reply}
 use Rattle.bz_journal.specs.declared.action.Reply.TheVariants.{Printed}
 use Rattle.bz_journal.specs.Faults.{IsFaultOf}
 use Rattle.bz_journal.specs.History.{History, opened, present, Leads, TakesNone}
-use Rattle.bz_tools.specs.Asked.{Step, Usage, steps_asked}
+use Rattle.bz_tools.specs.Asked.{Step, Usage, IsUsage, steps_asked}
 use Rattle.bz_tools.specs.Operands.{input_package}
-use Rattle.bz_tools.specs.Told.{stdin, fault_line, refusal_line, IsUsageLine}
+use Rattle.bz_ports.specs.Told.{stdin, fault_line}
+use Rattle.bz_tools.specs.Told.{refusal_line, IsUsageLine}
 
 -- ---- the run of the steps
 
@@ -94,14 +95,12 @@ pub record Unread (input output line : Bytes) : Type 0 where
 abbrev pub Edits : List Step → Bytes → Bytes → Bytes → ℕ → Type 0
 Edits steps input output line status = Edited steps input output line status ⊎ (Unread input output line × (status ≡ 2))
 
--- Words that are no line of the program's write nothing, which is told.
-abbrev pub OutcomeOf : Result (List Step) Usage → Bytes → Bytes → Bytes → ℕ → Type 0
-OutcomeOf (Err usage) input output line status = (output ≡ []) × IsUsageLine usage line × (status ≡ 1)
-OutcomeOf (Ok steps) input output line status = Edits steps input output line status
-
--- words, the bytes of standard input, what is written on standard output and on standard error, and the status
+-- Words, the bytes of standard input, what is written on standard output and on standard error, and the status: of words
+-- that ask for nothing, nothing is written, and why is told; else the steps that they ask for are run.
 abbrev pub Outcome : List Bytes → Bytes → Bytes → Bytes → ℕ → Type 0
-Outcome words input output line status = OutcomeOf (steps_asked words) input output line status
+Outcome words input output line status =
+    ((usage : Usage) × IsUsage words usage × (output ≡ []) × IsUsageLine usage line × (status ≡ 1))
+    ⊎ ((steps : List Step) × (steps_asked words ≡ Ok steps) × Edits steps input output line status)
 
 -- the bytes of standard input, where they are known
 abbrev pub IsInput : Option Bytes → Bytes → Type 0

@@ -3,8 +3,9 @@ use Rattle.std.specs.Prelude.{◌≡◌, [], ◌∷◌, codes, Ok, Err, true, fa
 use Rattle.bz_label.specs.declared.target.Target.{Target}
 use Rattle.bz_label.specs.declared.target.Which.{Which}
 use Rattle.bz_label.specs.declared.target.Which.TheVariants.{All, Kind, Line, Name, Package}
-use Rattle.bz_words.specs.declared.command.Operation.TheVariants.{Add, Delete}
-use Rattle.bz_words.specs.declared.fault.CommandFault.TheVariants.{Unknown, Arguments}
+use Rattle.bz_words.specs.declared.command.Attributes.TheVariants.{Named}
+use Rattle.bz_words.specs.declared.command.Operation.TheVariants.{Add, Delete, Substitute}
+use Rattle.bz_words.specs.declared.fault.CommandFault.TheVariants.{Unknown, Arguments, BadPattern}
 use Rattle.bz_attribute.specs.declared.refusal.Refusal.TheVariants.{TooFar}
 use Rattle.bz_lex.specs.declared.fault.ReadFault.TheVariants.{NotUtf8, Unexpected}
 use Rattle.bz_files.specs.declared.files.FileFault.TheVariants.{Absent}
@@ -15,7 +16,8 @@ use Rattle.bz_tools.specs.declared.mode.Mode.TheVariants.{Fix, Check, PrintIfCha
 use Rattle.bz_journal.specs.declared.action.Action.TheVariants.{Do, Undo, Redo}
 use Rattle.bz_tools.specs.Operands.{target_of, verb_of, within_limit}
 use Rattle.bz_tools.specs.Asked.{Step, asked_of, of_clap, no_command, no_target, steps_asked}
-use Rattle.bz_tools.specs.Told.{stdin, fault_line, refusal_line, operand_line}
+use Rattle.bz_ports.specs.Told.{stdin, fault_line}
+use Rattle.bz_tools.specs.Told.{refusal_line, operand_line}
 use Rattle.bz_tools.specs.declared.verb.OperandFault.TheVariants.{BadTarget, Command}
 use Rattle.bz_tools.specs.declared.verb.Verb.TheVariants as v
 
@@ -32,6 +34,8 @@ Targets = (target_of (codes "-:all") ≡ Ok (meant All)) × (target_of (codes "-
 abbrev Verbs : Type 0
 Verbs = (verb_of (codes " undo   010 ") ≡ Ok (v.Undo 10)) × (verb_of (codes "redo") ≡ Ok (v.Redo 1))
     × (verb_of (codes "add deps x") ≡ Ok (v.Do (Add (codes "deps") (codes "x" ∷ []))))
+    -- what is no pattern is seen later
+    × (verb_of (codes "substitute srcs ( x") ≡ Ok (v.Do (Substitute (Named (codes "srcs")) (codes "(") (codes "x"))))
 
 -- faults of commands; a text of `undo` that is too long
 abbrev Faults : Type 0
@@ -60,6 +64,8 @@ WorkedRefusals = (fault_line stdin (Unexpected 12 305) ≡ codes "<stdin>:12:305
     × (refusal_line (codes "undo 3") TooFar ≡ codes "buildozer: <stdin>: undo 3: TooFar (61)\n")
     × (operand_line (record { operand = codes "//a:b"; fault = BadTarget }) ≡ codes "buildozer: //a:b: BadTarget (12)\n")
     × (operand_line (record { operand = codes "grow"; fault = Command Unknown }) ≡ codes "buildozer: grow: Unknown (31)\n")
+    × (operand_line (record { operand = codes "substitute srcs ( x"; fault = Command BadPattern })
+    ≡ codes "buildozer: substitute srcs ( x: BadPattern (33)\n")
 
 abbrev FormatLines : Type 0
 FormatLines = (format_line [] ≡ Ok (record { mode = Fix; files = [] }))

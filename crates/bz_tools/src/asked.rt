@@ -1,7 +1,7 @@
 //! What the operands of a line ask for.
 ghost use Rattle.std.specs.Prelude.{◌≡◌, ◌≢◌, ◌⊎◌, [], ◌∷◌, ◌++◌, List, Result, Ok, Err, IfOk, IfErr, OnOk, map};
 ghost use Rattle.bz_tools.specs.Asked as a;
-ghost use Rattle.bz_tools.specs.Operands.{target_of, verb_of};
+ghost use Rattle.bz_tools.specs.Operands.{IsVerbFault, IsPatternFault, target_of, verb_of};
 ghost use Rattle.bz_tools.specs.Shown.{asked_in, refused_in};
 ghost use Rattle.bz_tools.specs.declared.verb.OperandFault.{OperandFault};
 
@@ -48,7 +48,7 @@ fn add_command<'a>(
     operand: &'a str,
 ) -> Result<(), OperandFault>
     ensures ok { OnOk result (a.joined (Ok (asked_in asked.old)) (a.wanted operand.entry.now (verb_of operand.entry.now)) ≡ Ok (asked_in asked.new)) }
-    ensures err { IfErr result (λ fault. (verb_of operand.entry.now ≡ Err fault) ⊎ (fault ≡ OperandFault.Memory)) }
+    ensures err { IfErr result (λ fault. IsVerbFault operand.entry.now fault ⊎ (fault ≡ OperandFault.Memory)) }
 {
     let verb = read_verb(alloc, operand)?;
     if asked
@@ -67,7 +67,7 @@ fn add_command<'a>(
 fn add<'a>(alloc: Global, asked: &mut Asked<'a>, operand: &'a str) -> Result<(), OperandFault>
     ensures ok { OnOk result (a.joined (Ok (asked_in asked.old)) (a.asked_by operand.entry.now) ≡ Ok (asked_in asked.new)) }
     ensures err { IfErr result (λ fault. (a.asked_by operand.entry.now ≡ Err (record { operand = operand.entry.now; fault = fault }))
-        ⊎ (fault ≡ OperandFault.Memory)) }
+        ⊎ IsPatternFault operand.entry.now fault ⊎ (fault ≡ OperandFault.Memory)) }
 {
     if is_target(operand.as_bytes()) {
         add_target(alloc, asked, operand)
@@ -76,11 +76,11 @@ fn add<'a>(alloc: Global, asked: &mut Asked<'a>, operand: &'a str) -> Result<(),
     }
 }
 
-/// What the operands ask for. The error is the first operand that is refused, in order, or memory.
+/// What the operands ask for. The error is the first operand that is refused, in order, be it for its pattern, or memory.
 pub(crate) fn read_asked<'a>(alloc: Global, operands: &[&'a str]) -> Result<Asked<'a>, Refused<'a>>
     ensures ok { IfOk result (λ asked. a.asked_of (map (λ s. s.now) operands.now) ≡ Ok (asked_in asked)) }
     ensures err { IfErr result (λ refused. (a.asked_of (map (λ s. s.now) operands.now) ≡ Err (refused_in refused))
-        ⊎ (refused.fault ≡ OperandFault.Memory)) }
+        ⊎ a.IsBadPattern (map (λ s. s.now) operands.now) (refused_in refused) ⊎ (refused.fault ≡ OperandFault.Memory)) }
 {
     let mut asked = Asked {
         commands: Vec::new(alloc),

@@ -1,17 +1,17 @@
 //! What becomes of a text that buildifier reads, and of a run over several.
 ghost use Rattle.std.specs.Prelude.{◌≡◌, ◌⊎◌, ◌||◌, ◌∷◌, ◌++◌, [], false, codes, IfOk, OnOk};
-ghost use Rattle.bz_tools.specs.Told.{stdin, named_line};
-ghost use Rattle.bz_tools.specs.FormatRun.{Tells, Counts, Prints, WritesUnlessClosed, IsCutBy, unread_file, refused, file_out, input_out, is_rewritten, text_status, worse, first_cut};
+ghost use Rattle.bz_ports.specs.Outputs.{Tells, Counts, WritesUnlessClosed};
+ghost use Rattle.bz_ports.specs.Told.{stdin, named_line};
+ghost use Rattle.bz_tools.specs.FormatRun.{Prints, IsCutBy, unread_file, refused, file_out, input_out, is_rewritten, text_status, worse, first_cut};
 ghost use Rattle.bz_tools.specs.FormatRun as r;
 ghost use Rattle.bz_tools.specs.FormatShown.{effect_of};
 
 use crate::mode::Mode;
-use crate::sink::write_whole;
-use crate::told::{STDIN, tell_fault, tell_named};
 use crate::{Cut, Sink};
 use bz_files::FileFault;
 use bz_items::{Memory, Text};
 use bz_journal::FormatFault;
+use bz_ports::{STDIN, tell_fault, tell_named, write_whole};
 use std::alloc::Global;
 
 /// What becomes of one text.

@@ -1,20 +1,21 @@
 //! The program buildozer over any reader and writers.
 ghost use Rattle.std.specs.Prelude.{◌≡◌, ◌≢◌, ◌⊎◌, ◌++◌, [], List, ℕ, IfOk, OnOk, OnErr, IsErr, IsNone, Some, map, option_map};
 ghost use Rattle.std.specs.Io.KnownBytes.{Appends};
-ghost use Rattle.bz_tools.specs.Faults.{Rises, AppendsSome, AppendsUnlessFailed};
+ghost use Rattle.bz_ports.specs.Faults.{Rises, AppendsSome, AppendsUnlessFailed};
+ghost use Rattle.bz_ports.specs.Told.{stdin, fault_line};
 ghost use Rattle.bz_tools.specs.Shown.{halt_in, steps_in, usage_in};
 ghost use Rattle.bz_tools.specs.Asked.{Usage, steps_asked};
-ghost use Rattle.bz_tools.specs.Told.{stdin, fault_line, IsUsageLine};
+ghost use Rattle.bz_tools.specs.Told.{IsUsageLine};
 ghost use Rattle.bz_tools.specs.Outcome.{RunsToRefusal, RunsToMemory, Edits, Outcome, IsInput, printed_in, is_printing, all_print, shown, halt_line, status_of};
 ghost use Rattle.bz_journal.specs.History.{present};
+ghost use Rattle.bz_journal.specs.Shown.{history_of};
 
-use crate::sink::write_whole;
-use crate::source::{InputFault, MOST, read_most};
 use crate::steps::{Step, UsageFault, read_steps};
-use crate::told::{STDIN, tell_fault, tell_refusal, tell_usage};
+use crate::told::{tell_refusal, tell_usage};
 use crate::{Cut, Exit, Sink, Source};
 use bz_attribute::Refusal;
 use bz_journal::{Action, Reply, Session};
+use bz_ports::{InputFault, MOST, STDIN, read_most, tell_fault, write_whole};
 use bz_tree::ReadFault;
 use std::alloc::{AllocError, Global};
 use std::convert::AsStr;
@@ -74,8 +75,9 @@ fn halted(command: &str, refusal: Refusal) -> Result<Halt<'_>, AllocError>
 // Runs the steps in order up to the first that is refused, which is answered with what was printed before. The error:
 // memory was refused.
 fn run<'a>(alloc: Global, session: &mut Session, steps: &[Step<'a>]) -> Result<Ran<'a>, AllocError>
-    ensures ok { IfOk result (λ ran. RunsToRefusal session.old (steps_in steps.now) ran.printed.items (option_map halt_in ran.halt) session.new) }
-    ensures err { OnErr result (RunsToMemory session.old (steps_in steps.now)) }
+    ensures ok { IfOk result (λ ran. RunsToRefusal (history_of session.old) (steps_in steps.now) ran.printed.items (option_map halt_in ran.halt)
+        (history_of session.new)) }
+    ensures err { OnErr result (RunsToMemory (history_of session.old) (steps_in steps.now)) }
 {
     let mut printed = Vec::new(alloc);
     for step in steps {
@@ -149,8 +151,8 @@ fn show(
     input: &[u8],
     output: &mut Vec<u8>,
 ) -> Result<u8, AllocError>
-    ensures { IfOk result (λ status. (output.new.items ≡ output.old.items ++ shown (steps_in steps.now) (present session.now))
-        × (status ≡ status_of refused input.now (present session.now))) }
+    ensures { IfOk result (λ status. (output.new.items ≡ output.old.items ++ shown (steps_in steps.now) (present (history_of session.now)))
+        × (status ≡ status_of refused input.now (present (history_of session.now)))) }
 {
     let start = output.len();
     session.text_into(output)?;
@@ -279,8 +281,9 @@ pub fn buildozer<S: AsStr, R: Source, W: Sink, E: Sink>(
     // Where memory or the reader cuts the run, nothing is written.
     ensures untouched { (result.cut ≡ Cut.Memory) ⊎ (result.cut ≡ Cut.Read) → (out.new ≡ out.old) × (err.new ≡ err.old) }
 
-    // Words that are no line of the program's leave the input unread.
+    // Words that are no line of the program's leave the input unread, and so does a refused pattern.
     ensures unread { IsErr (steps_asked (map S.text words.now)) → input.new ≡ input.old }
+    ensures usage { result.status ≡ 1 → input.new ≡ input.old }
 
     // Where nothing is refused, nothing is told.
     ensures silent { result.status ≢ 1 → result.status ≢ 2 → err.new ≡ err.old }

@@ -1,12 +1,13 @@
 //! The program buildifier over any reader, writers and files.
 ghost use Rattle.std.specs.Prelude.{◌≡◌, ◌≢◌, ◌⊎◌, ◌≤◌, [], ◌∷◌, List, ℕ, true, false, IfOk, IfSome, OnOk, OnErr, IsErr, Some, map};
 ghost use Rattle.std.specs.FinMap.{get};
-ghost use Rattle.bz_tools.specs.Faults.{Rises, AppendsUnlessFailed};
-ghost use Rattle.bz_tools.specs.Told.{stdin};
+ghost use Rattle.bz_ports.specs.Faults.{Rises, AppendsUnlessFailed};
+ghost use Rattle.bz_ports.specs.Outputs.{Tells, Counts, Writes, WritesUnlessClosed};
+ghost use Rattle.bz_ports.specs.Told.{stdin};
 ghost use Rattle.bz_tools.specs.Modes as m;
 ghost use Rattle.bz_tools.specs.Modes.{format_line};
 ghost use Rattle.bz_tools.specs.FormatRun as r;
-ghost use Rattle.bz_tools.specs.FormatRun.{Tells, Counts, Writes, WritesUnlessClosed, IsCutBy, Rewrites, FileStep, InputStep, FormatOutcome, IsFormatUsageLine, begun};
+ghost use Rattle.bz_tools.specs.FormatRun.{IsCutBy, Rewrites, FileStep, InputStep, FormatOutcome, IsFormatUsageLine, begun};
 ghost use Rattle.bz_tools.specs.FormatShown.{effect_of, progress_of, usage_of};
 
 use crate::effect::{
@@ -15,11 +16,11 @@ use crate::effect::{
 };
 use crate::format_line::{FormatLine, FormatUsage, read_format_line};
 use crate::mode::Mode;
-use crate::source::{InputFault, MOST, read_most};
-use crate::told::{STDIN, tell, tell_clap};
+use crate::told::tell_clap;
 use crate::{Cut, Exit, Sink, Source};
 use bz_files::Files;
 use bz_journal::format;
+use bz_ports::{InputFault, MOST, STDIN, read_most, tell};
 use std::alloc::{AllocError, Global};
 use std::convert::AsStr;
 

@@ -3,28 +3,19 @@
 #![tactic(auto)]
 
 mod asked;
-mod device;
 mod effect;
 mod engine;
-mod exit;
 mod format_line;
 mod formatting;
 mod laws;
 mod line;
-mod memory;
 mod mode;
-mod sink;
-mod source;
 mod steps;
 mod target;
 mod told;
 mod verb;
 
-pub use device::Device;
+pub use bz_ports::{Cut, Device, Exit, MemorySink, MemorySource, PortFault, Sink, Source};
 pub use engine::buildozer;
-pub use exit::{Cut, Exit};
 pub use formatting::buildifier;
 pub use laws::{whole_runs_are_exact, worked_formats, worked_refusals, worked_words};
-pub use memory::{MemorySink, MemorySource};
-pub use sink::Sink;
-pub use source::{PortFault, Source};

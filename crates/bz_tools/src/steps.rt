@@ -76,13 +76,13 @@ fn steps_of<'a>(
 }
 
 /// The actions that the words of a line ask for, in order. The error is memory, or the words ask for nothing: a fault
-/// that clap finds, the first refused operand, no command, or no target.
+/// that clap finds, the first refused operand (its pattern may be what is refused), no command, or no target.
 pub(crate) fn read_steps<'a, S: AsStr>(
     alloc: Global,
     words: &'a [S],
 ) -> Result<Vec<Step<'a>>, UsageFault<'a>>
     ensures ok { IfOk result (λ steps. a.steps_asked (map S.text words.entry.now) ≡ Ok (steps_in steps.items)) }
-    ensures err { IfErr result (λ fault. IfSome (usage_in fault) (λ usage. a.steps_asked (map S.text words.entry.now) ≡ Err usage)) }
+    ensures err { IfErr result (λ fault. IfSome (usage_in fault) (a.IsUsage (map S.text words.entry.now))) }
 {
     let operands = match read_operands(alloc, words) {
         Ok(operands) => operands,

@@ -1,7 +1,8 @@
 //! What a command's text asks for.
-ghost use Rattle.std.specs.Prelude.{◌≡◌, ◌⊎◌, Err};
+ghost use Rattle.std.specs.Prelude.{◌≡◌, ◌⊎◌, Ok, Err, IfOk, IfErr};
 ghost use Rattle.bz_words.specs.Commands.{command_of};
-ghost use Rattle.bz_tools.specs.Operands.{verb_of, by_command, by_steps, count_of, history_verb_in, steps_of, within_limit};
+ghost use Rattle.bz_words.specs.Refused.{HasBadPattern};
+ghost use Rattle.bz_tools.specs.Operands.{IsVerbFault, verb_of, by_command, by_steps, count_of, history_verb_in, steps_of, within_limit};
 ghost use Rattle.bz_tools.specs.Verbs.{fault_name, fault_number};
 
 use bz_items::Text;
@@ -26,7 +27,8 @@ pub(crate) enum OperandFault {
     Memory,
     /// Not a target of standard input.
     BadTarget,
-    /// No command: no name of one, or the number or the form of its arguments is wrong, or it is too long.
+    /// No command: no name of one, or the number or the form of its arguments is wrong, or it is too long, or its pattern
+    /// is refused.
     Command(CommandFault),
 }
 
@@ -131,15 +133,18 @@ fn within_limit(fits: bool, verb: Result<Verb, OperandFault>) -> Result<Verb, Op
 }
 
 fn read_command(alloc: Global, text: &str) -> Result<Verb, OperandFault>
-    ensures { (result ≡ by_command (command_of text.now)) ⊎ (result ≡ Err OperandFault.Memory) }
+    ensures ok { IfOk result (λ verb. by_command (command_of text.now) ≡ Ok verb) }
+    ensures err { IfErr result (λ fault. ((by_command (command_of text.now) ≡ Err fault)
+        ⊎ ((fault ≡ OperandFault.Command CommandFault.BadPattern) × HasBadPattern (command_of text.now))) ⊎ (fault ≡ OperandFault.Memory)) }
 {
     Ok(Verb::Do(Command::read(alloc, text)?))
 }
 
-/// What the command of this text asks for. Errors: `Command`: there is no command of that name, its arguments are wrong, or
-/// it is too long; `Memory`: a growth was refused.
+/// What the command of this text asks for. Errors: `Command`: there is no command of that name, it is too long, or its
+/// arguments are wrong, or, where nothing else is, its pattern is refused; `Memory`: a growth was refused.
 pub(crate) fn read_verb(alloc: Global, text: &str) -> Result<Verb, OperandFault>
-    ensures { (result ≡ verb_of text.now) ⊎ (result ≡ Err OperandFault.Memory) }
+    ensures ok { IfOk result (λ verb. verb_of text.now ≡ Ok verb) }
+    ensures err { IfErr result (λ fault. IsVerbFault text.now fault ⊎ (fault ≡ OperandFault.Memory)) }
 {
     let Ok(words) = read_words(alloc, text.as_bytes()) else {
         return Err(OperandFault::Memory);

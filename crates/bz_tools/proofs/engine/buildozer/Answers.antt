@@ -1,6 +1,7 @@
 use Rattle.std.proofs.Common.{[], map, refl}
 use Rattle.bz_tools.specs.Shown.{steps_in}
-use Rattle.bz_tools.proofs.Outcomes.{outcome_of_front, outcome_of_none, appends_nothing}
+use Rattle.bz_ports.proofs.Outputs.{appends_nothing}
+use Rattle.bz_tools.proofs.Outcomes.{outcome_of_front, outcome_of_none}
 use Rattle.bz_tools.proofs.engine.buildozer.Goals as goal
 
 pub returns-in-Err-clause-whole : goal.returns-in-Err-clause-whole
@@ -34,3 +35,6 @@ returns-in-Err-clause-unread g c = λ _. refl
 
 pub returns-in-Err-clause-reader : goal.returns-in-Err-clause-reader
 returns-in-Err-clause-reader g c = λ _. refl
+
+pub returns-in-Err-clause-usage : goal.returns-in-Err-clause-usage
+returns-in-Err-clause-usage g c = λ _. refl

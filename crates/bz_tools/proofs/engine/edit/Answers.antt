@@ -1,9 +1,10 @@
 use Rattle.std.proofs.Common.{◌≡◌, List, ℕ, [], inl, inr, refl, subst, option_map}
 use Rattle.std.proofs.lemmas.Result.{IfOk-weaker}
 use Rattle.bz_lex.specs.declared.fault.ReadFault.TheVariants as f
-use Rattle.bz_tools.specs.Told.{stdin, fault_line}
-use Rattle.bz_tools.specs.Faults.{AppendsUnlessFailed}
+use Rattle.bz_ports.specs.Told.{stdin, fault_line}
+use Rattle.bz_ports.specs.Faults.{AppendsUnlessFailed}
 use Rattle.bz_journal.specs.History.{History}
+use Rattle.bz_journal.specs.Shown.{history_of}
 use Rattle.bz_tools.specs.Outcome.{Edits, RunsToRefusal, halt_line}
 use Rattle.bz_tools.specs.Shown.{halt_in, steps_in}
 use Rattle.bz_tools.proofs.Outcomes.{refused_text, fault_of_text, is_some-mapped}
@@ -43,8 +44,8 @@ returns-clause-ok g c =
         accepted = c.in-Ok.ensures.accepted;
         printed = ran.printed.items;
         halt = halt;
-        after = c.run.new.session;
-        runs = (let P : History → Type 0 = λ h. RunsToRefusal h (steps_in c.args.steps.now) ran.printed.items halt c.run.new.session in
+        after = history_of c.run.new.session;
+        runs = (let P : History → Type 0 = λ h. RunsToRefusal h (steps_in c.args.steps.now) ran.printed.items halt (history_of c.run.new.session) in
             subst P c.in-Ok.ensures.ok c.in_ok-printed.ensures.ok);
         written = c.in_ok-status.ensures.0;
         told = refl;

@@ -1,9 +1,9 @@
 use Rattle.std.proofs.Common.{◌≡◌, ◌∙◌, ◌∷◌, [], inl, inr, refl, ap, map}
 use Rattle.bz_tools.specs.FormatRun as r
 use Rattle.bz_tools.specs.FormatShown.{seen_line}
-use Rattle.bz_tools.specs.declared.exit.Cut.TheVariants as cut
+use Rattle.bz_ports.specs.declared.exit.Cut.TheVariants as cut
 use Rattle.bz_tools.specs.declared.effect.Progress.{Progress}
-use Rattle.bz_tools.proofs.Outcomes.{appends_nothing}
+use Rattle.bz_ports.proofs.Outputs.{appends_nothing}
 use Rattle.bz_tools.proofs.FormatRuns.{grown_is, input_outcome, usage_outcome, no_names}
 use Rattle.bz_tools.proofs.formatting.buildifier.Goals as goal
 

@@ -1,9 +1,9 @@
 use Rattle.std.proofs.Common.{◌≡◌, ◌∙◌, refl, sym, subst, List, ℕ, false, Ok, Err}
 use Rattle.bz_journal.specs.Faults.{FormatsTo}
-use Rattle.bz_tools.specs.Told.{stdin}
+use Rattle.bz_ports.specs.Told.{stdin}
 use Rattle.bz_tools.specs.FormatRun as r
 use Rattle.bz_tools.specs.FormatRun.{input_unread, input_without_memory, input_unformatted, input_printed, Prints, input_out, text_status}
-use Rattle.bz_tools.specs.declared.exit.Cut.TheVariants as cut
+use Rattle.bz_ports.specs.declared.exit.Cut.TheVariants as cut
 use Rattle.bz_tools.proofs.FormatSteps.{quiet, refused_quiet, ok_of_front, err_of_front}
 use Rattle.bz_tools.proofs.formatting.input_effect.Goals as goal
 

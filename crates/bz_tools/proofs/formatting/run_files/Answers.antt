@@ -1,9 +1,10 @@
 use Rattle.std.proofs.Common.{◌≡◌, ◌∙◌, ◌+◌, inl, refl, ap, subst, arith, List, ℕ, Bor, Bool, [], get_or, map, drop}
 use Rattle.bz_tools.specs.FormatRun as r
 use Rattle.bz_tools.specs.declared.effect.Progress.{Progress}
-use Rattle.bz_tools.proofs.AskedLemmas.{left-cons}
-use Rattle.bz_tools.proofs.Outcomes.{appends_nothing}
-use Rattle.bz_tools.proofs.FormatRuns.{counts_more, cut_more, status_more, writes_more, tells_more, files_more, grown_is}
+use Rattle.bz_ports.specs.Outputs.{WritesUnlessClosed}
+use Rattle.bz_ports.proofs.Written.{left-cons}
+use Rattle.bz_ports.proofs.Outputs.{counts_more, appends_nothing, writes_more, tells_more}
+use Rattle.bz_tools.proofs.FormatRuns.{cut_more, status_more, files_more, grown_is}
 use Rattle.bz_tools.proofs.formatting.run_files.Goals as goal
 
 abbrev none : Bor (List ℕ)
@@ -46,7 +47,7 @@ loop-name-preserved g c =
                 (subst (λ (b : Bool). r.FileStep mode name b (F.folder l.files) step.0 (F.folder e.new.files)) closed step.1) so_far.2,
             writes_more so_far.0.closed step.0.closes (W.faults c.args.out.now) (W.faults l.out) (W.faults e.new.out)
                 (W.contents c.args.out.now) (W.contents l.out) (W.contents e.new.out) so_far.0.out step.0.out so_far.3
-                (subst (λ (b : Bool). r.WritesUnlessClosed b step.0.closes (W.faults l.out) (W.faults e.new.out) (W.contents l.out)
+                (subst (λ (b : Bool). WritesUnlessClosed b step.0.closes (W.faults l.out) (W.faults e.new.out) (W.contents l.out)
                 (W.contents e.new.out) step.0.out) closed step.3),
             tells_more (E.faults c.args.err.now) (E.faults l.err) (E.faults e.new.err) (E.contents c.args.err.now) (E.contents l.err)
                 (E.contents e.new.err) so_far.0.lines step.0.lines so_far.4 step.4,

@@ -5,4 +5,4 @@ use Rattle.bz_tools.proofs.laws.worked_words.Goals as goal
 pub returns : goal.returns
 unfolding clap_on_literals
 returns c =
-    ((refl, refl, refl, refl, refl, refl, refl), (refl, refl, refl), (refl, refl, refl, refl, refl, refl, refl, refl), (refl, refl, refl, refl, refl, refl))
+    ((refl, refl, refl, refl, refl, refl, refl), (refl, refl, refl, refl), (refl, refl, refl, refl, refl, refl, refl, refl), (refl, refl, refl, refl, refl, refl))

@@ -1,6 +1,6 @@
 use Rattle.std.proofs.Common.{◌≡◌, length}
-use Rattle.bz_tools.proofs.Written.{SoFar}
-use Rattle.bz_tools.proofs.sink.write_whole.Given as goal
+use Rattle.bz_ports.proofs.Written.{SoFar}
+use Rattle.bz_ports.proofs.sink.write_whole.Given as goal
 
 abbrev pub invariant-loop-rest : goal.invariant-loop-rest
 invariant-loop-rest g l = record {

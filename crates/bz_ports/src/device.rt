@@ -13,8 +13,8 @@ pub struct Device<T> {
 }
 
 impl<T> Device<T> {
-    ghost use Rattle.bz_tools.specs.Ports.{device_in, device_faults};
-    ghost use Rattle.bz_tools.specs.Faults.{Rises};
+    ghost use Rattle.bz_ports.specs.Ports.{device_in, device_faults};
+    ghost use Rattle.bz_ports.specs.Faults.{Rises};
 
     /// A device that has not failed yet.
     pub fn new(device: T) -> Device<T>

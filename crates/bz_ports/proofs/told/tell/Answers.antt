@@ -1,9 +1,8 @@
 use Rattle.std.proofs.Common.{◌≡◌, ◌+◌, [], ℕ, List, Bor, get_or, map, drop, ap, subst, inl, inr, refl, rules}
 use Rattle.std.specs.List.{concat}
 use Rattle.std.proofs.lemmas.List.{drop_all}
-use Rattle.bz_tools.proofs.AskedLemmas.{left-cons}
-use Rattle.bz_tools.proofs.Written.{SoFar, begins, piece_written, piece_begun, all_written}
-use Rattle.bz_tools.proofs.told.tell.Goals as goal
+use Rattle.bz_ports.proofs.Written.{SoFar, left-cons, begins, piece_written, piece_begun, all_written}
+use Rattle.bz_ports.proofs.told.tell.Goals as goal
 
 abbrev texts : List (Bor (List ℕ)) → List ℕ
 texts pieces = concat (map (λ piece. piece.now) pieces)

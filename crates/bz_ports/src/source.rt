@@ -2,7 +2,7 @@
 ghost use Rattle.std.specs.Prelude.{◌≡◌, ◌≤◌, ◌+◌, ◌<◌, ◌++◌, ℕ, List, Option, IfOk, IfSome, IsOk, IsErr, IsErrOf, take, length, vec_len};
 ghost use Rattle.std.specs.Io.{ReadsAtMost};
 ghost use Rattle.std.specs.Io.KnownBytes.{ReadConsumes, Consumes, IsAtEnd};
-ghost use Rattle.bz_tools.specs.Faults.{Rises};
+ghost use Rattle.bz_ports.specs.Faults.{Rises};
 
 use std::alloc::Global;
 
@@ -29,15 +29,15 @@ pub trait Source {
 
 /// Why no bytes came.
 #[derive(Clone, Copy, Debug, PartialEq, Eq)]
-pub(crate) enum InputFault {
+pub enum InputFault {
     /// Memory was refused.
     Memory,
     /// The reader failed.
     Read,
 }
 
-/// The length of the longest text, and one byte more, by which a longer one is told.
-pub(crate) const MOST: usize = 4_194_305;
+/// The length of the longest text in bytes, and one byte more, by which a longer one is told.
+pub const MOST: usize = 4_194_305;
 
 const CHUNK: usize = 16_384;
 
@@ -67,8 +67,9 @@ fn read_part<S: Source>(
     }
 }
 
-/// The first bytes that are left, at most so many.
-pub(crate) fn read_most<S: Source>(
+/// The first bytes that the source has left: all, or `most` of them where it has more. The errors: Memory, where memory
+/// was refused to keep them; Read, where a read failed, which the source counted. What was read before is then lost.
+pub fn read_most<S: Source>(
     alloc: Global,
     source: &mut S,
     most: usize,

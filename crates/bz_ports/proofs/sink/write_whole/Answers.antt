@@ -1,6 +1,6 @@
 use Rattle.std.proofs.Common.{refl, rules}
-use Rattle.bz_tools.proofs.Written.{begins, goes_on}
-use Rattle.bz_tools.proofs.sink.write_whole.Goals as goal
+use Rattle.bz_ports.proofs.Written.{begins, goes_on}
+use Rattle.bz_ports.proofs.sink.write_whole.Goals as goal
 
 pub loop-rest-init : goal.loop-rest-init
 loop-rest-init g c = record {

@@ -16,7 +16,7 @@ pub struct MemorySource<'a> {
 }
 
 impl<'a> MemorySource<'a> {
-    ghost use Rattle.bz_tools.specs.Ports.{left_in, source_turns, first_turn};
+    ghost use Rattle.bz_ports.specs.Ports.{left_in, source_turns, first_turn};
 
     /// Gives at most `step` bytes a read (0 counts as 1), and fails at the read numbered `fails_at`, from 1; at 0 it
     /// never fails.
@@ -65,7 +65,7 @@ pub struct MemorySink {
 }
 
 impl MemorySink {
-    ghost use Rattle.bz_tools.specs.Ports.{written_in, sink_turns, first_turn};
+    ghost use Rattle.bz_ports.specs.Ports.{written_in, sink_turns, first_turn};
 
     /// Takes at most `step` bytes a write (0 counts as 1), and fails at the write numbered `fails_at`, from 1; at 0 it
     /// fails only where memory is refused.

@@ -2,7 +2,7 @@
 ghost use Rattle.std.specs.Prelude.{◌≡◌, ◌≤◌, ◌<◌, ℕ, List, Option, IfOk, OnOk, OnErr, IsOk, IsErr, length, drop};
 ghost use Rattle.std.specs.Io.{WritesAtMost};
 ghost use Rattle.std.specs.Io.KnownBytes.{WriteAppends, Appends};
-ghost use Rattle.bz_tools.specs.Faults.{Rises, AppendsSome};
+ghost use Rattle.bz_ports.specs.Faults.{Rises, AppendsSome};
 
 use crate::PortFault;
 
@@ -31,8 +31,9 @@ fn after(bytes: &[u8], n: usize) -> &[u8]
     &bytes[n..]
 }
 
-/// Writes all of these bytes. At an `Err` a beginning of them stands on the writer.
-pub(crate) fn write_whole<S: Sink>(sink: &mut S, bytes: &[u8]) -> Result<(), PortFault>
+/// Writes all of these bytes, as many calls as that takes. The error: a write failed, which the writer counted; a
+/// beginning of the bytes then stands on it. Nothing is tried again.
+pub fn write_whole<S: Sink>(sink: &mut S, bytes: &[u8]) -> Result<(), PortFault>
     ensures ok { OnOk result (Appends (S.contents sink.old) (S.contents sink.new) bytes.now) }
     ensures err { OnErr result (AppendsSome (S.contents sink.old) (S.contents sink.new) bytes.now) }
     ensures cause { IsErr result → Rises (S.faults sink.old) (S.faults sink.new) }

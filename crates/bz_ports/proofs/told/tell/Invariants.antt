@@ -1,7 +1,7 @@
 use Rattle.std.proofs.Common.{◌≡◌, map, drop}
 use Rattle.std.specs.List.{concat}
-use Rattle.bz_tools.proofs.Written.{SoFar}
-use Rattle.bz_tools.proofs.told.tell.Given as goal
+use Rattle.bz_ports.proofs.Written.{SoFar}
+use Rattle.bz_ports.proofs.told.tell.Given as goal
 
 -- the pieces so far were written, and no write failed
 abbrev pub invariant-loop-piece : goal.invariant-loop-piece

@@ -1,6 +1,6 @@
 use Rattle.std.proofs.Common.{◌++◌, ◌∙◌, List, ℕ, append_assoc, codes, decimal, sym, subst}
-use Rattle.bz_tools.specs.Faults.{AppendsUnlessFailed}
-use Rattle.bz_tools.proofs.told.tell_not_utf8.Goals as goal
+use Rattle.bz_ports.specs.Faults.{AppendsUnlessFailed}
+use Rattle.bz_ports.proofs.told.tell_not_utf8.Goals as goal
 
 pub returns : goal.returns
 returns g c =

@@ -1,10 +1,10 @@
 -- A loop that writes the rest of some bytes.
-use Rattle.std.proofs.Common.{◌≡◌, ◌≤◌, ◌+◌, ◌-◌, ◌++◌, ℕ, List, [], length, take, drop, Option, Some, None, arith, refl, ap, sym, subst, ◌∙◌, append_assoc, length-append, length-drop}
+use Rattle.std.proofs.Common.{◌≡◌, ◌≤◌, ◌<◌, ◌+◌, ◌-◌, ◌++◌, ◌∷◌, ℕ, List, [], length, get_or, add-one, take, drop, Option, Some, None, arith, refl, ap, sym, subst, ◌∙◌, append_assoc, length-append, length-drop}
 use Rattle.std.specs.Io.KnownBytes.{Appends}
 use Rattle.std.proofs.lemmas.Grind.{common_steps}
-use Rattle.std.proofs.Math.Seq.{take-add, take-append_seam, drop-append_seam}
+use Rattle.std.proofs.Math.Seq.{drop-cons, take-add, take-append_seam, drop-append_seam}
 use Rattle.std.proofs.lemmas.List.{drop-drop, take_all, take-append-le}
-use Rattle.bz_tools.specs.Faults.{AppendsSome}
+use Rattle.bz_ports.specs.Faults.{AppendsSome}
 
 pub record SoFar (old now : Option (List ℕ)) (bytes rest : List ℕ) : Type 0 where
   pub some : AppendsSome old now bytes
@@ -61,3 +61,7 @@ pub all_written : (old now : Option (List ℕ)) (bytes : List ℕ) → SoFar old
 all_written old now bytes so =
     let len : 0 ≡ length bytes - so.some.count = ap length so.rest_is ∙ length-drop so.some.count bytes in
     subst (Appends old now) (take_all so.some.count bytes (omega arith)) so.some.appends
+
+-- what is left at a place is the item there and what is left behind it
+pub left-cons : {A : Type 0} (items : List A) (at : ℕ) (default : A) → at < length items → drop at items ≡ get_or items at default ∷ drop (at + 1) items
+left-cons items at default within = rw (add-one) (drop-cons items at default within)

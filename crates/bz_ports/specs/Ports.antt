@@ -1,8 +1,8 @@
 -- What the readers and writers of this crate hold.
 use Rattle.std.specs.Prelude.{ℕ, List, max}
-use Rattle.bz_tools.specs.declared.device.Device.{Device}
-use Rattle.bz_tools.specs.declared.memory.MemorySink.{MemorySink}
-use Rattle.bz_tools.specs.declared.memory.MemorySource.{MemorySource}
+use Rattle.bz_ports.specs.declared.device.Device.{Device}
+use Rattle.bz_ports.specs.declared.memory.MemorySink.{MemorySink}
+use Rattle.bz_ports.specs.declared.memory.MemorySource.{MemorySource}
 
 -- the reader or writer of std's
 abbrev pub device_in : {T : Type 0} → Device T → T

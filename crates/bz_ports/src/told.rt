@@ -1,0 +1,91 @@
+//! The lines on standard error that speak of files. Its faults are passed over.
+ghost use Rattle.std.specs.Prelude.{◌≡◌, map};
+ghost use Rattle.std.specs.List.{concat};
+ghost use Rattle.bz_ports.specs.Faults.{AppendsUnlessFailed};
+ghost use Rattle.bz_ports.specs.Told.{place_line, named_line, fault_line};
+
+use crate::{Sink, write_whole};
+use bz_lex::ReadFault;
+use itoa::Buffer;
+
+/// The name by which standard input is told.
+pub const STDIN: &str = "<stdin>";
+
+/// Writes these pieces to `err`, one behind the other, up to its first fault: a beginning of them then stands there, and
+/// what is left is dropped. It takes no memory itself.
+pub fn tell<E: Sink>(err: &mut E, pieces: &[&str])
+    ensures { AppendsUnlessFailed (E.faults err.old) (E.faults err.new) (E.contents err.old) (E.contents err.new)
+        (concat (map (λ piece. piece.now) pieces.now)) }
+{
+    for &piece in pieces {
+        match write_whole(err, piece.as_bytes()) {
+            Ok(()) => {}
+            Err(_) => return,
+        }
+    }
+}
+
+// Tells where a file is not accepted, and why.
+fn tell_place<'a, E: Sink>(err: &mut E, file: &'a str, line: u32, column: u32, name: &'a str)
+    ensures { AppendsUnlessFailed (E.faults err.old) (E.faults err.new) (E.contents err.old) (E.contents err.new)
+        (place_line file.entry.now line column name.entry.now) }
+{
+    let mut lines = Buffer::new();
+    let mut columns = Buffer::new();
+    let line = lines.format(line);
+    let column = columns.format(column);
+    tell(err, &[file, ":", line, ":", column, ": ", name, "\n"]);
+}
+
+fn tell_not_utf8<E: Sink>(err: &mut E, file: &str, at: usize)
+    ensures { AppendsUnlessFailed (E.faults err.old) (E.faults err.new) (E.contents err.old) (E.contents err.new)
+        (fault_line file.now (ReadFault.NotUtf8 at)) }
+{
+    let mut places = Buffer::new();
+    let at = places.format(at);
+    tell(err, &[file, ": NotUtf8 at ", at, "\n"]);
+}
+
+/// Tells a word on a file: writes `FILE: WORD` and a newline to `err`, up to its first fault. It takes no memory itself.
+pub fn tell_named<'a, E: Sink>(err: &mut E, file: &'a str, word: &'a str)
+    ensures { AppendsUnlessFailed (E.faults err.old) (E.faults err.new) (E.contents err.old) (E.contents err.new)
+        (named_line file.entry.now word.entry.now) }
+{
+    tell(err, &[file, ": ", word, "\n"]);
+}
+
+/// Tells why a file is not accepted: writes `FILE:LINE:COLUMN: NAME` to `err`, `FILE: NotUtf8 at BYTE` or, where the
+/// fault has no place, `FILE: NAME`, and a newline, up to its first fault. It takes no memory itself.
+pub fn tell_fault<E: Sink>(err: &mut E, file: &str, fault: &ReadFault)
+    ensures { AppendsUnlessFailed (E.faults err.old) (E.faults err.new) (E.contents err.old) (E.contents err.new)
+        (fault_line file.now fault.now) }
+{
+    match fault {
+        ReadFault::NotUtf8 { at } => tell_not_utf8(err, file, *at),
+        ReadFault::TooLarge => tell_named(err, file, "TooLarge"),
+        ReadFault::BadCharacter { line, column } => tell_place(
+            err,
+            file,
+            *line,
+            *column,
+            "BadCharacter",
+        ),
+        ReadFault::OpenString { line, column } => tell_place(
+            err,
+            file,
+            *line,
+            *column,
+            "OpenString",
+        ),
+        ReadFault::Indented { line, column } => tell_place(err, file, *line, *column, "Indented"),
+        ReadFault::Unexpected { line, column } => tell_place(
+            err,
+            file,
+            *line,
+            *column,
+            "Unexpected",
+        ),
+        ReadFault::TooDeep { line, column } => tell_place(err, file, *line, *column, "TooDeep"),
+        ReadFault::Memory => tell_named(err, file, "Memory"),
+    }
+}
