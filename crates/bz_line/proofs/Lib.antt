@@ -1,0 +1,4 @@
+pub mod AskedLemmas
+pub mod Counts
+pub mod GroupLemmas
+pub mod Texts

@@ -1,0 +1,30 @@
+use Rattle.std.proofs.Common.{ℕ, List, Bor, [], ◌+◌, take, drop, get_or, inl, inr}
+use Rattle.bz_line.specs.Shown.{asked_in}
+use Rattle.bz_line.proofs.AskedLemmas.{asked_turn}
+use Rattle.bz_line.proofs.Texts.{texts_in, texts_more, texts_split}
+use Rattle.bz_line.proofs.asked.read_asked.Goals as goal
+
+pub loop-operand-preserved : goal.loop-operand-preserved
+loop-operand-preserved c =
+    let operands : List (Bor (List ℕ)) = c.args.operands.now in
+    let at = c.loop-operand.operand-index in
+    let none : Bor (List ℕ) = record { ref_ptr = (0, 0); now = [] } in
+    asked_turn (texts_in (take at operands)) _ (get_or operands at none).now (asked_in c.loop-operand.asked) (asked_in c.add.new.asked)
+    (texts_more operands at none c.loop-operand-test.true) c.loop-operand.invariant c.in-Ok.ensures.ok
+
+pub returns-in-Err-clause-err : goal.returns-in-Err-clause-err
+returns-in-Err-clause-err c =
+    let operands : List (Bor (List ℕ)) = c.args.operands.now in
+    let at = c.loop-operand.operand-index in
+    let none : Bor (List ℕ) = record { ref_ptr = (0, 0); now = [] } in
+    elim c.in-Err.ensures.err [
+      | inl fault ↦ inl (record {
+        front = texts_in (take at operands);
+        rest = texts_in (drop (at + 1) operands);
+        asked = asked_in c.loop-operand.asked;
+        split = texts_split operands at none c.loop-operand-test.true;
+        before = c.loop-operand.invariant;
+        fault = fault;
+      })
+      | inr memory ↦ inr memory
+    ]

@@ -1,0 +1,70 @@
+-- What the operands of one line ask for: commands, in order, and targets, in order.
+use Rattle.std.specs.Prelude.{List, [], ◌∷◌, ◌++◌, if◌then◌else◌, Result, Ok, Err}
+use Rattle.bz_label.specs.Pieces.{Bytes}
+use Rattle.bz_label.specs.declared.target.Target.{Target}
+use Rattle.bz_line.specs.Operands.{is_target, target_of, verb_of}
+use Rattle.bz_line.specs.declared.verb.Verb.{Verb}
+use Rattle.bz_line.specs.declared.verb.OperandFault.{OperandFault}
+
+-- a command, and its text
+pub record Asking : Type 0 where
+  pub verb : Verb
+  pub text : Bytes
+
+pub record Asked : Type 0 where
+  pub commands : List Asking
+  pub targets : List Target
+
+-- an operand that is refused
+pub record Refused : Type 0 where
+  pub operand : Bytes
+  pub fault : OperandFault
+
+abbrev pub nothing : Asked
+nothing = record { commands = []; targets = [] }
+
+abbrev pub both : Asked → Asked → Asked
+both first more = record { commands = first.commands ++ more.commands; targets = first.targets ++ more.targets }
+
+abbrev pub wanted : Bytes → Result Verb OperandFault → Result Asked Refused
+wanted operand (Ok verb) = Ok (record { commands = record { verb = verb; text = operand } ∷ []; targets = [] })
+wanted operand (Err fault) = Err (record { operand = operand; fault = fault })
+
+abbrev pub aimed : Bytes → Result Target OperandFault → Result Asked Refused
+aimed operand (Ok target) = Ok (record { commands = []; targets = target ∷ [] })
+aimed operand (Err fault) = Err (record { operand = operand; fault = fault })
+
+-- what one operand asks for
+abbrev pub asked_by : Bytes → Result Asked Refused
+asked_by operand = if is_target operand then aimed operand (target_of operand) else wanted operand (verb_of operand)
+
+-- The first refused operand, in order, is told.
+abbrev pub joined : Result Asked Refused → Result Asked Refused → Result Asked Refused
+joined (Ok first) (Ok more) = Ok (both first more)
+joined (Ok first) (Err refused) = Err refused
+joined (Err refused) more = Err refused
+
+abbrev pub asked_of : List Bytes → Result Asked Refused
+asked_of [] = Ok nothing
+asked_of (operand ∷ operands) = joined (asked_by operand) (asked_of operands)
+
+-- why commands and targets of one line are none
+pub data Usage : Type 0 where
+  of_operand : Refused → Usage
+  no_command : Usage
+  no_target : Usage
+  no_line : Usage
+
+-- A line has a command and a target of its own.
+abbrev pub complete : List Asking → List Target → Result Asked Usage
+complete [] targets = Err no_command
+complete (command ∷ commands) [] = Err no_target
+complete (command ∷ commands) (target ∷ targets) = Ok (record { commands = command ∷ commands; targets = target ∷ targets })
+
+abbrev pub accepted : Result Asked Refused → Result Asked Usage
+accepted (Ok asked) = complete asked.commands asked.targets
+accepted (Err refused) = Err (of_operand refused)
+
+-- one line: its operands, of which one at least is a command and one a target
+abbrev pub group_of : List Bytes → Result Asked Usage
+group_of operands = accepted (asked_of operands)

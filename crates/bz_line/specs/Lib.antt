@@ -1,0 +1,10 @@
+pub mod App
+pub mod Asked
+pub mod Characters
+pub mod Line
+pub mod Operands
+pub mod Refused
+pub mod Script
+pub mod Shown
+pub mod Verbs
+pub mod Worked

@@ -1,0 +1,48 @@
+-- Why operands and lines are refused. Whether `regex` takes a pattern is told here alone: a command's pattern is its source.
+use Rattle.std.specs.Prelude.{◌≡◌, ◌⊎◌, List, [], ◌∷◌, ◌++◌, Ok, Err}
+use Rattle.bz_label.specs.Pieces.{Bytes}
+use Rattle.bz_words.specs.Commands.{command_of}
+use Rattle.bz_words.specs.Refused.{HasBadPattern}
+use Rattle.bz_words.specs.declared.fault.CommandFault.TheVariants.{BadPattern}
+use Rattle.bz_line.specs.Asked.{Asked, Refused, Usage, of_operand, no_command, no_target, no_line, asked_by, asked_of, group_of}
+use Rattle.bz_line.specs.Script.{lines_in, operands_in, groups_of}
+use Rattle.bz_line.specs.declared.verb.OperandFault.{OperandFault}
+use Rattle.bz_line.specs.declared.verb.OperandFault.TheVariants.{Command}
+
+-- a substitution whose pattern `regex` refuses
+abbrev pub IsPatternFault : Bytes → OperandFault → Type 0
+IsPatternFault operand fault = (fault ≡ Command BadPattern) × HasBadPattern (command_of operand)
+
+-- memory aside: what the operand asks for, or a pattern that is refused where nothing else is wrong
+abbrev pub IsOperandFault : Bytes → OperandFault → Type 0
+IsOperandFault operand fault = (asked_by operand ≡ Err (record { operand = operand; fault = fault })) ⊎ IsPatternFault operand fault
+
+-- The first operand that is refused.
+pub record IsFirstRefused (operands : List Bytes) (refused : Refused) : Type 0 where
+  pub front : List Bytes
+  pub rest : List Bytes
+  pub asked : Asked
+  pub split : operands ≡ front ++ refused.operand ∷ rest
+  pub before : asked_of front ≡ Ok asked
+  pub fault : IsOperandFault refused.operand refused.fault
+
+-- why the operands of one line ask for nothing
+abbrev pub IsGroupFault : List Bytes → Usage → Type 0
+IsGroupFault operands (of_operand refused) = IsFirstRefused operands refused
+IsGroupFault operands no_command = group_of operands ≡ Err no_command
+IsGroupFault operands no_target = group_of operands ≡ Err no_target
+IsGroupFault operands no_line = ⊥
+
+-- The first line that asks for nothing: those in front of it ask for something.
+pub record IsFirstFault (lines : List Bytes) (usage : Usage) : Type 0 where
+  pub front : List Bytes
+  pub line : Bytes
+  pub rest : List Bytes
+  pub groups : List Asked
+  pub split : lines ≡ front ++ line ∷ rest
+  pub before : groups_of front ≡ Ok groups
+  pub fault : IsGroupFault (operands_in line) usage
+
+-- why the lines of a file ask for nothing
+abbrev pub IsScriptFault : Bytes → Usage → Type 0
+IsScriptFault text usage = ((usage ≡ no_line) × (lines_in text ≡ [])) ⊎ IsFirstFault (lines_in text) usage

@@ -1,0 +1,44 @@
+-- What was read, as contracts see it.
+use Rattle.std.specs.Prelude.{map, Option, Some, None}
+use Rattle.bz_line.specs.Asked as a
+use Rattle.bz_line.specs.Line as l
+use Rattle.bz_line.specs.declared.asked.Asked.{Asked}
+use Rattle.bz_line.specs.declared.asked.Asking.{Asking}
+use Rattle.bz_line.specs.declared.asked.Refused.{Refused}
+use Rattle.bz_line.specs.declared.group.UsageFault.{UsageFault}
+use Rattle.bz_line.specs.declared.group.UsageFault.TheVariants as u
+use Rattle.bz_line.specs.declared.line.Given.{Given}
+use Rattle.bz_line.specs.declared.line.Given.TheVariants as g
+use Rattle.bz_line.specs.declared.line.Line.{Line}
+use Rattle.bz_line.specs.declared.line.LineFault.{LineFault}
+use Rattle.bz_line.specs.declared.line.LineFault.TheVariants as f
+
+abbrev pub given_in : Given → l.Given
+given_in (g.Operands operands) = l.operands (map (λ s. s.now) operands.items)
+given_in (g.Script file) = l.script file.now
+
+abbrev pub line_in : Line → l.Line
+line_in line = record { options = line.options; given = given_in line.given }
+
+-- why words are no line, where memory is not the cause
+abbrev pub line_usage_in : LineFault → Option l.LineUsage
+line_usage_in (f.Clap error) = Some l.of_clap
+line_usage_in f.BesideScript = Some l.beside_script
+line_usage_in f.Memory = None
+
+abbrev pub asking_in : Asking → a.Asking
+asking_in asking = record { verb = asking.verb; text = asking.text.now }
+
+abbrev pub asked_in : Asked → a.Asked
+asked_in asked = record { commands = map asking_in asked.commands.items; targets = asked.targets.items }
+
+abbrev pub refused_in : Refused → a.Refused
+refused_in refused = record { operand = refused.operand.now; fault = refused.fault }
+
+-- why operands or lines ask for nothing, where memory is not the cause
+abbrev pub usage_in : UsageFault → Option a.Usage
+usage_in (u.Operand refused) = Some (a.of_operand (refused_in refused))
+usage_in u.NoCommand = Some a.no_command
+usage_in u.NoTarget = Some a.no_target
+usage_in u.NoLine = Some a.no_line
+usage_in u.Memory = None

@@ -1,0 +1,92 @@
+-- Worked rows: what lines of words and files of lines say.
+use Rattle.std.specs.Prelude.{◌≡◌, [], ◌∷◌, ◌++◌, codes, Ok, Err, true, false}
+use Rattle.bz_label.specs.Pieces.{Bytes}
+use Rattle.bz_label.specs.declared.target.Target.{Target}
+use Rattle.bz_label.specs.declared.target.Which.TheVariants.{Name}
+use Rattle.bz_words.specs.declared.command.Operation.TheVariants.{Delete}
+use Rattle.bz_words.specs.declared.fault.CommandFault.TheVariants.{Unknown, Arguments}
+use Rattle.bz_line.specs.Asked.{Asked, Asking, Usage, of_operand, no_command, no_target, no_line, group_of}
+use Rattle.bz_line.specs.Line.{Line, Given, operands, script, of_clap, beside_script, line_of}
+use Rattle.bz_line.specs.Operands.{target_of, verb_of}
+use Rattle.bz_line.specs.Script.{script_of}
+use Rattle.bz_line.specs.declared.line.Options.{Options}
+use Rattle.bz_line.specs.declared.verb.OperandFault.{OperandFault}
+use Rattle.bz_line.specs.declared.verb.OperandFault.TheVariants.{BadTarget, Command}
+use Rattle.bz_line.specs.declared.verb.Verb.{Verb}
+use Rattle.bz_line.specs.declared.verb.Verb.TheVariants.{Do, Undo, Redo}
+
+abbrev plain : Options
+plain = record { keep_going = false; to_stdout = false; quiet = false }
+
+abbrev with_plain : Given → Line
+with_plain given = record { options = plain; given = given }
+
+-- no word; each option; what stands behind two dashes is an operand; options between operands
+abbrev Words : Type 0
+Words = (line_of [] ≡ Ok (with_plain (operands [])))
+    × (line_of (codes "-k" ∷ []) ≡ Ok (record { options = record plain { keep_going = true }; given = operands [] }))
+    × (line_of (codes "--stdout" ∷ []) ≡ Ok (record { options = record plain { to_stdout = true }; given = operands [] }))
+    × (line_of (codes "--quiet" ∷ []) ≡ Ok (record { options = record plain { quiet = true }; given = operands [] }))
+    × (line_of (codes "--" ∷ codes "delete" ∷ codes "-:x" ∷ []) ≡ Ok (with_plain (operands (codes "delete" ∷ codes "-:x" ∷ []))))
+    × (line_of (codes "delete" ∷ codes "-k" ∷ codes "//a:x" ∷ [])
+    ≡ Ok (record { options = record plain { keep_going = true }; given = operands (codes "delete" ∷ codes "//a:x" ∷ []) }))
+
+-- a file of lines, standard input as one, `-k` in the same word; operands beside it, a repeated option, one without its value, an
+-- unknown one
+abbrev Scripts : Type 0
+Scripts = (line_of (codes "-f" ∷ codes "lines" ∷ []) ≡ Ok (with_plain (script (codes "lines"))))
+    × (line_of (codes "-f" ∷ codes "-" ∷ []) ≡ Ok (with_plain (script (codes "-"))))
+    × (line_of (codes "-kf" ∷ codes "-" ∷ []) ≡ Ok (record { options = record plain { keep_going = true }; given = script (codes "-") }))
+    × (line_of (codes "delete" ∷ codes "-f" ∷ codes "lines" ∷ []) ≡ Err beside_script)
+    × (line_of (codes "-k" ∷ codes "-k" ∷ []) ≡ Err of_clap) × (line_of (codes "-f" ∷ []) ≡ Err of_clap)
+    × (line_of (codes "delete" ∷ codes "-:x" ∷ []) ≡ Err of_clap)
+
+-- the rule of this name in the package a
+abbrev meant : Bytes → Target
+meant name = record { «package» = codes "a"; which = Name name }
+
+abbrev asking : Verb → Bytes → Asking
+asking verb text = record { verb = verb; text = text }
+
+abbrev deleted : Bytes → Asked
+deleted name = record { commands = asking (Do Delete) (codes "delete") ∷ []; targets = meant name ∷ [] }
+
+abbrev refused : Bytes → OperandFault → Usage
+refused operand fault = of_operand (record { operand = operand; fault = fault })
+
+-- commands and targets mixed, each in order; the first refused operand; no command; no target; no operand
+abbrev Groups : Type 0
+Groups = (group_of (codes "//a:x" ∷ codes "undo 007" ∷ codes "a:y" ∷ codes " redo" ∷ [])
+    ≡ Ok (record { commands = asking (Undo 7) (codes "undo 007") ∷ asking (Redo 1) (codes " redo") ∷ []; targets = meant (codes "x") ∷ meant (codes "y") ∷ [] }))
+    × (group_of (codes "delete" ∷ codes "//a:" ∷ codes "grow" ∷ []) ≡ Err (refused (codes "//a:") BadTarget))
+    × (group_of (codes "//a:x" ∷ []) ≡ Err no_command) × (group_of (codes "delete" ∷ []) ≡ Err no_target) × (group_of [] ≡ Err no_command)
+
+-- a byte that ends no line
+abbrev carriage_return : Bytes
+carriage_return = 13 ∷ []
+
+-- comments, empty lines and a last line without its newline; a carriage return, which belongs to its line
+abbrev Lines : Type 0
+Lines = (script_of (codes "# all\n\ndelete|//a:x\n#\n//a:y|delete") ≡ Ok (deleted (codes "x") ∷ deleted (codes "y") ∷ []))
+    × (script_of (codes "delete|//a:x" ++ carriage_return ++ codes "\n") ≡ Ok (deleted (codes "x" ++ carriage_return) ∷ []))
+    × (script_of carriage_return ≡ Err (refused carriage_return (Command Unknown)))
+
+-- a line with no text to read; a mark that is not the line's first; an empty operand; blanks around a bar, which belong to the operands
+abbrev Faults : Type 0
+Faults = (script_of [] ≡ Err no_line) × (script_of (codes "#delete|//a:x\n\n") ≡ Err no_line)
+    × (script_of (codes " #\n") ≡ Err (refused (codes " #") (Command Unknown)))
+    × (script_of (codes "delete||//a:x\n") ≡ Err (refused [] (Command Unknown)))
+    × (script_of (codes "delete | //a:x\n") ≡ Err (refused (codes " //a:x") (Command Unknown)))
+    × (script_of (codes "delete|//a:x\ndelete\n//a:x\n") ≡ Err no_target)
+    × (script_of (codes "//a:x\ngrow\n") ≡ Err no_command)
+    × (script_of (codes "delete\ngrow|a:\n") ≡ Err no_target)
+
+-- targets and commands, each by its text alone
+abbrev Operands : Type 0
+Operands = (target_of (codes "//a:x") ≡ Ok (meant (codes "x"))) × (target_of (codes "//a/") ≡ Err BadTarget)
+    × (verb_of (codes "redo") ≡ Ok (Redo 1)) × (verb_of (codes "undo 0") ≡ Err (Command Arguments))
+    × (verb_of (codes "undo +1") ≡ Err (Command Arguments)) × (verb_of (codes "redo 4294967296") ≡ Err (Command Arguments))
+    × (verb_of (codes "journal") ≡ Err (Command Unknown)) × (verb_of [] ≡ Err (Command Unknown))
+
+abbrev pub WorkedLines : Type 0
+WorkedLines = Words × Scripts × Groups × Lines × Faults × Operands

@@ -1,0 +1,64 @@
+//! One line: its commands and its targets.
+ghost use Rattle.std.specs.Prelude.{◌≡◌, ◌≢◌, ◌⊎◌, Ok, Err, Some, None, IfOk, IfErr, IfSome, map};
+ghost use Rattle.bz_line.specs.Asked.{group_of, of_operand};
+ghost use Rattle.bz_line.specs.Refused.{IsGroupFault};
+ghost use Rattle.bz_line.specs.Shown.{asked_in, refused_in, usage_in};
+
+use crate::asked::{Asked, Refused, read_asked};
+use crate::verb::OperandFault;
+use std::alloc::{AllocError, Global};
+
+/// Why operands, or the lines of a file, ask for nothing.
+#[derive(Debug, Drop)]
+pub enum UsageFault<'a> {
+    /// The first operand that is refused.
+    Operand(Refused<'a>),
+    /// There is no command.
+    NoCommand,
+    /// There is no target.
+    NoTarget,
+    /// The file has no line of operands.
+    NoLine,
+    /// A growth was refused.
+    Memory,
+}
+
+impl From<AllocError> for UsageFault<'_> {
+    ghost use Rattle.std.specs.Prelude.{◌≡◌};
+    ghost use Rattle.bz_line.specs.declared.group.UsageFault.TheVariants as fault;
+
+    ghost from_gives = { λ _ made. made ≡ fault.Memory };
+
+    fn from(_refused: AllocError) -> Self {
+        UsageFault::Memory
+    }
+}
+
+fn usage_fault(refused: Refused<'_>) -> UsageFault<'_>
+    ensures { (usage_in result ≡ Some (of_operand (refused_in refused.entry))) × (refused.entry.fault ≢ OperandFault.Memory)
+        ⊎ (usage_in result ≡ None) }
+{
+    match refused.fault {
+        OperandFault::Memory => UsageFault::Memory,
+        _ => UsageFault::Operand(refused),
+    }
+}
+
+/// What the operands of one line ask for: commands and targets, at least one of each, in order. Errors, in this order:
+/// `Operand` where one is refused, which is the first such; `NoCommand`; `NoTarget`; and `Memory` where a growth was refused.
+pub fn read_group<'a>(alloc: Global, operands: &[&'a str]) -> Result<Asked<'a>, UsageFault<'a>>
+    ensures ok { IfOk result (λ asked. group_of (map (λ s. s.now) operands.now) ≡ Ok (asked_in asked)) }
+    ensures err { IfErr result (λ fault. IfSome (usage_in fault) (IsGroupFault (map (λ s. s.now) operands.now))) }
+{
+    let asked = match read_asked(alloc, operands) {
+        Ok(asked) => asked,
+        Err(refused) => return Err(usage_fault(refused)),
+    };
+    if asked.commands.is_empty() {
+        return Err(UsageFault::NoCommand);
+    }
+    if asked.targets.is_empty() {
+        return Err(UsageFault::NoTarget);
+    }
+    Ok(asked)
+}

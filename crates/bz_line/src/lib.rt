@@ -1,0 +1,17 @@
+//! What a line of buildozer asks for: options, commands and targets, among the words or in a file of lines.
+#![tactic(auto)]
+
+mod asked;
+mod group;
+mod laws;
+mod line;
+mod script;
+mod target;
+mod verb;
+
+pub use asked::{Asked, Asking, Refused};
+pub use group::{UsageFault, read_group};
+pub use laws::worked_lines;
+pub use line::{Given, Line, LineFault, Options, read_line};
+pub use script::read_script;
+pub use verb::{OperandFault, Verb};

@@ -1,0 +1,202 @@
+//! The words of a command line: options, and where commands and targets stand.
+ghost use Rattle.std.specs.Prelude.{◌≡◌, [], false, Ok, Err, IfOk, IfErr, IfSome, map, option_map, unwrap_or};
+ghost use Rattle.clap.specs.Words.{app_of, rule_of, found_of, fault_of, matches_of, rows_of, all_of, first_of};
+ghost use Rattle.bz_line.specs.App.{buildozer_app, options_app, keep_going_rule, file_rule, stdout_rule, quiet_rule, operand_rule};
+ghost use Rattle.bz_line.specs.Line.{is_set, options_of, given_of, line_of};
+ghost use Rattle.bz_line.specs.Shown.{given_in, line_in, line_usage_in};
+
+use clap::error::ErrorKind;
+use clap::{Arg, ArgAction, ArgMatches, Command};
+use std::alloc::{AllocError, Global};
+use std::convert::AsStr;
+
+/// How the lines are run.
+#[derive(Clone, Copy, Debug)]
+pub struct Options {
+    /// `-k`: a line that fails doesn't keep the next ones from being run.
+    pub keep_going: bool,
+    /// `--stdout`: what a file becomes is written to standard output.
+    pub to_stdout: bool,
+    /// `--quiet`: nothing is told of what was done.
+    pub quiet: bool,
+}
+
+/// Where commands and targets stand.
+#[derive(Debug, Drop)]
+pub enum Given<'a> {
+    /// Among the words: these are all of them that are no option's.
+    Operands(Vec<&'a str>),
+    /// In a file of lines, of this name: `-f FILE`. `-` stands for standard input.
+    Script(&'a str),
+}
+
+/// What the words of a command line say.
+#[derive(Debug, Drop)]
+pub struct Line<'a> {
+    pub options: Options,
+    pub given: Given<'a>,
+}
+
+/// Why words are no line of the program's.
+#[derive(Debug, Drop)]
+pub enum LineFault {
+    /// They don't fit the program's options, or one stands there twice; clap's text says why.
+    Clap(clap::Error),
+    /// There are operands beside `-f`.
+    BesideScript,
+    /// A growth was refused.
+    Memory,
+}
+
+fn keep_going<'a>(alloc: Global) -> Arg<'a>
+    ensures rule { rule_of result ≡ keep_going_rule }
+    ensures local { result.global ≡ false }
+{
+    Arg::new(alloc, "keep_going")
+        .short('k')
+        .action(ArgAction::SetTrue)
+}
+
+fn file<'a>(alloc: Global) -> Arg<'a>
+    ensures rule { rule_of result ≡ file_rule }
+    ensures local { result.global ≡ false }
+{
+    Arg::new(alloc, "file").short('f')
+}
+
+fn to_stdout<'a>(alloc: Global) -> Arg<'a>
+    ensures rule { rule_of result ≡ stdout_rule }
+    ensures local { result.global ≡ false }
+{
+    Arg::new(alloc, "stdout")
+        .long("stdout")
+        .action(ArgAction::SetTrue)
+}
+
+fn quiet<'a>(alloc: Global) -> Arg<'a>
+    ensures rule { rule_of result ≡ quiet_rule }
+    ensures local { result.global ≡ false }
+{
+    Arg::new(alloc, "quiet")
+        .long("quiet")
+        .action(ArgAction::SetTrue)
+}
+
+fn operand<'a>(alloc: Global) -> Arg<'a>
+    ensures rule { rule_of result ≡ operand_rule }
+    ensures local { result.global ≡ false }
+{
+    Arg::new(alloc, "operand").action(ArgAction::Append)
+}
+
+fn options_command<'a>(alloc: Global) -> Result<Command<'a>, AllocError>
+    ensures { IfOk result (λ command. app_of command ≡ options_app) }
+{
+    Command::new(alloc, "buildozer")
+        .no_binary_name(true)
+        .arg(keep_going(alloc))?
+        .arg(file(alloc))?
+        .arg(to_stdout(alloc))?
+        .arg(quiet(alloc))
+}
+
+fn buildozer_command<'a>(alloc: Global) -> Result<Command<'a>, AllocError>
+    ensures { IfOk result (λ command. app_of command ≡ buildozer_app) }
+{
+    options_command(alloc)?.arg(operand(alloc))
+}
+
+fn parse<'a, S: AsStr>(alloc: Global, words: &'a [S]) -> Result<ArgMatches<'a>, LineFault>
+    ensures ok { IfOk result (λ m. (fault_of buildozer_app (map S.text words.entry.now) ≡ [])
+        × (rows_of (found_of m) ≡ matches_of buildozer_app (map S.text words.entry.now))) }
+    ensures err { IfErr result (λ fault. IfSome (line_usage_in fault) (λ usage. line_of (map S.text words.entry.now) ≡ Err usage)) }
+{
+    let command = match buildozer_command(alloc) {
+        Ok(command) => command,
+        Err(_) => return Err(LineFault::Memory),
+    };
+    match command.try_get_matches_from(words) {
+        Ok(matches) => Ok(matches),
+        Err(error) if error.kind() == ErrorKind::OutOfMemory => Err(LineFault::Memory),
+        Err(error) => Err(LineFault::Clap(error)),
+    }
+}
+
+fn text_of<'a>(matches: &ArgMatches<'a>, id: &str) -> Option<&'a str>
+    ensures { option_map (λ s. s.now) result ≡ first_of id.now (rows_of (found_of matches.now)) }
+{
+    matches.get_str(id)
+}
+
+fn slice_of<'m, 'a>(matches: &'m ArgMatches<'a>, id: &str) -> Option<&'m [&'a str]>
+    ensures { option_map (λ s. map (λ v. v.now) s.now) result
+        ≡ all_of id.now (rows_of (found_of matches.now)) }
+{
+    matches.get_strs(id)
+}
+
+fn is_set(matches: &ArgMatches<'_>, id: &str) -> bool
+    ensures { result ≡ is_set id.now (rows_of (found_of matches.now)) }
+{
+    match text_of(matches, id) {
+        Some(text) => text == "true",
+        None => false,
+    }
+}
+
+// The texts of an argument, in order.
+fn texts_of<'a>(
+    alloc: Global,
+    matches: &ArgMatches<'a>,
+    id: &str,
+) -> Result<Vec<&'a str>, AllocError>
+    ensures { IfOk result (λ texts. map (λ s. s.now) texts.items
+        ≡ unwrap_or (all_of id.now (rows_of (found_of matches.now))) []) }
+{
+    match slice_of(matches, id) {
+        Some(texts) => Vec::from_slice(alloc, texts),
+        None => Ok(Vec::new(alloc)),
+    }
+}
+
+fn options_of(matches: &ArgMatches<'_>) -> Options
+    ensures { result ≡ options_of (rows_of (found_of matches.now)) }
+{
+    Options {
+        keep_going: is_set(matches, "keep_going"),
+        to_stdout: is_set(matches, "stdout"),
+        quiet: is_set(matches, "quiet"),
+    }
+}
+
+fn given_of<'a>(alloc: Global, matches: &ArgMatches<'a>) -> Result<Given<'a>, LineFault>
+    ensures ok { IfOk result (λ given. given_of (rows_of (found_of matches.now)) ≡ Ok (given_in given)) }
+    ensures err { IfErr result (λ fault. IfSome (line_usage_in fault) (λ usage. given_of (rows_of (found_of matches.now)) ≡ Err usage)) }
+{
+    let operands = match texts_of(alloc, matches, "operand") {
+        Ok(operands) => operands,
+        Err(_) => return Err(LineFault::Memory),
+    };
+    let Some(file) = text_of(matches, "file") else {
+        return Ok(Given::Operands(operands));
+    };
+    if operands.is_empty() {
+        Ok(Given::Script(file))
+    } else {
+        Err(LineFault::BesideScript)
+    }
+}
+
+/// What the words behind the program's name say. Errors: `Clap` where clap finds a fault in them, repeated options among
+/// these; `BesideScript` where operands stand beside `-f`; `Memory`: a growth was refused.
+pub fn read_line<'a, S: AsStr>(alloc: Global, words: &'a [S]) -> Result<Line<'a>, LineFault>
+    ensures ok { IfOk result (λ line. line_of (map S.text words.entry.now) ≡ Ok (line_in line)) }
+    ensures err { IfErr result (λ fault. IfSome (line_usage_in fault) (λ usage. line_of (map S.text words.entry.now) ≡ Err usage)) }
+{
+    let matches = parse(alloc, words)?;
+    let given = given_of(alloc, &matches)?;
+    Ok(Line {
+        options: options_of(&matches),
+        given,
+    })
+}

@@ -1,0 +1,95 @@
+//! A file of lines.
+ghost use Rattle.std.specs.Prelude.{◌≡◌, ◌==◌, [], ◌∷◌, ◌++◌, Ok, IfOk, OnOk, IfErr, IfSome, map, filter};
+ghost use Rattle.std.specs.List.{slice_split};
+ghost use Rattle.bz_line.specs.Asked.{group_of};
+ghost use Rattle.bz_line.specs.Characters.{line_feed};
+ghost use Rattle.bz_line.specs.Refused.{IsFirstFault, IsGroupFault, IsScriptFault};
+ghost use Rattle.bz_line.specs.Script.{is_read, lines_in, operands_in, groups_of, script_of};
+ghost use Rattle.bz_line.specs.Shown.{asked_in, usage_in};
+
+use crate::asked::Asked;
+use crate::group::{UsageFault, read_group};
+use std::alloc::{AllocError, Global};
+
+// A line that is not passed over.
+fn is_read(line: &str) -> bool
+    ensures { result ≡ is_read line.now }
+{
+    match line.as_bytes() {
+        [] => false,
+        [first, ..] => *first != b'#',
+    }
+}
+
+// The lines that are not passed over.
+fn lines_read<'a>(alloc: Global, all: &[&'a str]) -> Result<Vec<&'a str>, AllocError>
+    ensures { IfOk result (λ lines. map (λ s. s.now) lines.items ≡ filter is_read (map (λ s. s.now) all.now)) }
+{
+    let mut lines = Vec::new(alloc);
+    for &line in all {
+        if is_read(line) {
+            lines.push(line)?;
+        }
+    }
+    Ok(lines)
+}
+
+fn split_lines<'a>(alloc: Global, script: &'a str) -> Result<Vec<&'a str>, AllocError>
+    ensures { IfOk result (λ lines. map (λ s. s.now) lines.items ≡ slice_split (λ byte. byte == line_feed) script.entry.now) }
+{
+    script.split('\n').collect(alloc)
+}
+
+fn lines_in<'a>(alloc: Global, script: &'a str) -> Result<Vec<&'a str>, AllocError>
+    ensures { IfOk result (λ lines. map (λ s. s.now) lines.items ≡ lines_in script.entry.now) }
+{
+    let all = split_lines(alloc, script)?;
+    lines_read(alloc, &all)
+}
+
+fn operands_in<'a>(alloc: Global, line: &'a str) -> Result<Vec<&'a str>, AllocError>
+    ensures { IfOk result (λ operands. map (λ s. s.now) operands.items ≡ operands_in line.entry.now) }
+{
+    line.split('|').collect(alloc)
+}
+
+fn read_operands<'a>(alloc: Global, line: &'a str) -> Result<Asked<'a>, UsageFault<'a>>
+    ensures ok { IfOk result (λ asked. group_of (operands_in line.entry.now) ≡ Ok (asked_in asked)) }
+    ensures err { IfErr result (λ fault. IfSome (usage_in fault) (IsGroupFault (operands_in line.entry.now))) }
+{
+    let operands = operands_in(alloc, line)?;
+    read_group(alloc, &operands)
+}
+
+fn add<'a>(groups: &mut Vec<Asked<'a>>, group: Asked<'a>) -> Result<(), AllocError>
+    ensures { OnOk result (groups.new.items ≡ groups.old.items ++ group.entry ∷ []) }
+{
+    groups.push(group)?;
+    Ok(())
+}
+
+fn read_groups<'a>(alloc: Global, lines: &[&'a str]) -> Result<Vec<Asked<'a>>, UsageFault<'a>>
+    ensures ok { IfOk result (λ groups. groups_of (map (λ s. s.now) lines.now) ≡ Ok (map asked_in groups.items)) }
+    ensures err { IfErr result (λ fault. IfSome (usage_in fault) (IsFirstFault (map (λ s. s.now) lines.now))) }
+{
+    let mut groups = Vec::new(alloc);
+    for &line in lines {
+        let group = read_operands(alloc, line)?;
+        add(&mut groups, group)?;
+    }
+    Ok(groups)
+}
+
+/// What the lines of a file ask for, in order. Its lines end at newlines alone; those that are empty or begin with `#` are
+/// passed over; `|` separates the operands of a line. The error is the first line's that is refused, as `read_group` tells
+/// it; `NoLine` where there is no line of operands; `Memory` where a growth was refused.
+pub fn read_script<'a>(alloc: Global, script: &'a str) -> Result<Vec<Asked<'a>>, UsageFault<'a>>
+    ensures ok { IfOk result (λ groups. script_of script.entry.now ≡ Ok (map asked_in groups.items)) }
+    ensures err { IfErr result (λ fault. IfSome (usage_in fault) (IsScriptFault script.entry.now)) }
+{
+    let lines = lines_in(alloc, script)?;
+    if lines.is_empty() {
+        return Err(UsageFault::NoLine);
+    }
+    read_groups(alloc, &lines)
+}

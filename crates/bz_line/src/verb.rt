@@ -1,0 +1,168 @@
+//! What a command's text asks for.
+ghost use Rattle.std.specs.Prelude.{◌≡◌, ◌⊎◌, Ok, Err, IfOk, IfErr};
+ghost use Rattle.bz_words.specs.Commands.{command_of};
+ghost use Rattle.bz_line.specs.Operands.{verb_of, by_command, by_steps, count_of, history_verb_in, steps_of, within_limit};
+ghost use Rattle.bz_line.specs.Refused.{IsPatternFault};
+ghost use Rattle.bz_line.specs.Verbs.{prints, fault_name, fault_number};
+
+use bz_items::Text;
+use bz_words::{Command, CommandFault, read_words};
+use std::alloc::Global;
+
+/// What a command asks for.
+#[derive(Debug, Drop)]
+pub enum Verb {
+    /// The command, on the rules that the target means.
+    Do(Command),
+    /// Back by so many steps.
+    Undo(u32),
+    /// Forward by so many steps.
+    Redo(u32),
+}
+
+impl Verb {
+    /// Whether it prints, and leaves the file as it is.
+    pub fn prints(&self) -> bool
+        ensures { result ≡ prints self.now }
+    {
+        match self {
+            Verb::Do(command) => command.prints(),
+            Verb::Undo(_) | Verb::Redo(_) => false,
+        }
+    }
+}
+
+/// Why an operand is refused.
+#[derive(Clone, Copy, Debug)]
+pub enum OperandFault {
+    /// A growth was refused.
+    Memory,
+    /// A text that is no target.
+    BadTarget,
+    /// No command: no name of one, or the number or the form of its arguments is wrong, or it is too long, or its pattern is
+    /// none.
+    Command(CommandFault),
+}
+
+impl OperandFault {
+    /// The name by which the fault is told.
+    pub fn name(&self) -> &'static str
+        ensures { result.now ≡ fault_name self.now }
+    {
+        match self {
+            OperandFault::Memory => "Memory",
+            OperandFault::BadTarget => "BadTarget",
+            OperandFault::Command(fault) => fault.name(),
+        }
+    }
+
+    /// The number by which the fault is told.
+    pub fn number(&self) -> u8
+        ensures { result ≡ fault_number self.now }
+    {
+        match self {
+            OperandFault::Memory => 8,
+            OperandFault::BadTarget => 12,
+            OperandFault::Command(fault) => fault.number(),
+        }
+    }
+}
+
+impl From<CommandFault> for OperandFault {
+    ghost use Rattle.std.specs.Prelude.{◌≡◌};
+    ghost use Rattle.bz_line.specs.Operands.{of_command};
+
+    ghost from_gives = { λ fault made. made ≡ of_command fault };
+
+    fn from(fault: CommandFault) -> OperandFault {
+        match fault {
+            CommandFault::Memory => OperandFault::Memory,
+            _ => OperandFault::Command(fault),
+        }
+    }
+}
+
+/// The most bytes of a text that asks for steps.
+const TEXT_LIMIT: usize = 65_536;
+
+const WRONG_ARGUMENTS: OperandFault = OperandFault::Command(CommandFault::Arguments);
+
+fn read_count(word: &[u8]) -> Option<u32>
+    ensures { result ≡ count_of word.now }
+{
+    let mut count: u32 = 0;
+    let mut left = word;
+    while let Some((&byte, rest)) = left.split_first() {
+        if !byte.is_ascii_digit() {
+            return None;
+        }
+        let tens = count.checked_mul(10)?;
+        count = tens.checked_add(u32::from(byte - b'0'))?;
+        left = rest;
+    }
+    if count > 0 { Some(count) } else { None }
+}
+
+// How many steps are asked for.
+fn read_steps(arguments: &[Text]) -> Result<u32, OperandFault>
+    ensures { result ≡ steps_of arguments.now }
+{
+    match arguments {
+        [] => Ok(1),
+        [count] => read_count(count.as_slice()).ok_or(WRONG_ARGUMENTS),
+        _ => Err(WRONG_ARGUMENTS),
+    }
+}
+
+fn undo_in(arguments: &[Text]) -> Result<Verb, OperandFault>
+    ensures { result ≡ by_steps Verb.Undo (steps_of arguments.now) }
+{
+    Ok(Verb::Undo(read_steps(arguments)?))
+}
+
+fn redo_in(arguments: &[Text]) -> Result<Verb, OperandFault>
+    ensures { result ≡ by_steps Verb.Redo (steps_of arguments.now) }
+{
+    Ok(Verb::Redo(read_steps(arguments)?))
+}
+
+// What `undo` or `redo` reads, where the words begin with one of them.
+fn history_verb_in(words: &[Text]) -> Option<Result<Verb, OperandFault>>
+    ensures { result ≡ history_verb_in words.now }
+{
+    let (name, arguments) = words.split_first()?;
+    match name.as_slice() {
+        b"undo" => Some(undo_in(arguments)),
+        b"redo" => Some(redo_in(arguments)),
+        _ => None,
+    }
+}
+
+fn within_limit(fits: bool, verb: Result<Verb, OperandFault>) -> Result<Verb, OperandFault>
+    ensures { result ≡ within_limit fits verb }
+{
+    if fits { verb } else { Err(WRONG_ARGUMENTS) }
+}
+
+fn read_command(alloc: Global, text: &str) -> Result<Verb, OperandFault>
+    ensures ok { IfOk result (λ verb. by_command (command_of text.now) ≡ Ok verb) }
+    ensures err { IfErr result (λ fault. (by_command (command_of text.now) ≡ Err fault) ⊎ IsPatternFault text.now fault
+        ⊎ (fault ≡ OperandFault.Memory)) }
+{
+    Ok(Verb::Do(Command::read(alloc, text)?))
+}
+
+/// What the command of this text asks for. Errors: `Command`: there is no command of that name, its arguments are wrong,
+/// it is too long, or `regex` refuses its pattern; `Memory`: a growth was refused.
+pub(crate) fn read_verb(alloc: Global, text: &str) -> Result<Verb, OperandFault>
+    ensures ok { IfOk result (λ verb. verb_of text.now ≡ Ok verb) }
+    ensures err { IfErr result (λ fault. (verb_of text.now ≡ Err fault) ⊎ IsPatternFault text.now fault ⊎ (fault ≡ OperandFault.Memory)) }
+{
+    let Ok(words) = read_words(alloc, text.as_bytes()) else {
+        return Err(OperandFault::Memory);
+    };
+    match history_verb_in(&words) {
+        Some(verb) => within_limit(text.len() <= TEXT_LIMIT, verb),
+        None => read_command(alloc, text),
+    }
+}
