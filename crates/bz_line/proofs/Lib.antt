@@ -1,4 +1,5 @@
 pub mod AskedLemmas
 pub mod Counts
 pub mod GroupLemmas
+pub mod PathTexts
 pub mod Texts

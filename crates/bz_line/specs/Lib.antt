@@ -3,6 +3,7 @@ pub mod Asked
 pub mod Characters
 pub mod Line
 pub mod Operands
+pub mod Paths
 pub mod Refused
 pub mod Script
 pub mod Shown

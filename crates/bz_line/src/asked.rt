@@ -1,7 +1,9 @@
 //! What the operands of a line ask for.
 ghost use Rattle.std.specs.Prelude.{◌≡◌, ◌⊎◌, Ok, Err, IfOk, IfErr, OnOk, map};
+ghost use Rattle.std.specs.List.{All};
 ghost use Rattle.bz_line.specs.Asked as a;
 ghost use Rattle.bz_line.specs.Operands.{target_of, verb_of};
+ghost use Rattle.bz_line.specs.Paths.{HasPath};
 ghost use Rattle.bz_line.specs.Refused.{IsFirstRefused, IsOperandFault, IsPatternFault};
 ghost use Rattle.bz_line.specs.Shown.{asked_in, refused_in};
 ghost use Rattle.bz_line.specs.declared.verb.OperandFault.{OperandFault};
@@ -35,6 +37,7 @@ pub struct Refused<'a> {
 fn add_target(alloc: Global, asked: &mut Asked<'_>, operand: &str) -> Result<(), OperandFault>
     ensures ok { OnOk result (a.joined (Ok (asked_in asked.old)) (a.aimed operand.now (target_of operand.now)) ≡ Ok (asked_in asked.new)) }
     ensures err { IfErr result (λ fault. (target_of operand.now ≡ Err fault) ⊎ (fault ≡ OperandFault.Memory)) }
+    ensures paths { All HasPath asked.old.targets.items → OnOk result (All HasPath asked.new.targets.items) }
 {
     let target = read_target(alloc, operand)?;
     if asked.targets.push(target).is_err() {
@@ -51,6 +54,7 @@ fn add_command<'a>(
     ensures ok { OnOk result (a.joined (Ok (asked_in asked.old)) (a.wanted operand.entry.now (verb_of operand.entry.now)) ≡ Ok (asked_in asked.new)) }
     ensures err { IfErr result (λ fault. (verb_of operand.entry.now ≡ Err fault) ⊎ IsPatternFault operand.entry.now fault
         ⊎ (fault ≡ OperandFault.Memory)) }
+    ensures paths { All HasPath asked.old.targets.items → OnOk result (All HasPath asked.new.targets.items) }
 {
     let verb = read_verb(alloc, operand)?;
     if asked
@@ -69,6 +73,7 @@ fn add_command<'a>(
 fn add<'a>(alloc: Global, asked: &mut Asked<'a>, operand: &'a str) -> Result<(), OperandFault>
     ensures ok { OnOk result (a.joined (Ok (asked_in asked.old)) (a.asked_by operand.entry.now) ≡ Ok (asked_in asked.new)) }
     ensures err { IfErr result (λ fault. IsOperandFault operand.entry.now fault ⊎ (fault ≡ OperandFault.Memory)) }
+    ensures paths { All HasPath asked.old.targets.items → OnOk result (All HasPath asked.new.targets.items) }
 {
     if is_target(operand.as_bytes()) {
         add_target(alloc, asked, operand)
@@ -82,6 +87,7 @@ pub(crate) fn read_asked<'a>(alloc: Global, operands: &[&'a str]) -> Result<Aske
     ensures ok { IfOk result (λ asked. a.asked_of (map (λ s. s.now) operands.now) ≡ Ok (asked_in asked)) }
     ensures err { IfErr result (λ refused. IsFirstRefused (map (λ s. s.now) operands.now) (refused_in refused)
         ⊎ (refused.fault ≡ OperandFault.Memory)) }
+    ensures paths { IfOk result (λ asked. All HasPath asked.targets.items) }
 {
     let mut asked = Asked {
         commands: Vec::new(alloc),

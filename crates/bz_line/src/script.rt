@@ -1,8 +1,9 @@
 //! A file of lines.
 ghost use Rattle.std.specs.Prelude.{◌≡◌, ◌==◌, [], ◌∷◌, ◌++◌, Ok, IfOk, OnOk, IfErr, IfSome, map, filter};
-ghost use Rattle.std.specs.List.{slice_split};
+ghost use Rattle.std.specs.List.{All, slice_split};
 ghost use Rattle.bz_line.specs.Asked.{group_of};
 ghost use Rattle.bz_line.specs.Characters.{line_feed};
+ghost use Rattle.bz_line.specs.Paths.{HasPath};
 ghost use Rattle.bz_line.specs.Refused.{IsFirstFault, IsGroupFault, IsScriptFault};
 ghost use Rattle.bz_line.specs.Script.{is_read, lines_in, operands_in, groups_of, script_of};
 ghost use Rattle.bz_line.specs.Shown.{asked_in, usage_in};
@@ -56,6 +57,7 @@ fn operands_in<'a>(alloc: Global, line: &'a str) -> Result<Vec<&'a str>, AllocEr
 fn read_operands<'a>(alloc: Global, line: &'a str) -> Result<Asked<'a>, UsageFault<'a>>
     ensures ok { IfOk result (λ asked. group_of (operands_in line.entry.now) ≡ Ok (asked_in asked)) }
     ensures err { IfErr result (λ fault. IfSome (usage_in fault) (IsGroupFault (operands_in line.entry.now))) }
+    ensures paths { IfOk result (λ asked. All HasPath asked.targets.items) }
 {
     let operands = operands_in(alloc, line)?;
     read_group(alloc, &operands)
@@ -71,6 +73,7 @@ fn add<'a>(groups: &mut Vec<Asked<'a>>, group: Asked<'a>) -> Result<(), AllocErr
 fn read_groups<'a>(alloc: Global, lines: &[&'a str]) -> Result<Vec<Asked<'a>>, UsageFault<'a>>
     ensures ok { IfOk result (λ groups. groups_of (map (λ s. s.now) lines.now) ≡ Ok (map asked_in groups.items)) }
     ensures err { IfErr result (λ fault. IfSome (usage_in fault) (IsFirstFault (map (λ s. s.now) lines.now))) }
+    ensures paths { IfOk result (λ groups. All (λ asked. All HasPath asked.targets.items) groups.items) }
 {
     let mut groups = Vec::new(alloc);
     for &line in lines {
@@ -81,11 +84,13 @@ fn read_groups<'a>(alloc: Global, lines: &[&'a str]) -> Result<Vec<Asked<'a>>, U
 }
 
 /// What the lines of a file ask for, in order. Its lines end at newlines alone; those that are empty or begin with `#` are
-/// passed over; `|` separates the operands of a line. The error is the first line's that is refused, as `read_group` tells
-/// it; `NoLine` where there is no line of operands; `Memory` where a growth was refused.
+/// passed over; `|` separates the operands of a line. Packages are as `read_group` gives them. The error is the first
+/// line's that is refused, as `read_group` tells it; `NoLine` where there is no line of operands; `Memory` where a growth
+/// was refused.
 pub fn read_script<'a>(alloc: Global, script: &'a str) -> Result<Vec<Asked<'a>>, UsageFault<'a>>
     ensures ok { IfOk result (λ groups. script_of script.entry.now ≡ Ok (map asked_in groups.items)) }
     ensures err { IfErr result (λ fault. IfSome (usage_in fault) (IsScriptFault script.entry.now)) }
+    ensures paths { IfOk result (λ groups. All (λ asked. All HasPath asked.targets.items) groups.items) }
 {
     let lines = lines_in(alloc, script)?;
     if lines.is_empty() {

@@ -1,6 +1,7 @@
 //! Operands that are targets.
-ghost use Rattle.std.specs.Prelude.{◌≡◌, ◌⊎◌, Err};
+ghost use Rattle.std.specs.Prelude.{◌≡◌, ◌⊎◌, Err, IfOk};
 ghost use Rattle.bz_line.specs.Operands.{is_target, target_of};
+ghost use Rattle.bz_line.specs.Paths.{HasPath};
 
 use crate::verb::OperandFault;
 use bz_label::{Target, TargetFault};
@@ -16,8 +17,10 @@ pub(crate) fn is_target(operand: &[u8]) -> bool
 }
 
 /// The target of this text. Errors: `BadTarget`: it is none; `Memory`: a growth was refused.
+#[tactic(auto, using(crate::proofs::PathTexts::has_path))]
 pub(crate) fn read_target(alloc: Global, text: &str) -> Result<Target, OperandFault>
-    ensures { (result ≡ target_of text.now) ⊎ (result ≡ Err OperandFault.Memory) }
+    ensures told { (result ≡ target_of text.now) ⊎ (result ≡ Err OperandFault.Memory) }
+    ensures paths { IfOk result HasPath }
 {
     match Target::read(alloc, text) {
         Ok(target) => Ok(target),

@@ -9,8 +9,11 @@ loop-operand-preserved c =
     let operands : List (Bor (List ℕ)) = c.args.operands.now in
     let at = c.loop-operand.operand-index in
     let none : Bor (List ℕ) = record { ref_ptr = (0, 0); now = [] } in
-    asked_turn (texts_in (take at operands)) _ (get_or operands at none).now (asked_in c.loop-operand.asked) (asked_in c.add.new.asked)
-    (texts_more operands at none c.loop-operand-test.true) c.loop-operand.invariant c.in-Ok.ensures.ok
+    record {
+      told = asked_turn (texts_in (take at operands)) _ (get_or operands at none).now (asked_in c.loop-operand.asked) (asked_in c.add.new.asked)
+          (texts_more operands at none c.loop-operand-test.true) c.loop-operand.invariant.told c.in-Ok.ensures.ok;
+      paths = c.in-Ok.ensures.paths c.loop-operand.invariant.paths;
+    }
 
 pub returns-in-Err-clause-err : goal.returns-in-Err-clause-err
 returns-in-Err-clause-err c =
@@ -23,7 +26,7 @@ returns-in-Err-clause-err c =
         rest = texts_in (drop (at + 1) operands);
         asked = asked_in c.loop-operand.asked;
         split = texts_split operands at none c.loop-operand-test.true;
-        before = c.loop-operand.invariant;
+        before = c.loop-operand.invariant.told;
         fault = fault;
       })
       | inr memory ↦ inr memory
