@@ -1,0 +1,3 @@
+pub mod FaultSteps
+pub mod FileSteps
+pub mod PlaceSteps

@@ -1,0 +1,5 @@
+pub mod Found
+pub mod Kept
+pub mod Opens
+pub mod Packages
+pub mod Shown

@@ -1,0 +1,34 @@
+-- How a package is opened, and what an action does in one.
+use Rattle.std.specs.Prelude.{◌≡◌, ◌⊎◌, ℕ, List, [], ◌∷◌, codes, Option, Some, None}
+use Rattle.bz_lex.specs.declared.fault.ReadFault.{ReadFault}
+use Rattle.bz_tree.specs.Legal.{Accepted}
+use Rattle.bz_value.specs.Gaps.{Bytes}
+use Rattle.bz_journal.specs.declared.action.Action.{Action}
+use Rattle.bz_journal.specs.Faults.{IsFaultOf}
+use Rattle.bz_journal.specs.History.{History, Answer, opened, Acts}
+use Rattle.bz_ports.specs.Told.{named_line, fault_line}
+use Rattle.bz_workspace.specs.Packages.{Opened, Used, file_at, with_file}
+use Rattle.bz_workspace.specs.Found.{Found, second_name}
+
+-- a text of this name, as it was read, with the history that begins with it
+abbrev pub fresh : Bytes → Bytes → Bytes → Opened
+fresh current name text = record { name = name; read = text; history = opened current text }
+
+-- An accepted text is opened; of every other text its fault is told.
+abbrev pub Takes : Bytes → Bytes → Bytes → Option Opened → List Bytes → Type 0
+Takes current name text file lines =
+    (Accepted text × (file ≡ Some (fresh current name text)) × (lines ≡ []))
+    ⊎ ((Accepted text → ⊥) × ((fault : ReadFault) × IsFaultOf text fault × (file ≡ None) × (lines ≡ fault_line name fault ∷ [])))
+
+-- The file that is found for a package is opened; where none is, that is told of `BUILD`.
+abbrev pub Opens : Bytes → Option Found → Option Opened → List Bytes → Type 0
+Opens current (Some found) file lines = Takes current found.0 found.1 file lines
+Opens current None file lines = (file ≡ None) × (lines ≡ named_line (second_name current) (codes "cannot open") ∷ [])
+
+-- An action is done in the open file of the package with this number.
+pub record ActsAt (place : ℕ) (action : Action) (before : List Used) (answer : Answer) (after : List Used) : Type 0 where
+  pub file : Opened
+  pub history : History
+  pub there : file_at place before ≡ Some file
+  pub acts : Acts action file.history answer history
+  pub kept : after ≡ with_file place (Some (record file { history = history })) before

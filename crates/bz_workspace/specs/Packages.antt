@@ -1,0 +1,33 @@
+-- The packages that a run has used, each with its file where that was opened, in order of first use.
+use Rattle.std.specs.Prelude.{ℕ, ◌+◌, zero, suc, List, [], ◌∷◌, bytes_eq, if◌then◌else◌, Option, Some, None}
+use Rattle.std.specs.Option.{option_map}
+use Rattle.bz_value.specs.Gaps.{Bytes}
+use Rattle.bz_journal.specs.History.{History}
+
+-- an open file: its name, the text that was read, and its history
+pub record Opened : Type 0 where
+  pub name : Bytes
+  pub read : Bytes
+  pub history : History
+
+-- a package, and its file; none where it could not be opened
+pub record Used : Type 0 where
+  pub «package» : Bytes
+  pub file : Option Opened
+
+-- the number of a package among them, from 0
+abbrev pub place_of : Bytes → List Used → Option ℕ
+place_of current [] = None
+place_of current (used ∷ more) = if bytes_eq used.package current then Some 0 else option_map (λ place. place + 1) (place_of current more)
+
+-- the open file of the package with this number
+abbrev pub file_at : ℕ → List Used → Option Opened
+file_at place [] = None
+file_at zero (used ∷ more) = used.file
+file_at (suc place) (used ∷ more) = file_at place more
+
+-- the package with this number has this file from now on
+abbrev pub with_file : ℕ → Option Opened → List Used → List Used
+with_file place file [] = []
+with_file zero file (used ∷ more) = record used { file = file } ∷ more
+with_file (suc place) file (used ∷ more) = used ∷ with_file place file more

@@ -1,0 +1,10 @@
+//! The files that a run has open: the packages that it has used, each read once, with its session.
+#![tactic(auto)]
+
+mod opening;
+mod used;
+mod workspace;
+
+pub use opening::Opening;
+pub use used::{Opened, Used};
+pub use workspace::Workspace;

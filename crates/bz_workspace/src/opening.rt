@@ -1,0 +1,111 @@
+//! What opening a file takes: its name, its bytes and its session.
+ghost use Rattle.std.specs.Prelude.{◌≡◌, ◌≢◌, ◌⊎◌, ◌≤◌, length, true, Some, None, IfOk, IfErr, IsErrOf, string_bytes};
+ghost use Rattle.std.specs.FinMap.{get};
+ghost use Rattle.bz_tree.specs.Legal.{Accepted};
+ghost use Rattle.bz_journal.specs.Faults.{IsFaultOf};
+ghost use Rattle.bz_ports.specs.Faults.{Rises};
+ghost use Rattle.bz_ports.specs.Outputs.{Counts};
+ghost use Rattle.bz_workspace.specs.Found.{in_package};
+ghost use Rattle.bz_workspace.specs.Opens.{fresh};
+ghost use Rattle.bz_workspace.specs.Shown.{opened_in};
+
+use crate::Opened;
+use bz_files::{FileFault, Files};
+use bz_items::{Memory, Text};
+use bz_journal::Session;
+use bz_lex::ReadFault;
+use bz_ports::{Cut, Sink, tell};
+use std::alloc::Global;
+
+/// What came of opening a package.
+#[derive(Clone, Copy, Debug, PartialEq, Eq)]
+pub struct Opening {
+    /// The number of the package, where its file is open.
+    pub place: Option<usize>,
+    /// The first failure, or that there was none.
+    pub cut: Cut,
+}
+
+/// No file is open.
+pub(crate) fn without_file(cut: Cut) -> Opening
+    ensures { result ≡ record { place = None; cut = cut } }
+{
+    Opening { place: None, cut }
+}
+
+/// A file of a package, by its path below the current folder. The error: memory was refused.
+pub(crate) fn name_in(alloc: Global, package: &str, base: &str) -> Result<String, Memory>
+    ensures { IfOk result (λ name. string_bytes name ≡ in_package «package».now base.now) }
+{
+    if package.is_empty() {
+        return String::from_str(alloc, base);
+    }
+    let mut name = String::from_str(alloc, package)?;
+    name.push_str("/")?;
+    name.push_str(base)?;
+    Ok(name)
+}
+
+/// The bytes of a file. Errors: those of the read.
+pub(crate) fn bytes_of<F: Files>(
+    alloc: Global,
+    files: &mut F,
+    name: &str,
+) -> Result<Vec<u8>, FileFault>
+    ensures found { F.honest files.old ≡ true → IfOk result (λ text. get (F.folder files.old) name.now ≡ Some text.items) }
+    ensures absent { F.honest files.old ≡ true → IsErrOf result FileFault.Absent → get (F.folder files.old) name.now ≡ None }
+    ensures folder { F.honest files.old ≡ true → F.folder files.new ≡ F.folder files.old }
+    ensures kinds { IfErr result (λ fault. fault ≢ FileFault.Write) }
+    ensures cause { IsErrOf result FileFault.Open → Rises (F.faults files.old) (F.faults files.new) }
+    ensures kept { (IsErrOf result FileFault.Open → ⊥) → F.faults files.new ≡ F.faults files.old }
+    ensures count { F.faults files.old ≤ F.faults files.new }
+    ensures honest { F.honest files.new ≡ F.honest files.old }
+{
+    let mut text = Vec::new(alloc);
+    match files.read(name, &mut text) {
+        Ok(()) => Ok(text),
+        Err(fault) => Err(fault),
+    }
+}
+
+/// The open file of a text that was read. Errors: those of reading the text; `Memory` where a growth was refused.
+pub(crate) fn opened(
+    alloc: Global,
+    package: &str,
+    name: &str,
+    text: Vec<u8>,
+) -> Result<Opened, ReadFault>
+    requires { length «package».now ≤ 65536 }
+    ensures ok { IfOk result (λ file. (opened_in file ≡ fresh «package».now name.now text.items) × Accepted text.items) }
+    ensures err { IfErr result (λ fault. (fault ≡ ReadFault.Memory) ⊎ ((Accepted text.items → ⊥) × IsFaultOf text.items fault)) }
+{
+    let session = match Session::open(alloc, package, text.as_slice()) {
+        Ok(session) => session,
+        Err(fault) => return Err(fault),
+    };
+    match String::from_str(alloc, name) {
+        Ok(name) => Ok(Opened {
+            name,
+            read: Text::from_vec(text),
+            session,
+        }),
+        Err(_) => Err(ReadFault::Memory),
+    }
+}
+
+/// Whether memory was refused.
+pub(crate) fn is_memory(fault: &ReadFault) -> bool
+    ensures yes { result ≡ true → fault.now ≡ ReadFault.Memory }
+    ensures other { fault.now ≡ ReadFault.Memory → result ≡ true }
+{
+    match fault {
+        ReadFault::Memory => true,
+        _ => false,
+    }
+}
+
+/// Tells that memory was refused before a file of the package had a name.
+pub(crate) fn tell_unnamed<E: Sink>(err: &mut E, package: &str) {
+    let slash = if package.is_empty() { "" } else { "/" };
+    tell(err, &[package, slash, "BUILD", ": Memory\n"]);
+}

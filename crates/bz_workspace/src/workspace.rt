@@ -1,0 +1,304 @@
+//! The packages of a run, each found by its path in one step.
+ghost use Rattle.std.specs.Prelude.{◌≡◌, ◌⊎◌, ◌≤◌, ◌<◌, ℕ, [], ◌∷◌, ◌++◌, List, Option, map, length, true, Some, None, IsSome, IfSome, OnOk, OnErr, IfOk};
+ghost use Rattle.std.specs.Option.{option_map};
+ghost use Rattle.std.specs.FinMap.{get};
+ghost use Rattle.bz_value.specs.Gaps.{Bytes};
+ghost use Rattle.bz_ports.specs.Faults.{Rises};
+ghost use Rattle.bz_ports.specs.Outputs.{Counts, Tells};
+ghost use Rattle.bz_workspace.specs.Found.{found_in, found_at, second_name};
+ghost use Rattle.bz_workspace.specs.Kept.{texts_of_keys, packages_of};
+ghost use Rattle.bz_workspace.specs.Opens.{ActsAt, Opens, Takes};
+ghost use Rattle.bz_workspace.specs.Packages as p;
+ghost use Rattle.bz_workspace.specs.Packages.{file_at, place_of, with_file};
+ghost use Rattle.bz_workspace.specs.Shown.{used_in};
+
+use crate::opening::{bytes_of, is_memory, name_in, opened, tell_unnamed, without_file};
+use crate::used::{act_at, put_file};
+use crate::{Opening, Used};
+use bz_attribute::Refusal;
+use bz_files::{FileFault, Files};
+use bz_items::{Memory, Text};
+use bz_journal::{Action, Reply};
+use bz_ports::{Cut, Sink, tell_fault, tell_named};
+use indexmap::IndexSet;
+use std::alloc::Global;
+use std::marker::Model;
+
+/// The packages that a run has used, in order of first use, each found by its path in one step.
+#[derive(Drop)]
+pub struct Workspace {
+    names: IndexSet<Vec<u8>>,
+    used: Vec<Used>,
+}
+
+impl Model for Workspace {
+    ghost use Rattle.std.specs.Prelude.{◌≡◌, List, map};
+    ghost use Rattle.bz_workspace.specs.Packages as p;
+    ghost use Rattle.bz_workspace.specs.Kept.{texts_of_keys, packages_of};
+    ghost use Rattle.bz_workspace.specs.Shown.{used_in};
+
+    ghost Value = { List p.Used };
+
+    ghost view = { λ workspace. map used_in workspace.used.items };
+
+    ghost invariant = { λ workspace. texts_of_keys workspace.names.keys ≡ packages_of (map used_in workspace.used.items) };
+}
+
+/// The number of a key.
+fn place_in(names: &IndexSet<Vec<u8>>, package: &[u8]) -> Option<usize>
+    ensures { (used : List p.Used) → texts_of_keys names.now.keys ≡ packages_of used → result ≡ place_of «package».now used }
+{
+    names.get_index_of(package)
+}
+
+/// The package, which is none of them, is the last one from now on, with no file. The error: memory was refused, and all is as before.
+fn append(
+    alloc: Global,
+    names: &mut IndexSet<Vec<u8>>,
+    used: &mut Vec<Used>,
+    package: &[u8],
+) -> Result<(), Memory>
+    requires kept { texts_of_keys names.old.keys ≡ packages_of (map used_in used.old.items) }
+    requires new { place_of «package».now (map used_in used.old.items) ≡ None }
+    ensures names { OnOk result (texts_of_keys names.new.keys ≡ texts_of_keys names.old.keys ++ «package».now ∷ []) }
+    ensures used { OnOk result (map used_in used.new.items ≡ map used_in used.old.items ++ record { «package» = «package».now; file = None } ∷ []) }
+    ensures err { OnErr result ((texts_of_keys names.new.keys ≡ texts_of_keys names.old.keys) × (used.new.items ≡ used.old.items)) }
+{
+    let key = Vec::from_slice(alloc, package)?;
+    let package = Text::from_slice(alloc, package)?;
+    used.reserve(1)?;
+    names.insert(key)?;
+    used.push(Used {
+        package,
+        file: None,
+    })
+    .unwrap();
+    Ok(())
+}
+
+impl Workspace {
+    /// No packages.
+    pub fn new(alloc: Global) -> Workspace
+        ensures { result ≡ [] }
+    {
+        Workspace {
+            names: IndexSet::new(alloc),
+            used: Vec::new(alloc),
+        }
+    }
+
+    /// The number of a package, from 0; `None` where it was not used. It takes one step however many there are.
+    pub fn place(&self, package: &[u8]) -> Option<usize>
+        ensures { result ≡ place_of «package».now self.now }
+    {
+        place_in(&self.names, package)
+    }
+
+    /// The package, which was not used before, is the last one from now on, with no file. Returned: its number. The error:
+    /// memory was refused, and all is as before.
+    pub fn add(&mut self, package: &[u8]) -> Result<usize, Memory>
+        requires { place_of «package».now self.old ≡ None }
+        ensures place { IfOk result (λ place. place ≡ length self.old) }
+        ensures ok { OnOk result (self.new ≡ self.old ++ record { «package» = «package».now; file = None } ∷ []) }
+        ensures err { OnErr result (self.new ≡ self.old) }
+    {
+        let place = self.used.len();
+        let alloc = *self.used.allocator();
+        append(alloc, &mut self.names, &mut self.used, package)?;
+        Ok(place)
+    }
+
+    /// The number of a package, where its file is open.
+    fn opened_at(&self, place: usize) -> Option<usize>
+        ensures { result ≡ option_map (λ _. place) (file_at place self.now) }
+    {
+        match self.used.get(place) {
+            Some(Used { file: Some(_), .. }) => Some(place),
+            _ => None,
+        }
+    }
+
+    /// Opens the file of a used package with what was read of it, or tells its fault: `NAME:LINE:COLUMN: FAULT`,
+    /// `NAME: NotUtf8 at BYTE` or `NAME: FAULT`. The name and the package are taken as given. It is cut where memory was
+    /// refused, which is told as `NAME: Memory`; all packages are then as before.
+    pub fn open_text<E: Sink>(
+        &mut self,
+        place: usize,
+        package: &str,
+        name: &str,
+        text: Vec<u8>,
+        err: &mut E,
+    ) -> Opening
+        requires short { length «package».now ≤ 65536 }
+        requires within { place < length self.old }
+        ensures whole { result.cut ≡ Cut.Whole → (file : Option p.Opened) × (lines : List Bytes)
+            × Takes «package».now name.now text.items file lines
+            × (self.new ≡ with_file place file self.old)
+            × (result.place ≡ option_map (λ _. place) file)
+            × Tells (E.faults err.old) (E.faults err.new) (E.contents err.old) (E.contents err.new) lines }
+        ensures cut { (result.cut ≡ Cut.Whole) ⊎ ((result.cut ≡ Cut.Memory) × (result.place ≡ None) × (self.new ≡ self.old)) }
+        ensures there { IfSome result.place (λ at. IsSome (file_at at self.new)) }
+    {
+        let alloc = *self.used.allocator();
+        let fault = match opened(alloc, package, name, text) {
+            Ok(file) => {
+                put_file(&mut self.used, place, Some(file));
+                return Opening {
+                    place: Some(place),
+                    cut: Cut::Whole,
+                };
+            }
+            Err(fault) => fault,
+        };
+        tell_fault(err, name, &fault);
+        if is_memory(&fault) {
+            return without_file(Cut::Memory);
+        }
+        put_file(&mut self.used, place, None);
+        without_file(Cut::Whole)
+    }
+
+    /// Reads the second name of a package whose file isn't open.
+    fn open_second<F: Files, E: Sink>(
+        &mut self,
+        place: usize,
+        package: &str,
+        files: &mut F,
+        err: &mut E,
+    ) -> Opening
+        requires short { length «package».now ≤ 65536 }
+        requires within { place < length self.old }
+        requires closed { file_at place self.old ≡ None }
+        ensures second { F.honest files.old ≡ true → result.cut ≡ Cut.Whole → (file : Option p.Opened) × (lines : List Bytes)
+            × Opens «package».now (found_at (second_name «package».now) (get (F.folder files.old) (second_name «package».now)) None) file lines
+            × (self.new ≡ with_file place file self.old)
+            × (result.place ≡ option_map (λ _. place) file)
+            × Tells (E.faults err.old) (E.faults err.new) (E.contents err.old) (E.contents err.new) lines }
+        ensures there { IfSome result.place (λ at. IsSome (file_at at self.new)) }
+        ensures folder { F.honest files.old ≡ true → F.folder files.new ≡ F.folder files.old }
+        ensures cut { (result.cut ≡ Cut.Whole) ⊎ (result.cut ≡ Cut.Memory) ⊎ ((result.cut ≡ Cut.Files) × Rises (F.faults files.old) (F.faults files.new)) }
+        ensures steady { result.cut ≡ Cut.Whole → F.faults files.new ≡ F.faults files.old }
+        ensures counts { Counts (F.faults files.old) (F.faults files.new) }
+        ensures honest { F.honest files.new ≡ F.honest files.old }
+    {
+        let alloc = *self.used.allocator();
+        let Ok(name) = name_in(alloc, package, "BUILD") else {
+            tell_unnamed(err, package);
+            return without_file(Cut::Memory);
+        };
+        let name = name.as_str();
+        let (word, cut) = match bytes_of(alloc, files, name) {
+            Ok(text) => return self.open_text(place, package, name, text, err),
+            Err(FileFault::Absent) => ("cannot open", Cut::Whole),
+            Err(FileFault::Memory) => ("Memory", Cut::Memory),
+            Err(_) => ("cannot open", Cut::Files),
+        };
+        tell_named(err, name, word);
+        without_file(cut)
+    }
+
+    /// Reads the first name of a package whose file isn't open, and then the second where the first is none.
+    fn open_first<F: Files, E: Sink>(
+        &mut self,
+        place: usize,
+        package: &str,
+        files: &mut F,
+        err: &mut E,
+    ) -> Opening
+        requires short { length «package».now ≤ 65536 }
+        requires within { place < length self.old }
+        requires closed { file_at place self.old ≡ None }
+        ensures first { F.honest files.old ≡ true → result.cut ≡ Cut.Whole → (file : Option p.Opened) × (lines : List Bytes)
+            × Opens «package».now (found_in (F.folder files.old) «package».now) file lines
+            × (self.new ≡ with_file place file self.old)
+            × (result.place ≡ option_map (λ _. place) file)
+            × Tells (E.faults err.old) (E.faults err.new) (E.contents err.old) (E.contents err.new) lines }
+        ensures there { IfSome result.place (λ at. IsSome (file_at at self.new)) }
+        ensures folder { F.honest files.old ≡ true → F.folder files.new ≡ F.folder files.old }
+        ensures cut { (result.cut ≡ Cut.Whole) ⊎ (result.cut ≡ Cut.Memory) ⊎ ((result.cut ≡ Cut.Files) × Rises (F.faults files.old) (F.faults files.new)) }
+        ensures steady { result.cut ≡ Cut.Whole → F.faults files.new ≡ F.faults files.old }
+        ensures counts { Counts (F.faults files.old) (F.faults files.new) }
+        ensures honest { F.honest files.new ≡ F.honest files.old }
+    {
+        let alloc = *self.used.allocator();
+        let Ok(name) = name_in(alloc, package, "BUILD.bazel") else {
+            tell_unnamed(err, package);
+            return without_file(Cut::Memory);
+        };
+        let name = name.as_str();
+        match bytes_of(alloc, files, name) {
+            Ok(text) => self.open_text(place, package, name, text, err),
+            Err(FileFault::Absent) => self.open_second(place, package, files, err),
+            Err(FileFault::Memory) => {
+                tell_named(err, name, "Memory");
+                without_file(Cut::Memory)
+            }
+            Err(_) => {
+                tell_named(err, name, "cannot open");
+                let opening = self.open_second(place, package, files, err);
+                Opening {
+                    place: opening.place,
+                    cut: Cut::Files,
+                }
+            }
+        }
+    }
+
+    /// A package: one that was used is not read again; of a new one the file `BUILD.bazel` is read, else `BUILD`, and it is
+    /// a used one from then on, whatever comes. A fault is told by one line for each file: those of the text, `NAME: cannot
+    /// open` where neither is there or one could not be read, and `NAME: Memory` where memory was refused. Cuts: `Memory`
+    /// and `Files`, the first that came; the second file may be open behind a `Files` of the first.
+    pub fn open<F: Files, E: Sink>(
+        &mut self,
+        package: &str,
+        files: &mut F,
+        err: &mut E,
+    ) -> Opening
+        requires { length «package».now ≤ 65536 }
+        ensures again { (place : ℕ) → place_of «package».now self.old ≡ Some place
+            → (result ≡ record { place = option_map (λ _. place) (file_at place self.old); cut = Cut.Whole })
+            × (self.new ≡ self.old) × (files.new ≡ files.old) × (err.new ≡ err.old) }
+        ensures first { F.honest files.old ≡ true → result.cut ≡ Cut.Whole → place_of «package».now self.old ≡ None
+            → (file : Option p.Opened) × (lines : List Bytes)
+            × Opens «package».now (found_in (F.folder files.old) «package».now) file lines
+            × (self.new ≡ self.old ++ record { «package» = «package».now; file = file } ∷ [])
+            × (result.place ≡ option_map (λ _. length self.old) file)
+            × Tells (E.faults err.old) (E.faults err.new) (E.contents err.old) (E.contents err.new) lines }
+        ensures there { IfSome result.place (λ at. IsSome (file_at at self.new)) }
+        ensures folder { F.honest files.old ≡ true → F.folder files.new ≡ F.folder files.old }
+        ensures cut { (result.cut ≡ Cut.Whole) ⊎ (result.cut ≡ Cut.Memory) ⊎ ((result.cut ≡ Cut.Files) × Rises (F.faults files.old) (F.faults files.new)) }
+        ensures steady { result.cut ≡ Cut.Whole → F.faults files.new ≡ F.faults files.old }
+        ensures count { F.faults files.old ≤ F.faults files.new }
+        ensures honest { F.honest files.new ≡ F.honest files.old }
+    {
+        if let Some(place) = self.place(package.as_bytes()) {
+            return Opening {
+                place: self.opened_at(place),
+                cut: Cut::Whole,
+            };
+        }
+        match self.add(package.as_bytes()) {
+            Ok(place) => self.open_first(place, package, files, err),
+            Err(_) => {
+                tell_unnamed(err, package);
+                without_file(Cut::Memory)
+            }
+        }
+    }
+
+    /// Does an action in the open file of the package with this number. Errors: those of `Session::act`; the file is then
+    /// as before.
+    pub fn act(&mut self, place: usize, action: &Action) -> Result<Reply, Refusal>
+        requires { IsSome (file_at place self.old) }
+        ensures { ActsAt place action.now self.old result self.new }
+    {
+        act_at(&mut self.used, place, action)
+    }
+
+    /// The packages that were used, in order of first use.
+    pub fn used(&self) -> &[Used]
+        ensures { map used_in result.now ≡ self.now }
+    {
+        self.used.as_slice()
+    }
+}
