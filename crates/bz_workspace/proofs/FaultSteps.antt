@@ -1,5 +1,5 @@
 -- The fault that is told where a text is not opened.
-use Rattle.std.proofs.Common.{◌≡◌, ◌⊎◌, ◌↔◌, ◌≤◌, ◌<◌, inl, inr, ℕ, List, length, Result, Err, refl, ap, subst}
+use Rattle.std.proofs.Common.{◌≡◌, ◌⊎◌, ◌↔◌, ◌≤◌, ◌<◌, inl, inr, ℕ, List, length, Result, Err, refl, sym, ap, subst, ◌∙◌, Bool, true, false, true≢false, [], ◌∷◌, None}
 use Rattle.std.specs.Str.{IsValidUpTo}
 use Rattle.bz_lex.specs.declared.fault.ReadFault.{ReadFault}
 use Rattle.bz_lex.specs.declared.fault.ReadFault.TheVariants as f
@@ -7,6 +7,8 @@ use Rattle.bz_tree.specs.Spell.{limit}
 use Rattle.bz_tree.specs.Faults.{IsOfText}
 use Rattle.bz_tree.specs.Legal.{Accepted}
 use Rattle.bz_journal.specs.Faults.{IsFaultOf}
+use Rattle.bz_ports.specs.Told.{fault_line}
+use Rattle.bz_workspace.specs.Opens.{Takes}
 
 abbrev pub Refused : List ℕ → ReadFault → Type 0
 Refused text fault = (fault ≡ f.Memory) ⊎ ((Accepted text → ⊥) × IsFaultOf text fault)
@@ -40,3 +42,8 @@ pub refused : (A : Type 0) (slice text : List ℕ) (fault : ReadFault) → slice
     → Refused text fault
 refused A slice text fault same none large coding =
     subst (λ (t : List ℕ). Refused t fault) same (refused_text A slice fault (memory_or fault) none large coding)
+
+pub refused_takes : (current name text : List ℕ) (fault : ReadFault) (memory : Bool) → Refused text fault → (fault ≡ f.Memory → memory ≡ true) → memory ≡ false
+    → Takes current name text None (fault_line name fault ∷ [])
+refused_takes current name text fault memory (inl is) told other = absurd (true≢false (sym (told is) ∙ other))
+refused_takes current name text fault memory (inr of_text) told other = inr (of_text.0, (fault, of_text.1, refl, refl))

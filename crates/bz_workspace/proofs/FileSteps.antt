@@ -1,7 +1,9 @@
 -- The files of packages, by their numbers.
-use Rattle.std.proofs.Common.{◌≡◌, ◌<◌, ℕ, zero, suc, List, [], ◌∷◌, ◌++◌, length, map, get_or, Option, Some, None, refl, sym, ap, ◌∙◌, arith, true≢false}
-use Rattle.std.specs.Prelude.{slice_set, IsSome}
+use Rattle.std.proofs.Common.{◌≡◌, ◌<◌, ℕ, zero, suc, List, [], ◌∷◌, ◌++◌, length, map, get_or, Option, Some, None, refl, sym, ap, ◌∙◌, arith, subst, true≢false}
+use Rattle.std.specs.Prelude.{slice_get, slice_set, is_some, IsSome}
 use Rattle.std.specs.Option.{option_map}
+use Rattle.std.proofs.lemmas.List.{length-map}
+use Rattle.bz_value.specs.Gaps.{Bytes}
 use Rattle.bz_workspace.specs.Packages as p
 use Rattle.bz_workspace.specs.Packages.{file_at, with_file}
 use Rattle.bz_workspace.specs.Kept.{packages_of}
@@ -9,23 +11,84 @@ use Rattle.bz_workspace.specs.Shown.{opened_in, used_in}
 use Rattle.bz_workspace.specs.declared.used.Opened.{Opened}
 use Rattle.bz_workspace.specs.declared.used.Used.{Used}
 
+pub put_in : (items : List Used) (place : ℕ) (there default new : Used) (file : Option p.Opened) → there ≡ get_or items place default
+    → used_in new ≡ record (used_in there) { file = file } → map used_in (slice_set items place new) ≡ with_file place file (map used_in items)
+put_in [] place there default new file is put = refl
+put_in (one ∷ more) zero there default new file is put =
+    ap (λ (x : p.Used). x ∷ map used_in more) (put ∙ ap (λ (x : Used). record (used_in x) { file = file }) is)
+put_in (one ∷ more) (suc place) there default new file is put = ap (λ (rest : List p.Used). used_in one ∷ rest) (put_in more place there default new file is put)
+
 pub put : (items : List Used) (place : ℕ) (there default : Used) (file : Option Opened) → there ≡ get_or items place default
     → map used_in (slice_set items place (record there { file = file })) ≡ with_file place (option_map opened_in file) (map used_in items)
-put [] place there default file is = refl
-put (one ∷ more) zero there default file is = ap (λ (x : Used). used_in (record x { file = file }) ∷ map used_in more) is
-put (one ∷ more) (suc place) there default file is = ap (λ (rest : List p.Used). used_in one ∷ rest) (put more place there default file is)
+put items place there default file is = put_in items place there default (record there { file = file }) (option_map opened_in file) is refl
+
+-- the file of a package that is open
+some_in : (file : Option Opened) → IsSome (option_map opened_in file) → IsSome file
+some_in None is = is
+some_in (Some file) is = refl
+
+pub is_open : (items : List Used) (place : ℕ) (there default : Used) → there ≡ get_or items place default → IsSome (file_at place (map used_in items))
+    → IsSome there.file
+is_open [] place there default same is = absurd (true≢false (sym is))
+is_open (one ∷ more) zero there default same is = ap (λ (x : Used). is_some x.file) same ∙ some_in one.file is
+is_open (one ∷ more) (suc place) there default same is = is_open more place there default same is
+
+pub file_in : (items : List Used) (place : ℕ) (there default : Used) → there ≡ get_or items place default → IsSome (file_at place (map used_in items))
+    → file_at place (map used_in items) ≡ option_map opened_in there.file
+file_in [] place there default same is = absurd (true≢false (sym is))
+file_in (one ∷ more) zero there default same is = ap (λ (x : Used). option_map opened_in x.file) (sym same)
+file_in (one ∷ more) (suc place) there default same is = file_in more place there default same is
+
+-- the file of a package, by what stands in the list
+abbrev file_of : Option Used → Option p.Opened
+file_of None = None
+file_of (Some one) = option_map opened_in one.file
+
+file_shown : (items : List Used) (place : ℕ) → file_at place (map used_in items) ≡ file_of (slice_get items place)
+file_shown [] zero = refl
+file_shown [] (suc place) = refl
+file_shown (one ∷ more) zero = refl
+file_shown (one ∷ more) (suc place) = file_shown more place
+
+same_place : (place : ℕ) (file : Option Opened) → option_map (λ (_ : Opened). place) file ≡ option_map (λ (_ : p.Opened). place) (option_map opened_in file)
+same_place place None = refl
+same_place place (Some file) = refl
+
+looked_up : (slice items : List Used) (used : List p.Used) (place : ℕ) (found : Option Used) → slice ≡ items → map used_in items ≡ used
+    → found ≡ slice_get slice place → file_of found ≡ file_at place used
+looked_up slice items used place found same shown is =
+    ap file_of (is ∙ ap (λ (xs : List Used). slice_get xs place) same) ∙ (sym (file_shown items place) ∙ ap (file_at place) shown)
+
+pub found_open : (slice items : List Used) (used : List p.Used) (place : ℕ) (one : Used) → slice ≡ items → map used_in items ≡ used
+    → Some one ≡ slice_get slice place → option_map (λ (_ : Opened). place) one.file ≡ option_map (λ (_ : p.Opened). place) (file_at place used)
+found_open slice items used place one same shown is =
+    same_place place one.file ∙ ap (option_map (λ (_ : p.Opened). place)) (looked_up slice items used place (Some one) same shown is)
+
+pub none_found : (slice items : List Used) (used : List p.Used) (place : ℕ) → slice ≡ items → map used_in items ≡ used → None ≡ slice_get slice place
+    → None ≡ option_map (λ (_ : p.Opened). place) (file_at place used)
+none_found slice items used place same shown is = ap (option_map (λ (_ : p.Opened). place)) (looked_up slice items used place None same shown is)
 
 -- a file changes no package
-pub packages_stay : (place : ℕ) (file : Option p.Opened) (used : List p.Used) → packages_of (with_file place file used) ≡ packages_of used
+packages_stay : (place : ℕ) (file : Option p.Opened) (used : List p.Used) → packages_of (with_file place file used) ≡ packages_of used
 packages_stay place file [] = refl
 packages_stay zero file (one ∷ more) = refl
 packages_stay (suc place) file (one ∷ more) = ap (λ rest. one.package ∷ rest) (packages_stay place file more)
 
+pub kept_by : (keys : List Bytes) (place : ℕ) (file : Option p.Opened) (used new : List p.Used) → keys ≡ packages_of used
+    → new ≡ with_file place file used → keys ≡ packages_of new
+kept_by keys place file used new kept is = kept ∙ sym (ap packages_of is ∙ packages_stay place file used)
+
 -- the file that a package was given
-pub file_there : (place : ℕ) (file : Option p.Opened) (used : List p.Used) → place < length used → file_at place (with_file place file used) ≡ file
+file_there : (place : ℕ) (file : Option p.Opened) (used : List p.Used) → place < length used → file_at place (with_file place file used) ≡ file
 file_there place file [] within = absurd (omega arith)
 file_there zero file (one ∷ more) within = refl
 file_there (suc place) file (one ∷ more) within = file_there place file more (omega arith)
+
+pub opened_there : (place : ℕ) (file : p.Opened) (used whole new : List p.Used) → used ≡ whole → place < length whole → new ≡ with_file place (Some file) used
+    → IsSome (file_at place new)
+opened_there place file used whole new same within is =
+    ap (λ (now : List p.Used). is_some (file_at place now)) (is ∙ ap (with_file place (Some file)) same)
+    ∙ ap is_some (file_there place (Some file) whole within)
 
 -- a package with no file is as it was without one
 pub none_stays : (place : ℕ) (used : List p.Used) → file_at place used ≡ None → with_file place None used ≡ used
@@ -34,17 +97,30 @@ none_stays zero (one ∷ more) none = ap (λ (file : Option p.Opened). record on
 none_stays (suc place) (one ∷ more) none = ap (λ (rest : List p.Used). one ∷ rest) (none_stays place more none)
 
 -- a file that is there is one of a package
-pub within_used : (place : ℕ) (used : List p.Used) → IsSome (file_at place used) → place < length used
+within_used : (place : ℕ) (used : List p.Used) → IsSome (file_at place used) → place < length used
 within_used place [] is = absurd (true≢false (sym is))
 within_used zero (one ∷ more) is = omega arith
 within_used (suc place) (one ∷ more) is = let within = within_used place more is in omega arith
 
+pub within_items : (place : ℕ) (items : List Used) (used : List p.Used) → map used_in items ≡ used → IsSome (file_at place used) → place < length items
+within_items place items used same is =
+    subst (λ (n : ℕ). place < n) (ap length (sym same) ∙ length-map items used_in) (within_used place used is)
+
 -- the last package
-pub last_none : (used : List p.Used) (one : p.Used) → file_at (length used) (used ++ one ∷ []) ≡ one.file
+last_none : (used : List p.Used) (one : p.Used) → file_at (length used) (used ++ one ∷ []) ≡ one.file
 last_none [] one = refl
 last_none (first ∷ more) one = last_none more one
 
-pub last_put : (used : List p.Used) (one : p.Used) (file : Option p.Opened)
+last_put : (used : List p.Used) (one : p.Used) (file : Option p.Opened)
     → with_file (length used) file (used ++ one ∷ []) ≡ used ++ record one { file = file } ∷ []
 last_put [] one file = refl
 last_put (first ∷ more) one file = ap (λ (rest : List p.Used). first ∷ rest) (last_put more one file)
+
+pub closed_last : (place : ℕ) (used new : List p.Used) (one : p.Used) → place ≡ length used → new ≡ used ++ one ∷ [] → one.file ≡ None → file_at place new ≡ None
+closed_last place used new one at is none =
+    ap (λ (n : ℕ). file_at n new) at ∙ (ap (file_at (length used)) is ∙ (last_none used one ∙ none))
+
+pub put_last : (place : ℕ) (used mid new : List p.Used) (one : p.Used) (file : Option p.Opened) → place ≡ length used → mid ≡ used ++ one ∷ []
+    → new ≡ with_file place file mid → new ≡ used ++ record one { file = file } ∷ []
+put_last place used mid new one file at is put =
+    put ∙ (ap (λ (n : ℕ). with_file n file mid) at ∙ (ap (with_file (length used) file) is ∙ last_put used one file))

@@ -1,3 +1,4 @@
 pub mod FaultSteps
 pub mod FileSteps
+pub mod FoundSteps
 pub mod PlaceSteps

@@ -3,8 +3,8 @@ ghost use Rattle.std.specs.Prelude.{◌≡◌, ◌≢◌, ◌⊎◌, ◌≤◌, 
 ghost use Rattle.std.specs.FinMap.{get};
 ghost use Rattle.bz_tree.specs.Legal.{Accepted};
 ghost use Rattle.bz_journal.specs.Faults.{IsFaultOf};
-ghost use Rattle.bz_ports.specs.Faults.{Rises};
-ghost use Rattle.bz_ports.specs.Outputs.{Counts};
+ghost use Rattle.bz_ports.specs.Faults.{Rises, AppendsUnlessFailed};
+ghost use Rattle.bz_ports.specs.Told.{named_line};
 ghost use Rattle.bz_workspace.specs.Found.{in_package};
 ghost use Rattle.bz_workspace.specs.Opens.{fresh};
 ghost use Rattle.bz_workspace.specs.Shown.{opened_in};
@@ -14,7 +14,7 @@ use bz_files::{FileFault, Files};
 use bz_items::{Memory, Text};
 use bz_journal::Session;
 use bz_lex::ReadFault;
-use bz_ports::{Cut, Sink, tell};
+use bz_ports::{Cut, Sink, tell, tell_named};
 use std::alloc::Global;
 
 /// What came of opening a package.
@@ -104,8 +104,21 @@ pub(crate) fn is_memory(fault: &ReadFault) -> bool
     }
 }
 
-/// Tells that memory was refused before a file of the package had a name.
-pub(crate) fn tell_unnamed<E: Sink>(err: &mut E, package: &str) {
+/// Tells a word on a file, and no file is open.
+pub(crate) fn fail<E: Sink>(err: &mut E, name: &str, word: &str, cut: Cut) -> Opening
+    ensures opening { result ≡ record { place = None; cut = cut } }
+    ensures told { AppendsUnlessFailed (E.faults err.old) (E.faults err.new) (E.contents err.old) (E.contents err.new)
+        (named_line name.now word.now) }
+{
+    tell_named(err, name, word);
+    without_file(cut)
+}
+
+/// Tells that memory was refused before a file of the package had its name, and no file is open.
+pub(crate) fn unnamed<E: Sink>(err: &mut E, package: &str) -> Opening
+    ensures { result ≡ record { place = None; cut = Cut.Memory } }
+{
     let slash = if package.is_empty() { "" } else { "/" };
     tell(err, &[package, slash, "BUILD", ": Memory\n"]);
+    without_file(Cut::Memory)
 }

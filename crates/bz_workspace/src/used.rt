@@ -39,6 +39,16 @@ pub(crate) fn put_file(used: &mut Vec<Used>, place: usize, file: Option<Opened>)
     used[place].file = file;
 }
 
+/// The number of the package, where its file is open.
+pub(crate) fn place_of_open(place: usize, used: &Used) -> Option<usize>
+    ensures { result ≡ option_map (λ _. place) used.now.file }
+{
+    match used.file {
+        Some(_) => Some(place),
+        None => None,
+    }
+}
+
 /// Does an action in the file, which is open.
 fn act_in(used: &mut Used, action: &Action) -> Result<Reply, Refusal>
     requires { IsSome used.old.file }
@@ -58,7 +68,8 @@ pub(crate) fn act_at(
     place: usize,
     action: &Action,
 ) -> Result<Reply, Refusal>
-    requires { IsSome (file_at place (map used_in used.old.items)) }
+    requires within { place < length used.old.items }
+    requires there { IsSome (file_at place (map used_in used.old.items)) }
     ensures { ActsAt place action.now (map used_in used.old.items) result (map used_in used.new.items) }
 {
     act_in(&mut used[place], action)

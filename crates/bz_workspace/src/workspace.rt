@@ -12,12 +12,12 @@ ghost use Rattle.bz_workspace.specs.Packages as p;
 ghost use Rattle.bz_workspace.specs.Packages.{file_at, place_of, with_file};
 ghost use Rattle.bz_workspace.specs.Shown.{used_in};
 
-use crate::opening::{bytes_of, is_memory, name_in, opened, tell_unnamed, without_file};
-use crate::used::{act_at, put_file};
+use crate::opening::{bytes_of, fail, is_memory, name_in, opened, unnamed, without_file};
+use crate::used::{act_at, place_of_open, put_file};
 use crate::{Opening, Used};
 use bz_attribute::Refusal;
 use bz_files::{FileFault, Files};
-use bz_items::{Memory, Text};
+use bz_items::{Memory, Text, at};
 use bz_journal::{Action, Reply};
 use bz_ports::{Cut, Sink, tell_fault, tell_named};
 use indexmap::IndexSet;
@@ -112,9 +112,9 @@ impl Workspace {
     fn opened_at(&self, place: usize) -> Option<usize>
         ensures { result ≡ option_map (λ _. place) (file_at place self.now) }
     {
-        match self.used.get(place) {
-            Some(Used { file: Some(_), .. }) => Some(place),
-            _ => None,
+        match at(self.used.as_slice(), place) {
+            Some(used) => place_of_open(place, used),
+            None => None,
         }
     }
 
@@ -183,18 +183,15 @@ impl Workspace {
     {
         let alloc = *self.used.allocator();
         let Ok(name) = name_in(alloc, package, "BUILD") else {
-            tell_unnamed(err, package);
-            return without_file(Cut::Memory);
+            return unnamed(err, package);
         };
         let name = name.as_str();
-        let (word, cut) = match bytes_of(alloc, files, name) {
-            Ok(text) => return self.open_text(place, package, name, text, err),
-            Err(FileFault::Absent) => ("cannot open", Cut::Whole),
-            Err(FileFault::Memory) => ("Memory", Cut::Memory),
-            Err(_) => ("cannot open", Cut::Files),
-        };
-        tell_named(err, name, word);
-        without_file(cut)
+        match bytes_of(alloc, files, name) {
+            Ok(text) => self.open_text(place, package, name, text, err),
+            Err(FileFault::Absent) => fail(err, name, "cannot open", Cut::Whole),
+            Err(FileFault::Memory) => fail(err, name, "Memory", Cut::Memory),
+            Err(_) => fail(err, name, "cannot open", Cut::Files),
+        }
     }
 
     /// Reads the first name of a package whose file isn't open, and then the second where the first is none.
@@ -222,17 +219,13 @@ impl Workspace {
     {
         let alloc = *self.used.allocator();
         let Ok(name) = name_in(alloc, package, "BUILD.bazel") else {
-            tell_unnamed(err, package);
-            return without_file(Cut::Memory);
+            return unnamed(err, package);
         };
         let name = name.as_str();
         match bytes_of(alloc, files, name) {
             Ok(text) => self.open_text(place, package, name, text, err),
             Err(FileFault::Absent) => self.open_second(place, package, files, err),
-            Err(FileFault::Memory) => {
-                tell_named(err, name, "Memory");
-                without_file(Cut::Memory)
-            }
+            Err(FileFault::Memory) => fail(err, name, "Memory", Cut::Memory),
             Err(_) => {
                 tell_named(err, name, "cannot open");
                 let opening = self.open_second(place, package, files, err);
@@ -279,10 +272,7 @@ impl Workspace {
         }
         match self.add(package.as_bytes()) {
             Ok(place) => self.open_first(place, package, files, err),
-            Err(_) => {
-                tell_unnamed(err, package);
-                without_file(Cut::Memory)
-            }
+            Err(_) => unnamed(err, package),
         }
     }
 
