@@ -29,11 +29,14 @@ refused_text : (A : Type 0) (text : List ℕ) (fault : ReadFault) → (fault ≡
     → ((at : ℕ) → (◌≡◌ {A = Result A ReadFault} (Err fault) (Err (f.NotUtf8 at)) ↔ ((length text ≤ limit) × IsValidUpTo text at)))
     → Refused text fault
 refused_text A text fault (inl memory) none large coding = inl memory
-refused_text A text fault (inr of_text) none large coding = inr (none of_text.0, record {
-  too_large = (λ is. large.0 (ap Err is), λ long. let e = large.1 long in cc);
-  not_utf8 = λ at. ((λ is. (coding at).0 (ap Err is)), λ short. let e = (coding at).1 short in cc);
-  other = of_text.1;
-})
+refused_text A text fault (inr of_text) none large coding = inr (
+  none of_text.0,
+  record {
+    too_large = (λ is. large.0 (ap Err is), λ long. let e = large.1 long in cc);
+    not_utf8 = λ at. ((λ is. (coding at).0 (ap Err is)), λ short. let e = (coding at).1 short in cc);
+    other = of_text.1;
+  },
+)
 
 pub refused : (A : Type 0) (slice text : List ℕ) (fault : ReadFault) → slice ≡ text
     → (IsOfText fault → Accepted slice → ⊥)

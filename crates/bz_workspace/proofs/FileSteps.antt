@@ -1,7 +1,8 @@
 -- The files of packages, by their numbers.
-use Rattle.std.proofs.Common.{◌≡◌, ◌<◌, ℕ, zero, suc, List, [], ◌∷◌, ◌++◌, length, map, get_or, Option, Some, None, refl, sym, ap, ◌∙◌, arith, subst, true≢false}
+use Rattle.std.proofs.Common.{◌≡◌, ◌<◌, ℕ, zero, suc, List, [], ◌∷◌, ◌++◌, length, map, take, get_or, Option, Some, None, refl, sym, ap, ◌∙◌, arith, subst, true≢false}
 use Rattle.std.specs.Prelude.{slice_get, slice_set, is_some, IsSome}
 use Rattle.std.specs.Option.{option_map}
+use Rattle.std.proofs.Math.Seq.{take-append_seam}
 use Rattle.std.proofs.lemmas.List.{length-map}
 use Rattle.bz_value.specs.Gaps.{Bytes}
 use Rattle.bz_workspace.specs.Packages as p
@@ -106,6 +107,15 @@ pub within_items : (place : ℕ) (items : List Used) (used : List p.Used) → ma
 within_items place items used same is =
     subst (λ (n : ℕ). place < n) (ap length (sym same) ∙ length-map items used_in) (within_used place used is)
 
+-- the packages before one stay
+take_with : (place : ℕ) (file : Option p.Opened) (used : List p.Used) → take place (with_file place file used) ≡ take place used
+take_with zero file used = refl
+take_with (suc place) file [] = refl
+take_with (suc place) file (one ∷ more) = ap (λ (rest : List p.Used). one ∷ rest) (take_with place file more)
+
+pub before_stay : (place : ℕ) (file : Option p.Opened) (used new : List p.Used) → new ≡ with_file place file used → take place new ≡ take place used
+before_stay place file used new is = ap (take place) is ∙ take_with place file used
+
 -- the last package
 last_none : (used : List p.Used) (one : p.Used) → file_at (length used) (used ++ one ∷ []) ≡ one.file
 last_none [] one = refl
@@ -124,3 +134,9 @@ pub put_last : (place : ℕ) (used mid new : List p.Used) (one : p.Used) (file :
     → new ≡ with_file place file mid → new ≡ used ++ record one { file = file } ∷ []
 put_last place used mid new one file at is put =
     put ∙ (ap (λ (n : ℕ). with_file n file mid) at ∙ (ap (with_file (length used) file) is ∙ last_put used one file))
+
+pub before_added : (place : ℕ) (used mid new : List p.Used) (one : p.Used) → place ≡ length used → mid ≡ used ++ one ∷ [] → take place new ≡ take place mid
+    → take (length used) new ≡ used
+before_added place used mid new one at is stay =
+    ap (λ (n : ℕ). take n new) (sym at)
+    ∙ (stay ∙ (ap (λ (n : ℕ). take n mid) at ∙ (ap (take (length used)) is ∙ take-append_seam used (one ∷ []))))

@@ -63,11 +63,7 @@ fn act_in(used: &mut Used, action: &Action) -> Result<Reply, Refusal>
 }
 
 /// Does an action in the open file of the package with this number.
-pub(crate) fn act_at(
-    used: &mut Vec<Used>,
-    place: usize,
-    action: &Action,
-) -> Result<Reply, Refusal>
+pub(crate) fn act_at(used: &mut Vec<Used>, place: usize, action: &Action) -> Result<Reply, Refusal>
     requires within { place < length used.old.items }
     requires there { IsSome (file_at place (map used_in used.old.items)) }
     ensures { ActsAt place action.now (map used_in used.old.items) result (map used_in used.new.items) }

@@ -1,5 +1,5 @@
 //! The packages of a run, each found by its path in one step.
-ghost use Rattle.std.specs.Prelude.{◌≡◌, ◌⊎◌, ◌≤◌, ◌<◌, ℕ, [], ◌∷◌, ◌++◌, List, Option, map, length, true, Some, None, IsSome, IfSome, OnOk, OnErr, IfOk};
+ghost use Rattle.std.specs.Prelude.{◌≡◌, ◌⊎◌, ◌≤◌, ◌<◌, ℕ, [], ◌∷◌, ◌++◌, List, Option, map, length, take, true, Some, None, IsSome, IfSome, OnOk, OnErr, IfOk};
 ghost use Rattle.std.specs.Option.{option_map};
 ghost use Rattle.std.specs.FinMap.{get};
 ghost use Rattle.bz_value.specs.Gaps.{Bytes};
@@ -112,7 +112,7 @@ impl Workspace {
     fn opened_at(&self, place: usize) -> Option<usize>
         ensures { result ≡ option_map (λ _. place) (file_at place self.now) }
     {
-        match at(self.used.as_slice(), place) {
+        match at(&self.used, place) {
             Some(used) => place_of_open(place, used),
             None => None,
         }
@@ -175,6 +175,7 @@ impl Workspace {
             × (result.place ≡ option_map (λ _. place) file)
             × Tells (E.faults err.old) (E.faults err.new) (E.contents err.old) (E.contents err.new) lines }
         ensures there { IfSome result.place (λ at. IsSome (file_at at self.new)) }
+        ensures kept { take place self.new ≡ take place self.old }
         ensures folder { F.honest files.old ≡ true → F.folder files.new ≡ F.folder files.old }
         ensures cut { (result.cut ≡ Cut.Whole) ⊎ (result.cut ≡ Cut.Memory) ⊎ ((result.cut ≡ Cut.Files) × Rises (F.faults files.old) (F.faults files.new)) }
         ensures steady { result.cut ≡ Cut.Whole → F.faults files.new ≡ F.faults files.old }
@@ -211,6 +212,7 @@ impl Workspace {
             × (result.place ≡ option_map (λ _. place) file)
             × Tells (E.faults err.old) (E.faults err.new) (E.contents err.old) (E.contents err.new) lines }
         ensures there { IfSome result.place (λ at. IsSome (file_at at self.new)) }
+        ensures kept { take place self.new ≡ take place self.old }
         ensures folder { F.honest files.old ≡ true → F.folder files.new ≡ F.folder files.old }
         ensures cut { (result.cut ≡ Cut.Whole) ⊎ (result.cut ≡ Cut.Memory) ⊎ ((result.cut ≡ Cut.Files) × Rises (F.faults files.old) (F.faults files.new)) }
         ensures steady { result.cut ≡ Cut.Whole → F.faults files.new ≡ F.faults files.old }
@@ -241,12 +243,7 @@ impl Workspace {
     /// a used one from then on, whatever comes. A fault is told by one line for each file: those of the text, `NAME: cannot
     /// open` where neither is there or one could not be read, and `NAME: Memory` where memory was refused. Cuts: `Memory`
     /// and `Files`, the first that came; the second file may be open behind a `Files` of the first.
-    pub fn open<F: Files, E: Sink>(
-        &mut self,
-        package: &str,
-        files: &mut F,
-        err: &mut E,
-    ) -> Opening
+    pub fn open<F: Files, E: Sink>(&mut self, package: &str, files: &mut F, err: &mut E) -> Opening
         requires { length «package».now ≤ 65536 }
         ensures again { (place : ℕ) → place_of «package».now self.old ≡ Some place
             → (result ≡ record { place = option_map (λ _. place) (file_at place self.old); cut = Cut.Whole })
@@ -258,6 +255,9 @@ impl Workspace {
             × (result.place ≡ option_map (λ _. length self.old) file)
             × Tells (E.faults err.old) (E.faults err.new) (E.contents err.old) (E.contents err.new) lines }
         ensures there { IfSome result.place (λ at. IsSome (file_at at self.new)) }
+
+        // The packages that were used before stay as they were, whatever comes.
+        ensures kept { take (length self.old) self.new ≡ self.old }
         ensures folder { F.honest files.old ≡ true → F.folder files.new ≡ F.folder files.old }
         ensures cut { (result.cut ≡ Cut.Whole) ⊎ (result.cut ≡ Cut.Memory) ⊎ ((result.cut ≡ Cut.Files) × Rises (F.faults files.old) (F.faults files.new)) }
         ensures steady { result.cut ≡ Cut.Whole → F.faults files.new ≡ F.faults files.old }

@@ -2,7 +2,7 @@ use Rattle.std.proofs.Common.{◌≡◌, ◌∙◌, ◌++◌, ◌∷◌, [], ℕ
 use Rattle.std.specs.Option.{option_map}
 use Rattle.bz_value.specs.Gaps.{Bytes}
 use Rattle.bz_workspace.specs.Packages as p
-use Rattle.bz_workspace.proofs.FileSteps.{closed_last, put_last}
+use Rattle.bz_workspace.proofs.FileSteps.{before_added, closed_last, put_last}
 use Rattle.bz_workspace.proofs.workspace.Workspace.open.Goals as goal
 
 pub open_first-requires-clause-closed : goal.open_first-requires-clause-closed
@@ -23,3 +23,8 @@ returns-in-Ok-clause-first g c = λ honest cut none.
       done.4 ∙ ap (λ (n : ℕ). option_map (λ (_ : p.Opened). n) done.0) c.in-Ok.ensures.place,
       done.5,
     )
+
+pub returns-in-Ok-clause-kept : goal.returns-in-Ok-clause-kept
+returns-in-Ok-clause-kept g c =
+    before_added c.in-Ok.place c.args.self.now c.add.new.self c.open_first.new.self (record { «package» = c.as_bytes-2.result.now; file = None })
+    c.in-Ok.ensures.place c.in-Ok.ensures.ok c.open_first.ensures.kept

@@ -1,4 +1,5 @@
-use Rattle.std.proofs.Common.{◌∙◌, ap, Err}
+use Rattle.std.proofs.Common.{inl, inr, take, ◌∙◌, ap, Err}
+use Rattle.bz_workspace.proofs.FileSteps.{before_stay}
 use Rattle.bz_workspace.proofs.FoundSteps.{first_opens, first_absent}
 use Rattle.bz_workspace.proofs.workspace.Workspace.open_first.Goals as goal
 
@@ -25,3 +26,10 @@ returns-in-Err-Absent-clause-first g c = λ honest cut.
       done.4,
       done.5,
     )
+
+pub returns-in-Ok-bytes_of-clause-kept : goal.returns-in-Ok-bytes_of-clause-kept
+returns-in-Ok-bytes_of-clause-kept g c = elim c.open_text.ensures.cut [
+    | inl whole ↦
+      let done = c.open_text.ensures.whole whole in before_stay c.args.place done.0 c.args.self.now c.open_text.new.self done.3
+    | inr memory ↦ ap (take c.args.place) memory.2
+  ]

@@ -4,7 +4,7 @@ use Rattle.bz_workspace.proofs.workspace.Workspace.opened_at.Goals as goal
 
 pub returns-in-Some : goal.returns-in-Some
 returns-in-Some c = c.place_of_open.ensures
-    ∙ found_open c.as_slice.result.now c.self.inside.used.items c.args.self.now c.args.place c.in-Some.used.now c.as_slice.ensures.value c.self.view_is c.in-Some.ensures
+    ∙ found_open c.deref.result.now c.self.inside.used.items c.args.self.now c.args.place c.in-Some.used.now c.deref.ensures.value c.self.view_is c.in-Some.ensures
 
 pub returns-in-None : goal.returns-in-None
-returns-in-None c = none_found c.as_slice.result.now c.self.inside.used.items c.args.self.now c.args.place c.as_slice.ensures.value c.self.view_is c.in-None.ensures
+returns-in-None c = none_found c.deref.result.now c.self.inside.used.items c.args.self.now c.args.place c.deref.ensures.value c.self.view_is c.in-None.ensures
