@@ -1,5 +1,5 @@
 //! The packages that a run has used, and their files.
-ghost use Rattle.std.specs.Prelude.{◌≡◌, ◌<◌, [], ◌∷◌, ◌++◌, map, length, Some, IsSome};
+ghost use Rattle.std.specs.Prelude.{◌≡◌, ◌<◌, map, length, Some, IsSome};
 ghost use Rattle.std.specs.Option.{option_map};
 ghost use Rattle.bz_journal.specs.History.{History, Acts};
 ghost use Rattle.bz_workspace.specs.Packages as p;

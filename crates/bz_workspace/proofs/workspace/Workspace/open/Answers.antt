@@ -1,4 +1,4 @@
-use Rattle.std.proofs.Common.{◌≡◌, ◌∙◌, ◌++◌, ◌∷◌, [], ℕ, List, None, ap, refl}
+use Rattle.std.proofs.Common.{◌≡◌, ◌∙◌, ◌++◌, ◌∷◌, [], ℕ, None, ap, refl}
 use Rattle.std.specs.Option.{option_map}
 use Rattle.bz_value.specs.Gaps.{Bytes}
 use Rattle.bz_workspace.specs.Packages as p

@@ -29,7 +29,7 @@ returns-in-Err-Absent-clause-first g c = λ honest cut.
 
 pub returns-in-Ok-bytes_of-clause-kept : goal.returns-in-Ok-bytes_of-clause-kept
 returns-in-Ok-bytes_of-clause-kept g c = elim c.open_text.ensures.cut [
-    | inl whole ↦
+  | inl whole ↦
       let done = c.open_text.ensures.whole whole in before_stay c.args.place done.0 c.args.self.now c.open_text.new.self done.3
-    | inr memory ↦ ap (take c.args.place) memory.2
-  ]
+  | inr memory ↦ ap (take c.args.place) memory.2
+]
