@@ -261,7 +261,7 @@ impl Workspace {
         ensures folder { F.honest files.old ≡ true → F.folder files.new ≡ F.folder files.old }
         ensures cut { (result.cut ≡ Cut.Whole) ⊎ (result.cut ≡ Cut.Memory) ⊎ ((result.cut ≡ Cut.Files) × Rises (F.faults files.old) (F.faults files.new)) }
         ensures steady { result.cut ≡ Cut.Whole → F.faults files.new ≡ F.faults files.old }
-        ensures count { F.faults files.old ≤ F.faults files.new }
+        ensures counts { Counts (F.faults files.old) (F.faults files.new) }
         ensures honest { F.honest files.new ≡ F.honest files.old }
     {
         if let Some(place) = self.place(package.as_bytes()) {
