@@ -55,6 +55,7 @@ fn read_part<S: Source>(
     ensures end { IfOk result (λ n. n ≡ 0 → vec_len bytes.old < most → IsAtEnd (S.remaining source.new)) }
     ensures fault { IsErrOf result InputFault.Read → Rises (S.faults source.old) (S.faults source.new) }
     ensures steady { (IsErrOf result InputFault.Read → ⊥) → S.faults source.new ≡ S.faults source.old }
+    ensures count { S.faults source.old ≤ S.faults source.new }
 {
     let mut chunk = [0u8; CHUNK];
     let room = (most - bytes.len()).min(CHUNK);
@@ -77,6 +78,7 @@ pub fn read_most<S: Source>(
     ensures ok { IfOk result (λ bytes. IfSome (S.remaining source.old) (λ all. bytes.items ≡ take most all)) }
     ensures fault { IsErrOf result InputFault.Read → Rises (S.faults source.old) (S.faults source.new) }
     ensures steady { (IsErrOf result InputFault.Read → ⊥) → S.faults source.new ≡ S.faults source.old }
+    ensures count { S.faults source.old ≤ S.faults source.new }
 {
     let mut bytes = Vec::new(alloc);
     while bytes.len() < most {
