@@ -1,0 +1,77 @@
+-- What an action leaves in the files of a run.
+use Rattle.std.proofs.Common.{◌≡◌, ◌∙◌, ◌++◌, ◌||◌, inl, inr, ℕ, zero, suc, List, [], ◌∷◌, Bool, true, false, Option, Some, None, Err, refl, sym, ap, subst}
+use Rattle.std.specs.Prelude.{map, slice_get}
+use Rattle.std.proofs.lemmas.List.{append-nil}
+use Rattle.bz_value.specs.Gaps.{Bytes}
+use Rattle.bz_attribute.specs.declared.refusal.Refusal.{Refusal}
+use Rattle.bz_attribute.specs.declared.refusal.Refusal.TheVariants.{Memory}
+use Rattle.bz_journal.specs.declared.action.Action.{Action}
+use Rattle.bz_journal.specs.History.{History, Acts, Leads}
+use Rattle.bz_ports.specs.Faults.{AppendsUnlessFailed}
+use Rattle.bz_ports.specs.Outputs.{Tells}
+use Rattle.bz_workspace.specs.Packages.{Opened, Used, file_at, with_file}
+use Rattle.bz_workspace.specs.Shown.{used_in}
+use Rattle.bz_workspace.specs.declared.used.Used as d
+use Rattle.bz_engine.specs.Run.{State, answered, told_of}
+use Rattle.bz_engine.specs.Told.{refusal_line}
+
+-- the file that takes the place of one that is there
+put_there : (place : ℕ) (used : List Used) (file new : Opened) → file_at place used ≡ Some file → file_at place (with_file place (Some new) used) ≡ Some new
+put_there place [] file new there = let e = there in absurd (cc)
+put_there zero (one ∷ more) file new there = refl
+put_there (suc place) (one ∷ more) file new there = put_there place more file new there
+
+pub file_put : (place : ℕ) (used after : List Used) (file new : Opened) → file_at place used ≡ Some file → after ≡ with_file place (Some new) used
+    → file_at place after ≡ Some new
+file_put place used after file new there put = ap (file_at place) put ∙ put_there place used file new there
+
+-- a refusal for another cause than memory is what an action leads to
+pub led_to : (h after : History) (action : Action) (refusal : Refusal) → Acts action h (Err refusal) after → (refusal ≡ Memory → ⊥)
+    → Leads action h (Err refusal) after
+led_to h after action refusal (inl done) other = done
+led_to h after action refusal (inr wanting) other = let e = wanting.1 in absurd (other (cc))
+
+-- the state behind a refusal
+abbrev state : List Used → Bytes → Bool → State
+state used printed failed = record { used = used; printed = printed; failed = failed }
+
+or_true : (b : Bool) → true ≡ (b || true)
+or_true true = refl
+or_true false = refl
+
+pub was_refused : (place : ℕ) (file : Opened) (refusal : Refusal) (history : History) (before after : State) (used : List Used)
+    → after ≡ record before { used = used; failed = true } → used ≡ with_file place (Some (record file { history = history })) before.used
+    → after ≡ answered place file (Err refusal) history before
+was_refused place file refusal history before after used is put =
+    let put_in = with_file place (Some (record file { history = history })) before.used in
+    is ∙ (ap (λ (u : List Used). state u before.printed true) put
+    ∙ (ap (λ (text : Bytes). state put_in text true) (sym (append-nil before.printed))
+    ∙ ap (state put_in (before.printed ++ [])) (or_true before.failed)))
+
+-- a refusal is told by the name of the file
+pub told_by : (f f' : ℕ) (old new : Option Bytes) (name other command : Bytes) (refusal : Refusal) → name ≡ other
+    → AppendsUnlessFailed f f' old new (refusal_line name command refusal) → Tells f f' old new (told_of other command (Err refusal))
+told_by f f' old new name other command refusal is told =
+    (f', new, subst (λ (text : Bytes). AppendsUnlessFailed f f' old new (refusal_line text command refusal)) is told, (refl, refl))
+
+-- ---- a package by its number
+
+abbrev file_of : Option d.Used → Option Opened
+file_of None = None
+file_of (Some one) = (used_in one).file
+
+file_shown : (items : List d.Used) (place : ℕ) → file_at place (map used_in items) ≡ file_of (slice_get items place)
+file_shown [] zero = refl
+file_shown [] (suc place) = refl
+file_shown (one ∷ more) zero = refl
+file_shown (one ∷ more) (suc place) = file_shown more place
+
+pub shown_at : (items : List d.Used) (used : List Used) (place : ℕ) (one : d.Used) (file : Opened) → map used_in items ≡ used
+    → Some one ≡ slice_get items place → file_at place used ≡ Some file → (used_in one).file ≡ Some file
+shown_at items used place one file shown is there =
+    ap file_of is ∙ (sym (file_shown items place) ∙ (ap (file_at place) shown ∙ there))
+
+pub none_at : (items : List d.Used) (used : List Used) (place : ℕ) (file : Opened) → map used_in items ≡ used → None ≡ slice_get items place
+    → file_at place used ≡ Some file → ⊥
+none_at items used place file shown is there =
+    let e : None ≡ Some file = ap file_of is ∙ (sym (file_shown items place) ∙ (ap (file_at place) shown ∙ there)) in cc

@@ -1,0 +1,68 @@
+-- What packages leave at the end of a run, one after the other.
+use Rattle.std.proofs.Common.{◌≡◌, ◌⊎◌, inl, inr, ◌∙◌, ◌++◌, ◌∷◌, ◌<◌, ℕ, zero, suc, arith, List, [], length, get_or, Bool, true, false, Some, None, refl, sym, ap, map}
+use Rattle.std.specs.Prelude.{if◌then◌else◌}
+use Rattle.std.specs.List.{flat_map}
+use Rattle.std.proofs.lemmas.Grind.{flat_map-append}
+use Rattle.std.proofs.lemmas.List.{append-nil, map-append}
+use Rattle.bz_value.specs.Gaps.{Bytes}
+use Rattle.bz_files.specs.Folder.{Folder, with_file}
+use Rattle.bz_journal.specs.History.{present}
+use Rattle.bz_workspace.specs.Packages.{Opened, Used}
+use Rattle.bz_engine.specs.Ending.{differs, is_input, is_written, Writing, writing_of, Writes, fixed_lines}
+use Rattle.bz_engine.specs.Told.{fixed_line}
+
+-- ---- lists
+
+pub flat_map-last : {A B : Type 0} (f : A → List B) (xs : List A) (y : A) → flat_map f (xs ++ y ∷ []) ≡ flat_map f xs ++ f y
+flat_map-last f xs y = flat_map-append f xs (y ∷ []) ∙ ap (λ ys. flat_map f xs ++ ys) (append-nil (f y))
+
+nothing_first : {A : Type 0} (xs ys : List A) → xs ++ ys ≡ [] → xs ≡ []
+nothing_first [] ys is = refl
+nothing_first (x ∷ xs) ys is = absurd (cc is)
+
+nothing_later : {A : Type 0} (xs ys : List A) → xs ++ ys ≡ [] → ys ≡ []
+nothing_later [] ys is = is
+nothing_later (x ∷ xs) ys is = absurd (cc is)
+
+-- what makes nothing of a list makes nothing of each element
+pub nothing_at : {A B C : Type 0} (f : B → List C) (v : A → B) (xs : List A) (i : ℕ) (d : A) → i < length xs → flat_map f (map v xs) ≡ []
+    → f (v (get_or xs i d)) ≡ []
+nothing_at f v [] i d within none = absurd (omega arith)
+nothing_at f v (x ∷ xs) zero d within none = nothing_first (f (v x)) (flat_map f (map v xs)) none
+nothing_at f v (x ∷ xs) (suc i) d within none = nothing_at f v xs i d (omega arith) (nothing_later (f (v x)) (flat_map f (map v xs)) none)
+
+-- ---- files
+
+pub writes_more : (files more : List Writing) (before mid after : Folder) → Writes files before mid → Writes more mid after → Writes (files ++ more) before after
+writes_more [] more before mid after first last = rw (sym first) last
+writes_more (file ∷ files) more before mid after first last = (first.0, first.1, writes_more files more first.0 mid after first.2 last)
+
+-- files can always be written
+pub writes_exist : (files : List Writing) (before : Folder) → (after : Folder) × Writes files before after
+writes_exist [] before = (before, refl)
+writes_exist (file ∷ files) before =
+    let rest = writes_exist files (with_file before file.0 file.1) in
+    (rest.0, (with_file before file.0 file.1, (λ name other. refl), rest.1))
+
+pub fixed_lines-append : (quiet : Bool) (files more : List Writing) → fixed_lines quiet (files ++ more) ≡ fixed_lines quiet files ++ fixed_lines quiet more
+fixed_lines-append true files more = refl
+fixed_lines-append false files more = map-append (λ (file : Writing). fixed_line file.0) files more
+
+-- a file and its new bytes, alone
+abbrev one : Bytes → Bytes → List Writing
+one name text = (name, text) ∷ []
+
+-- A file that isn't standard input, whose text is another one than was read.
+pub writing_is : (to_stdout : Bool) (used : Used) (file : Opened) (text : Bytes) → to_stdout ≡ false → is_input used ≡ false → used.file ≡ Some file
+    → Some text ≡ (if differs file then Some (present file.history) else None) → writing_of to_stdout used ≡ (file.name, text) ∷ []
+writing_is to_stdout used file text stays other there new = rw (stays, other, there) (go (differs file) new)
+  where
+    go : (changed : Bool) → Some text ≡ (if changed then Some (present file.history) else None)
+        → (if is_written false false changed then one file.name (present file.history) else []) ≡ one file.name text
+    go true new = ap (one file.name) (cc (sym new))
+    go false new = absurd (cc new)
+
+pub written_alone : (before after : Folder) (name text : Bytes) (files : List Writing) (honest : Bool) → files ≡ (name, text) ∷ []
+    → (honest ≡ true → Writes ((name, text) ∷ []) before after) → (honest ≡ true) ⊎ (files ≡ []) → Writes files before after
+written_alone before after name text files honest is writes (inl known) = rw (is) (writes known)
+written_alone before after name text files honest is writes (inr none) = absurd (cc (sym none ∙ is))

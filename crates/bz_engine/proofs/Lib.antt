@@ -1,0 +1,10 @@
+pub mod ActSteps
+pub mod CutSteps
+pub mod DoSteps
+pub mod EndingSteps
+pub mod InputSteps
+pub mod OpenSteps
+pub mod Outcomes
+pub mod Performing
+pub mod RunSteps
+pub mod StepLists

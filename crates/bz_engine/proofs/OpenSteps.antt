@@ -1,0 +1,178 @@
+-- How a run uses a package: standard input, and the packages that were used before.
+use Rattle.std.proofs.Common.{◌≡◌, ◌⊎◌, ◌≤◌, ◌<◌, ◌∙◌, ◌++◌, ◌+◌, inl, inr, ℕ, zero, suc, List, [], ◌∷◌, length, take, Option, Some, None, Bool, true, false, true≢false, refl, sym, ap, subst, arith, length-take}
+use Rattle.std.specs.Prelude.{IfSome, bytes_eq, if◌then◌else◌}
+use Rattle.std.specs.Option.{option_map}
+use Rattle.std.proofs.lemmas.List.{take_all}
+use Rattle.std.proofs.lemmas.Bool.{cases_lt}
+use Rattle.std.proofs.lemmas.Slice.Eq.{bytes_eq-Decides}
+use Rattle.bz_lex.specs.declared.fault.ReadFault.{ReadFault}
+use Rattle.bz_lex.specs.declared.fault.ReadFault.TheVariants as f
+use Rattle.bz_tree.specs.Spell.{limit}
+use Rattle.bz_tree.specs.Legal.{Accepted}
+use Rattle.bz_value.specs.Gaps.{Bytes}
+use Rattle.bz_journal.specs.Faults.{IsFaultOf}
+use Rattle.bz_ports.specs.Told.{stdin}
+use Rattle.bz_workspace.specs.Found.{found_in}
+use Rattle.bz_workspace.specs.Opens.{Opens, Takes}
+use Rattle.bz_workspace.specs.Packages.{Opened, Used, file_at, place_of, with_file}
+use Rattle.bz_workspace.specs.declared.opening.Opening.{Opening}
+use Rattle.bz_ports.specs.declared.exit.Cut.{Cut}
+use Rattle.bz_engine.specs.Cuts.{IsLeft}
+use Rattle.bz_engine.specs.Run.{Answers, IsInput, State, Uses, World}
+use Rattle.bz_engine.specs.Steps.{Step, input_package}
+
+-- ---- the first bytes of standard input, one more than a text may have, tell what becomes of it
+
+fits_limit : (text : Bytes) → Accepted text → length text ≤ limit
+fits_limit text accepted = accepted.1.2
+
+same_fault : (all : Bytes) (fault : ReadFault) → limit < length all → IsFaultOf (take 4194305 all) fault → IsFaultOf all fault
+same_fault all fault long of_front =
+    let len = length-take 4194305 all in
+    let large : fault ≡ f.TooLarge = of_front.too_large.1 (omega arith) in
+    record {
+      too_large = (λ _. long, λ _. large);
+      not_utf8 = λ at. (λ is. absurd (cc), λ short. let fits = short.0 in absurd (omega arith));
+      other = of_front.other;
+    }
+
+long_takes : (current name all : Bytes) (file : Option Opened) (lines : List Bytes) → limit < length all → Takes current name (take 4194305 all) file lines
+    → Takes current name all file lines
+long_takes current name all file lines long (inl opened) =
+    let le = fits_limit (take 4194305 all) opened.0 in
+    let len = length-take 4194305 all in absurd (omega arith)
+long_takes current name all file lines long (inr refused) =
+    inr (
+      (λ accepted. let le = fits_limit all accepted in omega arith),
+      (refused.1.0, same_fault all refused.1.0 long refused.1.1, refused.1.2, refused.1.3),
+    )
+
+front_takes : (current name all : Bytes) (file : Option Opened) (lines : List Bytes) → Takes current name (take 4194305 all) file lines
+    → Takes current name all file lines
+front_takes current name all file lines takes = go (cases_lt limit (length all))
+  where
+    go : (limit < length all) ⊎ (length all ≤ limit) → Takes current name all file lines
+    go (inl long) = long_takes current name all file lines long takes
+    go (inr short) = subst (λ (text : Bytes). Takes current name text file lines) (take_all 4194305 all (omega arith)) takes
+
+pub input_takes : (known : Option Bytes) (current name front : Bytes) (file : Option Opened) (lines : List Bytes)
+    → IfSome known (λ all. front ≡ take 4194305 all) → Takes current name front file lines
+    → (text : Bytes) × IsInput known text × Takes current name text file lines
+input_takes None current name front file lines read takes = (front, tt, takes)
+input_takes (Some all) current name front file lines read takes =
+    (all, refl, front_takes current name all file lines (subst (λ (text : Bytes). Takes current name text file lines) read takes))
+
+-- ---- the package that was used last
+
+file_put_last : (used : List Used) (one : Used) (file : Option Opened)
+    → with_file (length used) file (used ++ one ∷ []) ≡ used ++ record one { file = file } ∷ []
+file_put_last [] one file = refl
+file_put_last (first ∷ more) one file = ap (λ (rest : List Used). first ∷ rest) (file_put_last more one file)
+
+pub opened_last : (place : ℕ) (used mid new : List Used) (text current : Bytes) (file : Option Opened) → place ≡ length used → text ≡ current
+    → mid ≡ used ++ record { «package» = text; file = None } ∷ [] → new ≡ with_file place file mid
+    → new ≡ used ++ record { «package» = current; file = file } ∷ []
+opened_last place used mid new text current file at same is put =
+    put
+    ∙ (ap (λ (n : ℕ). with_file n file mid) at
+    ∙ (ap (with_file (length used) file) is
+    ∙ (file_put_last used (record { «package» = text; file = None }) file
+    ∙ ap (λ (name : Bytes). used ++ record { «package» = name; file = file } ∷ []) same)))
+
+pub place_last : (place : ℕ) (used : List Used) (file : Option Opened) (found : Option ℕ) → place ≡ length used → found ≡ option_map (λ _. place) file
+    → found ≡ option_map (λ _. length used) file
+place_last place used file found at is = is ∙ ap (λ (n : ℕ). option_map (λ (_ : Opened). n) file) at
+
+file_of_last : (used : List Used) (one : Used) → file_at (length used) (used ++ one ∷ []) ≡ one.file
+file_of_last [] one = refl
+file_of_last (first ∷ more) one = file_of_last more one
+
+pub last_file : (used new : List Used) (one : Used) → new ≡ used ++ one ∷ [] → file_at (length used) new ≡ one.file
+last_file used new one is = ap (file_at (length used)) is ∙ file_of_last used one
+
+-- ---- a package that is used stays so
+
+stays_none : (b : Bool) (long short : Option ℕ) → (long ≡ None → short ≡ None) → (if b then Some 0 else option_map (λ place. place + 1) long) ≡ None
+    → (if b then Some 0 else option_map (λ place. place + 1) short) ≡ None
+stays_none true long short less none = let e = none in absurd (cc)
+stays_none false (Some place) short less none = let e = none in absurd (cc)
+stays_none false None short less none = ap (option_map (λ (place : ℕ). place + 1)) (less refl)
+
+unused_before : (current : Bytes) (used : List Used) (one : Used) → place_of current (used ++ one ∷ []) ≡ None → place_of current used ≡ None
+unused_before current [] one none = refl
+unused_before current (first ∷ more) one none =
+    stays_none (bytes_eq first.package current) (place_of current (more ++ one ∷ [])) (place_of current more) (unused_before current more one) none
+
+found_here : (b : Bool) (found : Option ℕ) → b ≡ true → (if b then Some 0 else option_map (λ place. place + 1) found) ≡ None → ⊥
+found_here true found is none = let e = none in cc
+found_here false found is none = true≢false (sym is)
+
+found_behind : (b : Bool) (found : Option ℕ) → (found ≡ None → ⊥) → (if b then Some 0 else option_map (λ place. place + 1) found) ≡ None → ⊥
+found_behind true found some none = let e = none in cc
+found_behind false (Some place) some none = let e = none in cc
+found_behind false None some none = some refl
+
+last_is_used : (current : Bytes) (used : List Used) (one : Used) → one.package ≡ current → place_of current (used ++ one ∷ []) ≡ None → ⊥
+last_is_used current [] one is none = found_here (bytes_eq one.package current) None ((bytes_eq-Decides one.package current).1 is) none
+last_is_used current (first ∷ more) one is none =
+    found_behind (bytes_eq first.package current) (place_of current (more ++ one ∷ [])) (last_is_used current more one is) none
+
+-- ---- what is left of standard input
+
+pub left_behind_input : (known remaining : Option Bytes) (used new : List Used) (one : Used) → one.package ≡ input_package → new ≡ used ++ one ∷ []
+    → IsLeft known new remaining
+left_behind_input known remaining used new one is added = λ none.
+    absurd (last_is_used input_package used one is (subst (λ (all : List Used). place_of input_package all ≡ None) added none))
+
+pub left_behind : (known remaining : Option Bytes) (used new : List Used) (one : Used) → new ≡ used ++ one ∷ [] → IsLeft known used remaining
+    → IsLeft known new remaining
+left_behind known remaining used new one added left = λ none.
+    left (unused_before input_package used one (subst (λ (all : List Used). place_of input_package all ≡ None) added none))
+
+-- an action changes no package
+place_stays : (current : Bytes) (place : ℕ) (file : Option Opened) (used : List Used) → place_of current (with_file place file used) ≡ place_of current used
+place_stays current place file [] = refl
+place_stays current zero file (one ∷ more) = refl
+place_stays current (suc place) file (one ∷ more) =
+    ap (λ (found : Option ℕ). if bytes_eq one.package current then Some 0 else option_map (λ place. place + 1) found) (place_stays current place file more)
+
+pub left_after : (known remaining : Option Bytes) (step : Step) (place : ℕ) (found : Option Opened) (before after : State) (lines : List Bytes)
+    → Answers step place found before lines after → IsLeft known before.used remaining → IsLeft known after.used remaining
+left_after known remaining step place None before after lines answers left = λ none.
+    left (sym (ap (λ (state : State). place_of input_package state.used) answers.1) ∙ none)
+left_after known remaining step place (Some file) before after lines answers left = λ none.
+    left (sym (ap (λ (state : State). place_of input_package state.used) answers.4
+    ∙ place_stays input_package place (Some (record file { history = answers.1 })) before.used) ∙ none)
+
+-- ---- how a package is used
+
+pub is_found : (found : Option ℕ) → (found ≡ None) ⊎ ((place : ℕ) × (found ≡ Some place))
+is_found None = inl refl
+is_found (Some place) = inr (place, refl)
+
+-- the file of a package that was used before
+pub place_again : (place : ℕ) (used new : List Used) (opening : Opening) (cut : Cut)
+    → opening ≡ record { place = option_map (λ _. place) (file_at place used); cut = cut } → new ≡ used
+    → opening.place ≡ option_map (λ _. place) (file_at place new)
+place_again place used new opening cut is same =
+    ap (λ (o : Opening). o.place) is ∙ ap (λ (all : List Used). option_map (λ (_ : Opened). place) (file_at place all)) (sym same)
+
+-- the file of a package that was used last
+pub last_place : (used new : List Used) (current : Bytes) (file : Option Opened) (found : Option ℕ)
+    → new ≡ used ++ record { «package» = current; file = file } ∷ [] → found ≡ option_map (λ _. length used) file
+    → found ≡ option_map (λ _. length used) (file_at (length used) new)
+last_place used new current file found added is =
+    is ∙ ap (option_map (λ (_ : Opened). length used)) (sym (last_file used new (record { «package» = current; file = file }) added))
+
+pub uses_input : (world : World) (current text : Bytes) (used new : List Used) (file : Option Opened) (lines : List Bytes) → current ≡ input_package
+    → place_of input_package used ≡ None → IsInput world.known text → Takes input_package stdin text file lines
+    → new ≡ used ++ record { «package» = input_package; file = file } ∷ [] → Uses world current used (length used) lines new
+uses_input world current text used new file lines is none input takes added =
+    subst (λ (name : Bytes). Uses world name used (length used) lines new) (sym is)
+    (inr (none, refl, (Some (stdin, text), file, inl (refl, (text, input, refl)), takes, added)))
+
+pub uses_found : (world : World) (current : Bytes) (used new : List Used) (file : Option Opened) (lines : List Bytes) → (current ≡ input_package → ⊥)
+    → place_of current used ≡ None → Opens current (found_in world.folder current) file lines
+    → new ≡ used ++ record { «package» = current; file = file } ∷ [] → Uses world current used (length used) lines new
+uses_found world current used new file lines other none opens added =
+    inr (none, refl, (found_in world.folder current, file, inr (other, refl), opens, added))

@@ -1,0 +1,189 @@
+-- What words and lines come to, by what was read of them.
+use Rattle.std.proofs.Common.{◌≡◌, ◌≢◌, ◌⊎◌, ◌&&◌, inl, inr, ℕ, ◌<◌, List, [], ◌∷◌, length, take, codes, Option, Some, None, IfSome, IsSome, Result, Ok, Err, IfOk, Bool, true, false, true≢false, refl, sym, ap, subst, ◌∙◌, arith, bytes_eq}
+use Rattle.std.specs.Str.{IsUtf8, IsValidUpTo}
+use Rattle.std.proofs.lemmas.List.{take_all, length-take}
+use Rattle.bz_lex.specs.declared.fault.ReadFault.TheVariants.{NotUtf8}
+use Rattle.bz_value.specs.Gaps.{Bytes}
+use Rattle.bz_files.specs.Folder.{Folder}
+use Rattle.bz_line.specs.Asked.{Asked, Usage, group_of}
+use Rattle.bz_line.specs.Line.{Given, script, Line, LineUsage, line_of}
+use Rattle.bz_line.specs.Refused.{IsGroupFault, IsScriptFault}
+use Rattle.bz_line.specs.Script.{script_of}
+use Rattle.bz_line.specs.declared.line.Options.{Options}
+use Rattle.bz_ports.specs.Faults.{AppendsUnlessFailed}
+use Rattle.bz_ports.specs.Outputs.{Tells}
+use Rattle.bz_ports.specs.Told.{named_line, fault_line}
+use Rattle.bz_ports.proofs.Outputs.{appends_nothing}
+use Rattle.bz_engine.specs.Ending.{Left, Performs, Stands}
+use Rattle.bz_engine.specs.Outcome.{unused, AreOfInput, IsOfInput, NamesNoFile, IsScript, told_name, OperandsOutcome, LinesOutcome, TextOutcome, ScriptOutcome, GivenOutcome, LineOutcome, Outcome}
+use Rattle.bz_engine.specs.Run.{World, IsInput}
+use Rattle.bz_engine.specs.Steps.{all_steps, names_input, input_package}
+use Rattle.bz_engine.specs.Told.{IsUsageLine, IsLineUsageLine, input_line}
+
+-- ---- lines on standard error
+
+pub told_once : (f g : ℕ) (old new : Option Bytes) (line : Bytes) → AppendsUnlessFailed f g old new line → Tells f g old new (line ∷ [])
+told_once f g old new line told = (g, new, told, (refl, refl))
+
+-- What was told stands for what was asked.
+pub usage_told : (found : Option Usage) (file : Bytes) (f g : ℕ) (old new : Option Bytes) → IsSome found
+    → IfSome found (λ usage. (line : Bytes) × IsUsageLine file usage line × AppendsUnlessFailed f g old new line)
+    → (◌≡◌ {A = ℕ} 1 1) × (usage : Usage) × (line : Bytes) × (found ≡ Some usage) × IsUsageLine file usage line × Tells f g old new (line ∷ [])
+usage_told None file f g old new is holds = absurd (true≢false (sym is))
+usage_told (Some usage) file f g old new is holds = (refl, usage, holds.0, refl, holds.1, told_once f g old new holds.0 holds.2)
+
+pub line_usage_told : (found : Option LineUsage) (f g : ℕ) (old new : Option Bytes) → IsSome found
+    → IfSome found (λ usage. (line : Bytes) × IsLineUsageLine usage line × AppendsUnlessFailed f g old new line)
+    → (◌≡◌ {A = ℕ} 1 1) × (usage : LineUsage) × (line : Bytes) × (found ≡ Some usage) × IsLineUsageLine usage line × Tells f g old new (line ∷ [])
+line_usage_told None f g old new is holds = absurd (true≢false (sym is))
+line_usage_told (Some usage) f g old new is holds = (refl, usage, holds.0, refl, holds.1, told_once f g old new holds.0 holds.2)
+
+at_some : {A : Type 0} (P : A → Type 0) (found : Option A) (x : A) → found ≡ Some x → IfSome found P → P x
+at_some P found x is holds = subst (λ it. IfSome it P) is holds
+
+-- Nothing was done, and one line told.
+pub stands_unused : (folder folder' : Folder) (line : Bytes) (status : ℕ) (out : Option Bytes) (f g : ℕ) (old new : Option Bytes) → folder' ≡ folder
+    → status ≡ 1 → Tells f g old new (line ∷ []) → Stands (unused folder line) status folder' out out f g old new
+stands_unused folder folder' line status out f g old new same exit told = record { exit = exit; files = same; output = appends_nothing out; lines = told }
+
+-- What was told before is none.
+pub stands_from : (left : Left) (status : ℕ) (folder : Folder) (out out' : Option Bytes) (f f' g : ℕ) (old old' new : Option Bytes) → f' ≡ f → old' ≡ old
+    → Stands left status folder out out' f' g old' new → Stands left status folder out out' f g old new
+stands_from left status folder out out' f f' g old old' new count held stands =
+    subst (λ (n : ℕ). Stands left status folder out out' n g old new) count (subst (λ (b : Option Bytes). Stands left status folder out out' f' g b new) held stands)
+
+-- ---- the bytes of standard input
+
+-- Fewer bytes than could be taken are all.
+pub all_taken : (known : Option Bytes) (bytes : Bytes) (most : ℕ) → length bytes < most → IfSome known (λ all. bytes ≡ take most all) → IsInput known bytes
+all_taken None bytes most less is = tt
+all_taken (Some all) bytes most less is =
+    let short : length (take most all) < most = subst (λ (it : Bytes). length it < most) is less in
+    is ∙ take_all most all (omega (arith, short, length-take most all))
+
+pub apart : (name : Bytes) → bytes_eq name input_package ≡ false → name ≢ input_package
+apart name differs same = true≢false (ap (λ (it : Bytes). bytes_eq it input_package) (sym same) ∙ differs)
+
+-- ---- operands
+
+pub operands_refused : (options : Options) (texts : List Bytes) (world : World) (found : Option Usage) (usage : Usage) (line : Bytes) (status : ℕ)
+    (out : Option Bytes) (f g : ℕ) (old new : Option Bytes) → IfSome found (IsGroupFault texts) → found ≡ Some usage → IsUsageLine [] usage line
+    → status ≡ 1 → Tells f g old new (line ∷ []) → (left : Left) × OperandsOutcome options texts world left × Stands left status world.folder out out f g old new
+operands_refused options texts world found usage line status out f g old new fault is told exit tells = (
+  unused world.folder line,
+  inl (usage, line, at_some (IsGroupFault texts) found usage is fault, told, refl),
+  stands_unused world.folder world.folder line status out f g old new refl exit tells,
+)
+
+pub operands_done : (options : Options) (texts : List Bytes) (world : World) (asked : Asked) (lines : List Asked) (left : Left) → group_of texts ≡ Ok asked
+    → lines ≡ asked ∷ [] → Performs options (all_steps lines) world left → OperandsOutcome options texts world left
+operands_done options texts world asked lines left is same performs =
+    inr (asked, is, subst (λ (these : List Asked). Performs options (all_steps these) world left) same performs)
+
+pub operands_premise : (honest : Bool) (texts : List Bytes) (asked : Asked) (lines : List Asked) → group_of texts ≡ Ok asked → lines ≡ asked ∷ []
+    → (honest ≡ true) ⊎ IfOk (group_of texts) (λ asked. AreOfInput (asked ∷ [])) → (honest ≡ true) ⊎ AreOfInput lines
+operands_premise honest texts asked lines is same (inl is_honest) = inl is_honest
+operands_premise honest texts asked lines is same (inr are) =
+    let these : AreOfInput (asked ∷ []) = subst (λ (it : Result Asked Usage). IfOk it (λ asked. AreOfInput (asked ∷ []))) is are in
+    inr (subst AreOfInput (sym same) these)
+
+-- ---- lines
+
+pub lines_refused : (options : Options) (of_input names : Bool) (lines : List Asked) (world : World) (status : ℕ) (out : Option Bytes) (f g : ℕ)
+    (old new : Option Bytes) → of_input ≡ true → names ≡ true → names ≡ names_input lines → status ≡ 1 → AppendsUnlessFailed f g old new input_line
+    → (left : Left) × LinesOutcome options of_input lines world left × Stands left status world.folder out out f g old new
+lines_refused options of_input names lines world status out f g old new here named is exit told = (
+  unused world.folder input_line,
+  inl (ap (λ (it : Bool). it && names_input lines) here ∙ sym is ∙ named, refl),
+  stands_unused world.folder world.folder input_line status out f g old new refl exit (told_once f g old new input_line told),
+)
+
+pub lines_done : (options : Options) (of_input : Bool) (lines : List Asked) (folder : Folder) (known left_over : Option Bytes) (left : Left)
+    → of_input && names_input lines ≡ false → (of_input ≡ false → known ≡ left_over)
+    → Performs options (all_steps lines) (record { folder = folder; known = left_over }) left
+    → LinesOutcome options of_input lines (record { folder = folder; known = known }) left
+lines_done options of_input lines folder known left_over left neither same performs = inr (neither, (left_over, λ is. sym (same is), performs))
+
+-- ---- the text of a file of lines
+
+pub text_invalid : (options : Options) (name text told : Bytes) (world : World) (at at' : ℕ) (out : Option Bytes) (f g : ℕ) (old new : Option Bytes)
+    → IsValidUpTo text at → at' ≡ at → told ≡ told_name name → AppendsUnlessFailed f g old new (fault_line told (NotUtf8 at'))
+    → (left : Left) × TextOutcome options name (Some text) world left × Stands left 1 world.folder out out f g old new
+text_invalid options name text told world at at' out f g old new valid same called appends =
+    let line : Bytes = fault_line told (NotUtf8 at') in
+    let is : line ≡ fault_line (told_name name) (NotUtf8 at) = ap (λ (n : ℕ). fault_line told (NotUtf8 n)) same ∙ ap (λ (it : Bytes). fault_line it (NotUtf8 at)) called in (
+      unused world.folder line,
+      inl (at, valid, ap (unused world.folder) is),
+      stands_unused world.folder world.folder line 1 out f g old new refl refl (told_once f g old new line appends),
+    )
+
+pub text_refused : (options : Options) (name text text' told : Bytes) (world : World) (found : Option Usage) (usage : Usage) (line : Bytes) (status : ℕ)
+    (out : Option Bytes) (f g : ℕ) (old new : Option Bytes) → text' ≡ text → IsUtf8 text → IfSome found (IsScriptFault text') → found ≡ Some usage
+    → told ≡ told_name name → IsUsageLine told usage line → status ≡ 1 → Tells f g old new (line ∷ [])
+    → (left : Left) × TextOutcome options name (Some text) world left × Stands left status world.folder out out f g old new
+text_refused options name text text' told world found usage line status out f g old new same utf8 fault is called says exit tells =
+    let why : IsScriptFault text usage = subst (λ (it : Bytes). IsScriptFault it usage) same (at_some (IsScriptFault text') found usage is fault) in
+    let as_told : IsUsageLine (told_name name) usage line = subst (λ (it : Bytes). IsUsageLine it usage line) called says in (
+      unused world.folder line,
+      inr (inl (utf8, (usage, line, why, as_told, refl))),
+      stands_unused world.folder world.folder line status out f g old new refl exit tells,
+    )
+
+pub text_done : (options : Options) (name text text' : Bytes) (world : World) (of_input : Bool) (lines lines' : List Asked) (left : Left) → text' ≡ text
+    → IsUtf8 text → script_of text' ≡ Ok lines → lines' ≡ lines → of_input ≡ bytes_eq name input_package → LinesOutcome options of_input lines' world left
+    → TextOutcome options name (Some text) world left
+text_done options name text text' world of_input lines lines' left same utf8 is these here done =
+    let script : script_of text ≡ Ok lines = subst (λ (it : Bytes). script_of it ≡ Ok lines) same is in
+    let outcome : LinesOutcome options (bytes_eq name input_package) lines world left =
+    subst (λ (it : Bool). LinesOutcome options it lines world left) here (subst (λ (it : List Asked). LinesOutcome options of_input it world left) these done) in
+    inr (inr (utf8, (lines, script, outcome)))
+
+-- ---- a file of lines
+
+pub script_unread : (options : Options) (name : Bytes) (world : World) (folder' : Folder) (status : ℕ) (out : Option Bytes) (f g : ℕ) (old new : Option Bytes)
+    → folder' ≡ world.folder → IsScript world name None → status ≡ 1 → Tells f g old new (named_line (told_name name) (codes "cannot open") ∷ [])
+    → (left : Left) × ScriptOutcome options name world left × Stands left status folder' out out f g old new
+script_unread options name world folder' status out f g old new same is exit tells =
+    let line : Bytes = named_line (told_name name) (codes "cannot open") in
+    (unused world.folder line, (None, is, refl), stands_unused world.folder folder' line status out f g old new same exit tells)
+
+pub script_done : (options : Options) (name text text' : Bytes) (folder folder' : Folder) (known : Option Bytes) (left : Left) → text' ≡ text
+    → folder' ≡ folder → IsScript (record { folder = folder; known = known }) name (Some text)
+    → TextOutcome options name (Some text') (record { folder = folder'; known = known }) left
+    → ScriptOutcome options name (record { folder = folder; known = known }) left
+script_done options name text text' folder folder' known left same still is outcome = (
+  Some text,
+  is,
+  subst (λ (it : Folder). TextOutcome options name (Some text) (record { folder = it; known = known }) left) still
+      (subst (λ (it : Bytes). TextOutcome options name (Some it) (record { folder = folder'; known = known }) left) same outcome),
+)
+
+-- ---- words
+
+pub words_refused : (words : List Bytes) (world : World) (found : Option LineUsage) (usage : LineUsage) (line : Bytes) (status : ℕ) (out : Option Bytes)
+    (f g : ℕ) (old new : Option Bytes) → IfSome found (λ usage. line_of words ≡ Err usage) → found ≡ Some usage → IsLineUsageLine usage line
+    → status ≡ 1 → Tells f g old new (line ∷ []) → (left : Left) × Outcome words world left × Stands left status world.folder out out f g old new
+words_refused words world found usage line status out f g old new fault is told exit tells =
+    let left = unused world.folder line in
+    let refused : LineOutcome (Err usage) world left = (line, told, refl) in (
+      left,
+      subst (λ (it : Result Line LineUsage). LineOutcome it world left) (sym (at_some (λ usage. line_of words ≡ Err usage) found usage is fault)) refused,
+      stands_unused world.folder world.folder line status out f g old new refl exit tells,
+    )
+
+pub words_done : (words : List Bytes) (line : Line) (given : Given) (world : World) (left : Left) → line_of words ≡ Ok line → line.given ≡ given
+    → GivenOutcome line.options given world left → Outcome words world left
+words_done words line given world left is same outcome =
+    let whole : LineOutcome (Ok line) world left = subst (λ (it : Given). GivenOutcome line.options it world left) (sym same) outcome in
+    subst (λ (it : Result Line LineUsage). LineOutcome it world left) (sym is) whole
+
+pub words_premise : (honest : Bool) (words : List Bytes) (line : Line) (given : Given) → line_of words ≡ Ok line → line.given ≡ given
+    → (honest ≡ true) ⊎ NamesNoFile words → (honest ≡ true) ⊎ IsOfInput given
+words_premise honest words line given is same (inl is_honest) = inl is_honest
+words_premise honest words line given is same (inr none) =
+    let here : IsOfInput line.given = subst (λ (it : Result Line LineUsage). IfOk it (λ line. IsOfInput line.given)) is none in
+    inr (subst IsOfInput same here)
+
+pub script_premise : (honest : Bool) (name : Bytes) → (honest ≡ true) ⊎ IsOfInput (script name) → honest ≡ true
+script_premise honest name (inl is_honest) = is_honest
+script_premise honest name (inr none) = absurd none

@@ -1,0 +1,44 @@
+use Rattle.std.proofs.Common.{◌≡◌, ◌&&◌, Bool, false, map, refl, ap, sym, ◌∙◌, inl}
+use Rattle.bz_line.specs.Shown.{asked_in}
+use Rattle.bz_engine.specs.Run.{World}
+use Rattle.bz_engine.specs.Steps.{names_input}
+use Rattle.bz_engine.proofs.Outcomes.{lines_refused, lines_done}
+use Rattle.bz_engine.proofs.engine.run_lines_of.Goals.{else-of_input-via-then-of_input+else-names_input, else-of_input-via-else-of_input}
+use Rattle.bz_engine.proofs.engine.run_lines_of.Goals as goal
+
+pub returns-then-names_input-clause-whole : goal.returns-then-names_input-clause-whole
+returns-then-names_input-clause-whole g c honest is_whole known before =
+    let world : World = record { folder = g.F.Files.folder c.args.files.now; known = known } in
+    lines_refused c.args.options c.args.of_input c.names_input.result (map asked_in c.args.lines.now) world 1 (g.W.Sink.contents c.args.out.now)
+    (g.E.Sink.faults c.args.err.now) (g.E.Sink.faults c.tell_input.new.err) (g.E.Sink.contents c.args.err.now) (g.E.Sink.contents c.tell_input.new.err)
+    c.if-of_input.true c.if-names_input.true c.names_input.ensures refl c.tell_input.ensures
+
+pub returns-clause-whole : goal.returns-clause-whole
+returns-clause-whole g c honest is_whole known before =
+    let neither : c.args.of_input && names_input (map asked_in c.args.lines.now) ≡ false =
+    elim c.else-of_input.branch [
+      | else-of_input-via-then-of_input+else-names_input w ↦
+          ap (λ (it : Bool). it && names_input (map asked_in c.args.lines.now)) w.if-of_input.true ∙ sym w.names_input.ensures ∙ w.if-names_input.false
+      | else-of_input-via-else-of_input w ↦ ap (λ (it : Bool). it && names_input (map asked_in c.args.lines.now)) w.if-of_input.false
+    ] in
+    let done = c.perform.ensures.whole (inl honest) is_whole in (
+      done.0,
+      lines_done c.args.options c.args.of_input (map asked_in c.args.lines.now) (g.F.Files.folder c.args.files.now) known
+          (g.R.Source.remaining c.args.input.now) done.0 neither before done.1,
+      done.2,
+    )
+
+pub returns-clause-write : goal.returns-clause-write
+returns-clause-write g c honest is_write known before =
+    let neither : c.args.of_input && names_input (map asked_in c.args.lines.now) ≡ false =
+    elim c.else-of_input.branch [
+      | else-of_input-via-then-of_input+else-names_input w ↦
+          ap (λ (it : Bool). it && names_input (map asked_in c.args.lines.now)) w.if-of_input.true ∙ sym w.names_input.ensures ∙ w.if-names_input.false
+      | else-of_input-via-else-of_input w ↦ ap (λ (it : Bool). it && names_input (map asked_in c.args.lines.now)) w.if-of_input.false
+    ] in
+    let done = c.perform.ensures.write (inl honest) is_write in (
+      done.0,
+      lines_done c.args.options c.args.of_input (map asked_in c.args.lines.now) (g.F.Files.folder c.args.files.now) known
+          (g.R.Source.remaining c.args.input.now) done.0 neither before done.1,
+      done.2,
+    )

@@ -1,0 +1,38 @@
+use Rattle.std.proofs.Common.{ap, sym, ◌∙◌}
+use Rattle.bz_engine.specs.Run.{World}
+use Rattle.bz_engine.proofs.Outcomes.{stands_from, script_unread, script_done}
+use Rattle.bz_engine.proofs.engine.run_script.Goals as goal
+
+pub returns-in-Err-clause-whole : goal.returns-in-Err-clause-whole
+returns-in-Err-clause-whole g c honest is_whole =
+    let told = c.in-Err.ensures.err.0 is_whole in
+    let world : World = record { folder = g.F.Files.folder c.args.files.now; known = g.R.Source.remaining c.args.input.now } in
+    script_unread c.args.options c.args.name.now world (g.F.Files.folder c.read_bytes.new.files) c.in-Err.exit.status (g.W.Sink.contents c.args.out.now)
+    (g.E.Sink.faults c.args.err.now) (g.E.Sink.faults c.read_bytes.new.err) (g.E.Sink.contents c.args.err.now) (g.E.Sink.contents c.read_bytes.new.err)
+    (c.read_bytes.ensures.folder honest) (told.1 honest) told.0 told.2
+
+pub returns-clause-whole : goal.returns-clause-whole
+returns-clause-whole g c honest is_whole =
+    let ok = c.in-Ok.ensures.ok in
+    let known = g.R.Source.remaining c.args.input.now in
+    let still = c.read_bytes.ensures.folder honest in
+    let done = c.run_text.ensures.whole (c.read_bytes.ensures.honest ∙ honest) is_whole known (λ differs. ap g.R.Source.remaining (sym (ok.4 differs))) in
+    let outcome = script_done c.args.options c.args.name.now c.in-Ok.bytes.items c.deref.result.now (g.F.Files.folder c.args.files.now)
+    (g.F.Files.folder c.read_bytes.new.files) known done.0 c.deref.ensures.value still (ok.0 honest) done.1 in (
+      done.0,
+      outcome,
+      stands_from done.0 c.run_text.result.status (g.F.Files.folder c.run_text.new.files) (g.W.Sink.contents c.args.out.now)
+          (g.W.Sink.contents c.run_text.new.out) (g.E.Sink.faults c.args.err.now) (g.E.Sink.faults c.read_bytes.new.err) (g.E.Sink.faults c.run_text.new.err)
+          (g.E.Sink.contents c.args.err.now) (g.E.Sink.contents c.read_bytes.new.err) (g.E.Sink.contents c.run_text.new.err)
+          (ap g.E.Sink.faults ok.3) (ap g.E.Sink.contents ok.3) done.2,
+    )
+
+pub returns-clause-write : goal.returns-clause-write
+returns-clause-write g c honest is_write =
+    let ok = c.in-Ok.ensures.ok in
+    let known = g.R.Source.remaining c.args.input.now in
+    let still = c.read_bytes.ensures.folder honest in
+    let done = c.run_text.ensures.write (c.read_bytes.ensures.honest ∙ honest) is_write known (λ differs. ap g.R.Source.remaining (sym (ok.4 differs))) in
+    let outcome = script_done c.args.options c.args.name.now c.in-Ok.bytes.items c.deref.result.now (g.F.Files.folder c.args.files.now)
+    (g.F.Files.folder c.read_bytes.new.files) known done.0 c.deref.ensures.value still (ok.0 honest) done.1 in
+    (done.0, outcome, done.2)

@@ -1,0 +1,9 @@
+use Rattle.bz_line.specs.Shown.{usage_in}
+use Rattle.bz_engine.proofs.Outcomes.{usage_told}
+use Rattle.bz_engine.proofs.engine.unasked.Goals as goal
+
+-- src/engine.rt:50:1
+pub returns-in-Ok-clause-whole : goal.returns-in-Ok-clause-whole
+returns-in-Ok-clause-whole g c whole =
+    usage_told (usage_in c.args.fault.now) c.args.file.now (g.E.Sink.faults c.args.err.now) (g.E.Sink.faults c.tell_usage.new.err)
+    (g.E.Sink.contents c.args.err.now) (g.E.Sink.contents c.tell_usage.new.err) c.in-Ok.ensures.some c.in-Ok.ensures.ok

@@ -1,0 +1,96 @@
+-- What a run leaves behind its steps: standard output, lines, files and the status.
+use Rattle.std.specs.Prelude.{◌≡◌, ◌&&◌, not, Bool, false, ℕ, List, [], ◌∷◌, ◌++◌, map, bytes_eq, if◌then◌else◌, Option, Some, None}
+use Rattle.std.specs.List.{flat_map, list_any}
+use Rattle.std.specs.Option.{option_map_or}
+use Rattle.std.specs.Io.KnownBytes.{Appends}
+use Rattle.bz_value.specs.Gaps.{Bytes}
+use Rattle.bz_files.specs.Folder.{Folder, SameBut, new_name, with_file}
+use Rattle.bz_journal.specs.History.{present}
+use Rattle.bz_line.specs.declared.line.Options.{Options}
+use Rattle.bz_ports.specs.Outputs.{Tells}
+use Rattle.bz_workspace.specs.Packages.{Opened, Used}
+use Rattle.bz_engine.specs.Run.{World, State, begun, Runs}
+use Rattle.bz_engine.specs.Steps.{Step, input_package, shows_input}
+use Rattle.bz_engine.specs.Told.{fixed_line}
+
+-- the text at the end is another one than was read
+abbrev pub differs : Opened → Bool
+differs file = not (bytes_eq (present file.history) file.read)
+
+abbrev pub has_changed : Used → Bool
+has_changed used = option_map_or differs used.file false
+
+abbrev pub is_input : Used → Bool
+is_input used = bytes_eq used.«package» input_package
+
+-- Of standard input the text goes to standard output where it is shown; of a file where it changed and is to go there.
+abbrev pub goes_out : Bool → Bool → Bool → Bool → Bool
+goes_out of_input shown to_stdout changed = if of_input then shown else to_stdout && changed
+
+abbrev pub file_out : Bool → Bool → Bool → Option Opened → Bytes
+file_out of_input shown to_stdout None = []
+file_out of_input shown to_stdout (Some file) = if goes_out of_input shown to_stdout (differs file) then present file.history else []
+
+abbrev pub text_out : Bool → Bool → Used → Bytes
+text_out shown to_stdout used = file_out (is_input used) shown to_stdout used.file
+
+-- the texts of the packages, in order of first use
+abbrev pub texts_out : Bool → Bool → List Used → Bytes
+texts_out shown to_stdout used = flat_map (text_out shown to_stdout) used
+
+-- a file that is written: its name and its bytes
+abbrev pub Writing : Type 0
+Writing = Bytes × Bytes
+
+-- A file is written where it changed, unless its text goes to standard output.
+abbrev pub is_written : Bool → Bool → Bool → Bool
+is_written of_input to_stdout changed = not of_input && not to_stdout && changed
+
+abbrev pub file_writing : Bool → Bool → Option Opened → List Writing
+file_writing of_input to_stdout None = []
+file_writing of_input to_stdout (Some file) = if is_written of_input to_stdout (differs file) then (file.name, present file.history) ∷ [] else []
+
+abbrev pub writing_of : Bool → Used → List Writing
+writing_of to_stdout used = file_writing (is_input used) to_stdout used.file
+
+-- the files that are written, in order of first use
+abbrev pub writings : Bool → List Used → List Writing
+writings to_stdout used = flat_map (writing_of to_stdout) used
+
+-- Files are given their bytes one after the other; what is set aside for each may differ.
+abbrev pub Writes : List Writing → Folder → Folder → Type 0
+Writes [] before after = after ≡ before
+Writes (file ∷ files) before after =
+    (mid : Folder) × SameBut (λ other. other ≡ new_name file.0) (with_file before file.0 file.1) mid × Writes files mid after
+
+abbrev pub fixed_lines : Bool → List Writing → List Bytes
+fixed_lines quiet files = if quiet then [] else map (λ (file : Writing). fixed_line file.0) files
+
+-- 2 where a step failed, else 0 where a text at the end is another one than was read, else 3
+abbrev pub status_of : State → ℕ
+status_of state = if state.failed then 2 else (if list_any has_changed state.used then 0 else 3)
+
+-- what a run leaves: the bytes on standard output, the lines on standard error, its status and the folder
+pub record Left : Type 0 where
+  pub output : Bytes
+  pub lines : List Bytes
+  pub status : ℕ
+  pub folder : Folder
+
+-- Steps are run; then standard output is given what they printed and the texts behind it, and files are written.
+pub record Performs (options : Options) (steps : List Step) (world : World) (left : Left) : Type 0 where
+  pub told : List Bytes
+  pub state : State
+  pub runs : Runs world options.keep_going steps begun told state
+  pub output : left.output ≡ state.printed ++ texts_out (shows_input steps) options.to_stdout state.used
+  pub writes : Writes (writings options.to_stdout state.used) world.folder left.folder
+  pub lines : left.lines ≡ told ++ fixed_lines options.quiet (writings options.to_stdout state.used)
+  pub status : left.status ≡ status_of state
+
+-- What is left stands in the writers and in the folder. (Standard output before and after; the faults of standard error and what it
+-- holds, each before and after.)
+pub record Stands (left : Left) (status : ℕ) (folder : Folder) (out out' : Option Bytes) (faults faults' : ℕ) (err err' : Option Bytes) : Type 0 where
+  pub exit : status ≡ left.status
+  pub files : folder ≡ left.folder
+  pub output : Appends out out' left.output
+  pub lines : Tells faults faults' err err' left.lines

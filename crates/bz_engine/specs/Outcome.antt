@@ -1,0 +1,92 @@
+-- What a run of buildozer does, by its words, the bytes of standard input and the folder.
+use Rattle.std.specs.Prelude.{◌≡◌, ◌≢◌, ◌⊎◌, ◌&&◌, ℕ, List, [], ◌∷◌, codes, bytes_eq, if◌then◌else◌, Bool, true, false, Option, Some, None, Result, Ok, Err, IfOk}
+use Rattle.std.specs.List.{All}
+use Rattle.std.specs.FinMap.{get}
+use Rattle.std.specs.Str.{IsUtf8, IsValidUpTo}
+use Rattle.bz_lex.specs.declared.fault.ReadFault.TheVariants.{NotUtf8}
+use Rattle.bz_value.specs.Gaps.{Bytes}
+use Rattle.bz_files.specs.Folder.{Folder}
+use Rattle.bz_line.specs.Asked.{Asked, Usage, group_of}
+use Rattle.bz_line.specs.Line.{Given, operands, script, LineUsage, Line, line_of}
+use Rattle.bz_line.specs.Refused.{IsGroupFault, IsScriptFault}
+use Rattle.bz_line.specs.Script.{script_of}
+use Rattle.bz_line.specs.declared.line.Options.{Options}
+use Rattle.bz_ports.specs.Told.{stdin, named_line, fault_line}
+use Rattle.bz_engine.specs.Ending.{Left, Performs}
+use Rattle.bz_engine.specs.Run.{World, IsInput}
+use Rattle.bz_engine.specs.Steps.{input_package, all_steps, names_input}
+use Rattle.bz_engine.specs.Told.{IsUsageLine, IsLineUsageLine, input_line}
+
+-- A fault of usage is told by one line, and all else is as it was.
+abbrev pub unused : Folder → Bytes → Left
+unused folder line = record { output = []; lines = line ∷ []; status = 1; folder = folder }
+
+-- ---- operands among the words
+
+abbrev pub OperandsOutcome : Options → List Bytes → World → Left → Type 0
+OperandsOutcome options texts world left =
+    ((usage : Usage) × (line : Bytes) × IsGroupFault texts usage × IsUsageLine [] usage line × (left ≡ unused world.folder line))
+    ⊎ ((asked : Asked) × (group_of texts ≡ Ok asked) × Performs options (all_steps (asked ∷ [])) world left)
+
+-- ---- operands in a file of lines
+
+-- The lines stand in standard input for `-`, else in a file of the folder.
+abbrev pub IsScript : World → Bytes → Option Bytes → Type 0
+IsScript world name text =
+    ((name ≡ input_package) × ((bytes : Bytes) × IsInput world.known bytes × (text ≡ Some bytes)))
+    ⊎ ((name ≢ input_package) × (text ≡ get world.folder name))
+
+-- the name by which the file of lines is told
+abbrev pub told_name : Bytes → Bytes
+told_name name = if bytes_eq name input_package then stdin else name
+
+-- What lines ask for is done; rules of standard input can't be meant where the lines stand there, and then no step reads what is left
+-- of it.
+abbrev pub LinesOutcome : Options → Bool → List Asked → World → Left → Type 0
+LinesOutcome options of_input lines world left =
+    ((of_input && names_input lines ≡ true) × (left ≡ unused world.folder input_line))
+    ⊎ ((of_input && names_input lines ≡ false) × ((known : Option Bytes) × (of_input ≡ false → known ≡ world.known)
+    × Performs options (all_steps lines) (record world { known = known }) left))
+
+-- A file of lines is there, is text, and asks for something; else that is told.
+abbrev pub TextOutcome : Options → Bytes → Option Bytes → World → Left → Type 0
+TextOutcome options name None world left = left ≡ unused world.folder (named_line (told_name name) (codes "cannot open"))
+TextOutcome options name (Some text) world left =
+    ((at : ℕ) × IsValidUpTo text at × (left ≡ unused world.folder (fault_line (told_name name) (NotUtf8 at))))
+    ⊎ (IsUtf8 text × ((usage : Usage) × (line : Bytes) × IsScriptFault text usage × IsUsageLine (told_name name) usage line
+    × (left ≡ unused world.folder line)))
+    ⊎ (IsUtf8 text × ((lines : List Asked) × (script_of text ≡ Ok lines) × LinesOutcome options (bytes_eq name input_package) lines world left))
+
+abbrev pub ScriptOutcome : Options → Bytes → World → Left → Type 0
+ScriptOutcome options name world left = (text : Option Bytes) × IsScript world name text × TextOutcome options name text world left
+
+-- ---- whole lines
+
+abbrev pub GivenOutcome : Options → Given → World → Left → Type 0
+GivenOutcome options (operands texts) world left = OperandsOutcome options texts world left
+GivenOutcome options (script name) world left = ScriptOutcome options name world left
+
+abbrev pub LineOutcome : Result Line LineUsage → World → Left → Type 0
+LineOutcome (Err usage) world left = (line : Bytes) × IsLineUsageLine usage line × (left ≡ unused world.folder line)
+LineOutcome (Ok line) world left = GivenOutcome line.options line.given world left
+
+abbrev pub Outcome : List Bytes → World → Left → Type 0
+Outcome words world left = LineOutcome (line_of words) world left
+
+-- the words name a file of lines
+abbrev pub TakesScript : List Bytes → Type 0
+TakesScript words = (options : Options) × (name : Bytes) × (line_of words ≡ Ok (record { options = options; given = script name }))
+
+-- ---- lines that reach no file
+
+-- Each target of these lines is one of standard input.
+abbrev pub AreOfInput : List Asked → Type 0
+AreOfInput lines = All (λ asked. All (λ target. target.«package» ≡ input_package) asked.targets) lines
+
+abbrev pub IsOfInput : Given → Type 0
+IsOfInput (operands texts) = IfOk (group_of texts) (λ asked. AreOfInput (asked ∷ []))
+IsOfInput (script name) = ⊥
+
+-- The words name no file, and no package but standard input.
+abbrev pub NamesNoFile : List Bytes → Type 0
+NamesNoFile words = IfOk (line_of words) (λ line. IsOfInput line.given)

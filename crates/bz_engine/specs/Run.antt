@@ -1,0 +1,104 @@
+-- What steps do, one after the other.
+use Rattle.std.specs.Prelude.{◌≡◌, ◌≢◌, ◌⊎◌, ◌&&◌, ◌||◌, not, Bool, true, false, ℕ, List, [], ◌∷◌, ◌++◌, length, is_err, Option, Some, None, Ok, Err, IfSome}
+use Rattle.bz_value.specs.Gaps.{Bytes}
+use Rattle.bz_files.specs.Folder.{Folder}
+use Rattle.bz_journal.specs.declared.action.Reply.{Reply}
+use Rattle.bz_journal.specs.declared.action.Reply.TheVariants.{Changed, Same, Printed, Moved}
+use Rattle.bz_journal.specs.History.{History, Answer, Leads}
+use Rattle.bz_ports.specs.Told.{stdin}
+use Rattle.bz_workspace.specs.Found.{Found, found_in}
+use Rattle.bz_workspace.specs.Opens.{Opens}
+use Rattle.bz_workspace.specs.Packages.{Opened, Used, place_of, file_at, with_file}
+use Rattle.bz_engine.specs.Steps.{Step, action_of, input_package}
+use Rattle.bz_engine.specs.Told.{refusal_line}
+
+-- what can be read: the files of a folder, and the bytes of standard input where they are known
+pub record World : Type 0 where
+  pub folder : Folder
+  pub known : Option Bytes
+
+-- how far a run has come: the packages used, what was printed, and whether a step has failed
+pub record State : Type 0 where
+  pub used : List Used
+  pub printed : Bytes
+  pub failed : Bool
+
+abbrev pub begun : State
+begun = record { used = []; printed = []; failed = false }
+
+-- the bytes of standard input, where they are known
+abbrev pub IsInput : Option Bytes → Bytes → Type 0
+IsInput known input = IfSome known (λ bytes. input ≡ bytes)
+
+-- ---- the package of a step
+
+-- Package `-` is read from standard input, each other one from its file in the folder.
+abbrev pub Finds : World → Bytes → Option Found → Type 0
+Finds world current found =
+    ((current ≡ input_package) × ((text : Bytes) × IsInput world.known text × (found ≡ Some (stdin, text))))
+    ⊎ ((current ≢ input_package) × (found ≡ found_in world.folder current))
+
+-- A package is read and opened where it is used first; it gets the next number.
+abbrev pub Uses : World → Bytes → List Used → ℕ → List Bytes → List Used → Type 0
+Uses world current before place lines after =
+    ((place_of current before ≡ Some place) × (lines ≡ []) × (after ≡ before))
+    ⊎ ((place_of current before ≡ None) × (place ≡ length before)
+    × ((found : Option Found) × (file : Option Opened) × Finds world current found × Opens current found file lines
+    × (after ≡ before ++ record { «package» = current; file = file } ∷ [])))
+
+-- ---- one step
+
+-- what a reply prints
+abbrev pub printed_in : Reply → Bytes
+printed_in (Printed text) = text
+printed_in Changed = []
+printed_in Same = []
+printed_in Moved = []
+
+abbrev pub printed_by : Answer → Bytes
+printed_by (Ok reply) = printed_in reply
+printed_by (Err refusal) = []
+
+-- what is told of an answer: a refusal, by its file and its command
+abbrev pub told_of : Bytes → Bytes → Answer → List Bytes
+told_of name command (Ok reply) = []
+told_of name command (Err refusal) = refusal_line name command refusal ∷ []
+
+-- the state behind an answer of the open file with this number
+abbrev pub answered : ℕ → Opened → Answer → History → State → State
+answered place file answer history state = record {
+  used = with_file place (Some (record file { history = history })) state.used;
+  printed = state.printed ++ printed_by answer;
+  failed = state.failed || is_err answer;
+}
+
+-- In a package without an open file a step does nothing and fails.
+abbrev pub Answers : Step → ℕ → Option Opened → State → List Bytes → State → Type 0
+Answers step place None state lines after = (lines ≡ []) × (after ≡ record state { failed = true })
+Answers step place (Some file) state lines after =
+    (answer : Answer) × (history : History) × Leads (action_of step.target step.asking.verb) file.history answer history
+    × (lines ≡ told_of file.name step.asking.text answer) × (after ≡ answered place file answer history state)
+
+-- Its package is opened, if it was not used before; then its command is done there.
+pub record Does (world : World) (step : Step) (before : State) (lines : List Bytes) (after : State) : Type 0 where
+  pub place : ℕ
+  pub used : List Used
+  pub opening : List Bytes
+  pub answer : List Bytes
+  pub uses : Uses world step.target.«package» before.used place opening used
+  pub answers : Answers step place (file_at place used) (record before { used = used }) answer after
+  pub told : lines ≡ opening ++ answer
+
+-- ---- many steps
+
+-- A step that failed ends a run, unless it is to go on.
+abbrev pub ends : Bool → State → Bool
+ends keep_going state = state.failed && not keep_going
+
+-- Steps one after the other, with the lines that they tell.
+abbrev pub Runs : World → Bool → List Step → State → List Bytes → State → Type 0
+Runs world keep_going [] before lines after = (lines ≡ []) × (after ≡ before)
+Runs world keep_going (step ∷ steps) before lines after =
+    ((ends keep_going before ≡ true) × (lines ≡ []) × (after ≡ before))
+    ⊎ ((ends keep_going before ≡ false) × ((mid : State) × (first : List Bytes) × (rest : List Bytes) × Does world step before first mid
+    × Runs world keep_going steps mid rest after × (lines ≡ first ++ rest)))

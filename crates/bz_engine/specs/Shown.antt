@@ -1,0 +1,24 @@
+-- How far a run has come, and lines, as contracts see them.
+use Rattle.std.specs.Prelude.{Bool, not, ◌&&◌}
+use Rattle.std.specs.List.{list_any}
+use Rattle.bz_line.specs.Verbs.{prints}
+use Rattle.bz_line.specs.declared.asked.Asked.{Asked}
+use Rattle.bz_line.specs.declared.asked.Asking.{Asking}
+use Rattle.bz_engine.specs.Run as r
+use Rattle.bz_engine.specs.Steps.{is_of_input}
+use Rattle.bz_engine.specs.declared.run.Run.{Run}
+
+abbrev pub state_in : Run → r.State
+state_in run = record { used = run.workspace; printed = run.printed.items; failed = run.failed }
+
+-- a command that doesn't print
+abbrev pub shows_in : Asking → Bool
+shows_in asking = not (prints asking.verb)
+
+-- a line that means rules of standard input
+abbrev pub names_in : Asked → Bool
+names_in line = list_any is_of_input line.targets.items
+
+-- a line with a command on rules of standard input that doesn't print
+abbrev pub shown_in : Asked → Bool
+shown_in line = names_in line && list_any shows_in line.commands.items

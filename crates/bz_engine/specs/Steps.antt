@@ -1,0 +1,50 @@
+-- What a line asks for, step by step.
+use Rattle.std.specs.Prelude.{List, map, codes, Bool, not, ◌&&◌, bytes_eq}
+use Rattle.std.specs.List.{flat_map, list_any}
+use Rattle.bz_value.specs.Gaps.{Bytes}
+use Rattle.bz_label.specs.declared.target.Target.{Target}
+use Rattle.bz_journal.specs.declared.action.Action.{Action}
+use Rattle.bz_journal.specs.declared.action.Action.TheVariants as a
+use Rattle.bz_line.specs.Asked.{Asked, Asking}
+use Rattle.bz_line.specs.Verbs.{prints}
+use Rattle.bz_line.specs.declared.verb.Verb.{Verb}
+use Rattle.bz_line.specs.declared.verb.Verb.TheVariants.{Do, Undo, Redo}
+
+-- a command on one target
+pub record Step : Type 0 where
+  pub target : Target
+  pub asking : Asking
+
+abbrev pub step_of : Target → Asking → Step
+step_of target asking = record { target = target; asking = asking }
+
+-- Each target gets all commands, in order.
+abbrev pub steps_of : Asked → List Step
+steps_of asked = flat_map (λ target. map (step_of target) asked.commands) asked.targets
+
+abbrev pub all_steps : List Asked → List Step
+all_steps lines = flat_map steps_of lines
+
+-- what the session of the target's file is asked to do
+abbrev pub action_of : Target → Verb → Action
+action_of target (Do operation) = a.Do operation target
+action_of target (Undo count) = a.Undo count
+action_of target (Redo count) = a.Redo count
+
+-- the package that stands for standard input
+abbrev pub input_package : Bytes
+input_package = codes "-"
+
+abbrev pub is_of_input : Target → Bool
+is_of_input target = bytes_eq target.«package» input_package
+
+abbrev pub names_input : List Asked → Bool
+names_input lines = list_any (λ asked. list_any is_of_input asked.targets) lines
+
+-- a command on rules of standard input that doesn't print
+abbrev pub is_shown_by : Step → Bool
+is_shown_by step = is_of_input step.target && not (prints step.asking.verb)
+
+-- The text of standard input is shown where a command on it isn't one that prints.
+abbrev pub shows_input : List Step → Bool
+shows_input steps = list_any is_shown_by steps

@@ -1,0 +1,42 @@
+-- The lines of buildozer on standard error that speak of commands, operands and usage.
+use Rattle.std.specs.Prelude.{◌≡◌, ℕ, ◌++◌, codes, decimal}
+use Rattle.bz_value.specs.Gaps.{Bytes}
+use Rattle.bz_attribute.specs.Refusals.{refusal_name, refusal_number}
+use Rattle.bz_attribute.specs.declared.refusal.Refusal.{Refusal}
+use Rattle.bz_line.specs.Asked.{Refused, Usage, of_operand, no_command, no_target, no_line}
+use Rattle.bz_line.specs.Line.{LineUsage, of_clap, beside_script}
+use Rattle.bz_line.specs.Verbs.{fault_name, fault_number}
+use Rattle.bz_ports.specs.Told.{named_line}
+
+-- what is refused, with the name and the number of the refusal
+abbrev pub numbered : Bytes → Bytes → ℕ → Bytes
+numbered refused name number = refused ++ codes ": " ++ name ++ codes " (" ++ decimal number ++ codes ")\n"
+
+-- a command that is refused, by its text, in a file
+abbrev pub refusal_line : Bytes → Bytes → Refusal → Bytes
+refusal_line file command refusal =
+    codes "buildozer: " ++ file ++ codes ": " ++ numbered command (refusal_name refusal) (refusal_number refusal)
+
+-- an operand that is refused
+abbrev pub operand_line : Refused → Bytes
+operand_line refused = codes "buildozer: " ++ numbered refused.operand (fault_name refused.fault) (fault_number refused.fault)
+
+-- a file that was written
+abbrev pub fixed_line : Bytes → Bytes
+fixed_line name = codes "fixed " ++ name ++ codes "\n"
+
+-- operands, or a file of lines of this name, that ask for nothing
+abbrev pub IsUsageLine : Bytes → Usage → Bytes → Type 0
+IsUsageLine file (of_operand refused) line = line ≡ operand_line refused
+IsUsageLine file no_command line = line ≡ codes "buildozer: no command\n"
+IsUsageLine file no_target line = line ≡ codes "buildozer: no target\n"
+IsUsageLine file no_line line = line ≡ named_line file (codes "no operands")
+
+-- Words that are no line of the program's. Of a fault that clap finds the text is clap's.
+abbrev pub IsLineUsageLine : LineUsage → Bytes → Type 0
+IsLineUsageLine of_clap line = Unit {0}
+IsLineUsageLine beside_script line = line ≡ codes "buildozer: operands beside -f\n"
+
+-- a target of standard input, where the lines themselves come from there
+abbrev pub input_line : Bytes
+input_line = codes "buildozer: package - cannot be edited beside -f -\n"

@@ -1,0 +1,143 @@
+//! One step.
+ghost use Rattle.std.specs.Prelude.{◌≡◌, ◌≢◌, ◌⊎◌, ◌++◌, [], ◌∷◌, ℕ, List, Option, Some, None, Ok, Err, true, IsSome, OnOk, OnErr};
+ghost use Rattle.bz_journal.specs.History.{History, Answer, Leads};
+ghost use Rattle.bz_line.specs.Paths.{HasPath};
+ghost use Rattle.bz_line.specs.Shown.{asking_in};
+ghost use Rattle.bz_ports.specs.Outputs.{Tells, Counts};
+ghost use Rattle.bz_workspace.specs.Packages.{Opened, file_at};
+ghost use Rattle.bz_workspace.specs.Shown.{used_in};
+ghost use Rattle.bz_engine.specs.Cuts.{IsCutBy, IsLeft};
+ghost use Rattle.bz_engine.specs.Run.{Answers, Does, printed_in, answered, told_of};
+ghost use Rattle.bz_engine.specs.Shown.{state_in};
+ghost use Rattle.bz_engine.specs.Steps.{input_package, step_of};
+
+use crate::opening::open_package;
+use crate::run::{Run, first_cut};
+use crate::step::{action_of, package_of};
+use crate::told::tell_refusal;
+use bz_attribute::Refusal;
+use bz_files::Files;
+use bz_items::at;
+use bz_journal::{Action, Reply};
+use bz_label::Target;
+use bz_line::Asking;
+use bz_ports::{Cut, Sink, Source};
+use bz_workspace::{Used, Workspace};
+use std::alloc::{AllocError, Global};
+
+// The name of the file of a package, where it is open.
+fn name_of(used: &Used) -> &str
+    ensures { (file : Opened) → (used_in used.now).file ≡ Some file → result.now ≡ file.name }
+{
+    match &used.file {
+        Some(file) => file.name.as_str(),
+        None => "",
+    }
+}
+
+// The name of the open file of the package with this number.
+fn name_at(workspace: &Workspace, place: usize) -> &str
+    ensures { (file : Opened) → file_at place workspace.now ≡ Some file → result.now ≡ file.name }
+{
+    match at(workspace.used(), place) {
+        Some(used) => name_of(used),
+        None => "",
+    }
+}
+
+// Appends what a reply prints. The error: memory was refused, and nothing is appended.
+fn put_printed(reply: &Reply, printed: &mut Vec<u8>) -> Result<(), AllocError>
+    ensures ok { OnOk result (printed.new.items ≡ printed.old.items ++ printed_in reply.now) }
+    ensures err { OnErr result (printed.new.items ≡ printed.old.items) }
+{
+    if let Reply::Printed(text) = reply {
+        printed.extend_from_slice(text.as_slice())?;
+    }
+    Ok(())
+}
+
+// A command is refused, which is told by its file.
+fn refuse<E: Sink>(run: &mut Run, place: usize, command: &str, refusal: Refusal, err: &mut E) -> Cut
+    ensures kinds { (result ≡ Cut.Whole) ⊎ (result ≡ Cut.Memory) }
+    ensures whole { result ≡ Cut.Whole → (refusal ≢ Refusal.Memory) }
+    ensures state { state_in run.new ≡ record (state_in run.old) { failed = true } }
+    ensures told { (file : Opened) → file_at place run.old.workspace ≡ Some file
+        → Tells (E.faults err.old) (E.faults err.new) (E.contents err.old) (E.contents err.new) (told_of file.name command.now (Err refusal)) }
+{
+    run.failed = true;
+    tell_refusal(err, name_at(&run.workspace, place), command, refusal);
+    match refusal {
+        Refusal::Memory => Cut::Memory,
+        _ => Cut::Whole,
+    }
+}
+
+// Does an action in the open file of the package with this number: what it prints is kept, and a refusal is told.
+fn act_at<E: Sink>(run: &mut Run, place: usize, action: &Action, command: &str, err: &mut E) -> Cut
+    requires { IsSome (file_at place run.old.workspace) }
+    ensures kinds { (result ≡ Cut.Whole) ⊎ (result ≡ Cut.Memory) }
+    ensures whole { result ≡ Cut.Whole → (file : Opened) × (answer : Answer) × (history : History) × (file_at place run.old.workspace ≡ Some file)
+        × Leads action.now file.history answer history × (state_in run.new ≡ answered place file answer history (state_in run.old))
+        × Tells (E.faults err.old) (E.faults err.new) (E.contents err.old) (E.contents err.new) (told_of file.name command.now answer) }
+{
+    match run.workspace.act(place, action) {
+        Ok(reply) => match put_printed(&reply, &mut run.printed) {
+            Ok(()) => Cut::Whole,
+            Err(_) => refuse(run, place, command, Refusal::Memory, err),
+        },
+        Err(refusal) => refuse(run, place, command, refusal, err),
+    }
+}
+
+// Does a command on a target in the open file of the package with this number.
+fn act_on<E: Sink>(
+    run: &mut Run,
+    place: usize,
+    target: &Target,
+    asking: &Asking<'_>,
+    err: &mut E,
+) -> Cut
+    requires { IsSome (file_at place run.old.workspace) }
+    ensures kinds { (result ≡ Cut.Whole) ⊎ (result ≡ Cut.Memory) }
+    ensures whole { result ≡ Cut.Whole → (lines : List (List ℕ))
+        × Answers (step_of target.now (asking_in asking.now)) place (file_at place run.old.workspace) (state_in run.old) lines (state_in run.new)
+        × Tells (E.faults err.old) (E.faults err.new) (E.contents err.old) (E.contents err.new) lines }
+{
+    match action_of(&asking.verb, target) {
+        Ok(action) => act_at(run, place, &action, asking.text, err),
+        Err(_) => refuse(run, place, asking.text, Refusal::Memory, err),
+    }
+}
+
+/// Does one step: opens its package, if that was not used before, and does its command there.
+pub(crate) fn do_step<R: Source, F: Files, E: Sink>(
+    alloc: Global,
+    run: &mut Run,
+    target: &Target,
+    asking: &Asking<'_>,
+    input: &mut R,
+    files: &mut F,
+    err: &mut E,
+) -> Cut
+    requires { HasPath target.now }
+    ensures does { (F.honest files.old ≡ true) ⊎ (target.now.«package» ≡ input_package) → result ≡ Cut.Whole → (known : Option (List ℕ))
+        → IsLeft known run.old.workspace (R.remaining input.old) → (lines : List (List ℕ))
+        × Does (record { folder = F.folder files.old; known = known }) (step_of target.now (asking_in asking.now)) (state_in run.old) lines (state_in run.new)
+        × IsLeft known run.new.workspace (R.remaining input.new)
+        × Tells (E.faults err.old) (E.faults err.new) (E.contents err.old) (E.contents err.new) lines }
+    ensures folder { (F.honest files.old ≡ true) ⊎ (target.now.«package» ≡ input_package) → F.folder files.new ≡ F.folder files.old }
+    ensures cut { IsCutBy result (R.faults input.old) (R.faults input.new) (F.faults files.old) (F.faults files.new) }
+    ensures reads { Counts (R.faults input.old) (R.faults input.new) }
+    ensures counts { Counts (F.faults files.old) (F.faults files.new) }
+    ensures honest { F.honest files.new ≡ F.honest files.old }
+{
+    let package = package_of(target);
+    let opening = open_package(alloc, &mut run.workspace, package, input, files, err);
+    match opening.place {
+        Some(place) => first_cut(opening.cut, act_on(run, place, target, asking, err)),
+        None => {
+            run.failed = true;
+            opening.cut
+        }
+    }
+}

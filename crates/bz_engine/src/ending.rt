@@ -1,0 +1,328 @@
+//! What a run leaves behind its steps.
+ghost use Rattle.std.specs.Prelude.{◌≡◌, ◌≢◌, ◌⊎◌, ◌++◌, [], ◌∷◌, ℕ, List, Some, None, true, map, option_map, if◌then◌else◌, IfOk, IfErr};
+ghost use Rattle.std.specs.List.{list_any};
+ghost use Rattle.std.specs.Io.KnownBytes.{Appends};
+ghost use Rattle.bz_journal.specs.History.{present};
+ghost use Rattle.bz_ports.specs.Faults.{Rises, AppendsSome};
+ghost use Rattle.bz_ports.specs.Outputs.{Tells, Counts};
+ghost use Rattle.bz_workspace.specs.Shown.{opened_in, used_in};
+ghost use Rattle.bz_engine.specs.Ending.{differs, has_changed, is_input, goes_out, file_out, text_out, texts_out, is_written, writing_of, writings, Writes, fixed_lines, status_of};
+ghost use Rattle.bz_engine.specs.Shown.{state_in};
+
+use crate::run::{Run, first_cut};
+use crate::told::tell_fixed;
+use bz_files::Files;
+use bz_items::Memory;
+use bz_line::Options;
+use bz_ports::{Cut, Exit, Sink, tell_named, write_whole};
+use bz_workspace::{Opened, Used};
+use std::alloc::Global;
+
+const CHANGED: u8 = 0;
+
+/// The status of a run of which a step or a port failed.
+pub(crate) const FAILED: u8 = 2;
+
+const SAME: u8 = 3;
+
+/// The name by which standard output is told.
+const STDOUT: &str = "<stdout>";
+
+fn is_input(used: &Used) -> bool
+    ensures { result ≡ is_input (used_in used.now) }
+{
+    used.package.as_slice() == b"-".as_slice()
+}
+
+// Whether a text goes to standard output.
+fn goes_out(of_input: bool, shown: bool, to_stdout: bool, changed: bool) -> bool
+    ensures { result ≡ goes_out of_input shown to_stdout changed }
+{
+    if of_input {
+        shown
+    } else {
+        to_stdout && changed
+    }
+}
+
+// Appends the text of a file at the end, where it goes to standard output. Whether it is another one than was read.
+fn put_file(
+    file: &Opened,
+    of_input: bool,
+    shown: bool,
+    to_stdout: bool,
+    output: &mut Vec<u8>,
+) -> Result<bool, Memory>
+    ensures { IfOk result (λ changed. (changed ≡ differs (opened_in file.now))
+        × (output.new.items ≡ output.old.items ++ file_out of_input shown to_stdout (Some (opened_in file.now)))) }
+{
+    let start = output.len();
+    file.session.text_into(output)?;
+    let changed = &output[start..] != file.read.as_slice();
+    if !goes_out(of_input, shown, to_stdout, changed) {
+        output.truncate(start);
+    }
+    Ok(changed)
+}
+
+// Appends what a package gives to standard output. Whether its text is another one than was read.
+fn put_text(used: &Used, shown: bool, to_stdout: bool, output: &mut Vec<u8>) -> Result<bool, Memory>
+    ensures { IfOk result (λ changed. (changed ≡ has_changed (used_in used.now))
+        × (output.new.items ≡ output.old.items ++ text_out shown to_stdout (used_in used.now))) }
+{
+    match &used.file {
+        Some(file) => put_file(file, is_input(used), shown, to_stdout, output),
+        None => Ok(false),
+    }
+}
+
+// Appends what the packages give to standard output, in order. Whether some text is another one than was read.
+fn put_texts(
+    packages: &[Used],
+    shown: bool,
+    to_stdout: bool,
+    output: &mut Vec<u8>,
+) -> Result<bool, Memory>
+    ensures { IfOk result (λ changed. (changed ≡ list_any has_changed (map used_in packages.now))
+        × (output.new.items ≡ output.old.items ++ texts_out shown to_stdout (map used_in packages.now))) }
+{
+    let mut changed = false;
+    for used in packages {
+        if put_text(used, shown, to_stdout, output)? {
+            changed = true;
+        }
+    }
+    Ok(changed)
+}
+
+// Writes what was printed, and the texts behind it. Whether some text is another one than was read. The error, which is
+// told: memory was refused, and nothing is written; or standard output failed.
+fn print_all<W: Sink, E: Sink>(
+    packages: &[Used],
+    shown: bool,
+    to_stdout: bool,
+    printed: Vec<u8>,
+    out: &mut W,
+    err: &mut E,
+) -> Result<bool, Cut>
+    ensures ok { IfOk result (λ changed. (changed ≡ list_any has_changed (map used_in packages.now))
+        × Appends (W.contents out.old) (W.contents out.new) (printed.items ++ texts_out shown to_stdout (map used_in packages.now))
+        × (W.faults out.new ≡ W.faults out.old) × (err.new ≡ err.old)) }
+    ensures err { IfErr result (λ cut. ((cut ≡ Cut.Memory) × (out.new ≡ out.old)) ⊎ ((cut ≡ Cut.Write)
+        × AppendsSome (W.contents out.old) (W.contents out.new) (printed.items ++ texts_out shown to_stdout (map used_in packages.now))
+        × Rises (W.faults out.old) (W.faults out.new))) }
+{
+    let mut output = printed;
+    let Ok(changed) = put_texts(packages, shown, to_stdout, &mut output) else {
+        tell_named(err, STDOUT, "Memory");
+        return Err(Cut::Memory);
+    };
+    match write_whole(out, &output) {
+        Ok(()) => Ok(changed),
+        Err(_) => {
+            tell_named(err, STDOUT, "cannot write");
+            Err(Cut::Write)
+        }
+    }
+}
+
+// The text of a file at the end, where it is another one than was read. The error: memory was refused.
+fn new_text(alloc: Global, file: &Opened) -> Result<Option<Vec<u8>>, Memory>
+    ensures { IfOk result (λ new. option_map (λ text. text.items) new
+        ≡ (if differs (opened_in file.now) then Some (present (opened_in file.now).history) else None)) }
+{
+    let mut text = Vec::new(alloc);
+    file.session.text_into(&mut text)?;
+    if text.as_slice() == file.read.as_slice() {
+        Ok(None)
+    } else {
+        Ok(Some(text))
+    }
+}
+
+// Gives a file its text at the end, which is told.
+fn replace<F: Files, E: Sink>(
+    quiet: bool,
+    name: &str,
+    text: &[u8],
+    files: &mut F,
+    err: &mut E,
+) -> Cut
+    ensures told { result ≡ Cut.Whole
+        → Tells (E.faults err.old) (E.faults err.new) (E.contents err.old) (E.contents err.new) (fixed_lines quiet ((name.now, text.now) ∷ [])) }
+    ensures writes { F.honest files.old ≡ true → result ≡ Cut.Whole → Writes ((name.now, text.now) ∷ []) (F.folder files.old) (F.folder files.new) }
+    ensures cut { ((result ≡ Cut.Whole) × (F.faults files.new ≡ F.faults files.old)) ⊎ ((result ≡ Cut.Files) × Rises (F.faults files.old) (F.faults files.new)) }
+    ensures counts { Counts (F.faults files.old) (F.faults files.new) }
+    ensures honest { F.honest files.new ≡ F.honest files.old }
+{
+    match files.replace(name, text) {
+        Ok(()) => {
+            if !quiet {
+                tell_fixed(err, name);
+            }
+            Cut::Whole
+        }
+        Err(_) => {
+            tell_named(err, name, "cannot write");
+            Cut::Files
+        }
+    }
+}
+
+// Writes the file of a package, where it changed and is to be written.
+fn write_file<F: Files, E: Sink>(
+    alloc: Global,
+    options: Options,
+    used: &Used,
+    files: &mut F,
+    err: &mut E,
+) -> Cut
+    ensures told { result ≡ Cut.Whole → Tells (E.faults err.old) (E.faults err.new) (E.contents err.old) (E.contents err.new)
+        (fixed_lines options.quiet (writing_of options.to_stdout (used_in used.now))) }
+    ensures writes { (F.honest files.old ≡ true) ⊎ (writing_of options.to_stdout (used_in used.now) ≡ []) → result ≡ Cut.Whole
+        → Writes (writing_of options.to_stdout (used_in used.now)) (F.folder files.old) (F.folder files.new) }
+    ensures cut { ((result ≡ Cut.Whole) × (F.faults files.new ≡ F.faults files.old)) ⊎ (result ≡ Cut.Memory)
+        ⊎ ((result ≡ Cut.Files) × Rises (F.faults files.old) (F.faults files.new)) }
+    ensures counts { Counts (F.faults files.old) (F.faults files.new) }
+    ensures honest { F.honest files.new ≡ F.honest files.old }
+{
+    let Some(file) = &used.file else {
+        return Cut::Whole;
+    };
+    if options.to_stdout || is_input(used) {
+        return Cut::Whole;
+    }
+    match new_text(alloc, file) {
+        Ok(Some(text)) => replace(options.quiet, file.name.as_str(), &text, files, err),
+        Ok(None) => Cut::Whole,
+        Err(_) => {
+            tell_named(err, file.name.as_str(), "Memory");
+            Cut::Memory
+        }
+    }
+}
+
+// Writes the files that changed, in order; each is tried.
+fn write_files<F: Files, E: Sink>(
+    alloc: Global,
+    options: Options,
+    packages: &[Used],
+    files: &mut F,
+    err: &mut E,
+) -> Cut
+    ensures told { result ≡ Cut.Whole → Tells (E.faults err.old) (E.faults err.new) (E.contents err.old) (E.contents err.new)
+        (fixed_lines options.quiet (writings options.to_stdout (map used_in packages.now))) }
+    ensures writes { (F.honest files.old ≡ true) ⊎ (writings options.to_stdout (map used_in packages.now) ≡ []) → result ≡ Cut.Whole
+        → Writes (writings options.to_stdout (map used_in packages.now)) (F.folder files.old) (F.folder files.new) }
+    ensures cut { ((result ≡ Cut.Whole) × (F.faults files.new ≡ F.faults files.old)) ⊎ (result ≡ Cut.Memory)
+        ⊎ ((result ≡ Cut.Files) × Rises (F.faults files.old) (F.faults files.new)) }
+    ensures counts { Counts (F.faults files.old) (F.faults files.new) }
+    ensures honest { F.honest files.new ≡ F.honest files.old }
+{
+    let mut cut = Cut::Whole;
+    for used in packages {
+        let later = write_file(alloc, options, used, files, err);
+        cut = first_cut(cut, later);
+    }
+    cut
+}
+
+fn ended(failed: bool, changed: bool, cut: Cut) -> Exit
+    ensures cut { result.cut ≡ cut }
+    ensures failed { cut ≢ Cut.Whole → result.status ≡ 2 }
+    ensures whole { cut ≡ Cut.Whole → result.status ≡ (if failed then 2 else (if changed then 0 else 3)) }
+{
+    let status = if failed || cut != Cut::Whole {
+        FAILED
+    } else if changed {
+        CHANGED
+    } else {
+        SAME
+    };
+    Exit { status, cut }
+}
+
+// What packages leave at the end, behind what was printed, of a run that this failure cut, if one did.
+fn leave<W: Sink, F: Files, E: Sink>(
+    alloc: Global,
+    options: Options,
+    shown: bool,
+    packages: &[Used],
+    printed: Vec<u8>,
+    failed: bool,
+    cut: Cut,
+    out: &mut W,
+    files: &mut F,
+    err: &mut E,
+) -> Exit
+    ensures whole { result.cut ≡ Cut.Whole → (cut ≡ Cut.Whole)
+        × (result.status ≡ status_of (record { used = map used_in packages.now; printed = printed.items; failed = failed }))
+        × Appends (W.contents out.old) (W.contents out.new) (printed.items ++ texts_out shown options.to_stdout (map used_in packages.now))
+        × (W.faults out.new ≡ W.faults out.old) × (F.faults files.new ≡ F.faults files.old)
+        × Tells (E.faults err.old) (E.faults err.new) (E.contents err.old) (E.contents err.new)
+        (fixed_lines options.quiet (writings options.to_stdout (map used_in packages.now))) }
+    ensures writes { (F.honest files.old ≡ true) ⊎ (writings options.to_stdout (map used_in packages.now) ≡ []) → result.cut ≡ Cut.Whole
+        → Writes (writings options.to_stdout (map used_in packages.now)) (F.folder files.old) (F.folder files.new) }
+    ensures status { result.cut ≢ Cut.Whole → result.status ≡ 2 }
+    ensures write { result.cut ≡ Cut.Write → cut ≢ Cut.Write → (cut ≡ Cut.Whole)
+        × AppendsSome (W.contents out.old) (W.contents out.new) (printed.items ++ texts_out shown options.to_stdout (map used_in packages.now))
+        × Rises (W.faults out.old) (W.faults out.new) }
+    ensures cause { (result.cut ≡ cut) ⊎ ((cut ≡ Cut.Whole) × ((result.cut ≡ Cut.Memory) ⊎ (result.cut ≡ Cut.Write)
+        ⊎ ((result.cut ≡ Cut.Files) × Rises (F.faults files.old) (F.faults files.new)))) }
+    ensures counts { Counts (F.faults files.old) (F.faults files.new) }
+    ensures honest { F.honest files.new ≡ F.honest files.old }
+{
+    let output = print_all(packages, shown, options.to_stdout, printed, out, err);
+    let written = write_files(alloc, options, packages, files, err);
+    match output {
+        Ok(changed) => ended(failed, changed, first_cut(cut, written)),
+        Err(later) => ended(failed, true, first_cut(cut, later)),
+    }
+}
+
+/// Ends a run that this failure cut, if one did: standard output is given what was printed and the texts behind it, and
+/// the files that changed are written. A failure is told, and what is left is done all the same.
+pub(crate) fn finish<W: Sink, F: Files, E: Sink>(
+    alloc: Global,
+    options: Options,
+    shown: bool,
+    run: Run,
+    cut: Cut,
+    out: &mut W,
+    files: &mut F,
+    err: &mut E,
+) -> Exit
+    ensures whole { result.cut ≡ Cut.Whole → (cut ≡ Cut.Whole) × (result.status ≡ status_of (state_in run))
+        × Appends (W.contents out.old) (W.contents out.new) ((state_in run).printed ++ texts_out shown options.to_stdout (state_in run).used)
+        × (W.faults out.new ≡ W.faults out.old) × (F.faults files.new ≡ F.faults files.old)
+        × Tells (E.faults err.old) (E.faults err.new) (E.contents err.old) (E.contents err.new)
+        (fixed_lines options.quiet (writings options.to_stdout (state_in run).used)) }
+    ensures writes { (F.honest files.old ≡ true) ⊎ (writings options.to_stdout (state_in run).used ≡ []) → result.cut ≡ Cut.Whole
+        → Writes (writings options.to_stdout (state_in run).used) (F.folder files.old) (F.folder files.new) }
+    ensures status { result.cut ≢ Cut.Whole → result.status ≡ 2 }
+    ensures write { result.cut ≡ Cut.Write → cut ≢ Cut.Write → (cut ≡ Cut.Whole)
+        × AppendsSome (W.contents out.old) (W.contents out.new) ((state_in run).printed ++ texts_out shown options.to_stdout (state_in run).used)
+        × Rises (W.faults out.old) (W.faults out.new) }
+    ensures cause { (result.cut ≡ cut) ⊎ ((cut ≡ Cut.Whole) × ((result.cut ≡ Cut.Memory) ⊎ (result.cut ≡ Cut.Write)
+        ⊎ ((result.cut ≡ Cut.Files) × Rises (F.faults files.old) (F.faults files.new)))) }
+    ensures counts { Counts (F.faults files.old) (F.faults files.new) }
+    ensures honest { F.honest files.new ≡ F.honest files.old }
+{
+    let Run {
+        workspace,
+        printed,
+        failed,
+    } = run;
+    leave(
+        alloc,
+        options,
+        shown,
+        workspace.used(),
+        printed,
+        failed,
+        cut,
+        out,
+        files,
+        err,
+    )
+}

@@ -1,0 +1,284 @@
+//! The program buildozer over any reader, writers and files.
+ghost use Rattle.std.specs.Prelude.{◌≡◌, ◌≢◌, ◌⊎◌, ◌∷◌, [], List, ℕ, Option, true, false, map, IfOk, Some};
+ghost use Rattle.std.specs.List.{All};
+ghost use Rattle.bz_line.specs.Asked.{Usage, group_of};
+ghost use Rattle.bz_line.specs.Line.{LineUsage};
+ghost use Rattle.bz_line.specs.Paths.{HasPath};
+ghost use Rattle.bz_line.specs.Shown.{asked_in, usage_in, line_usage_in};
+ghost use Rattle.bz_ports.specs.Faults.{AppendsSome};
+ghost use Rattle.bz_ports.specs.Outputs.{Tells};
+ghost use Rattle.bz_engine.specs.Cuts.{IsEndedBy};
+ghost use Rattle.bz_engine.specs.Ending.{Left, Performs, Stands};
+ghost use Rattle.bz_engine.specs.Outcome.{Outcome, OperandsOutcome, LinesOutcome, TextOutcome, ScriptOutcome, AreOfInput, NamesNoFile, TakesScript};
+ghost use Rattle.bz_engine.specs.Steps.{all_steps, input_package};
+ghost use Rattle.bz_engine.specs.Told.{IsUsageLine, IsLineUsageLine};
+
+use crate::ending::{FAILED, finish};
+use crate::run::begun;
+use crate::running::run_lines;
+use crate::script::{INPUT, USAGE, read_bytes, told_name};
+use crate::step::{names_input, shows_input};
+use crate::told::{tell_input, tell_line_usage, tell_usage};
+use bz_files::Files;
+use bz_line::{Asked, Given, LineFault, Options, UsageFault, read_group, read_line, read_script};
+use bz_ports::{Cut, Exit, Sink, Source, tell, tell_fault};
+use bz_tree::ReadFault;
+use std::alloc::Global;
+use std::convert::AsStr;
+use std::slice::from_ref;
+
+// The words, or the lines of a file, ask for nothing, which was told.
+const UNUSED: Exit = Exit {
+    status: USAGE,
+    cut: Cut::Whole,
+};
+
+// Memory was refused before anything was done, which is told.
+fn wanting<E: Sink>(err: &mut E) -> Exit
+    ensures { result ≡ record { status = 2; cut = Cut.Memory } }
+{
+    tell(err, &["buildozer: Memory\n"]);
+    Exit {
+        status: FAILED,
+        cut: Cut::Memory,
+    }
+}
+
+// Operands, or a file of lines of this name, ask for nothing, which is told.
+fn unasked<E: Sink>(err: &mut E, file: &str, fault: &UsageFault<'_>) -> Exit
+    ensures whole { result.cut ≡ Cut.Whole → (result.status ≡ 1) × (usage : Usage) × (line : List ℕ) × (usage_in fault.now ≡ Some usage)
+        × IsUsageLine file.now usage line × Tells (E.faults err.old) (E.faults err.new) (E.contents err.old) (E.contents err.new) (line ∷ []) }
+    ensures cut { result.cut ≢ Cut.Whole → result ≡ record { status = 2; cut = Cut.Memory } }
+{
+    match tell_usage(err, file, fault) {
+        Ok(()) => UNUSED,
+        Err(_) => wanting(err),
+    }
+}
+
+// The words are no line of the program's, which is told.
+fn unlined<E: Sink>(alloc: Global, err: &mut E, fault: &LineFault) -> Exit
+    ensures whole { result.cut ≡ Cut.Whole → (result.status ≡ 1) × (usage : LineUsage) × (line : List ℕ) × (line_usage_in fault.now ≡ Some usage)
+        × IsLineUsageLine usage line × Tells (E.faults err.old) (E.faults err.new) (E.contents err.old) (E.contents err.new) (line ∷ []) }
+    ensures cut { result.cut ≢ Cut.Whole → result ≡ record { status = 2; cut = Cut.Memory } }
+{
+    match tell_line_usage(alloc, err, fault) {
+        Ok(()) => UNUSED,
+        Err(_) => wanting(err),
+    }
+}
+
+// Does what lines ask for, and ends the run.
+fn perform<R: Source, W: Sink, E: Sink, F: Files>(
+    alloc: Global,
+    options: Options,
+    lines: &[Asked<'_>],
+    input: &mut R,
+    out: &mut W,
+    err: &mut E,
+    files: &mut F,
+) -> Exit
+    requires { All (λ asked. All HasPath asked.targets.items) lines.now }
+    ensures whole { (F.honest files.old ≡ true) ⊎ AreOfInput (map asked_in lines.now) → result.cut ≡ Cut.Whole → (left : Left)
+        × Performs options (all_steps (map asked_in lines.now)) (record { folder = F.folder files.old; known = R.remaining input.old }) left
+        × Stands left result.status (F.folder files.new) (W.contents out.old) (W.contents out.new) (E.faults err.old) (E.faults err.new) (E.contents err.old) (E.contents err.new) }
+    ensures write { (F.honest files.old ≡ true) ⊎ AreOfInput (map asked_in lines.now) → result.cut ≡ Cut.Write → (left : Left)
+        × Performs options (all_steps (map asked_in lines.now)) (record { folder = F.folder files.old; known = R.remaining input.old }) left
+        × AppendsSome (W.contents out.old) (W.contents out.new) left.output }
+    ensures status { result.cut ≢ Cut.Whole → result.status ≡ 2 }
+    ensures ended { IsEndedBy result.cut (R.faults input.old) (R.faults input.new) (W.faults out.old) (W.faults out.new) (F.faults files.old) (F.faults files.new) }
+    ensures honest { F.honest files.new ≡ F.honest files.old }
+{
+    let mut run = begun(alloc);
+    let cut = run_lines(
+        alloc,
+        options.keep_going,
+        lines,
+        &mut run,
+        input,
+        files,
+        err,
+    );
+    finish(
+        alloc,
+        options,
+        shows_input(lines),
+        run,
+        cut,
+        out,
+        files,
+        err,
+    )
+}
+
+// Operands among the words.
+fn run_operands<R: Source, W: Sink, E: Sink, F: Files>(
+    alloc: Global,
+    options: Options,
+    operands: &[&str],
+    input: &mut R,
+    out: &mut W,
+    err: &mut E,
+    files: &mut F,
+) -> Exit
+    ensures whole { (F.honest files.old ≡ true) ⊎ IfOk (group_of (map (λ s. s.now) operands.now)) (λ asked. AreOfInput (asked ∷ [])) → result.cut ≡ Cut.Whole → (left : Left)
+        × OperandsOutcome options (map (λ s. s.now) operands.now) (record { folder = F.folder files.old; known = R.remaining input.old }) left
+        × Stands left result.status (F.folder files.new) (W.contents out.old) (W.contents out.new) (E.faults err.old) (E.faults err.new) (E.contents err.old) (E.contents err.new) }
+    ensures write { (F.honest files.old ≡ true) ⊎ IfOk (group_of (map (λ s. s.now) operands.now)) (λ asked. AreOfInput (asked ∷ [])) → result.cut ≡ Cut.Write → (left : Left)
+        × OperandsOutcome options (map (λ s. s.now) operands.now) (record { folder = F.folder files.old; known = R.remaining input.old }) left
+        × AppendsSome (W.contents out.old) (W.contents out.new) left.output }
+    ensures status { result.cut ≢ Cut.Whole → result.status ≡ 2 }
+    ensures ended { IsEndedBy result.cut (R.faults input.old) (R.faults input.new) (W.faults out.old) (W.faults out.new) (F.faults files.old) (F.faults files.new) }
+    ensures honest { F.honest files.new ≡ F.honest files.old }
+{
+    match read_group(alloc, operands) {
+        Ok(asked) => perform(alloc, options, from_ref(&asked), input, out, err, files),
+        Err(fault) => unasked(err, "", &fault),
+    }
+}
+
+// What the lines of a file ask for.
+fn run_lines_of<R: Source, W: Sink, E: Sink, F: Files>(
+    alloc: Global,
+    options: Options,
+    of_input: bool,
+    lines: &[Asked<'_>],
+    input: &mut R,
+    out: &mut W,
+    err: &mut E,
+    files: &mut F,
+) -> Exit
+    requires { All (λ asked. All HasPath asked.targets.items) lines.now }
+    ensures whole { F.honest files.old ≡ true → result.cut ≡ Cut.Whole → (known : Option (List ℕ)) → (of_input ≡ false → known ≡ R.remaining input.old)
+        → (left : Left)
+        × LinesOutcome options of_input (map asked_in lines.now) (record { folder = F.folder files.old; known = known }) left
+        × Stands left result.status (F.folder files.new) (W.contents out.old) (W.contents out.new) (E.faults err.old) (E.faults err.new) (E.contents err.old) (E.contents err.new) }
+    ensures write { F.honest files.old ≡ true → result.cut ≡ Cut.Write → (known : Option (List ℕ)) → (of_input ≡ false → known ≡ R.remaining input.old)
+        → (left : Left)
+        × LinesOutcome options of_input (map asked_in lines.now) (record { folder = F.folder files.old; known = known }) left
+        × AppendsSome (W.contents out.old) (W.contents out.new) left.output }
+    ensures status { result.cut ≢ Cut.Whole → result.status ≡ 2 }
+    ensures ended { IsEndedBy result.cut (R.faults input.old) (R.faults input.new) (W.faults out.old) (W.faults out.new) (F.faults files.old) (F.faults files.new) }
+    ensures honest { F.honest files.new ≡ F.honest files.old }
+{
+    if of_input && names_input(lines) {
+        tell_input(err);
+        return UNUSED;
+    }
+    perform(alloc, options, lines, input, out, err, files)
+}
+
+// What a text of lines by this name asks for.
+fn run_text<R: Source, W: Sink, E: Sink, F: Files>(
+    alloc: Global,
+    options: Options,
+    name: &str,
+    bytes: &[u8],
+    input: &mut R,
+    out: &mut W,
+    err: &mut E,
+    files: &mut F,
+) -> Exit
+    ensures whole { F.honest files.old ≡ true → result.cut ≡ Cut.Whole → (known : Option (List ℕ)) → (name.now ≢ input_package → known ≡ R.remaining input.old)
+        → (left : Left) × TextOutcome options name.now (Some bytes.now) (record { folder = F.folder files.old; known = known }) left
+        × Stands left result.status (F.folder files.new) (W.contents out.old) (W.contents out.new) (E.faults err.old) (E.faults err.new) (E.contents err.old) (E.contents err.new) }
+    ensures write { F.honest files.old ≡ true → result.cut ≡ Cut.Write → (known : Option (List ℕ)) → (name.now ≢ input_package → known ≡ R.remaining input.old)
+        → (left : Left) × TextOutcome options name.now (Some bytes.now) (record { folder = F.folder files.old; known = known }) left
+        × AppendsSome (W.contents out.old) (W.contents out.new) left.output }
+    ensures status { result.cut ≢ Cut.Whole → result.status ≡ 2 }
+    ensures ended { IsEndedBy result.cut (R.faults input.old) (R.faults input.new) (W.faults out.old) (W.faults out.new) (F.faults files.old) (F.faults files.new) }
+    ensures honest { F.honest files.new ≡ F.honest files.old }
+{
+    let text = match str::from_utf8(bytes) {
+        Ok(text) => text,
+        Err(fault) => {
+            let at = fault.valid_up_to();
+            tell_fault(err, told_name(name), &ReadFault::NotUtf8 { at });
+            return UNUSED;
+        }
+    };
+    match read_script(alloc, text) {
+        Ok(lines) => run_lines_of(
+            alloc,
+            options,
+            name == INPUT,
+            &lines,
+            input,
+            out,
+            err,
+            files,
+        ),
+        Err(fault) => unasked(err, told_name(name), &fault),
+    }
+}
+
+// A file of lines.
+fn run_script<R: Source, W: Sink, E: Sink, F: Files>(
+    alloc: Global,
+    options: Options,
+    name: &str,
+    input: &mut R,
+    out: &mut W,
+    err: &mut E,
+    files: &mut F,
+) -> Exit
+    ensures whole { F.honest files.old ≡ true → result.cut ≡ Cut.Whole → (left : Left)
+        × ScriptOutcome options name.now (record { folder = F.folder files.old; known = R.remaining input.old }) left
+        × Stands left result.status (F.folder files.new) (W.contents out.old) (W.contents out.new) (E.faults err.old) (E.faults err.new) (E.contents err.old) (E.contents err.new) }
+    ensures write { F.honest files.old ≡ true → result.cut ≡ Cut.Write → (left : Left)
+        × ScriptOutcome options name.now (record { folder = F.folder files.old; known = R.remaining input.old }) left
+        × AppendsSome (W.contents out.old) (W.contents out.new) left.output }
+    ensures status { result.cut ≢ Cut.Whole → (result.status ≡ 2) ⊎ (result.status ≡ 1) }
+    ensures ended { IsEndedBy result.cut (R.faults input.old) (R.faults input.new) (W.faults out.old) (W.faults out.new) (F.faults files.old) (F.faults files.new) }
+    ensures honest { F.honest files.new ≡ F.honest files.old }
+{
+    let bytes = match read_bytes(alloc, name, input, files, err) {
+        Ok(bytes) => bytes,
+        Err(exit) => return exit,
+    };
+    run_text(alloc, options, name, &bytes, input, out, err, files)
+}
+
+/// Reads the words of a line, and does what they or a file of lines ask for, up to the first step that fails; with `-k`
+/// all steps. A package's file is read where it is used first. Behind the last step `out` is given what commands printed,
+/// then the text of standard input, unless each command on it prints, and with `--stdout` the text of each file that
+/// changed; without it those files are written, each told by a line on `err` unless `--quiet` was given. Statuses: 1 where
+/// the words or lines ask for nothing, or the file of lines was not read (nothing is then done); else 2 where a step or a
+/// port failed or memory was refused; else 0 where some text at the end is another one than was read; else 3. Each fault
+/// is told by a line on `err`, whose own faults are passed over.
+pub fn buildozer<S: AsStr, R: Source, W: Sink, E: Sink, F: Files>(
+    alloc: Global,
+    words: &[S],
+    input: &mut R,
+    out: &mut W,
+    err: &mut E,
+    files: &mut F,
+) -> Exit
+    // Where the files are honest, or none is named, a whole run leaves what the words, the bytes of standard input and the folder mean.
+    ensures whole { (F.honest files.old ≡ true) ⊎ NamesNoFile (map S.text words.now) → result.cut ≡ Cut.Whole → (left : Left)
+        × Outcome (map S.text words.now) (record { folder = F.folder files.old; known = R.remaining input.old }) left
+        × Stands left result.status (F.folder files.new) (W.contents out.old) (W.contents out.new) (E.faults err.old) (E.faults err.new) (E.contents err.old) (E.contents err.new) }
+
+    // Where standard output fails, a beginning of what it is to be given stands there.
+    ensures write { (F.honest files.old ≡ true) ⊎ NamesNoFile (map S.text words.now) → result.cut ≡ Cut.Write → (left : Left)
+        × Outcome (map S.text words.now) (record { folder = F.folder files.old; known = R.remaining input.old }) left
+        × AppendsSome (W.contents out.old) (W.contents out.new) left.output }
+
+    // Without a file of lines each run that is cut has status 2.
+    ensures status { result.cut ≢ Cut.Whole → (result.status ≡ 2) ⊎ ((result.status ≡ 1) × TakesScript (map S.text words.now)) }
+
+    // A run is cut by a port that counted a fault; where none did it is whole, or wants memory.
+    ensures ended { IsEndedBy result.cut (R.faults input.old) (R.faults input.new) (W.faults out.old) (W.faults out.new) (F.faults files.old) (F.faults files.new) }
+    ensures honest { F.honest files.new ≡ F.honest files.old }
+{
+    let line = match read_line(alloc, words) {
+        Ok(line) => line,
+        Err(fault) => return unlined(alloc, err, &fault),
+    };
+    match &line.given {
+        Given::Operands(operands) => {
+            run_operands(alloc, line.options, operands, input, out, err, files)
+        }
+        Given::Script(name) => run_script(alloc, line.options, name, input, out, err, files),
+    }
+}

@@ -1,0 +1,16 @@
+//! The program buildozer as an engine over any reader, writers and files: what the words of a command line, the bytes of
+//! standard input and a folder mean, and what a run of them leaves.
+#![tactic(auto)]
+
+mod acting;
+mod ending;
+mod engine;
+mod opening;
+mod run;
+mod running;
+mod script;
+mod step;
+mod told;
+
+pub use bz_ports::{Cut, Exit};
+pub use engine::buildozer;

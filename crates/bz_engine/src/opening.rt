@@ -1,0 +1,87 @@
+//! The package of a step.
+ghost use Rattle.std.specs.Prelude.{◌≡◌, ◌⊎◌, ◌≤◌, ◌++◌, [], ◌∷◌, ℕ, List, Option, Some, None, true, false, length, option_map, IfSome, IsSome};
+ghost use Rattle.bz_ports.specs.Outputs.{Tells, Counts};
+ghost use Rattle.bz_ports.specs.Told.{stdin};
+ghost use Rattle.bz_workspace.specs.Opens.{Opens};
+ghost use Rattle.bz_workspace.specs.Packages.{Opened, place_of, file_at};
+ghost use Rattle.bz_engine.specs.Cuts.{IsCutBy, IsLeft};
+ghost use Rattle.bz_engine.specs.Run.{IsInput, Uses};
+ghost use Rattle.bz_engine.specs.Steps.{input_package};
+
+use bz_files::Files;
+use bz_ports::{Cut, InputFault, MOST, STDIN, Sink, Source, read_most, tell_named};
+use bz_workspace::{Opening, Workspace};
+use std::alloc::Global;
+
+/// The package that stands for standard input.
+const INPUT: &str = "-";
+
+// Standard input was not read, which is told.
+fn unread<E: Sink>(err: &mut E, word: &str, cut: Cut) -> Opening
+    ensures { result ≡ record { place = None; cut = cut } }
+{
+    tell_named(err, STDIN, word);
+    Opening { place: None, cut }
+}
+
+// Reads and opens standard input. It is kept as used first, so that it is not read a second time.
+fn open_input<R: Source, E: Sink>(
+    alloc: Global,
+    workspace: &mut Workspace,
+    input: &mut R,
+    err: &mut E,
+) -> Opening
+    requires { place_of input_package workspace.old ≡ None }
+    ensures whole { result.cut ≡ Cut.Whole → (text : List ℕ) × (file : Option Opened) × (lines : List (List ℕ)) × IsInput (R.remaining input.old) text
+        × Opens input_package (Some (stdin, text)) file lines × (workspace.new ≡ workspace.old ++ record { «package» = input_package; file = file } ∷ [])
+        × (result.place ≡ option_map (λ _. length workspace.old) file)
+        × Tells (E.faults err.old) (E.faults err.new) (E.contents err.old) (E.contents err.new) lines }
+    ensures there { IfSome result.place (λ at. IsSome (file_at at workspace.new)) }
+    ensures cut { (files : ℕ) → IsCutBy result.cut (R.faults input.old) (R.faults input.new) files files }
+    ensures reads { Counts (R.faults input.old) (R.faults input.new) }
+{
+    let Ok(place) = workspace.add(INPUT.as_bytes()) else {
+        return unread(err, "Memory", Cut::Memory);
+    };
+    match read_most(alloc, input, MOST) {
+        Ok(text) => workspace.open_text(place, INPUT, STDIN, text, err),
+        Err(InputFault::Read) => unread(err, "cannot open", Cut::Read),
+        Err(InputFault::Memory) => unread(err, "Memory", Cut::Memory),
+    }
+}
+
+// Whether standard input is to be read: the package stands for it, and was not used before.
+fn wants_input(workspace: &Workspace, package: &str) -> bool
+    ensures yes { result ≡ true → («package».now ≡ input_package) × (place_of input_package workspace.now ≡ None) }
+    ensures other { result ≡ false → «package».now ≡ input_package → place_of input_package workspace.now ≡ None → ⊥ }
+{
+    package == INPUT && workspace.place(INPUT.as_bytes()).is_none()
+}
+
+/// The open file of a package, which is read where it is used first. Where there is none, that was told at its first use.
+pub(crate) fn open_package<R: Source, F: Files, E: Sink>(
+    alloc: Global,
+    workspace: &mut Workspace,
+    package: &str,
+    input: &mut R,
+    files: &mut F,
+    err: &mut E,
+) -> Opening
+    requires { length «package».now ≤ 65536 }
+    ensures uses { (F.honest files.old ≡ true) ⊎ («package».now ≡ input_package) → result.cut ≡ Cut.Whole → (known : Option (List ℕ))
+        → IsLeft known workspace.old (R.remaining input.old) → (place : ℕ) × (lines : List (List ℕ))
+        × Uses (record { folder = F.folder files.old; known = known }) «package».now workspace.old place lines workspace.new
+        × (result.place ≡ option_map (λ _. place) (file_at place workspace.new)) × IsLeft known workspace.new (R.remaining input.new)
+        × Tells (E.faults err.old) (E.faults err.new) (E.contents err.old) (E.contents err.new) lines }
+    ensures there { IfSome result.place (λ at. IsSome (file_at at workspace.new)) }
+    ensures folder { (F.honest files.old ≡ true) ⊎ («package».now ≡ input_package) → F.folder files.new ≡ F.folder files.old }
+    ensures cut { IsCutBy result.cut (R.faults input.old) (R.faults input.new) (F.faults files.old) (F.faults files.new) }
+    ensures reads { Counts (R.faults input.old) (R.faults input.new) }
+    ensures counts { Counts (F.faults files.old) (F.faults files.new) }
+    ensures honest { F.honest files.new ≡ F.honest files.old }
+{
+    if wants_input(workspace, package) {
+        return open_input(alloc, workspace, input, err);
+    }
+    workspace.open(package, files, err)
+}

@@ -1,0 +1,114 @@
+//! Commands and targets as a session takes them.
+ghost use Rattle.std.specs.Prelude.{◌≡◌, IfOk, map};
+ghost use Rattle.std.specs.List.{list_any};
+ghost use Rattle.bz_line.specs.Paths.{HasPath};
+ghost use Rattle.bz_line.specs.Shown.{asked_in};
+ghost use Rattle.bz_engine.specs.Steps as s;
+ghost use Rattle.bz_engine.specs.Shown.{names_in, shows_in, shown_in};
+ghost use Rattle.bz_engine.specs.Steps.{is_of_input, names_input, shows_input, all_steps};
+
+use bz_items::Memory;
+use bz_journal::Action;
+use bz_label::{Target, Which};
+use bz_line::{Asked, Asking, Verb};
+
+fn copy_which(which: &Which) -> Result<Which, Memory>
+    ensures { IfOk result (λ copy. copy ≡ which.now) }
+{
+    Ok(match which {
+        Which::All => Which::All,
+        Which::Kind(kind) => Which::Kind(kind.copy()?),
+        Which::Line(line) => Which::Line(*line),
+        Which::Package => Which::Package,
+        Which::Name(name) => Which::Name(name.copy()?),
+    })
+}
+
+fn copy_target(target: &Target) -> Result<Target, Memory>
+    ensures { IfOk result (λ copy. copy ≡ target.now) }
+{
+    Ok(Target {
+        package: target.package.copy()?,
+        which: copy_which(&target.which)?,
+    })
+}
+
+/// What the session of the target's file is asked to do. The error: memory was refused.
+pub(crate) fn action_of(verb: &Verb, target: &Target) -> Result<Action, Memory>
+    ensures { IfOk result (λ action. action ≡ s.action_of target.now verb.now) }
+{
+    match verb {
+        Verb::Do(command) => Ok(Action::Do(command.copy()?, copy_target(target)?)),
+        Verb::Undo(count) => Ok(Action::Undo(*count)),
+        Verb::Redo(count) => Ok(Action::Redo(*count)),
+    }
+}
+
+/// The path of the target's package.
+pub(crate) fn package_of(target: &Target) -> &str
+    requires { HasPath target.now }
+    ensures { result.now ≡ target.now.«package» }
+{
+    str::from_utf8(target.package.as_slice()).unwrap()
+}
+
+/// Whether rules of standard input are meant.
+pub(crate) fn is_of_input(target: &Target) -> bool
+    ensures { result ≡ is_of_input target.now }
+{
+    target.package.as_slice() == b"-".as_slice()
+}
+
+// Whether a command doesn't print.
+fn shows(asking: &Asking<'_>) -> bool
+    ensures { result ≡ shows_in asking.now }
+{
+    !asking.verb.prints()
+}
+
+// Whether rules of standard input are meant in a line.
+fn names(line: &Asked<'_>) -> bool
+    ensures { result ≡ names_in line.now }
+{
+    line.targets.iter().any(|target| is_of_input(target))
+}
+
+// Whether a command among them doesn't print.
+fn any_shows(commands: &[Asking<'_>]) -> bool
+    ensures { result ≡ list_any shows_in commands.now }
+{
+    commands.iter().any(|asking| shows(asking))
+}
+
+// Whether a line has a command on rules of standard input that doesn't print.
+fn is_shown(line: &Asked<'_>) -> bool
+    ensures { result ≡ shown_in line.now }
+{
+    names(line) && any_shows(&line.commands)
+}
+
+fn any_names(lines: &[Asked<'_>]) -> bool
+    ensures { result ≡ list_any names_in lines.now }
+{
+    lines.iter().any(|line| names(line))
+}
+
+fn any_shown(lines: &[Asked<'_>]) -> bool
+    ensures { result ≡ list_any shown_in lines.now }
+{
+    lines.iter().any(|line| is_shown(line))
+}
+
+/// Whether rules of standard input are meant in one of the lines.
+pub(crate) fn names_input(lines: &[Asked<'_>]) -> bool
+    ensures { result ≡ names_input (map asked_in lines.now) }
+{
+    any_names(lines)
+}
+
+/// Whether the text of standard input is shown: a command on it is not one that prints.
+pub(crate) fn shows_input(lines: &[Asked<'_>]) -> bool
+    ensures { result ≡ shows_input (all_steps (map asked_in lines.now)) }
+{
+    any_shown(lines)
+}

@@ -1,0 +1,147 @@
+//! The lines on standard error that speak of commands, operands and usage. Its faults are passed over.
+ghost use Rattle.std.specs.Prelude.{◌≡◌, ◌++◌, codes, List, ℕ, IfSome, IsSome, OnOk, OnErr};
+ghost use Rattle.bz_line.specs.Shown.{refused_in, usage_in, line_usage_in};
+ghost use Rattle.bz_ports.specs.Faults.{AppendsUnlessFailed};
+ghost use Rattle.bz_engine.specs.Told.{numbered, refusal_line, operand_line, fixed_line, input_line, IsUsageLine, IsLineUsageLine};
+
+use bz_attribute::Refusal;
+use bz_line::{LineFault, Refused, UsageFault};
+use bz_ports::{Sink, tell, tell_named};
+use itoa::Buffer;
+use std::alloc::{AllocError, Global};
+
+// Tells what is refused behind these two pieces and what stands between them and it.
+fn tell_numbered_in<'a, E: Sink>(
+    err: &mut E,
+    front: &'a str,
+    file: &'a str,
+    between: &'a str,
+    refused: &'a str,
+    name: &'a str,
+    number: u8,
+)
+    ensures { AppendsUnlessFailed (E.faults err.old) (E.faults err.new) (E.contents err.old) (E.contents err.new)
+        (front.entry.now ++ file.entry.now ++ between.entry.now ++ numbered refused.entry.now name.entry.now number) }
+{
+    let mut numbers = Buffer::new();
+    let number = numbers.format(number);
+    tell(
+        err,
+        &[
+            front, file, between, refused, ": ", name, " (", number, ")\n",
+        ],
+    );
+}
+
+fn tell_numbered<'a, E: Sink>(
+    err: &mut E,
+    front: &'a str,
+    refused: &'a str,
+    name: &'a str,
+    number: u8,
+)
+    ensures { AppendsUnlessFailed (E.faults err.old) (E.faults err.new) (E.contents err.old) (E.contents err.new)
+        (front.entry.now ++ numbered refused.entry.now name.entry.now number) }
+{
+    let mut numbers = Buffer::new();
+    let number = numbers.format(number);
+    tell(err, &[front, refused, ": ", name, " (", number, ")\n"]);
+}
+
+/// Tells that a command is refused in a file.
+pub(crate) fn tell_refusal<E: Sink>(err: &mut E, file: &str, command: &str, refusal: Refusal)
+    ensures { AppendsUnlessFailed (E.faults err.old) (E.faults err.new) (E.contents err.old) (E.contents err.new)
+        (refusal_line file.now command.now refusal) }
+{
+    tell_numbered_in(
+        err,
+        "buildozer: ",
+        file,
+        ": ",
+        command,
+        refusal.name(),
+        refusal.number(),
+    );
+}
+
+fn tell_operand<E: Sink>(err: &mut E, refused: &Refused<'_>)
+    ensures { AppendsUnlessFailed (E.faults err.old) (E.faults err.new) (E.contents err.old) (E.contents err.new)
+        (operand_line (refused_in refused.now)) }
+{
+    let fault = refused.fault;
+    tell_numbered(
+        err,
+        "buildozer: ",
+        refused.operand,
+        fault.name(),
+        fault.number(),
+    );
+}
+
+/// Tells that a file was written.
+pub(crate) fn tell_fixed<E: Sink>(err: &mut E, name: &str)
+    ensures { AppendsUnlessFailed (E.faults err.old) (E.faults err.new) (E.contents err.old) (E.contents err.new)
+        (fixed_line name.now) }
+{
+    tell(err, &["fixed ", name, "\n"]);
+}
+
+/// Tells that rules of standard input are meant where the lines stand there.
+pub(crate) fn tell_input<E: Sink>(err: &mut E)
+    ensures { AppendsUnlessFailed (E.faults err.old) (E.faults err.new) (E.contents err.old) (E.contents err.new) input_line }
+{
+    tell(
+        err,
+        &["buildozer: package - cannot be edited beside -f -\n"],
+    );
+}
+
+/// Tells why operands, or a file of lines of this name, ask for nothing. The error: memory was refused; nothing is told.
+pub(crate) fn tell_usage<E: Sink>(
+    err: &mut E,
+    file: &str,
+    fault: &UsageFault<'_>,
+) -> Result<(), AllocError>
+    ensures some { OnOk result (IsSome (usage_in fault.now)) }
+    ensures ok { OnOk result (IfSome (usage_in fault.now) (λ usage. (line : List ℕ) × IsUsageLine file.now usage line
+        × AppendsUnlessFailed (E.faults err.old) (E.faults err.new) (E.contents err.old) (E.contents err.new) line)) }
+    ensures err { OnErr result (err.new ≡ err.old) }
+{
+    match fault {
+        UsageFault::Operand(refused) => tell_operand(err, refused),
+        UsageFault::NoCommand => tell(err, &["buildozer: no command\n"]),
+        UsageFault::NoTarget => tell(err, &["buildozer: no target\n"]),
+        UsageFault::NoLine => tell_named(err, file, "no operands"),
+        UsageFault::Memory => return Err(AllocError),
+    }
+    Ok(())
+}
+
+fn tell_clap<E: Sink>(alloc: Global, err: &mut E, error: &clap::Error) -> Result<(), AllocError>
+    ensures ok { OnOk result ((line : List ℕ) × AppendsUnlessFailed (E.faults err.old) (E.faults err.new)
+        (E.contents err.old) (E.contents err.new) line) }
+    ensures err { OnErr result (err.new ≡ err.old) }
+{
+    let line = error.to_string(alloc)?;
+    tell(err, &[line.as_str()]);
+    Ok(())
+}
+
+/// Tells why words are no line of the program's. The error: memory was refused; nothing is told.
+pub(crate) fn tell_line_usage<E: Sink>(
+    alloc: Global,
+    err: &mut E,
+    fault: &LineFault,
+) -> Result<(), AllocError>
+    ensures some { OnOk result (IsSome (line_usage_in fault.now)) }
+    ensures ok { OnOk result (IfSome (line_usage_in fault.now) (λ usage. (line : List ℕ) × IsLineUsageLine usage line
+        × AppendsUnlessFailed (E.faults err.old) (E.faults err.new) (E.contents err.old) (E.contents err.new) line)) }
+    ensures err { OnErr result (err.new ≡ err.old) }
+{
+    match fault {
+        LineFault::Clap(error) => return tell_clap(alloc, err, error),
+        LineFault::BesideScript => tell(err, &["buildozer: operands beside -f\n"]),
+        LineFault::Memory => return Err(AllocError),
+    }
+    Ok(())
+}
