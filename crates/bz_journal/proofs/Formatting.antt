@@ -7,13 +7,13 @@ use Rattle.bz_tree.specs.declared.tree.Node.{Node}
 use Rattle.bz_tree.specs.Legal.{Reads}
 use Rattle.bz_tree.specs.Spell.{depth_of, depth_limit, limit}
 use Rattle.bz_value.specs.Counted.{times}
-use Rattle.bz_tree.proofs.Accepts.{one_tree}
+use Rattle.bz_tree.specs.Laws.{OneReading}
 use Rattle.bz_value.specs.declared.value.Item.{Item}
 use Rattle.bz_value.specs.Gaps.{Bytes}
 use Rattle.bz_value.specs.Proper.{IsProper}
 use Rattle.bz_view.specs.Kept.{CommentsKept}
 use Rattle.bz_view.specs.View.{view_of}
-use Rattle.bz_view.proofs.ProperFiles.{view_proper}
+use Rattle.bz_view.specs.Laws.{ViewsAreProper}
 use Rattle.bz_write.specs.Drawn.{drawn}
 use Rattle.bz_write.specs.Laws.{LayoutIsAccepted, LayoutReadsBack}
 use Rattle.bz_tidy.specs.Laws.{ProperStays, TidySettles, TidyStays, CommentsStay}
@@ -32,11 +32,10 @@ use Rattle.bz_journal.proofs.Writes.{IsGiven, given}
 abbrev as_written : List Item → Option Bytes → Meaning
 as_written items printed = if nat_lt limit (length (layout items)) then refuses TooLarge else (if nat_lt depth_limit (depth_of (drawn items)) then refuses TooDeep else gives (layout items) printed)
 
-same_tree : (text : Bytes) (tree other : Node) → Reads text tree → Reads text other → tree ≡ other
-same_tree text tree other h i = one_tree tree other h.0 i.0 (h.1 ∙ sym i.1)
-
--- What the layers below promise: of the view, of the layout of a proper value, and of tidying.
+-- What the layers below promise: of reading, of the view, of the layout of a proper value, and of tidying.
 pub record LayersHold : Type 0 where
+  pub one : OneReading
+  pub seen : ViewsAreProper
   pub kept : CommentsKept
   pub accepted : LayoutIsAccepted
   pub back : LayoutReadsBack
@@ -50,13 +49,13 @@ formatted_again layers text formatted formats =
     let tree : Node = formats.0 in
     let items : List Item = view_of tree in
     let tidy : List Item = tidied items in
-    let proper : IsProper tidy = layers.proper items (view_proper tree formats.1.0) in
+    let proper : IsProper tidy = layers.proper items (layers.seen tree formats.1.0) in
     let is : IsGiven items formatted None None = given items formatted None None (sym formats.2) in
     let new : Node = drawn tidy in
     let reads : Reads formatted new = subst (λ (t : Bytes). Reads t new) (sym is.layout_is) (layers.accepted tidy proper is.long is.deep) in
     let seen : view_of new ≡ tidy = layers.back tidy proper ∙ layers.settled items in
     let valued : (t u : Node) → Reads text t → Reads formatted u → view_of u ≡ tidied (view_of t) =
-    λ t u h i. ap view_of (same_tree formatted u new i reads) ∙ seen ∙ ap (λ (n : Node). tidied (view_of n)) (same_tree text tree t formats.1 h) in
+    λ t u h i. ap view_of (layers.one formatted u new i reads) ∙ seen ∙ ap (λ (n : Node). tidied (view_of n)) (layers.one text tree t formats.1 h) in
     record {
       given = formats;
       again = (new, reads, formats.2 ∙ sym (ap (λ (xs : List Item). written xs None) seen ∙ ap (λ (xs : List Item). as_written xs None) (layers.stays items)));

@@ -1,5 +1,4 @@
 pub mod Acting
-pub mod FirstParts
 pub mod Formatting
 pub mod Kept
 pub mod Opening

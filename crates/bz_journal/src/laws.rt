@@ -7,7 +7,8 @@ ghost use Rattle.bz_journal.specs.Worked.{WorkedHistories};
 
 use crate::session::Session;
 use bz_tidy::{comments_stay, proper_stays, tidy_settles, tidy_stays};
-use bz_view::comments_kept;
+use bz_tree::laws::one_reading;
+use bz_view::{comments_kept, views_are_proper};
 use bz_write::{layout_is_accepted, layout_reads_back};
 
 /// Worked rows: what undo, redo and new texts make of small histories.
@@ -28,6 +29,8 @@ pub fn history_kept(session: &Session)
 pub fn formatted_once()
     ensures { FixedPoint }
 {
+    one_reading();
+    views_are_proper();
     comments_kept();
     layout_is_accepted();
     layout_reads_back();

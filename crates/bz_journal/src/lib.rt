@@ -2,7 +2,6 @@
 #![tactic(auto)]
 
 mod action;
-mod apart;
 mod formatter;
 mod laws;
 mod meaning;

@@ -5,11 +5,11 @@ ghost use Rattle.bz_tree.specs.Legal.{Reads, Accepted};
 ghost use Rattle.bz_tree.specs.Spell.{spell_node};
 ghost use Rattle.bz_journal.specs.Meaning.{gives, refuses, told, written, Means, Formats};
 
-use crate::apart::take_apart;
 use bz_attribute::Refusal;
 use bz_command::{Outcome, run};
 use bz_items::{Memory, Text};
 use bz_label::Target;
+use bz_rule::take_apart;
 use bz_tidy::tidy;
 use bz_tree::{ReadFault, Tree, parse};
 use bz_value::File;

@@ -1,12 +1,14 @@
 //! The rules of a BUILD file: their kinds, attributes and names, read off file values.
 #![tactic(auto)]
 
+mod apart;
 mod laws;
 mod names;
 mod parts;
 mod plain;
 mod rules;
 
+pub use apart::take_apart;
 pub use laws::worked_bodies;
 pub use names::{is_dotted, is_named};
 pub use parts::{form_in, is_text, only, text_in};

@@ -1,14 +1,18 @@
 -- Laws of legal trees.
-use Rattle.std.specs.Prelude.{◌≡◌, ◌≤◌, ◌↔◌}
+use Rattle.std.specs.Prelude.{◌≡◌, ◌≤◌, ◌↔◌, ℕ, List}
 use Rattle.bz_lex.specs.Leaves.{AreLeaves, AreCoded}
 use Rattle.bz_tree.specs.declared.tree.Node.{Node}
 use Rattle.bz_tree.specs.Spell.{spell_node, leaves_of, depth_of, depth_limit}
 use Rattle.bz_tree.specs.Spots.{Begins, AtParts, Stands, AreTokens}
-use Rattle.bz_tree.specs.Legal.{IsFile, Legal}
+use Rattle.bz_tree.specs.Legal.{IsFile, Legal, Reads}
 
 -- trees that spell the same are the same
 abbrev pub OneTree : Node → Node → Type 0
 OneTree tree other = spell_node tree ≡ spell_node other → tree ≡ other
+
+-- no text reads as two trees
+abbrev pub OneReading : Type 0
+OneReading = (text : List ℕ) (tree other : Node) → Reads text tree → Reads text other → tree ≡ other
 
 -- equal leaves have one shape: no leaves are those of two files
 abbrev pub OneFile : Type 0

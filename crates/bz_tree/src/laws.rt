@@ -1,5 +1,5 @@
 //! Laws of legal trees: the contract of each function is a law, and there is nothing to run.
-ghost use Rattle.bz_tree.specs.Laws.{GapsByNodes, LegalByNodes, OneFile, OneTree};
+ghost use Rattle.bz_tree.specs.Laws.{GapsByNodes, LegalByNodes, OneFile, OneReading, OneTree};
 ghost use Rattle.bz_tree.specs.Worked.{WorkedLines};
 
 use crate::tree::Tree;
@@ -11,6 +11,11 @@ pub fn one_tree(tree: &Tree, other: &Tree)
     let _root = &tree.root;
     let _other = &other.root;
 }
+
+/// No text reads as two trees.
+pub fn one_reading()
+    ensures { OneReading }
+{}
 
 /// No leaves are those of two files.
 pub fn one_file()

@@ -1,4 +1,5 @@
 pub mod Kept
+pub mod Laws
 pub mod View
 pub mod Walks
 pub mod Worked

@@ -1,11 +1,17 @@
 //! Facts about the definitions, for readers and for the proofs of other crates: the functions do nothing.
 
 ghost use Rattle.bz_view.specs.Kept.{CommentsKept};
+ghost use Rattle.bz_view.specs.Laws.{ViewsAreProper};
 ghost use Rattle.bz_view.specs.Worked.{WorkedViews};
 
 /// Each comment of a legal tree stands in its file value as often as in the tree's gaps: none is lost or doubled.
 pub fn comments_kept()
     ensures { CommentsKept }
+{}
+
+/// What a legal tree is seen as is a proper file value.
+pub fn views_are_proper()
+    ensures { ViewsAreProper }
 {}
 
 /// Worked rows of the view: for each a text, its tree, and the file value, or how often its comments stand in it.

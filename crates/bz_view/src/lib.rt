@@ -8,5 +8,5 @@ mod laws;
 mod marks;
 mod viewing;
 
-pub use laws::{comments_kept, worked_views};
+pub use laws::{comments_kept, views_are_proper, worked_views};
 pub use viewing::view;

@@ -4,6 +4,8 @@ use Rattle.bz_journal.proofs.laws.formatted_once.Goals as goal
 pub returns : goal.returns
 returns c =
     formatted_again (record {
+      one = c.one_reading.ensures;
+      seen = c.views_are_proper.ensures;
       kept = c.comments_kept.ensures;
       accepted = c.layout_is_accepted.ensures;
       back = c.layout_reads_back.ensures;

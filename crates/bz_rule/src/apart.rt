@@ -13,7 +13,7 @@ fn first_of(parts: Vec<Expr>) -> Option<Expr>
 }
 
 /// The first part of a form; what else stands in it is let go.
-#[tactic(auto, using(crate::proofs::FirstParts::fronts_of_Form))]
+#[tactic(auto, using(crate::proofs::Forms::fronts_Form))]
 fn first_part(x: Expr) -> Option<Expr>
     ensures { IfSome result (λ part. fronts part < fronts x) }
 {
@@ -32,7 +32,7 @@ fn take_statement_apart(x: Expr) {
 }
 
 /// Lets go of a file value whose statements may begin with any number of forms, each in the next.
-pub(crate) fn take_apart(file: File) {
+pub fn take_apart(file: File) {
     let File { items } = file;
     for item in items.into_vec() {
         if let Item::Stmt(x) = item {

@@ -1,5 +1,5 @@
 use Rattle.bz_rule.specs.Named.{fronts}
-use Rattle.bz_journal.proofs.apart.take_statement_apart.Given as goal
+use Rattle.bz_rule.proofs.apart.take_statement_apart.Given as goal
 
 abbrev pub decreases-loop-part : goal.decreases-loop-part
 decreases-loop-part l = fronts l.at
