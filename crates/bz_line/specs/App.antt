@@ -10,7 +10,7 @@ keep_going_rule = record (new_rule (codes "keep_going")) { short = Some letter_k
 
 -- `-f FILE`: the operands stand in a file of lines
 abbrev pub file_rule : Rule
-file_rule = record (new_rule (codes "file")) { short = Some letter_f }
+file_rule = record (new_rule (codes "file")) { short = Some letter_f; value_names = 1 }
 
 -- `--stdout`: what a file becomes goes to standard output
 abbrev pub stdout_rule : Rule
@@ -21,7 +21,7 @@ abbrev pub quiet_rule : Rule
 quiet_rule = record (new_rule (codes "quiet")) { long = Some (codes "quiet"); action = Some SetTrue }
 
 abbrev pub operand_rule : Rule
-operand_rule = record (new_rule (codes "operand")) { action = Some Append }
+operand_rule = record (new_rule (codes "operand")) { action = Some Append; value_names = 1 }
 
 -- the words are those behind the program's own name
 abbrev pub nameless : App

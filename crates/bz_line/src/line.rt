@@ -1,10 +1,11 @@
 //! The words of a command line: options, and where commands and targets stand.
-ghost use Rattle.std.specs.Prelude.{◌≡◌, [], false, Ok, Err, IfOk, IfErr, IfSome, map, option_map, unwrap_or};
-ghost use Rattle.clap.specs.Words.{app_of, rule_of, found_of, fault_of, matches_of, rows_of, all_of, first_of};
-ghost use Rattle.bz_line.specs.App.{buildozer_app, options_app, keep_going_rule, file_rule, stdout_rule, quiet_rule, operand_rule};
+ghost use Rattle.std.specs.Prelude.{◌≡◌, [], false, Ok, Err, IfOk, IfErr, IfSome, map};
+ghost use Rattle.clap.specs.Words.{app_of, rule_of, found_of, fault_of, matches_of, rows_of};
+ghost use Rattle.bz_line.specs.App.{nameless, buildozer_app, options_app, keep_going_rule, file_rule, stdout_rule, quiet_rule, operand_rule};
 ghost use Rattle.bz_line.specs.Line.{is_set, options_of, given_of, line_of};
 ghost use Rattle.bz_line.specs.Shown.{given_in, line_in, line_usage_in};
 
+use bz_ports::{text_of, texts_of};
 use clap::error::ErrorKind;
 use clap::{Arg, ArgAction, ArgMatches, Command};
 use std::alloc::{AllocError, Global};
@@ -48,6 +49,20 @@ pub enum LineFault {
     Memory,
 }
 
+const ABOUT: &str = "Applies commands to the rules of BUILD files.";
+
+const EXAMPLES: &str =
+    "An operand without a space that has a colon or begins with // is a target: //pkg:rule, //pkg:all,
+//pkg:%cc_library, //pkg:__pkg__; package - is standard input. Every other operand is a command.
+Each target gets all commands, in order.
+
+Examples:
+  buildozer 'add deps //lib:a' 'set testonly True' //pkg:rule
+  buildozer 'print name kind deps' //pkg:all
+  buildozer -- 'remove deps :old' undo redo -:rule < BUILD
+  buildozer -k -f commands.txt
+    with lines as: add deps :x|//pkg:a|//pkg:b";
+
 fn keep_going<'a>(alloc: Global) -> Arg<'a>
     ensures rule { rule_of result ≡ keep_going_rule }
     ensures local { result.global ≡ false }
@@ -55,13 +70,16 @@ fn keep_going<'a>(alloc: Global) -> Arg<'a>
     Arg::new(alloc, "keep_going")
         .short('k')
         .action(ArgAction::SetTrue)
+        .help("Goes on behind a command or a file that fails")
 }
 
 fn file<'a>(alloc: Global) -> Arg<'a>
     ensures rule { rule_of result ≡ file_rule }
     ensures local { result.global ≡ false }
 {
-    Arg::new(alloc, "file").short('f')
+    Arg::new(alloc, "file").short('f').value_name("FILE").help(
+        "Reads operands from the lines of FILE, separated by |; - is standard input",
+    )
 }
 
 fn to_stdout<'a>(alloc: Global) -> Arg<'a>
@@ -71,6 +89,7 @@ fn to_stdout<'a>(alloc: Global) -> Arg<'a>
     Arg::new(alloc, "stdout")
         .long("stdout")
         .action(ArgAction::SetTrue)
+        .help("Writes the files that change to standard output, and leaves them")
 }
 
 fn quiet<'a>(alloc: Global) -> Arg<'a>
@@ -80,20 +99,32 @@ fn quiet<'a>(alloc: Global) -> Arg<'a>
     Arg::new(alloc, "quiet")
         .long("quiet")
         .action(ArgAction::SetTrue)
+        .help("Doesn't tell which files were written")
 }
 
 fn operand<'a>(alloc: Global) -> Arg<'a>
     ensures rule { rule_of result ≡ operand_rule }
     ensures local { result.global ≡ false }
 {
-    Arg::new(alloc, "operand").action(ArgAction::Append)
+    Arg::new(alloc, "operand")
+        .value_name("OPERAND")
+        .action(ArgAction::Append)
+        .help("Commands and targets")
+}
+
+fn described<'a>(alloc: Global) -> Command<'a>
+    ensures { app_of result ≡ nameless }
+{
+    Command::new(alloc, "buildozer")
+        .no_binary_name(true)
+        .about(ABOUT)
+        .after_help(EXAMPLES)
 }
 
 fn options_command<'a>(alloc: Global) -> Result<Command<'a>, AllocError>
     ensures { IfOk result (λ command. app_of command ≡ options_app) }
 {
-    Command::new(alloc, "buildozer")
-        .no_binary_name(true)
+    described(alloc)
         .arg(keep_going(alloc))?
         .arg(file(alloc))?
         .arg(to_stdout(alloc))?
@@ -122,40 +153,12 @@ fn parse<'a, S: AsStr>(alloc: Global, words: &'a [S]) -> Result<ArgMatches<'a>, 
     }
 }
 
-fn text_of<'a>(matches: &ArgMatches<'a>, id: &str) -> Option<&'a str>
-    ensures { option_map (λ s. s.now) result ≡ first_of id.now (rows_of (found_of matches.now)) }
-{
-    matches.get_str(id)
-}
-
-fn slice_of<'m, 'a>(matches: &'m ArgMatches<'a>, id: &str) -> Option<&'m [&'a str]>
-    ensures { option_map (λ s. map (λ v. v.now) s.now) result
-        ≡ all_of id.now (rows_of (found_of matches.now)) }
-{
-    matches.get_strs(id)
-}
-
 fn is_set(matches: &ArgMatches<'_>, id: &str) -> bool
     ensures { result ≡ is_set id.now (rows_of (found_of matches.now)) }
 {
     match text_of(matches, id) {
         Some(text) => text == "true",
         None => false,
-    }
-}
-
-// The texts of an argument, in order.
-fn texts_of<'a>(
-    alloc: Global,
-    matches: &ArgMatches<'a>,
-    id: &str,
-) -> Result<Vec<&'a str>, AllocError>
-    ensures { IfOk result (λ texts. map (λ s. s.now) texts.items
-        ≡ unwrap_or (all_of id.now (rows_of (found_of matches.now))) []) }
-{
-    match slice_of(matches, id) {
-        Some(texts) => Vec::from_slice(alloc, texts),
-        None => Ok(Vec::new(alloc)),
     }
 }
 

@@ -1,3 +1,4 @@
+pub mod Exits
 pub mod Faults
 pub mod Outputs
 pub mod Ports

@@ -1,8 +1,12 @@
--- What the readers and writers of this crate hold.
-use Rattle.std.specs.Prelude.{ℕ, List, max}
+-- What readers and writers hold.
+use Rattle.std.specs.Prelude.{◌≡◌, ℕ, List, max, Option, IfSome}
 use Rattle.bz_ports.specs.declared.device.Device.{Device}
 use Rattle.bz_ports.specs.declared.memory.MemorySink.{MemorySink}
 use Rattle.bz_ports.specs.declared.memory.MemorySource.{MemorySource}
+
+-- the bytes that a reader has left, where they are known
+abbrev pub IsInput : Option (List ℕ) → List ℕ → Type 0
+IsInput known input = IfSome known (λ bytes. input ≡ bytes)
 
 -- the reader or writer of std's
 abbrev pub device_in : {T : Type 0} → Device T → T

@@ -1,4 +1,6 @@
 //! How runs of the programs end.
+ghost use Rattle.std.specs.Prelude.{◌≡◌};
+ghost use Rattle.bz_ports.specs.Exits.{first_cut};
 
 /// The first failure of a run.
 #[derive(Clone, Copy, Debug, PartialEq, Eq)]
@@ -22,4 +24,14 @@ pub struct Exit {
     pub status: u8,
     /// The first failure, or that there was none.
     pub cut: Cut,
+}
+
+/// The first failure of two parts of a run, one behind the other.
+pub fn first_cut(first: Cut, later: Cut) -> Cut
+    ensures { result ≡ first_cut first later }
+{
+    match first {
+        Cut::Whole => later,
+        _ => first,
+    }
 }

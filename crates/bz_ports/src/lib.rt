@@ -1,4 +1,5 @@
-//! Readers and writers that count their faults, the lines that programs tell on them, and how runs end.
+//! What both programs share: readers and writers that count their faults, the lines that are told on them, what clap finds
+//! among the words of a line, and how runs end.
 #![tactic(auto)]
 
 mod device;
@@ -7,10 +8,12 @@ mod memory;
 mod sink;
 mod source;
 mod told;
+mod words;
 
 pub use device::Device;
-pub use exit::{Cut, Exit};
+pub use exit::{Cut, Exit, first_cut};
 pub use memory::{MemorySink, MemorySource};
 pub use sink::{Sink, write_whole};
 pub use source::{InputFault, MOST, PortFault, Source, read_most};
-pub use told::{STDIN, tell, tell_fault, tell_named};
+pub use told::{STDIN, tell, tell_clap, tell_fault, tell_named};
+pub use words::{text_of, texts_of};

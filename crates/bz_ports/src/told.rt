@@ -1,5 +1,5 @@
 //! The lines on standard error that speak of files. Its faults are passed over.
-ghost use Rattle.std.specs.Prelude.{◌≡◌, map};
+ghost use Rattle.std.specs.Prelude.{◌≡◌, List, ℕ, OnOk, OnErr, map};
 ghost use Rattle.std.specs.List.{concat};
 ghost use Rattle.bz_ports.specs.Faults.{AppendsUnlessFailed};
 ghost use Rattle.bz_ports.specs.Told.{place_line, named_line, fault_line};
@@ -7,6 +7,7 @@ ghost use Rattle.bz_ports.specs.Told.{place_line, named_line, fault_line};
 use crate::{Sink, write_whole};
 use bz_lex::ReadFault;
 use itoa::Buffer;
+use std::alloc::{AllocError, Global};
 
 /// The name by which standard input is told.
 pub const STDIN: &str = "<stdin>";
@@ -88,4 +89,16 @@ pub fn tell_fault<E: Sink>(err: &mut E, file: &str, fault: &ReadFault)
         ReadFault::TooDeep { line, column } => tell_place(err, file, *line, *column, "TooDeep"),
         ReadFault::Memory => tell_named(err, file, "Memory"),
     }
+}
+
+/// Tells a fault that clap finds in words, by clap's own text, up to the first fault of `err`. The error: there was no
+/// memory for that text; nothing is then told.
+pub fn tell_clap<E: Sink>(alloc: Global, err: &mut E, error: &clap::Error) -> Result<(), AllocError>
+    ensures ok { OnOk result ((line : List ℕ) × AppendsUnlessFailed (E.faults err.old) (E.faults err.new)
+        (E.contents err.old) (E.contents err.new) line) }
+    ensures err { OnErr result (err.new ≡ err.old) }
+{
+    let line = error.to_string(alloc)?;
+    tell(err, &[line.as_str()]);
+    Ok(())
 }
