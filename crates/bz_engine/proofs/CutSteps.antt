@@ -5,7 +5,8 @@ use Rattle.bz_ports.specs.Outputs.{Counts}
 use Rattle.bz_ports.specs.declared.exit.Cut.{Cut}
 use Rattle.bz_ports.specs.declared.exit.Cut.TheVariants as c
 use Rattle.bz_ports.proofs.Outputs.{rises_more}
-use Rattle.bz_engine.specs.Cuts.{first_cut, IsCutBy}
+use Rattle.bz_engine.specs.Cuts.{IsCutBy}
+use Rattle.bz_ports.specs.Exits.{first_cut}
 
 pub cut_more : (cut later : Cut) (r s t f g h : ℕ) → IsCutBy cut r s f g → IsCutBy later s t g h → Counts r s → Counts s t → Counts f g → Counts g h
     → IsCutBy (first_cut cut later) r t f h

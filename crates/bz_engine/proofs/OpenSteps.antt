@@ -18,7 +18,8 @@ use Rattle.bz_workspace.specs.Packages.{Opened, Used, file_at, place_of, with_fi
 use Rattle.bz_workspace.specs.declared.opening.Opening.{Opening}
 use Rattle.bz_ports.specs.declared.exit.Cut.{Cut}
 use Rattle.bz_engine.specs.Cuts.{IsLeft}
-use Rattle.bz_engine.specs.Run.{Answers, IsInput, State, Uses, World}
+use Rattle.bz_engine.specs.Run.{Answers, State, Uses, World}
+use Rattle.bz_ports.specs.Ports.{IsInput}
 use Rattle.bz_engine.specs.Steps.{Step, input_package}
 
 -- ---- the first bytes of standard input, one more than a text may have, tell what becomes of it

@@ -16,7 +16,8 @@ use Rattle.bz_ports.specs.Told.{named_line, fault_line}
 use Rattle.bz_ports.proofs.Outputs.{appends_nothing}
 use Rattle.bz_engine.specs.Ending.{Left, Performs, Stands}
 use Rattle.bz_engine.specs.Outcome.{unused, AreOfInput, IsOfInput, NamesNoFile, IsScript, told_name, OperandsOutcome, LinesOutcome, TextOutcome, ScriptOutcome, GivenOutcome, LineOutcome, Outcome}
-use Rattle.bz_engine.specs.Run.{World, IsInput}
+use Rattle.bz_engine.specs.Run.{World}
+use Rattle.bz_ports.specs.Ports.{IsInput}
 use Rattle.bz_engine.specs.Steps.{all_steps, names_input, input_package}
 use Rattle.bz_engine.specs.Told.{IsUsageLine, IsLineUsageLine, input_line}
 

@@ -9,7 +9,8 @@ use Rattle.bz_ports.specs.declared.exit.Cut.{Cut}
 use Rattle.bz_ports.specs.declared.exit.Cut.TheVariants as c
 use Rattle.bz_ports.proofs.Outputs.{counts_more, tells_more}
 use Rattle.bz_ports.proofs.Written.{left-cons}
-use Rattle.bz_engine.specs.Cuts.{first_cut, IsCutBy, IsLeft}
+use Rattle.bz_engine.specs.Cuts.{IsCutBy, IsLeft}
+use Rattle.bz_ports.specs.Exits.{first_cut}
 use Rattle.bz_engine.proofs.CutSteps.{cut_more, whole_before, whole_behind}
 use Rattle.bz_engine.specs.Run.{World, State, Does, Runs, ends}
 use Rattle.bz_engine.specs.Steps.{Step}

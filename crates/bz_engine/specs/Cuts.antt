@@ -7,14 +7,6 @@ use Rattle.bz_ports.specs.declared.exit.Cut.TheVariants as c
 use Rattle.bz_workspace.specs.Packages.{Used, place_of}
 use Rattle.bz_engine.specs.Steps.{input_package}
 
--- The first failure of two parts is that of the whole.
-abbrev pub first_cut : Cut → Cut → Cut
-first_cut c.Whole later = later
-first_cut c.Memory later = c.Memory
-first_cut c.Read later = c.Read
-first_cut c.Write later = c.Write
-first_cut c.Files later = c.Files
-
 -- Steps are cut where a count of faults rose; where none is, none has risen. (Standard input, then files, each before and after.)
 abbrev pub IsCutBy : Cut → ℕ → ℕ → ℕ → ℕ → Type 0
 IsCutBy c.Whole reads reads' files files' = (reads' ≡ reads) × (files' ≡ files)

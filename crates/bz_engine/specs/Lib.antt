@@ -5,3 +5,4 @@ pub mod Run
 pub mod Shown
 pub mod Steps
 pub mod Told
+pub mod Worked

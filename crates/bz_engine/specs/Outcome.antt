@@ -1,5 +1,5 @@
 -- What a run of buildozer does, by its words, the bytes of standard input and the folder.
-use Rattle.std.specs.Prelude.{◌≡◌, ◌≢◌, ◌⊎◌, ◌&&◌, ℕ, List, [], ◌∷◌, codes, bytes_eq, if◌then◌else◌, Bool, true, false, Option, Some, None, Result, Ok, Err, IfOk}
+use Rattle.std.specs.Prelude.{◌≡◌, ◌≢◌, ◌⊎◌, ◌&&◌, ℕ, List, [], ◌∷◌, codes, bytes_eq, if◌then◌else◌, Bool, true, false, Option, Some, None, Result, Ok, Err, IfOk, IsErr}
 use Rattle.std.specs.List.{All}
 use Rattle.std.specs.FinMap.{get}
 use Rattle.std.specs.Str.{IsUtf8, IsValidUpTo}
@@ -13,7 +13,8 @@ use Rattle.bz_line.specs.Script.{script_of}
 use Rattle.bz_line.specs.declared.line.Options.{Options}
 use Rattle.bz_ports.specs.Told.{stdin, named_line, fault_line}
 use Rattle.bz_engine.specs.Ending.{Left, Performs}
-use Rattle.bz_engine.specs.Run.{World, IsInput}
+use Rattle.bz_engine.specs.Run.{World}
+use Rattle.bz_ports.specs.Ports.{IsInput}
 use Rattle.bz_engine.specs.Steps.{input_package, all_steps, names_input}
 use Rattle.bz_engine.specs.Told.{IsUsageLine, IsLineUsageLine, input_line}
 
@@ -90,3 +91,15 @@ IsOfInput (script name) = ⊥
 -- The words name no file, and no package but standard input.
 abbrev pub NamesNoFile : List Bytes → Type 0
 NamesNoFile words = IfOk (line_of words) (λ line. IsOfInput line.given)
+
+-- ---- words that ask for nothing
+
+-- operands that are refused, or lack a command or a target
+abbrev pub GivesNothing : Given → Type 0
+GivesNothing (operands texts) = IsErr (group_of texts)
+GivesNothing (script name) = ⊥
+
+-- words that are no line, or whose operands ask for nothing
+abbrev pub LineGivesNothing : Result Line LineUsage → Type 0
+LineGivesNothing (Err usage) = Unit {0}
+LineGivesNothing (Ok line) = GivesNothing line.given

@@ -5,6 +5,7 @@ use Rattle.bz_files.specs.Folder.{Folder}
 use Rattle.bz_journal.specs.declared.action.Reply.{Reply}
 use Rattle.bz_journal.specs.declared.action.Reply.TheVariants.{Changed, Same, Printed, Moved}
 use Rattle.bz_journal.specs.History.{History, Answer, Leads}
+use Rattle.bz_ports.specs.Ports.{IsInput}
 use Rattle.bz_ports.specs.Told.{stdin}
 use Rattle.bz_workspace.specs.Found.{Found, found_in}
 use Rattle.bz_workspace.specs.Opens.{Opens}
@@ -25,10 +26,6 @@ pub record State : Type 0 where
 
 abbrev pub begun : State
 begun = record { used = []; printed = []; failed = false }
-
--- the bytes of standard input, where they are known
-abbrev pub IsInput : Option Bytes → Bytes → Type 0
-IsInput known input = IfSome known (λ bytes. input ≡ bytes)
 
 -- ---- the package of a step
 

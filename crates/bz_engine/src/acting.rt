@@ -12,7 +12,7 @@ ghost use Rattle.bz_engine.specs.Shown.{state_in};
 ghost use Rattle.bz_engine.specs.Steps.{input_package, step_of};
 
 use crate::opening::open_package;
-use crate::run::{Run, first_cut};
+use crate::run::Run;
 use crate::step::{action_of, package_of};
 use crate::told::tell_refusal;
 use bz_attribute::Refusal;
@@ -21,7 +21,7 @@ use bz_items::at;
 use bz_journal::{Action, Reply};
 use bz_label::Target;
 use bz_line::Asking;
-use bz_ports::{Cut, Sink, Source};
+use bz_ports::{Cut, Sink, Source, first_cut};
 use bz_workspace::{Used, Workspace};
 use std::alloc::{AllocError, Global};
 

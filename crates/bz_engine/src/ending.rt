@@ -9,12 +9,12 @@ ghost use Rattle.bz_workspace.specs.Shown.{opened_in, used_in};
 ghost use Rattle.bz_engine.specs.Ending.{differs, has_changed, is_input, goes_out, file_out, text_out, texts_out, is_written, writing_of, writings, Writes, fixed_lines, status_of};
 ghost use Rattle.bz_engine.specs.Shown.{state_in};
 
-use crate::run::{Run, first_cut};
+use crate::run::Run;
 use crate::told::tell_fixed;
 use bz_files::Files;
 use bz_items::Memory;
 use bz_line::Options;
-use bz_ports::{Cut, Exit, Sink, tell_named, write_whole};
+use bz_ports::{Cut, Exit, Sink, first_cut, tell_named, write_whole};
 use bz_workspace::{Opened, Used};
 use std::alloc::Global;
 

@@ -1,15 +1,15 @@
 //! The program buildozer over any reader, writers and files.
-ghost use Rattle.std.specs.Prelude.{◌≡◌, ◌≢◌, ◌⊎◌, ◌∷◌, [], List, ℕ, Option, true, false, map, IfOk, Some};
+ghost use Rattle.std.specs.Prelude.{◌≡◌, ◌≢◌, ◌⊎◌, ◌∷◌, [], List, ℕ, Option, true, false, map, IfOk, IsErr, Some};
 ghost use Rattle.std.specs.List.{All};
 ghost use Rattle.bz_line.specs.Asked.{Usage, group_of};
-ghost use Rattle.bz_line.specs.Line.{LineUsage};
+ghost use Rattle.bz_line.specs.Line.{LineUsage, line_of};
 ghost use Rattle.bz_line.specs.Paths.{HasPath};
 ghost use Rattle.bz_line.specs.Shown.{asked_in, usage_in, line_usage_in};
 ghost use Rattle.bz_ports.specs.Faults.{AppendsSome};
 ghost use Rattle.bz_ports.specs.Outputs.{Tells};
 ghost use Rattle.bz_engine.specs.Cuts.{IsEndedBy};
 ghost use Rattle.bz_engine.specs.Ending.{Left, Performs, Stands};
-ghost use Rattle.bz_engine.specs.Outcome.{Outcome, OperandsOutcome, LinesOutcome, TextOutcome, ScriptOutcome, AreOfInput, NamesNoFile, TakesScript};
+ghost use Rattle.bz_engine.specs.Outcome.{Outcome, OperandsOutcome, LinesOutcome, TextOutcome, ScriptOutcome, AreOfInput, LineGivesNothing, NamesNoFile, TakesScript};
 ghost use Rattle.bz_engine.specs.Steps.{all_steps, input_package};
 ghost use Rattle.bz_engine.specs.Told.{IsUsageLine, IsLineUsageLine};
 
@@ -127,6 +127,7 @@ fn run_operands<R: Source, W: Sink, E: Sink, F: Files>(
     ensures write { (F.honest files.old ≡ true) ⊎ IfOk (group_of (map (λ s. s.now) operands.now)) (λ asked. AreOfInput (asked ∷ [])) → result.cut ≡ Cut.Write → (left : Left)
         × OperandsOutcome options (map (λ s. s.now) operands.now) (record { folder = F.folder files.old; known = R.remaining input.old }) left
         × AppendsSome (W.contents out.old) (W.contents out.new) left.output }
+    ensures unread { IsErr (group_of (map (λ s. s.now) operands.now)) → (input.new ≡ input.old) × (out.new ≡ out.old) × (files.new ≡ files.old) }
     ensures status { result.cut ≢ Cut.Whole → result.status ≡ 2 }
     ensures ended { IsEndedBy result.cut (R.faults input.old) (R.faults input.new) (W.faults out.old) (W.faults out.new) (F.faults files.old) (F.faults files.new) }
     ensures honest { F.honest files.new ≡ F.honest files.old }
@@ -263,6 +264,9 @@ pub fn buildozer<S: AsStr, R: Source, W: Sink, E: Sink, F: Files>(
     ensures write { (F.honest files.old ≡ true) ⊎ NamesNoFile (map S.text words.now) → result.cut ≡ Cut.Write → (left : Left)
         × Outcome (map S.text words.now) (record { folder = F.folder files.old; known = R.remaining input.old }) left
         × AppendsSome (W.contents out.old) (W.contents out.new) left.output }
+
+    // Words that ask for nothing leave the input, the output and the files as they were.
+    ensures unread { LineGivesNothing (line_of (map S.text words.now)) → (input.new ≡ input.old) × (out.new ≡ out.old) × (files.new ≡ files.old) }
 
     // Without a file of lines each run that is cut has status 2.
     ensures status { result.cut ≢ Cut.Whole → (result.status ≡ 2) ⊎ ((result.status ≡ 1) × TakesScript (map S.text words.now)) }

@@ -5,6 +5,7 @@
 mod acting;
 mod ending;
 mod engine;
+mod laws;
 mod opening;
 mod run;
 mod running;
@@ -14,3 +15,4 @@ mod told;
 
 pub use bz_ports::{Cut, Exit};
 pub use engine::buildozer;
+pub use laws::worked_refusals;

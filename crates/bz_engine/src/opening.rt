@@ -5,7 +5,8 @@ ghost use Rattle.bz_ports.specs.Told.{stdin};
 ghost use Rattle.bz_workspace.specs.Opens.{Opens};
 ghost use Rattle.bz_workspace.specs.Packages.{Opened, place_of, file_at};
 ghost use Rattle.bz_engine.specs.Cuts.{IsCutBy, IsLeft};
-ghost use Rattle.bz_engine.specs.Run.{IsInput, Uses};
+ghost use Rattle.bz_engine.specs.Run.{Uses};
+ghost use Rattle.bz_ports.specs.Ports.{IsInput};
 ghost use Rattle.bz_engine.specs.Steps.{input_package};
 
 use bz_files::Files;

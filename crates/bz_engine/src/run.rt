@@ -1,10 +1,8 @@
 //! How far a run has come.
 ghost use Rattle.std.specs.Prelude.{◌≡◌};
-ghost use Rattle.bz_engine.specs.Cuts.{first_cut};
 ghost use Rattle.bz_engine.specs.Run.{begun};
 ghost use Rattle.bz_engine.specs.Shown.{state_in};
 
-use bz_ports::Cut;
 use bz_workspace::Workspace;
 use std::alloc::Global;
 
@@ -24,15 +22,5 @@ pub(crate) fn begun(alloc: Global) -> Run
         workspace: Workspace::new(alloc),
         printed: Vec::new(alloc),
         failed: false,
-    }
-}
-
-/// The first failure of two parts of a run.
-pub(crate) fn first_cut(first: Cut, later: Cut) -> Cut
-    ensures { result ≡ first_cut first later }
-{
-    match first {
-        Cut::Whole => later,
-        _ => first,
     }
 }

@@ -11,11 +11,11 @@ ghost use Rattle.bz_engine.specs.Shown.{state_in};
 ghost use Rattle.bz_engine.specs.Steps.{input_package, step_of, steps_of, all_steps};
 
 use crate::acting::do_step;
-use crate::run::{Run, first_cut};
+use crate::run::Run;
 use bz_files::Files;
 use bz_label::Target;
 use bz_line::{Asked, Asking};
-use bz_ports::{Cut, Sink, Source};
+use bz_ports::{Cut, Sink, Source, first_cut};
 use std::alloc::Global;
 
 // Does all commands on one target, in order.

@@ -5,7 +5,7 @@ ghost use Rattle.bz_ports.specs.Outputs.{Tells, Counts};
 ghost use Rattle.bz_ports.specs.Told.{named_line};
 ghost use Rattle.bz_engine.specs.Cuts.{IsCutBy};
 ghost use Rattle.bz_engine.specs.Outcome.{IsScript, told_name};
-ghost use Rattle.bz_engine.specs.Run.{IsInput};
+ghost use Rattle.bz_ports.specs.Ports.{IsInput};
 ghost use Rattle.bz_engine.specs.Steps.{input_package};
 
 use crate::ending::FAILED;

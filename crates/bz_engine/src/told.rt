@@ -6,7 +6,7 @@ ghost use Rattle.bz_engine.specs.Told.{numbered, refusal_line, operand_line, fix
 
 use bz_attribute::Refusal;
 use bz_line::{LineFault, Refused, UsageFault};
-use bz_ports::{Sink, tell, tell_named};
+use bz_ports::{Sink, tell, tell_clap, tell_named};
 use itoa::Buffer;
 use std::alloc::{AllocError, Global};
 
@@ -114,16 +114,6 @@ pub(crate) fn tell_usage<E: Sink>(
         UsageFault::NoLine => tell_named(err, file, "no operands"),
         UsageFault::Memory => return Err(AllocError),
     }
-    Ok(())
-}
-
-fn tell_clap<E: Sink>(alloc: Global, err: &mut E, error: &clap::Error) -> Result<(), AllocError>
-    ensures ok { OnOk result ((line : List ℕ) × AppendsUnlessFailed (E.faults err.old) (E.faults err.new)
-        (E.contents err.old) (E.contents err.new) line) }
-    ensures err { OnErr result (err.new ≡ err.old) }
-{
-    let line = error.to_string(alloc)?;
-    tell(err, &[line.as_str()]);
     Ok(())
 }
 

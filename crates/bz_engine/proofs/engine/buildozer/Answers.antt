@@ -1,6 +1,7 @@
-use Rattle.std.proofs.Common.{◌≡◌, List, ℕ, map, ap, sym, ◌∙◌, Bor}
+use Rattle.std.proofs.Common.{◌≡◌, List, ℕ, map, ap, sym, subst, ◌∙◌, Bor, Ok}
 use Rattle.bz_line.specs.Line.{operands, script}
 use Rattle.bz_line.specs.Shown.{given_in, line_in, line_usage_in}
+use Rattle.bz_engine.specs.Outcome.{GivesNothing, LineGivesNothing}
 use Rattle.bz_engine.specs.Run.{World}
 use Rattle.bz_engine.proofs.Outcomes.{words_refused, words_done, words_premise, script_premise}
 use Rattle.bz_engine.proofs.engine.buildozer.Goals as goal
@@ -56,3 +57,18 @@ returns-clause-write g c premise is_write =
     (words_premise (g.F.Files.honest c.args.files.now) words line (script name) c.in-Ok.ensures.ok same premise) in
     let done = c.run_script.ensures.write honest is_write in
     (done.0, words_done words line (script name) world done.0 c.in-Ok.ensures.ok same done.1, done.2)
+
+pub returns-in-Operands-clause-unread : goal.returns-in-Operands-clause-unread
+returns-in-Operands-clause-unread g c nothing =
+    let line = line_in c.in-Ok.line in
+    let same : line.given ≡ operands (map (λ (s : Bor (List ℕ)). s.now) c.deref.result.now) =
+    ap given_in c.in-Operands.is ∙ ap (λ (these : List (Bor (List ℕ))). operands (map (λ (s : Bor (List ℕ)). s.now) these)) (sym c.deref.ensures.value) in
+    let found : LineGivesNothing (Ok line) = subst LineGivesNothing c.in-Ok.ensures.ok nothing in
+    c.run_operands.ensures.unread (subst GivesNothing same found)
+
+pub returns-clause-unread : goal.returns-clause-unread
+returns-clause-unread g c nothing =
+    let line = line_in c.in-Ok.line in
+    let same : line.given ≡ script c.in-Script.name.now = ap given_in c.in-Script.is in
+    let found : LineGivesNothing (Ok line) = subst LineGivesNothing c.in-Ok.ensures.ok nothing in
+    absurd (subst GivesNothing same found)

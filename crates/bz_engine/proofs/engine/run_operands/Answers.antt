@@ -1,4 +1,5 @@
-use Rattle.std.proofs.Common.{◌≡◌, ◌∷◌, [], List, ℕ, map, ap, sym, subst, arith, Bor}
+use Rattle.std.proofs.Common.{◌≡◌, ◌∷◌, [], List, ℕ, map, ap, sym, subst, arith, true≢false, Bor}
+use Rattle.std.specs.Prelude.{IsErr}
 use Rattle.std.specs.List.{All}
 use Rattle.std.proofs.lemmas.List.Elements.{All-push}
 use Rattle.bz_line.specs.Paths.{HasPath}
@@ -41,3 +42,6 @@ returns-in-Err-clause-whole g c premise is_whole =
     operands_refused c.args.options (map (λ (s : Bor (List ℕ)). s.now) c.args.operands.now) world (usage_in c.in-Err.fault) told.1 told.2 c.unasked.result.status
     (g.W.Sink.contents c.args.out.now) (g.E.Sink.faults c.args.err.now) (g.E.Sink.faults c.unasked.new.err) (g.E.Sink.contents c.args.err.now)
     (g.E.Sink.contents c.unasked.new.err) c.in-Err.ensures.err told.3 told.4 told.0 told.5
+
+pub returns-in-Ok-clause-unread : goal.returns-in-Ok-clause-unread
+returns-in-Ok-clause-unread g c nothing = absurd (true≢false (sym (subst IsErr c.in-Ok.ensures.ok nothing)))

@@ -3,7 +3,7 @@ use Rattle.bz_value.specs.Gaps.{Bytes}
 use Rattle.bz_workspace.specs.Packages.{Used, place_of}
 use Rattle.bz_ports.specs.declared.exit.Cut.TheVariants as cut
 use Rattle.bz_engine.specs.Cuts.{IsLeft}
-use Rattle.bz_engine.specs.Run.{IsInput}
+use Rattle.bz_ports.specs.Ports.{IsInput}
 use Rattle.bz_engine.specs.Steps.{input_package}
 use Rattle.bz_engine.proofs.OpenSteps.{is_found, last_place, left_behind, left_behind_input, place_again, uses_found, uses_input}
 use Rattle.bz_engine.proofs.opening.open_package.Goals as goal
