@@ -1,28 +1,55 @@
 //! buildozer: applies commands to the rules of BUILD files, and takes them back exactly.
 #![tactic(auto)]
 
-use bz_tools::{Device, buildozer};
+use bz_engine::buildozer;
+use bz_files::DiskFiles;
+use bz_ports::{Device, tell};
+use std::alloc::AllocError;
 use std::env;
+use std::io::ErrorKind;
 use std::process::ExitCode;
 
-// The status of a run over the words, the input and the outputs of the process. Words that are no text are no line of
-// the program's.
-fn run(rt: &HostRuntime) -> u8 {
+// The status of words that are no text, and of memory that is refused before the run.
+const USAGE: u8 = 1;
+
+const FAILED: u8 = 2;
+
+// Tells why nothing is done, and passes the status on.
+fn unused(rt: &HostRuntime, line: &str, status: u8) -> u8 {
+    let mut err = Device::new(rt.stderr());
+    tell(&mut err, &[line]);
+    status
+}
+
+// The status of a run over the words, the input, the outputs and the files of the process. The error: memory was refused.
+fn run(rt: &HostRuntime) -> Result<u8, AllocError> {
     let alloc = rt.alloc();
     let words = match env::args(rt) {
         Ok(words) => words,
-        Err(_) => return 1,
+        Err(fault) if fault.kind() == ErrorKind::OutOfMemory => return Err(AllocError),
+        Err(_) => return Ok(unused(rt, "buildozer: an argument is not UTF-8\n", USAGE)),
     };
-    let words: Vec<String> = match words.skip(1).collect(alloc) {
-        Ok(words) => words,
-        Err(_) => return 2,
-    };
+    let words: Vec<String> = words.skip(1).collect(alloc)?;
     let mut input = Device::new(rt.stdin());
     let mut out = Device::new(rt.stdout());
     let mut err = Device::new(rt.stderr());
-    buildozer(alloc, words.as_slice(), &mut input, &mut out, &mut err).status
+    let mut files = DiskFiles::new(alloc, rt);
+    Ok(
+        buildozer(
+            alloc,
+            words.as_slice(),
+            &mut input,
+            &mut out,
+            &mut err,
+            &mut files,
+        )
+        .status,
+    )
 }
 
 fn main(rt: HostRuntime) -> ExitCode {
-    ExitCode::from(run(&rt))
+    match run(&rt) {
+        Ok(status) => ExitCode::from(status),
+        Err(_) => ExitCode::from(unused(&rt, "buildozer: Memory\n", FAILED)),
+    }
 }

@@ -5,11 +5,12 @@ use Rattle.std.proofs.lemmas.List.{nil_from_length}
 use Rattle.std.proofs.lemmas.Bool.{eqb-true}
 use Rattle.bz_files.specs.Folder.{Folder}
 use Rattle.bz_ports.specs.Outputs.{Counts}
+use Rattle.bz_ports.specs.Exits.{first_cut}
 use Rattle.bz_ports.specs.declared.exit.Cut.{Cut}
 use Rattle.bz_ports.specs.declared.exit.Cut.TheVariants as c
 use Rattle.bz_ports.proofs.Outputs.{rises_more}
 use Rattle.bz_tools.specs.Modes as m
-use Rattle.bz_tools.specs.FormatRun.{Effect, Run, Files, FileStep, InputStep, FormatOutcome, RunOf, IsFormatUsageLine, begun, IsCutBy, grown, worse, first_cut}
+use Rattle.bz_tools.specs.FormatRun.{Effect, Run, Files, FileStep, InputStep, FormatOutcome, RunOf, IsFormatUsageLine, begun, IsCutBy, grown, worse}
 use Rattle.bz_tools.specs.FormatShown.{effect_of, progress_of}
 use Rattle.bz_tools.specs.declared.effect.Effect as e
 use Rattle.bz_tools.specs.declared.effect.Progress.{Progress}

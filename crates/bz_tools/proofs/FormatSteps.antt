@@ -11,10 +11,10 @@ use Rattle.bz_journal.specs.Faults.{FormatsTo}
 use Rattle.bz_journal.specs.declared.formatter.FormatFault.{FormatFault}
 use Rattle.bz_journal.specs.declared.formatter.FormatFault.TheVariants as f
 use Rattle.bz_ports.specs.Outputs.{WritesUnlessClosed}
+use Rattle.bz_ports.specs.Ports.{IsInput}
 use Rattle.bz_ports.proofs.Outputs.{appends_nothing}
 use Rattle.bz_tools.specs.FormatRun.{Effect, refused, unread_file, Rewrites}
-use Rattle.bz_tools.specs.Outcome.{IsInput}
-use Rattle.bz_tools.proofs.Outcomes.{cut_at_limit, fault_of_front, long_front, within_limit}
+use Rattle.bz_tools.proofs.Fronts.{cut_at_limit, fault_of_front, long_front, within_limit}
 
 -- an effect that writes nothing on standard output
 pub record IsQuiet (effect : Effect) : Type 0 where

@@ -10,8 +10,9 @@ use Rattle.bz_value.specs.Gaps.{Bytes}
 use Rattle.bz_files.specs.Folder.{Folder, IsAside, SameFolders, SameBut, with_file, new_name}
 use Rattle.bz_files.specs.declared.files.FileFault.{FileFault}
 use Rattle.bz_files.specs.declared.files.FileFault.TheVariants as file
-use Rattle.bz_tools.specs.FormatRun.{Effect, Run, Files, FileStep, unread, without_memory, unformatted, kept, rewritten, grown, printed, file_out, text_status, is_rewritten, first_cut, unread_file}
+use Rattle.bz_tools.specs.FormatRun.{Effect, Run, Files, FileStep, unread, without_memory, unformatted, kept, rewritten, grown, printed, file_out, text_status, is_rewritten, unread_file}
 use Rattle.bz_tools.specs.FormatExact.{ExactStep, exact_absent, exact_unformatted, exact_formatted, Exact}
+use Rattle.bz_ports.specs.Exits.{first_cut}
 use Rattle.bz_ports.specs.declared.exit.Cut.{Cut}
 use Rattle.bz_ports.specs.declared.exit.Cut.TheVariants as c
 use Rattle.bz_tools.specs.declared.mode.Mode.{Mode}

@@ -1,6 +1,4 @@
-pub mod Counts
-pub mod AskedLemmas
-pub mod Outcomes
+pub mod Fronts
 pub mod FormatSteps
 pub mod FormatRuns
 pub mod FormatWhole

@@ -10,12 +10,13 @@ use Rattle.bz_journal.specs.declared.formatter.FormatFault.{FormatFault}
 use Rattle.bz_journal.specs.declared.formatter.FormatFault.TheVariants as f
 use Rattle.bz_ports.specs.declared.exit.Cut.{Cut}
 use Rattle.bz_ports.specs.declared.exit.Cut.TheVariants as c
+use Rattle.bz_ports.specs.Exits.{first_cut}
 use Rattle.bz_ports.specs.Faults.{Rises}
+use Rattle.bz_ports.specs.Ports.{IsInput}
 use Rattle.bz_ports.specs.Told.{stdin, named_line, fault_line}
 use Rattle.bz_tools.specs.declared.mode.Mode.{Mode}
 use Rattle.bz_tools.specs.declared.mode.Mode.TheVariants.{Fix, Check, PrintIfChanged}
 use Rattle.bz_tools.specs.Modes.{FormatLine, FormatUsage, clap_fault, no_mode, format_line}
-use Rattle.bz_tools.specs.Outcome.{IsInput}
 
 -- ---- what one text does
 
@@ -139,14 +140,6 @@ begun = record { out = []; lines = []; status = 0; cut = c.Whole; closed = false
 -- 3 where one of two is that, else 1, else 4, else 0
 abbrev pub worse : ℕ → ℕ → ℕ
 worse a b = if a == 3 || b == 3 then 3 else (if a == 1 || b == 1 then 1 else (if a == 4 || b == 4 then 4 else 0))
-
--- The first failure is the one that cuts a run.
-abbrev pub first_cut : Cut → Cut → Cut
-first_cut c.Whole later = later
-first_cut c.Memory later = c.Memory
-first_cut c.Read later = c.Read
-first_cut c.Write later = c.Write
-first_cut c.Files later = c.Files
 
 abbrev pub grown : Run → Effect → Run
 grown run effect = record {

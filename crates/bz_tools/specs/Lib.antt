@@ -1,13 +1,5 @@
-pub mod App
-pub mod Asked
 pub mod FormatExact
 pub mod FormatRun
 pub mod FormatShown
-pub mod Line
 pub mod Modes
-pub mod Operands
-pub mod Outcome
-pub mod Shown
-pub mod Told
-pub mod Verbs
 pub mod Worked

@@ -9,10 +9,10 @@ use Rattle.bz_tools.specs.declared.mode.Mode.TheVariants.{Fix, Check, PrintIfCha
 -- ---- the line as clap's rules: `--mode` with a text, and any number of files
 
 abbrev pub mode_rule : Rule
-mode_rule = record (new_rule (codes "mode")) { long = Some (codes "mode") }
+mode_rule = record (new_rule (codes "mode")) { long = Some (codes "mode"); value_names = 1 }
 
 abbrev pub file_rule : Rule
-file_rule = record (new_rule (codes "file")) { action = Some Append }
+file_rule = record (new_rule (codes "file")) { action = Some Append; value_names = 1 }
 
 -- the words are those behind the program's own name
 abbrev pub nameless_buildifier : App

@@ -1,8 +1,9 @@
 //! What becomes of a text that buildifier reads, and of a run over several.
 ghost use Rattle.std.specs.Prelude.{◌≡◌, ◌⊎◌, ◌||◌, ◌∷◌, ◌++◌, [], false, codes, IfOk, OnOk};
+ghost use Rattle.bz_ports.specs.Exits.{first_cut};
 ghost use Rattle.bz_ports.specs.Outputs.{Tells, Counts, WritesUnlessClosed};
 ghost use Rattle.bz_ports.specs.Told.{stdin, named_line};
-ghost use Rattle.bz_tools.specs.FormatRun.{Prints, IsCutBy, unread_file, refused, file_out, input_out, is_rewritten, text_status, worse, first_cut};
+ghost use Rattle.bz_tools.specs.FormatRun.{Prints, IsCutBy, unread_file, refused, file_out, input_out, is_rewritten, text_status, worse};
 ghost use Rattle.bz_tools.specs.FormatRun as r;
 ghost use Rattle.bz_tools.specs.FormatShown.{effect_of};
 
@@ -11,7 +12,7 @@ use crate::{Cut, Sink};
 use bz_files::FileFault;
 use bz_items::{Memory, Text};
 use bz_journal::FormatFault;
-use bz_ports::{STDIN, tell_fault, tell_named, write_whole};
+use bz_ports::{STDIN, first_cut, tell_fault, tell_named, write_whole};
 use std::alloc::Global;
 
 /// What becomes of one text.
@@ -66,15 +67,6 @@ fn worse(a: u8, b: u8) -> u8
         return DIFFERS;
     }
     DONE
-}
-
-fn first_cut(first: Cut, later: Cut) -> Cut
-    ensures { result ≡ first_cut first later }
-{
-    match first {
-        Cut::Whole => later,
-        _ => first,
-    }
 }
 
 /// What a run comes to by one text more.

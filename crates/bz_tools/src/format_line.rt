@@ -1,11 +1,11 @@
 //! The words of buildifier's line.
-ghost use Rattle.std.specs.Prelude.{◌≡◌, ◌≢◌, [], false, Ok, Err, IfOk, IfErr, IfSome, IsErrOf, map, option_map};
-ghost use Rattle.clap.specs.Words.{app_of, rule_of, found_of, fault_of, matches_of, rows_of, first_of};
-ghost use Rattle.bz_tools.specs.Modes.{buildifier_app, mode_rule, file_rule, format_line};
+ghost use Rattle.std.specs.Prelude.{◌≡◌, [], false, Ok, Err, IfOk, IfErr, IfSome, map};
+ghost use Rattle.clap.specs.Words.{app_of, rule_of, found_of, fault_of, matches_of, rows_of};
+ghost use Rattle.bz_tools.specs.Modes.{nameless_buildifier, buildifier_app, mode_rule, file_rule, format_line};
 ghost use Rattle.bz_tools.specs.FormatShown.{seen_line, usage_of};
 
-use crate::line::{LineFault, texts_of};
 use crate::mode::Mode;
+use bz_ports::{text_of, texts_of};
 use clap::error::ErrorKind;
 use clap::{Arg, ArgAction, ArgMatches, Command};
 use std::alloc::{AllocError, Global};
@@ -18,7 +18,7 @@ pub(crate) struct FormatLine<'a> {
     pub(crate) files: Vec<&'a str>,
 }
 
-/// Why the words are no line of buildifier's.
+/// Why words are no line of buildifier's.
 #[derive(Drop)]
 pub(crate) enum FormatUsage<'a> {
     /// A fault that clap finds; its text says why.
@@ -29,50 +29,67 @@ pub(crate) enum FormatUsage<'a> {
     Memory,
 }
 
+const ABOUT: &str =
+    "Lays out BUILD files in one canonical form. Without files it formats standard input.";
+
+const EXAMPLES: &str = "Modes:
+  fix               rewrites each file that differs (the default)
+  check             tells which files differ
+  print_if_changed  writes what becomes of each file that differs to standard output
+
+Examples:
+  buildifier BUILD lib/BUILD.bazel
+  buildifier --mode=check lib/BUILD
+  buildifier < BUILD";
+
 fn mode<'a>(alloc: Global) -> Arg<'a>
     ensures rule { rule_of result ≡ mode_rule }
     ensures local { result.global ≡ false }
 {
-    Arg::new(alloc, "mode").long("mode")
+    Arg::new(alloc, "mode").long("mode").value_name("MODE").help(
+        "What is done with a file that differs: fix, check or print_if_changed",
+    )
 }
 
 fn file<'a>(alloc: Global) -> Arg<'a>
     ensures rule { rule_of result ≡ file_rule }
     ensures local { result.global ≡ false }
 {
-    Arg::new(alloc, "file").action(ArgAction::Append)
+    Arg::new(alloc, "file")
+        .value_name("FILE")
+        .action(ArgAction::Append)
+        .help("BUILD files, each by its own name")
+}
+
+fn described<'a>(alloc: Global) -> Command<'a>
+    ensures { app_of result ≡ nameless_buildifier }
+{
+    Command::new(alloc, "buildifier")
+        .no_binary_name(true)
+        .about(ABOUT)
+        .after_help(EXAMPLES)
 }
 
 fn buildifier_command<'a>(alloc: Global) -> Result<Command<'a>, AllocError>
     ensures { IfOk result (λ command. app_of command ≡ buildifier_app) }
 {
-    Command::new(alloc, "buildifier")
-        .no_binary_name(true)
-        .arg(mode(alloc))?
-        .arg(file(alloc))
+    described(alloc).arg(mode(alloc))?.arg(file(alloc))
 }
 
-fn parse<'a, S: AsStr>(alloc: Global, words: &'a [S]) -> Result<ArgMatches<'a>, LineFault>
+fn parse<'a, S: AsStr>(alloc: Global, words: &'a [S]) -> Result<ArgMatches<'a>, FormatUsage<'a>>
     ensures ok { IfOk result (λ m. (fault_of buildifier_app (map S.text words.entry.now) ≡ [])
         × (rows_of (found_of m) ≡ matches_of buildifier_app (map S.text words.entry.now))) }
-    ensures usage { (e : _) → IsErrOf result (LineFault.Usage e)
-        → fault_of buildifier_app (map S.text words.entry.now) ≢ [] }
+    ensures err { IfErr result (λ fault. IfSome (usage_of fault) (λ usage. format_line (map S.text words.entry.now) ≡ Err usage)) }
 {
     let command = match buildifier_command(alloc) {
         Ok(command) => command,
-        Err(_) => return Err(LineFault::Memory),
+        Err(_) => return Err(FormatUsage::Memory),
     };
     match command.try_get_matches_from(words) {
         Ok(matches) => Ok(matches),
-        Err(error) if error.kind() == ErrorKind::OutOfMemory => Err(LineFault::Memory),
-        Err(error) => Err(LineFault::Usage(error)),
+        Err(error) if error.kind() == ErrorKind::OutOfMemory => Err(FormatUsage::Memory),
+        Err(error) => Err(FormatUsage::Line(error)),
     }
-}
-
-fn text_of<'a>(matches: &ArgMatches<'a>, id: &str) -> Option<&'a str>
-    ensures { option_map (λ s. s.now) result ≡ first_of id.now (rows_of (found_of matches.now)) }
-{
-    matches.get_str(id)
 }
 
 /// The line of the words. Errors: `Line` where clap finds a fault; `NoMode` where the mode named is none; `Memory`: a
@@ -84,11 +101,7 @@ pub(crate) fn read_format_line<'a, S: AsStr>(
     ensures ok { IfOk result (λ line. format_line (map S.text words.entry.now) ≡ Ok (seen_line line)) }
     ensures err { IfErr result (λ fault. IfSome (usage_of fault) (λ usage. format_line (map S.text words.entry.now) ≡ Err usage)) }
 {
-    let matches = match parse(alloc, words) {
-        Ok(matches) => matches,
-        Err(LineFault::Memory) => return Err(FormatUsage::Memory),
-        Err(LineFault::Usage(error)) => return Err(FormatUsage::Line(error)),
-    };
+    let matches = parse(alloc, words)?;
     let name = text_of(&matches, "mode").unwrap_or("fix");
     let Some(mode) = Mode::called(name) else {
         return Err(FormatUsage::NoMode(name));

@@ -16,11 +16,10 @@ use crate::effect::{
 };
 use crate::format_line::{FormatLine, FormatUsage, read_format_line};
 use crate::mode::Mode;
-use crate::told::tell_clap;
 use crate::{Cut, Exit, Sink, Source};
 use bz_files::Files;
 use bz_journal::format;
-use bz_ports::{InputFault, MOST, STDIN, read_most, tell};
+use bz_ports::{InputFault, MOST, STDIN, read_most, tell, tell_clap};
 use std::alloc::{AllocError, Global};
 use std::convert::AsStr;
 

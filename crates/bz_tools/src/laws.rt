@@ -1,16 +1,6 @@
 //! Facts about the definitions, for readers: the functions do nothing.
 ghost use Rattle.bz_tools.specs.FormatExact.{WholeRunsAreExact};
-ghost use Rattle.bz_tools.specs.Worked.{WorkedWords, WorkedRefusals, WorkedFormats};
-
-/// What lines of words ask for, worked out by hand.
-pub fn worked_words()
-    ensures { WorkedWords }
-{}
-
-/// How refusals are told, worked out by hand.
-pub fn worked_refusals()
-    ensures { WorkedRefusals }
-{}
+ghost use Rattle.bz_tools.specs.Worked.{WorkedFormats};
 
 /// What buildifier's words, modes and faults mean, worked out by hand.
 pub fn worked_formats()

@@ -48,10 +48,9 @@
 //! | `sorted KIND` | an attribute | whether its lists are sorted in a rule of the kind |
 //! | `labels`, `lists` | an attribute | whether its texts are labels, whether one value of it becomes a list |
 //! | `session PACKAGE` | actions, and a text | the reply to each, the place in the history, and the present text |
-//! | `buildifier WORDS` | standard input, and files, each behind a line with its name | status, standard error, standard output, and each file that is changed |
-//! | `buildozer WORDS` | standard input | status, standard error and standard output |
-//! | `words` | words of buildozer, and standard input | the same |
-//! | `status` | the same | the status, and on which of the two something is written |
+//! | `buildifier WORDS`, `buildozer WORDS` | standard input, and files, each behind a line with its name | status, standard error, standard output, and each file that is changed |
+//! | `words` | words of buildozer, standard input, and files | the same |
+//! | `status` | the same | the status, on which of the two outputs something is written, and each file that is changed |
 //!
 //! An action is `COMMAND TARGET`, `format`, `undo N` or `redo N`. Words are separated by spaces; one that is empty or holds spaces stands in double quotes.
 #![tactic(auto)]

@@ -1,9 +1,10 @@
 //! Runs of the programs over readers and writers in memory.
 use crate::case::{Case, CaseFault, text_of};
 use crate::page::Page;
+use bz_engine::buildozer;
 use bz_files::MemoryFiles;
 use bz_items::Memory;
-use bz_tools::{Cut, Exit, MemorySink, MemorySource, buildifier, buildozer};
+use bz_tools::{Cut, Exit, MemorySink, MemorySource, buildifier};
 use std::alloc::Global;
 
 /// What is asked of a run.
@@ -37,19 +38,37 @@ impl RunQuery {
         }
     }
 
+    /// Writes what a run leaves over the standard input and the files of the case; then each file that it changed.
     pub(crate) fn answer(self, case: &Case, page: &mut Page) -> Result<(), CaseFault> {
-        let (line, input) = match self {
-            RunQuery::Buildifier => return formatted(case, page),
-            RunQuery::Buildozer => (case.argument()?, case.bytes(0)?),
-            RunQuery::Words | RunQuery::Status => (case.text(0)?, case.bytes(1)?),
+        let alloc = case.alloc;
+        let (line, place) = match self {
+            RunQuery::Buildifier | RunQuery::Buildozer => (case.argument()?, 0),
+            RunQuery::Words | RunQuery::Status => (case.text(0)?, 1),
         };
-        let words = words_of(case.alloc, line)?;
-        let left = run(case.alloc, words.as_slice(), input);
+        let words = words_of(alloc, line)?;
+        let input = case.bytes(place)?;
+        let given = files_of(case, place + 1)?;
+        let mut files = MemoryFiles::of(alloc, given.as_slice())?;
+        let left = self.run(alloc, words.as_slice(), input, &mut files);
         match self {
-            RunQuery::Status => left.show_status(case.alloc, page)?,
-            _ => left.show(case.alloc, page)?,
+            RunQuery::Status => left.show_status(alloc, page)?,
+            _ => left.show(alloc, page)?,
         }
-        Ok(())
+        show_changed(given.as_slice(), &files, page)
+    }
+
+    /// A run of the program, of which nothing has to be known here.
+    fn run(self, alloc: Global, words: &[&str], input: &[u8], files: &mut MemoryFiles) -> Left {
+        let mut source = MemorySource::new(input, STEP, 0);
+        let mut out = MemorySink::new(alloc, STEP, 0);
+        let mut err = MemorySink::new(alloc, STEP, 0);
+        let exit = match self {
+            RunQuery::Buildifier => {
+                buildifier(alloc, words, &mut source, &mut out, &mut err, files)
+            }
+            _ => buildozer(alloc, words, &mut source, &mut out, &mut err, files),
+        };
+        Left { exit, out, err }
     }
 }
 
@@ -61,21 +80,23 @@ fn file_of(text: &[u8]) -> Result<(&str, &[u8]), CaseFault> {
     }
 }
 
-/// Writes what a run of `buildifier` leaves over standard input, the first text of the case, and the files that the others
-/// are; then each file that it changed.
-fn formatted(case: &Case, page: &mut Page) -> Result<(), CaseFault> {
-    let alloc = case.alloc;
-    let input = case.bytes(0)?;
-    let words = words_of(alloc, case.argument()?)?;
-    let mut given = Vec::new(alloc);
-    for text in case.texts.as_slice().iter().skip(1) {
+/// The files of a case: its texts from this place on.
+fn files_of(case: &Case, place: usize) -> Result<Vec<(&str, &[u8])>, CaseFault> {
+    let mut files = Vec::new(case.alloc);
+    for text in case.texts.as_slice().iter().skip(place) {
         let file = file_of(text.as_slice())?;
-        given.push(file).map_err(Memory::from)?;
+        files.push(file).map_err(Memory::from)?;
     }
-    let mut files = MemoryFiles::of(alloc, given.as_slice())?;
-    let left = format_files(alloc, words.as_slice(), input, &mut files);
-    left.show(alloc, page)?;
-    for &(name, before) in given.as_slice() {
+    Ok(files)
+}
+
+/// Writes each file that is another one than was given.
+fn show_changed(
+    given: &[(&str, &[u8])],
+    files: &MemoryFiles,
+    page: &mut Page,
+) -> Result<(), CaseFault> {
+    for &(name, before) in given {
         let after = files.bytes_at(name).unwrap_or_default();
         if after != before {
             page.answer(name.as_bytes())?;
@@ -83,15 +104,6 @@ fn formatted(case: &Case, page: &mut Page) -> Result<(), CaseFault> {
         }
     }
     Ok(())
-}
-
-/// A run of `buildifier`, of which nothing has to be known here.
-fn format_files(alloc: Global, words: &[&str], input: &[u8], files: &mut MemoryFiles) -> Left {
-    let mut source = MemorySource::new(input, STEP, 0);
-    let mut out = MemorySink::new(alloc, STEP, 0);
-    let mut err = MemorySink::new(alloc, STEP, 0);
-    let exit = buildifier(alloc, words, &mut source, &mut out, &mut err, files);
-    Left { exit, out, err }
 }
 
 /// The words of a line: what stands between spaces, and what stands between double quotes.
@@ -109,15 +121,6 @@ fn words_of(alloc: Global, line: &str) -> Result<Vec<&str>, Memory> {
         is_quoted = !is_quoted;
     }
     Ok(words)
-}
-
-/// A run of `buildozer`, of which nothing has to be known here.
-fn run(alloc: Global, words: &[&str], input: &[u8]) -> Left {
-    let mut source = MemorySource::new(input, STEP, 0);
-    let mut out = MemorySink::new(alloc, STEP, 0);
-    let mut err = MemorySink::new(alloc, STEP, 0);
-    let exit = buildozer(alloc, words, &mut source, &mut out, &mut err);
-    Left { exit, out, err }
 }
 
 impl Left {

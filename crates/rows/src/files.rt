@@ -1,4 +1,5 @@
-//! buildifier over files in memory: when it writes one, and what it does where they fail.
+//! The programs over files in memory: when they write one, and what they do where one fails.
+use bz_engine::buildozer;
 use bz_files::MemoryFiles;
 use bz_tools::{Cut, Exit, MemorySink, MemorySource, buildifier};
 use std::alloc::Global;
@@ -14,6 +15,14 @@ fn format_files(alloc: Global, words: &[&str], files: &mut MemoryFiles) -> Exit 
     let mut out = MemorySink::new(alloc, STEP, 0);
     let mut err = MemorySink::new(alloc, STEP, 0);
     buildifier(alloc, words, &mut input, &mut out, &mut err, files)
+}
+
+/// A run of buildozer over these files.
+fn edit_files(alloc: Global, words: &[&str], files: &mut MemoryFiles) -> Exit {
+    let mut input = MemorySource::new(b"", STEP, 0);
+    let mut out = MemorySink::new(alloc, STEP, 0);
+    let mut err = MemorySink::new(alloc, STEP, 0);
+    buildozer(alloc, words, &mut input, &mut out, &mut err, files)
 }
 
 fn is(exit: Exit, cut: Cut, status: u8) -> bool {
@@ -61,5 +70,27 @@ fn failing_files(rt: HostRuntime) -> Result<(), Fail> {
     assert!(rt; is(format_files(alloc, &["f", "g"], &mut files), Cut::Files, 3));
     assert!(rt; files.bytes_at("g") == Some(FORMATTED));
     assert!(rt; MemoryFiles::new(alloc).bytes_at("f").is_none());
+    Ok(())
+}
+
+// A package of which `BUILD.bazel` fails is edited in `BUILD`; one that is not read or not written stays. Each is told to be
+// cut by the files.
+#[test]
+fn failing_packages(rt: HostRuntime) -> Result<(), Fail> {
+    let alloc = rt.alloc();
+    for (call, is_edited) in [(1, true), (2, false), (3, false)] {
+        let mut files = MemoryFiles::of(alloc, &[("a/BUILD", b"f(name=\"x\")\n")])?;
+        files.fail_at(call);
+        assert!(rt;
+            is(
+                edit_files(alloc, &["delete", "//a:x"], &mut files),
+                Cut::Files,
+                2
+            ),
+            "at {call}"
+        );
+        let left = files.bytes_at("a/BUILD").unwrap_or(b"none");
+        assert!(rt; left.is_empty() == is_edited, "at {call}");
+    }
     Ok(())
 }

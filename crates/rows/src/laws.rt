@@ -18,6 +18,7 @@ fn laws_that_require_nothing(_rt: HostRuntime) {
     bz_token::by_characters();
     bz_lex::laws::one_lexing();
     bz_lex::laws::coded_leaves();
+    bz_tree::laws::one_reading();
     bz_tree::laws::one_file();
     bz_tree::laws::legal_by_nodes();
     bz_tree::laws::worked_lines();
@@ -26,6 +27,7 @@ fn laws_that_require_nothing(_rt: HostRuntime) {
     bz_label::laws::label_functions();
     bz_value::worked_gaps();
     bz_view::worked_views();
+    bz_view::views_are_proper();
     bz_view::comments_kept();
     bz_rule::worked_bodies();
     bz_hosts::hosts_by_place();
@@ -74,8 +76,8 @@ fn laws_that_require_nothing(_rt: HostRuntime) {
     bz_print::worked_prints();
     bz_journal::worked_histories();
     bz_journal::formatted_once();
-    bz_tools::worked_words();
-    bz_tools::worked_refusals();
+    bz_line::worked_lines();
+    bz_engine::worked_refusals();
     bz_tools::worked_formats();
     bz_tools::whole_runs_are_exact();
 }

@@ -1,5 +1,7 @@
 //! A run of buildozer over readers and writers in memory.
-use bz_tools::{Cut, MemorySink, MemorySource, buildozer};
+use bz_engine::buildozer;
+use bz_files::MemoryFiles;
+use bz_tools::{Cut, MemorySink, MemorySource};
 use std::alloc::Global;
 
 /// How many bytes the reader gives and the writers take at a time, and which call of each fails, from 1; at 0 none does.
@@ -37,7 +39,8 @@ pub(crate) fn run(alloc: Global, words: &[&str], input: &[u8], devices: Devices)
     let mut source = MemorySource::new(input, devices.step, devices.read);
     let mut out = MemorySink::new(alloc, devices.step, devices.write);
     let mut err = MemorySink::new(alloc, devices.step, devices.error);
-    let exit = buildozer(alloc, words, &mut source, &mut out, &mut err);
+    let mut files = MemoryFiles::new(alloc);
+    let exit = buildozer(alloc, words, &mut source, &mut out, &mut err, &mut files);
     Left {
         cut: exit.cut,
         status: exit.status,

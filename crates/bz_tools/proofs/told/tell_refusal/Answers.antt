@@ -1,4 +1,0 @@
-use Rattle.bz_tools.proofs.told.tell_refusal.Goals as goal
-
-pub returns : goal.returns
-returns g c = rw (c.name.ensures, c.number.ensures) at c.tell_numbered.ensures
