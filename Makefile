@@ -1,6 +1,6 @@
 # make        proves and builds every program, leaves it in bin/, and shows a first run
 # make test   the tests: runs of the programs (tests/), every proof from nothing, the edits that the prover must refuse, each program and each test
-# make bench  the time and the memory of a delete in a large file, and of reading one; with FOLDER=.. of the BUILD files there
+# make bench  the time and the memory of a delete in a large file, of a run over many packages, and of reading a file; with FOLDER=.. of the BUILD files there
 # make corpus FOLDER=..   reads each BUILD file below the folder, spells it back byte for byte, and formats it twice
 
 PROGRAMS = bin/buildozer bin/buildifier bin/measure
@@ -46,6 +46,7 @@ test: rt
 
 bench: $(PROGRAMS)
 	@bench/delete.sh
+	@bench/packages.py
 	@bench/reading.sh $(if $(FOLDER),"$(FOLDER)")
 
 corpus: bin/measure bin/buildifier

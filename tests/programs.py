@@ -7,7 +7,8 @@ once, by rt try, with no proof: what the engine does is proved, and here it is s
 streams, and passes its status on. A line for each failure; the last one is 'N passed, M failed'.
 
 With a command behind it, as 'tests/programs.py rt ci', that runs too, and the last line adds its last line's numbers; the
-program buildifier that it built then runs over real files (tests/files.py).
+programs that it built then run over real files: buildifier over single ones (tests/files.py), buildozer over packages
+(tests/workspace.py).
 """
 import os
 import pathlib
@@ -18,6 +19,7 @@ import sys
 import tempfile
 
 import files
+import workspace
 
 TOP = pathlib.Path(__file__).resolve().parent.parent
 # what rt try writes: behind a heading of its name each run's standard output, and in front of its result its standard error
@@ -88,13 +90,13 @@ def run_folders(program):
     return len(folders) - failed, failed if folders else 1
 
 
-def run_files():
-    """Runs the built program over real files."""
-    built = TOP / "crates/buildifier/out/buildifier"
-    failed = files.failures(built) if built.exists() else ["no program was built"]
-    for name in failed:
-        print(f"tests/files.py: {name}", flush=True)
-    return max(len(files.SCENES) - len(failed), 0), len(failed)
+def run_scenes(script, program):
+    """Runs the built program through the scenes of a script; without a program none of them is passed."""
+    built = TOP / "crates" / program / "out" / program
+    failed = script.failures(built) if built.exists() else ["no program was built"] * len(script.SCENES)
+    for name in dict.fromkeys(failed):
+        print(f"tests/{script.__name__}.py: {name}", flush=True)
+    return len(script.SCENES) - len(failed), len(failed)
 
 
 def main():
@@ -102,8 +104,10 @@ def main():
     if sys.argv[1:]:
         print("runs of the programs: {} passed, {} failed".format(*map(sum, zip(*counts))), flush=True)
         counts.append(counts_of(sys.argv[1:]))
-        counts.append(run_files())
+        counts.append(run_scenes(files, "buildifier"))
         print("runs over real files: {} passed, {} failed".format(*counts[-1]), flush=True)
+        counts.append(run_scenes(workspace, "buildozer"))
+        print("runs over packages: {} passed, {} failed".format(*counts[-1]), flush=True)
     passed, failed = map(sum, zip(*counts))
     print(f"{passed} passed, {failed} failed")
     return 1 if failed else 0

@@ -1,0 +1,298 @@
+#!/usr/bin/env python3
+"""Runs the built program buildozer in small workspaces of its own, and looks at what it leaves there.
+
+The engine over packages and files is proved; here it is seen that the files of the system are found, read and replaced as
+it is said of them. Each run is compared with what must come: its status, both of its outputs, and the names and the bytes
+of all files after it, so that what no command changes must be as it was, and nothing else may be left. Where the script
+runs as root the program runs as nobody, since rights are nothing to root.
+
+    tests/workspace.py PROGRAM
+"""
+import os
+import pathlib
+import shutil
+import subprocess
+import sys
+import tempfile
+
+NOBODY = 65534
+
+# A text of two rules without the layout, and what deleting one of them leaves of it.
+ODD = b'f(name="x")\ng( name="y" )\n'
+NO_X = b'g(name = "y")\n'
+NO_Y = b'f(name = "x")\n'
+
+# One package has BUILD.bazel, one has both names, of which BUILD.bazel is taken, and one has BUILD.
+THREE = {"BUILD.bazel": ODD, "a/BUILD.bazel": ODD, "a/BUILD": ODD, "a/b/BUILD": ODD}
+FOUND = ["BUILD.bazel", "a/BUILD.bazel", "a/b/BUILD"]
+ALL_X = ["//:x", "//a:x", "//a/b:x"]
+
+
+def fixed(*names):
+    return b"".join(b"fixed %s\n" % name.encode() for name in names)
+
+
+def lines_of(*lines):
+    return "".join(line + "\n" for line in lines).encode()
+
+
+def bytes_of(file):
+    """The bytes of a file, also of one that nobody may read."""
+    mode = file.stat().st_mode & 0o7777
+    if not os.access(file, os.R_OK):
+        file.chmod(0o600)
+    content = file.read_bytes()
+    file.chmod(mode)
+    return content
+
+
+class Workspace:
+    """A folder in which the program runs."""
+
+    def __init__(self, program, path, files):
+        self.program = program
+        self.path = pathlib.Path(path)
+        self.wrong = []
+        for name, content in files.items():
+            file = self.path / name
+            file.parent.mkdir(parents=True, exist_ok=True)
+            file.write_bytes(content)
+
+    def left(self):
+        """What stands in each file, by its name."""
+        files = [file for file in self.path.rglob("*") if not file.is_dir()]
+        return {str(file.relative_to(self.path)): bytes_of(file) for file in files}
+
+    def ended(self, words, text):
+        """The status, standard output and standard error of a run."""
+        user = {}
+        if os.geteuid() == 0:
+            user = {"user": NOBODY, "group": NOBODY, "extra_groups": []}
+            for file in [self.path, *self.path.rglob("*")]:
+                os.chown(file, NOBODY, NOBODY, follow_symlinks=False)
+        run = subprocess.run([self.program, *words], cwd=self.path, input=text, capture_output=True, timeout=60, **user)
+        return run.returncode, run.stdout, run.stderr
+
+    def leaves(self, words, status, out=b"", err=b"", after={}, text=b"", lines=b"", begins=False):
+        """Whether a run, which may find a file of lines, ends so, with this on its outputs and these files after it; all
+        others stay. Of standard error the beginning alone may be compared."""
+        if lines:
+            (self.path / "lines").write_bytes(lines)
+        files = {**self.left(), **after}
+        ended = self.ended(words, text)
+        told = ended[2][: len(err)] if begins else ended[2]
+        pairs = {"status": (ended[0], status), "output": (ended[1], out), "errors": (told, err), "files": (self.left(), files)}
+        wrong = [f"{words}: {name}: {is_!r}, and not {want!r}" for name, (is_, want) in pairs.items() if is_ != want]
+        self.wrong += wrong
+        return not wrong
+
+
+REFUSED = b"buildozer: BUILD.bazel: delete: NoTarget (41)\n"
+MISSING = b"none/BUILD: cannot open\n"
+
+# A run in the three packages for each row: its name, its words, its status, and what it leaves.
+RUNS = [
+    ("each package has its own file", ["delete", *ALL_X], 0, {"err": fixed(*FOUND), "after": dict.fromkeys(FOUND, NO_X)}),
+    ("files are written in order of first use", ["delete", "//a/b:x", "//:y", "//a/b:y"], 0,
+     {"err": fixed("a/b/BUILD", "BUILD.bazel"), "after": {"a/b/BUILD": b"", "BUILD.bazel": NO_Y}}),
+    ("--quiet tells no file that was written", ["--quiet", "delete", *ALL_X], 0, {"after": dict.fromkeys(FOUND, NO_X)}),
+    ("--quiet tells what is refused", ["--quiet", "delete", "//:x", "//:none"], 2, {"err": REFUSED, "after": {"BUILD.bazel": NO_X}}),
+    ("--stdout gives texts in order of first use", ["--stdout", "delete", "//a/b:x", "//:y"], 0, {"out": NO_X + NO_Y}),
+    ("--stdout leaves out what no command changed", ["--stdout", "set kind f", "//a:x", "//:y"], 0,
+     {"out": NO_Y + b'\nf(name = "y")\n'}),
+    ("the first failure ends a run, and what came before it is written", ["delete", "//:x", "//:none", "//a:x"], 2,
+     {"err": REFUSED + fixed("BUILD.bazel"), "after": {"BUILD.bazel": NO_X}}),
+    ("the first failure ends the commands of its target", ["delete", "undo 7", "new f z", "//a:x"], 2,
+     {"err": b"buildozer: a/BUILD.bazel: undo 7: TooFar (61)\n" + fixed("a/BUILD.bazel"), "after": {"a/BUILD.bazel": NO_X}}),
+    ("-k goes on behind a failure", ["-k", "delete", "//:x", "//:none", "//a:x"], 2,
+     {"err": REFUSED + fixed("BUILD.bazel", "a/BUILD.bazel"), "after": {"BUILD.bazel": NO_X, "a/BUILD.bazel": NO_X}}),
+    ("a missing package ends a run", ["delete", "//a:x", "//none:x", "//:x"], 2,
+     {"err": MISSING + fixed("a/BUILD.bazel"), "after": {"a/BUILD.bazel": NO_X}}),
+    ("-k passes over a missing package, which is told once", ["-k", "print name", "delete", "//none:x", "//a:x"], 2,
+     {"out": b"x\n", "err": MISSING + fixed("a/BUILD.bazel"), "after": {"a/BUILD.bazel": NO_X}}),
+    ("two targets of one file are one session, written once", ["delete", "//a:x", "a:y"], 0,
+     {"err": fixed("a/BUILD.bazel"), "after": {"a/BUILD.bazel": b""}}),
+    ("a target of no package is the root's", ["delete", ":x"], 0, {"err": fixed("BUILD.bazel"), "after": {"BUILD.bazel": NO_X}}),
+    ("what only prints leaves the files", ["print name kind", "//:all", "//a/b:x"], 3, {"out": b"x f\ny g\nx f\n"}),
+    ("printed lines come before the texts", ["--stdout", "print name", "delete", "//a:x", "//:y"], 0, {"out": b"x\ny\n" + NO_X + NO_Y}),
+    ("standard input that is only printed is left out", ["--", "print name", "-:all", "//a:all"], 3, {"out": b"x\ny\nx\ny\n", "text": ODD}),
+    ("the text of standard input comes beside files that are written", ["--", "print name", "delete", "-:x", "//a:x"], 0,
+     {"out": b"x\nx\n" + NO_X, "err": fixed("a/BUILD.bazel"), "after": {"a/BUILD.bazel": NO_X}, "text": ODD}),
+    ("standard input has its place among the texts", ["--stdout", "--", "delete", "//a:y", "-:x"], 0, {"out": NO_Y + NO_X, "text": ODD}),
+    ("lines of a file edit standard input", ["-f", "lines"], 0, {"lines": lines_of("delete|-:x", "print name|a:y"), "out": b"y\n" + NO_X, "text": ODD}),
+    ("standard input is given back beside a file that fails", ["-k", "--", "set n 1", "undo", "-:x", "//none:x"], 2,
+     {"out": ODD, "err": MISSING, "text": ODD}),
+]
+
+# A run over lines of standard input for each row: what a line does is there for the next one, which can take it back.
+LINES = [
+    ("lines of one file are one session", lines_of("delete|//a:x", "delete|a:y"), 0,
+     {"err": fixed("a/BUILD.bazel"), "after": {"a/BUILD.bazel": b""}}),
+    ("undo goes across lines", lines_of("delete|//a:x", "delete|a:y", "undo|//a:all"), 0,
+     {"err": fixed("a/BUILD.bazel"), "after": {"a/BUILD.bazel": NO_X}}),
+    ("undo of all lines leaves the file", lines_of("delete|//a:x", "delete|a:y", "undo 2|//a:all"), 3, {}),
+    ("comments and empty lines are passed over", b"# delete|//a:y\n\n\ndelete|//a:x", 0,
+     {"err": fixed("a/BUILD.bazel"), "after": {"a/BUILD.bazel": NO_X}}),
+    ("a line that fails ends the run", lines_of("delete|//:x|//:none", "delete|//a:x"), 2,
+     {"err": REFUSED + fixed("BUILD.bazel"), "after": {"BUILD.bazel": NO_X}}),
+]
+
+# Usage faults: the words, what is told, and the lines of standard input. Of clap's own text only the beginning is compared.
+FAULTS = [
+    ([], b"buildozer: no command\n", b""),
+    (["//a:x"], b"buildozer: no command\n", b""),
+    (["delete"], b"buildozer: no target\n", b""),
+    (["delete", "//a:x", "//a/:x"], b"buildozer: //a/:x: BadTarget (12)\n", b""),
+    (["delete", "//a:x", "make it"], b"buildozer: make it: Unknown (31)\n", b""),
+    (["delete", "//a:x", "rename deps", "make it"], b"buildozer: rename deps: Arguments (32)\n", b""),
+    (["delete", "substitute deps ( x", "//a:x"], b"buildozer: substitute deps ( x: BadPattern (33)\n", b""),
+    (["-f", "lines", "//a:x"], b"buildozer: operands beside -f\n", b""),
+    (["-f", "none"], b"none: cannot open\n", b""),
+    (["-f", "a"], b"a: cannot open\n", b""),
+    (["-f", "odd"], b"odd: NotUtf8 at 13\n", b""),
+    (["-f", "comments"], b"comments: no operands\n", b""),
+    (["-f", "-"], b"<stdin>: no operands\n", b""),
+    (["-f", "-"], b"<stdin>: NotUtf8 at 13\n", b"delete|//a:x\n\xff"),
+    (["-f", "-"], b"buildozer: package - cannot be edited beside -f -\n", lines_of("delete|//a:x", "delete|-:x")),
+    (["-f", "-"], b"buildozer: no target\n", lines_of("delete|//a:x", "delete")),
+    (["-f", "-"], b"buildozer: : Unknown (31)\n", lines_of("delete|//a:x", "delete||//a:x")),
+    (["--journal", "delete", "//a:x"], b"error: unexpected argument '--journal' found\n", b""),
+    (["--none", "delete", "//a:x"], b"error: unexpected argument '--none' found\n", b""),
+    (["-k", "-k", "delete", "//a:x"], b"error: the argument '-k' cannot be used multiple times\n", b""),
+    (["delete", "//a:x", "--help"], b"Applies commands to the rules of BUILD files.\n", b""),
+]
+
+
+def a_hundred_lines(w):
+    """Lines over all packages, in a file and in standard input; what they make stands in the order of the lines."""
+    kinds = ["//:x", "a:x", "//a/b:all"]
+    lines = ["# a comment|//none:x", ""]
+    for i in range(100):
+        lines += [f"new f n{i}|{kinds[i % 3]}", "", f"#delete|{kinds[i % 3]}"]
+    script = lines_of(*lines)
+    made = [[f'f(name = "n{i}")'.encode() for i in range(100) if i % 3 == k] for k in range(3)]
+    texts = [b"\n\n".join([NO_Y.strip(), NO_X.strip(), *some]) + b"\n" for some in made]
+    after = dict(zip(FOUND, texts))
+    shown = w.leaves(["--stdout", "-f", "-"], 0, out=b"".join(texts), text=script)
+    written = w.leaves(["-f", "lines"], 0, err=fixed(*FOUND), after=after, lines=script)
+    return shown and written
+
+
+def an_unchanged_file_is_not_written(w):
+    """Neither where a command finds nothing to do, nor where undo gives back what was read."""
+    files = [w.path / name for name in FOUND]
+    before = [(file.stat().st_ino, file.stat().st_mtime_ns) for file in files]
+    found = w.leaves(["remove deps", "delete", "undo", *ALL_X], 3)
+    return found and before == [(file.stat().st_ino, file.stat().st_mtime_ns) for file in files]
+
+
+def permission_bits_stay(w):
+    """Also those of a file that nobody may write, since it is replaced by another one."""
+    modes = [0o600, 0o444, 0o755]
+    for name, mode in zip(FOUND, modes):
+        (w.path / name).chmod(mode)
+    kept = w.leaves(["delete", *ALL_X], 0, err=fixed(*FOUND), after=dict.fromkeys(FOUND, NO_X))
+    return kept and [(w.path / name).stat().st_mode & 0o7777 for name in FOUND] == modes
+
+
+def a_closed_folder_is_told(w):
+    """Where no file may be made the file stays, and the others are written."""
+    (w.path / "a").chmod(0o555)
+    err = fixed("BUILD.bazel") + b"a/BUILD.bazel: cannot write\n" + fixed("a/b/BUILD")
+    told = w.leaves(["delete", *ALL_X], 2, err=err, after={"BUILD.bazel": NO_X, "a/b/BUILD": NO_X})
+    (w.path / "a").chmod(0o755)
+    return told
+
+
+def an_unreadable_file_is_told(w):
+    """The second name is taken where the first can't be read, and the run goes on; where none can be, it ends."""
+    (w.path / "a/BUILD.bazel").chmod(0)
+    (w.path / "a/b/BUILD").chmod(0)
+    err = b"a/BUILD.bazel: cannot open\na/b/BUILD: cannot open\n" + fixed("a/BUILD")
+    return w.leaves(["delete", "//a:x", "//a/b:x", "//:x"], 2, err=err, after={"a/BUILD": NO_X})
+
+
+def a_folder_for_the_first_name_is_told(w):
+    """The run goes on with the second name and with the targets behind, and its status tells of it."""
+    (w.path / "a/b/BUILD.bazel").mkdir()
+    err = b"a/b/BUILD.bazel: cannot open\n" + fixed("a/b/BUILD", "BUILD.bazel")
+    return w.leaves(["delete", "//a/b:x", "//:x"], 2, err=err, after={"a/b/BUILD": NO_X, "BUILD.bazel": NO_X})
+
+
+def a_folder_for_the_second_name_is_told(w):
+    (w.path / "c/BUILD").mkdir(parents=True)
+    return w.leaves(["delete", "//c:x", "//:x"], 2, err=b"c/BUILD: cannot open\n")
+
+
+def a_link_becomes_a_file(w):
+    """It is replaced by a rename, and what it names stays."""
+    link = w.path / "c/BUILD"
+    link.parent.mkdir()
+    link.symlink_to("../a/BUILD")
+    changed = w.leaves(["delete", "//c:x"], 0, err=fixed("c/BUILD"), after={"c/BUILD": NO_X})
+    return changed and not link.is_symlink()
+
+
+def a_left_file_is_written_over(w):
+    """What an earlier run left under the new name goes, also where nobody may write it."""
+    left = w.path / "a/BUILD.bazel.bznew"
+    left.write_bytes(b"left")
+    left.chmod(0o400)
+    ended = w.ended(["delete", "//a:x"], b"")
+    return ended == (0, b"", fixed("a/BUILD.bazel")) and w.left() == {**THREE, "a/BUILD.bazel": NO_X}
+
+
+def a_refused_text_is_told(w):
+    """Its place is told, it stays, and with -k the others are edited."""
+    (w.path / "a/b/BUILD").write_bytes(b'f(name="x")\ng(\n')
+    err = b"a/b/BUILD:3:1: Unexpected\n" + fixed("a/BUILD.bazel")
+    return w.leaves(["-k", "delete", "//a/b:x", "//a:x"], 2, err=err, after={"a/BUILD.bazel": NO_X})
+
+
+def a_usage_fault_leaves_all(w):
+    (w.path / "lines").write_bytes(lines_of("delete|//a:x"))
+    (w.path / "odd").write_bytes(b"delete|//a:x\n\xff\n")
+    (w.path / "comments").write_bytes(lines_of("# delete|//a:x", ""))
+    return all([w.leaves(words, 1, err=err, text=text, begins=b"buildozer" not in err) for words, err, text in FAULTS])
+
+
+def a_run(words, status, left):
+    return lambda w: w.leaves(words, status, **left)
+
+
+FUNCTIONS = [
+    a_hundred_lines, an_unchanged_file_is_not_written, permission_bits_stay, a_closed_folder_is_told, an_unreadable_file_is_told,
+    a_folder_for_the_first_name_is_told, a_folder_for_the_second_name_is_told, a_link_becomes_a_file, a_left_file_is_written_over,
+    a_refused_text_is_told, a_usage_fault_leaves_all,
+]  # fmt: skip
+
+# Each scene by its name; each has a workspace of its own.
+SCENES = {name: a_run(words, status, left) for name, words, status, left in RUNS}
+SCENES |= {name: a_run(["-f", "-"], status, {**left, "text": text}) for name, text, status, left in LINES}
+SCENES |= {scene.__name__.replace("_", " "): scene for scene in FUNCTIONS}
+
+
+def failures(program):
+    """The names of the scenes that the program fails, each with what was wrong."""
+    failed = []
+    for name, scene in SCENES.items():
+        with tempfile.TemporaryDirectory() as folder:
+            runs = shutil.copy(program, folder)
+            os.chmod(folder, 0o755)
+            os.chmod(runs, 0o755)
+            workspace = Workspace(runs, pathlib.Path(folder, "workspace"), THREE)
+            if not scene(workspace):
+                failed.append("; ".join([name, *workspace.wrong]))
+    return failed
+
+
+def main():
+    failed = failures(pathlib.Path(sys.argv[1]).resolve())
+    for name in failed:
+        print(f"tests/workspace.py: {name}")
+    print(f"{len(SCENES) - len(failed)} passed, {len(failed)} failed")
+    return 1 if failed else 0
+
+
+if __name__ == "__main__":
+    sys.exit(main())
