@@ -1,6 +1,7 @@
 # make        proves and builds every program, leaves it in bin/, and shows a first run
 # make test   the tests: runs of the programs (tests/), every proof from nothing, the edits that the prover must refuse, each program and each test
 # make bench  the time and the memory of a delete in a large file, of a run over many packages, and of reading a file; with FOLDER=.. of the BUILD files there
+# make shapes how much longer reading takes for twice the text, for texts of thirty shapes (5 minutes)
 # make corpus FOLDER=..   reads each BUILD file below the folder, spells it back byte for byte, and formats it twice
 
 PROGRAMS = bin/buildozer bin/buildifier bin/measure
@@ -8,7 +9,7 @@ PROGRAMS = bin/buildozer bin/buildifier bin/measure
 # what the programs are made of; a second 'make' with nothing changed does nothing
 SOURCES = crates.txt $(shell find crates -name out -prune -o -path '*/must-fail' -prune -o -type f -print)
 
-.PHONY: all test bench corpus clean rt
+.PHONY: all test bench shapes corpus clean rt
 
 all: $(PROGRAMS) bin/.shown
 
@@ -48,6 +49,9 @@ bench: $(PROGRAMS)
 	@bench/delete.sh
 	@bench/packages.py
 	@bench/reading.sh $(if $(FOLDER),"$(FOLDER)")
+
+shapes: bin/measure
+	@bench/shapes.py
 
 corpus: bin/measure bin/buildifier
 	@bench/corpus.sh "$(FOLDER)"

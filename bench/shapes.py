@@ -1,15 +1,14 @@
 #!/usr/bin/env python3
 """How much longer twice the text takes to parse, for texts of thirty shapes: bench/shapes.py [measure].
 
-A text of a shape is some two million bytes, and twice as many; the time is that of `measure parse` less that of `measure
-copy`, each the fastest of several runs of the process. The goal: at most 2.1 times the time for twice the text, on an idle
-machine. Build the program first (make).
+A text of a shape is some two million bytes, and twice as many; the time is the processor's for `measure parse`, less that
+for `measure copy`, each the least of several runs of the process. The goal: at most 2.1 times the time for twice the text,
+on an idle machine. Build the program first (make).
 """
+import os
 import pathlib
-import subprocess
 import sys
 import tempfile
-import time
 
 TOP = pathlib.Path(__file__).resolve().parent.parent
 SIZE = 2_000_000
@@ -56,16 +55,19 @@ def text_of(shape, size):
     return front + unit * ((size - len(front) - len(back)) // len(unit)) + back
 
 
-def fastest(measure, work, path):
-    """The seconds of the fastest run, or None where the text is not accepted."""
+def least(measure, work, path):
+    """The least seconds of the processor that a run takes, or None where the text is not accepted."""
     best = None
     for _ in range(ROUNDS):
-        with open(path, "rb") as text:
-            begun = time.perf_counter()
-            run = subprocess.run([measure, work], stdin=text, stdout=subprocess.DEVNULL, stderr=subprocess.DEVNULL)
-            seconds = time.perf_counter() - begun
-        if run.returncode:
+        child = os.fork()
+        if child == 0:
+            os.dup2(os.open(path, os.O_RDONLY), 0)
+            os.dup2(os.open(os.devnull, os.O_WRONLY), 1)
+            os.execv(measure, [measure, work])
+        _, status, used = os.wait4(child, 0)
+        if status:
             return None
+        seconds = used.ru_utime + used.ru_stime
         best = seconds if best is None else min(best, seconds)
     return best
 
@@ -79,7 +81,7 @@ def main():
             times = []
             for size in (SIZE, 2 * SIZE):
                 path.write_text(text_of(shape, size))
-                parsed, copied = fastest(measure, "parse", path), fastest(measure, "copy", path)
+                parsed, copied = least(measure, "parse", path), least(measure, "copy", path)
                 times.append(parsed - copied if parsed and copied else None)
             if None in times:
                 sys.exit(f"bench/shapes.py: the text of {name} is not accepted")
