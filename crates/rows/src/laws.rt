@@ -1,5 +1,6 @@
 //! The laws: functions that do nothing, whose contracts say something of all texts, labels, trees or values. A call shows
 //! that what a law requires can be met.
+use bz_journal::{Session, history_kept};
 use bz_label::{Label, LabelFault, Target, TargetFault, shorten, shorten_repeat};
 use bz_tree::{ReadFault, parse};
 use std::alloc::Global;
@@ -45,6 +46,7 @@ fn laws_that_require_nothing(_rt: HostRuntime) {
     bz_files::worked_folders();
     bz_files::folder_reads_back();
     bz_files::other_files_stay();
+    bz_pattern::text_stays_text();
     bz_words::identifiers_are_names();
     bz_words::worked_words();
     bz_words::worked_identifiers();
@@ -117,6 +119,12 @@ fn one_tree(alloc: Global) -> Result<(), ReadFault> {
     Ok(())
 }
 
+fn one_history(alloc: Global) -> Result<(), ReadFault> {
+    let session = Session::open(alloc, "p", b"x = [1]\n")?;
+    history_kept(&session);
+    Ok(())
+}
+
 #[test]
 fn laws_that_require_something(rt: HostRuntime) -> Result<(), Fail> {
     one_label(rt.alloc())?;
@@ -124,5 +132,6 @@ fn laws_that_require_something(rt: HostRuntime) -> Result<(), Fail> {
     one_short(rt.alloc())?;
     one_repeat(rt.alloc())?;
     one_tree(rt.alloc())?;
+    one_history(rt.alloc())?;
     Ok(())
 }
