@@ -117,13 +117,13 @@ def failures(program):
     return failed
 
 
-def main():
-    failed = failures(pathlib.Path(sys.argv[1]).resolve())
+def report(script, scenes, failed):
+    """Prints the scenes of a script that failed and how many passed, and gives the status of that."""
     for name in failed:
-        print(f"tests/files.py: {name}")
-    print(f"{len(SCENES) - len(failed)} passed, {len(failed)} failed")
+        print(f"tests/{script}.py: {name}")
+    print(f"{len(scenes) - len(failed)} passed, {len(failed)} failed")
     return 1 if failed else 0
 
 
 if __name__ == "__main__":
-    sys.exit(main())
+    sys.exit(report("files", SCENES, failures(pathlib.Path(sys.argv[1]).resolve())))

@@ -15,6 +15,8 @@ import subprocess
 import sys
 import tempfile
 
+from files import report
+
 NOBODY = 65534
 
 # A text of two rules without the layout, and what deleting one of them leaves of it.
@@ -286,13 +288,5 @@ def failures(program):
     return failed
 
 
-def main():
-    failed = failures(pathlib.Path(sys.argv[1]).resolve())
-    for name in failed:
-        print(f"tests/workspace.py: {name}")
-    print(f"{len(SCENES) - len(failed)} passed, {len(failed)} failed")
-    return 1 if failed else 0
-
-
 if __name__ == "__main__":
-    sys.exit(main())
+    sys.exit(report("workspace", SCENES, failures(pathlib.Path(sys.argv[1]).resolve())))
