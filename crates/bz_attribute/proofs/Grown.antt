@@ -1,7 +1,7 @@
 -- Sums that a change makes no smaller: of numbers, and of lists of any element.
 use Rattle.std.proofs.Common.{◌≡◌, ◌≤◌, ℕ, ◌+◌, Bool, List, [], ◌∷◌, ◌++◌, map, arith}
 use Rattle.bz_value.specs.Counted.{total}
-use Rattle.bz_view.proofs.Sums.{append_total}
+use Rattle.bz_value.proofs.Totals.{append_total}
 use Rattle.bz_rule.specs.Values.{on_first, on_third}
 use Rattle.bz_rule.proofs.ProperChanges.{by_test}
 use Rattle.bz_attribute.specs.Attributes.{on_first_that}

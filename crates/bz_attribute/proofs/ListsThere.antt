@@ -8,7 +8,7 @@ use Rattle.bz_tree.specs.declared.kind.Kind.TheVariants as k
 use Rattle.bz_tree.specs.Shapes.{is_kind}
 use Rattle.bz_value.specs.declared.value.Expr.{Expr, Token, Form'}
 use Rattle.bz_rule.specs.Values.{has_kind, parts_of, items_of}
-use Rattle.bz_write.specs.Layout.{is_empty}
+use Rattle.bz_value.specs.Empty.{is_empty}
 use Rattle.bz_attribute.specs.Lists.{has_lists, items_in}
 
 some_step : {X : Type 0} (b c : Bool) (x : X) (xs : List X) → not (is_empty xs) ≡ c → not (is_empty (if b then x ∷ xs else xs)) ≡ (b || c)

@@ -11,7 +11,7 @@ use Rattle.bz_value.specs.Gaps.{Bytes}
 use Rattle.bz_rule.specs.Rules.{body, text_in}
 use Rattle.bz_rule.specs.Values.{has_kind, has_class, parts_of, items_of, with_text, on_row, on_items}
 use Rattle.bz_words.specs.Quoted.{quoted_of}
-use Rattle.bz_write.specs.Layout.{is_empty}
+use Rattle.bz_value.specs.Empty.{is_empty}
 use Rattle.bz_attribute.specs.Attributes.{on_first_that}
 
 abbrev pub lists_of : Expr → List Expr

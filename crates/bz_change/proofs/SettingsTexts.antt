@@ -4,9 +4,12 @@ use Rattle.std.specs.List.{list_all, zip}
 use Rattle.std.specs.Char.{is_ascii_digit}
 use Rattle.std.specs.Str.{all_ascii_digits}
 use Rattle.bz_token.specs.declared.class.Class.TheVariants as c
+use Rattle.bz_value.specs.declared.value.Form.{Form}
 use Rattle.bz_value.specs.declared.value.Expr.{Expr}
+use Rattle.bz_value.specs.declared.value.Expr.TheVariants as e
 use Rattle.bz_value.specs.Gaps.{Bytes}
-use Rattle.bz_rule.specs.Values.{has_class, text_of}
+use Rattle.bz_rule.specs.Values.{has_class, items_of, text_of}
+use Rattle.bz_attribute.proofs.MakingForms as forms
 use Rattle.bz_change.specs.Changes.{is_decimal, are_texts}
 
 digits : (word : Bytes) → all_ascii_digits word ≡ list_all is_ascii_digit word
@@ -39,3 +42,7 @@ texts_by_pairs [] [] same = refl
 texts_by_pairs [] (x ∷ items) same = absurd (omega arith)
 texts_by_pairs (text ∷ texts) [] same = absurd (omega arith)
 texts_by_pairs (text ∷ texts) (x ∷ items) same = ap (λ b. is_pair (text, x) && b) (texts_by_pairs texts items (omega arith))
+
+-- the items of a form
+pub items_Form : (f : Form) → items_of (e.Form f) ≡ f.seq.items
+items_Form f = forms.items_Form f

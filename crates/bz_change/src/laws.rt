@@ -1,20 +1,5 @@
 //! Facts about the definitions, for readers: the functions do nothing.
-ghost use Rattle.bz_change.specs.Laws.{AddedAgain, AddedIsThere, RemovedAgain, RenamedBack};
-
-/// Adding what is there changes nothing.
-pub fn adding_again()
-    ensures { AddedAgain }
-{}
-
-/// What was added is an item of the attribute's lists afterwards.
-pub fn added_is_there()
-    ensures { AddedIsThere }
-{}
-
-/// Removing what was added to an absent attribute gives the arguments before.
-pub fn removing_again()
-    ensures { RemovedAgain }
-{}
+ghost use Rattle.bz_change.specs.Laws.{RenamedBack};
 
 /// Renaming there and back gives the arguments before.
 pub fn renamed_back()

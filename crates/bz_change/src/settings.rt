@@ -145,7 +145,7 @@ fn are_texts(texts: &[Text], items: &[Expr]) -> bool
 }
 
 /// Whether the expression is a list of strings of these texts.
-#[tactic(auto, using(crate::proofs::ListedTests::list_items_Form))]
+#[tactic(auto, using(crate::proofs::SettingsTexts::items_Form))]
 fn is_list_of(texts: &[Text], x: &Expr) -> bool
     ensures { result ≡ (has_kind k.List x.now && are_texts texts.now (items_of x.now)) }
 {

@@ -15,6 +15,12 @@ use Rattle.bz_value.specs.Gaps.{Bytes}
 use Rattle.bz_pattern.specs.Patterns.{substituted}
 use Rattle.bz_words.specs.declared.command.Operation.{Operation}
 use Rattle.bz_words.specs.declared.command.Operation.TheVariants as w
+use Rattle.bz_words.specs.declared.command.RuleOperation.TheVariants as wr
+use Rattle.bz_words.specs.declared.command.AttributeOperation.TheVariants as wa
+use Rattle.bz_words.specs.declared.command.ValueOperation.TheVariants as wv
+use Rattle.bz_words.specs.declared.command.DictOperation.TheVariants as wd
+use Rattle.bz_words.specs.declared.command.LoadOperation.TheVariants as wl
+use Rattle.bz_words.specs.declared.command.CommentOperation.TheVariants as wc
 use Rattle.bz_words.specs.declared.command.Place.{Place}
 use Rattle.bz_words.specs.declared.command.Place.TheVariants.{End, Before, After}
 use Rattle.bz_words.specs.declared.command.Attributes.{Attributes}
@@ -26,8 +32,9 @@ use Rattle.bz_attribute.specs.declared.refusal.Refusal.{Refusal}
 use Rattle.bz_attribute.specs.declared.refusal.Refusal.TheVariants.{NoTarget, NoAttribute, AttributeExists, NotAList, NoSource, NameTaken}
 use Rattle.bz_attribute.specs.Attributes.{is_attribute, has_attribute, is_other_attribute, on_first_that, on_value, with_value, with_new, put}
 use Rattle.bz_attribute.specs.Attributes.{Arguments}
-use Rattle.bz_change.specs.Changes.{value_of, setting, is_set, set, set_if_absent, with_items_added, add, in_value, in_attributes, replaced_item, replace, with_body, substituted_item, substitute, rename, copy, copy_no_overwrite}
-use Rattle.bz_command.specs.Effect.{NewItem, with_arguments, made_of, on_rule, on_arguments, behind_item, on_meant, before_first, behind_first, placed, has_place, with_rule, source_of, on_rules, lacks_rules, kept, on_statement, effect}
+use Rattle.bz_change.specs.Changes.{value_of, setting, is_set, set, set_if_absent, rename, copy, copy_no_overwrite}
+use Rattle.bz_list.specs.Changes.{with_items_added, add, in_value, in_attributes, replaced_item, replace, with_body, substituted_item, substitute}
+use Rattle.bz_command.specs.Effect.{NewItem, with_arguments, made_of, on_rule, on_arguments, behind_item, on_meant, before_first, behind_first, placed, has_place, with_rule, source, on_rules, lacks_rules, kept, on_statement, effect}
 use Rattle.bz_words.specs.declared.command.Host.{Host}
 use Rattle.bz_words.specs.declared.command.Host.TheVariants.{Rule, Attribute, Item as ItemHost}
 use Rattle.bz_words.specs.Printing.{prints}
@@ -45,7 +52,7 @@ use Rattle.bz_attribute.proofs.AttributesAgain.{by_absent, of_found}
 use Rattle.bz_attribute.proofs.FormsAgain.{if_true, if_false, then_if, made}
 use Rattle.bz_attribute.proofs.Grown.{itself, in_turn, both_at_most, last_at_most, Grows, EachGrows, map_grows, first_grows, append_grows, first_that_grows}
 use Rattle.bz_attribute.proofs.GrownArguments.{parts_grow, items_grow, text_grows, on_row_grows, on_lists_grows, on_value_grows, more_grows, plus_grows, with_value_grows, inserted_grows, Grown}
-use Rattle.bz_change.proofs.LawAdding.{grown, strings_for}
+use Rattle.bz_list.proofs.LawAdding.{grown, strings_for}
 
 -- ---- the arguments of a rule that is read
 
@@ -243,30 +250,40 @@ module _ (number : Bytes → ℕ) where
   statement_keeps text (i.Stmt x) = own_grows number text x
 
   rules_keep : (operation : Operation) (current : Bytes) (marks : List Bool) (items : List Item) → keeps_comments operation ≡ true → MadeItems items (on_rules operation current marks items)
-  rules_keep (w.New kind name place) current marks items h = new_keeps kind name place items
-  rules_keep (w.SetIfAbsent name words) current marks items h =
+  rules_keep (w.Rule (wr.New kind name place)) current marks items h = new_keeps kind name place items
+  rules_keep (w.Rule wr.Delete) current marks items h = absurd (true≢false (sym h))
+  rules_keep (w.Rule (wr.SetKind kind)) current marks items h = absurd (true≢false (sym h))
+  rules_keep (w.Attribute (wa.SetIfAbsent name words)) current marks items h =
       meant_keeps (on_arguments (set_if_absent current name words)) (arguments_keep (set_if_absent current name words) (set_if_absent_keeps current name words)) marks items
-  rules_keep (w.Add name words) current marks items h =
-      meant_keeps (on_arguments (add current name words)) (arguments_keep (add current name words) (added_keeps name (strings_for current name words))) marks items
-  rules_keep (w.Replace attributes old new) current marks items h =
-      meant_keeps (on_arguments (replace current attributes old new)) (arguments_keep (replace current attributes old new) (replace_keeps current attributes old new)) marks items
-  rules_keep (w.Substitute attributes pattern template) current marks items h =
-      meant_keeps (on_arguments (substitute current attributes pattern template)) (arguments_keep (substitute current attributes pattern template) (substitute_keeps current attributes pattern template)) marks items
-  rules_keep (w.Rename from to) current marks items h =
+  rules_keep (w.Attribute (wa.Rename from to)) current marks items h =
       meant_keeps (on_arguments (rename from to)) (arguments_keep (rename from to) (rename_keeps from to)) marks items
-  rules_keep (w.CopyNoOverwrite name rule) current marks items h =
-      let found : Option Expr = source_of (w.CopyNoOverwrite name rule) items in
+  rules_keep (w.Attribute (wa.CopyNoOverwrite name rule)) current marks items h =
+      let found : Option Expr = source name rule items in
       meant_keeps (on_arguments (copy_no_overwrite name found)) (arguments_keep (copy_no_overwrite name found) (copy_keeps name found)) marks items
-  rules_keep (w.NewLoad path symbols) current marks items h =
-      subst (λ n. total size items ≤ n) (sym (new_load_same number path symbols items)) (itself (total size items))
-  rules_keep (w.DictAdd name entries) current marks items h =
+  rules_keep (w.Attribute (wa.Set name words)) current marks items h = absurd (true≢false (sym h))
+  rules_keep (w.Attribute (wa.Remove attributes)) current marks items h = absurd (true≢false (sym h))
+  rules_keep (w.Attribute (wa.Copy name rule)) current marks items h = absurd (true≢false (sym h))
+  rules_keep (w.Value (wv.Add name words)) current marks items h =
+      meant_keeps (on_arguments (add current name words)) (arguments_keep (add current name words) (added_keeps name (strings_for current name words))) marks items
+  rules_keep (w.Value (wv.Replace attributes old new)) current marks items h =
+      meant_keeps (on_arguments (replace current attributes old new)) (arguments_keep (replace current attributes old new) (replace_keeps current attributes old new)) marks items
+  rules_keep (w.Value (wv.Substitute attributes pattern template)) current marks items h =
+      meant_keeps (on_arguments (substitute current attributes pattern template)) (arguments_keep (substitute current attributes pattern template) (substitute_keeps current attributes pattern template)) marks items
+  rules_keep (w.Value (wv.Remove name words)) current marks items h = absurd (true≢false (sym h))
+  rules_keep (w.Value (wv.Move from to values)) current marks items h = absurd (true≢false (sym h))
+  rules_keep (w.Dict (wd.Add name entries)) current marks items h =
       meant_keeps (on_arguments (dict_add current name entries)) (arguments_keep (dict_add current name entries) (dict_add_grows number current name entries)) marks items
-  rules_keep (w.Comment Rule text) current marks items h = meant_keeps (λ item. Ok (on_statement (with_comment text) item)) (statement_keeps text) marks items
-  rules_keep (w.Comment (Attribute name) text) current marks items h = commented_keeps current (Attribute name) text marks items
-  rules_keep (w.Comment (ItemHost name word) text) current marks items h = commented_keeps current (ItemHost name word) text marks items
-  rules_keep (w.PrintComment host) current marks items h = meant_keeps (on_arguments (λ xs. Ok xs)) (arguments_keep (λ xs. Ok xs) (λ xs. itself (total whole xs))) marks items
-  rules_keep (w.Print fields) current marks items h = meant_keeps (on_arguments (λ xs. Ok xs)) (arguments_keep (λ xs. Ok xs) (λ xs. itself (total whole xs))) marks items
-  rules_keep _ current marks items h = absurd (true≢false (sym h))
+  rules_keep (w.Dict (wd.Set name entries)) current marks items h = absurd (true≢false (sym h))
+  rules_keep (w.Dict (wd.Remove name keys)) current marks items h = absurd (true≢false (sym h))
+  rules_keep (w.Load (wl.New path symbols)) current marks items h =
+      subst (λ n. total size items ≤ n) (sym (new_load_same number path symbols items)) (itself (total size items))
+  rules_keep (w.Load (wl.Fix fixes)) current marks items h = absurd (true≢false (sym h))
+  rules_keep (w.Comment (wc.Add Rule text)) current marks items h = meant_keeps (λ item. Ok (on_statement (with_comment text) item)) (statement_keeps text) marks items
+  rules_keep (w.Comment (wc.Add (Attribute name) text)) current marks items h = commented_keeps current (Attribute name) text marks items
+  rules_keep (w.Comment (wc.Add (ItemHost name word) text)) current marks items h = commented_keeps current (ItemHost name word) text marks items
+  rules_keep (w.Comment (wc.Print host)) current marks items h = meant_keeps (λ item. Ok item) (λ item. itself (size item)) marks items
+  rules_keep (w.Comment (wc.Remove host)) current marks items h = absurd (true≢false (sym h))
+  rules_keep (w.Print fields) current marks items h = itself (total size items)
 
   kept_keeps : (items : List Item) (text : Result Bytes Refusal) → MadeItems items (kept items text)
   kept_keeps items (Err refusal) = tt

@@ -16,6 +16,12 @@ use Rattle.bz_value.specs.Proper.{IsProperItem}
 use Rattle.bz_words.specs.Proper.{IsKind, IsProperCommand}
 use Rattle.bz_words.specs.declared.command.Operation.{Operation}
 use Rattle.bz_words.specs.declared.command.Operation.TheVariants as w
+use Rattle.bz_words.specs.declared.command.RuleOperation.TheVariants as wr
+use Rattle.bz_words.specs.declared.command.AttributeOperation.TheVariants as wa
+use Rattle.bz_words.specs.declared.command.ValueOperation.TheVariants as wv
+use Rattle.bz_words.specs.declared.command.DictOperation.TheVariants as wd
+use Rattle.bz_words.specs.declared.command.LoadOperation.TheVariants as wl
+use Rattle.bz_words.specs.declared.command.CommentOperation.TheVariants as wc
 use Rattle.bz_words.specs.declared.command.Place.{Place}
 use Rattle.bz_words.specs.declared.command.Place.TheVariants.{End, Before, After}
 use Rattle.bz_rule.specs.Rules.{Rule, rule_of, name_of, is_text, has_kind, has_name}
@@ -27,7 +33,8 @@ use Rattle.bz_rule.proofs.ProperRules.{RuleItem, rule_item, on_statement}
 use Rattle.bz_attribute.specs.Made.{function_of, rule_made}
 use Rattle.bz_command.specs.Targets.{is_rule, on_line, first_mark, meant, may_mean_none}
 use Rattle.bz_attribute.specs.Attributes.{Arguments}
-use Rattle.bz_change.specs.Changes.{set, set_if_absent, add, remove, remove_values, replace, substitute, move, rename, copy, copy_no_overwrite}
+use Rattle.bz_change.specs.Changes.{set, set_if_absent, remove, rename, copy, copy_no_overwrite}
+use Rattle.bz_list.specs.Changes.{add, remove_values, replace, substitute, move}
 use Rattle.bz_words.specs.declared.command.Host.TheVariants as r
 use Rattle.bz_words.specs.Printing.{prints}
 use Rattle.bz_dict.specs.Dicts.{dict_add, dict_set, dict_remove}
@@ -42,7 +49,8 @@ use Rattle.bz_attribute.specs.declared.refusal.Refusal.TheVariants.{NoTarget, Na
 use Rattle.bz_command.specs.Laws.{EffectsStayProper}
 use Rattle.bz_attribute.proofs.ProperAttributes.{Made, Keeps}
 use Rattle.bz_pattern.proofs.TextMatches.{substituted_utf8}
-use Rattle.bz_change.proofs.ProperCommands.{set_keeps, set_if_absent_keeps, add_keeps, remove_keeps, remove_values_keeps, replace_keeps, substitute_keeps, move_keeps, rename_keeps, copy_keeps, copy_no_overwrite_keeps}
+use Rattle.bz_change.proofs.ProperCommands.{set_keeps, set_if_absent_keeps, remove_keeps, rename_keeps, copy_keeps, copy_no_overwrite_keeps}
+use Rattle.bz_list.proofs.ProperCommands.{add_keeps, remove_values_keeps, replace_keeps, substitute_keeps, move_keeps}
 use Rattle.bz_attribute.proofs.ProperMade.{made_rule, kind_function}
 
 abbrev AreItems : List Item → Type 0
@@ -202,34 +210,34 @@ module _ (current : Bytes) (marks : List Bool) (items : List Item) (m : Marked m
   by_statement change f = meant_changed (λ item. Ok (statement_with change item)) (λ item is p. statement_changed change f item p) marks items m h
 
   rules_made : (operation : Operation) → IsProperCommand operation → MadeItems (on_rules operation current marks items)
-  rules_made (w.New kind name place) p = with_rule_made kind name place items (made_rule kind name p.0 p.1) h
-  rules_made w.Delete p = unmarked_items marks items h
-  rules_made (w.SetKind kind) p = meant_changed (λ item. Ok (with_function (function_of kind) item)) (λ item is k. function_changed kind p item is k) marks items m h
-  rules_made (w.Set name words) p = by_arguments (set current name words) (set_keeps current name words p.0 p.1.1)
-  rules_made (w.SetIfAbsent name words) p = by_arguments (set_if_absent current name words) (set_if_absent_keeps current name words p.0 p.1.1)
-  rules_made (w.Add name words) p = by_arguments (add current name words) (add_keeps current name words p.0 p.1.1)
-  rules_made (w.Remove attributes) p = by_arguments (remove attributes) (remove_keeps attributes)
-  rules_made (w.RemoveValues name words) p = by_arguments (remove_values current name words) (remove_values_keeps current name words)
-  rules_made (w.Replace attributes old new) p = by_arguments (replace current attributes old new) (replace_keeps current attributes old new p.2)
-  rules_made (w.Substitute attributes pattern template) p =
+  rules_made (w.Rule (wr.New kind name place)) p = with_rule_made kind name place items (made_rule kind name p.0 p.1) h
+  rules_made (w.Rule wr.Delete) p = unmarked_items marks items h
+  rules_made (w.Rule (wr.SetKind kind)) p = meant_changed (λ item. Ok (with_function (function_of kind) item)) (λ item is k. function_changed kind p item is k) marks items m h
+  rules_made (w.Attribute (wa.Set name words)) p = by_arguments (set current name words) (set_keeps current name words p.0 p.1.1)
+  rules_made (w.Attribute (wa.SetIfAbsent name words)) p = by_arguments (set_if_absent current name words) (set_if_absent_keeps current name words p.0 p.1.1)
+  rules_made (w.Attribute (wa.Remove attributes)) p = by_arguments (remove attributes) (remove_keeps attributes)
+  rules_made (w.Attribute (wa.Rename from to)) p = by_arguments (rename from to) (rename_keeps from to p.1)
+  rules_made (w.Attribute (wa.Copy name rule)) p = by_arguments (copy name (source name rule items)) (copy_keeps name (source name rule items) p.0 (source_value name rule items h))
+  rules_made (w.Attribute (wa.CopyNoOverwrite name rule)) p = by_arguments (copy_no_overwrite name (source name rule items)) (copy_no_overwrite_keeps name (source name rule items) p.0 (source_value name rule items h))
+  rules_made (w.Value (wv.Add name words)) p = by_arguments (add current name words) (add_keeps current name words p.0 p.1.1)
+  rules_made (w.Value (wv.Remove name words)) p = by_arguments (remove_values current name words) (remove_values_keeps current name words)
+  rules_made (w.Value (wv.Replace attributes old new)) p = by_arguments (replace current attributes old new) (replace_keeps current attributes old new p.2)
+  rules_made (w.Value (wv.Substitute attributes pattern template)) p =
       by_arguments (substitute current attributes pattern template) (substitute_keeps current attributes pattern template (λ text u. substituted_utf8 pattern template text p.1 p.2 u))
-  rules_made (w.Move from to values) p = by_arguments (move current from to values) (move_keeps current from to values p.1)
-  rules_made (w.Rename from to) p = by_arguments (rename from to) (rename_keeps from to p.1)
-  rules_made (w.Copy name rule) p = by_arguments (copy name (source name rule items)) (copy_keeps name (source name rule items) p.0 (source_value name rule items h))
-  rules_made (w.CopyNoOverwrite name rule) p = by_arguments (copy_no_overwrite name (source name rule items)) (copy_no_overwrite_keeps name (source name rule items) p.0 (source_value name rule items h))
-  rules_made (w.DictAdd name entries) p = by_arguments (dict_add current name entries) (dict_add_keeps current name entries p.0 p.1)
-  rules_made (w.DictSet name entries) p = by_arguments (dict_set current name entries) (dict_set_keeps current name entries p.0 p.1)
-  rules_made (w.DictRemove name keys) p = by_arguments (dict_remove name keys) (dict_remove_keeps name keys)
-  rules_made (w.NewLoad path symbols) p = new_load_keeps path symbols items p.0 p.1 h
-  rules_made (w.Comment r.Rule text) p = by_statement (with_comment text) (statement_keeps text p.1 p.2)
-  rules_made (w.Comment (r.Attribute name) text) p = by_arguments (comment current (r.Attribute name) text) (comment_keeps current (r.Attribute name) text p.0 p.1 p.2)
-  rules_made (w.Comment (r.Item name word) text) p = by_arguments (comment current (r.Item name word) text) (comment_keeps current (r.Item name word) text p.0 p.1 p.2)
-  rules_made (w.PrintComment host) p = by_arguments (λ xs. Ok xs) (λ xs h. h)
-  rules_made (w.RemoveComment r.Rule) p = by_statement without_comments remove_statement_keeps
-  rules_made (w.RemoveComment (r.Attribute name)) p = by_arguments (remove_comment current (r.Attribute name)) (remove_comment_keeps current (r.Attribute name) p)
-  rules_made (w.RemoveComment (r.Item name word)) p = by_arguments (remove_comment current (r.Item name word)) (remove_comment_keeps current (r.Item name word) p)
-  rules_made (w.Fix fixes) p = fix_keeps fixes items h
-  rules_made (w.Print fields) p = by_arguments (λ xs. Ok xs) (λ xs h. h)
+  rules_made (w.Value (wv.Move from to values)) p = by_arguments (move current from to values) (move_keeps current from to values p.1)
+  rules_made (w.Dict (wd.Add name entries)) p = by_arguments (dict_add current name entries) (dict_add_keeps current name entries p.0 p.1)
+  rules_made (w.Dict (wd.Set name entries)) p = by_arguments (dict_set current name entries) (dict_set_keeps current name entries p.0 p.1)
+  rules_made (w.Dict (wd.Remove name keys)) p = by_arguments (dict_remove name keys) (dict_remove_keeps name keys)
+  rules_made (w.Load (wl.New path symbols)) p = new_load_keeps path symbols items p.0 p.1 h
+  rules_made (w.Load (wl.Fix fixes)) p = fix_keeps fixes items h
+  rules_made (w.Comment (wc.Add r.Rule text)) p = by_statement (with_comment text) (statement_keeps text p.1 p.2)
+  rules_made (w.Comment (wc.Add (r.Attribute name) text)) p = by_arguments (comment current (r.Attribute name) text) (comment_keeps current (r.Attribute name) text p.0 p.1 p.2)
+  rules_made (w.Comment (wc.Add (r.Item name word) text)) p = by_arguments (comment current (r.Item name word) text) (comment_keeps current (r.Item name word) text p.0 p.1 p.2)
+  rules_made (w.Comment (wc.Print host)) p = meant_changed (λ item. Ok item) (λ item is p. p) marks items m h
+  rules_made (w.Comment (wc.Remove r.Rule)) p = by_statement without_comments remove_statement_keeps
+  rules_made (w.Comment (wc.Remove (r.Attribute name))) p = by_arguments (remove_comment current (r.Attribute name)) (remove_comment_keeps current (r.Attribute name) p)
+  rules_made (w.Comment (wc.Remove (r.Item name word))) p = by_arguments (remove_comment current (r.Item name word)) (remove_comment_keeps current (r.Item name word) p)
+  rules_made (w.Print fields) p = h
 
 kept_items : (items : List Item) (text : Result Bytes Refusal) → AreItems items → MadeItems (kept items text)
 kept_items items (Err refusal) h = tt

@@ -1,5 +1,5 @@
 -- Rules by the calls that they are: their arguments changed in place.
-use Rattle.std.proofs.Common.{◌≡◌, ◌≢◌, Bool, true, false, List, [], ◌∷◌, refl, sym, ap, ◌∙◌, true≢false, inl, inr}
+use Rattle.std.proofs.Common.{◌≡◌, Bool, true, false, List, [], ◌∷◌, refl, sym, ap, ◌∙◌, true≢false, inl, inr}
 use Rattle.std.specs.Prelude.{Option, Some, None, IfSome, Ok, option_map, is_some, if◌then◌else◌}
 use Rattle.std.proofs.lemmas.Bool.{cases_Bool}
 use Rattle.std.specs.Option.{option_and_then}
@@ -12,16 +12,12 @@ use Rattle.bz_value.specs.Comments.{HostComments}
 use Rattle.bz_value.specs.Gaps.{Bytes}
 use Rattle.bz_rule.specs.Rules.{Rule, only, form_in, called, named, rule_of, dotted_name}
 use Rattle.bz_rule.specs.Values.{has_kind, parts_of, with_parts, with_items, on_row, on_first}
-use Rattle.bz_words.specs.declared.command.Operation.{Operation}
-use Rattle.bz_words.specs.declared.command.Operation.TheVariants as w
-use Rattle.bz_words.specs.declared.command.Place.{Place}
 use Rattle.bz_command.specs.declared.statements.CallPart.TheVariants.{Arguments as InBrackets}
 use Rattle.bz_command.specs.CallParts.{with_list_in, before_in_call, before_in_row, before_in_statement, before_in}
 use Rattle.bz_command.specs.Targets.{is_rule}
 use Rattle.bz_attribute.specs.Attributes.{Arguments}
 use Rattle.bz_attribute.proofs.FormsAgain.{made, parts_twice, items_twice, parts_kind, parts_filled, row_changed}
-use Rattle.bz_words.specs.declared.command.Host.{Host}
-use Rattle.bz_command.specs.Effect.{arguments_of, with_arguments, made_of, on_rule, on_arguments, on_one}
+use Rattle.bz_command.specs.Effect.{with_arguments, made_of, on_rule, on_arguments}
 
 -- ---- a list put into a place twice
 
@@ -94,16 +90,3 @@ pub rule_changed : (change : List Expr → Arguments) (item : Item) (list new : 
 rule_changed change item list new is made =
     by_rule change item (before_in InBrackets list item) (rule_of item) (in_item list item) is
     ∙ (ap (made_of item) made ∙ ap Ok (sym (arguments_twice new list item)))
-
--- ---- an operation on arguments
-
-pub by_arguments : (operation : Operation) (current : Bytes) (found : Option Expr) (item : Item)
-    → ((kind name : Bytes) (place : Place) → operation ≢ w.New kind name place) → operation ≢ w.Delete → ((kind : Bytes) → operation ≢ w.SetKind kind)
-    → ((host : Host) (text : Bytes) → operation ≢ w.Comment host text) → ((host : Host) → operation ≢ w.RemoveComment host)
-    → on_one operation current found item ≡ on_arguments (arguments_of operation current found) item
-by_arguments (w.New kind name place) current found item new delete set_kind comment remove = absurd (new kind name place refl)
-by_arguments w.Delete current found item new delete set_kind comment remove = absurd (delete refl)
-by_arguments (w.SetKind kind) current found item new delete set_kind comment remove = absurd (set_kind kind refl)
-by_arguments (w.Comment host text) current found item new delete set_kind comment remove = absurd (comment host text refl)
-by_arguments (w.RemoveComment host) current found item new delete set_kind comment remove = absurd (remove host refl)
-by_arguments _ current found item new delete set_kind comment remove = refl

@@ -9,6 +9,14 @@ use Rattle.bz_value.specs.declared.value.Item.TheVariants as i
 use Rattle.bz_value.specs.Gaps.{Bytes}
 use Rattle.bz_words.specs.declared.command.Operation.{Operation}
 use Rattle.bz_words.specs.declared.command.Operation.TheVariants as w
+use Rattle.bz_words.specs.declared.command.RuleOperation.TheVariants as wr
+use Rattle.bz_words.specs.declared.command.AttributeOperation.TheVariants as wa
+use Rattle.bz_words.specs.declared.command.LoadOperation.TheVariants as wl
+use Rattle.bz_words.specs.declared.command.CommentOperation.TheVariants as wc
+use Rattle.bz_words.specs.declared.command.RuleOperation.{RuleOperation}
+use Rattle.bz_words.specs.declared.command.AttributeOperation.{AttributeOperation}
+use Rattle.bz_words.specs.declared.command.LoadOperation.{LoadOperation}
+use Rattle.bz_words.specs.declared.command.CommentOperation.{CommentOperation}
 use Rattle.bz_words.specs.declared.command.Place.{Place}
 use Rattle.bz_words.specs.declared.command.Place.TheVariants.{End, Before, After}
 use Rattle.bz_rule.specs.Rules.{Rule as RuleRead, rule_of, attribute, has_name}
@@ -18,8 +26,9 @@ use Rattle.bz_attribute.specs.declared.refusal.Refusal.TheVariants.{NoTarget, Na
 use Rattle.bz_command.specs.Targets.{meant, may_mean_none}
 use Rattle.bz_attribute.specs.Made.{function_of, rule_made}
 use Rattle.bz_attribute.specs.Attributes.{Arguments}
-use Rattle.bz_change.specs.Changes.{change_of}
-use Rattle.bz_dict.specs.Dicts.{dict_add, dict_set, dict_remove}
+use Rattle.bz_change.specs.Changes.{attributes_changed}
+use Rattle.bz_list.specs.Changes.{values_changed}
+use Rattle.bz_dict.specs.Dicts.{dicts_changed}
 use Rattle.bz_load.specs.Fixes.{fix}
 use Rattle.bz_load.specs.NewLoad.{new_load}
 use Rattle.bz_comment.specs.Hosts.{with_comment, without_comments, comment, remove_comment}
@@ -108,19 +117,22 @@ source name rule [] = None
 source name rule (item ∷ items) = if has_name rule item then value_in name (rule_of item) else source name rule items
 
 -- the value that is copied, from the file as it was
-abbrev pub source_of : Operation → List Item → Option Expr
-source_of (w.Copy name rule) items = source name rule items
-source_of (w.CopyNoOverwrite name rule) items = source name rule items
-source_of _ items = None
+abbrev pub copied_from : AttributeOperation → List Item → Option Expr
+copied_from (wa.Set name words) items = None
+copied_from (wa.SetIfAbsent name words) items = None
+copied_from (wa.Remove attributes) items = None
+copied_from (wa.Rename from to) items = None
+copied_from (wa.Copy name rule) items = source name rule items
+copied_from (wa.CopyNoOverwrite name rule) items = source name rule items
 
--- and with the commands on dicts and on comments
-abbrev pub arguments_of : Operation → Bytes → Option Expr → List Expr → Arguments
-arguments_of (w.DictAdd name entries) current found arguments = dict_add current name entries arguments
-arguments_of (w.DictSet name entries) current found arguments = dict_set current name entries arguments
-arguments_of (w.DictRemove name keys) current found arguments = dict_remove name keys arguments
-arguments_of (w.Comment host text) current found arguments = comment current host text arguments
-arguments_of (w.RemoveComment host) current found arguments = remove_comment current host arguments
-arguments_of operation current found arguments = change_of operation current found arguments
+abbrev pub source_of : Operation → List Item → Option Expr
+source_of (w.Rule operation) items = None
+source_of (w.Attribute operation) items = copied_from operation items
+source_of (w.Value operation) items = None
+source_of (w.Dict operation) items = None
+source_of (w.Load operation) items = None
+source_of (w.Comment operation) items = None
+source_of (w.Print fields) items = None
 
 -- a statement, changed
 abbrev pub on_statement : (Expr → Expr) → Item → Item
@@ -132,29 +144,60 @@ abbrev pub on_host : Host → (Expr → Expr) → NewItem → Item → NewItem
 on_host Rule change others item = Ok (on_statement change item)
 on_host _ change others item = others
 
--- and of the rule itself
+-- the commands on the rule itself
+abbrev pub rule_changed : RuleOperation → Item → NewItem
+rule_changed (wr.New kind name place) item = Ok item
+rule_changed wr.Delete item = Ok item
+rule_changed (wr.SetKind kind) item = Ok (with_function (function_of kind) item)
+
+-- the commands on comments, of the rule itself and among its arguments
+abbrev pub rule_commented : CommentOperation → Bytes → Item → NewItem
+rule_commented (wc.Add host text) current item = on_host host (with_comment text) (on_arguments (comment current host text) item) item
+rule_commented (wc.Print host) current item = Ok item
+rule_commented (wc.Remove host) current item = on_host host without_comments (on_arguments (remove_comment current host) item) item
+
+-- what a command makes of a rule that it is meant for
 abbrev pub on_one : Operation → Bytes → Option Expr → Item → NewItem
-on_one (w.New kind name place) current found item = Ok item
-on_one w.Delete current found item = Ok item
-on_one (w.SetKind kind) current found item = Ok (with_function (function_of kind) item)
-on_one (w.Comment host text) current found item = on_host host (with_comment text) (on_arguments (arguments_of (w.Comment host text) current found) item) item
-on_one (w.RemoveComment host) current found item = on_host host without_comments (on_arguments (arguments_of (w.RemoveComment host) current found) item) item
-on_one operation current found item = on_arguments (arguments_of operation current found) item
+on_one (w.Rule operation) current found item = rule_changed operation item
+on_one (w.Attribute operation) current found item = on_arguments (attributes_changed operation current found) item
+on_one (w.Value operation) current found item = on_arguments (values_changed operation current) item
+on_one (w.Dict operation) current found item = on_arguments (dicts_changed operation current) item
+on_one (w.Load operation) current found item = Ok item
+on_one (w.Comment operation) current found item = rule_commented operation current item
+on_one (w.Print fields) current found item = Ok item
+
+-- the same of each rule that is marked
+abbrev pub on_each : Operation → Bytes → List Bool → List Item → Result (List Item) Refusal
+on_each operation current marks items = on_meant (on_one operation current (source_of operation items)) marks items
+
+-- the commands on what the file loads
+abbrev pub loads_changed : LoadOperation → List Item → List Item
+loads_changed (wl.New path symbols) items = new_load path symbols items
+loads_changed (wl.Fix fixes) items = fix fixes items
 
 -- what a command makes of the rules that are marked
 abbrev pub on_rules : Operation → Bytes → List Bool → List Item → Result (List Item) Refusal
-on_rules (w.New kind name place) current marks items = with_rule kind name place items
-on_rules w.Delete current marks items = Ok (unmarked marks items)
-on_rules (w.NewLoad path symbols) current marks items = Ok (new_load path symbols items)
-on_rules (w.Fix fixes) current marks items = Ok (fix fixes items)
-on_rules operation current marks items = on_meant (on_one operation current (source_of operation items)) marks items
+on_rules (w.Rule (wr.New kind name place)) current marks items = with_rule kind name place items
+on_rules (w.Rule wr.Delete) current marks items = Ok (unmarked marks items)
+on_rules (w.Rule (wr.SetKind kind)) current marks items = on_each (w.Rule (wr.SetKind kind)) current marks items
+on_rules (w.Attribute operation) current marks items = on_each (w.Attribute operation) current marks items
+on_rules (w.Value operation) current marks items = on_each (w.Value operation) current marks items
+on_rules (w.Dict operation) current marks items = on_each (w.Dict operation) current marks items
+on_rules (w.Load operation) current marks items = Ok (loads_changed operation items)
+on_rules (w.Comment operation) current marks items = on_each (w.Comment operation) current marks items
+on_rules (w.Print fields) current marks items = Ok items
 
 -- These look only at the target's package; every other command at the rules that the target means.
 abbrev pub looks_at_rules : Operation → Bool
-looks_at_rules (w.New kind name place) = false
-looks_at_rules (w.NewLoad path symbols) = false
-looks_at_rules (w.Fix fixes) = false
-looks_at_rules _ = true
+looks_at_rules (w.Rule (wr.New kind name place)) = false
+looks_at_rules (w.Rule wr.Delete) = true
+looks_at_rules (w.Rule (wr.SetKind kind)) = true
+looks_at_rules (w.Attribute operation) = true
+looks_at_rules (w.Value operation) = true
+looks_at_rules (w.Dict operation) = true
+looks_at_rules (w.Load operation) = false
+looks_at_rules (w.Comment operation) = true
+looks_at_rules (w.Print fields) = true
 
 -- Where a command is meant for rules and none is there, the file is unchanged, or the command is refused.
 abbrev pub lacks_rules : Operation → List Bool → Bool

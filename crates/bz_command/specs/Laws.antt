@@ -7,6 +7,12 @@ use Rattle.bz_value.specs.Counted.{times}
 use Rattle.bz_value.specs.Proper.{IsProper}
 use Rattle.bz_words.specs.declared.command.Operation.{Operation}
 use Rattle.bz_words.specs.declared.command.Operation.TheVariants as w
+use Rattle.bz_words.specs.declared.command.RuleOperation.TheVariants as wr
+use Rattle.bz_words.specs.declared.command.AttributeOperation.TheVariants as wa
+use Rattle.bz_words.specs.declared.command.ValueOperation.TheVariants as wv
+use Rattle.bz_words.specs.declared.command.DictOperation.TheVariants as wd
+use Rattle.bz_words.specs.declared.command.LoadOperation.TheVariants as wl
+use Rattle.bz_words.specs.declared.command.CommentOperation.TheVariants as wc
 use Rattle.bz_words.specs.Proper.{IsProperCommand}
 use Rattle.bz_command.specs.Effect.{effect}
 
@@ -21,19 +27,29 @@ EffectsStayProper =
 
 -- the operations that lose no comment
 abbrev pub keeps_comments : Operation → Bool
-keeps_comments (w.New kind name place) = true
-keeps_comments (w.SetIfAbsent name words) = true
-keeps_comments (w.Add name words) = true
-keeps_comments (w.Replace attributes old new) = true
-keeps_comments (w.Substitute attributes pattern template) = true
-keeps_comments (w.Rename from to) = true
-keeps_comments (w.CopyNoOverwrite name rule) = true
-keeps_comments (w.DictAdd name entries) = true
-keeps_comments (w.NewLoad path symbols) = true
-keeps_comments (w.Comment host text) = true
-keeps_comments (w.PrintComment host) = true
+keeps_comments (w.Rule (wr.New kind name place)) = true
+keeps_comments (w.Rule wr.Delete) = false
+keeps_comments (w.Rule (wr.SetKind kind)) = false
+keeps_comments (w.Attribute (wa.Set name words)) = false
+keeps_comments (w.Attribute (wa.SetIfAbsent name words)) = true
+keeps_comments (w.Attribute (wa.Remove attributes)) = false
+keeps_comments (w.Attribute (wa.Rename from to)) = true
+keeps_comments (w.Attribute (wa.Copy name rule)) = false
+keeps_comments (w.Attribute (wa.CopyNoOverwrite name rule)) = true
+keeps_comments (w.Value (wv.Add name words)) = true
+keeps_comments (w.Value (wv.Remove name words)) = false
+keeps_comments (w.Value (wv.Replace attributes old new)) = true
+keeps_comments (w.Value (wv.Substitute attributes pattern template)) = true
+keeps_comments (w.Value (wv.Move from to values)) = false
+keeps_comments (w.Dict (wd.Add name entries)) = true
+keeps_comments (w.Dict (wd.Set name entries)) = false
+keeps_comments (w.Dict (wd.Remove name keys)) = false
+keeps_comments (w.Load (wl.New path symbols)) = true
+keeps_comments (w.Load (wl.Fix fixes)) = false
+keeps_comments (w.Comment (wc.Add host text)) = true
+keeps_comments (w.Comment (wc.Print host)) = true
+keeps_comments (w.Comment (wc.Remove host)) = false
 keeps_comments (w.Print fields) = true
-keeps_comments _ = false
 
 -- They leave each comment at least as often as it stood there.
 abbrev pub CommentsStay : Type 0

@@ -1,3 +1,4 @@
+pub mod ArgumentChanges
 pub mod CallParts
 pub mod Effect
 pub mod Laws

@@ -14,6 +14,7 @@ use Rattle.bz_label.specs.declared.target.Which.{Which}
 use Rattle.bz_label.specs.declared.target.Which.TheVariants.{All, Kind as OfKind, Line, Package, Name}
 use Rattle.bz_words.specs.declared.command.Operation.{Operation}
 use Rattle.bz_words.specs.declared.command.Operation.TheVariants as w
+use Rattle.bz_words.specs.declared.command.RuleOperation.TheVariants as wr
 use Rattle.bz_attribute.specs.declared.refusal.Refusal.TheVariants.{NoTarget}
 use Rattle.bz_rule.specs.Rules.{rule_of}
 use Rattle.bz_attribute.specs.declared.refusal.Refusal.{Refusal}
@@ -56,7 +57,7 @@ abbrev made : Operation → Which → List Item → Result (List Item) Refusal
 made operation which items = effect operation (record { «package» = codes "-"; which = which }) (codes "p") (1 ∷ 2 ∷ 3 ∷ []) items
 
 abbrev deleted : Which → List Item → Result (List Item) Refusal
-deleted which items = made w.Delete which items
+deleted which items = made (w.Rule wr.Delete) which items
 
 abbrev Rules : Type 0
 Rules =

@@ -11,7 +11,7 @@ use bz_items::Text;
 use bz_print::push_rule;
 use bz_rule::call_of;
 use bz_value::{Expr, Item};
-use bz_words::{Host, Operation};
+use bz_words::{CommentOperation, Host, Operation};
 use std::alloc::Global;
 
 /// The line on which an item begins, where it is on one, and the lines of the statements behind it.
@@ -65,12 +65,17 @@ fn push_one(
     ensures err { IfErr result (λ refusal. (printed_one operation.now current.now (option_map decimal line) item.now ≡ Err refusal) ⊎ (refusal ≡ Refusal.Memory)) }
 {
     match operation {
-        Operation::PrintComment { host } => {
+        Operation::Comment(CommentOperation::Print { host }) => {
             let text = print_host(alloc, current, host, item)?;
             out.extend_from_slice(text.as_slice())?;
         }
         Operation::Print { fields } => push_rule(alloc, out, line, item, fields.as_slice())?,
-        _ => {}
+        Operation::Comment(CommentOperation::Add { .. } | CommentOperation::Remove { .. })
+        | Operation::Rule(_)
+        | Operation::Attribute(_)
+        | Operation::Value(_)
+        | Operation::Dict(_)
+        | Operation::Load(_) => {}
     }
     Ok(())
 }

@@ -4,7 +4,7 @@ ghost use Rattle.std.specs.List.{list_any};
 ghost use Rattle.std.specs.Option.{option_copied};
 ghost use Rattle.bz_value.specs.declared.value.Item.{Item};
 ghost use Rattle.bz_rule.specs.Rules.{has_name};
-ghost use Rattle.bz_command.specs.Effect.{before_first, behind_first, has_place, on_meant, on_one, on_rules, placed, source_of, unmarked, with_rule};
+ghost use Rattle.bz_command.specs.Effect.{before_first, behind_first, copied_from, has_place, loads_changed, on_each, on_meant, on_one, on_rules, placed, source_of, unmarked, with_rule};
 
 use crate::statements::{on_one, source};
 use bz_attribute::{Refusal, rule_made};
@@ -12,7 +12,7 @@ use bz_items::{Items, Memory};
 use bz_load::{fix, new_load};
 use bz_rule::has_name;
 use bz_value::{Expr, Item};
-use bz_words::{Operation, Place};
+use bz_words::{AttributeOperation, LoadOperation, Operation, Place, RuleOperation};
 use std::alloc::Global;
 
 /// What an operation makes of an item: where it isn't marked, a copy.
@@ -152,17 +152,78 @@ fn with_rule(
     Ok(with_item(alloc, at, rule, items)?)
 }
 
+/// The value that an operation on attributes copies.
+fn copied_from<'a>(operation: &AttributeOperation, items: &'a [Item]) -> Option<&'a Expr>
+    ensures { option_copied result ≡ copied_from operation.now items.now }
+{
+    match operation {
+        AttributeOperation::Copy { attribute, rule } => {
+            source(attribute.as_slice(), rule.as_slice(), items)
+        }
+        AttributeOperation::CopyNoOverwrite { attribute, rule } => {
+            source(attribute.as_slice(), rule.as_slice(), items)
+        }
+        AttributeOperation::Set { .. }
+        | AttributeOperation::SetIfAbsent { .. }
+        | AttributeOperation::Remove { .. }
+        | AttributeOperation::Rename { .. } => None,
+    }
+}
+
 /// The value that is copied.
 fn source_of<'a>(operation: &Operation, items: &'a [Item]) -> Option<&'a Expr>
     ensures { option_copied result ≡ source_of operation.now items.now }
 {
     match operation {
-        Operation::Copy { attribute, rule } => source(attribute.as_slice(), rule.as_slice(), items),
-        Operation::CopyNoOverwrite { attribute, rule } => {
-            source(attribute.as_slice(), rule.as_slice(), items)
-        }
-        _ => None,
+        Operation::Attribute(operation) => copied_from(operation, items),
+        Operation::Rule(_)
+        | Operation::Value(_)
+        | Operation::Dict(_)
+        | Operation::Load(_)
+        | Operation::Comment(_)
+        | Operation::Print { .. } => None,
     }
+}
+
+/// What an operation makes of each of the items that are marked; the others are copied.
+fn on_each(
+    alloc: Global,
+    operation: &Operation,
+    current: &[u8],
+    marks: &[bool],
+    items: &[Item],
+) -> Result<Items<Item>, Refusal>
+    requires { length marks.now ≡ length items.now }
+    ensures ok { IfOk result (λ new. on_each operation.now current.now marks.now items.now ≡ Ok new) }
+    ensures err { IfErr result (λ refusal. (on_each operation.now current.now marks.now items.now ≡ Err refusal) ⊎ (refusal ≡ Refusal.Memory)) }
+{
+    let found = source_of(operation, items);
+    on_meant(alloc, operation, current, found, marks, items)
+}
+
+/// What an operation on the symbols that the file loads makes of its items.
+fn change_loads(
+    alloc: Global,
+    operation: &LoadOperation,
+    items: &[Item],
+) -> Result<Items<Item>, Memory>
+    ensures { IfOk result (λ new. new ≡ loads_changed operation.now items.now) }
+{
+    match operation {
+        LoadOperation::New { path, symbols } => {
+            new_load(alloc, path.as_slice(), symbols.as_slice(), items)
+        }
+        LoadOperation::Fix { fixes } => fix(alloc, *fixes, items),
+    }
+}
+
+/// Copies of the items.
+fn copied(alloc: Global, items: &[Item]) -> Result<Items<Item>, Memory>
+    ensures { IfOk result (λ new. new ≡ items.now) }
+{
+    let mut all = Items::new(alloc);
+    push_copies(items, &mut all)?;
+    Ok(all)
 }
 
 /// What an operation makes of the items, of which those that it is meant for are marked.
@@ -178,17 +239,18 @@ pub(crate) fn on_rules(
     ensures err { IfErr result (λ refusal. (on_rules operation.now current.now marks.now items.now ≡ Err refusal) ⊎ (refusal ≡ Refusal.Memory)) }
 {
     match operation {
-        Operation::New { kind, name, place } => {
-            with_rule(alloc, kind.as_slice(), name.as_slice(), place, items)
-        }
-        Operation::Delete => Ok(unmarked(alloc, marks, items)?),
-        Operation::NewLoad { path, symbols } => {
-            Ok(new_load(alloc, path.as_slice(), symbols.as_slice(), items)?)
-        }
-        Operation::Fix { fixes } => Ok(fix(alloc, *fixes, items)?),
-        _ => {
-            let found = source_of(operation, items);
-            on_meant(alloc, operation, current, found, marks, items)
-        }
+        Operation::Rule(rule) => match rule {
+            RuleOperation::New { kind, name, place } => {
+                with_rule(alloc, kind.as_slice(), name.as_slice(), place, items)
+            }
+            RuleOperation::Delete => Ok(unmarked(alloc, marks, items)?),
+            RuleOperation::SetKind { .. } => on_each(alloc, operation, current, marks, items),
+        },
+        Operation::Attribute(_)
+        | Operation::Value(_)
+        | Operation::Dict(_)
+        | Operation::Comment(_) => on_each(alloc, operation, current, marks, items),
+        Operation::Load(load) => Ok(change_loads(alloc, load, items)?),
+        Operation::Print { .. } => Ok(copied(alloc, items)?),
     }
 }

@@ -14,17 +14,22 @@ use bz_attribute::Refusal;
 use bz_items::{Items, Text};
 use bz_label::{Target, Which};
 use bz_value::{File, Item};
-use bz_words::{Command, Operation};
+use bz_words::{Command, Operation, RuleOperation};
 use std::alloc::Global;
 
 /// Whether an operation is meant for rules that are there.
 fn looks_at_rules(operation: &Operation) -> bool
     ensures { result ≡ looks_at_rules operation.now }
 {
-    !matches!(
-        operation,
-        Operation::New { .. } | Operation::NewLoad { .. } | Operation::Fix { .. }
-    )
+    match operation {
+        Operation::Rule(RuleOperation::New { .. }) | Operation::Load(_) => false,
+        Operation::Rule(RuleOperation::Delete | RuleOperation::SetKind { .. })
+        | Operation::Attribute(_)
+        | Operation::Value(_)
+        | Operation::Dict(_)
+        | Operation::Comment(_)
+        | Operation::Print { .. } => true,
+    }
 }
 
 /// Whether an item is marked.

@@ -1,5 +1,5 @@
 //! What a command makes of one rule.
-ghost use Rattle.std.specs.Prelude.{◌≡◌, ◌⊎◌, [], ◌∷◌, Ok, Err, OnOk, IfErr};
+ghost use Rattle.std.specs.Prelude.{◌≡◌, ◌⊎◌, [], ◌∷◌, Ok, Err, OnOk, IfErr, IfOk};
 ghost use Rattle.std.specs.Option.{option_copied};
 ghost use Rattle.bz_rule.specs.Rules.{rule_of};
 ghost use Rattle.bz_tree.specs.declared.kind.Kind.TheVariants as k;
@@ -7,19 +7,20 @@ ghost use Rattle.bz_rule.specs.Values.{on_first, on_row};
 ghost use Rattle.bz_comment.specs.Changes.{changed_by};
 ghost use Rattle.bz_command.specs.CallParts.{with_list, with_list_in, before_in_call, before_in_row, before_in_statement, before_in};
 ghost use Rattle.bz_attribute.specs.Made.{function_of};
-ghost use Rattle.bz_change.specs.Changes.{change_of};
-ghost use Rattle.bz_command.specs.Effect.{arguments_of, on_arguments, on_host, on_one, on_statement, source, value_in, with_function};
+ghost use Rattle.bz_command.specs.ArgumentChanges.{arguments_of, comments_changed};
+ghost use Rattle.bz_command.specs.Effect.{on_arguments, on_host, on_one, on_statement, rule_changed, rule_commented, source, value_in, with_function};
 
 use crate::targets::is_rule;
 use bz_attribute::{Refusal, function_of};
-use bz_change::change_arguments;
+use bz_change::change_attributes;
 use bz_comment::{Change, change_comments, change_own};
-use bz_dict::{dict_add, dict_remove, dict_set};
+use bz_dict::change_dicts;
 use bz_items::{Items, Memory};
+use bz_list::change_values;
 use bz_rule::{attribute, call_of, has_name};
 use bz_tree::Kind;
 use bz_value::{Expr, Item};
-use bz_words::{Host, Operation};
+use bz_words::{CommentOperation, Host, Operation, RuleOperation};
 use std::alloc::Global;
 use std::mem;
 
@@ -84,46 +85,50 @@ fn exchange(alloc: Global, part: CallPart, list: &mut Items<Expr>, item: &mut It
     }
 }
 
-/// What an operation makes of the arguments of a rule that it is meant for. `found` is the value that is copied.
-fn change(
+/// What an operation on comments makes of those that stand among the arguments of a rule.
+fn change_comments_of(
     alloc: Global,
-    operation: &Operation,
+    operation: &CommentOperation,
     current: &[u8],
-    found: Option<&Expr>,
-    arguments: &mut Items<Expr>,
-) -> Result<(), Refusal>
-    ensures ok { OnOk result (arguments_of operation.now current.now (option_copied found.entry) arguments.old ≡ Ok arguments.new) }
-    ensures err { IfErr result (λ refusal. (arguments_of operation.now current.now (option_copied found.entry) arguments.old ≡ Err refusal) ⊎ (refusal ≡ Refusal.Memory)) }
+    arguments: Items<Expr>,
+) -> Result<Items<Expr>, Refusal>
+    ensures ok { IfOk result (λ new. comments_changed operation.now current.now arguments ≡ Ok new) }
+    ensures err { IfErr result (λ refusal. (comments_changed operation.now current.now arguments ≡ Err refusal) ⊎ (refusal ≡ Refusal.Memory)) }
 {
     match operation {
-        Operation::DictAdd { attribute, entries } => dict_add(
-            alloc,
-            current,
-            attribute.as_slice(),
-            entries.as_slice(),
-            arguments,
-        ),
-        Operation::DictSet { attribute, entries } => dict_set(
-            alloc,
-            current,
-            attribute.as_slice(),
-            entries.as_slice(),
-            arguments,
-        ),
-        Operation::DictRemove { attribute, keys } => {
-            dict_remove(alloc, attribute.as_slice(), keys.as_slice(), arguments)
-        }
-        Operation::Comment { host, text } => change_comments(
+        CommentOperation::Add { host, text } => change_comments(
             alloc,
             current,
             host,
             Change::Add(text.as_slice()),
             arguments,
         ),
-        Operation::RemoveComment { host } => {
+        CommentOperation::Print { .. } => Ok(arguments),
+        CommentOperation::Remove { host } => {
             change_comments(alloc, current, host, Change::Remove, arguments)
         }
-        _ => change_arguments(alloc, operation, current, found, arguments),
+    }
+}
+
+/// What an operation makes of the arguments of a rule that it is meant for. `found` is the value that is copied.
+fn change(
+    alloc: Global,
+    operation: &Operation,
+    current: &[u8],
+    found: Option<&Expr>,
+    arguments: Items<Expr>,
+) -> Result<Items<Expr>, Refusal>
+    ensures ok { IfOk result (λ new. arguments_of operation.now current.now (option_copied found.entry) arguments ≡ Ok new) }
+    ensures err { IfErr result (λ refusal. (arguments_of operation.now current.now (option_copied found.entry) arguments ≡ Err refusal) ⊎ (refusal ≡ Refusal.Memory)) }
+{
+    match operation {
+        Operation::Attribute(operation) => {
+            change_attributes(alloc, operation, current, found, arguments)
+        }
+        Operation::Value(operation) => change_values(alloc, operation, current, arguments),
+        Operation::Dict(operation) => change_dicts(alloc, operation, current, arguments),
+        Operation::Comment(operation) => change_comments_of(alloc, operation, current, arguments),
+        Operation::Rule(_) | Operation::Load(_) | Operation::Print { .. } => Ok(arguments),
     }
 }
 
@@ -143,8 +148,8 @@ fn change_rule(
     }
     let mut arguments = Items::new(alloc);
     exchange(alloc, CallPart::Arguments, &mut arguments, item);
-    change(alloc, operation, current, found, &mut arguments)?;
-    exchange(alloc, CallPart::Arguments, &mut arguments, item);
+    let mut changed = change(alloc, operation, current, found, arguments)?;
+    exchange(alloc, CallPart::Arguments, &mut changed, item);
     Ok(())
 }
 
@@ -189,6 +194,16 @@ fn on_host(
     }
 }
 
+/// What an operation on rules makes of one that stays.
+fn change_whole(alloc: Global, operation: &RuleOperation, item: &mut Item) -> Result<(), Memory>
+    ensures { OnOk result (rule_changed operation.now item.old ≡ Ok item.new) }
+{
+    match operation {
+        RuleOperation::New { .. } | RuleOperation::Delete => Ok(()),
+        RuleOperation::SetKind { kind } => set_kind(alloc, kind.as_slice(), item),
+    }
+}
+
 /// What an operation makes of a rule that it is meant for. `found` is the value that is copied.
 pub(crate) fn on_one(
     alloc: Global,
@@ -201,16 +216,21 @@ pub(crate) fn on_one(
     ensures err { IfErr result (λ refusal. (on_one operation.now current.now (option_copied found.entry) item.old ≡ Err refusal) ⊎ (refusal ≡ Refusal.Memory)) }
 {
     match operation {
-        Operation::New { .. } | Operation::Delete => Ok(()),
-        Operation::SetKind { kind } => Ok(set_kind(alloc, kind.as_slice(), item)?),
-        Operation::Comment { host, text } => {
-            let change = Change::Add(text.as_slice());
-            on_host(alloc, operation, current, found, host, change, item)
+        Operation::Rule(rule) => Ok(change_whole(alloc, rule, item)?),
+        Operation::Attribute(_) | Operation::Value(_) | Operation::Dict(_) => {
+            change_rule(alloc, operation, current, found, item)
         }
-        Operation::RemoveComment { host } => {
-            on_host(alloc, operation, current, found, host, Change::Remove, item)
-        }
-        _ => change_rule(alloc, operation, current, found, item),
+        Operation::Comment(comment) => match comment {
+            CommentOperation::Add { host, text } => {
+                let change = Change::Add(text.as_slice());
+                on_host(alloc, operation, current, found, host, change, item)
+            }
+            CommentOperation::Print { .. } => Ok(()),
+            CommentOperation::Remove { host } => {
+                on_host(alloc, operation, current, found, host, Change::Remove, item)
+            }
+        },
+        Operation::Load(_) | Operation::Print { .. } => Ok(()),
     }
 }
 

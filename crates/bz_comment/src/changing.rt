@@ -1,5 +1,5 @@
 //! The comments of one expression, changed.
-ghost use Rattle.std.specs.Prelude.{◌≡◌, [], ◌∷◌, ◌++◌, IfOk, OnOk};
+ghost use Rattle.std.specs.Prelude.{◌≡◌, [], ◌∷◌, ◌++◌, IfOk, OnOk, IsErr};
 ghost use Rattle.std.specs.Option.{option_copied};
 ghost use Rattle.bz_token.specs.Bytes.{is_blank as blank};
 ghost use Rattle.bz_value.specs.Commented.{with_comments};
@@ -100,10 +100,11 @@ fn set_comments(comments: Comments, x: &mut Expr)
 }
 
 /// Changes the comments of an expression: of a rule's statement, of a named argument or of an item. The error: memory was
-/// refused.
+/// refused, and the expression is as before.
 #[tactic(auto, using(crate::proofs::ChangeForms::by_comments))]
 pub fn change_own(alloc: Global, change: Change<'_>, x: &mut Expr) -> Result<(), Memory>
-    ensures { OnOk result (x.new ≡ changed_by change.entry x.old) }
+    ensures ok { OnOk result (x.new ≡ changed_by change.entry x.old) }
+    ensures err { IsErr result → x.new ≡ x.old }
 {
     let comments = comments_made(alloc, change, x.comments())?;
     set_comments(comments, x);

@@ -1,5 +1,5 @@
 //! The comments of hosts among the arguments of a rule, changed.
-ghost use Rattle.std.specs.Prelude.{◌≡◌, ◌⊎◌, Ok, Err, OnOk, IfErr};
+ghost use Rattle.std.specs.Prelude.{◌≡◌, ◌⊎◌, Ok, Err, OnOk, IfErr, IfOk};
 ghost use Rattle.bz_tree.specs.declared.kind.Kind.TheVariants as kinds;
 ghost use Rattle.bz_rule.specs.Rules.{attribute as value_there};
 ghost use Rattle.bz_rule.specs.Values.{on_items};
@@ -191,10 +191,8 @@ fn change_item(
     Ok(())
 }
 
-/// Changes the comments of a host among the arguments of a rule; the rule itself is no part of them. The errors: the
-/// attribute isn't there, or no item of it is the value (`NoAttribute`); its value is no list, and no sum with one
-/// (`NotAList`), and the arguments are as before; memory was refused, and they are of no use.
-pub fn change_comments(
+// Changes the arguments in place; where memory was refused they are of no use.
+fn change_in_place(
     alloc: Global,
     current: &[u8],
     host: &Host,
@@ -216,4 +214,21 @@ pub fn change_comments(
             change_item(alloc, sought, change, arguments)
         }
     }
+}
+
+/// Changes the comments of a host among the arguments of a rule, which are given up where that is refused; the rule itself is no part
+/// of them. The errors: the attribute isn't there, or no item of it is the value (`NoAttribute`); its value is no list, and no sum with
+/// one (`NotAList`); memory was refused.
+pub fn change_comments(
+    alloc: Global,
+    current: &[u8],
+    host: &Host,
+    change: Change<'_>,
+    mut arguments: Items<Expr>,
+) -> Result<Items<Expr>, Refusal>
+    ensures ok { IfOk result (λ new. changed_comments change.entry current.now host.now arguments ≡ Ok new) }
+    ensures err { IfErr result (λ refusal. (changed_comments change.entry current.now host.now arguments ≡ Err refusal) ⊎ (refusal ≡ Refusal.Memory)) }
+{
+    change_in_place(alloc, current, host, change, &mut arguments)?;
+    Ok(arguments)
 }

@@ -20,7 +20,7 @@ use Rattle.bz_value.proofs.FormParts.{AreParts, form_proper}
 use Rattle.bz_words.specs.declared.command.Entry.{Entry}
 use Rattle.bz_words.specs.Proper.{IsAttribute, IsEntry, EachIs, AreSome}
 use Rattle.bz_words.specs.Quoted.{quoted_of}
-use Rattle.bz_write.specs.Layout.{is_empty}
+use Rattle.bz_value.specs.Empty.{is_empty}
 use Rattle.bz_rule.specs.Values.{has_kind, items_of, with_items, on_row, on_items, on_third}
 use Rattle.bz_rule.proofs.ProperBrackets.{lead_before}
 use Rattle.bz_rule.proofs.ProperChanges.{by_test}

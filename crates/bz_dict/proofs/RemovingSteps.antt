@@ -5,7 +5,7 @@ use Rattle.std.specs.List.{filter, list_any}
 use Rattle.bz_tree.specs.declared.kind.Kind.TheVariants as k
 use Rattle.bz_value.specs.declared.value.Expr.{Expr}
 use Rattle.bz_value.specs.Gaps.{Bytes}
-use Rattle.bz_write.specs.Layout.{is_empty}
+use Rattle.bz_value.specs.Empty.{is_empty}
 use Rattle.bz_rule.specs.Rules.{attribute}
 use Rattle.bz_rule.specs.Values.{has_kind, items_of, on_items}
 use Rattle.bz_attribute.specs.declared.refusal.Refusal.TheVariants.{NotADict}

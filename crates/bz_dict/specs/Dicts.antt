@@ -5,7 +5,9 @@ use Rattle.bz_token.specs.declared.class.Class.TheVariants as c
 use Rattle.bz_tree.specs.declared.kind.Kind.TheVariants as k
 use Rattle.bz_value.specs.declared.value.Expr.{Expr}
 use Rattle.bz_value.specs.Gaps.{Bytes}
-use Rattle.bz_write.specs.Layout.{is_empty}
+use Rattle.bz_value.specs.Empty.{is_empty}
+use Rattle.bz_words.specs.declared.command.DictOperation.{DictOperation}
+use Rattle.bz_words.specs.declared.command.DictOperation.TheVariants as wd
 use Rattle.bz_words.specs.declared.command.Entry.{Entry}
 use Rattle.bz_words.specs.Quoted.{quoted_of}
 use Rattle.bz_rule.specs.Rules.{attribute, is_text}
@@ -93,3 +95,9 @@ abbrev pub dict_remove : Bytes → List Bytes → List Expr → Arguments
 dict_remove name keys arguments =
     by_value (attribute name arguments) (Ok arguments)
     (λ value. if has_kind k.Dict value then Ok (without_keys name keys value arguments) else Err NotADict)
+
+-- the table of these commands
+abbrev pub dicts_changed : DictOperation → Bytes → List Expr → Arguments
+dicts_changed (wd.Add name entries) current arguments = dict_add current name entries arguments
+dicts_changed (wd.Set name entries) current arguments = dict_set current name entries arguments
+dicts_changed (wd.Remove name keys) current arguments = dict_remove name keys arguments

@@ -195,7 +195,7 @@ fn change_dict(
 /// absent, it gets a dict of them. `current` is the path of the file's package. A key is there where an entry's key is a
 /// plain string of that body. Errors: `NotADict`: the attribute's value is no dict; `Memory`: a growth was refused. Part of
 /// the arguments is then lost.
-pub fn dict_add(
+pub(crate) fn dict_add(
     alloc: Global,
     current: &[u8],
     name: &[u8],
@@ -210,7 +210,7 @@ pub fn dict_add(
 
 /// As `dict_add`, but where an entry has the key, the first such entry gets the new value. The errors are those of
 /// `dict_add`.
-pub fn dict_set(
+pub(crate) fn dict_set(
     alloc: Global,
     current: &[u8],
     name: &[u8],

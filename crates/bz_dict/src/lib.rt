@@ -5,10 +5,10 @@ mod changing;
 mod entries;
 mod keys;
 mod laws;
+mod operating;
 mod removing;
 
-pub use changing::{dict_add, dict_set};
 pub use laws::{
     added_entries_are_there, adding_entries_again, removing_entries_again, set_entries_are_there,
 };
-pub use removing::dict_remove;
+pub use operating::change_dicts;

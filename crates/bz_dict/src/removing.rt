@@ -5,7 +5,7 @@ ghost use Rattle.bz_value.specs.declared.value.Expr.{Expr as Value};
 ghost use Rattle.bz_tree.specs.declared.kind.Kind.TheVariants as kinds;
 ghost use Rattle.bz_rule.specs.Rules.{attribute as value_there};
 ghost use Rattle.bz_rule.specs.Values.{has_kind as is_of, items_of as items, on_items};
-ghost use Rattle.bz_write.specs.Layout.{is_empty};
+ghost use Rattle.bz_value.specs.Empty.{is_empty};
 ghost use Rattle.bz_dict.specs.Dicts as d;
 ghost use Rattle.bz_dict.specs.Keys.{is_chosen as has_chosen};
 
@@ -86,7 +86,7 @@ fn remove_chosen(
 /// Takes all entries of these keys from the attribute's dict; the attribute goes where its dict is then empty. Nothing
 /// changes where no entry has one of the keys, or the attribute is absent. Errors: `NotADict`: the attribute's value is no
 /// dict; `Memory`: a growth was refused.
-pub fn dict_remove(
+pub(crate) fn dict_remove(
     alloc: Global,
     name: &[u8],
     keys: &[Text],

@@ -5,7 +5,7 @@ use Rattle.std.specs.List.{flat_map}
 use Rattle.std.proofs.lemmas.Grind.{flat_map-append}
 use Rattle.std.proofs.lemmas.List.{append-nil, map-append}
 use Rattle.bz_value.specs.Gaps.{Bytes}
-use Rattle.bz_files.specs.Folder.{Folder, with_file}
+use Rattle.bz_files.specs.Folder.{Folder}
 use Rattle.bz_journal.specs.History.{present}
 use Rattle.bz_workspace.specs.Packages.{Opened, Used}
 use Rattle.bz_engine.specs.Ending.{differs, is_input, is_written, Writing, writing_of, Writes, fixed_lines}
@@ -35,34 +35,27 @@ nothing_at f v (x ∷ xs) (suc i) d within none = nothing_at f v xs i d (omega a
 
 pub writes_more : (files more : List Writing) (before mid after : Folder) → Writes files before mid → Writes more mid after → Writes (files ++ more) before after
 writes_more [] more before mid after first last = rw (sym first) last
-writes_more (file ∷ files) more before mid after first last = (first.0, first.1, writes_more files more first.0 mid after first.2 last)
-
--- files can always be written
-pub writes_exist : (files : List Writing) (before : Folder) → (after : Folder) × Writes files before after
-writes_exist [] before = (before, refl)
-writes_exist (file ∷ files) before =
-    let rest = writes_exist files (with_file before file.0 file.1) in
-    (rest.0, (with_file before file.0 file.1, (λ name other. refl), rest.1))
+writes_more (file ∷ files) more before mid after first last = (first.0, first.1, first.2, writes_more files more first.1 mid after first.3 last)
 
 pub fixed_lines-append : (quiet : Bool) (files more : List Writing) → fixed_lines quiet (files ++ more) ≡ fixed_lines quiet files ++ fixed_lines quiet more
 fixed_lines-append true files more = refl
-fixed_lines-append false files more = map-append (λ (file : Writing). fixed_line file.0) files more
+fixed_lines-append false files more = map-append (λ (file : Writing). fixed_line file.name) files more
 
--- a file and its new bytes, alone
-abbrev one : Bytes → Bytes → List Writing
-one name text = (name, text) ∷ []
+-- a file, what was read of it and its new bytes, alone
+abbrev pub one : Bytes → Bytes → Bytes → List Writing
+one name read text = record { name = name; held = read; bytes = text } ∷ []
 
 -- A file that isn't standard input, whose text is another one than was read.
 pub writing_is : (to_stdout : Bool) (used : Used) (file : Opened) (text : Bytes) → to_stdout ≡ false → is_input used ≡ false → used.file ≡ Some file
-    → Some text ≡ (if differs file then Some (present file.history) else None) → writing_of to_stdout used ≡ (file.name, text) ∷ []
+    → Some text ≡ (if differs file then Some (present file.history) else None) → writing_of to_stdout used ≡ one file.name file.read text
 writing_is to_stdout used file text stays other there new = rw (stays, other, there) (go (differs file) new)
   where
     go : (changed : Bool) → Some text ≡ (if changed then Some (present file.history) else None)
-        → (if is_written false false changed then one file.name (present file.history) else []) ≡ one file.name text
-    go true new = ap (one file.name) (cc (sym new))
+        → (if is_written false false changed then one file.name file.read (present file.history) else []) ≡ one file.name file.read text
+    go true new = ap (one file.name file.read) (cc (sym new))
     go false new = absurd (cc new)
 
-pub written_alone : (before after : Folder) (name text : Bytes) (files : List Writing) (honest : Bool) → files ≡ (name, text) ∷ []
-    → (honest ≡ true → Writes ((name, text) ∷ []) before after) → (honest ≡ true) ⊎ (files ≡ []) → Writes files before after
-written_alone before after name text files honest is writes (inl known) = rw (is) (writes known)
-written_alone before after name text files honest is writes (inr none) = absurd (cc (sym none ∙ is))
+pub written_alone : (before after : Folder) (name read text : Bytes) (files : List Writing) (honest : Bool) → files ≡ one name read text
+    → (honest ≡ true → Writes (one name read text) before after) → (honest ≡ true) ⊎ (files ≡ []) → Writes files before after
+written_alone before after name read text files honest is writes (inl known) = rw (is) (writes known)
+written_alone before after name read text files honest is writes (inr none) = absurd (cc (sym none ∙ is))

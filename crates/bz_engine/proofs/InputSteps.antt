@@ -6,7 +6,7 @@ use Rattle.bz_value.specs.Gaps.{Bytes}
 use Rattle.bz_label.specs.declared.target.Target.{Target}
 use Rattle.bz_line.specs.Asked.{Asked, Asking}
 use Rattle.bz_workspace.specs.Packages.{Opened, Used, with_file, file_at}
-use Rattle.bz_engine.specs.Ending.{file_writing, writings}
+use Rattle.bz_engine.specs.Ending.{Writing, file_writing, writings}
 use Rattle.bz_engine.specs.Outcome.{AreOfInput}
 use Rattle.bz_engine.specs.Run.{World, State, begun, Uses, Answers, Does, Runs}
 use Rattle.bz_engine.specs.Steps.{Step, step_of, steps_of, all_steps, input_package}
@@ -31,7 +31,7 @@ pub no_writings : (to_stdout : Bool) (used : List Used) → AreInput used → wr
 no_writings to_stdout [] are = refl
 no_writings to_stdout (used ∷ more) are =
     ap (λ (current : Bytes). file_writing (bytes_eq current input_package) to_stdout used.file ++ writings to_stdout more) are.0
-    ∙ ap (λ (files : List (Bytes × Bytes)). files ++ writings to_stdout more) (no_writing to_stdout used.file)
+    ∙ ap (λ (files : List Writing). files ++ writings to_stdout more) (no_writing to_stdout used.file)
     ∙ no_writings to_stdout more are.1
 
 -- ---- what steps use

@@ -2,6 +2,7 @@ pub mod ActSteps
 pub mod CutSteps
 pub mod DoSteps
 pub mod EndingSteps
+pub mod HeldSteps
 pub mod InputSteps
 pub mod OpenSteps
 pub mod Outcomes

@@ -15,7 +15,7 @@ use Rattle.bz_engine.specs.Ending.{Left, Performs, Stands, Writes, writings, fix
 use Rattle.bz_engine.specs.Outcome.{AreOfInput}
 use Rattle.bz_engine.specs.Run.{World, State, begun, Runs}
 use Rattle.bz_engine.specs.Steps.{Step, all_steps, shows_input}
-use Rattle.bz_engine.proofs.EndingSteps.{writes_exist}
+use Rattle.bz_engine.proofs.HeldSteps.{writes_exist}
 use Rattle.bz_engine.proofs.InputSteps.{nothing_written}
 
 -- what is left, by the state behind the steps, the lines that they told and the folder behind all
@@ -53,15 +53,17 @@ performed options steps world start told state shown status before after out out
   },
 )
 
--- Standard output failed; what files are given is then as good as any.
+-- Standard output failed; where nothing but the run writes, what is behind its steps could all have been written.
 pub broken_off : (options : Options) (steps : List Step) (world : World) (start : State) (told : List Bytes) (state : State) (shown : Bool)
     (out out' : Option Bytes) → start ≡ begun → Runs world options.keep_going steps start told state → shown ≡ shows_input steps
     → AppendsSome out out' (state.printed ++ texts_out shown options.to_stdout state.used)
     → (left : Left) × Performs options steps world left × AppendsSome out out' left.output
 broken_off options steps world start told state shown out out' begins runs shows appends =
-    let after = writes_exist (writings options.to_stdout state.used) world.folder in (
+    let runs_so : Runs world options.keep_going steps begun told state =
+    subst (λ (from : State). Runs world options.keep_going steps from told state) begins runs in
+    let after = writes_exist options.to_stdout world options.keep_going steps told state runs_so in (
       left_by options steps told state after.0,
-      performs options steps world told state after.0 (subst (λ (from : State). Runs world options.keep_going steps from told state) begins runs) after.1,
+      performs options steps world told state after.0 runs_so after.1,
       subst (λ (show : Bool). AppendsSome out out' (state.printed ++ texts_out show options.to_stdout state.used)) shows appends,
     )
 

@@ -1,5 +1,6 @@
 -- What a run leaves behind its steps: standard output, lines, files and the status.
 use Rattle.std.specs.Prelude.{◌≡◌, ◌&&◌, not, Bool, false, ℕ, List, [], ◌∷◌, ◌++◌, map, bytes_eq, if◌then◌else◌, Option, Some, None}
+use Rattle.std.specs.FinMap.{get}
 use Rattle.std.specs.List.{flat_map, list_any}
 use Rattle.std.specs.Option.{option_map_or}
 use Rattle.std.specs.Io.KnownBytes.{Appends}
@@ -38,9 +39,11 @@ text_out shown to_stdout used = file_out (is_input used) shown to_stdout used.fi
 abbrev pub texts_out : Bool → Bool → List Used → Bytes
 texts_out shown to_stdout used = flat_map (text_out shown to_stdout) used
 
--- a file that is written: its name and its bytes
-abbrev pub Writing : Type 0
-Writing = Bytes × Bytes
+-- a file that is written: its name, the bytes that were read of it, and those that it is given
+pub record Writing : Type 0 where
+  pub name : Bytes
+  pub held : Bytes
+  pub bytes : Bytes
 
 -- A file is written where it changed, unless its text goes to standard output.
 abbrev pub is_written : Bool → Bool → Bool → Bool
@@ -48,7 +51,8 @@ is_written of_input to_stdout changed = not of_input && not to_stdout && changed
 
 abbrev pub file_writing : Bool → Bool → Option Opened → List Writing
 file_writing of_input to_stdout None = []
-file_writing of_input to_stdout (Some file) = if is_written of_input to_stdout (differs file) then (file.name, present file.history) ∷ [] else []
+file_writing of_input to_stdout (Some file) =
+    if is_written of_input to_stdout (differs file) then record { name = file.name; held = file.read; bytes = present file.history } ∷ [] else []
 
 abbrev pub writing_of : Bool → Used → List Writing
 writing_of to_stdout used = file_writing (is_input used) to_stdout used.file
@@ -57,14 +61,16 @@ writing_of to_stdout used = file_writing (is_input used) to_stdout used.file
 abbrev pub writings : Bool → List Used → List Writing
 writings to_stdout used = flat_map (writing_of to_stdout) used
 
--- Files are given their bytes one after the other; what is set aside for each may differ.
+-- Files are given their bytes one after the other, each where it holds what was read of it right before; what is set aside for each may
+-- differ.
 abbrev pub Writes : List Writing → Folder → Folder → Type 0
 Writes [] before after = after ≡ before
 Writes (file ∷ files) before after =
-    (mid : Folder) × SameBut (λ other. other ≡ new_name file.0) (with_file before file.0 file.1) mid × Writes files mid after
+    (get before file.name ≡ Some file.held)
+    × (mid : Folder) × SameBut (λ other. other ≡ new_name file.name) (with_file before file.name file.bytes) mid × Writes files mid after
 
 abbrev pub fixed_lines : Bool → List Writing → List Bytes
-fixed_lines quiet files = if quiet then [] else map (λ (file : Writing). fixed_line file.0) files
+fixed_lines quiet files = if quiet then [] else map (λ (file : Writing). fixed_line file.name) files
 
 -- 2 where a step failed, else 0 where a text at the end is another one than was read, else 3
 abbrev pub status_of : State → ℕ

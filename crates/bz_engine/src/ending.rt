@@ -140,22 +140,24 @@ fn new_text(alloc: Global, file: &Opened) -> Result<Option<Vec<u8>>, Memory>
     }
 }
 
-// Gives a file its text at the end, which is told.
+// Gives a file that still holds what was read of it its text at the end, which is told.
 fn replace<F: Files, E: Sink>(
     quiet: bool,
     name: &str,
+    read: &[u8],
     text: &[u8],
     files: &mut F,
     err: &mut E,
 ) -> Cut
-    ensures told { result ≡ Cut.Whole
-        → Tells (E.faults err.old) (E.faults err.new) (E.contents err.old) (E.contents err.new) (fixed_lines quiet ((name.now, text.now) ∷ [])) }
-    ensures writes { F.honest files.old ≡ true → result ≡ Cut.Whole → Writes ((name.now, text.now) ∷ []) (F.folder files.old) (F.folder files.new) }
+    ensures told { result ≡ Cut.Whole → Tells (E.faults err.old) (E.faults err.new) (E.contents err.old) (E.contents err.new)
+        (fixed_lines quiet (record { name = name.now; held = read.now; bytes = text.now } ∷ [])) }
+    ensures writes { F.honest files.old ≡ true → result ≡ Cut.Whole
+        → Writes (record { name = name.now; held = read.now; bytes = text.now } ∷ []) (F.folder files.old) (F.folder files.new) }
     ensures cut { ((result ≡ Cut.Whole) × (F.faults files.new ≡ F.faults files.old)) ⊎ ((result ≡ Cut.Files) × Rises (F.faults files.old) (F.faults files.new)) }
     ensures counts { Counts (F.faults files.old) (F.faults files.new) }
     ensures honest { F.honest files.new ≡ F.honest files.old }
 {
-    match files.replace(name, text) {
+    match files.rewrite(name, read, text) {
         Ok(()) => {
             if !quiet {
                 tell_fixed(err, name);
@@ -193,7 +195,14 @@ fn write_file<F: Files, E: Sink>(
         return Cut::Whole;
     }
     match new_text(alloc, file) {
-        Ok(Some(text)) => replace(options.quiet, file.name.as_str(), &text, files, err),
+        Ok(Some(text)) => replace(
+            options.quiet,
+            file.name.as_str(),
+            file.read.as_slice(),
+            &text,
+            files,
+            err,
+        ),
         Ok(None) => Cut::Whole,
         Err(_) => {
             tell_named(err, file.name.as_str(), "Memory");
@@ -281,7 +290,8 @@ fn leave<W: Sink, F: Files, E: Sink>(
 }
 
 /// Ends a run that this failure cut, if one did: standard output is given what was printed and the texts behind it, and
-/// the files that changed are written. A failure is told, and what is left is done all the same.
+/// the files that changed are written, each where it still holds what was read of it. A failure is told, and what is left
+/// is done all the same.
 pub(crate) fn finish<W: Sink, F: Files, E: Sink>(
     alloc: Global,
     options: Options,

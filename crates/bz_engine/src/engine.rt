@@ -243,10 +243,10 @@ fn run_script<R: Source, W: Sink, E: Sink, F: Files>(
 /// Reads the words of a line, and does what they or a file of lines ask for, up to the first step that fails; with `-k`
 /// all steps. A package's file is read where it is used first. Behind the last step `out` is given what commands printed,
 /// then the text of standard input, unless each command on it prints, and with `--stdout` the text of each file that
-/// changed; without it those files are written, each told by a line on `err` unless `--quiet` was given. Statuses: 1 where
-/// the words or lines ask for nothing, or the file of lines was not read (nothing is then done); else 2 where a step or a
-/// port failed or memory was refused; else 0 where some text at the end is another one than was read; else 3. Each fault
-/// is told by a line on `err`, whose own faults are passed over.
+/// changed; without it those files are written, each where it still holds what was read of it, and told by a line on `err`
+/// unless `--quiet` was given. Statuses: 1 where the words or lines ask for nothing, or the file of lines was not read
+/// (nothing is then done); else 2 where a step or a port failed or memory was refused; else 0 where some text at the end is
+/// another one than was read; else 3. Each fault is told by a line on `err`, whose own faults are passed over.
 pub fn buildozer<S: AsStr, R: Source, W: Sink, E: Sink, F: Files>(
     alloc: Global,
     words: &[S],

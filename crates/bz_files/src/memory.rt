@@ -10,7 +10,8 @@ use crate::entry::Entry;
 use crate::{FileFault, Files};
 use std::alloc::{AllocError, Global};
 
-/// Files in memory, which keep each write, and whose calls can be made to fail.
+/// Files in memory, which keep each write, and whose calls can be made to fail. A `rewrite` counts as a read
+/// and, where the file holds what it is to hold, a `replace`.
 #[derive(Drop)]
 pub struct MemoryFiles {
     alloc: Global,
@@ -99,7 +100,7 @@ impl MemoryFiles {
         self.stops_at = Some(k);
     }
 
-    /// Makes each read of this name answer Open. The error: memory was refused, and nothing has changed.
+    /// Makes each read of this name answer Open, and each rewrite Write. The error: memory was refused, and nothing has changed.
     pub fn refuse(&mut self, name: &str) -> Result<(), AllocError>
         ensures same { folder_in self.new ≡ folder_in self.old }
         ensures ok { OnOk result (plan_in self.new ≡ record (plan_in self.old) { unreadable = (plan_in self.old).unreadable ++ name.now ∷ [] }) }
@@ -117,7 +118,7 @@ impl MemoryFiles {
         found(&self.log, name)
     }
 
-    /// How often `replace` was called, up to the greatest number.
+    /// How often `replace` was called, by `rewrite` too, up to the greatest number.
     pub fn replaces(&self) -> u64
         ensures { result ≡ (plan_in self.now).replaces }
     {
@@ -148,6 +149,14 @@ impl MemoryFiles {
         let fails = self.fails_at == Some(self.calls);
         let stops = self.stops_at.is_some_and(|k| k <= self.calls);
         !fails && !stops
+    }
+
+    // Whether a file can be read and holds these bytes. The call is counted.
+    fn holds(&mut self, name: &str, held: &[u8]) -> bool
+        ensures same { self.new ≡ record self.old { calls = self.new.calls } }
+        ensures holds { result ≡ true → get (folder_in self.old) name.now ≡ Some held.now }
+    {
+        self.goes_on() && !self.refuses(name) && self.bytes_at(name) == Some(held)
     }
 
     // One write more.
@@ -201,5 +210,13 @@ impl Files for MemoryFiles {
             return Err(self.failed(FileFault::Memory));
         }
         Ok(())
+    }
+
+    // Two calls are counted, so that either can be made to fail.
+    fn rewrite(&mut self, name: &str, held: &[u8], bytes: &[u8]) -> Result<(), FileFault> {
+        if !self.holds(name, held) {
+            return Err(self.failed(FileFault::Write));
+        }
+        self.replace(name, bytes)
     }
 }

@@ -1,5 +1,8 @@
 ghost use Rattle.std.specs.Prelude.{◌≡◌, [], ◌∷◌, ◌++◌, ◌+◌, ◌<◌, ◌≤◌, length, take, drop, slice_get, ◌↔◌, IsTrue, IsOk, MatchOption, OnOk, OnErr, OnSome};
 ghost use Rattle.std.specs.Option.{option_copied};
+ghost use Rattle.std.specs.Prelude.{slice_set};
+ghost use Rattle.std.specs.Borrow.{sem};
+ghost use Rattle.bz_items.specs.Lending.{LendsAll, LendsItem};
 
 use crate::Memory;
 use std::alloc::Global;
@@ -79,6 +82,23 @@ impl<T> Items<T> {
         ensures within { OnSome result (at < length self.now) }
     {
         self.items.get(at)
+    }
+
+    /// The item at a place, to change it.
+    pub fn at_mut(&mut self, at: usize) -> &mut T
+        requires { at < length self.old }
+        ensures* writes_back { sem 𝓛 (LendsItem T.row self.entry at result) }
+        ensures value { slice_get self.old at ≡ Some result.now }
+    {
+        &mut self.items[at]
+    }
+
+    /// The items, to change them.
+    pub fn as_mut_slice(&mut self) -> &mut [T]
+        ensures* writes_back { sem 𝓛 (LendsAll T.row self.entry result) }
+        ensures value { result.now ≡ self.old }
+    {
+        self.items.as_mut_slice()
     }
 
     /// Takes the last item off; `None` of an empty list.

@@ -1,25 +1,53 @@
--- What each history of a session keeps.
-use Rattle.std.proofs.Common.{◌≡◌, ◌≤◌, ◌<◌, ◌+◌, ℕ, List, [], ◌∷◌, ◌++◌, length, take, get_or, sym, subst, arith, length-append, length-take}
-use Rattle.std.specs.List.{All}
-use Rattle.std.proofs.Math.Logic.{∥∥₁_elim, ∥∥₁_map, ∥∥₁_prop}
-use Rattle.std.proofs.lemmas.List.Elements.{All-push, All-take}
-use Rattle.bz_tree.specs.Legal.{Accepted}
+-- What the histories of sessions keep, and what a new text makes of a session.
+use Rattle.std.proofs.Common.{◌≡◌, ◌<◌, ◌+◌, ◌-◌, ℕ, List, [], ◌∷◌, ◌++◌, length, map, take, sym, ap, ◌∙◌, arith, length-append, length-take-le}
+use Rattle.std.proofs.lemmas.List.{map-append, take-map}
+use Rattle.sha2.specs.Sha256.{sha256}
+use Rattle.bz_tree.specs.declared.tree.Node.{Node}
+use Rattle.bz_tree.specs.Spell.{spell_node}
+use Rattle.bz_edit.specs.declared.edit.Edit.{Edit}
+use Rattle.bz_trail.specs.Trails.{IsSmall, trail_at}
+use Rattle.bz_trail.specs.Shown.{TakesUp, TrailsKeep, texts_of}
 use Rattle.bz_value.specs.Gaps.{Bytes}
-use Rattle.bz_journal.specs.declared.session.Session.{Session}
-use Rattle.bz_journal.specs.History.{IsKept}
+use Rattle.bz_journal.specs.History.{History, IsKept, changed, most_steps, present}
+use Rattle.bz_journal.specs.State.{State, IsSession, trail_of}
 use Rattle.bz_journal.specs.Shown.{history_of}
 
-pub always_kept : (session : Session) → ∥ IsKept (history_of session) ∥₁
-always_kept session =
-    ∥∥₁_map session.accepted (λ each. record { accepted = each; within = session.within; known = session.known; bounded = session.bounded })
+pub session_kept : TrailsKeep → (s : State) → IsSession s → IsKept (history_of s)
+session_kept keep s h =
+    let k = keep (trail_of s) h.trail in
+    record { accepted = k.accepted; within = k.within; known = omega (arith, k.counted, h.known); bounded = omega (arith, k.counted, h.bounded) }
 
-pub accepted_at : (texts : List Bytes) (n : ℕ) (text other : Bytes) → ∥ All Accepted texts ∥₁ → n < length texts → text ≡ get_or texts n other → ∥ Accepted text ∥₁
-accepted_at texts n text other all within is = ∥∥₁_map all (λ each. subst Accepted (sym is) (each n other within))
+pub session_present : TrailsKeep → (s : State) → IsSession s → spell_node s.tree ≡ present (history_of s)
+session_present keep s h = let k = keep (trail_of s) h.trail in sym k.present
 
-pub accepted_more : (texts now : List Bytes) (n : ℕ) (text : Bytes) → ∥ All Accepted texts ∥₁ → Accepted text → now ≡ take n texts ++ text ∷ [] → ∥ All Accepted now ∥₁
-accepted_more texts now n text all accepted is =
-    ∥∥₁_map all (λ each. subst (All Accepted) (sym is) (All-push Accepted (take n texts) text (All-take Accepted n texts each) accepted))
+pub session_counted : TrailsKeep → (s : State) → IsSession s → length s.steps + 1 ≡ length (texts_of (trail_of s))
+session_counted keep s h = let k = keep (trail_of s) h.trail in sym k.counted
 
--- as many texts as were left, and one
-pub length_more : (texts now : List Bytes) (n : ℕ) (text : Bytes) → n ≤ length texts → now ≡ take n texts ++ text ∷ [] → length now ≡ n + 1
-length_more texts now n text within is = rw is (simp (length-append, length-take) (omega arith))
+pub session_ahead : TrailsKeep → (s : State) (steps cursor : ℕ) → IsSession s → steps ≡ length s.steps → cursor ≡ s.cursor → s.cursor + (steps - cursor) + 1 ≡ length (texts_of (trail_of s))
+session_ahead keep s steps cursor h a b = omega (arith, session_counted keep s h, h.trail.within, a, b)
+
+-- ---- a new text
+
+pub record HasExtended (s : State) (next : Node) (v : State) : Type 0 where
+  pub session : IsSession v
+  pub history : history_of v ≡ changed (history_of s) (spell_node next)
+  pub small : IsSmall (trail_of s) → IsSmall (trail_of v)
+
+pub extended : TrailsKeep → (s : State) (next tree : Node) (steps : List (List Edit)) (digests : List Bytes) → IsSession s → s.cursor < most_steps
+    → TakesUp (trail_of s) next (trail_at tree steps (s.cursor + 1)) → digests ≡ take (s.cursor + 1) s.digests ++ sha256 (spell_node next) ∷ []
+    → HasExtended s next (record { tree = tree; steps = steps; digests = digests; «package» = s.«package»; cursor = s.cursor + 1; before = s.cursor })
+extended keep s next tree steps digests h room t is =
+    let to = s.cursor + 1 in
+    let texts = texts_of (trail_of s) in
+    let old = keep (trail_of s) h.trail in
+    let new = keep (trail_at tree steps to) t.trail in
+    let cut : length (take to texts) ≡ to = length-take-le to texts (omega (arith, old.within)) in
+    let size : length steps ≡ to = omega (arith, new.counted, ap length t.texts, length-append (take to texts) (spell_node next ∷ []), cut) in
+    let digested : digests ≡ map sha256 (texts_of (trail_at tree steps to)) =
+    is ∙ ap (λ (l : List Bytes). take to l ++ sha256 (spell_node next) ∷ []) h.digests ∙ ap (λ (l : List Bytes). l ++ sha256 (spell_node next) ∷ []) (take-map sha256 to texts)
+    ∙ sym (map-append sha256 (take to texts) (spell_node next ∷ [])) ∙ ap (map sha256) (sym t.texts) in
+    record {
+      session = record { trail = t.trail; digests = digested; named = h.named; known = omega (arith, size); bounded = omega (arith, size, room) };
+      history = ap (λ (l : List Bytes). let g : History = record { «package» = s.«package»; texts = l; cursor = to; before = s.cursor } in g) t.texts;
+      small = t.small;
+    }

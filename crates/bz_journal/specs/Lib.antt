@@ -4,3 +4,4 @@ pub mod History
 pub mod Meaning
 pub mod Shown
 pub mod Worked
+pub mod State

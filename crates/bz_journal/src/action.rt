@@ -1,3 +1,4 @@
+//! What a session is asked to do, and what it answers.
 use bz_items::Text;
 use bz_label::Target;
 use bz_words::Command;

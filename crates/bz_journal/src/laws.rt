@@ -1,12 +1,18 @@
 //! Facts about the definitions, for readers: the functions do nothing.
 
+ghost use Rattle.std.specs.Prelude.{◌≡◌, map};
+ghost use Rattle.sha2.specs.Sha256.{sha256};
+ghost use Rattle.bz_trail.specs.Shown.{StepsAreBetween, StepsLead};
+ghost use Rattle.bz_trail.specs.Trails.{HasLeast, IsSmall};
 ghost use Rattle.bz_journal.specs.Fixed.{FixedPoint};
 ghost use Rattle.bz_journal.specs.History.{IsKept};
 ghost use Rattle.bz_journal.specs.Shown.{history_of};
+ghost use Rattle.bz_journal.specs.State.{trail_of};
 ghost use Rattle.bz_journal.specs.Worked.{WorkedHistories};
 
 use crate::session::Session;
 use bz_tidy::{comments_stay, proper_stays, tidy_settles, tidy_stays};
+use bz_trail::laws::{small_steps, steps_lead, texts_kept};
 use bz_tree::laws::one_reading;
 use bz_view::{comments_kept, views_are_proper};
 use bz_write::{layout_is_accepted, layout_reads_back};
@@ -17,11 +23,24 @@ pub fn worked_histories()
 {}
 
 /// What the history of each session keeps.
-#[tactic(auto, using(crate::proofs::Kept::always_kept))]
 pub fn history_kept(session: &Session)
     ensures { ∥ IsKept (history_of session.now) ∥₁ }
 {
-    let _session = session;
+    texts_kept();
+    let _tree = &session.tree;
+}
+
+/// What a session holds: each step leads between the trees of two texts that follow one another and differ; those of a small
+/// session are the steps between them, and none that leads there weighs less; the digests are those of the texts.
+pub fn session_holds(session: &Session)
+    ensures lead { StepsLead (trail_of session.now) }
+    ensures between { IsSmall (trail_of session.now) → StepsAreBetween (trail_of session.now) }
+    ensures least { IsSmall (trail_of session.now) → HasLeast (trail_of session.now) }
+    ensures digests { session.now.digests ≡ map sha256 (history_of session.now).texts }
+{
+    steps_lead();
+    small_steps();
+    let _tree = &session.tree;
 }
 
 /// A formatted text is formatted to itself, its value is that of the text it was made of, tidied, and each comment stands

@@ -1,4 +1,4 @@
-//! Editing a BUILD file with exact undo: a history of whole texts, and the session that keeps it.
+//! Editing a BUILD file with exact undo: a history of whole texts, and the session that keeps it as one tree and steps.
 #![tactic(auto)]
 
 mod action;
@@ -9,5 +9,5 @@ mod session;
 
 pub use action::{Action, Reply};
 pub use formatter::{FormatFault, format};
-pub use laws::{formatted_once, history_kept, worked_histories};
+pub use laws::{formatted_once, history_kept, session_holds, worked_histories};
 pub use session::Session;

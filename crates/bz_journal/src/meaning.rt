@@ -1,3 +1,4 @@
+//! What commands and the format make of a text.
 ghost use Rattle.std.specs.Prelude.{◌≡◌, ◌⊎◌, Option, None, Ok, IfOk, IfErr, option_map};
 ghost use Rattle.bz_value.specs.Gaps.{Bytes};
 ghost use Rattle.std.specs.Option.{unwrap_or};
@@ -11,7 +12,7 @@ use bz_items::{Memory, Text};
 use bz_label::Target;
 use bz_rule::take_apart;
 use bz_tidy::tidy;
-use bz_tree::{ReadFault, Tree, parse};
+use bz_tree::Tree;
 use bz_value::File;
 use bz_view::view;
 use bz_words::Command;
@@ -24,21 +25,6 @@ use std::alloc::Global;
 pub(crate) struct Meant {
     pub(crate) tree: Option<Tree>,
     pub(crate) printed: Option<Text>,
-}
-
-/// The tree that a text of the session reads as.
-fn read(alloc: Global, text: &[u8]) -> Result<Tree, Refusal>
-    requires { ∥ Accepted text.now ∥₁ }
-    ensures ok { IfOk result (λ tree. Reads text.now tree) }
-    ensures err { IfErr result (λ refusal. refusal ≡ Refusal.Memory) }
-{
-    match parse(alloc, text) {
-        Ok(tree) => Ok(tree),
-        Err(fault) => match fault {
-            ReadFault::Memory => Err(Refusal::Memory),
-            _ => unreachable!(),
-        },
-    }
 }
 
 /// What a tree spells reads as it.
@@ -90,21 +76,20 @@ fn told(command: &Command, printed: Text) -> Option<Text>
     }
 }
 
-/// What a command makes of a text of the session. `current` is the path of the file's package.
+/// What a command makes of the text of a tree. `current` is the path of the file's package.
 pub(crate) fn meaning(
     alloc: Global,
     command: &Command,
     target: &Target,
     current: &[u8],
-    text: &[u8],
+    tree: &Tree,
 ) -> Result<Meant, Refusal>
-    requires { ∥ Accepted text.now ∥₁ }
-    ensures ok { IfOk result (λ meant. Means command.now target.now current.now text.now
-        (gives (unwrap_or (option_map spell_node meant.tree) text.now) meant.printed)) }
-    ensures err { IfErr result (λ refusal. Means command.now target.now current.now text.now (refuses refusal) ⊎ (refusal ≡ Refusal.Memory)) }
+    ensures ok { IfOk result (λ meant. Means command.now target.now current.now (spell_node tree.now)
+        (gives (unwrap_or (option_map spell_node meant.tree) (spell_node tree.now)) meant.printed)) }
+    ensures err { IfErr result (λ refusal. Means command.now target.now current.now (spell_node tree.now) (refuses refusal) ⊎ (refusal ≡ Refusal.Memory)) }
 {
-    let tree = read(alloc, text)?;
-    let value = view(alloc, &tree)?;
+    reads_back(tree);
+    let value = view(alloc, tree)?;
     let lines = tree.lines(alloc)?;
     let Outcome { file, printed } = run(alloc, command, target, current, lines.as_slice(), &value)?;
     let printed = told(command, printed);
@@ -123,13 +108,12 @@ pub(crate) fn meaning(
     }
 }
 
-/// The tree of the formatted text of a text of the session.
-pub(crate) fn formatted(alloc: Global, text: &[u8]) -> Result<Tree, Refusal>
-    requires { ∥ Accepted text.now ∥₁ }
-    ensures ok { IfOk result (λ new. Formats text.now (gives (spell_node new) None)) }
-    ensures err { IfErr result (λ refusal. Formats text.now (refuses refusal) ⊎ (refusal ≡ Refusal.Memory)) }
+/// The tree of the formatted text of the text of a tree.
+pub(crate) fn formatted(alloc: Global, tree: &Tree) -> Result<Tree, Refusal>
+    ensures ok { IfOk result (λ new. Formats (spell_node tree.now) (gives (spell_node new) None)) }
+    ensures err { IfErr result (λ refusal. Formats (spell_node tree.now) (refuses refusal) ⊎ (refusal ≡ Refusal.Memory)) }
 {
-    let tree = read(alloc, text)?;
-    let value = view(alloc, &tree)?;
+    reads_back(tree);
+    let value = view(alloc, tree)?;
     written(alloc, value)
 }

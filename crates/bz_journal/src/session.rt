@@ -1,78 +1,111 @@
-ghost use Rattle.std.specs.Prelude.{◌≡◌, ◌≤◌, ◌<◌, ◌+◌, ◌++◌, ◌↔◌, ◌⊎◌, [], ◌∷◌, take, vec_len, vec_capacity, Err, ℕ, List, IfOk, IfErr, OnOk, OnErr, IsOk, length, Result};
-ghost use Rattle.std.specs.List.{All};
-ghost use Rattle.bz_tree.specs.Spell.{limit, spell_node};
+//! A session: the history of one file, as a tree and steps.
+ghost use Rattle.std.specs.Prelude.{◌≡◌, ◌≤◌, ◌<◌, ◌-◌, ◌+◌, ◌++◌, ◌↔◌, ◌⊎◌, [], ◌∷◌, true, take, map, slice_get, option_map, vec_len, vec_capacity, Err, ℕ, List, IfOk, IfErr, OnOk, OnErr, IsOk, IsTrue, length, Result, string_bytes};
 ghost use Rattle.std.specs.Str.{IsValidUpTo};
+ghost use Rattle.sha2.specs.Sha256.{sha256};
+ghost use Rattle.bz_tree.specs.Spell.{limit, spell_node};
 ghost use Rattle.bz_tree.specs.Legal.{Accepted};
 ghost use Rattle.bz_tree.specs.Faults.{IsOfText};
+ghost use Rattle.bz_edit.specs.Steps.{weight as weight_held};
+ghost use Rattle.bz_trail.specs.Trails.{IsSmall, are_even, behind, ahead};
 ghost use Rattle.bz_attribute.specs.declared.refusal.Refusal.{Refusal};
 ghost use Rattle.bz_journal.specs.declared.action.Reply.{Reply};
 ghost use Rattle.bz_journal.specs.declared.action.Action.{Action};
-ghost use Rattle.bz_journal.specs.History.{present, opened, after_text, undone, redone, unchanged, most_steps, IsFormat, Acts, Runs};
+ghost use Rattle.bz_journal.specs.History.{present, opened, changed, after_text, unchanged, most_steps, IsFormat, Acts, Runs};
 ghost use Rattle.bz_journal.specs.Fixed.{IsFormatted};
+ghost use Rattle.bz_journal.specs.State.{trail_of};
+ghost use Rattle.bz_journal.specs.Shown.{history_of, IsOverEven};
 
 use crate::action::{Action, Reply};
 use crate::laws::formatted_once;
 use crate::meaning::{Meant, formatted, meaning, spelled};
 use bz_attribute::Refusal;
+use bz_edit::{Step, weight};
 use bz_items::{Memory, Text};
 use bz_label::Target;
+use bz_trail::laws::{starts_small, texts_kept};
+use bz_trail::{go_back, go_forward, take_up};
+use bz_tree::laws::one_tree;
 use bz_tree::{ReadFault, Tree, parse};
 use bz_words::Command;
+use sha2::{Digest, Sha256};
 use std::alloc::Global;
+use std::marker::Model;
 
 const MOST_STEPS: u32 = 100_000;
 
-/// The texts of a BUILD file of a package, one after another, and the place in them. Contracts speak of its history alone.
+/// The texts of a BUILD file of a package, one after another, and the place in them: the tree of the present text, and
+/// between neighbours the step that leads from the one tree to the other. Contracts speak of its history.
 #[derive(Drop)]
 pub struct Session {
+    /// The tree of the present text.
+    pub tree: Tree,
+    /// The steps between the texts, in the order in which these came: those before the present text lead back, the others
+    /// forward.
+    pub steps: Vec<Step>,
+    /// The SHA-256 of each text.
+    pub digests: Vec<[u8; 32]>,
     /// The path of the file's package.
-    pub package: Text,
-    /// The texts in the order in which they came.
-    pub texts: Vec<Text>,
-    /// The number of the present one, from 0.
+    pub package: String,
+    /// The number of the present text, from 0.
     pub cursor: u32,
     /// The number of the one that was present before it.
     pub before: u32,
-    pub ghost accepted: { ∥ All Accepted texts.items ∥₁ },
-    pub ghost within: { cursor < length texts.items },
-    pub ghost known: { before < length texts.items },
-    pub ghost bounded: { length texts.items ≤ most_steps + 1 },
+}
+
+impl Model for Session {
+    ghost use Rattle.std.specs.Prelude.{string_bytes};
+    ghost use Rattle.bz_tree.specs.contracts.tree.Tree as t;
+    ghost use Rattle.bz_edit.specs.contracts.step.Step as s;
+    ghost use Rattle.bz_journal.specs.State.{State, IsSession, state_code};
+
+    ghost Value = { State };
+
+    ghost coded = { state_code t.the_row.coded s.the_row.coded };
+
+    ghost view = { λ session. record { tree = session.tree; steps = session.steps.items; digests = session.digests.items; «package» = string_bytes session.«package»; cursor = session.cursor; before = session.before } };
+
+    ghost invariant = { λ session. IsSession (record { tree = session.tree; steps = session.steps.items; digests = session.digests.items; «package» = string_bytes session.«package»; cursor = session.cursor; before = session.before }) };
 }
 
 impl Session {
-    ghost use Rattle.bz_journal.specs.Shown.{history_of};
-
     /// A session at the first text of a file of the package with this path, which has at most 65,536 bytes. Errors: those
     /// of reading the text: `TooLarge` past 4,194,304 bytes; `NotUtf8` with the length of the longest beginning that is
     /// UTF-8; a fault with line and column where the text reads as no tree; `Memory` where a growth was refused.
     pub fn open(alloc: Global, package: &str, text: &[u8]) -> Result<Session, ReadFault>
         requires { length «package».now ≤ 65536 }
         ensures ok { IfOk result (λ session. history_of session ≡ opened «package».now text.now) }
+        ensures small { IfOk result (λ session. IsSmall (trail_of session)) }
         ensures accepted { OnOk result (Accepted text.now) }
         ensures too_large { (result ≡ Err ReadFault.TooLarge) ↔ (limit < length text.now) }
         ensures not_utf8 { (at : ℕ) → ((result ≡ Err (ReadFault.NotUtf8 at)) ↔ ((length text.now ≤ limit) × IsValidUpTo text.now at)) }
         ensures refused { IfErr result (λ fault. IsOfText fault → Accepted text.now → ⊥) }
     {
-        let _tree = match parse(alloc, text) {
+        let tree = match parse(alloc, text) {
             Ok(tree) => tree,
             Err(fault) => return Err(fault),
         };
-        match Session::first(alloc, package, text) {
+        match Session::first(alloc, package, text, tree) {
             Ok(session) => Ok(session),
             Err(_) => Err(ReadFault::Memory),
         }
     }
 
-    /// A session at the first text of a file of the package with this path.
-    fn first(alloc: Global, package: &str, text: &[u8]) -> Result<Session, Memory>
-        requires { Accepted text.now }
-        ensures { IfOk result (λ session. history_of session ≡ opened «package».now text.now) }
+    /// A session at the first text of a file of the package with this path, which the tree spells.
+    fn first(alloc: Global, package: &str, text: &[u8], tree: Tree) -> Result<Session, Memory>
+        requires named { length «package».now ≤ 65536 }
+        requires spelled { spell_node tree ≡ text.now }
+        ensures ok { IfOk result (λ session. history_of session ≡ opened «package».now text.now) }
+        ensures small { IfOk result (λ session. IsSmall (trail_of session)) }
     {
-        let package = Text::from_slice(alloc, package.as_bytes())?;
-        let texts = one(alloc, text)?;
+        starts_small();
+        let _root = &tree.root;
+        let package = String::from_str(alloc, package)?;
+        let digests = one_digest(alloc, Sha256::digest(text))?;
         Ok(Session {
+            tree,
+            steps: Vec::new(alloc),
+            digests,
             package,
-            texts,
             cursor: 0,
             before: 0,
         })
@@ -89,7 +122,28 @@ impl Session {
     pub fn steps(&self) -> u32
         ensures { result + 1 ≡ length (history_of self.now).texts }
     {
-        (self.texts.len() - 1) as u32
+        texts_kept();
+        self.steps.len() as u32
+    }
+
+    /// The bytes of all gaps and tokens that the step between texts i and i + 1 holds; `None` past the last step.
+    pub fn weight(&self, i: u32) -> Option<u64>
+        ensures { result ≡ option_map weight_held (slice_get self.now.steps i) }
+    {
+        match bz_items::at(self.steps.as_slice(), i as usize) {
+            Some(step) => Some(weight(step)),
+            None => None,
+        }
+    }
+
+    /// The SHA-256 of text i; `None` past the last text.
+    pub fn digest(&self, i: u32) -> Option<[u8; 32]>
+        ensures { result ≡ option_map sha256 (slice_get (history_of self.now).texts i) }
+    {
+        match bz_items::at(self.digests.as_slice(), i as usize) {
+            Some(digest) => Some(*digest),
+            None => None,
+        }
     }
 
     /// Appends the present text to `out`. The error: a growth was refused; `out` is then as before.
@@ -97,17 +151,21 @@ impl Session {
         ensures ok { OnOk result (out.new.items ≡ out.old.items ++ present (history_of self.now)) }
         ensures err { OnErr result (out.new.items ≡ out.old.items) }
     {
-        out.extend_from_slice(self.present())
+        self.present().spell_into(out)
     }
 
     /// Does an action. At an error the history is as before. Errors: those of the command; `TooLarge` and `TooDeep`
     /// where the new text would be past a limit; `TooFar` where there aren't so many steps; `Full` where a command or
     /// formatting would change the present text, which is 100,000 steps from the first; `Memory`: a growth was refused,
-    /// never at undo and redo. Behind formatting the present text is formatted: to format it once more leaves it as it is.
+    /// never at undo and redo by no step or by steps whose edits hold as many parts as they cover. Behind formatting the
+    /// present text is formatted: to format it once more leaves it as it is.
     pub fn act(&mut self, action: &Action) -> Result<Reply, Refusal>
         ensures acts { Acts action.now (history_of self.old) result (history_of self.new) }
         ensures formatted { OnOk result (IsFormat action.now → IsFormatted (present (history_of self.old)) (present (history_of self.new))) }
         ensures err { OnErr result (history_of self.new ≡ history_of self.old) }
+        ensures unmoved { OnErr result (self.new ≡ self.old) }
+        ensures even { IsOverEven action.now (trail_of self.old) → IsOk result }
+        ensures small { IsSmall (trail_of self.old) → IsSmall (trail_of self.new) }
     {
         match action {
             Action::Do(command, target) => self.edit(command, target),
@@ -117,63 +175,102 @@ impl Session {
         }
     }
 
-    /// The present text.
-    fn present(&self) -> &[u8]
-        ensures text { result.now ≡ present (history_of self.now) }
-        ensures accepted { ∥ Accepted result.now ∥₁ }
-    {
-        self.texts[self.cursor as usize].as_slice()
+    fn alloc(&self) -> Global {
+        *self.steps.allocator()
     }
 
-    /// Puts a text behind the present one; where it is the same one, tells what is printed.
-    fn push(&mut self, text: Text, printed: Option<Text>) -> Result<Reply, Refusal>
-        requires { Accepted text }
-        ensures acts { ((result, history_of self.new) ≡ after_text (history_of self.old) text printed)
-            ⊎ ((result ≡ Err Refusal.Memory) × (history_of self.new ≡ history_of self.old)) }
+    /// The tree of the present text.
+    fn present(&self) -> &Tree
+        ensures text { spell_node result.now ≡ present (history_of self.now) }
+        ensures within { (history_of self.now).cursor < length (history_of self.now).texts }
     {
-        if text.as_slice() == self.present() {
+        texts_kept();
+        &self.tree
+    }
+
+    /// The path of the file's package.
+    fn own_package(&self) -> &[u8]
+        ensures { result.now ≡ (history_of self.now).«package» }
+    {
+        self.package.as_bytes()
+    }
+
+    /// How many steps there are between the present text and the last.
+    fn steps_ahead(&self) -> u32
+        ensures steps { self.now.cursor + result ≡ length self.now.steps }
+        ensures texts { (history_of self.now).cursor + result + 1 ≡ length (history_of self.now).texts }
+    {
+        texts_kept();
+        self.steps.len() as u32 - self.cursor
+    }
+
+    /// Whether a tree spells the present text.
+    fn is_present(&self, next: &Tree) -> bool
+        ensures { IsTrue result ↔ (spell_node next.now ≡ present (history_of self.now)) }
+    {
+        let here = self.present();
+        one_tree(next, here);
+        next.equals(here)
+    }
+
+    /// Takes up a new tree: what it spells is the text behind the present one; where it is the same one, tells what is
+    /// printed.
+    fn take_up(&mut self, next: Tree, printed: Option<Text>) -> Result<Reply, Refusal>
+        ensures acts { ((result, history_of self.new) ≡ after_text (history_of self.old) (spell_node next) printed)
+            ⊎ ((result ≡ Err Refusal.Memory) × (history_of self.new ≡ history_of self.old)) }
+        ensures unmoved { OnErr result (self.new ≡ self.old) }
+        ensures small { IsSmall (trail_of self.old) → IsSmall (trail_of self.new) }
+    {
+        if self.is_present(&next) {
             return Ok(unchanged(printed));
         }
-        let cursor = self.cursor;
-        if cursor >= MOST_STEPS {
+        if self.cursor() >= MOST_STEPS {
             return Err(Refusal::Full);
         }
-        put_after(&mut self.texts, cursor as usize + 1, text)?;
-        self.before = cursor;
-        self.cursor = cursor + 1;
-        Ok(Reply::Changed)
-    }
-
-    /// Takes up a new tree: what it spells is the text behind the present one.
-    fn take_up(&mut self, tree: &Tree, printed: Option<Text>) -> Result<Reply, Refusal>
-        ensures acts { ((result, history_of self.new) ≡ after_text (history_of self.old) (spell_node tree.now) printed)
-            ⊎ ((result ≡ Err Refusal.Memory) × (history_of self.new ≡ history_of self.old)) }
-    {
-        let alloc = *self.texts.allocator();
-        match spelled(alloc, tree) {
-            Ok(text) => self.push(text, printed),
+        match self.extend(next) {
+            Ok(()) => Ok(Reply::Changed),
             Err(_) => Err(Refusal::Memory),
         }
+    }
+
+    /// Puts the text of a tree behind the present one.
+    fn extend(&mut self, next: Tree) -> Result<(), Memory>
+        requires other { spell_node next ≡ present (history_of self.old) → ⊥ }
+        requires room { self.old.cursor < most_steps }
+        ensures ok { OnOk result (history_of self.new ≡ changed (history_of self.old) (spell_node next)) }
+        ensures err { OnErr result (self.new ≡ self.old) }
+        ensures small { IsSmall (trail_of self.old) → IsSmall (trail_of self.new) }
+    {
+        texts_kept();
+        let digest = digest_of(self.alloc(), &next)?;
+        self.digests.reserve(1)?;
+        let cursor = self.cursor;
+        take_up(&mut self.tree, &mut self.steps, cursor as usize, next)?;
+        put_after(&mut self.digests, cursor as usize + 1, digest);
+        self.before = cursor;
+        self.cursor = cursor + 1;
+        Ok(())
     }
 
     /// Does a command on the present text.
     fn edit(&mut self, command: &Command, target: &Target) -> Result<Reply, Refusal>
         ensures acts { Acts (Action.Do command.now target.now) (history_of self.old) result (history_of self.new) }
-        ensures err { OnErr result (history_of self.new ≡ history_of self.old) }
+        ensures unmoved { OnErr result (self.new ≡ self.old) }
+        ensures small { IsSmall (trail_of self.old) → IsSmall (trail_of self.new) }
     {
-        let alloc = *self.texts.allocator();
+        let alloc = self.alloc();
         let Meant { tree, printed } = match meaning(
             alloc,
             command,
             target,
-            self.package.as_slice(),
+            self.own_package(),
             self.present(),
         ) {
             Ok(meant) => meant,
             Err(refusal) => return Err(refusal),
         };
         match tree {
-            Some(tree) => self.take_up(&tree, printed),
+            Some(tree) => self.take_up(tree, printed),
             None => Ok(unchanged(printed)),
         }
     }
@@ -182,45 +279,95 @@ impl Session {
     fn format(&mut self) -> Result<Reply, Refusal>
         ensures acts { Acts Action.Format (history_of self.old) result (history_of self.new) }
         ensures formatted { OnOk result (IsFormatted (present (history_of self.old)) (present (history_of self.new))) }
-        ensures err { OnErr result (history_of self.new ≡ history_of self.old) }
+        ensures unmoved { OnErr result (self.new ≡ self.old) }
+        ensures small { IsSmall (trail_of self.old) → IsSmall (trail_of self.new) }
     {
-        let alloc = *self.texts.allocator();
+        let alloc = self.alloc();
         formatted_once();
         match formatted(alloc, self.present()) {
-            Ok(tree) => self.take_up(&tree, None),
+            Ok(tree) => self.take_up(tree, None),
             Err(refusal) => Err(refusal),
         }
     }
 
     /// Goes back by n steps.
     fn undo(&mut self, n: u32) -> Result<Reply, Refusal>
-        ensures { (result, history_of self.new) ≡ undone n (history_of self.old) }
+        ensures acts { Acts (Action.Undo n) (history_of self.old) result (history_of self.new) }
+        ensures unmoved { OnErr result (self.new ≡ self.old) }
+        ensures even { n ≤ self.old.cursor → are_even (take n (behind (trail_of self.old))) ≡ true → IsOk result }
+        ensures small { IsSmall (trail_of self.old) → IsSmall (trail_of self.new) }
     {
-        let cursor = self.cursor;
-        if n > cursor {
+        if n > self.cursor() {
             return Err(Refusal::TooFar);
         }
-        if n > 0 {
-            self.before = cursor;
-            self.cursor = cursor - n;
+        if n == 0 {
+            return Ok(Reply::Moved);
         }
-        Ok(Reply::Moved)
+        match self.back(n) {
+            Ok(()) => Ok(Reply::Moved),
+            Err(_) => Err(Refusal::Memory),
+        }
     }
 
     /// Goes forward by n steps.
     fn redo(&mut self, n: u32) -> Result<Reply, Refusal>
-        ensures { (result, history_of self.new) ≡ redone n (history_of self.old) }
+        ensures acts { Acts (Action.Redo n) (history_of self.old) result (history_of self.new) }
+        ensures unmoved { OnErr result (self.new ≡ self.old) }
+        ensures even { self.old.cursor + n ≤ length self.old.steps → are_even (take n (ahead (trail_of self.old))) ≡ true → IsOk result }
+        ensures small { IsSmall (trail_of self.old) → IsSmall (trail_of self.new) }
     {
-        let cursor = self.cursor;
-        let last = self.texts.len() - 1;
-        if n as usize > last - cursor as usize {
+        if n > self.steps_ahead() {
             return Err(Refusal::TooFar);
         }
-        if n > 0 {
-            self.before = cursor;
-            self.cursor = cursor + n;
+        if n == 0 {
+            return Ok(Reply::Moved);
         }
-        Ok(Reply::Moved)
+        match self.forward(n) {
+            Ok(()) => Ok(Reply::Moved),
+            Err(_) => Err(Refusal::Memory),
+        }
+    }
+
+    /// Goes back by n steps, which are there.
+    fn back(&mut self, n: u32) -> Result<(), Memory>
+        requires { n ≤ self.old.cursor }
+        ensures ok { OnOk result (history_of self.new ≡ record (history_of self.old) { cursor = self.old.cursor - n; before = self.old.cursor }) }
+        ensures err { OnErr result (self.new ≡ self.old) }
+        ensures even { are_even (take n (behind (trail_of self.old))) ≡ true → IsOk result }
+        ensures small { IsSmall (trail_of self.old) → IsSmall (trail_of self.new) }
+    {
+        texts_kept();
+        let cursor = self.cursor;
+        go_back(
+            &mut self.tree,
+            self.steps.as_mut_slice(),
+            cursor as usize,
+            n as usize,
+        )?;
+        self.before = cursor;
+        self.cursor = cursor - n;
+        Ok(())
+    }
+
+    /// Goes forward by n steps, which are there.
+    fn forward(&mut self, n: u32) -> Result<(), Memory>
+        requires { self.old.cursor + n ≤ length self.old.steps }
+        ensures ok { OnOk result (history_of self.new ≡ record (history_of self.old) { cursor = self.old.cursor + n; before = self.old.cursor }) }
+        ensures err { OnErr result (self.new ≡ self.old) }
+        ensures even { are_even (take n (ahead (trail_of self.old))) ≡ true → IsOk result }
+        ensures small { IsSmall (trail_of self.old) → IsSmall (trail_of self.new) }
+    {
+        texts_kept();
+        let cursor = self.cursor;
+        go_forward(
+            &mut self.tree,
+            self.steps.as_mut_slice(),
+            cursor as usize,
+            n as usize,
+        )?;
+        self.before = cursor;
+        self.cursor = cursor + n;
+        Ok(())
     }
 
     /// Does actions in order, and appends a reply for each to `replies`; a refused action doesn't stop the run.
@@ -234,6 +381,7 @@ impl Session {
             × Runs (history_of self.old) actions.now added (history_of self.new)) }
         ensures err { OnErr result ((replies.new.items ≡ replies.old.items) × (history_of self.new ≡ history_of self.old)) }
         ensures room { vec_len replies.old + length actions.now ≤ vec_capacity replies.old → IsOk result }
+        ensures small { IsSmall (trail_of self.old) → IsSmall (trail_of self.new) }
     {
         replies.reserve(actions.len())?;
         for action in actions {
@@ -254,26 +402,28 @@ fn unchanged(printed: Option<Text>) -> Reply
     }
 }
 
-/// A list of one text.
-fn one(alloc: Global, text: &[u8]) -> Result<Vec<Text>, Memory>
-    ensures { IfOk result (λ texts. texts.items ≡ text.now ∷ []) }
+/// The SHA-256 of the text of a tree.
+fn digest_of(alloc: Global, tree: &Tree) -> Result<[u8; 32], Memory>
+    ensures { IfOk result (λ digest. digest ≡ sha256 (spell_node tree.now)) }
 {
-    let mut texts = Vec::new(alloc);
-    texts.push(Text::from_slice(alloc, text)?)?;
-    Ok(texts)
+    let text = spelled(alloc, tree)?;
+    Ok(Sha256::digest(text.as_slice()))
 }
 
-/// Puts a text behind the first n, in the place of those that are there.
-fn put_after(texts: &mut Vec<Text>, n: usize, text: Text) -> Result<(), Memory>
-    requires { n ≤ vec_len texts.old }
-    ensures ok { OnOk result (texts.new.items ≡ take n texts.old.items ++ text ∷ []) }
-    ensures err { OnErr result (texts.new.items ≡ texts.old.items) }
+/// A list of one digest.
+fn one_digest(alloc: Global, digest: [u8; 32]) -> Result<Vec<[u8; 32]>, Memory>
+    ensures { IfOk result (λ digests. digests.items ≡ digest ∷ []) }
 {
-    if n < texts.len() {
-        texts[n] = text;
-        texts.truncate(n + 1);
-    } else {
-        texts.push(text)?;
-    }
-    Ok(())
+    let mut digests = Vec::new(alloc);
+    digests.push(digest)?;
+    Ok(digests)
+}
+
+/// Puts a digest behind the first n, in the place of those that follow.
+fn put_after(digests: &mut Vec<[u8; 32]>, n: usize, digest: [u8; 32])
+    requires room { vec_len digests.old < vec_capacity digests.old }
+    ensures { digests.new.items ≡ take n digests.old.items ++ digest ∷ [] }
+{
+    digests.truncate(n);
+    digests.push(digest).unwrap();
 }

@@ -3,7 +3,8 @@ use Rattle.std.specs.Prelude.{◌≡◌, [], ◌∷◌, ◌++◌, codes, Ok, Err
 use Rattle.bz_label.specs.Pieces.{Bytes}
 use Rattle.bz_label.specs.declared.target.Target.{Target}
 use Rattle.bz_label.specs.declared.target.Which.TheVariants.{Name}
-use Rattle.bz_words.specs.declared.command.Operation.TheVariants.{Delete}
+use Rattle.bz_words.specs.declared.command.Operation.TheVariants as w
+use Rattle.bz_words.specs.declared.command.RuleOperation.TheVariants as wr
 use Rattle.bz_words.specs.declared.fault.CommandFault.TheVariants.{Unknown, Arguments}
 use Rattle.bz_line.specs.Asked.{Asked, Asking, Usage, of_operand, no_command, no_target, no_line, group_of}
 use Rattle.bz_line.specs.Line.{Line, Given, operands, script, of_clap, beside_script, line_of}
@@ -49,7 +50,7 @@ abbrev asking : Verb → Bytes → Asking
 asking verb text = record { verb = verb; text = text }
 
 abbrev deleted : Bytes → Asked
-deleted name = record { commands = asking (Do Delete) (codes "delete") ∷ []; targets = meant name ∷ [] }
+deleted name = record { commands = asking (Do (w.Rule wr.Delete)) (codes "delete") ∷ []; targets = meant name ∷ [] }
 
 abbrev refused : Bytes → OperandFault → Usage
 refused operand fault = of_operand (record { operand = operand; fault = fault })

@@ -18,8 +18,8 @@ use Rattle.bz_value.specs.Counted.{total, suffix_amount, host_amount, row_amount
 use Rattle.bz_value.specs.Gaps.{Bytes}
 use Rattle.bz_value.specs.Proper.{comments_of, IsProperItem}
 use Rattle.bz_value.specs.Roots.{root}
-use Rattle.bz_view.proofs.Sums.{append_total, form_amount}
-use Rattle.bz_write.specs.Layout.{is_empty, is_none}
+use Rattle.bz_value.proofs.Totals.{append_total, form_amount}
+use Rattle.bz_value.specs.Empty.{is_empty, is_none}
 use Rattle.bz_words.specs.Quoted.{quoted_of}
 use Rattle.bz_words.specs.declared.command.Symbol.{Symbol}
 use Rattle.bz_rule.specs.Values.{has_kind, parts_of, items_of, with_items, on_items, behind_first}

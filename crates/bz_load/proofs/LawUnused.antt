@@ -11,7 +11,7 @@ use Rattle.bz_value.specs.declared.value.Item.{Item}
 use Rattle.bz_value.specs.declared.value.Item.TheVariants as i
 use Rattle.bz_value.specs.Gaps.{Bytes}
 use Rattle.bz_value.specs.Proper.{IsProperItem}
-use Rattle.bz_write.specs.Layout.{is_empty}
+use Rattle.bz_value.specs.Empty.{is_empty}
 use Rattle.bz_rule.specs.Values.{has_kind, items_of, with_items, on_items, behind_first}
 use Rattle.bz_attribute.proofs.FormsAgain.{if_true, if_false, items_kind, items_filled, items_twice}
 use Rattle.bz_load.specs.Loads.{is_load, behind_path}

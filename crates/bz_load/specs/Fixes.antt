@@ -11,11 +11,11 @@ use Rattle.bz_value.specs.declared.value.Item.TheVariants as i
 use Rattle.bz_value.specs.Comments.{HostComments}
 use Rattle.bz_value.specs.Proper.{comments_of}
 use Rattle.bz_value.specs.Gaps.{Bytes}
-use Rattle.bz_write.specs.Layout.{is_empty, is_none}
+use Rattle.bz_value.specs.Empty.{is_empty, is_none}
 use Rattle.bz_words.specs.declared.command.Fixes.{Fixes}
 use Rattle.bz_rule.specs.Rules.{has_kind as is_rule_of}
 use Rattle.bz_rule.specs.Values.{has_kind, items_of, on_items, behind_first}
-use Rattle.bz_tidy.specs.Passes.{local_name}
+use Rattle.bz_rule.specs.QuoteMarks.{local_name}
 use Rattle.bz_attribute.specs.Attributes.{without_first}
 use Rattle.bz_load.specs.Loads.{is_load, behind_path}
 use Rattle.bz_load.specs.Places.{behind_last, is_block}

@@ -3,7 +3,7 @@ ghost use Rattle.std.specs.Prelude.{◌≡◌, ◌&&◌, OnOk, not, map};
 ghost use Rattle.std.specs.List.{filter, list_any};
 ghost use Rattle.bz_tree.specs.declared.kind.Kind.TheVariants as k;
 ghost use Rattle.bz_rule.specs.Values.{behind_first, on_items};
-ghost use Rattle.bz_write.specs.Layout.{is_empty};
+ghost use Rattle.bz_value.specs.Empty.{is_empty};
 ghost use Rattle.bz_load.specs.Fixes.{end_of, has_comments as has_any, has_own_comments as has_own, is_emptied as empties, path_comments as path_has, stays as stays_by, unused_loads, used_alone as alone, with_used as used_in};
 ghost use Rattle.bz_load.specs.Known.{has_name};
 
@@ -12,7 +12,7 @@ use crate::readings::behind_path;
 use crate::uses::used_names;
 use bz_attribute::{has_kind, items_of};
 use bz_items::{Items, Memory};
-use bz_tidy::local_name;
+use bz_rule::local_name;
 use bz_tree::Kind;
 use bz_value::{Comments, Expr, Item};
 use std::alloc::Global;

@@ -1,5 +1,6 @@
 pub mod Characters
 pub mod Named
+pub mod QuoteMarks
 pub mod Rules
 pub mod Seen
 pub mod Values

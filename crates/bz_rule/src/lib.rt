@@ -6,6 +6,7 @@ mod laws;
 mod names;
 mod parts;
 mod plain;
+mod quote_marks;
 mod rules;
 
 pub use apart::take_apart;
@@ -13,4 +14,5 @@ pub use laws::worked_bodies;
 pub use names::{is_dotted, is_named};
 pub use parts::{form_in, is_text, only, text_in};
 pub use plain::body;
+pub use quote_marks::{between, first_text, inside, local_name, marks_of, text_of};
 pub use rules::{Call, attribute, call_of, has_kind, has_name, name_of, value_named};

@@ -17,7 +17,7 @@ use Rattle.bz_value.specs.Counted.{total, suffix_amount, host_amount, amount, ro
 use Rattle.bz_value.specs.Frames.{frame}
 use Rattle.bz_value.specs.Gaps.{Bytes}
 use Rattle.bz_value.specs.Proper.{comments_of}
-use Rattle.bz_write.specs.Layout.{is_empty, is_none}
+use Rattle.bz_value.specs.Empty.{is_empty, is_none}
 use Rattle.bz_write.specs.Flags.{settled_split, with_flags, each_with_flags, item_with_flags}
 use Rattle.bz_rule.specs.Values.{has_kind, has_class, text_of, parts_of, above, with_above, on_items, on_row, on_first, on_third, behind_first, first_text, on_lists}
 use Rattle.bz_tidy.specs.Orders.{insert_by, sort_by}

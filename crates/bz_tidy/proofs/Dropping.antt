@@ -13,7 +13,7 @@ use Rattle.bz_label.proofs.Orders.{key_total, key_ties}
 use Rattle.bz_value.specs.declared.value.Expr.{Expr}
 use Rattle.bz_value.specs.Gaps.{Bytes}
 use Rattle.bz_rule.specs.Values.{text_of}
-use Rattle.bz_tidy.specs.Strings.{between}
+use Rattle.bz_rule.specs.QuoteMarks.{between}
 use Rattle.bz_tidy.specs.Lists.{precedes, unrepeated, has_no_comment}
 use Rattle.bz_tidy.specs.Repeats.{AreKept, key_of, last_of, ties_last, precedes_last, is_text_at, stands_at, tied_places}
 use Rattle.bz_tidy.specs.Rising.{NoneBefore, Rises}

@@ -8,13 +8,13 @@ use Rattle.std.proofs.lemmas.List.MinMax.{ranks_by}
 use Rattle.bz_label.proofs.Orders.{key_total}
 use Rattle.bz_token.specs.declared.class.Class.TheVariants as c
 use Rattle.bz_value.specs.Comments.{HostComments}
-use Rattle.bz_write.specs.Layout.{is_empty, is_none}
+use Rattle.bz_value.specs.Empty.{is_empty, is_none}
 use Rattle.bz_value.specs.declared.value.Expr.{Expr, Token, Form'}
 use Rattle.bz_value.specs.Gaps.{Bytes}
 use Rattle.bz_value.specs.Proper.{comments_of}
 use Rattle.bz_rule.specs.Values.{has_class, text_of, above, with_above}
 use Rattle.bz_tidy.specs.Orders.{sort_by}
-use Rattle.bz_tidy.specs.Strings.{between}
+use Rattle.bz_rule.specs.QuoteMarks.{between}
 use Rattle.bz_tidy.specs.Marks.{keep_marks, other_comments}
 use Rattle.bz_tidy.specs.Lists.{above_first, has_above, is_taken, precedes, has_no_comment, unrepeated, in_order, unmarked, marked_by, sorted, settled_list}
 use Rattle.bz_tidy.proofs.Keeping.{Keeps, Settles, both, same_first, same_behind}

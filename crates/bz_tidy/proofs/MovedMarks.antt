@@ -10,7 +10,7 @@ use Rattle.bz_value.specs.declared.value.Expr.{Expr}
 use Rattle.bz_value.specs.Gaps.{Bytes}
 use Rattle.bz_rule.specs.Values.{text_of, above}
 use Rattle.bz_tidy.specs.Orders.{insert_by, sort_by}
-use Rattle.bz_tidy.specs.Strings.{between}
+use Rattle.bz_rule.specs.QuoteMarks.{between}
 use Rattle.bz_tidy.specs.Marks.{keep_marks, other_comments}
 use Rattle.bz_tidy.specs.Lists.{precedes, has_no_comment, unrepeated, in_order, unmarked, marked_by, sorted}
 use Rattle.bz_tidy.specs.MovedMarks.{MovesMarks}

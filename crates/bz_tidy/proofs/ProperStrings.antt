@@ -18,7 +18,8 @@ use Rattle.bz_rule.specs.Characters.{quotation_mark, apostrophe}
 use Rattle.bz_rule.specs.Rules.{inner, is_plain_in}
 use Rattle.bz_value.specs.Characters.{backslash}
 use Rattle.bz_value.specs.Gaps.{Bytes}
-use Rattle.bz_tidy.specs.Strings.{begins_thrice, marks_of, inside, holds, begins_single, in_double, with_double, shorter_string}
+use Rattle.bz_tidy.specs.Strings.{holds, begins_single, in_double, with_double, shorter_string}
+use Rattle.bz_rule.specs.QuoteMarks.{begins_thrice, marks_of, inside}
 
 -- a string that is a text of characters
 abbrev pub Strung : Bytes → Type 0

@@ -13,14 +13,15 @@ use Rattle.bz_value.specs.declared.value.Expr.{Expr}
 use Rattle.bz_value.specs.declared.value.Item.{Item}
 use Rattle.bz_value.specs.declared.value.Item.TheVariants as i
 use Rattle.bz_value.specs.Gaps.{Bytes}
-use Rattle.bz_write.specs.Layout.{is_empty}
+use Rattle.bz_value.specs.Empty.{is_empty}
 use Rattle.bz_write.specs.Flags.{with_flags, item_with_flags, flags}
 use Rattle.bz_rule.specs.Values.{has_kind, text_of, parts_of, items_of, above, with_parts, on_first, on_third, behind_first, first_text, on_lists}
 use Rattle.bz_tidy.specs.Orders.{sort_by}
-use Rattle.bz_tidy.specs.Strings.{between}
+use Rattle.bz_rule.specs.QuoteMarks.{between}
 use Rattle.bz_tidy.specs.Marks.{any_marked, leave_alone}
 use Rattle.bz_tidy.specs.Lists.{settled_list}
-use Rattle.bz_tidy.specs.Passes.{on_statement, taken, on_taken, on_call, on_rule, on_attribute, quoted, quotes, labelled, labelled_value, labels_in, labels, sorted_value, in_assign, lists_in, lists, argument_order, argument_name, argument_precedes, arguments_in, arguments, local_name, symbol_precedes, symbols_in, symbols, path_group, path_order, path_of, is_loose_load, load_precedes, loads, tidied}
+use Rattle.bz_tidy.specs.Passes.{on_statement, taken, on_taken, on_call, on_rule, on_attribute, quoted, quotes, labelled, labelled_value, labels_in, labels, sorted_value, in_assign, lists_in, lists, argument_order, argument_name, argument_precedes, arguments_in, arguments, symbol_precedes, symbols_in, symbols, path_group, path_order, path_of, is_loose_load, load_precedes, loads, tidied}
+use Rattle.bz_rule.specs.QuoteMarks.{local_name}
 use Rattle.bz_tidy.proofs.Keeping.{Keeps, Settles, both, map_keeps, map_settles, third_settles, third_keeps_map, map_keeps_third, behind_settles, behind_keeps_map, map_keeps_behind, test_keeps, test_settles, keeps_tested, tested_keeps}
 use Rattle.bz_tidy.proofs.Sorting.{sort_settles, sort_keeps, map_keeps_sort}
 use Rattle.bz_tidy.proofs.Parts.{the_parts, the_items, kind_flags, class_flags, text_flags, comments_flags, above_flags, under_flags, under_quoted, items_flags}

@@ -16,7 +16,8 @@ use Rattle.bz_label.specs.Pieces.{is_empty, last_piece, is_joined, is_present, h
 use Rattle.bz_label.specs.Labels.{is_barred, is_plain, is_path, is_repository_name}
 use Rattle.bz_label.specs.Forms.{is_repository, are_whole}
 use Rattle.bz_label.specs.Shorter.{before_colon, behind_colon, before_slashes, behind_slashes, is_repeated, unrepeated}
-use Rattle.bz_tidy.specs.Strings.{begins_thrice, marks_of, holds, begins_single, in_double, with_double, shorter_string}
+use Rattle.bz_tidy.specs.Strings.{holds, begins_single, in_double, with_double, shorter_string}
+use Rattle.bz_rule.specs.QuoteMarks.{begins_thrice, marks_of}
 use Rattle.bz_tidy.proofs.Keeping.{Keeps, Settles, same_first, same_behind}
 
 same_byte : (c q : ℕ) → nat_eq c q ≡ true → c ≡ q

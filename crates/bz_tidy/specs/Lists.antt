@@ -7,10 +7,10 @@ use Rattle.bz_label.specs.Keys.{key_order}
 use Rattle.bz_value.specs.declared.value.Expr.{Expr}
 use Rattle.bz_value.specs.Gaps.{Bytes}
 use Rattle.bz_value.specs.Proper.{comments_of}
-use Rattle.bz_write.specs.Layout.{is_empty, is_none}
+use Rattle.bz_value.specs.Empty.{is_empty, is_none}
 use Rattle.bz_rule.specs.Values.{has_class, text_of, above, with_above}
 use Rattle.bz_tidy.specs.Orders.{sort_by}
-use Rattle.bz_tidy.specs.Strings.{between}
+use Rattle.bz_rule.specs.QuoteMarks.{between}
 use Rattle.bz_tidy.specs.Marks.{any_marked, keep_sorted, do_not_sort, keep_marks, other_comments}
 
 abbrev pub above_first : List Expr → List Bytes

@@ -16,11 +16,12 @@ use Rattle.bz_value.specs.declared.value.Item.{Item}
 use Rattle.bz_value.specs.declared.value.Item.TheVariants as i
 use Rattle.bz_value.specs.Gaps.{Bytes}
 use Rattle.bz_rule.specs.Rules.{dotted_name}
-use Rattle.bz_write.specs.Layout.{is_empty}
+use Rattle.bz_value.specs.Empty.{is_empty}
 use Rattle.bz_write.specs.Flags.{flags}
 use Rattle.bz_rule.specs.Values.{has_kind, has_class, text_of, parts_of, items_of, with_text, above, on_row, on_items, on_first, on_third, behind_first, first_text, on_lists}
 use Rattle.bz_tidy.specs.Orders.{sort_by}
-use Rattle.bz_tidy.specs.Strings.{between, with_double, shorter_string}
+use Rattle.bz_tidy.specs.Strings.{with_double, shorter_string}
+use Rattle.bz_rule.specs.QuoteMarks.{between, local_name}
 use Rattle.bz_tidy.specs.Marks.{any_marked, leave_alone}
 use Rattle.bz_tidy.specs.Lists.{settled_list}
 
@@ -119,10 +120,6 @@ abbrev pub arguments : List Item → List Item
 arguments = on_taken arguments_in
 
 -- ---- symbols: those of a load by local name, then old order
-
--- an alias's name, else the text between the quote marks
-abbrev pub local_name : Expr → Bytes
-local_name x = if has_kind k.Alias x then first_text (parts_of x) else between (text_of x)
 
 abbrev pub symbol_precedes : Expr → Expr → Bool
 symbol_precedes x y = is_lt (bytes_order (local_name x) (local_name y))

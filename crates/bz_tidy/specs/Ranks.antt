@@ -11,8 +11,9 @@ use Rattle.bz_value.specs.declared.value.Item.{Item}
 use Rattle.bz_value.specs.declared.value.Item.TheVariants as i
 use Rattle.bz_value.specs.Gaps.{Bytes}
 use Rattle.bz_tidy.specs.Lists.{precedes}
-use Rattle.bz_tidy.specs.Passes.{argument_name, argument_order, is_loose_load, path_group, path_of, path_order, local_name, symbol_precedes}
-use Rattle.bz_tidy.specs.Strings.{between}
+use Rattle.bz_tidy.specs.Passes.{argument_name, argument_order, is_loose_load, path_group, path_of, path_order, symbol_precedes}
+use Rattle.bz_rule.specs.QuoteMarks.{local_name}
+use Rattle.bz_rule.specs.QuoteMarks.{between}
 use Rattle.bz_rule.specs.Values.{text_of}
 
 pub item_ranks : IsStrictWeakOrder precedes

@@ -5,7 +5,7 @@ use Rattle.std.specs.Option.{option_map_or}
 use Rattle.bz_value.specs.declared.value.Expr.{Expr}
 use Rattle.bz_value.specs.Gaps.{Bytes}
 use Rattle.bz_rule.specs.Values.{text_of}
-use Rattle.bz_tidy.specs.Strings.{between}
+use Rattle.bz_rule.specs.QuoteMarks.{between}
 use Rattle.bz_tidy.specs.Lists.{precedes, unrepeated}
 use Rattle.bz_tidy.specs.Rising.{Rises}
 

@@ -6,10 +6,10 @@ ghost use Rattle.bz_tidy.specs.Passes.{argument_name, argument_order, argument_p
 ghost use Rattle.bz_tidy.specs.Ranks.{name_ranks};
 ghost use Rattle.bz_rule.specs.Values.{has_kind};
 
-use crate::readings::first_text;
 use crate::runs::{InRuns, sort_runs};
 use bz_items::{Items, Memory};
 use bz_label::bytes::priority;
+use bz_rule::first_text;
 use bz_tree::Kind;
 use bz_value::Expr;
 use std::cmp::Ordering;

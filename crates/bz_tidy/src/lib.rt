@@ -12,7 +12,6 @@ mod names;
 mod ordering;
 mod proper_laws;
 mod quotes;
-mod readings;
 mod repeats;
 mod runs;
 mod strings;
@@ -22,5 +21,4 @@ mod walk;
 
 pub use laws::{comments_stay, marks_move, tidy_settles, tidy_stays, worked_passes};
 pub use proper_laws::proper_stays;
-pub use symbols::local_name;
 pub use tidying::tidy;

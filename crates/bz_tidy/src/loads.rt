@@ -4,10 +4,9 @@ ghost use Rattle.bz_tidy.specs.Orders.{sort_by};
 ghost use Rattle.bz_tidy.specs.Passes.{is_loose_load as is_loose, load_precedes, path_group as group_of, path_of as path_in, path_order as order_of};
 ghost use Rattle.bz_tidy.specs.Ranks.{is_run_load, load_path, path_ranks};
 
-use crate::readings::first_text;
 use crate::runs::{InRuns, sort_runs};
-use crate::strings::between;
 use bz_items::{Items, Memory};
+use bz_rule::{between, first_text};
 use bz_tree::Kind;
 use bz_value::{Expr, Item};
 use std::cmp::Ordering;

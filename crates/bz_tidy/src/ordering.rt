@@ -3,13 +3,12 @@ ghost use Rattle.std.specs.Prelude.{◌≡◌, OnOk};
 ghost use Rattle.bz_label.specs.Keys.{key_order};
 ghost use Rattle.bz_tidy.specs.Lists.{precedes};
 ghost use Rattle.bz_tidy.specs.Orders.{sort_by};
-ghost use Rattle.bz_tidy.specs.Strings.{between as between_marks};
+ghost use Rattle.bz_rule.specs.QuoteMarks.{between as between_marks};
 ghost use Rattle.bz_rule.specs.Values.{text_of as text_in};
 
-use crate::readings::text_of;
-use crate::strings::between;
 use bz_items::Memory;
 use bz_label::bytes::key_cmp;
+use bz_rule::{between, text_of};
 use bz_value::Expr;
 use std::cmp::Ordering;
 

@@ -5,9 +5,8 @@ ghost use Rattle.bz_tidy.specs.Lists.{has_no_comment as is_bare, precedes, unrep
 ghost use Rattle.bz_tidy.specs.Repeats.{AreKept, is_text_at, stands_at, tied_places, ties_last};
 ghost use Rattle.bz_tidy.specs.Rising.{Rises};
 
-use crate::readings::text_of;
-use crate::strings::between;
 use bz_items::Memory;
+use bz_rule::{between, text_of};
 use bz_value::Expr;
 use std::alloc::Global;
 

@@ -2,44 +2,13 @@
 ghost use Rattle.std.specs.Prelude.{◌≡◌, ◌++◌, ◌≤◌, ◌&&◌, ◌||◌, not, take, replicate, IfOk, OnOk};
 ghost use Rattle.bz_value.specs.Characters.{backslash};
 ghost use Rattle.bz_rule.specs.Characters.{quotation_mark};
-ghost use Rattle.bz_tidy.specs.Strings.{begins_single, begins_thrice, holds, marks_of, inside, between, unprefixed, in_double, with_double, shorter_string};
+ghost use Rattle.bz_rule.specs.QuoteMarks.{marks_of};
+ghost use Rattle.bz_tidy.specs.Strings.{begins_single, holds, in_double, with_double, shorter_string};
 
 use bz_items::{Memory, Text};
 use bz_label::bytes::unrepeated;
-use bz_rule::body;
+use bz_rule::{body, inside, marks_of};
 use std::alloc::Global;
-
-fn begins_thrice(text: &[u8]) -> bool
-    ensures { result ≡ begins_thrice text.now }
-{
-    match text {
-        [first, second, third, ..] => *first == *second && *second == *third,
-        _ => false,
-    }
-}
-
-/// How many quote marks stand at each end of a string without prefix.
-fn marks_of(text: &[u8]) -> usize
-    ensures value { result ≡ marks_of text.now }
-    ensures small { result ≤ 3 }
-{
-    if begins_thrice(text) && text.len() >= 6 {
-        3
-    } else {
-        1
-    }
-}
-
-/// What stands between so many characters at each end.
-fn inside(count: usize, text: &[u8]) -> &[u8]
-    requires { count ≤ 3 }
-    ensures { result.now ≡ inside count text.now }
-{
-    if text.len() < 2 * count {
-        return &[];
-    }
-    &text[count..text.len() - count]
-}
 
 fn begins_single(text: &[u8]) -> bool
     ensures { result ≡ begins_single text.now }
@@ -54,28 +23,6 @@ fn holds(character: u8, text: &[u8]) -> bool
     ensures { result ≡ holds character text.now }
 {
     text.iter().any(|byte| *byte == character)
-}
-
-/// A string behind its prefix.
-fn unprefixed(text: &[u8]) -> &[u8]
-    ensures { result.now ≡ unprefixed text.now }
-{
-    let mut rest = text;
-    while let [first, behind @ ..] = rest {
-        match *first {
-            b'"' | b'\'' => return rest,
-            _ => rest = behind,
-        }
-    }
-    rest
-}
-
-/// The text between the quote marks of a string.
-pub(crate) fn between(text: &[u8]) -> &[u8]
-    ensures { result.now ≡ between text.now }
-{
-    let marked = unprefixed(text);
-    inside(marks_of(marked), marked)
 }
 
 /// Whether double quote marks may stand for those of the string: it has no prefix and single marks, and holds neither a

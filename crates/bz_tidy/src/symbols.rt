@@ -2,32 +2,16 @@
 ghost use Rattle.std.specs.Prelude.{◌≡◌, OnOk};
 ghost use Rattle.bz_label.specs.Keys.{bytes_order};
 ghost use Rattle.bz_tidy.specs.Orders.{sort_by};
-ghost use Rattle.bz_tidy.specs.Passes.{local_name as name_in_file, symbol_precedes};
+ghost use Rattle.bz_tidy.specs.Passes.{symbol_precedes};
+ghost use Rattle.bz_rule.specs.QuoteMarks.{local_name as name_in_file};
 ghost use Rattle.bz_rule.specs.Values.{behind_first};
 
-use crate::readings::{first_text, text_of};
-use crate::strings::between;
 use bz_items::{Items, Memory};
-use bz_tree::Kind;
+use bz_rule::local_name;
 use bz_value::Expr;
 use std::alloc::Global;
 use std::cmp::Ordering;
 use std::mem;
-
-/// The name that a symbol has in the file that loads it: an alias's name, else the text between the quote marks.
-pub fn local_name(x: &Expr) -> &[u8]
-    ensures { result.now ≡ name_in_file x.now }
-{
-    match x {
-        Expr::Token(_) => between(text_of(x)),
-        Expr::Form(form) => {
-            if form.kind.number() != Kind::Alias.number() {
-                return between(text_of(x));
-            }
-            first_text(form.parts.as_slice())
-        }
-    }
-}
 
 fn symbol_order(x: &Expr, y: &Expr) -> Ordering
     ensures { result ≡ bytes_order (name_in_file x.now) (name_in_file y.now) }

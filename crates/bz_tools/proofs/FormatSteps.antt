@@ -41,9 +41,9 @@ refused_quiet name f.TooLarge = record { stays = refl; nothing = refl }
 refused_quiet name f.TooDeep = record { stays = refl; nothing = refl }
 refused_quiet name f.Memory = record { stays = refl; nothing = refl }
 
-pub rewrites_quiet : (name new : List ℕ) (folder after : Folder) (effect : Effect) → Rewrites name new folder effect after → IsQuiet effect
-rewrites_quiet name new folder after effect (inl done) = rw (done.0) (record { stays = refl; nothing = refl })
-rewrites_quiet name new folder after effect (inr failed) = rw (failed.0) (record { stays = refl; nothing = refl })
+pub rewrites_quiet : (name text new : List ℕ) (folder after : Folder) (effect : Effect) → Rewrites name text new folder effect after → IsQuiet effect
+rewrites_quiet name text new folder after effect (inl done) = rw (done.0) (record { stays = refl; nothing = refl })
+rewrites_quiet name text new folder after effect (inr failed) = rw (failed.0) (record { stays = refl; nothing = refl })
 
 -- what is read of a file behind nothing is the file
 pub held : (folder : Folder) (name bytes start items : List ℕ) → get folder name ≡ Some bytes → items ≡ start ++ bytes → start ≡ []

@@ -98,7 +98,7 @@ exact_step mode name closed pure folder after effect (kept text new there format
 exact_step mode name closed pure folder after effect (rewritten text new there formats differs (inl done)) whole same other = (
   with_file pure name new,
   exact_formatted text new (sym (same name other) ∙ there) formats (done.0 ∙ fixed_effect mode name text new differs) (rw (differs) refl),
-  same_rewritten pure folder after name new same done.1,
+  same_rewritten pure folder after name new same done.2,
 )
 exact_step mode name closed pure folder after effect (rewritten text new there formats differs (inr failed)) whole same other =
     absurd (cc (sym (ap (λ (e : Effect). e.cut) failed.0) ∙ whole))

@@ -85,11 +85,12 @@ text_status PrintIfChanged text new = 0
 abbrev pub Prints : Bool → Bytes → ℕ → Effect → Type 0
 Prints closed out status effect = (effect ≡ printed out status) ⊎ ((closed ≡ false) × (effect ≡ unprinted out))
 
--- The folder then has the formatted text at the file's name, or that fails.
-abbrev pub Rewrites : Bytes → Bytes → Folder → Effect → Folder → Type 0
-Rewrites name new folder effect after =
-    ((effect ≡ printed [] 0) × SameBut (λ other. other ≡ new_name name) (with_file folder name new) after)
-    ⊎ ((effect ≡ unwritten name) × IsReplacing name new folder after)
+-- The file holds the text that was formatted right before it is written, and the folder then has the formatted text at its name; or that
+-- fails, and where the file doesn't hold the text the folder stays.
+abbrev pub Rewrites : Bytes → Bytes → Bytes → Folder → Effect → Folder → Type 0
+Rewrites name text new folder effect after =
+    ((effect ≡ printed [] 0) × (get folder name ≡ Some text) × SameBut (λ other. other ≡ new_name name) (with_file folder name new) after)
+    ⊎ ((effect ≡ unwritten name) × ((get folder name ≡ Some text → ⊥) → after ≡ folder) × IsReplacing name new folder after)
 
 -- ---- one file
 
@@ -112,7 +113,7 @@ pub data FileStep (mode : Mode) (name : Bytes) (closed : Bool) (folder : Folder)
       → Prints closed (file_out mode name text new) (text_status mode text new) effect → after ≡ folder
       → FileStep mode name closed folder effect after
   rewritten : (text new : Bytes) → get folder name ≡ Some text → FormatsTo text (Ok new) → is_rewritten mode text new ≡ true
-      → Rewrites name new folder effect after → FileStep mode name closed folder effect after
+      → Rewrites name text new folder effect after → FileStep mode name closed folder effect after
 
 -- ---- standard input
 

@@ -26,9 +26,15 @@ use std::convert::AsStr;
 // The status of words that are no line of the program's.
 const USAGE: u8 = 2;
 
-// Rewrites a file; a failure is told.
-fn rewrite<F: Files, E: Sink>(files: &mut F, err: &mut E, name: &str, new: &[u8]) -> Effect
-    ensures step { F.honest files.old ≡ true → (effect : r.Effect) × Rewrites name.now new.now (F.folder files.old) effect (F.folder files.new)
+// Rewrites a file that still holds the text that was formatted; a failure is told.
+fn rewrite<F: Files, E: Sink>(
+    files: &mut F,
+    err: &mut E,
+    name: &str,
+    text: &[u8],
+    new: &[u8],
+) -> Effect
+    ensures step { F.honest files.old ≡ true → (effect : r.Effect) × Rewrites name.now text.now new.now (F.folder files.old) effect (F.folder files.new)
         × (result ≡ effect_of effect)
         × Tells (E.faults err.old) (E.faults err.new) (E.contents err.old) (E.contents err.new) effect.lines }
     ensures open { result.closes ≡ false }
@@ -38,7 +44,7 @@ fn rewrite<F: Files, E: Sink>(files: &mut F, err: &mut E, name: &str, new: &[u8]
     ensures count { F.faults files.old ≤ F.faults files.new }
     ensures honest { F.honest files.new ≡ F.honest files.old }
 {
-    match files.replace(name, new) {
+    match files.rewrite(name, text, new) {
         Ok(()) => Effect {
             status: 0,
             cut: Cut::Whole,
@@ -78,7 +84,7 @@ fn file_effect<F: Files, W: Sink, E: Sink>(
         Err(fault) => return refused(err, name, &fault),
     };
     if is_rewritten(mode, &text, new.as_slice()) {
-        return rewrite(files, err, name, new.as_slice());
+        return rewrite(files, err, name, &text, new.as_slice());
     }
     let status = text_status(mode, &text, new.as_slice());
     match file_out(alloc, mode, name, &text, new) {
@@ -197,12 +203,12 @@ fn wanting() -> Exit
 }
 
 /// Reads the words of a line. Without files it formats standard input, else each file in order; all are tried. Mode `fix`
-/// rewrites a file that differs, and writes the formatted text of standard input to `out`; `check` writes a line there for
-/// a text that differs; `print_if_changed` writes its formatted text there. Statuses: 2 where the words are no line of the
-/// program's (nothing is then read); else 3 where a file could not be opened, read or written, memory was refused, or a
-/// formatted text would be past a limit; else 1 where a text is not accepted; else 4 where `check` found a difference; else
-/// 0. Each fault is told by one line on `err`, whose faults are passed over. Behind a fault of `out` nothing more is
-/// written there; files still are.
+/// rewrites a file that differs, where it still holds the text that was formatted, and writes the formatted text of
+/// standard input to `out`; `check` writes a line there for a text that differs; `print_if_changed` writes its formatted
+/// text there. Statuses: 2 where the words are no line of the program's (nothing is then read); else 3 where a file could
+/// not be opened, read or written, memory was refused, or a formatted text would be past a limit; else 1 where a text is
+/// not accepted; else 4 where `check` found a difference; else 0. Each fault is told by one line on `err`, whose faults are
+/// passed over. Behind a fault of `out` nothing more is written there; files still are.
 pub fn buildifier<S: AsStr, R: Source, W: Sink, E: Sink, F: Files>(
     alloc: Global,
     words: &[S],

@@ -19,4 +19,4 @@ pub use bz_lex::{Class, Leaf, ReadFault};
 pub use kind::Kind;
 pub use limits::{DEPTH_LIMIT, LENGTH_LIMIT};
 pub use parsing::{parse, unexpected_at};
-pub use tree::{Node, Part, Tree};
+pub use tree::{Node, Part, Tree, copy_all};

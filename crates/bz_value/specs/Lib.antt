@@ -2,6 +2,7 @@ pub mod Characters
 pub mod Commented
 pub mod Comments
 pub mod Counted
+pub mod Empty
 pub mod Frames
 pub mod Gaps
 pub mod Proper

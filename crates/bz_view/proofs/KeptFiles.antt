@@ -19,7 +19,8 @@ use Rattle.bz_view.proofs.KeptParts.{AllKept, host_kept, token_part, parts_kept}
 use Rattle.bz_view.proofs.Pairs.{Paired, listed_paired}
 use Rattle.bz_view.proofs.QuietGaps.{Quiet, Statements, statements_quiet, row_legal}
 use Rattle.bz_view.proofs.SeenParts.{seen_rows}
-use Rattle.bz_view.proofs.Sums.{append_total, gap_amount, gap_parts, lines_joined, all_blocks, front_blocks, part_amount, leaf_amount, row_leaves, parts_leaves}
+use Rattle.bz_view.proofs.Sums.{gap_amount, gap_parts, lines_joined, all_blocks, front_blocks, part_amount, leaf_amount, row_leaves, parts_leaves}
+use Rattle.bz_value.proofs.Totals.{append_total}
 
 module _ (number : Bytes → ℕ) where
   -- the comments behind the first line of a gap

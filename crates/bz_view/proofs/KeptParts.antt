@@ -17,7 +17,8 @@ use Rattle.bz_view.specs.Walks.{form_in, loose_of}
 use Rattle.bz_view.proofs.Pairs.{is_token, Paired, TokenAt, BracketedIn, node_bracketed}
 use Rattle.bz_view.proofs.ProperParts.{dropped}
 use Rattle.bz_view.proofs.SeenParts.{seen_rows}
-use Rattle.bz_view.proofs.Sums.{append_total, gap_amount, gap_parts, inner_amount, node_amount, made_amount, part_amount, leaf_amount, row_leaves}
+use Rattle.bz_view.proofs.Sums.{gap_amount, gap_parts, node_amount, made_amount, part_amount, leaf_amount, row_leaves}
+use Rattle.bz_value.proofs.Totals.{append_total, inner_amount}
 
 module _ (number : Bytes → ℕ) where
   -- what is loose in a part, and what stands in the expression made of it

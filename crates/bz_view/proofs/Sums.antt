@@ -1,29 +1,19 @@
--- Sums of a number of each comment: of lists, of gaps, of groups of lines, and of what is made of a part.
+-- Sums of a number of each comment: of gaps, of groups of lines, and of what is made of a part.
 use Rattle.std.proofs.Common.{◌≡◌, ℕ, ◌+◌, Bool, false, List, [], ◌∷◌, ◌++◌, Option, Some, None, refl, ap, ◌∙◌, arith}
 use Rattle.std.specs.List.{flat_map}
 use Rattle.std.proofs.lemmas.Grind.{flat_map-append}
-use mathlib.Core.Former.{Count}
 use Rattle.bz_lex.specs.declared.leaf.Leaf.{Leaf}
 use Rattle.bz_tree.specs.declared.kind.Kind.{Kind}
 use Rattle.bz_tree.specs.declared.tree.Part.{Part, Row_of-Part, end_of-Part, more_of-Part, Node', items-the_row-Part}
 use Rattle.bz_tree.specs.declared.tree.Part.TheVariants as p
 use Rattle.bz_tree.specs.Spell.{leaves_part, leaves_row}
-use Rattle.bz_value.specs.declared.value.Form.{Form}
-use Rattle.bz_value.specs.declared.value.Expr.{Expr, Token, Form', Row_of-Expr, end_of-Expr, more_of-Expr, items-the_row-Expr, items_hidden-the_row-Expr-0}
-use Rattle.bz_value.specs.declared.value.Expr.TheVariants as e
+use Rattle.bz_value.proofs.Totals.{append_total, form_amount, inner_amount}
 use Rattle.bz_value.specs.Comments.{HostComments, no_comments}
-use Rattle.bz_value.specs.Counted.{total, suffix_amount, host_amount, amount, row_amount, item_amount}
+use Rattle.bz_value.specs.Counted.{total, suffix_amount, host_amount, amount, item_amount}
 use Rattle.bz_value.specs.Frames.{Frame, row, sequence, frame}
 use Rattle.bz_value.specs.Gaps.{Bytes, GapLine, lines_of, listed, comments_in, first_comment, behind_first, on_first, before_groups, groups_of, all_but_last, last_group, suffix_in, others_in, all_in}
 use Rattle.bz_view.specs.View.{Seen, seen, seen_row, node_in, plain, blocks}
 use Rattle.bz_view.specs.Walks.{form_in}
-
--- ---- lists
-
-module _ {X : Type 0} (n : X → ℕ) where
-  pub append_total : (xs ys : List X) → total n (xs ++ ys) ≡ total n xs + total n ys
-  append_total [] ys = omega arith
-  append_total (x ∷ xs) ys = let h = append_total xs ys in omega arith
 
 module _ (number : Bytes → ℕ) where
   -- ---- gaps
@@ -97,35 +87,10 @@ module _ (number : Bytes → ℕ) where
 
   -- ---- expressions
 
-  row_total : (m : _) (r : Row_of-Expr m) → row_amount number r ≡ total (amount number) (items-the_row-Expr m r)
-  row_total m end_of-Expr = refl
-  row_total m (more_of-Expr x rest) = ap (λ a. amount number x + a) (row_total _ rest)
-
-  abbrev parts_in : Expr → (m : Count) × Row_of-Expr m
-  parts_in (Form' kind s parts s' items end_ split open_ comments) = (_, parts)
-  parts_in (Token t) = (_, end_of-Expr)
-
-  abbrev items_in : Expr → (m : Count) × Row_of-Expr m
-  items_in (Form' kind s parts s' items end_ split open_ comments) = (_, items)
-  items_in (Token t) = (_, end_of-Expr)
-
-  -- what stands in a form
-  abbrev pub inner_amount : Form → ℕ
-  inner_amount f = total (amount number) f.parts + (total (amount number) f.seq.items + total number f.seq.end_)
-
-  pub form_amount : (f : Form) → amount number (e.Form f) ≡ host_amount number f.comments + inner_amount f
-  form_amount f =
-      let ps = parts_in (e.Form f) in
-      let qs = items_in (e.Form f) in
-      let parts : row_amount number ps.1 ≡ total (amount number) f.parts = row_total ps.0 ps.1 ∙ ap (total (amount number)) (items_hidden-the_row-Expr-0 f.parts) in
-      let items : row_amount number qs.1 ≡ total (amount number) f.seq.items = row_total qs.0 qs.1 ∙ ap (total (amount number)) (items_hidden-the_row-Expr-0 f.seq.items) in
-      ap (λ a. host_amount number f.comments + (a + (row_amount number qs.1 + total number f.seq.end_))) parts
-      ∙ ap (λ a. host_amount number f.comments + (total (amount number) f.parts + (a + total number f.seq.end_))) items
-
   -- what is made of a node has its own comments, and what stands in it
-  pub node_amount : (f : Frame) (kind : Kind) (ss : List Seen) (cs : HostComments) (b : Bool) → amount number ((node_in f kind ss).make cs b) ≡ host_amount number cs + inner_amount (form_in f kind ss no_comments)
-  node_amount row kind ss cs b = form_amount (form_in row kind ss cs)
-  node_amount (sequence opener closer) kind ss cs b = form_amount (form_in (sequence opener closer) kind ss cs)
+  pub node_amount : (f : Frame) (kind : Kind) (ss : List Seen) (cs : HostComments) (b : Bool) → amount number ((node_in f kind ss).make cs b) ≡ host_amount number cs + inner_amount number (form_in f kind ss no_comments)
+  node_amount row kind ss cs b = form_amount number (form_in row kind ss cs)
+  node_amount (sequence opener closer) kind ss cs b = form_amount number (form_in (sequence opener closer) kind ss cs)
 
   -- so do comments and break add no more than these comments
   pub made_amount : (x : Part) (cs : HostComments) (b : Bool) → amount number ((seen x).make cs b) ≡ host_amount number cs + amount number (plain (seen x))

@@ -4,7 +4,8 @@ use Rattle.std.specs.Prelude.{if◌then◌else◌}
 use Rattle.std.specs.Option.{ok_or, option_map_or}
 use Rattle.bz_words.specs.Characters.{Bytes}
 use Rattle.bz_words.specs.Commands.{Read, comment_of, host_of, is_one_line, split_last}
-use Rattle.bz_words.specs.declared.command.Operation.TheVariants.{Comment}
+use Rattle.bz_words.specs.declared.command.Operation.TheVariants as w
+use Rattle.bz_words.specs.declared.command.CommentOperation.TheVariants as wc
 use Rattle.bz_words.specs.declared.fault.CommandFault.TheVariants.{Arguments}
 
 last_split : (front : List Bytes) (last : Bytes) → split_last (front ++ last ∷ []) ≡ Some (front, last)
@@ -14,7 +15,7 @@ last_split (word ∷ next ∷ front) last = ap (option_map (λ parts. (word ∷ 
 
 -- what the words of a comment say, by what stands before the last one and by the last one
 abbrev pub said : List Bytes → Bytes → Read
-said front text = if is_one_line text then ok_or (option_map (λ host. Comment host text) (host_of front)) Arguments else Err Arguments
+said front text = if is_one_line text then ok_or (option_map (λ host. w.Comment (wc.Add host text)) (host_of front)) Arguments else Err Arguments
 
 pub comment_cut : (words front : List Bytes) (text : Bytes) → words ≡ front ++ text ∷ [] → comment_of words ≡ said front text
 comment_cut words front text e = ap comment_of e ∙ ap (λ parts. option_map_or (λ both. said both.0 both.1) parts (Err Arguments)) (last_split front text)

@@ -11,7 +11,10 @@ use Rattle.bz_words.specs.Commands as c
 use Rattle.bz_words.specs.Commands.{Read}
 use Rattle.bz_words.specs.Proper.{AreUtf8, AreValues, IsPlace, AreAttributes, AreMoved, IsProperCommand}
 use Rattle.bz_words.specs.declared.command.Operation.{Operation}
-use Rattle.bz_words.specs.declared.command.Operation.TheVariants.{New, SetKind, Set, SetIfAbsent, Add, Remove, RemoveValues, Replace, Substitute, Move, Rename, Copy, CopyNoOverwrite}
+use Rattle.bz_words.specs.declared.command.Operation.TheVariants as w
+use Rattle.bz_words.specs.declared.command.RuleOperation.TheVariants as wr
+use Rattle.bz_words.specs.declared.command.AttributeOperation.TheVariants as wa
+use Rattle.bz_words.specs.declared.command.ValueOperation.TheVariants as wv
 use Rattle.bz_words.specs.declared.command.Values.TheVariants.{All, These}
 use Rattle.bz_words.specs.declared.fault.CommandFault.TheVariants.{Unknown, Arguments}
 use Rattle.bz_words.proofs.ProperEntries.{dict_add_proper, dict_set_proper, dict_remove_proper, new_load_proper, comment_proper, print_comment_proper, remove_comment_proper, fix_proper, print_proper}
@@ -40,7 +43,7 @@ new_proper : (words : List Bytes) → AreUtf8 words → ReadsProper (c.new_of wo
 new_proper [] u = tt
 new_proper (kind ∷ []) u = tt
 new_proper (kind ∷ name ∷ words) u =
-    if_proper (is_kind kind) _ _ (λ k. made_proper IsPlace (New kind name) (c.place_of words) (place_proper words u.1.1) (λ place p. ((k, u.0), u.1.0, p))) tt
+    if_proper (is_kind kind) _ _ (λ k. made_proper IsPlace (λ place. w.Rule (wr.New kind name place)) (c.place_of words) (place_proper words u.1.1) (λ place p. ((k, u.0), u.1.0, p))) tt
 
 delete_proper : (words : List Bytes) → AreUtf8 words → ReadsProper (c.delete_of words)
 delete_proper [] u = tt
@@ -48,39 +51,39 @@ delete_proper (word ∷ words) u = tt
 
 set_kind_proper : (words : List Bytes) → AreUtf8 words → ReadsProper (c.set_kind_of words)
 set_kind_proper [] u = tt
-set_kind_proper (kind ∷ []) u = given_proper (is_kind kind) (SetKind kind) (λ k. (k, u.0))
+set_kind_proper (kind ∷ []) u = given_proper (is_kind kind) (w.Rule (wr.SetKind kind)) (λ k. (k, u.0))
 set_kind_proper (kind ∷ more ∷ words) u = tt
 
 set_proper : (words : List Bytes) → AreUtf8 words → ReadsProper (c.set_of words)
 set_proper [] u = tt
 set_proper (attribute ∷ values) u =
     if_proper (c.is_word_kind attribute) _ _ (λ _. set_kind_proper values u.1)
-    (given_proper (is_identifier attribute && is_nonempty values) (Set attribute values) (with_values attribute values u.0 u.1))
+    (given_proper (is_identifier attribute && is_nonempty values) (w.Attribute (wa.Set attribute values)) (with_values attribute values u.0 u.1))
 
 set_if_absent_proper : (words : List Bytes) → AreUtf8 words → ReadsProper (c.set_if_absent_of words)
 set_if_absent_proper [] u = tt
 set_if_absent_proper (attribute ∷ values) u =
-    given_proper (is_identifier attribute && not (c.is_word_kind attribute) && is_nonempty values) (SetIfAbsent attribute values) (λ h.
+    given_proper (is_identifier attribute && not (c.is_word_kind attribute) && is_nonempty values) (w.Attribute (wa.SetIfAbsent attribute values)) (λ h.
     let w = and_parts (is_identifier attribute && not (c.is_word_kind attribute)) (is_nonempty values) h in
     (((and_parts (is_identifier attribute) (not (c.is_word_kind attribute)) w.0).0, u.0), (w.1, u.1)))
 
 add_proper : (words : List Bytes) → AreUtf8 words → ReadsProper (c.add_of words)
 add_proper [] u = tt
 add_proper (attribute ∷ values) u =
-    given_proper (is_identifier attribute && is_nonempty values) (Add attribute values) (with_values attribute values u.0 u.1)
+    given_proper (is_identifier attribute && is_nonempty values) (w.Value (wv.Add attribute values)) (with_values attribute values u.0 u.1)
 
 remove_proper : (words : List Bytes) → AreUtf8 words → ReadsProper (c.remove_of words)
 remove_proper [] u = tt
 remove_proper (attribute ∷ values) u =
-    if_proper (is_nonempty values) _ _ (λ some. given_proper (is_identifier attribute) (RemoveValues attribute values) (λ i. ((i, u.0), (some, u.1))))
-    (made_proper AreAttributes Remove (c.attributes_of attribute) (attributes_proper attribute u.0) (λ attributes a. a))
+    if_proper (is_nonempty values) _ _ (λ some. given_proper (is_identifier attribute) (w.Value (wv.Remove attribute values)) (λ i. ((i, u.0), (some, u.1))))
+    (made_proper AreAttributes (λ attributes. w.Attribute (wa.Remove attributes)) (c.attributes_of attribute) (attributes_proper attribute u.0) (λ attributes a. a))
 
 replace_proper : (words : List Bytes) → AreUtf8 words → ReadsProper (c.replace_of words)
 replace_proper [] u = tt
 replace_proper (attribute ∷ []) u = tt
 replace_proper (attribute ∷ old ∷ []) u = tt
 replace_proper (attribute ∷ old ∷ new ∷ []) u =
-    made_proper AreAttributes (λ attributes. Replace attributes old new) (c.attributes_of attribute) (attributes_proper attribute u.0) (λ attributes a. (a, u.1.0, u.1.1.0))
+    made_proper AreAttributes (λ attributes. w.Value (wv.Replace attributes old new)) (c.attributes_of attribute) (attributes_proper attribute u.0) (λ attributes a. (a, u.1.0, u.1.1.0))
 replace_proper (attribute ∷ old ∷ new ∷ more ∷ words) u = tt
 
 substitute_proper : (words : List Bytes) → AreUtf8 words → ReadsProper (c.substitute_of words)
@@ -88,7 +91,7 @@ substitute_proper [] u = tt
 substitute_proper (attribute ∷ []) u = tt
 substitute_proper (attribute ∷ pattern ∷ []) u = tt
 substitute_proper (attribute ∷ pattern ∷ template ∷ []) u =
-    made_proper AreAttributes (λ attributes. Substitute attributes pattern template) (c.attributes_of attribute) (attributes_proper attribute u.0)
+    made_proper AreAttributes (λ attributes. w.Value (wv.Substitute attributes pattern template)) (c.attributes_of attribute) (attributes_proper attribute u.0)
     (λ attributes a. (a, u.1.0, u.1.1.0))
 substitute_proper (attribute ∷ pattern ∷ template ∷ more ∷ words) u = tt
 
@@ -96,7 +99,7 @@ move_proper : (words : List Bytes) → AreUtf8 words → ReadsProper (c.move_of 
 move_proper [] u = tt
 move_proper (from ∷ []) u = tt
 move_proper (from ∷ to ∷ values) u =
-    given_proper (is_identifier from && is_identifier to && is_nonempty values) (Move from to (c.values_of values)) (λ h.
+    given_proper (is_identifier from && is_identifier to && is_nonempty values) (w.Value (wv.Move from to (c.values_of values))) (λ h.
     let w = and_parts (is_identifier from && is_identifier to) (is_nonempty values) h in
     let v = and_parts (is_identifier from) (is_identifier to) w.0 in
     ((v.0, u.0), (v.1, u.1.0), moved_proper (list_any c.is_star values) values (w.1, u.1.1)))
@@ -105,20 +108,20 @@ rename_proper : (words : List Bytes) → AreUtf8 words → ReadsProper (c.rename
 rename_proper [] u = tt
 rename_proper (from ∷ []) u = tt
 rename_proper (from ∷ to ∷ []) u =
-    given_proper (is_identifier from && is_identifier to) (Rename from to) (λ h.
+    given_proper (is_identifier from && is_identifier to) (w.Attribute (wa.Rename from to)) (λ h.
     let w = and_parts (is_identifier from) (is_identifier to) h in ((w.0, u.0), (w.1, u.1.0)))
 rename_proper (from ∷ to ∷ more ∷ words) u = tt
 
 copy_proper : (words : List Bytes) → AreUtf8 words → ReadsProper (c.copy_of words)
 copy_proper [] u = tt
 copy_proper (attribute ∷ []) u = tt
-copy_proper (attribute ∷ rule ∷ []) u = given_proper (is_identifier attribute) (Copy attribute rule) (λ i. ((i, u.0), u.1.0))
+copy_proper (attribute ∷ rule ∷ []) u = given_proper (is_identifier attribute) (w.Attribute (wa.Copy attribute rule)) (λ i. ((i, u.0), u.1.0))
 copy_proper (attribute ∷ rule ∷ more ∷ words) u = tt
 
 copy_no_overwrite_proper : (words : List Bytes) → AreUtf8 words → ReadsProper (c.copy_no_overwrite_of words)
 copy_no_overwrite_proper [] u = tt
 copy_no_overwrite_proper (attribute ∷ []) u = tt
-copy_no_overwrite_proper (attribute ∷ rule ∷ []) u = given_proper (is_identifier attribute) (CopyNoOverwrite attribute rule) (λ i. ((i, u.0), u.1.0))
+copy_no_overwrite_proper (attribute ∷ rule ∷ []) u = given_proper (is_identifier attribute) (w.Attribute (wa.CopyNoOverwrite attribute rule)) (λ i. ((i, u.0), u.1.0))
 copy_no_overwrite_proper (attribute ∷ rule ∷ more ∷ words) u = tt
 
 -- ---- the table

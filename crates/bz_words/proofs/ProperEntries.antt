@@ -14,7 +14,10 @@ use Rattle.bz_words.specs.declared.command.Entry.{Entry}
 use Rattle.bz_words.specs.declared.command.Symbol.{Symbol}
 use Rattle.bz_words.specs.declared.command.Fixes.{Fixes}
 use Rattle.bz_words.specs.declared.command.Operation.{Operation}
-use Rattle.bz_words.specs.declared.command.Operation.TheVariants.{DictAdd, DictSet, DictRemove, NewLoad, Comment, PrintComment, RemoveComment, Fix, Print}
+use Rattle.bz_words.specs.declared.command.Operation.TheVariants as w
+use Rattle.bz_words.specs.declared.command.DictOperation.TheVariants as wd
+use Rattle.bz_words.specs.declared.command.LoadOperation.TheVariants as wl
+use Rattle.bz_words.specs.declared.command.CommentOperation.TheVariants as wc
 use Rattle.bz_words.specs.declared.fault.CommandFault.TheVariants.{Arguments}
 use Rattle.bz_words.proofs.CommentWords.{said}
 use Rattle.bz_words.proofs.ProperReads.{ReadsProper, given_proper, if_proper, made_proper, either, with_values}
@@ -67,16 +70,16 @@ entries_proper operation make (attribute ∷ words) u =
     made_proper (AreSome IsEntry) (operation attribute) (c.each_of c.entry_of words) (some_proper IsEntry c.entry_of entry_proper words w.1 u.1)
     (λ entries e. make attribute entries (w.0, u.0) e)) tt
 
-pub dict_add_proper : (words : List Bytes) → AreUtf8 words → ReadsProper (c.entries_of DictAdd words)
-dict_add_proper words u = entries_proper DictAdd (λ attribute entries i e. (i, e)) words u
+pub dict_add_proper : (words : List Bytes) → AreUtf8 words → ReadsProper (c.dict_add_of words)
+dict_add_proper words u = entries_proper (λ attribute entries. w.Dict (wd.Add attribute entries)) (λ attribute entries i e. (i, e)) words u
 
-pub dict_set_proper : (words : List Bytes) → AreUtf8 words → ReadsProper (c.entries_of DictSet words)
-dict_set_proper words u = entries_proper DictSet (λ attribute entries i e. (i, e)) words u
+pub dict_set_proper : (words : List Bytes) → AreUtf8 words → ReadsProper (c.dict_set_of words)
+dict_set_proper words u = entries_proper (λ attribute entries. w.Dict (wd.Set attribute entries)) (λ attribute entries i e. (i, e)) words u
 
 pub dict_remove_proper : (words : List Bytes) → AreUtf8 words → ReadsProper (c.dict_remove_of words)
 dict_remove_proper [] u = tt
 dict_remove_proper (attribute ∷ keys) u =
-    given_proper (is_identifier attribute && is_nonempty keys) (DictRemove attribute keys) (with_values attribute keys u.0 u.1)
+    given_proper (is_identifier attribute && is_nonempty keys) (w.Dict (wd.Remove attribute keys)) (with_values attribute keys u.0 u.1)
 
 -- ---- loads
 
@@ -98,7 +101,7 @@ pub new_load_proper : (words : List Bytes) → AreUtf8 words → ReadsProper (c.
 new_load_proper [] u = tt
 new_load_proper (path ∷ words) u =
     if_proper (is_nonempty words) _ _ (λ some.
-    made_proper (AreSome IsSymbol) (NewLoad path) (c.each_of c.symbol_of words) (some_proper IsSymbol c.symbol_of symbol_proper words some u.1)
+    made_proper (AreSome IsSymbol) (λ symbols. w.Load (wl.New path symbols)) (c.each_of c.symbol_of words) (some_proper IsSymbol c.symbol_of symbol_proper words some u.1)
     (λ symbols s. (u.0, s))) tt
 
 -- ---- comments
@@ -127,16 +130,16 @@ comment_from : (parts : Option (List Bytes × Bytes)) → IfSome parts AreCut �
 comment_from None h = tt
 comment_from (Some both) h =
     if_proper (c.is_one_line both.1) _ _ (λ line.
-    made_proper IsHost (λ host. Comment host both.1) (c.host_of both.0) (host_proper both.0 h.0) (λ host p. (p, line, h.1))) tt
+    made_proper IsHost (λ host. w.Comment (wc.Add host both.1)) (c.host_of both.0) (host_proper both.0 h.0) (λ host p. (p, line, h.1))) tt
 
 pub comment_proper : (words : List Bytes) → AreUtf8 words → ReadsProper (c.comment_of words)
 comment_proper words u = comment_from (c.split_last words) (last_proper words u)
 
 pub print_comment_proper : (words : List Bytes) → AreUtf8 words → ReadsProper (c.print_comment_of words)
-print_comment_proper words u = made_proper IsHost PrintComment (c.host_of words) (host_proper words u) (λ host p. p)
+print_comment_proper words u = made_proper IsHost (λ host. w.Comment (wc.Print host)) (c.host_of words) (host_proper words u) (λ host p. p)
 
 pub remove_comment_proper : (words : List Bytes) → AreUtf8 words → ReadsProper (c.remove_comment_of words)
-remove_comment_proper words u = made_proper IsHost RemoveComment (c.host_of words) (host_proper words u) (λ host p. p)
+remove_comment_proper words u = made_proper IsHost (λ host. w.Comment (wc.Remove host)) (c.host_of words) (host_proper words u) (λ host p. p)
 
 -- ---- fixes and fields
 
@@ -148,7 +151,7 @@ anything None = tt
 anything (Some fixes) = tt
 
 pub fix_proper : (words : List Bytes) → AreUtf8 words → ReadsProper (c.fix_of words)
-fix_proper words u = made_proper Anything Fix (c.fixes_of words) (anything (c.fixes_of words)) (λ fixes p. p)
+fix_proper words u = made_proper Anything (λ fixes. w.Load (wl.Fix fixes)) (c.fixes_of words) (anything (c.fixes_of words)) (λ fixes p. p)
 
 field_proper : (word : Bytes) → IsUtf8 word → IfSome (c.field_of word) IsField
 field_proper word u =
@@ -165,4 +168,4 @@ fields_proper [] u = (refl, ((refl, IsUtf8-from_is_utf8 (codes "name") name_is_t
 fields_proper (word ∷ words) u = some_proper IsField c.field_of field_proper (word ∷ words) refl u
 
 pub print_proper : (words : List Bytes) → AreUtf8 words → ReadsProper (c.print_of words)
-print_proper words u = made_proper (AreSome IsField) Print (c.fields_of words) (fields_proper words u) (λ fields p. p)
+print_proper words u = made_proper (AreSome IsField) (λ fields. w.Print fields) (c.fields_of words) (fields_proper words u) (λ fields p. p)

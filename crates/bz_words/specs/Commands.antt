@@ -6,7 +6,13 @@ use Rattle.bz_words.specs.Characters.{Bytes, asterisk, colon, equals_sign, line_
 use Rattle.bz_words.specs.Words.{words_of, is_nonempty}
 use Rattle.bz_words.specs.Identifiers.{is_identifier, is_kind}
 use Rattle.bz_words.specs.declared.command.Operation.{Operation}
-use Rattle.bz_words.specs.declared.command.Operation.TheVariants.{New, Delete, SetKind, Set, SetIfAbsent, Add, Remove, RemoveValues, Replace, Substitute, Move, Rename, Copy, CopyNoOverwrite, DictAdd, DictSet, DictRemove, NewLoad, Comment, PrintComment, RemoveComment, Fix, Print}
+use Rattle.bz_words.specs.declared.command.Operation.TheVariants as w
+use Rattle.bz_words.specs.declared.command.RuleOperation.TheVariants as wr
+use Rattle.bz_words.specs.declared.command.AttributeOperation.TheVariants as wa
+use Rattle.bz_words.specs.declared.command.ValueOperation.TheVariants as wv
+use Rattle.bz_words.specs.declared.command.DictOperation.TheVariants as wd
+use Rattle.bz_words.specs.declared.command.LoadOperation.TheVariants as wl
+use Rattle.bz_words.specs.declared.command.CommentOperation.TheVariants as wc
 use Rattle.bz_words.specs.declared.command.Place.{Place}
 use Rattle.bz_words.specs.declared.command.Place.TheVariants.{End, Before, After}
 use Rattle.bz_words.specs.declared.command.Attributes.{Attributes}
@@ -64,72 +70,72 @@ place_of _ = None
 
 -- new KIND NAME [before|after RULE]
 abbrev pub new_of : List Bytes → Read
-new_of (kind ∷ name ∷ words) = if is_kind kind then ok_or (option_map (New kind name) (place_of words)) Arguments else Err Arguments
+new_of (kind ∷ name ∷ words) = if is_kind kind then ok_or (option_map (λ place. w.Rule (wr.New kind name place)) (place_of words)) Arguments else Err Arguments
 new_of _ = Err Arguments
 
 -- delete
 abbrev pub delete_of : List Bytes → Read
-delete_of [] = Ok Delete
+delete_of [] = Ok (w.Rule wr.Delete)
 delete_of _ = Err Arguments
 
 -- set kind KIND
 abbrev pub set_kind_of : List Bytes → Read
-set_kind_of (kind ∷ []) = given (is_kind kind) (SetKind kind)
+set_kind_of (kind ∷ []) = given (is_kind kind) (w.Rule (wr.SetKind kind))
 set_kind_of _ = Err Arguments
 
 -- set ATTRIBUTE VALUE..
 abbrev pub set_of : List Bytes → Read
 set_of [] = Err Arguments
 set_of (attribute ∷ values) =
-    if is_word_kind attribute then set_kind_of values else given (is_identifier attribute && is_nonempty values) (Set attribute values)
+    if is_word_kind attribute then set_kind_of values else given (is_identifier attribute && is_nonempty values) (w.Attribute (wa.Set attribute values))
 
 -- set_if_absent ATTRIBUTE VALUE..
 abbrev pub set_if_absent_of : List Bytes → Read
 set_if_absent_of [] = Err Arguments
 set_if_absent_of (attribute ∷ values) =
-    given (is_identifier attribute && not (is_word_kind attribute) && is_nonempty values) (SetIfAbsent attribute values)
+    given (is_identifier attribute && not (is_word_kind attribute) && is_nonempty values) (w.Attribute (wa.SetIfAbsent attribute values))
 
 -- add ATTRIBUTE VALUE..
 abbrev pub add_of : List Bytes → Read
 add_of [] = Err Arguments
-add_of (attribute ∷ values) = given (is_identifier attribute && is_nonempty values) (Add attribute values)
+add_of (attribute ∷ values) = given (is_identifier attribute && is_nonempty values) (w.Value (wv.Add attribute values))
 
 -- remove ATTRIBUTE, remove * or remove ATTRIBUTE VALUE..
 abbrev pub remove_of : List Bytes → Read
 remove_of [] = Err Arguments
 remove_of (attribute ∷ values) =
-    if is_nonempty values then given (is_identifier attribute) (RemoveValues attribute values)
-    else ok_or (option_map Remove (attributes_of attribute)) Arguments
+    if is_nonempty values then given (is_identifier attribute) (w.Value (wv.Remove attribute values))
+    else ok_or (option_map (λ attributes. w.Attribute (wa.Remove attributes)) (attributes_of attribute)) Arguments
 
 -- replace ATTRIBUTE OLD NEW or replace * OLD NEW
 abbrev pub replace_of : List Bytes → Read
-replace_of (attribute ∷ old ∷ new ∷ []) = ok_or (option_map (λ attributes. Replace attributes old new) (attributes_of attribute)) Arguments
+replace_of (attribute ∷ old ∷ new ∷ []) = ok_or (option_map (λ attributes. w.Value (wv.Replace attributes old new)) (attributes_of attribute)) Arguments
 replace_of _ = Err Arguments
 
 -- substitute ATTRIBUTE PATTERN TEMPLATE or substitute * PATTERN TEMPLATE, for each text that `regex` takes as a pattern
 abbrev pub substitute_of : List Bytes → Read
 substitute_of (attribute ∷ pattern ∷ template ∷ []) =
-    ok_or (option_map (λ attributes. Substitute attributes pattern template) (attributes_of attribute)) Arguments
+    ok_or (option_map (λ attributes. w.Value (wv.Substitute attributes pattern template)) (attributes_of attribute)) Arguments
 substitute_of _ = Err Arguments
 
 -- move FROM TO VALUE..
 abbrev pub move_of : List Bytes → Read
-move_of (from ∷ to ∷ values) = given (is_identifier from && is_identifier to && is_nonempty values) (Move from to (values_of values))
+move_of (from ∷ to ∷ values) = given (is_identifier from && is_identifier to && is_nonempty values) (w.Value (wv.Move from to (values_of values)))
 move_of _ = Err Arguments
 
 -- rename FROM TO
 abbrev pub rename_of : List Bytes → Read
-rename_of (from ∷ to ∷ []) = given (is_identifier from && is_identifier to) (Rename from to)
+rename_of (from ∷ to ∷ []) = given (is_identifier from && is_identifier to) (w.Attribute (wa.Rename from to))
 rename_of _ = Err Arguments
 
 -- copy ATTRIBUTE RULE
 abbrev pub copy_of : List Bytes → Read
-copy_of (attribute ∷ rule ∷ []) = given (is_identifier attribute) (Copy attribute rule)
+copy_of (attribute ∷ rule ∷ []) = given (is_identifier attribute) (w.Attribute (wa.Copy attribute rule))
 copy_of _ = Err Arguments
 
 -- copy_no_overwrite ATTRIBUTE RULE
 abbrev pub copy_no_overwrite_of : List Bytes → Read
-copy_no_overwrite_of (attribute ∷ rule ∷ []) = given (is_identifier attribute) (CopyNoOverwrite attribute rule)
+copy_no_overwrite_of (attribute ∷ rule ∷ []) = given (is_identifier attribute) (w.Attribute (wa.CopyNoOverwrite attribute rule))
 copy_no_overwrite_of _ = Err Arguments
 
 -- what stands before the first such byte, and what stands behind it
@@ -146,16 +152,24 @@ abbrev pub each_of : {X : Type 0} → (Bytes → Option X) → List Bytes → Op
 each_of form [] = Some []
 each_of form (word ∷ words) = option_and_then (λ x. option_map (λ xs. x ∷ xs) (each_of form words)) (form word)
 
--- dict_add ATTRIBUTE KEY:VALUE.. and dict_set ATTRIBUTE KEY:VALUE..
+-- ATTRIBUTE KEY:VALUE..
 abbrev pub entries_of : (Bytes → List Entry → Operation) → List Bytes → Read
 entries_of operation [] = Err Arguments
 entries_of operation (attribute ∷ words) =
     if is_identifier attribute && is_nonempty words then ok_or (option_map (operation attribute) (each_of entry_of words)) Arguments else Err Arguments
 
+-- dict_add ATTRIBUTE KEY:VALUE..
+abbrev pub dict_add_of : List Bytes → Read
+dict_add_of words = entries_of (λ attribute entries. w.Dict (wd.Add attribute entries)) words
+
+-- dict_set ATTRIBUTE KEY:VALUE..
+abbrev pub dict_set_of : List Bytes → Read
+dict_set_of words = entries_of (λ attribute entries. w.Dict (wd.Set attribute entries)) words
+
 -- dict_remove ATTRIBUTE KEY..
 abbrev pub dict_remove_of : List Bytes → Read
 dict_remove_of [] = Err Arguments
-dict_remove_of (attribute ∷ keys) = given (is_identifier attribute && is_nonempty keys) (DictRemove attribute keys)
+dict_remove_of (attribute ∷ keys) = given (is_identifier attribute && is_nonempty keys) (w.Dict (wd.Remove attribute keys))
 
 -- two names of a symbol, which are identifiers
 abbrev pub symbol_of_names : Bytes → Bytes → Option Symbol
@@ -168,7 +182,7 @@ symbol_of word = option_map_or (λ parts. symbol_of_names parts.0 parts.1) (cut_
 -- new_load PATH [TO=]FROM..
 abbrev pub new_load_of : List Bytes → Read
 new_load_of [] = Err Arguments
-new_load_of (path ∷ words) = if is_nonempty words then ok_or (option_map (NewLoad path) (each_of symbol_of words)) Arguments else Err Arguments
+new_load_of (path ∷ words) = if is_nonempty words then ok_or (option_map (λ symbols. w.Load (wl.New path symbols)) (each_of symbol_of words)) Arguments else Err Arguments
 
 -- nothing, ATTRIBUTE, or ATTRIBUTE VALUE
 abbrev pub host_of : List Bytes → Option Host
@@ -189,16 +203,16 @@ is_one_line text = not (list_any (λ byte. byte == line_feed) text)
 -- comment [ATTRIBUTE [VALUE]] TEXT; the text has no newline
 abbrev pub comment_of : List Bytes → Read
 comment_of words =
-    option_map_or (λ parts. if is_one_line parts.1 then ok_or (option_map (λ host. Comment host parts.1) (host_of parts.0)) Arguments else Err Arguments)
+    option_map_or (λ parts. if is_one_line parts.1 then ok_or (option_map (λ host. w.Comment (wc.Add host parts.1)) (host_of parts.0)) Arguments else Err Arguments)
     (split_last words) (Err Arguments)
 
 -- print_comment [ATTRIBUTE [VALUE]]
 abbrev pub print_comment_of : List Bytes → Read
-print_comment_of words = ok_or (option_map PrintComment (host_of words)) Arguments
+print_comment_of words = ok_or (option_map (λ host. w.Comment (wc.Print host)) (host_of words)) Arguments
 
 -- remove_comment [ATTRIBUTE [VALUE]]
 abbrev pub remove_comment_of : List Bytes → Read
-remove_comment_of words = ok_or (option_map RemoveComment (host_of words)) Arguments
+remove_comment_of words = ok_or (option_map (λ host. w.Comment (wc.Remove host)) (host_of words)) Arguments
 
 -- one more fix, which isn't named yet
 abbrev pub with_fix : Bytes → Fixes → Option Fixes
@@ -217,7 +231,7 @@ fixes_of words = fixes_from (record { move_package_to_top = false; unused_loads 
 
 -- fix [unusedLoads] [movePackageToTop]
 abbrev pub fix_of : List Bytes → Read
-fix_of words = ok_or (option_map Fix (fixes_of words)) Arguments
+fix_of words = ok_or (option_map (λ fixes. w.Load (wl.Fix fixes)) (fixes_of words)) Arguments
 
 -- these words name fields that are not known
 abbrev pub is_unknown_field : Bytes → Bool
@@ -238,7 +252,7 @@ fields_of words = each_of field_of words
 
 -- print [FIELD..]
 abbrev pub print_of : List Bytes → Read
-print_of words = ok_or (option_map Print (fields_of words)) Arguments
+print_of words = ok_or (option_map (λ fields. w.Print fields) (fields_of words)) Arguments
 
 -- ---- all commands
 
@@ -257,8 +271,8 @@ commands =
     ∷ (codes "rename", rename_of)
     ∷ (codes "copy", copy_of)
     ∷ (codes "copy_no_overwrite", copy_no_overwrite_of)
-    ∷ (codes "dict_add", entries_of DictAdd)
-    ∷ (codes "dict_set", entries_of DictSet)
+    ∷ (codes "dict_add", dict_add_of)
+    ∷ (codes "dict_set", dict_set_of)
     ∷ (codes "dict_remove", dict_remove_of)
     ∷ (codes "new_load", new_load_of)
     ∷ (codes "comment", comment_of)

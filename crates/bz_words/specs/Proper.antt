@@ -5,7 +5,13 @@ use Rattle.bz_words.specs.Characters.{Bytes}
 use Rattle.bz_words.specs.Words.{is_nonempty}
 use Rattle.bz_words.specs.Identifiers.{is_identifier, is_kind}
 use Rattle.bz_words.specs.declared.command.Operation.{Operation}
-use Rattle.bz_words.specs.declared.command.Operation.TheVariants.{New, Delete, SetKind, Set, SetIfAbsent, Add, Remove, RemoveValues, Replace, Substitute, Move, Rename, Copy, CopyNoOverwrite, DictAdd, DictSet, DictRemove, NewLoad, Comment, PrintComment, RemoveComment, Fix, Print}
+use Rattle.bz_words.specs.declared.command.Operation.TheVariants as w
+use Rattle.bz_words.specs.declared.command.RuleOperation.TheVariants as wr
+use Rattle.bz_words.specs.declared.command.AttributeOperation.TheVariants as wa
+use Rattle.bz_words.specs.declared.command.ValueOperation.TheVariants as wv
+use Rattle.bz_words.specs.declared.command.DictOperation.TheVariants as wd
+use Rattle.bz_words.specs.declared.command.LoadOperation.TheVariants as wl
+use Rattle.bz_words.specs.declared.command.CommentOperation.TheVariants as wc
 use Rattle.bz_words.specs.declared.command.Entry.{Entry}
 use Rattle.bz_words.specs.declared.command.Symbol.{Symbol}
 use Rattle.bz_words.specs.declared.command.Host.{Host}
@@ -74,26 +80,26 @@ abbrev pub AreSome : {X : Type 0} → (X → Type 0) → List X → Type 0
 AreSome P xs = (is_nonempty xs ≡ true) × EachIs P xs
 
 abbrev pub IsProperCommand : Operation → Type 0
-IsProperCommand (New kind name place) = IsKind kind × IsUtf8 name × IsPlace place
-IsProperCommand Delete = Unit {0}
-IsProperCommand (SetKind kind) = IsKind kind
-IsProperCommand (Set attribute values) = IsAttribute attribute × AreValues values
-IsProperCommand (SetIfAbsent attribute values) = IsAttribute attribute × AreValues values
-IsProperCommand (Add attribute values) = IsAttribute attribute × AreValues values
-IsProperCommand (Remove attributes) = AreAttributes attributes
-IsProperCommand (RemoveValues attribute values) = IsAttribute attribute × AreValues values
-IsProperCommand (Replace attributes old new) = AreAttributes attributes × IsUtf8 old × IsUtf8 new
-IsProperCommand (Substitute attributes pattern template) = AreAttributes attributes × IsUtf8 pattern × IsUtf8 template
-IsProperCommand (Move from to values) = IsAttribute from × IsAttribute to × AreMoved values
-IsProperCommand (Rename from to) = IsAttribute from × IsAttribute to
-IsProperCommand (Copy attribute rule) = IsAttribute attribute × IsUtf8 rule
-IsProperCommand (CopyNoOverwrite attribute rule) = IsAttribute attribute × IsUtf8 rule
-IsProperCommand (DictAdd attribute entries) = IsAttribute attribute × AreSome IsEntry entries
-IsProperCommand (DictSet attribute entries) = IsAttribute attribute × AreSome IsEntry entries
-IsProperCommand (DictRemove attribute keys) = IsAttribute attribute × AreValues keys
-IsProperCommand (NewLoad path symbols) = IsUtf8 path × AreSome IsSymbol symbols
-IsProperCommand (Comment host text) = IsHost host × (is_one_line text ≡ true) × IsUtf8 text
-IsProperCommand (PrintComment host) = IsHost host
-IsProperCommand (RemoveComment host) = IsHost host
-IsProperCommand (Fix fixes) = Unit {0}
-IsProperCommand (Print fields) = AreSome IsField fields
+IsProperCommand (w.Rule (wr.New kind name place)) = IsKind kind × IsUtf8 name × IsPlace place
+IsProperCommand (w.Rule wr.Delete) = Unit {0}
+IsProperCommand (w.Rule (wr.SetKind kind)) = IsKind kind
+IsProperCommand (w.Attribute (wa.Set attribute values)) = IsAttribute attribute × AreValues values
+IsProperCommand (w.Attribute (wa.SetIfAbsent attribute values)) = IsAttribute attribute × AreValues values
+IsProperCommand (w.Attribute (wa.Remove attributes)) = AreAttributes attributes
+IsProperCommand (w.Attribute (wa.Rename from to)) = IsAttribute from × IsAttribute to
+IsProperCommand (w.Attribute (wa.Copy attribute rule)) = IsAttribute attribute × IsUtf8 rule
+IsProperCommand (w.Attribute (wa.CopyNoOverwrite attribute rule)) = IsAttribute attribute × IsUtf8 rule
+IsProperCommand (w.Value (wv.Add attribute values)) = IsAttribute attribute × AreValues values
+IsProperCommand (w.Value (wv.Remove attribute values)) = IsAttribute attribute × AreValues values
+IsProperCommand (w.Value (wv.Replace attributes old new)) = AreAttributes attributes × IsUtf8 old × IsUtf8 new
+IsProperCommand (w.Value (wv.Substitute attributes pattern template)) = AreAttributes attributes × IsUtf8 pattern × IsUtf8 template
+IsProperCommand (w.Value (wv.Move from to values)) = IsAttribute from × IsAttribute to × AreMoved values
+IsProperCommand (w.Dict (wd.Add attribute entries)) = IsAttribute attribute × AreSome IsEntry entries
+IsProperCommand (w.Dict (wd.Set attribute entries)) = IsAttribute attribute × AreSome IsEntry entries
+IsProperCommand (w.Dict (wd.Remove attribute keys)) = IsAttribute attribute × AreValues keys
+IsProperCommand (w.Load (wl.New path symbols)) = IsUtf8 path × AreSome IsSymbol symbols
+IsProperCommand (w.Load (wl.Fix fixes)) = Unit {0}
+IsProperCommand (w.Comment (wc.Add host text)) = IsHost host × (is_one_line text ≡ true) × IsUtf8 text
+IsProperCommand (w.Comment (wc.Print host)) = IsHost host
+IsProperCommand (w.Comment (wc.Remove host)) = IsHost host
+IsProperCommand (w.Print fields) = AreSome IsField fields

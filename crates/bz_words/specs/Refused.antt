@@ -3,13 +3,14 @@ use Rattle.std.specs.Prelude.{◌≡◌, ◌⊎◌, Ok, Err}
 use Rattle.bz_pattern.specs.Patterns.{IsRefusedPattern}
 use Rattle.bz_words.specs.Characters.{Bytes}
 use Rattle.bz_words.specs.Commands.{Read, command_of}
-use Rattle.bz_words.specs.declared.command.Operation.TheVariants.{Substitute}
+use Rattle.bz_words.specs.declared.command.Operation.TheVariants as w
+use Rattle.bz_words.specs.declared.command.ValueOperation.TheVariants as wv
 use Rattle.bz_words.specs.declared.fault.CommandFault.{CommandFault}
 use Rattle.bz_words.specs.declared.fault.CommandFault.TheVariants.{BadPattern}
 
 -- a substitution whose pattern `regex` refuses
 abbrev pub HasBadPattern : Read → Type 0
-HasBadPattern (Ok (Substitute attributes pattern template)) = IsRefusedPattern pattern
+HasBadPattern (Ok (w.Value (wv.Substitute attributes pattern template))) = IsRefusedPattern pattern
 HasBadPattern _ = ⊥
 
 -- memory aside: what the text reads as, or a pattern that is refused where nothing else is wrong

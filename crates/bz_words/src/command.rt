@@ -31,15 +31,34 @@ impl Command {
     {
         matches!(
             self.operation,
-            Operation::PrintComment { .. } | Operation::Print { .. }
+            Operation::Comment(CommentOperation::Print { .. }) | Operation::Print { .. }
         )
     }
 }
 
-/// What is done to the rules that a target means. Attributes, kinds and values are as they are written: no value is
-/// shortened yet, and none stands in quotation marks.
+/// What is done to the rules that a target means, in groups by what the commands work on. Attributes, kinds and values are
+/// as they are written: no value is shortened yet, and none stands in quotation marks.
 #[derive(Debug, Drop)]
 pub enum Operation {
+    /// On rules as a whole.
+    Rule(RuleOperation),
+    /// On attributes as a whole.
+    Attribute(AttributeOperation),
+    /// On the values of attributes.
+    Value(ValueOperation),
+    /// On attributes that are dicts.
+    Dict(DictOperation),
+    /// On the symbols that the file loads.
+    Load(LoadOperation),
+    /// On comments.
+    Comment(CommentOperation),
+    /// Fields of the rules, one or more, are printed.
+    Print { fields: Items<Field> },
+}
+
+/// What is done to rules as a whole.
+#[derive(Debug, Drop)]
+pub enum RuleOperation {
     /// A new rule of this kind with this name.
     New {
         kind: Text,
@@ -52,6 +71,11 @@ pub enum Operation {
     SetKind {
         kind: Text,
     },
+}
+
+/// What is done to attributes as a whole.
+#[derive(Debug, Drop)]
+pub enum AttributeOperation {
     /// The attribute's value becomes these, one or more.
     Set {
         attribute: Text,
@@ -62,17 +86,37 @@ pub enum Operation {
         attribute: Text,
         values: Items<Text>,
     },
+    /// Whole attributes go.
+    Remove {
+        attributes: Attributes,
+    },
+    /// The attribute gets another name.
+    Rename {
+        from: Text,
+        to: Text,
+    },
+    /// The attribute gets the value that it has in the first rule of this name.
+    Copy {
+        attribute: Text,
+        rule: Text,
+    },
+    /// The same where there is no such attribute.
+    CopyNoOverwrite {
+        attribute: Text,
+        rule: Text,
+    },
+}
+
+/// What is done to the values of attributes.
+#[derive(Debug, Drop)]
+pub enum ValueOperation {
     /// These values, one or more, go to the end of the attribute's list where they are no items of it.
     Add {
         attribute: Text,
         values: Items<Text>,
     },
-    /// Whole attributes go.
-    Remove {
-        attributes: Attributes,
-    },
     /// These values, one or more, go from the attribute's lists.
-    RemoveValues {
+    Remove {
         attribute: Text,
         values: Items<Text>,
     },
@@ -94,62 +138,46 @@ pub enum Operation {
         to: Text,
         values: Values,
     },
-    /// The attribute gets another name.
-    Rename {
-        from: Text,
-        to: Text,
-    },
-    /// The attribute gets the value that it has in the first rule of this name.
-    Copy {
-        attribute: Text,
-        rule: Text,
-    },
-    /// The same where there is no such attribute.
-    CopyNoOverwrite {
-        attribute: Text,
-        rule: Text,
-    },
+}
+
+/// What is done to attributes that are dicts.
+#[derive(Debug, Drop)]
+pub enum DictOperation {
     /// Entries whose key isn't there, one or more, go to the end of the attribute's dict.
-    DictAdd {
+    Add {
         attribute: Text,
         entries: Items<Entry>,
     },
     /// The same, and the value of a key that is there becomes this one.
-    DictSet {
+    Set {
         attribute: Text,
         entries: Items<Entry>,
     },
     /// The entries of these keys, one or more, go from the attribute's dict.
-    DictRemove {
+    Remove {
         attribute: Text,
         keys: Items<Text>,
     },
+}
+
+/// What is done to the symbols that the file loads.
+#[derive(Debug, Drop)]
+pub enum LoadOperation {
     /// Symbols, one or more, are loaded from a path.
-    NewLoad {
-        path: Text,
-        symbols: Items<Symbol>,
-    },
-    /// A comment is put above.
-    Comment {
-        host: Host,
-        text: Text,
-    },
-    /// The comments are printed.
-    PrintComment {
-        host: Host,
-    },
-    /// The comments go.
-    RemoveComment {
-        host: Host,
-    },
+    New { path: Text, symbols: Items<Symbol> },
     /// The file is mended.
-    Fix {
-        fixes: Fixes,
-    },
-    /// Fields of the rules, one or more, are printed.
-    Print {
-        fields: Items<Field>,
-    },
+    Fix { fixes: Fixes },
+}
+
+/// What is done to comments, or with them.
+#[derive(Debug, Drop)]
+pub enum CommentOperation {
+    /// A comment is put above.
+    Add { host: Host, text: Text },
+    /// The comments are printed.
+    Print { host: Host },
+    /// The comments go.
+    Remove { host: Host },
 }
 
 /// Where a new rule goes.

@@ -1,7 +1,10 @@
 //! Equal commands.
 ghost use Rattle.std.specs.Prelude.{◌≡◌, IfOk};
 
-use crate::command::{Attributes, Command, Entry, Field, Host, Operation, Place, Symbol, Values};
+use crate::command::{
+    AttributeOperation, Attributes, Command, CommentOperation, DictOperation, Entry, Field, Host,
+    LoadOperation, Operation, Place, RuleOperation, Symbol, ValueOperation, Values,
+};
 use bz_items::{Items, Memory, Text};
 
 fn copied(texts: &Items<Text>) -> Result<Items<Text>, Memory>
@@ -128,97 +131,161 @@ fn copied_fields(fields: &Items<Field>) -> Result<Items<Field>, Memory>
     Ok(Items::from_vec(copied))
 }
 
+impl RuleOperation {
+    fn copy(&self) -> Result<RuleOperation, Memory>
+        ensures { IfOk result (λ operation. operation ≡ self.now) }
+    {
+        match self {
+            RuleOperation::New { kind, name, place } => Ok(RuleOperation::New {
+                kind: kind.copy()?,
+                name: name.copy()?,
+                place: place.copy()?,
+            }),
+            RuleOperation::Delete => Ok(RuleOperation::Delete),
+            RuleOperation::SetKind { kind } => Ok(RuleOperation::SetKind { kind: kind.copy()? }),
+        }
+    }
+}
+
+impl AttributeOperation {
+    fn copy(&self) -> Result<AttributeOperation, Memory>
+        ensures { IfOk result (λ operation. operation ≡ self.now) }
+    {
+        match self {
+            AttributeOperation::Set { attribute, values } => Ok(AttributeOperation::Set {
+                attribute: attribute.copy()?,
+                values: copied(values)?,
+            }),
+            AttributeOperation::SetIfAbsent { attribute, values } => Ok(
+                AttributeOperation::SetIfAbsent {
+                    attribute: attribute.copy()?,
+                    values: copied(values)?,
+                },
+            ),
+            AttributeOperation::Remove { attributes } => Ok(AttributeOperation::Remove {
+                attributes: attributes.copy()?,
+            }),
+            AttributeOperation::Rename { from, to } => Ok(AttributeOperation::Rename {
+                from: from.copy()?,
+                to: to.copy()?,
+            }),
+            AttributeOperation::Copy { attribute, rule } => Ok(AttributeOperation::Copy {
+                attribute: attribute.copy()?,
+                rule: rule.copy()?,
+            }),
+            AttributeOperation::CopyNoOverwrite { attribute, rule } => Ok(
+                AttributeOperation::CopyNoOverwrite {
+                    attribute: attribute.copy()?,
+                    rule: rule.copy()?,
+                },
+            ),
+        }
+    }
+}
+
+impl ValueOperation {
+    fn copy(&self) -> Result<ValueOperation, Memory>
+        ensures { IfOk result (λ operation. operation ≡ self.now) }
+    {
+        match self {
+            ValueOperation::Add { attribute, values } => Ok(ValueOperation::Add {
+                attribute: attribute.copy()?,
+                values: copied(values)?,
+            }),
+            ValueOperation::Remove { attribute, values } => Ok(ValueOperation::Remove {
+                attribute: attribute.copy()?,
+                values: copied(values)?,
+            }),
+            ValueOperation::Replace {
+                attributes,
+                old,
+                new,
+            } => Ok(ValueOperation::Replace {
+                attributes: attributes.copy()?,
+                old: old.copy()?,
+                new: new.copy()?,
+            }),
+            ValueOperation::Substitute {
+                attributes,
+                pattern,
+                template,
+            } => Ok(ValueOperation::Substitute {
+                attributes: attributes.copy()?,
+                pattern: pattern.copy()?,
+                template: template.copy()?,
+            }),
+            ValueOperation::Move { from, to, values } => Ok(ValueOperation::Move {
+                from: from.copy()?,
+                to: to.copy()?,
+                values: values.copy()?,
+            }),
+        }
+    }
+}
+
+impl DictOperation {
+    fn copy(&self) -> Result<DictOperation, Memory>
+        ensures { IfOk result (λ operation. operation ≡ self.now) }
+    {
+        match self {
+            DictOperation::Add { attribute, entries } => Ok(DictOperation::Add {
+                attribute: attribute.copy()?,
+                entries: copied_entries(entries)?,
+            }),
+            DictOperation::Set { attribute, entries } => Ok(DictOperation::Set {
+                attribute: attribute.copy()?,
+                entries: copied_entries(entries)?,
+            }),
+            DictOperation::Remove { attribute, keys } => Ok(DictOperation::Remove {
+                attribute: attribute.copy()?,
+                keys: copied(keys)?,
+            }),
+        }
+    }
+}
+
+impl LoadOperation {
+    fn copy(&self) -> Result<LoadOperation, Memory>
+        ensures { IfOk result (λ operation. operation ≡ self.now) }
+    {
+        match self {
+            LoadOperation::New { path, symbols } => Ok(LoadOperation::New {
+                path: path.copy()?,
+                symbols: copied_symbols(symbols)?,
+            }),
+            LoadOperation::Fix { fixes } => Ok(LoadOperation::Fix { fixes: *fixes }),
+        }
+    }
+}
+
+impl CommentOperation {
+    fn copy(&self) -> Result<CommentOperation, Memory>
+        ensures { IfOk result (λ operation. operation ≡ self.now) }
+    {
+        match self {
+            CommentOperation::Add { host, text } => Ok(CommentOperation::Add {
+                host: host.copy()?,
+                text: text.copy()?,
+            }),
+            CommentOperation::Print { host } => Ok(CommentOperation::Print { host: host.copy()? }),
+            CommentOperation::Remove { host } => Ok(CommentOperation::Remove {
+                host: host.copy()?,
+            }),
+        }
+    }
+}
+
 impl Operation {
     fn copy(&self) -> Result<Operation, Memory>
         ensures { IfOk result (λ operation. operation ≡ self.now) }
     {
         match self {
-            Operation::New { kind, name, place } => Ok(Operation::New {
-                kind: kind.copy()?,
-                name: name.copy()?,
-                place: place.copy()?,
-            }),
-            Operation::Delete => Ok(Operation::Delete),
-            Operation::SetKind { kind } => Ok(Operation::SetKind { kind: kind.copy()? }),
-            Operation::Set { attribute, values } => Ok(Operation::Set {
-                attribute: attribute.copy()?,
-                values: copied(values)?,
-            }),
-            Operation::SetIfAbsent { attribute, values } => Ok(Operation::SetIfAbsent {
-                attribute: attribute.copy()?,
-                values: copied(values)?,
-            }),
-            Operation::Add { attribute, values } => Ok(Operation::Add {
-                attribute: attribute.copy()?,
-                values: copied(values)?,
-            }),
-            Operation::Remove { attributes } => Ok(Operation::Remove {
-                attributes: attributes.copy()?,
-            }),
-            Operation::RemoveValues { attribute, values } => Ok(Operation::RemoveValues {
-                attribute: attribute.copy()?,
-                values: copied(values)?,
-            }),
-            Operation::Replace {
-                attributes,
-                old,
-                new,
-            } => Ok(Operation::Replace {
-                attributes: attributes.copy()?,
-                old: old.copy()?,
-                new: new.copy()?,
-            }),
-            Operation::Substitute {
-                attributes,
-                pattern,
-                template,
-            } => Ok(Operation::Substitute {
-                attributes: attributes.copy()?,
-                pattern: pattern.copy()?,
-                template: template.copy()?,
-            }),
-            Operation::Move { from, to, values } => Ok(Operation::Move {
-                from: from.copy()?,
-                to: to.copy()?,
-                values: values.copy()?,
-            }),
-            Operation::Rename { from, to } => Ok(Operation::Rename {
-                from: from.copy()?,
-                to: to.copy()?,
-            }),
-            Operation::Copy { attribute, rule } => Ok(Operation::Copy {
-                attribute: attribute.copy()?,
-                rule: rule.copy()?,
-            }),
-            Operation::CopyNoOverwrite { attribute, rule } => Ok(Operation::CopyNoOverwrite {
-                attribute: attribute.copy()?,
-                rule: rule.copy()?,
-            }),
-            Operation::DictAdd { attribute, entries } => Ok(Operation::DictAdd {
-                attribute: attribute.copy()?,
-                entries: copied_entries(entries)?,
-            }),
-            Operation::DictSet { attribute, entries } => Ok(Operation::DictSet {
-                attribute: attribute.copy()?,
-                entries: copied_entries(entries)?,
-            }),
-            Operation::DictRemove { attribute, keys } => Ok(Operation::DictRemove {
-                attribute: attribute.copy()?,
-                keys: copied(keys)?,
-            }),
-            Operation::NewLoad { path, symbols } => Ok(Operation::NewLoad {
-                path: path.copy()?,
-                symbols: copied_symbols(symbols)?,
-            }),
-            Operation::Comment { host, text } => Ok(Operation::Comment {
-                host: host.copy()?,
-                text: text.copy()?,
-            }),
-            Operation::PrintComment { host } => Ok(Operation::PrintComment { host: host.copy()? }),
-            Operation::RemoveComment { host } => Ok(Operation::RemoveComment {
-                host: host.copy()?,
-            }),
-            Operation::Fix { fixes } => Ok(Operation::Fix { fixes: *fixes }),
+            Operation::Rule(operation) => Ok(Operation::Rule(operation.copy()?)),
+            Operation::Attribute(operation) => Ok(Operation::Attribute(operation.copy()?)),
+            Operation::Value(operation) => Ok(Operation::Value(operation.copy()?)),
+            Operation::Dict(operation) => Ok(Operation::Dict(operation.copy()?)),
+            Operation::Load(operation) => Ok(Operation::Load(operation.copy()?)),
+            Operation::Comment(operation) => Ok(Operation::Comment(operation.copy()?)),
             Operation::Print { fields } => Ok(Operation::Print {
                 fields: copied_fields(fields)?,
             }),

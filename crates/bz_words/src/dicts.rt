@@ -4,9 +4,8 @@ ghost use Rattle.bz_words.specs.Characters.{Bytes};
 ghost use Rattle.bz_words.specs.Commands as c;
 ghost use Rattle.bz_words.specs.declared.command.Entry.{Entry as EntryIn};
 ghost use Rattle.bz_words.specs.declared.command.Operation.{Operation as OperationIn};
-ghost use Rattle.bz_words.specs.declared.command.Operation.TheVariants as operations;
 
-use crate::command::{Entry, Operation};
+use crate::command::{DictOperation, Entry, Operation};
 use crate::fault::CommandFault;
 use crate::forms::{Read, cut, given, has_values, is_attribute, take_first};
 use bz_items::{Items, Memory, Text};
@@ -57,20 +56,20 @@ fn entries_of(mut words: Vec<Text>) -> Result<(Text, Items<Entry>), CommandFault
 
 /// `dict_add ATTRIBUTE KEY:VALUE..`. The errors: `Arguments`: the words have another form; `Memory`: a growth was refused.
 pub(crate) fn dict_add_of(words: Vec<Text>) -> Read
-    ensures ok { IfOk result (λ operation. c.entries_of operations.DictAdd words.items ≡ Ok operation) }
-    ensures err { IfErr result (λ fault. (c.entries_of operations.DictAdd words.items ≡ Err fault) ⊎ (fault ≡ CommandFault.Memory)) }
+    ensures ok { IfOk result (λ operation. c.dict_add_of words.items ≡ Ok operation) }
+    ensures err { IfErr result (λ fault. (c.dict_add_of words.items ≡ Err fault) ⊎ (fault ≡ CommandFault.Memory)) }
 {
     let (attribute, entries) = entries_of(words)?;
-    Ok(Operation::DictAdd { attribute, entries })
+    Ok(Operation::Dict(DictOperation::Add { attribute, entries }))
 }
 
 /// `dict_set ATTRIBUTE KEY:VALUE..`. The errors: `Arguments`: the words have another form; `Memory`: a growth was refused.
 pub(crate) fn dict_set_of(words: Vec<Text>) -> Read
-    ensures ok { IfOk result (λ operation. c.entries_of operations.DictSet words.items ≡ Ok operation) }
-    ensures err { IfErr result (λ fault. (c.entries_of operations.DictSet words.items ≡ Err fault) ⊎ (fault ≡ CommandFault.Memory)) }
+    ensures ok { IfOk result (λ operation. c.dict_set_of words.items ≡ Ok operation) }
+    ensures err { IfErr result (λ fault. (c.dict_set_of words.items ≡ Err fault) ⊎ (fault ≡ CommandFault.Memory)) }
 {
     let (attribute, entries) = entries_of(words)?;
-    Ok(Operation::DictSet { attribute, entries })
+    Ok(Operation::Dict(DictOperation::Set { attribute, entries }))
 }
 
 /// `dict_remove ATTRIBUTE KEY..`. The error: `Arguments`: the words have another form.
@@ -80,5 +79,8 @@ pub(crate) fn dict_remove_of(mut words: Vec<Text>) -> Read
     let attribute = take_first(&mut words)?;
     let fits = is_attribute(&attribute) && has_values(&words);
     let keys = Items::from_vec(words);
-    given(fits, Operation::DictRemove { attribute, keys })
+    given(
+        fits,
+        Operation::Dict(DictOperation::Remove { attribute, keys }),
+    )
 }

@@ -2,7 +2,7 @@
 ghost use Rattle.std.specs.Prelude.{◌≡◌, false};
 ghost use Rattle.bz_words.specs.Commands as c;
 
-use crate::command::{Fixes, Operation};
+use crate::command::{Fixes, LoadOperation, Operation};
 use crate::fault::CommandFault;
 use crate::forms::{Read, is_text};
 use bz_items::Text;
@@ -61,7 +61,7 @@ pub(crate) fn fix_of(words: &[Text]) -> Read
     ensures { result ≡ c.fix_of words.now }
 {
     match fixes_of(words) {
-        Some(fixes) => Ok(Operation::Fix { fixes }),
+        Some(fixes) => Ok(Operation::Load(LoadOperation::Fix { fixes })),
         None => Err(CommandFault::Arguments),
     }
 }

@@ -2,7 +2,7 @@
 ghost use Rattle.std.specs.Prelude.{◌≡◌, ◌∷◌};
 ghost use Rattle.bz_words.specs.Commands as c;
 
-use crate::command::{Host, Operation};
+use crate::command::{CommentOperation, Host, Operation};
 use crate::fault::CommandFault;
 use crate::forms::{Read, is_attribute, take_first};
 use bz_items::Text;
@@ -49,7 +49,7 @@ pub(crate) fn comment_of(mut words: Vec<Text>) -> Read
         return Err(CommandFault::Arguments);
     }
     match host_of(words) {
-        Some(host) => Ok(Operation::Comment { host, text }),
+        Some(host) => Ok(Operation::Comment(CommentOperation::Add { host, text })),
         None => Err(CommandFault::Arguments),
     }
 }
@@ -59,7 +59,7 @@ pub(crate) fn print_comment_of(words: Vec<Text>) -> Read
     ensures { result ≡ c.print_comment_of words.items }
 {
     match host_of(words) {
-        Some(host) => Ok(Operation::PrintComment { host }),
+        Some(host) => Ok(Operation::Comment(CommentOperation::Print { host })),
         None => Err(CommandFault::Arguments),
     }
 }
@@ -69,7 +69,7 @@ pub(crate) fn remove_comment_of(words: Vec<Text>) -> Read
     ensures { result ≡ c.remove_comment_of words.items }
 {
     match host_of(words) {
-        Some(host) => Ok(Operation::RemoveComment { host }),
+        Some(host) => Ok(Operation::Comment(CommentOperation::Remove { host })),
         None => Err(CommandFault::Arguments),
     }
 }

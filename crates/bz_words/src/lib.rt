@@ -18,7 +18,8 @@ mod substituting;
 mod words;
 
 pub use command::{
-    Attributes, Command, Entry, Field, Fixes, Host, Operation, Place, Symbol, Values,
+    AttributeOperation, Attributes, Command, CommentOperation, DictOperation, Entry, Field, Fixes,
+    Host, LoadOperation, Operation, Place, RuleOperation, Symbol, ValueOperation, Values,
 };
 pub use fault::CommandFault;
 pub use identifier::{is_identifier, is_kind};

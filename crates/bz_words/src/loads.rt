@@ -2,7 +2,7 @@
 ghost use Rattle.std.specs.Prelude.{◌≡◌, ◌⊎◌, Ok, Err, IfOk, IfErr};
 ghost use Rattle.bz_words.specs.Commands as c;
 
-use crate::command::{Operation, Symbol};
+use crate::command::{LoadOperation, Operation, Symbol};
 use crate::fault::CommandFault;
 use crate::forms::{Read, cut, has_values, take_first};
 use crate::identifier::is_identifier;
@@ -56,7 +56,7 @@ pub(crate) fn new_load_of(mut words: Vec<Text>) -> Read
         return Err(CommandFault::Arguments);
     }
     match each_symbol(*words.allocator(), words.as_slice())? {
-        Some(symbols) => Ok(Operation::NewLoad { path, symbols }),
+        Some(symbols) => Ok(Operation::Load(LoadOperation::New { path, symbols })),
         None => Err(CommandFault::Arguments),
     }
 }

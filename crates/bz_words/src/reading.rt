@@ -6,7 +6,9 @@ ghost use Rattle.bz_words.specs.Commands as c;
 ghost use Rattle.bz_words.specs.Proper.{AreUtf8};
 ghost use Rattle.bz_words.specs.Refused.{HasBadPattern, IsCommandFault};
 
-use crate::command::{Command, Operation, Place, Values};
+use crate::command::{
+    AttributeOperation, Command, Operation, Place, RuleOperation, ValueOperation, Values,
+};
 use crate::dicts::{dict_add_of, dict_remove_of, dict_set_of};
 use crate::fault::CommandFault;
 use crate::fixing::fix_of;
@@ -78,7 +80,7 @@ fn new_of(mut words: Vec<Text>) -> Read
         return Err(CommandFault::Arguments);
     }
     match place_of(words) {
-        Some(place) => Ok(Operation::New { kind, name, place }),
+        Some(place) => Ok(Operation::Rule(RuleOperation::New { kind, name, place })),
         None => Err(CommandFault::Arguments),
     }
 }
@@ -87,7 +89,7 @@ fn delete_of(words: Vec<Text>) -> Read
     ensures { result ≡ c.delete_of words.items }
 {
     if words.is_empty() {
-        Ok(Operation::Delete)
+        Ok(Operation::Rule(RuleOperation::Delete))
     } else {
         Err(CommandFault::Arguments)
     }
@@ -97,7 +99,10 @@ fn set_kind_of(words: Vec<Text>) -> Read
     ensures { result ≡ c.set_kind_of words.items }
 {
     match <[Text; 1]>::try_from(words) {
-        Ok([kind]) => given(is_kind(kind.as_slice()), Operation::SetKind { kind }),
+        Ok([kind]) => given(
+            is_kind(kind.as_slice()),
+            Operation::Rule(RuleOperation::SetKind { kind }),
+        ),
         Err(_words) => Err(CommandFault::Arguments),
     }
 }
@@ -111,7 +116,10 @@ fn set_of(mut words: Vec<Text>) -> Read
     }
     let fits = is_attribute(&attribute) && has_values(&words);
     let values = Items::from_vec(words);
-    given(fits, Operation::Set { attribute, values })
+    given(
+        fits,
+        Operation::Attribute(AttributeOperation::Set { attribute, values }),
+    )
 }
 
 fn set_if_absent_of(mut words: Vec<Text>) -> Read
@@ -120,7 +128,10 @@ fn set_if_absent_of(mut words: Vec<Text>) -> Read
     let attribute = take_first(&mut words)?;
     let fits = is_attribute(&attribute) && !is_word_kind(&attribute) && has_values(&words);
     let values = Items::from_vec(words);
-    given(fits, Operation::SetIfAbsent { attribute, values })
+    given(
+        fits,
+        Operation::Attribute(AttributeOperation::SetIfAbsent { attribute, values }),
+    )
 }
 
 fn add_of(mut words: Vec<Text>) -> Read
@@ -129,7 +140,10 @@ fn add_of(mut words: Vec<Text>) -> Read
     let attribute = take_first(&mut words)?;
     let fits = is_attribute(&attribute) && has_values(&words);
     let values = Items::from_vec(words);
-    given(fits, Operation::Add { attribute, values })
+    given(
+        fits,
+        Operation::Value(ValueOperation::Add { attribute, values }),
+    )
 }
 
 fn remove_of(mut words: Vec<Text>) -> Read
@@ -139,10 +153,13 @@ fn remove_of(mut words: Vec<Text>) -> Read
     if has_values(&words) {
         let fits = is_attribute(&attribute);
         let values = Items::from_vec(words);
-        return given(fits, Operation::RemoveValues { attribute, values });
+        return given(
+            fits,
+            Operation::Value(ValueOperation::Remove { attribute, values }),
+        );
     }
     match attributes_of(attribute) {
-        Some(attributes) => Ok(Operation::Remove { attributes }),
+        Some(attributes) => Ok(Operation::Attribute(AttributeOperation::Remove { attributes })),
         None => Err(CommandFault::Arguments),
     }
 }
@@ -151,11 +168,11 @@ fn replacing(attribute: Text, old: Text, new: Text) -> Read
     ensures { result ≡ c.replace_of (attribute ∷ old ∷ new ∷ []) }
 {
     match attributes_of(attribute) {
-        Some(attributes) => Ok(Operation::Replace {
+        Some(attributes) => Ok(Operation::Value(ValueOperation::Replace {
             attributes,
             old,
             new,
-        }),
+        })),
         None => Err(CommandFault::Arguments),
     }
 }
@@ -176,7 +193,10 @@ fn move_of(mut words: Vec<Text>) -> Read
     let to = take_first(&mut words)?;
     let fits = is_attribute(&from) && is_attribute(&to) && has_values(&words);
     let values = values_of(words);
-    given(fits, Operation::Move { from, to, values })
+    given(
+        fits,
+        Operation::Value(ValueOperation::Move { from, to, values }),
+    )
 }
 
 fn rename_of(words: Vec<Text>) -> Read
@@ -185,7 +205,7 @@ fn rename_of(words: Vec<Text>) -> Read
     match <[Text; 2]>::try_from(words) {
         Ok([from, to]) => given(
             is_attribute(&from) && is_attribute(&to),
-            Operation::Rename { from, to },
+            Operation::Attribute(AttributeOperation::Rename { from, to }),
         ),
         Err(_words) => Err(CommandFault::Arguments),
     }
@@ -197,7 +217,7 @@ fn copy_of(words: Vec<Text>) -> Read
     match <[Text; 2]>::try_from(words) {
         Ok([attribute, rule]) => given(
             is_attribute(&attribute),
-            Operation::Copy { attribute, rule },
+            Operation::Attribute(AttributeOperation::Copy { attribute, rule }),
         ),
         Err(_words) => Err(CommandFault::Arguments),
     }
@@ -209,7 +229,7 @@ fn copy_no_overwrite_of(words: Vec<Text>) -> Read
     match <[Text; 2]>::try_from(words) {
         Ok([attribute, rule]) => given(
             is_attribute(&attribute),
-            Operation::CopyNoOverwrite { attribute, rule },
+            Operation::Attribute(AttributeOperation::CopyNoOverwrite { attribute, rule }),
         ),
         Err(_words) => Err(CommandFault::Arguments),
     }

@@ -5,7 +5,7 @@ ghost use Rattle.bz_words.specs.Commands as c;
 ghost use Rattle.bz_words.specs.Proper.{AreUtf8};
 ghost use Rattle.bz_words.specs.Refused.{HasBadPattern};
 
-use crate::command::Operation;
+use crate::command::{Operation, ValueOperation};
 use crate::fault::CommandFault;
 use crate::forms::{Read, attributes_of};
 use bz_items::Text;
@@ -40,11 +40,11 @@ fn substituting(alloc: Global, attribute: Text, pattern: Text, template: Text) -
         return Err(CommandFault::Arguments);
     };
     match pattern_of(alloc, &pattern) {
-        Ok(pattern) => Ok(Operation::Substitute {
+        Ok(pattern) => Ok(Operation::Value(ValueOperation::Substitute {
             attributes,
             pattern,
             template,
-        }),
+        })),
         Err(fault) => Err(fault),
     }
 }

@@ -17,7 +17,8 @@ use Rattle.bz_value.specs.Characters.{space, comma}
 use Rattle.bz_value.specs.Frames.{Frame, row, sequence, frame, has_brackets}
 use Rattle.bz_value.specs.Gaps.{Bytes}
 use Rattle.bz_value.specs.Proper.{comments_of}
-use Rattle.bz_write.specs.Layout.{Piece, mark, laid_in, rowed, headed, joined, stacked, is_broken, is_tuple, is_empty, gap_behind, margin_behind, firsts}
+use Rattle.bz_write.specs.Layout.{Piece, mark, laid_in, rowed, headed, joined, stacked, is_broken, is_tuple, gap_behind, margin_behind, firsts}
+use Rattle.bz_value.specs.Empty.{is_empty}
 use Rattle.bz_write.specs.Drawn.{part_of, parts_of, piece_part, line_part, before_next, lines_from, drawn}
 use Rattle.bz_write.specs.Written.{comment_lines}
 use Rattle.bz_write.specs.Depths.{depth_in, depth_expr, depth_exprs, deepest_of, depth_inside, depth_items}

@@ -16,7 +16,8 @@ use Rattle.bz_value.specs.Frames.{Frame, row, sequence, frame}
 use Rattle.bz_value.specs.Gaps.{Bytes}
 use Rattle.bz_value.specs.Proper.{comments_of, roots}
 use Rattle.bz_value.specs.Roots.{root, mark as bare_mark, each_with_comma, row_in}
-use Rattle.bz_write.specs.Layout.{Piece, mark, is_broken, is_empty, is_tuple, gap_behind, margin_behind, firsts, rowed, headed, joined, stacked, laid_in, laid}
+use Rattle.bz_write.specs.Layout.{Piece, mark, is_broken, is_tuple, gap_behind, margin_behind, firsts, rowed, headed, joined, stacked, laid_in, laid}
+use Rattle.bz_value.specs.Empty.{is_empty}
 use Rattle.bz_write.specs.Drawn.{piece_part, part_of, parts_of}
 use Rattle.bz_write.proofs.Joined.{row_joined, without_last, fits_joined}
 

@@ -17,7 +17,8 @@ use Rattle.bz_value.specs.Frames.{Frame, row, sequence, frame}
 use Rattle.bz_value.specs.Gaps.{Bytes}
 use Rattle.bz_value.specs.Proper.{comments_of, has_break}
 use Rattle.bz_value.specs.Roots.{root}
-use Rattle.bz_write.specs.Layout.{Piece, mark, part, laid, laid_in, rowed, headed, joined, stacked, is_broken, is_empty, is_tuple, gap_behind, margin_behind, behind, has_comments, has_named, is_named, is_listed, is_call, line, above, firsts}
+use Rattle.bz_write.specs.Layout.{Piece, mark, part, laid, laid_in, rowed, headed, joined, stacked, is_broken, is_tuple, gap_behind, margin_behind, behind, has_comments, has_named, is_named, is_listed, is_call, line, above, firsts}
+use Rattle.bz_value.specs.Empty.{is_empty}
 use Rattle.bz_write.specs.Spaces.{is_spaced}
 use Rattle.bz_write.specs.Written.{text_of, texts_of, piece_text, comment_lines, between, behind_item, item_text, layout, is_load, is_assign}
 use Rattle.bz_write.specs.Drawn.{part_of, parts_of, drawings, piece_part, before_next, line_part, lines_from, drawn}

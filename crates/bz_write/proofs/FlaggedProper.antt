@@ -14,7 +14,7 @@ use Rattle.bz_value.specs.Frames.{Frame, row, sequence, frame, is_binary}
 use Rattle.bz_value.specs.Gaps.{Bytes}
 use Rattle.bz_value.specs.Proper.{AreComments, comments_of, has_break, is_operator, begins_operator, behind_expr, roots, IsEmptyRow, IsBare, in_frame, ProperExpr, ProperRow, ProperHead, ProperItems, has_statement_kind, IsProperItem, IsProper}
 use Rattle.bz_value.specs.Roots.{root, row_in}
-use Rattle.bz_write.specs.Layout.{is_empty}
+use Rattle.bz_value.specs.Empty.{is_empty}
 use Rattle.bz_write.specs.Flags.{settled_split, with_flags, each_with_flags, item_with_flags, flags}
 use Rattle.bz_write.proofs.Flagged.{same_comments, same_break, same_root, made}
 use Rattle.bz_write.proofs.Made.{parts_row, items_row, parts_of_row, items_of_row, roots_row, two}

@@ -14,7 +14,7 @@ use Rattle.bz_tree.specs.Legal.{IsSort}
 use Rattle.bz_value.specs.Frames.{frame, lead, is_binary, is_comprehension}
 use Rattle.bz_value.specs.Proper.{is_sign, in_frame}
 use Rattle.bz_value.specs.Roots.{mark, row_in}
-use Rattle.bz_write.specs.Layout.{is_empty}
+use Rattle.bz_value.specs.Empty.{is_empty}
 
 abbrev pub is_sign_part : Part → Bool
 is_sign_part (p.Leaf l) = is_sign l.class

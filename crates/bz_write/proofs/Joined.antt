@@ -14,7 +14,8 @@ use Rattle.bz_value.specs.Characters.{comma}
 use Rattle.bz_value.specs.Frames.{Frame, row, sequence, frame}
 use Rattle.bz_value.specs.Proper.{in_frame}
 use Rattle.bz_value.specs.Roots.{mark, each_with_comma, row_in}
-use Rattle.bz_write.specs.Layout.{is_empty, is_tuple}
+use Rattle.bz_write.specs.Layout.{is_tuple}
+use Rattle.bz_value.specs.Empty.{is_empty}
 use Rattle.bz_write.proofs.Neighbours.{T}
 use Rattle.bz_write.proofs.Elements.{none_is}
 

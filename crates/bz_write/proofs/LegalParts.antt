@@ -22,7 +22,8 @@ use Rattle.bz_value.specs.Frames.{Frame, row, sequence, frame, is_binary}
 use Rattle.bz_value.specs.Gaps.{Bytes}
 use Rattle.bz_value.specs.Proper.{comments_of, behind_expr, roots, IsEmptyRow, in_frame, ProperExpr, ProperRow, ProperHead, ProperItems}
 use Rattle.bz_value.specs.Roots.{row_in}
-use Rattle.bz_write.specs.Layout.{mark, is_empty, is_broken, is_tuple, gap_behind, margin_behind, firsts, rowed, headed, joined, stacked, laid_in, laid}
+use Rattle.bz_write.specs.Layout.{mark, is_broken, is_tuple, gap_behind, margin_behind, firsts, rowed, headed, joined, stacked, laid_in, laid}
+use Rattle.bz_value.specs.Empty.{is_empty}
 use Rattle.bz_write.specs.Drawn.{piece_part, part_of, parts_of}
 use Rattle.bz_write.proofs.Neighbours.{in_a_line}
 use Rattle.bz_write.proofs.Touching.{Apart, Airy, AiryRow}

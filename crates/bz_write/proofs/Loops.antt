@@ -15,7 +15,8 @@ use Rattle.bz_value.specs.Gaps.{Bytes}
 use Rattle.bz_value.specs.Proper.{comments_of}
 use Rattle.bz_write.specs.declared.brackets.Brackets.{Brackets}
 use Rattle.bz_write.specs.Brackets.{brackets_of}
-use Rattle.bz_write.specs.Layout.{Piece, mark, part, line, above, ended, behind, stacked, joined, rowed, headed, laid_in, is_broken, is_tuple, is_empty, gap_behind, margin_behind, firsts}
+use Rattle.bz_write.specs.Layout.{Piece, mark, part, line, above, ended, behind, stacked, joined, rowed, headed, laid_in, is_broken, is_tuple, gap_behind, margin_behind, firsts}
+use Rattle.bz_value.specs.Empty.{is_empty}
 use Rattle.bz_write.specs.Drawn.{piece_part, part_of, parts_in, drawings, body, comma_behind, own_lines, left_gap, before_next, lines_from}
 
 module _ {X : Type 0} where

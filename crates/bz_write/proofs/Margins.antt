@@ -16,7 +16,8 @@ use Rattle.bz_value.specs.Gaps.{Bytes}
 use Rattle.bz_value.specs.Proper.{IsComment, MaybeComment, has_break}
 use Rattle.bz_value.specs.Roots.{root}
 use Rattle.bz_write.specs.Spaces.{is_spaced}
-use Rattle.bz_write.specs.Layout.{line, above, ended, behind, is_empty, gap_behind}
+use Rattle.bz_write.specs.Layout.{line, above, ended, behind, gap_behind}
+use Rattle.bz_value.specs.Empty.{is_empty}
 use Rattle.bz_write.specs.Written.{comment_lines}
 use Rattle.bz_write.proofs.Elements.{in_line_class}
 

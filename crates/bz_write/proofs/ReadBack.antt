@@ -13,7 +13,8 @@ use Rattle.bz_value.specs.Frames.{Frame, row, sequence, frame, is_binary, is_com
 use Rattle.bz_value.specs.Gaps.{Bytes, all_in}
 use Rattle.bz_value.specs.Proper.{in_frame, is_operator}
 use Rattle.bz_view.specs.View.{Seen, seen, seen_row, plain, first_gap, loose_in, loose_behind, node_in, sequence_form, items_in, is_split, is_open}
-use Rattle.bz_write.specs.Layout.{laid, laid_in, rowed, headed, is_broken, is_empty, is_tuple, gap_behind, margin_behind, firsts}
+use Rattle.bz_write.specs.Layout.{laid, laid_in, rowed, headed, is_broken, is_tuple, gap_behind, margin_behind, firsts}
+use Rattle.bz_value.specs.Empty.{is_empty}
 use Rattle.bz_write.specs.Drawn.{part_of, parts_of}
 use Rattle.bz_write.specs.Flags.{with_flags, each_with_flags, settled_split}
 use Rattle.bz_write.proofs.Made.{two}

@@ -12,7 +12,7 @@ use Rattle.bz_value.specs.Frames.{Frame, row, sequence, frame, lead, is_binary, 
 use Rattle.bz_value.specs.Gaps.{Bytes}
 use Rattle.bz_value.specs.Proper.{IsComment, MaybeComment, comments_of, has_break, is_operator, begins_operator, roots, behind_expr, IsEmptyRow, in_frame, ProperExpr, ProperRow, ProperHead, ProperItems}
 use Rattle.bz_value.specs.Roots.{root, row_in}
-use Rattle.bz_write.specs.Layout.{is_empty}
+use Rattle.bz_value.specs.Empty.{is_empty}
 use Rattle.bz_write.proofs.Framed.{RowShape, row_shape, lead_before, is_sign_part, begins_sign, ends_sign, behind_first}
 use Rattle.bz_write.proofs.Made.{roots_row}
 

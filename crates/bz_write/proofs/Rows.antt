@@ -21,7 +21,8 @@ use Rattle.bz_value.specs.Gaps.{Bytes}
 use Rattle.bz_value.specs.Proper.{comments_of, has_break, in_frame}
 use Rattle.bz_value.specs.Roots.{root}
 use Rattle.bz_write.specs.Spaces.{lone, space_behind, space_before, is_word, is_value, behind, before, is_lone, is_number_leaf, apart, number_dot, is_spaced}
-use Rattle.bz_write.specs.Layout.{mark, line, above, ended, behind as suffix_text, is_empty, is_broken, is_tuple, gap_behind, margin_behind, firsts, rowed, headed, joined, stacked, laid_in, laid}
+use Rattle.bz_write.specs.Layout.{mark, line, above, ended, behind as suffix_text, is_broken, is_tuple, gap_behind, margin_behind, firsts, rowed, headed, joined, stacked, laid_in, laid}
+use Rattle.bz_value.specs.Empty.{is_empty}
 use Rattle.bz_write.specs.Drawn.{piece_part, part_of}
 use Rattle.bz_write.proofs.Fitted.{Same, Child, rooted, IsRooted, Pieces}
 use Rattle.bz_write.proofs.Joined.{AtMostOne}

@@ -10,7 +10,8 @@ use Rattle.bz_value.specs.Characters.{space, comma}
 use Rattle.bz_value.specs.Frames.{Frame, row, sequence, frame}
 use Rattle.bz_value.specs.Gaps.{Bytes}
 use Rattle.bz_value.specs.Proper.{comments_of}
-use Rattle.bz_write.specs.Layout.{Piece, mark, line, above, ended, behind, stacked, joined, rowed, headed, laid_in, is_broken, is_tuple, is_empty, gap_behind, margin_behind, firsts}
+use Rattle.bz_write.specs.Layout.{Piece, mark, line, above, ended, behind, stacked, joined, rowed, headed, laid_in, is_broken, is_tuple, gap_behind, margin_behind, firsts}
+use Rattle.bz_value.specs.Empty.{is_empty}
 use Rattle.bz_write.specs.Written.{piece_text, text_of}
 use Rattle.bz_write.specs.Sizes.{row_size, head_size, comma_size, joined_size, stacked_item_size, stacked_size, body_size, size_in, form_size}
 use Rattle.bz_write.specs.Writings.{writings}

@@ -16,7 +16,8 @@ use Rattle.bz_value.specs.Gaps.{Bytes}
 use Rattle.bz_value.specs.Proper.{IsComment, has_break, behind_expr, roots, IsEmptyRow, in_frame, ProperExpr, ProperRow, ProperHead, ProperItems}
 use Rattle.bz_value.specs.Roots.{root, row_in}
 use Rattle.bz_write.specs.Spaces.{is_value, is_word}
-use Rattle.bz_write.specs.Layout.{is_empty, firsts}
+use Rattle.bz_write.specs.Layout.{firsts}
+use Rattle.bz_value.specs.Empty.{is_empty}
 use Rattle.bz_write.specs.Drawn.{part_of, parts_of}
 use Rattle.bz_write.proofs.Neighbours.{in_a_line}
 use Rattle.bz_write.proofs.Elements.{Inside, IsOpening, Opened, in_line_class, in_line_part, InLine, within_line}

@@ -25,7 +25,8 @@ use Rattle.bz_value.specs.Frames.{Frame, row, sequence, frame, is_binary, is_com
 use Rattle.bz_value.specs.Gaps.{Bytes}
 use Rattle.bz_value.specs.Proper.{IsComment, MaybeComment, AreComments, comments_of, behind_expr, roots, in_frame, ProperExpr, ProperRow, ProperHead, ProperItems}
 use Rattle.bz_value.specs.Roots.{row_in}
-use Rattle.bz_write.specs.Layout.{mark, line, above, ended, behind, is_empty, is_broken, is_tuple, gap_behind, margin_behind, firsts, rowed, headed, joined, stacked, laid_in, laid}
+use Rattle.bz_write.specs.Layout.{mark, line, above, ended, behind, is_broken, is_tuple, gap_behind, margin_behind, firsts, rowed, headed, joined, stacked, laid_in, laid}
+use Rattle.bz_value.specs.Empty.{is_empty}
 use Rattle.bz_write.specs.Drawn.{piece_part, part_of, parts_of}
 use Rattle.bz_write.proofs.Elements.{AreValues, items_values, Opened, comprehension}
 use Rattle.bz_write.proofs.Joined.{AtMostOne, head_fits}

@@ -13,7 +13,8 @@ use Rattle.bz_value.specs.Gaps.{Bytes, GapLine, lines_of, comments_in, some_newl
 use Rattle.bz_value.specs.Proper.{comments_of, has_break, is_operator}
 use Rattle.bz_value.specs.Roots.{root}
 use Rattle.bz_view.specs.View.{Seen, seen, plain, first_gap, begins_operator, loose_behind, row_exprs, is_open}
-use Rattle.bz_write.specs.Layout.{Piece, rowed, gap_behind, margin_behind, is_empty, line, firsts}
+use Rattle.bz_write.specs.Layout.{Piece, rowed, gap_behind, margin_behind, line, firsts}
+use Rattle.bz_value.specs.Empty.{is_empty}
 use Rattle.bz_write.specs.Spaces.{is_spaced}
 use Rattle.bz_write.specs.Drawn.{piece_part}
 use Rattle.bz_write.specs.Flags.{with_flags}

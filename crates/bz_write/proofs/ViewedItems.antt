@@ -10,7 +10,8 @@ use Rattle.bz_value.specs.Comments.{HostComments, no_comments}
 use Rattle.bz_value.specs.Gaps.{Bytes, lines_of, comments_in, first_comment, behind_first, some_newline, suffix_in, others_in, all_in, has_newline}
 use Rattle.bz_value.specs.Proper.{IsComment, MaybeComment, comments_of, has_break}
 use Rattle.bz_view.specs.View.{Seen, seen, plain, first_gap, loose_behind, loose_in, items_in, item_in, is_split, leaf_seen}
-use Rattle.bz_write.specs.Layout.{Piece, joined, stacked, headed, is_broken, is_empty, is_none, has_comments, line, above, behind, firsts}
+use Rattle.bz_write.specs.Layout.{Piece, joined, stacked, headed, is_broken, has_comments, line, above, behind, firsts}
+use Rattle.bz_value.specs.Empty.{is_empty, is_none}
 use Rattle.bz_write.specs.Flags.{with_flags}
 use Rattle.bz_write.proofs.Gapped.{ended_line, told, comments_told, lines_item, lines_end}
 use Rattle.bz_write.proofs.Readable.{AreHeads, AreItems}

@@ -4,6 +4,7 @@ use Rattle.bz_tree.specs.declared.kind.Kind.{Kind}
 use Rattle.bz_tree.specs.declared.kind.Kind.TheVariants as k
 use Rattle.bz_value.specs.declared.value.Expr.{Expr, Token, Form'}
 use Rattle.bz_value.specs.Characters.{line_feed, space, comma}
+use Rattle.bz_value.specs.Empty.{is_empty, is_none}
 use Rattle.bz_value.specs.Frames.{Frame, row, sequence, frame}
 use Rattle.bz_value.specs.Gaps.{Bytes}
 use Rattle.bz_value.specs.Proper.{comments_of, has_break}
@@ -32,14 +33,6 @@ behind None = []
 behind (Some text) = space ∷ space ∷ text
 
 -- ---- broken sequences
-
-abbrev pub is_empty : {X : Type 0} → List X → Bool
-is_empty [] = true
-is_empty (x ∷ xs) = false
-
-abbrev pub is_none : {X : Type 0} → Option X → Bool
-is_none None = true
-is_none (Some x) = false
 
 -- a sequence of two or more items is broken in a list or a dict
 abbrev pub is_listed : Kind → Bool

@@ -9,7 +9,8 @@ use Rattle.bz_value.specs.declared.value.Item.TheVariants as i
 use Rattle.bz_value.specs.Characters.{line_feed}
 use Rattle.bz_value.specs.Gaps.{Bytes}
 use Rattle.bz_value.specs.Proper.{comments_of}
-use Rattle.bz_write.specs.Layout.{Piece, mark, part, laid, behind, is_empty}
+use Rattle.bz_write.specs.Layout.{Piece, mark, part, laid, behind}
+use Rattle.bz_value.specs.Empty.{is_empty}
 
 abbrev pub piece_text : Piece (ℕ → Bytes) → Bytes
 piece_text (mark gap token) = gap ++ token

@@ -1,5 +1,6 @@
 //! What the layout draws of an expression.
 ghost use Rattle.std.specs.Prelude.{◌≡◌, ◌++◌, ◌∷◌, [], map, None, OnOk, IfOk};
+ghost use Rattle.bz_value.specs.Empty.{is_empty};
 ghost use Rattle.bz_write.specs.Layout as layout;
 ghost use Rattle.bz_write.specs.Drawn.{piece_part, part_of, parts_in, drawings, body, comma_behind};
 
@@ -139,7 +140,7 @@ fn push_comma(
     one: bool,
     parts: &mut Items<Part>,
 ) -> Result<(), Memory>
-    ensures { OnOk result (parts.new ≡ parts.old ++ map piece_part (comma_behind (layout.is_empty others.now) one)) }
+    ensures { OnOk result (parts.new ≡ parts.old ++ map piece_part (comma_behind (is_empty others.now) one)) }
 {
     if others.is_empty() && !one {
         return Ok(());

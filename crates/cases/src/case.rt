@@ -1,6 +1,7 @@
 //! A case as the questions see it.
 use bz_items::{Memory, at};
 use std::alloc::Global;
+use std::str::Utf8Error;
 
 /// Why a case has no answer.
 #[derive(Drop)]
@@ -17,6 +18,12 @@ impl From<Memory> for CaseFault {
     }
 }
 
+impl From<Utf8Error> for CaseFault {
+    fn from(_fault: Utf8Error) -> CaseFault {
+        CaseFault::Sheet("a text is not UTF-8")
+    }
+}
+
 /// The texts of a case, their escapes taken away, and the argument of its question.
 #[derive(Drop)]
 pub(crate) struct Case {
@@ -27,10 +34,7 @@ pub(crate) struct Case {
 
 /// The text of bytes that have to be UTF-8.
 pub(crate) fn text_of(bytes: &[u8]) -> Result<&str, CaseFault> {
-    match str::from_utf8(bytes) {
-        Ok(text) => Ok(text),
-        Err(_) => Err(CaseFault::Sheet("a text is not UTF-8")),
-    }
+    Ok(str::from_utf8(bytes)?)
 }
 
 impl Case {

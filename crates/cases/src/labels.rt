@@ -54,16 +54,12 @@ impl LabelQuery {
                 let place = priority(text);
                 page.answer(format!(in case.alloc; "{place}")?.as_bytes())?;
             }
-            LabelQuery::Sorted => page.answer(yes_or_no(is_sorted(argument, text)))?,
-            LabelQuery::Labels => page.answer(yes_or_no(is_label_attribute(text)))?,
-            LabelQuery::Lists => page.answer(yes_or_no(is_list_attribute(text)))?,
+            LabelQuery::Sorted => page.yes_or_no(is_sorted(argument, text))?,
+            LabelQuery::Labels => page.yes_or_no(is_label_attribute(text))?,
+            LabelQuery::Lists => page.yes_or_no(is_list_attribute(text))?,
         }
         Ok(())
     }
-}
-
-fn yes_or_no(answer: bool) -> &'static [u8] {
-    if answer { b"yes" } else { b"no" }
 }
 
 /// Appends a text in double quotes, which no label or target holds.

@@ -33,8 +33,10 @@
 //! | `lines` | a text | the line of each statement |
 //! | `kind`, `class` | a number | the kind of node or the class of leaf that has it, and its number |
 //! | `view` | a text | its file value, an item a line |
+//! | `copies` | a gap, and a comment | a copy of a form that has the comments of the gap, but for that of its first line, above, and the comment behind; whether all copies are equal |
 //! | `layout` | a text | the layout of its file value, which has that layout in its turn |
 //! | `formatted` | a text | the layout of its file value tidied, which is formatted to that in its turn |
+//! | `splice PLACE COUNT` | two texts | the first with so many of its bytes, from the place on, exchanged for the second; the bytes that were there; and the result from its last byte on |
 //! | `token` | a text | the class and the bytes of the token that it begins with |
 //! | `tokens` | a text | its tokens, or its fault |
 //! | `leaves` | a text | class, gap and token of each leaf, and the fault |
@@ -47,17 +49,31 @@
 //! | `priority` | an attribute | where it stands in a rule |
 //! | `sorted KIND` | an attribute | whether its lists are sorted in a rule of the kind |
 //! | `labels`, `lists` | an attribute | whether its texts are labels, whether one value of it becomes a list |
+//! | `command` | a text | whether it is read as a command, which is copied, or its fault |
+//! | `split` | a text | the words that it is made of |
+//! | `quoted` | a text | the string that says it |
+//! | `identifier`, `rule_kind` | a text | whether it is an identifier, whether it is one or several joined by dots |
 //! | `session PACKAGE` | actions, and a text | the reply to each, the place in the history, and the present text |
+//! | `weights PACKAGE` | the same | the weight of each step between two texts, in their order |
 //! | `buildifier WORDS`, `buildozer WORDS` | standard input, and files, each behind a line with its name | status, standard error, standard output, and each file that is changed |
 //! | `words` | words of buildozer, standard input, and files | the same |
 //! | `status` | the same | the status, on which of the two outputs something is written, and each file that is changed |
+//! | `laws` | nothing | that all laws were called |
 //!
 //! An action is `COMMAND TARGET`, `format`, `undo N` or `redo N`. Words are separated by spaces; one that is empty or holds spaces stands in double quotes.
+//!
+//! With words behind its name the program answers no sheet: it does one piece of work on the text that is standard input, and
+//! tells what that took. The module `measuring` says which.
 #![tactic(auto)]
 
 mod case;
+mod commands;
+mod copies;
 mod escape;
 mod labels;
+mod laws;
+mod lists;
+mod measuring;
 mod page;
 mod query;
 mod runs;
@@ -69,11 +85,33 @@ mod values;
 
 use anyhow::Result;
 use std::io::{Read, Write};
+use std::process::ExitCode;
+use std::{env, io};
 
-fn main(rt: HostRuntime) -> Result<()> {
-    let mut sheet = Vec::new(rt.alloc());
-    rt.stdin().read_to_end(&mut sheet)?;
+/// Standard input, up to its end.
+fn input(rt: &HostRuntime) -> io::Result<Vec<u8>> {
+    let mut bytes = Vec::new(rt.alloc());
+    rt.stdin().read_to_end(&mut bytes)?;
+    Ok(bytes)
+}
+
+/// Answers the sheet that is standard input.
+fn answer(rt: &HostRuntime) -> Result<()> {
+    let sheet = input(rt)?;
     let page = sheet::answered(rt.alloc(), str::from_utf8(&sheet)?)?;
     rt.stdout().write_all(page.as_bytes())?;
     Ok(())
+}
+
+fn main(rt: HostRuntime) -> Result<ExitCode> {
+    let mut words = env::args(&rt)?.skip(1);
+    let Some(word) = words.next() else {
+        answer(&rt)?;
+        return Ok(ExitCode::SUCCESS);
+    };
+    let bytes = input(&rt)?;
+    match measuring::measure(&rt, word.as_str(), words.next(), &bytes) {
+        Some(()) => Ok(ExitCode::SUCCESS),
+        None => Ok(ExitCode::FAILURE),
+    }
 }

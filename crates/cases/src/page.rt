@@ -42,6 +42,11 @@ impl Page {
         self.line("=", bytes)
     }
 
+    /// The answer to what either holds or doesn't.
+    pub(crate) fn yes_or_no(&mut self, holds: bool) -> Result<(), Memory> {
+        self.answer(if holds { b"yes" } else { b"no" })
+    }
+
     /// A text with its newlines, the mark in front of its first line.
     pub(crate) fn text(&mut self, mark: &str, bytes: &[u8]) -> Result<(), Memory> {
         let mut is_first = true;

@@ -1,12 +1,13 @@
 //! The questions that a sheet asks of its cases.
 use crate::case::{Case, CaseFault};
+use crate::commands::CommandQuery;
 use crate::labels::LabelQuery;
 use crate::page::Page;
 use crate::runs::RunQuery;
-use crate::sessions;
 use crate::tokens::TokenQuery;
 use crate::trees::TreeQuery;
 use crate::values::ValueQuery;
+use crate::{copies, laws, lists, sessions};
 
 /// What is asked of a case, by the layer that answers.
 #[derive(Clone, Copy)]
@@ -15,8 +16,42 @@ pub(crate) enum Query {
     Tree(TreeQuery),
     Value(ValueQuery),
     Label(LabelQuery),
-    Session,
+    Command(CommandQuery),
     Run(RunQuery),
+    Single(SingleQuery),
+}
+
+/// A question that a module answers alone.
+#[derive(Clone, Copy)]
+pub(crate) enum SingleQuery {
+    Splice,
+    Copies,
+    Session,
+    Weights,
+    Laws,
+}
+
+impl SingleQuery {
+    fn named(name: &str) -> Option<SingleQuery> {
+        match name {
+            "splice" => Some(SingleQuery::Splice),
+            "copies" => Some(SingleQuery::Copies),
+            "session" => Some(SingleQuery::Session),
+            "weights" => Some(SingleQuery::Weights),
+            "laws" => Some(SingleQuery::Laws),
+            _ => None,
+        }
+    }
+
+    fn answer(self, case: &Case, page: &mut Page) -> Result<(), CaseFault> {
+        match self {
+            SingleQuery::Splice => lists::answer(case, page),
+            SingleQuery::Copies => copies::answer(case, page),
+            SingleQuery::Session => sessions::answer(case, page),
+            SingleQuery::Weights => sessions::answer_weights(case, page),
+            SingleQuery::Laws => laws::answer(case, page),
+        }
+    }
 }
 
 impl Query {
@@ -34,10 +69,13 @@ impl Query {
         if let Some(query) = LabelQuery::named(name) {
             return Some(Query::Label(query));
         }
-        if name == "session" {
-            return Some(Query::Session);
+        if let Some(query) = CommandQuery::named(name) {
+            return Some(Query::Command(query));
         }
-        RunQuery::named(name).map(Query::Run)
+        if let Some(query) = RunQuery::named(name) {
+            return Some(Query::Run(query));
+        }
+        SingleQuery::named(name).map(Query::Single)
     }
 
     /// Writes the answer at the case.
@@ -47,8 +85,9 @@ impl Query {
             Query::Tree(query) => query.answer(case, page),
             Query::Value(query) => query.answer(case, page),
             Query::Label(query) => query.answer(case, page),
-            Query::Session => sessions::answer(case, page),
+            Query::Command(query) => query.answer(case, page),
             Query::Run(query) => query.answer(case, page),
+            Query::Single(query) => query.answer(case, page),
         }
     }
 }

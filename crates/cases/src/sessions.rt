@@ -12,8 +12,15 @@ use bz_tree::ReadFault;
 use bz_words::{Command, CommandFault};
 use std::alloc::Global;
 
-/// Writes the answers to the actions, which all texts but the last one name; then where the session stands, and its text.
-pub(crate) fn answer(case: &Case, page: &mut Page) -> Result<(), CaseFault> {
+/// A session after its actions, with the reply to each.
+#[derive(Drop)]
+struct Finished {
+    session: Session,
+    replies: Vec<Result<Reply, Refusal>>,
+}
+
+/// The actions, which all texts but the last one name, done on the last one; or why that is not read.
+fn played(case: &Case) -> Result<Result<Finished, ReadFault>, CaseFault> {
     let Some((text, names)) = case.texts.as_slice().split_last() else {
         return Err(CaseFault::Sheet("a text is missing"));
     };
@@ -23,7 +30,7 @@ pub(crate) fn answer(case: &Case, page: &mut Page) -> Result<(), CaseFault> {
     }
     let mut session = match opened(case.alloc, package, text.as_slice())? {
         Ok(session) => session,
-        Err(fault) => return Ok(page.answer(told(case.alloc, &fault)?.as_bytes())?),
+        Err(fault) => return Ok(Err(fault)),
     };
     let mut actions = Vec::new(case.alloc);
     for place in 0..names.len() {
@@ -31,10 +38,28 @@ pub(crate) fn answer(case: &Case, page: &mut Page) -> Result<(), CaseFault> {
         actions.push(action).map_err(Memory::from)?;
     }
     let replies = replies_of(case.alloc, &mut session, actions.as_slice())?;
-    for reply in replies.as_slice() {
+    Ok(Ok(Finished { session, replies }))
+}
+
+/// Writes the answers to the actions, which all texts but the last one name; then where the session stands, and its text.
+pub(crate) fn answer(case: &Case, page: &mut Page) -> Result<(), CaseFault> {
+    let played = match played(case)? {
+        Ok(played) => played,
+        Err(fault) => return Ok(page.answer(told(case.alloc, &fault)?.as_bytes())?),
+    };
+    for reply in played.replies.as_slice() {
         show_reply(case.alloc, reply, page)?;
     }
-    Ok(show_present(case.alloc, &session, page)?)
+    Ok(show_present(case.alloc, &played.session, page)?)
+}
+
+/// Writes the weight of each step that there is after the actions.
+pub(crate) fn answer_weights(case: &Case, page: &mut Page) -> Result<(), CaseFault> {
+    let played = match played(case)? {
+        Ok(played) => played,
+        Err(fault) => return Ok(page.answer(told(case.alloc, &fault)?.as_bytes())?),
+    };
+    Ok(show_weights(case.alloc, &played.session, page)?)
 }
 
 /// `Session::open`, of which nothing has to be known here.
@@ -120,4 +145,13 @@ fn show_present(alloc: Global, session: &Session, page: &mut Page) -> Result<(),
     let mut text = Vec::new(alloc);
     session.text_into(&mut text)?;
     page.text("<", text.as_slice())
+}
+
+fn show_weights(alloc: Global, session: &Session, page: &mut Page) -> Result<(), Memory> {
+    for step in 0..session.steps() {
+        if let Some(weight) = session.weight(step) {
+            page.answer(format!(in alloc; "{weight}")?.as_bytes())?;
+        }
+    }
+    Ok(())
 }

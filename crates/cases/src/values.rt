@@ -104,7 +104,7 @@ fn show_expr(alloc: Global, expr: &Expr, out: &mut Vec<u8>) -> Result<(), Memory
 /// A form is its kind, `split` or `open` where it is, and in brackets its parts with a space between two of them. Of a
 /// sequence these are what stands before its bracket and a colon, the items, and the comments below the last one.
 #[cycle(expr)]
-fn show_form(alloc: Global, form: &Form, out: &mut Vec<u8>) -> Result<(), Memory> {
+pub(crate) fn show_form(alloc: Global, form: &Form, out: &mut Vec<u8>) -> Result<(), Memory> {
     show_comments(form.comments.before(), out)?;
     let kind = form.kind;
     let split = if form.seq.split { " split" } else { "" };

@@ -1,96 +1,214 @@
 //! The programs over files in memory: when they write one, and what they do where one fails.
-use bz_engine::buildozer;
+use crate::run::{Program, SOUND, run};
 use bz_files::MemoryFiles;
-use bz_tools::{Cut, Exit, MemorySink, MemorySource, buildifier};
-use std::alloc::Global;
+use bz_tools::Cut;
+use std::alloc::{AllocError, Global};
 use std::test::Fail;
 
-const STEP: usize = 4096;
+/// Which calls of the files fail, counted from 1.
+#[derive(Clone, Copy)]
+enum Failure {
+    Nothing,
+    At(u64),
+    /// Each read of the file f, and each call from this one on.
+    RefusedAndFrom(u64),
+}
+
+/// A run over files, and what it leaves.
+struct Row {
+    why: &'static str,
+    program: Program,
+    words: &'static [&'static str],
+    before: &'static [(&'static str, &'static [u8])],
+    failure: Failure,
+    cut: Cut,
+    status: u8,
+    after: &'static [(&'static str, &'static [u8])],
+    // How often a file was to be replaced.
+    replaces: u64,
+}
+
+const ODD: &[u8] = b"x=1";
 
 const FORMATTED: &[u8] = b"x = 1\n";
 
-/// A run over these files. The tests call this in place of the engine, whose clauses would go with each line behind the call.
-fn format_files(alloc: Global, words: &[&str], files: &mut MemoryFiles) -> Exit {
-    let mut input = MemorySource::new(b"", STEP, 0);
-    let mut out = MemorySink::new(alloc, STEP, 0);
-    let mut err = MemorySink::new(alloc, STEP, 0);
-    buildifier(alloc, words, &mut input, &mut out, &mut err, files)
-}
+const RULE: &[u8] = b"f(name=\"x\")\n";
 
-/// A run of buildozer over these files.
-fn edit_files(alloc: Global, words: &[&str], files: &mut MemoryFiles) -> Exit {
-    let mut input = MemorySource::new(b"", STEP, 0);
-    let mut out = MemorySink::new(alloc, STEP, 0);
-    let mut err = MemorySink::new(alloc, STEP, 0);
-    buildozer(alloc, words, &mut input, &mut out, &mut err, files)
-}
+static ROWS: [Row; 12] = [
+    Row {
+        why: "check writes none",
+        program: Program::Buildifier,
+        words: &["--mode=check", "f", "g"],
+        before: &[("f", ODD), ("g", FORMATTED)],
+        failure: Failure::Nothing,
+        cut: Cut::Whole,
+        status: 4,
+        after: &[("f", ODD), ("g", FORMATTED)],
+        replaces: 0,
+    },
+    Row {
+        why: "a file that differs is written once",
+        program: Program::Buildifier,
+        words: &["f", "g"],
+        before: &[("f", ODD), ("g", FORMATTED)],
+        failure: Failure::Nothing,
+        cut: Cut::Whole,
+        status: 0,
+        after: &[("f", FORMATTED), ("g", FORMATTED)],
+        replaces: 1,
+    },
+    Row {
+        why: "formatted files are left",
+        program: Program::Buildifier,
+        words: &["f", "g"],
+        before: &[("f", FORMATTED), ("g", FORMATTED)],
+        failure: Failure::Nothing,
+        cut: Cut::Whole,
+        status: 0,
+        after: &[("f", FORMATTED), ("g", FORMATTED)],
+        replaces: 0,
+    },
+    Row {
+        why: "behind a read that fails the run goes on",
+        program: Program::Buildifier,
+        words: &["f", "g"],
+        before: &[("f", ODD), ("g", ODD)],
+        failure: Failure::At(1),
+        cut: Cut::Files,
+        status: 3,
+        after: &[("f", ODD), ("g", FORMATTED)],
+        replaces: 1,
+    },
+    Row {
+        why: "behind a second read that fails the run goes on",
+        program: Program::Buildifier,
+        words: &["f", "g"],
+        before: &[("f", ODD), ("g", ODD)],
+        failure: Failure::At(2),
+        cut: Cut::Files,
+        status: 3,
+        after: &[("f", ODD), ("g", FORMATTED)],
+        replaces: 1,
+    },
+    Row {
+        why: "behind a write that fails the run goes on",
+        program: Program::Buildifier,
+        words: &["f", "g"],
+        before: &[("f", ODD), ("g", ODD)],
+        failure: Failure::At(3),
+        cut: Cut::Files,
+        status: 3,
+        after: &[("f", ODD), ("g", FORMATTED)],
+        replaces: 2,
+    },
+    Row {
+        why: "a run makes four calls where the first is refused",
+        program: Program::Buildifier,
+        words: &["f", "g"],
+        before: &[("f", ODD), ("g", ODD)],
+        failure: Failure::RefusedAndFrom(5),
+        cut: Cut::Files,
+        status: 3,
+        after: &[("f", ODD), ("g", FORMATTED)],
+        replaces: 1,
+    },
+    Row {
+        why: "the fourth of them writes",
+        program: Program::Buildifier,
+        words: &["f", "g"],
+        before: &[("f", ODD), ("g", ODD)],
+        failure: Failure::RefusedAndFrom(4),
+        cut: Cut::Files,
+        status: 3,
+        after: &[("f", ODD), ("g", ODD)],
+        replaces: 1,
+    },
+    Row {
+        why: "a package of which BUILD.bazel fails is edited in BUILD",
+        program: Program::Buildozer,
+        words: &["delete", "//a:x"],
+        before: &[("a/BUILD", RULE)],
+        failure: Failure::At(1),
+        cut: Cut::Files,
+        status: 2,
+        after: &[("a/BUILD", b"")],
+        replaces: 1,
+    },
+    Row {
+        why: "a package that is not read stays",
+        program: Program::Buildozer,
+        words: &["delete", "//a:x"],
+        before: &[("a/BUILD", RULE)],
+        failure: Failure::At(2),
+        cut: Cut::Files,
+        status: 2,
+        after: &[("a/BUILD", RULE)],
+        replaces: 0,
+    },
+    Row {
+        why: "a package that is not read again stays",
+        program: Program::Buildozer,
+        words: &["delete", "//a:x"],
+        before: &[("a/BUILD", RULE)],
+        failure: Failure::At(3),
+        cut: Cut::Files,
+        status: 2,
+        after: &[("a/BUILD", RULE)],
+        replaces: 0,
+    },
+    Row {
+        why: "a package that is not written stays",
+        program: Program::Buildozer,
+        words: &["delete", "//a:x"],
+        before: &[("a/BUILD", RULE)],
+        failure: Failure::At(4),
+        cut: Cut::Files,
+        status: 2,
+        after: &[("a/BUILD", RULE)],
+        replaces: 1,
+    },
+];
 
-fn is(exit: Exit, cut: Cut, status: u8) -> bool {
-    exit.cut == cut && exit.status == status
-}
-
-// A file that differs is written once, and left when it is formatted again; check writes none.
-#[test]
-fn formatted_files_are_left(rt: HostRuntime) -> Result<(), Fail> {
-    let alloc = rt.alloc();
-    let mut files = MemoryFiles::of(alloc, &[("f", b"x=1"), ("g", FORMATTED)])?;
-    assert!(rt;
-        is(
-            format_files(alloc, &["--mode=check", "f", "g"], &mut files),
-            Cut::Whole,
-            4
-        )
-    );
-    assert!(rt; files.replaces() == 0);
-    assert!(rt; is(format_files(alloc, &["f", "g"], &mut files), Cut::Whole, 0));
-    assert!(rt; files.replaces() == 1);
-    assert!(rt; files.bytes_at("f") == Some(FORMATTED));
-    assert!(rt; is(format_files(alloc, &["f", "g"], &mut files), Cut::Whole, 0));
-    assert!(rt; files.replaces() == 1);
-    Ok(())
-}
-
-// Where a read or a write fails the run goes on, and is told to be cut by the files.
-#[test]
-fn failing_files(rt: HostRuntime) -> Result<(), Fail> {
-    let alloc = rt.alloc();
-    for k in 1..=2 {
-        let mut files = MemoryFiles::of(alloc, &[("f", b"x=1"), ("g", b"x=1")])?;
-        files.fail_at(k);
-        assert!(rt;
-            is(format_files(alloc, &["f", "g"], &mut files), Cut::Files, 3),
-            "at {k}"
-        );
-        assert!(rt; files.bytes_at("f") == Some(b"x=1".as_slice()));
-        assert!(rt; files.bytes_at("g") == Some(FORMATTED));
+impl Failure {
+    fn plan(self, files: &mut MemoryFiles) -> Result<(), AllocError> {
+        match self {
+            Failure::Nothing => {}
+            Failure::At(call) => files.fail_at(call),
+            Failure::RefusedAndFrom(call) => {
+                files.refuse("f")?;
+                files.stop_at(call);
+            }
+        }
+        Ok(())
     }
-    let mut files = MemoryFiles::of(alloc, &[("f", b"x=1"), ("g", b"x=1")])?;
-    files.refuse("f")?;
-    files.stop_at(4);
-    assert!(rt; is(format_files(alloc, &["f", "g"], &mut files), Cut::Files, 3));
-    assert!(rt; files.bytes_at("g") == Some(FORMATTED));
-    assert!(rt; MemoryFiles::new(alloc).bytes_at("f").is_none());
-    Ok(())
 }
 
-// A package of which `BUILD.bazel` fails is edited in `BUILD`; one that is not read or not written stays. Each is told to be
-// cut by the files.
+/// Whether these files have these bytes, and there is no other one beside the package's.
+fn stand(files: &MemoryFiles, texts: &[(&str, &[u8])]) -> bool {
+    for &(name, bytes) in texts {
+        if files.bytes_at(name) != Some(bytes) {
+            return false;
+        }
+    }
+    files.bytes_at("a/BUILD.bazel").is_none()
+}
+
+/// Whether a run over the row's files leaves what stands in the row.
+fn holds(alloc: Global, row: &Row) -> Result<bool, AllocError> {
+    let mut files = MemoryFiles::of(alloc, row.before)?;
+    row.failure.plan(&mut files)?;
+    let left = run(alloc, row.program, row.words, b"", SOUND, &mut files);
+    Ok(
+        left.ended(row.cut, row.status)
+            && files.replaces() == row.replaces
+            && stand(&files, row.after),
+    )
+}
+
 #[test]
-fn failing_packages(rt: HostRuntime) -> Result<(), Fail> {
-    let alloc = rt.alloc();
-    for (call, is_edited) in [(1, true), (2, false), (3, false)] {
-        let mut files = MemoryFiles::of(alloc, &[("a/BUILD", b"f(name=\"x\")\n")])?;
-        files.fail_at(call);
-        assert!(rt;
-            is(
-                edit_files(alloc, &["delete", "//a:x"], &mut files),
-                Cut::Files,
-                2
-            ),
-            "at {call}"
-        );
-        let left = files.bytes_at("a/BUILD").unwrap_or(b"none");
-        assert!(rt; left.is_empty() == is_edited, "at {call}");
+fn rows(rt: HostRuntime) -> Result<(), Fail> {
+    for row in &ROWS {
+        assert!(rt; holds(rt.alloc(), row)?, "{}", row.why);
     }
     Ok(())
 }

@@ -1,13 +1,9 @@
-//! What no table of cases can show (the crate cases has these): the rows that the programs were worked out by, devices
-//! that fail, and calls of the libraries that no program makes, where memory is ample.
+//! What no sheet of cases can show (the program cases answers these): the rows that buildozer was worked out by, and what both
+//! programs do where a reader, a writer or a file fails. Tables, and one run for each row.
 #![tactic(auto)]
 
 #[cfg(test)]
-mod calls;
-#[cfg(test)]
 mod files;
-#[cfg(test)]
-mod laws;
 #[cfg(test)]
 mod ports;
 #[cfg(test)]

@@ -1,95 +1,67 @@
-//! Readers and writers that fail, or take a byte at a time.
-use crate::run::{Devices, Left, run};
+//! Readers and writers that fail, and those of std's.
+use crate::run::{BYTEWISE, Devices, Left, edit};
 use crate::worked::{INPUT, WITHOUT_X};
 use bz_tools::{Cut, Device, Sink, Source};
 use std::alloc::Global;
-use std::test::Fail;
 
-/// Devices that take a byte at a time.
-const BYTEWISE: Devices = Devices {
-    step: 1,
-    read: 0,
-    write: 0,
-    error: 0,
-};
+/// How many reads of a byte there are: one for each of the input, and one at its end.
+const READS: u64 = 53;
 
 fn deleted(alloc: Global, devices: Devices) -> Left {
-    run(alloc, &["--", "delete", "-:x"], INPUT.as_bytes(), devices)
+    edit(alloc, &["--", "delete", "-:x"], INPUT, devices)
 }
 
-// A read that fails, whichever it is, leaves standard output empty.
-#[test]
-fn failing_reads(rt: HostRuntime) {
-    // 52 reads of a byte, and one at the end
-    for read in 1..=53 {
-        let left = deleted(rt.alloc(), Devices { read, ..BYTEWISE });
-        assert!(rt; left.is(Cut::Read, 2, b""), "at {read}");
+/// Whether standard output stays empty where the read of this number fails, and has the whole text where there is none.
+fn fails_at_read(alloc: Global, read: u64) -> bool {
+    let left = deleted(alloc, Devices { read, ..BYTEWISE });
+    if read > READS {
+        return left.is(Cut::Whole, 0, WITHOUT_X.as_bytes());
     }
-    let left = deleted(
-        rt.alloc(),
-        Devices {
-            read: 54,
-            ..BYTEWISE
-        },
-    );
-    assert!(rt; left.is(Cut::Whole, 0, WITHOUT_X.as_bytes()));
+    left.is(Cut::Read, 2, b"")
 }
 
-// A write that fails leaves a beginning of the text.
-#[test]
-fn failing_writes(rt: HostRuntime) {
-    // 29 writes of a byte
+/// Whether standard output has what was written where the write of this number fails, behind so many of a byte, and has the
+/// whole text where there is none.
+fn fails_at_write(alloc: Global, written: usize, write: u64) -> bool {
     let text = WITHOUT_X.as_bytes();
-    for (written, write) in (0..29).zip(1..) {
-        let left = deleted(rt.alloc(), Devices { write, ..BYTEWISE });
-        let front = text.get(..written).unwrap_or(text);
-        assert!(rt; left.is(Cut::Write, 2, front), "at {write}");
+    let left = deleted(alloc, Devices { write, ..BYTEWISE });
+    match text.get(..written) {
+        Some(front) if front.len() < text.len() => left.is(Cut::Write, 2, front),
+        _ => left.is(Cut::Whole, 0, text),
     }
-    let left = deleted(
-        rt.alloc(),
-        Devices {
-            write: 30,
-            ..BYTEWISE
-        },
-    );
-    assert!(rt; left.is(Cut::Whole, 0, text));
 }
 
-// A fault of standard error is passed over; words that are no line of the program's leave the devices alone.
 #[test]
-fn failing_errors(rt: HostRuntime) {
-    let devices = Devices {
-        error: 2,
-        ..BYTEWISE
-    };
-    let left = run(
-        rt.alloc(),
-        &["--", "delete", "-:z"],
-        INPUT.as_bytes(),
-        devices,
-    );
-    assert!(rt; left.is(Cut::Whole, 2, INPUT.as_bytes()));
-    let devices = Devices {
-        read: 1,
-        write: 1,
-        ..BYTEWISE
-    };
-    let left = run(rt.alloc(), &["delete", "-:x"], INPUT.as_bytes(), devices);
-    assert!(rt; left.is(Cut::Whole, 1, b""));
+fn failing_devices(rt: HostRuntime) {
+    for (made, call) in (0..54).zip(1..) {
+        assert!(rt; fails_at_read(rt.alloc(), call), "at read {call}");
+        assert!(rt; fails_at_write(rt.alloc(), made, call), "at write {call}");
+    }
 }
 
-// Devices pass on what a reader and a writer of std's give and take, to the end of the reader, which is no fault.
-#[test]
-fn devices(rt: HostRuntime) -> Result<(), Fail> {
+/// Whether a read into the four bytes gives so many, and then these stand there.
+fn gives(source: &mut Device<&[u8]>, text: &mut [u8], count: usize, whole: &[u8]) -> bool {
+    source.read(text) == Ok(count) && *text == *whole
+}
+
+/// Whether a device passes on what a reader of std's gives, also behind its end, which is no fault.
+fn passes_on_reads() -> bool {
     let mut text = [0u8; 4];
     let mut source = Device::new(b"abcdef".as_slice());
-    assert_eq!(rt; source.read(&mut text), Ok(4));
-    assert_eq!(rt; text.as_slice(), b"abcd".as_slice());
-    assert_eq!(rt; source.read(&mut text), Ok(2));
-    assert_eq!(rt; text.as_slice(), b"efcd".as_slice());
-    assert_eq!(rt; source.read(&mut text), Ok(0));
-    assert_eq!(rt; source.read(&mut text), Ok(0));
-    let mut sink = Device::new(Vec::new(rt.alloc()));
-    assert_eq!(rt; sink.write(b"abc"), Ok(3));
-    Ok(())
+    for (count, whole) in [(4, b"abcd"), (2, b"efcd"), (0, b"efcd"), (0, b"efcd")] {
+        if !gives(&mut source, &mut text, count, whole) {
+            return false;
+        }
+    }
+    true
+}
+
+/// Whether a device passes on what a writer of std's takes.
+fn passes_on_writes(alloc: Global) -> bool {
+    Device::new(Vec::new(alloc)).write(b"abc") == Ok(3)
+}
+
+#[test]
+fn devices(rt: HostRuntime) {
+    assert!(rt; passes_on_reads() && passes_on_writes(rt.alloc()));
 }

@@ -1,11 +1,12 @@
 //! The rows that buildozer was worked out by: delete, undo and redo over standard input.
-use crate::run::{Devices, run};
+use crate::run::{BYTEWISE, Devices, SOUND, edit};
 use bz_tools::Cut;
 use std::alloc::Global;
 
-/// Words, and what a run of them on `INPUT` leaves.
+/// Words, the devices of a run of them on `INPUT`, and what it leaves.
 struct Row {
     words: &'static [&'static str],
+    devices: Devices,
     output: &'static str,
     status: u8,
     // None: clap says what is wrong.
@@ -18,61 +19,84 @@ pub(crate) const WITHOUT_X: &str = "# keep\ncc_binary(name = \"y\")\n";
 
 const NO_TARGET: &str = "buildozer: <stdin>: delete: NoTarget (41)\n";
 
-static ROWS: [Row; 7] = [
+static ROWS: [Row; 9] = [
     Row {
         words: &["--", "delete", "undo", "redo", "-:x"],
+        devices: SOUND,
         output: WITHOUT_X,
         status: 0,
         errors: Some(""),
     },
     Row {
         words: &["--", "delete", "undo", "-:x"],
+        devices: SOUND,
         output: INPUT,
         status: 3,
         errors: Some(""),
     },
     Row {
         words: &["--", "delete", "undo 2", "-:x"],
+        devices: SOUND,
         output: WITHOUT_X,
         status: 2,
         errors: Some("buildozer: <stdin>: undo 2: TooFar (61)\n"),
     },
     Row {
         words: &["--", "delete", "-:z"],
+        devices: SOUND,
         output: INPUT,
         status: 2,
         errors: Some(NO_TARGET),
     },
     Row {
         words: &["--", "delete", "-:__pkg__"],
+        devices: SOUND,
         output: INPUT,
         status: 2,
         errors: Some(NO_TARGET),
     },
     Row {
         words: &["delete", "-:x"],
+        devices: SOUND,
         output: "",
         status: 1,
         errors: None,
     },
     Row {
         words: &["--", "grow", "-:x"],
+        devices: SOUND,
         output: "",
         status: 1,
         errors: Some("buildozer: grow: Unknown (31)\n"),
     },
+    // A fault of standard error is passed over: its second byte is not taken, and the line ends there.
+    Row {
+        words: &["--", "delete", "-:z"],
+        devices: Devices {
+            error: 2,
+            ..BYTEWISE
+        },
+        output: INPUT,
+        status: 2,
+        errors: Some("b"),
+    },
+    // Words that are no line of the program's leave the reader and standard output alone, which would fail at once.
+    Row {
+        words: &["delete", "-:x"],
+        devices: Devices {
+            read: 1,
+            write: 1,
+            ..BYTEWISE
+        },
+        output: "",
+        status: 1,
+        errors: None,
+    },
 ];
-
-const DEVICES: Devices = Devices {
-    step: 4096,
-    read: 0,
-    write: 0,
-    error: 0,
-};
 
 /// Whether a run of the words leaves what stands in the row.
 fn holds(alloc: Global, row: &Row) -> bool {
-    let left = run(alloc, row.words, INPUT.as_bytes(), DEVICES);
+    let left = edit(alloc, row.words, INPUT, row.devices);
     left.is(Cut::Whole, row.status, row.output.as_bytes())
         && match row.errors {
             Some(errors) => left.errors() == errors.as_bytes(),

@@ -1,9 +1,9 @@
 use Rattle.std.proofs.Common.{◌∙◌, sym, ap, List, Ok}
 use Rattle.std.specs.Option.{option_copied}
 use Rattle.bz_value.specs.declared.value.Expr.{Expr}
+use Rattle.bz_command.specs.ArgumentChanges.{arguments_of}
 use Rattle.bz_command.specs.CallParts.{with_list_in}
 use Rattle.bz_attribute.specs.Attributes.{Arguments}
-use Rattle.bz_command.specs.Effect.{arguments_of}
 use Rattle.bz_command.specs.declared.statements.CallPart.TheVariants.{Arguments as InBrackets}
 use Rattle.bz_command.proofs.StatementRules.{rule_changed}
 use Rattle.bz_command.proofs.statements.change_rule.Goals as goal
@@ -11,6 +11,6 @@ use Rattle.bz_command.proofs.statements.change_rule.Goals as goal
 pub returns-clause-ok : goal.returns-clause-ok
 returns-clause-ok c =
     let change : List Expr → Arguments = arguments_of c.args.operation.now c.args.current.now (option_copied c.args.found) in
-    let new = c.change.new.arguments in
-    rule_changed change c.args.item.now c.new-arguments.result new (sym c.is_rule.ensures ∙ c.if-not-is_rule.false) (ap change (sym c.exchange.ensures.there) ∙ c.in_ok-change.ensures.ok)
+    let new = c.in_ok-changed.changed in
+    rule_changed change c.args.item.now c.new-arguments.result new (sym c.is_rule.ensures ∙ c.if-not-is_rule.false) (ap change (sym c.exchange.ensures.there) ∙ c.in_ok-changed.ensures.ok)
     ∙ ap Ok (ap (with_list_in InBrackets new) (sym c.exchange.ensures.here) ∙ sym c.exchange-2.ensures.here)

@@ -8,7 +8,7 @@ returns-in_ok-change_own c =
     let test = is_sought c.args.sought in
     let xs = c.args.items.now in
     let x = c.index-items-at.result in
-    ap (slice_set xs c.in-Some.at) c.in_ok-change_own.ensures
+    ap (slice_set xs c.in-Some.at) c.in_ok-change_own.ensures.ok
     ∙ sym (changed_at test (changed_by c.args.change) xs c.in-Some.at x (is_first test xs c.in-Some.at x c.in-Some.ensures))
 
 pub returns-in_default : goal.returns-in_default

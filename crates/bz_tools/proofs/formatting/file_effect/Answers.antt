@@ -47,13 +47,15 @@ returns-then-is_rewritten-clause-step g c = λ honest.
     let differs : is_rewritten c.args.mode text new ≡ true =
     rw (c.deref-2.ensures.value, c.as_slice.ensures) at (sym c.is_rewritten.ensures ∙ c.if-is_rewritten.true) in
     let step = c.rewrite.ensures.step (c.in-Ok.ensures.honest ∙ honest) in
-    let rewrites : Rewrites name new before step.0 after =
-    subst (λ (folder : Folder). Rewrites name new folder step.0 after) (c.in-Ok.ensures.same honest)
-    (subst (λ (slice : List ℕ). Rewrites name slice (g.F.Files.folder c.read.new.self) step.0 after) c.as_slice-then-is_rewritten.ensures step.1) in (
+    let rewrites : Rewrites name text new before step.0 after =
+    subst (λ (folder : Folder). Rewrites name text new folder step.0 after) (c.in-Ok.ensures.same honest)
+    (subst (λ (slice : List ℕ). Rewrites name slice new (g.F.Files.folder c.read.new.self) step.0 after) c.deref-then-is_rewritten.ensures.value
+    (subst (λ (slice : List ℕ). Rewrites name c.deref-then-is_rewritten.result.now slice (g.F.Files.folder c.read.new.self) step.0 after)
+    c.as_slice-then-is_rewritten.ensures step.1)) in (
       step.0,
       rewritten text new there formats differs rewrites,
       step.2,
-      quiet c.args.closed step.0 (g.W.Sink.faults c.args.out.now) (g.W.Sink.contents c.args.out.now) (rewrites_quiet name new before after step.0 rewrites),
+      quiet c.args.closed step.0 (g.W.Sink.faults c.args.out.now) (g.W.Sink.contents c.args.out.now) (rewrites_quiet name text new before after step.0 rewrites),
       step.3,
     )
 

@@ -7,5 +7,5 @@ returns-in-Err-clause-not_utf8 c = passed_tells c.args.text.now c.in-Err.fault c
 pub returns-in-Ok-first-clause-not_utf8 : goal.returns-in-Ok-first-clause-not_utf8
 returns-in-Ok-first-clause-not_utf8 c = opened_tells c.args.text.now _ _ c.in-Ok.ensures.not_utf8
 
-pub returns-clause-not_utf8 : goal.returns-clause-not_utf8
-returns-clause-not_utf8 c = refused_tells c.args.text.now _ c.in-Ok.ensures.not_utf8
+pub returns-in-Err-first-clause-not_utf8 : goal.returns-in-Err-first-clause-not_utf8
+returns-in-Err-first-clause-not_utf8 c = refused_tells c.args.text.now _ c.in-Ok.ensures.not_utf8

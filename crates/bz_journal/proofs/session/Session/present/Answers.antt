@@ -1,7 +1,12 @@
-use Rattle.std.proofs.Common.{◌∙◌}
-use Rattle.bz_journal.proofs.Kept.{accepted_at}
+use Rattle.std.proofs.Common.{◌∙◌, ap, subst}
+use Rattle.bz_tree.specs.Spell.{spell_node}
+use Rattle.bz_journal.specs.State.{State, IsSession}
+use Rattle.bz_journal.proofs.Kept.{session_kept, session_present}
 use Rattle.bz_journal.proofs.session.Session.present.Goals as goal
 
-pub returns-clause-accepted : goal.returns-clause-accepted
-returns-clause-accepted c =
-    accepted_at c.args.self.now.texts.items c.args.self.now.cursor c.as_slice.result.now c.index.result.now c.args.self.now.accepted c.args.self.now.within (c.as_slice.ensures ∙ c.index.ensures)
+pub returns-clause-text : goal.returns-clause-text
+returns-clause-text c =
+    ap (λ (s : State). spell_node s.tree) c.self.view_is ∙ session_present c.texts_kept.ensures c.args.self.now (subst (λ (s : State). IsSession s) c.self.view_is c.self.invariant)
+
+pub returns-clause-within : goal.returns-clause-within
+returns-clause-within c = let k = session_kept c.texts_kept.ensures c.args.self.now (subst (λ (s : State). IsSession s) c.self.view_is c.self.invariant) in k.within

@@ -13,5 +13,6 @@ loop-action-preserved c =
       added = so_far.added ++ replied;
       replies = pushed ∙ ap (λ xs. xs ++ replied) so_far.replies ∙ append_assoc c.args.replies.now.items so_far.added replied;
       runs = rw (take_more c.args.actions.now c.loop-action.action-index c.action-item.result c.loop-action-test.true, ← c.action-item.is) (run_more _ _ _ _ _ _ _ so_far.runs c.act-reply.ensures.acts);
+      small = λ h. c.act-reply.ensures.small (so_far.small h);
       room = grind (arith, common_steps);
     }

@@ -1,7 +1,9 @@
 use Rattle.std.proofs.Common.{◌≡◌, ◌≤◌, ◌+◌, ◌-◌, ◌++◌, List, take, length, vec_len, vec_capacity, Result}
 use Rattle.bz_attribute.specs.declared.refusal.Refusal.{Refusal}
 use Rattle.bz_journal.specs.History.{Runs}
+use Rattle.bz_trail.specs.Trails.{IsSmall}
 use Rattle.bz_journal.specs.Shown.{history_of}
+use Rattle.bz_journal.specs.State.{trail_of}
 use Rattle.bz_journal.specs.declared.action.Reply.{Reply}
 use Rattle.bz_journal.proofs.session.Session.run.Given as goal
 
@@ -11,5 +13,6 @@ invariant-loop-action l = record {
   added : List (Result Reply Refusal);
   replies : l.replies.items ≡ l.fn.replies.items ++ added;
   runs : Runs (history_of l.fn.self) (take l.action-index l.actions) added (history_of l.self);
+  small : IsSmall (trail_of l.fn.self) → IsSmall (trail_of l.self);
   room : vec_len l.replies + (length l.actions - l.action-index) ≤ vec_capacity l.replies;
 }

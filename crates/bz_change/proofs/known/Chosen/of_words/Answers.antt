@@ -1,7 +1,0 @@
-use Rattle.std.proofs.Common.{ap, ◌∙◌}
-use Rattle.bz_change.specs.KnownValues.{with_words}
-use Rattle.bz_change.proofs.KnownSteps.{chosen_words}
-use Rattle.bz_change.proofs.known.Chosen.of_words.Goals as goal
-
-pub returns : goal.returns
-returns c = chosen_words c.args.current.now c.args.attribute.now c.args.words.now _ (c.in_ok-insert_words.ensures ∙ ap (with_words c.args.words.now) c.in_ok-known.ensures)

@@ -1,7 +1,0 @@
-use Rattle.std.proofs.Common.{◌≡◌, drop}
-use Rattle.bz_change.specs.KnownValues.{asked}
-use Rattle.bz_change.specs.Listing.{with_lists}
-use Rattle.bz_change.proofs.known.Known.insert_lists.Given as goal
-
-abbrev pub invariant-loop-x : goal.invariant-loop-x
-invariant-loop-x l = with_lists (drop l.x-index l.operands) (asked l.self) ≡ with_lists l.operands (asked l.fn.self)

@@ -1,6 +1,0 @@
-use Rattle.bz_change.proofs.KnownKeys.{none_kept}
-use Rattle.bz_change.proofs.known.Known.new.Goals as goal
-
-pub returns : goal.returns
-returns c = none_kept c.in_ok-from_slice.field-0 c.args.current.now c.args.attribute.now c.is_label_attribute.result c.new.result c.new-2.result
-    c.in_ok-from_slice.ensures c.is_label_attribute.ensures c.new.ensures.empty c.new-2.ensures.empty

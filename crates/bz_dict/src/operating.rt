@@ -1,0 +1,57 @@
+//! What each command on dicts makes of the arguments of a rule.
+ghost use Rattle.std.specs.Prelude.{◌≡◌, ◌⊎◌, Ok, Err, OnOk, IfErr, IfOk};
+ghost use Rattle.bz_dict.specs.Dicts.{dicts_changed};
+
+use crate::changing::{dict_add, dict_set};
+use crate::removing::dict_remove;
+use bz_attribute::Refusal;
+use bz_items::Items;
+use bz_value::Expr;
+use bz_words::DictOperation;
+use std::alloc::Global;
+
+// Changes the arguments in place; after a refusal part of them may be lost.
+fn change_in_place(
+    alloc: Global,
+    operation: &DictOperation,
+    current: &[u8],
+    arguments: &mut Items<Expr>,
+) -> Result<(), Refusal>
+    ensures ok { OnOk result (dicts_changed operation.now current.now arguments.old ≡ Ok arguments.new) }
+    ensures err { IfErr result (λ refusal. (dicts_changed operation.now current.now arguments.old ≡ Err refusal) ⊎ (refusal ≡ Refusal.Memory)) }
+{
+    match operation {
+        DictOperation::Add { attribute, entries } => dict_add(
+            alloc,
+            current,
+            attribute.as_slice(),
+            entries.as_slice(),
+            arguments,
+        ),
+        DictOperation::Set { attribute, entries } => dict_set(
+            alloc,
+            current,
+            attribute.as_slice(),
+            entries.as_slice(),
+            arguments,
+        ),
+        DictOperation::Remove { attribute, keys } => {
+            dict_remove(alloc, attribute.as_slice(), keys.as_slice(), arguments)
+        }
+    }
+}
+
+/// What an operation on dicts makes of the arguments of a rule, which are given up where it is refused. `current` is the path of the
+/// file's package. Errors: `NotADict`: the attribute's value is no dict; `Memory`: a growth was refused.
+pub fn change_dicts(
+    alloc: Global,
+    operation: &DictOperation,
+    current: &[u8],
+    mut arguments: Items<Expr>,
+) -> Result<Items<Expr>, Refusal>
+    ensures ok { IfOk result (λ new. dicts_changed operation.now current.now arguments ≡ Ok new) }
+    ensures err { IfErr result (λ refusal. (dicts_changed operation.now current.now arguments ≡ Err refusal) ⊎ (refusal ≡ Refusal.Memory)) }
+{
+    change_in_place(alloc, operation, current, &mut arguments)?;
+    Ok(arguments)
+}

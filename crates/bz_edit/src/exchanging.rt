@@ -1,0 +1,78 @@
+//! Exchange by steps.
+ghost use Rattle.std.specs.Prelude.{◌≡◌, ◌≤◌, length, true, false, ◌↔◌, IsOk, OnOk, OnErr, Err};
+ghost use Rattle.bz_tree.specs.Legal.{Legal};
+ghost use Rattle.bz_tree.specs.Spell.{spell_node, limit};
+ghost use Rattle.bz_edit.specs.Steps.{swap_node, all_there, turned_all, AllApart, CountsFit, all_even as even_all};
+
+use crate::edit::{Edit, EditFault, copy_edits};
+use crate::place::{all_places, swap_each, swap_one};
+use crate::step::Step;
+use bz_items::Items;
+use bz_tree::{Node, Tree};
+
+/// Whether each edit holds as many parts as it covers.
+pub fn all_even(edits: &[Edit]) -> bool
+    ensures { result ≡ even_all edits.now }
+{
+    for edit in edits {
+        if edit.count as usize != edit.held.len() {
+            return false;
+        }
+    }
+    true
+}
+
+/// Exchange by edits that are apart. Even ones, and one alone, are made in place, others on copies, which are then put in place.
+fn exchange_edits(node: &mut Node, edits: &mut Items<Edit>) -> Result<(), EditFault>
+    requires apart { AllApart edits.old }
+    requires counts { CountsFit edits.old }
+    ensures node { OnOk result (node.new ≡ swap_node edits.old node.old) }
+    ensures edits { OnOk result (edits.new ≡ turned_all node.old edits.old) }
+    ensures err { OnErr result ((node.new ≡ node.old) × (edits.new ≡ edits.old)) }
+    ensures bad_place { (result ≡ Err EditFault.BadPlace) ↔ (all_there edits.old node.old ≡ false) }
+    ensures even { even_all edits.old ≡ true → all_there edits.old node.old ≡ true → IsOk result }
+{
+    if !all_places(node, edits.as_slice()) {
+        return Err(EditFault::BadPlace);
+    }
+    if all_even(edits.as_slice()) {
+        let _ = swap_each(node, edits.as_mut_slice());
+        return Ok(());
+    }
+    if edits.len() == 1 {
+        let edit = edits.at_mut(0);
+        swap_one(node, edit)?;
+        return Ok(());
+    }
+    let mut trial = node.copy()?;
+    let mut turned = copy_edits(edits.alloc(), edits.as_slice())?;
+    swap_each(&mut trial, turned.as_mut_slice())?;
+    *node = trial;
+    *edits = turned;
+    Ok(())
+}
+
+/// What is held and what stands at the places change sides. A step whose edits all hold as many parts as they cover takes
+/// no memory. The errors: a place is not in the node, or a growth was refused; node and step are then as before.
+pub fn exchange_node(node: &mut Node, step: &mut Step) -> Result<(), EditFault>
+    requires { length (spell_node node.old) ≤ limit }
+    ensures node { OnOk result (node.new ≡ swap_node step.old node.old) }
+    ensures step { OnOk result (step.new ≡ turned_all node.old step.old) }
+    ensures err { OnErr result ((node.new ≡ node.old) × (step.new ≡ step.old)) }
+    ensures bad_place { (result ≡ Err EditFault.BadPlace) ↔ (all_there step.old node.old ≡ false) }
+    ensures even { even_all step.old ≡ true → all_there step.old node.old ≡ true → IsOk result }
+{
+    exchange_edits(node, &mut step.edits)
+}
+
+/// The same on a tree. The caller owes a step that makes a legal tree within the limit, where its places are all there.
+pub fn exchange(tree: &mut Tree, step: &mut Step) -> Result<(), EditFault>
+    requires { all_there step.old tree.old ≡ true → Legal (swap_node step.old tree.old) × (length (spell_node (swap_node step.old tree.old)) ≤ limit) }
+    ensures tree { OnOk result (tree.new ≡ swap_node step.old tree.old) }
+    ensures step { OnOk result (step.new ≡ turned_all tree.old step.old) }
+    ensures err { OnErr result ((tree.new ≡ tree.old) × (step.new ≡ step.old)) }
+    ensures bad_place { (result ≡ Err EditFault.BadPlace) ↔ (all_there step.old tree.old ≡ false) }
+    ensures even { even_all step.old ≡ true → all_there step.old tree.old ≡ true → IsOk result }
+{
+    exchange_node(&mut tree.root, step)
+}

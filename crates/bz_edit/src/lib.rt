@@ -1,0 +1,19 @@
+//! Edits of trees: the least step between two trees, and exchange by steps.
+#![tactic(auto)]
+
+mod advancing;
+mod edit;
+mod exchanging;
+mod front;
+pub mod laws;
+mod order;
+mod place;
+mod plan;
+mod step;
+mod weigh;
+
+pub use advancing::advance;
+pub use edit::{Edit, EditFault};
+pub use exchanging::{all_even, exchange, exchange_node};
+pub use place::swap_each;
+pub use step::{Step, weight};

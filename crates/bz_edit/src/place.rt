@@ -1,0 +1,105 @@
+//! Places in a tree, and what stands there exchanged.
+ghost use Rattle.std.specs.Prelude.{◌≡◌, ◌++◌, ◌∷◌, [], ◌+◌, ◌<◌, ◌≤◌, ◌^◌, true, length, OnOk, OnErr, IsOk, IsTrue, ◌↔◌};
+ghost use Rattle.bz_edit.specs.Places.{has_place as place_there, covered, put};
+ghost use Rattle.bz_edit.specs.Steps.{swap_node, all_there, AllApart, all_even, CountsFit, turned, turned_all};
+
+use crate::edit::Edit;
+use bz_items::{Items, Memory};
+use bz_tree::{Node, Part};
+
+/// Whether a place is in the tree.
+pub fn has_place(node: &Node, path: &[u32], at: usize, count: usize) -> bool
+    ensures { result ≡ place_there path.now at count node.now }
+{
+    match path {
+        [] => {
+            let len = node.parts.len();
+            at <= len && count <= len - at
+        }
+        [first, rest @ ..] => match bz_items::at(node.parts.as_slice(), *first as usize) {
+            Some(Part::Node(child)) => has_place(child, rest, at, count),
+            _ => false,
+        },
+    }
+}
+
+/// Exchanges what is held with the parts at a place that is there. As many parts take no memory. The error: a growth was
+/// refused; both are then as before.
+pub fn swap_at(
+    node: &mut Node,
+    path: &[u32],
+    at: usize,
+    count: usize,
+    held: &mut Items<Part>,
+) -> Result<(), Memory>
+    requires { place_there path.now at count node.old ≡ true }
+    ensures node { OnOk result (node.new ≡ put path.now at count held.old node.old) }
+    ensures held { OnOk result (held.new ≡ covered path.now at count node.old) }
+    ensures err { OnErr result ((node.new ≡ node.old) × (held.new ≡ held.old)) }
+    ensures in_place { count ≡ length held.old → IsOk result }
+{
+    match path {
+        [] => Ok(node.parts.splice(at, count, held)?),
+        [first, rest @ ..] => match node.parts.at_mut(*first as usize) {
+            Part::Leaf(_) => unreachable!(),
+            Part::Node(child) => swap_at(child, rest, at, count, held),
+        },
+    }
+}
+
+/// Whether all places are in the tree.
+pub fn all_places(node: &Node, edits: &[Edit]) -> bool
+    ensures { result ≡ all_there edits.now node.now }
+{
+    for edit in edits {
+        if !has_place(
+            node,
+            edit.path.as_slice(),
+            edit.at as usize,
+            edit.count as usize,
+        ) {
+            return false;
+        }
+    }
+    true
+}
+
+/// Makes one edit; one that holds as many parts as it covers takes no memory. The error: a growth was refused; node and edit
+/// are then as before.
+pub fn swap_one(node: &mut Node, edit: &mut Edit) -> Result<(), Memory>
+    requires counts { length edit.old.held < 2 ^ 32 }
+    requires there { place_there edit.old.path edit.old.at edit.old.count node.old ≡ true }
+    ensures node { OnOk result (node.new ≡ put edit.old.path edit.old.at edit.old.count edit.old.held node.old) }
+    ensures edit { OnOk result (edit.new ≡ turned node.old edit.old) }
+    ensures err { OnErr result ((node.new ≡ node.old) × (edit.new ≡ edit.old)) }
+    ensures even { edit.old.count ≡ length edit.old.held → IsOk result }
+{
+    let stands = edit.held.len();
+    let path = edit.path.as_slice();
+    swap_at(
+        node,
+        path,
+        edit.at as usize,
+        edit.count as usize,
+        &mut edit.held,
+    )?;
+    edit.count = stands as u32;
+    Ok(())
+}
+
+/// Makes all edits; where each holds as many parts as it covers, it takes no memory. The error: a growth was refused; node and
+/// edits are then somewhere between.
+pub fn swap_each(node: &mut Node, edits: &mut [Edit]) -> Result<(), Memory>
+    requires apart { AllApart edits.old }
+    requires counts { CountsFit edits.old }
+    requires there { all_there edits.old node.old ≡ true }
+    ensures node { OnOk result (node.new ≡ swap_node edits.old node.old) }
+    ensures edits { OnOk result (edits.new ≡ turned_all node.old edits.old) }
+    ensures even { all_even edits.old ≡ true → IsOk result }
+{
+    for i in 0..edits.len() {
+        let edit = &mut edits[i];
+        swap_one(node, edit)?;
+    }
+    Ok(())
+}

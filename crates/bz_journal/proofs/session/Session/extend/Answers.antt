@@ -1,0 +1,24 @@
+use Rattle.std.proofs.Common.{List, ◌≡◌, ◌<◌, ◌+◌, ◌++◌, ◌∷◌, [], ◌∙◌, ap, sym, subst, take, string_bytes}
+use Rattle.sha2.specs.Sha256.{sha256}
+use Rattle.bz_tree.specs.declared.tree.Node.{Node}
+use Rattle.bz_tree.specs.Spell.{spell_node}
+use Rattle.bz_value.specs.Gaps.{Bytes}
+use Rattle.bz_journal.specs.History.{most_steps}
+use Rattle.bz_journal.specs.State.{State, IsSession}
+use Rattle.bz_journal.proofs.Kept.{HasExtended, extended, session_present}
+use Rattle.bz_journal.proofs.session.Session.extend.Goals as goal
+
+pub take_up-requires-clause-other : goal.take_up-requires-clause-other
+take_up-requires-clause-other c = λ same.
+    let s : State = c.args.self.now in
+    c.requires.other (same ∙ ap (λ (t : State). spell_node t.tree) c.self.view_is ∙ session_present c.texts_kept.ensures s (subst (λ (t : State). IsSession t) c.self.view_is c.self.invariant))
+
+pub invariant_of-self-2 : goal.invariant_of-self-2
+invariant_of-self-2 c =
+    let s : State = record { tree = c.self.inside.tree; steps = c.self.inside.steps.items; digests = c.self.inside.digests.items; «package» = string_bytes c.self.inside.«package»; cursor = c.self.inside.cursor; before = c.self.inside.before } in
+    let next : Node = c.args.next in
+    let room : c.self.inside.cursor < most_steps = subst (λ (t : State). t.cursor < most_steps) (sym c.self.view_is) c.requires.room in
+    let digests : c.put_after.new.digests.items ≡ take (c.self.inside.cursor + 1) c.self.inside.digests.items ++ sha256 (spell_node next) ∷ [] =
+    c.put_after.ensures ∙ ap (λ (l : List Bytes). take (c.self.inside.cursor + 1) l ++ c.in_ok-digest.digest ∷ []) c.reserve.ensures.items
+    ∙ ap (λ (d : Bytes). take (c.self.inside.cursor + 1) c.self.inside.digests.items ++ d ∷ []) c.in_ok-digest.ensures in
+    HasExtended.session (extended c.texts_kept.ensures s next c.take_up.new.tree c.take_up.new.steps.items c.put_after.new.digests.items c.self.invariant room c.in_ok-take_up.ensures.ok digests)

@@ -1,0 +1,187 @@
+-- What is known, and what it becomes.
+use Rattle.std.proofs.Common.{◌≡◌, inl, inr, Bool, true, false, ◌||◌, ◌&&◌, List, [], ◌∷◌, ◌++◌, refl, sym, ap, ◌∙◌}
+use Rattle.std.specs.Prelude.{if◌then◌else◌, bytes_eq, Option, Some, None}
+use Rattle.std.specs.List.{list_any, flat_map}
+use Rattle.std.specs.Option.{option_map_or}
+use Rattle.std.proofs.lemmas.Bool.{cases_Bool, and_from}
+use Rattle.std.proofs.lemmas.Slice.Eq.{bytes_eq-Decides}
+use Rattle.std.proofs.Math.Path.{fun_ext}
+use Rattle.std.proofs.lemmas.Cmp.{nat_list_eq_equiv}
+use Rattle.bz_tree.specs.declared.kind.Kind.TheVariants as k
+use Rattle.bz_rule.specs.Values.{has_kind, parts_of}
+use Rattle.bz_label.specs.declared.label.Label.{Label}
+use Rattle.bz_label.specs.Read.{label_in, is_equal, are_equal, is_same}
+use Rattle.bz_label.specs.Tables.{is_label_attribute}
+use Rattle.bz_value.specs.declared.value.Expr.{Expr}
+use Rattle.bz_value.specs.Gaps.{Bytes}
+use Rattle.bz_attribute.specs.Lists.{body_of, items_in, are_one, is_some_item}
+use Rattle.bz_attribute.proofs.KeySets.{equal_texts, or_group, or_none}
+use Rattle.bz_list.specs.declared.known.Chosen.TheVariants as h
+use Rattle.bz_list.specs.Listing.{chooses, listed, with_lists}
+use Rattle.bz_attribute.proofs.ListsThere.{items_there}
+use Rattle.bz_list.specs.KnownValues.{are_alike, label_meant, is_among, KnownValues, Asked, asked, none_known, with_word, with_words, is_known_item, with_item, with_items}
+
+-- ---- words mean one value both ways
+
+bytes_alike : (xs ys : Bytes) → bytes_eq xs ys ≡ bytes_eq ys xs
+bytes_alike xs ys = nat_list_eq_equiv.symm xs ys
+
+all_three : (a b c a' b' c' : Bool) → a ≡ a' → b ≡ b' → c ≡ c' → (a && b && c) ≡ (a' && b' && c')
+all_three a b c a' b' c' e f g = ap (λ z. z && b && c) e ∙ (ap (λ z. a' && z && c) f ∙ ap (λ z. a' && b' && z) g)
+
+equal_alike : (one other : Label) → is_equal one other ≡ is_equal other one
+equal_alike one other =
+    all_three (bytes_eq one.repository other.repository) (bytes_eq one.«package» other.«package») (bytes_eq one.name other.name)
+    (bytes_eq other.repository one.repository) (bytes_eq other.«package» one.«package») (bytes_eq other.name one.name)
+    (bytes_alike one.repository other.repository) (bytes_alike one.«package» other.«package») (bytes_alike one.name other.name)
+
+labels_alike : (one other : Option Label) → are_equal one other ≡ are_equal other one
+labels_alike (Some one) (Some other) = equal_alike one other
+labels_alike (Some one) None = refl
+labels_alike None (Some other) = refl
+labels_alike None None = refl
+
+same_alike : (current one other : Bytes) → is_same current one other ≡ is_same current other one
+same_alike current one other = ap (λ z. z || are_equal (label_in current one) (label_in current other)) (bytes_alike one other)
+    ∙ ap (λ z. bytes_eq other one || z) (labels_alike (label_in current one) (label_in current other))
+
+pub alike_both : (is_label : Bool) (current one other : Bytes) → are_alike is_label current one other ≡ are_alike is_label current other one
+alike_both true current one other = same_alike current one other
+alike_both false current one other = bytes_alike one other
+
+-- ---- one more word
+
+equal_self : (xs : Bytes) → bytes_eq xs xs ≡ true
+equal_self xs = (bytes_eq-Decides xs xs).1 refl
+
+is_equal_self : (label : Label) → is_equal label label ≡ true
+is_equal_self label = and_from _ _ (and_from _ _ (equal_self label.repository) (equal_self label.«package»)) (equal_self label.name)
+
+-- words mean one value where they mean one label, or neither means a label and they are equal
+abbrev are_one_key : Bytes → Bytes → Option Label → Option Label → Bool
+are_one_key word other (Some one) (Some two) = is_equal one two
+are_one_key word other None None = bytes_eq word other
+are_one_key word other _ _ = false
+
+key_self : (word : Bytes) (read : Option Label) → true ≡ are_one_key word word read read
+key_self word (Some label) = sym (is_equal_self label)
+key_self word None = sym (equal_self word)
+
+apart_keys : (word other : Bytes) (one two : Option Label) → bytes_eq word other ≡ false → are_equal one two ≡ are_one_key word other one two
+apart_keys word other (Some one) (Some two) e = refl
+apart_keys word other (Some one) None e = refl
+apart_keys word other None (Some two) e = refl
+apart_keys word other None None e = sym e
+
+same_keys : (current word other : Bytes) → is_same current word other ≡ are_one_key word other (label_in current word) (label_in current other)
+same_keys current word other = elim (cases_Bool (bytes_eq word other)) [
+  | inl w ↦
+      ap (λ z. z || are_equal (label_in current word) (label_in current other)) w
+      ∙ (key_self word (label_in current word) ∙ ap (λ z. are_one_key word z (label_in current word) (label_in current z)) (equal_texts word other w))
+  | inr w ↦
+      ap (λ z. z || are_equal (label_in current word) (label_in current other)) w
+      ∙ apart_keys word other (label_in current word) (label_in current other) w
+]
+
+alike_keys : (is_label : Bool) (current word other : Bytes) → are_alike is_label current word other ≡ are_one_key word other (label_meant is_label current word) (label_meant is_label current other)
+alike_keys true current word other = same_keys current word other
+alike_keys false current word other = refl
+
+label_more : (labels more : List Label) (texts : List Bytes) (added : Label) (word text : Bytes) (read : Option Label)
+    → ((label : Label) → list_any (is_equal label) more ≡ (is_equal label added || list_any (is_equal label) labels))
+    → is_among more texts word read ≡ (are_one_key word text read (Some added) || is_among labels texts word read)
+label_more labels more texts added word text (Some label) e = e label
+label_more labels more texts added word text None e = refl
+
+text_more : (labels : List Label) (texts more : List Bytes) (word text : Bytes) (read : Option Label)
+    → list_any (bytes_eq word) more ≡ (bytes_eq word text || list_any (bytes_eq word) texts)
+    → is_among labels more word read ≡ (are_one_key word text read None || is_among labels texts word read)
+text_more labels texts more word text (Some label) e = refl
+text_more labels texts more word text None e = e
+
+-- a word that means a label
+pub label_pushed : (current : Bytes) (is_label : Bool) (labels more : List Label) (texts : List Bytes) (text : Bytes) (added : Label)
+    → Some added ≡ label_meant is_label current text
+    → ((label : Label) → list_any (is_equal label) more ≡ (is_equal label added || list_any (is_equal label) labels))
+    → asked (record { current = current; is_label = is_label; labels = more; texts = texts })
+    ≡ with_word text (asked (record { current = current; is_label = is_label; labels = labels; texts = texts }))
+label_pushed current is_label labels more texts text added read e =
+    ap (λ (test : Bytes → Bool). record { current = current; is_label = is_label; is_known = test })
+    (fun_ext (λ word. label_more labels more texts added word text (label_meant is_label current word) e
+    ∙ ap (λ z. z || is_among labels texts word (label_meant is_label current word))
+    (ap (are_one_key word text (label_meant is_label current word)) read ∙ sym (alike_keys is_label current word text))))
+
+-- and one that means none
+pub text_pushed : (current : Bytes) (is_label : Bool) (labels : List Label) (texts more : List Bytes) (text : Bytes)
+    → None ≡ label_meant is_label current text
+    → ((word : Bytes) → list_any (bytes_eq word) more ≡ (bytes_eq word text || list_any (bytes_eq word) texts))
+    → asked (record { current = current; is_label = is_label; labels = labels; texts = more })
+    ≡ with_word text (asked (record { current = current; is_label = is_label; labels = labels; texts = texts }))
+text_pushed current is_label labels texts more text read e =
+    ap (λ (test : Bytes → Bool). record { current = current; is_label = is_label; is_known = test })
+    (fun_ext (λ word. text_more labels texts more word text (label_meant is_label current word) (e word)
+    ∙ ap (λ z. z || is_among labels texts word (label_meant is_label current word))
+    (ap (are_one_key word text (label_meant is_label current word)) read ∙ sym (alike_keys is_label current word text))))
+
+-- nothing is known
+pub none_among : (word : Bytes) (read : Option Label) → is_among [] [] word read ≡ false
+none_among word (Some label) = refl
+none_among word None = refl
+
+pub nothing_known : (current : Bytes) (is_label : Bool)
+    → asked (record { current = current; is_label = is_label; labels = []; texts = [] }) ≡ record { current = current; is_label = is_label; is_known = λ word. false }
+nothing_known current is_label =
+    ap (λ (test : Bytes → Bool). record { current = current; is_label = is_label; is_known = test })
+    (fun_ext (λ word. none_among word (label_meant is_label current word)))
+
+more_items : (xs ys : List Expr) (known : Asked) → with_items (xs ++ ys) known ≡ with_items ys (with_items xs known)
+more_items [] ys known = refl
+more_items (x ∷ xs) ys known = more_items xs ys (with_item x known)
+
+lists_known : (xs : List Expr) (known : Asked) → with_items (flat_map listed xs) known ≡ with_lists xs known
+lists_known [] known = refl
+lists_known (x ∷ xs) known = more_items (listed x) (flat_map listed xs) known ∙ lists_known xs (with_items (listed x) known)
+
+known_by : (b : Bool) (xs ys : List Expr) (known : Asked) → with_items (if b then flat_map listed xs else ys) known ≡ (if b then with_lists xs known else with_items ys known)
+known_by true xs ys known = lists_known xs known
+known_by false xs ys known = refl
+
+-- the items of a value
+pub value_known : (value : Expr) (known : Asked) → with_items (items_in value) known ≡ (if has_kind k.Sum value then with_lists (parts_of value) known else with_items (listed value) known)
+value_known value known = ap (λ xs. with_items xs known) (items_there value) ∙ known_by (has_kind k.Sum value) (parts_of value) (listed value) known
+
+-- ---- the words as they are asked
+
+-- what words make of what is known
+words_known : (words : List Bytes) (known : Asked) → with_words words known
+    ≡ record { current = known.current; is_label = known.is_label; is_known = λ other. list_any (are_alike known.is_label known.current other) words || known.is_known other }
+words_known [] known = refl
+words_known (word ∷ words) known = words_known words (with_word word known)
+    ∙ ap (λ (test : Bytes → Bool). record { current = known.current; is_label = known.is_label; is_known = test })
+    (fun_ext (λ other. or_group (list_any (are_alike known.is_label known.current other) words) (are_alike known.is_label known.current other word) (known.is_known other)))
+
+any_alike : (is_label : Bool) (current other : Bytes) (words : List Bytes) → list_any (are_alike is_label current other) words ≡ list_any (λ word. are_alike is_label current word other) words
+any_alike is_label current other [] = refl
+any_alike is_label current other (word ∷ words) =
+    ap (λ z. z || list_any (are_alike is_label current other) words) (alike_both is_label current other word)
+    ∙ ap (λ z. are_alike is_label current word other || z) (any_alike is_label current other words)
+
+-- an item is one of the words, asked of the body of a plain string
+by_body : (current attribute : Bytes) (words : List Bytes) (found : Option Bytes)
+    → option_map_or (λ other. list_any (λ word. are_one current attribute word other) words) found false ≡ list_any (λ word. option_map_or (are_one current attribute word) found false) words
+by_body current attribute words None = sym (none_any words)
+  where
+    none_any : (ws : List Bytes) → list_any (λ (word : Bytes). false) ws ≡ false
+    none_any [] = refl
+    none_any (w ∷ ws) = none_any ws
+by_body current attribute words (Some other) = refl
+
+words_asked : (current attribute : Bytes) (words : List Bytes) (x : Expr) → is_known_item (with_words words (none_known current attribute)) x ≡ is_some_item current attribute words x
+words_asked current attribute words x =
+    ap (λ (known : Asked). is_known_item known x) (words_known words (none_known current attribute))
+    ∙ ap (λ (test : Bytes → Bool). option_map_or test (body_of x) false)
+    (fun_ext (λ other. or_none (list_any (are_alike (is_label_attribute attribute) current other) words) ∙ any_alike (is_label_attribute attribute) current other words))
+    ∙ by_body current attribute words (body_of x)
+
+pub chosen_words : (current attribute : Bytes) (words : List Bytes) (known : KnownValues) → asked known ≡ with_words words (none_known current attribute) → chooses (h.These known) ≡ is_some_item current attribute words
+chosen_words current attribute words known e = fun_ext (λ x. ap (λ (all : Asked). is_known_item all x) e ∙ words_asked current attribute words x)

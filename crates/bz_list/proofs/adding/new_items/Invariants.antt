@@ -1,0 +1,7 @@
+use Rattle.std.proofs.Common.{◌≡◌, ◌++◌}
+use Rattle.std.specs.Vec.Iter.{into_iter_items}
+use Rattle.bz_list.specs.KnownValues.{asked, new_items}
+use Rattle.bz_list.proofs.adding.new_items.Given as goal
+
+abbrev pub invariant-loop-x : goal.invariant-loop-x
+invariant-loop-x l = l.items.items ++ new_items l.fn.current l.fn.name (asked l.known) (into_iter_items l.x-iterator) ≡ new_items l.fn.current l.fn.name (asked l.fn.known) l.fn.moved

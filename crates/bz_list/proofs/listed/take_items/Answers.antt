@@ -1,0 +1,22 @@
+use Rattle.std.proofs.Common.{◌≡◌, Bool, not, List, ap, ◌∙◌, rules}
+use Rattle.std.specs.Prelude.{Some}
+use Rattle.std.specs.List.{filter}
+use Rattle.bz_value.specs.declared.value.Expr.{Expr}
+use Rattle.bz_rule.specs.Rules.{attribute}
+use Rattle.bz_value.specs.Empty.{is_empty}
+use Rattle.bz_attribute.specs.Lists.{items_in}
+use Rattle.bz_list.specs.Listing.{chooses, put_back}
+use Rattle.bz_list.proofs.ListedForms.{left_there}
+use Rattle.bz_list.proofs.listed.take_items.Goals as goal
+
+pub returns-clause-left : goal.returns-clause-left
+returns-clause-left c =
+    let name = c.args.name.now in
+    let test : Expr → Bool = chooses c.args.chosen.now in
+    let after = c.take_value.new.arguments in
+    let taken : c.as_slice.result.now ≡ filter test (items_in c.in-Some.value) = search rules in
+    let own : attribute name c.args.arguments.now ≡ Some c.in-Some.value = search rules in
+    c.put_back.ensures
+    ∙ (ap (λ (xs : List Expr). put_back name (not (is_empty xs)) c.take_from_lists.new.value after) taken
+    ∙ (ap (λ (x : Expr). put_back name (not (is_empty (filter test (items_in c.in-Some.value)))) x after) c.in_ok-take_from_lists.ensures.left
+    ∙ left_there name test c.args.arguments.now after c.in-Some.value own c.in-Some.ensures.place c.in-Some.ensures.gone))

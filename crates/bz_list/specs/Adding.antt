@@ -1,0 +1,39 @@
+-- What is added to an attribute, in the steps in which it is.
+use Rattle.std.specs.Prelude.{not, ◌&&◌, List, [], Option, Some, None, Result, Ok, Err, map, if◌then◌else◌, bytes_eq}
+use Rattle.std.specs.Option.{option_and_then}
+use Rattle.bz_label.specs.Tables.{is_label_attribute}
+use Rattle.bz_label.specs.Read.{shortened}
+use Rattle.bz_value.specs.declared.value.Expr.{Expr}
+use Rattle.bz_value.specs.Gaps.{Bytes}
+use Rattle.bz_words.specs.Quoted.{quoted_of}
+use Rattle.bz_list.specs.declared.adding.Added.{Added}
+use Rattle.bz_list.specs.declared.adding.Added.TheVariants as a
+use Rattle.bz_attribute.specs.declared.refusal.Refusal.{Refusal}
+use Rattle.bz_attribute.specs.declared.refusal.Refusal.TheVariants.{NotAList}
+use Rattle.bz_attribute.specs.Lists.{body_of, fresh, arriving, has_lists, items_in, is_no_list, with_more}
+use Rattle.bz_attribute.specs.Made.{list_of, plus, string_of}
+use Rattle.bz_list.specs.KnownValues.{Asked, new_words, new_items}
+
+-- the items that are added to the items that are there
+abbrev pub added_by : Bytes → Bytes → Added → List Expr → List Expr
+added_by current name (a.Words words) there = map (string_of current name) (fresh current name there [] words.now)
+added_by current name (a.Moved items) there = arriving current name there items
+
+-- and to those that are known
+abbrev pub added_to : Bytes → Bytes → Added → Asked → List Expr
+added_to current name (a.Words words) known = map (string_of current name) (new_words known words.now)
+added_to current name (a.Moved items) known = new_items current name known items
+
+-- the text that an item takes in a label attribute, where it becomes shorter
+abbrev pub shorter_in : Bytes → Bytes → Bytes → Option Bytes
+shorter_in current attribute text =
+    if is_label_attribute attribute && not (bytes_eq (shortened current text) text) then Some (quoted_of (shortened current text)) else None
+
+abbrev pub shorter : Bytes → Bytes → Expr → Option Bytes
+shorter current attribute x = option_and_then (shorter_in current attribute) (body_of x)
+
+-- a value with items added
+abbrev pub with_added : (List Expr → List Expr) → Expr → Result Expr Refusal
+with_added added value =
+    if has_lists value then Ok (with_more (added (items_in value)) value)
+    else (if is_no_list value then Err NotAList else Ok (plus value (list_of (added []))))

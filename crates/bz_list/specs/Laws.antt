@@ -1,0 +1,41 @@
+-- Laws of the commands on the values of attributes.
+use Rattle.std.specs.Prelude.{◌≡◌, Bool, true, false, not, List, Some, Ok}
+use Rattle.std.specs.List.{list_any, list_all}
+use Rattle.std.specs.Option.{option_map_or}
+use Rattle.bz_value.specs.Gaps.{Bytes}
+use Rattle.bz_value.specs.declared.value.Expr.{Expr}
+use Rattle.bz_words.specs.Quoted.{is_escaped}
+use Rattle.bz_words.specs.Words.{is_nonempty}
+use Rattle.bz_rule.specs.Rules.{attribute}
+use Rattle.bz_attribute.specs.Attributes.{has_attribute}
+use Rattle.bz_attribute.specs.Lists.{has_lists, items_in, is_item}
+use Rattle.bz_list.specs.Changes.{add, remove_values}
+
+-- every word is an item of the value's lists
+abbrev pub are_there : Bytes → Bytes → List Bytes → Expr → Bool
+are_there current name words value = list_all (λ word. list_any (is_item current name word) (items_in value)) words
+
+-- The words become strings that are plain: no quotation mark, no backslash and no newline in them.
+abbrev pub become_plain : List Bytes → Bool
+become_plain words = list_all (λ word. not (list_any is_escaped word)) words
+
+-- Adding what is there changes nothing.
+abbrev pub AddedAgain : Type 0
+AddedAgain =
+    (current name : Bytes) (words : List Bytes) (arguments : List Expr) (value : Expr)
+    → attribute name arguments ≡ Some value → has_lists value ≡ true → are_there current name words value ≡ true
+    → add current name words arguments ≡ Ok arguments
+
+-- What was added is there afterwards.
+abbrev pub AddedIsThere : Type 0
+AddedIsThere =
+    (current name : Bytes) (words : List Bytes) (arguments new : List Expr)
+    → become_plain words ≡ true → add current name words arguments ≡ Ok new
+    → option_map_or (are_there current name words) (attribute name new) false ≡ true
+
+-- Removing what was added to an absent attribute gives the arguments before.
+abbrev pub RemovedAgain : Type 0
+RemovedAgain =
+    (current name : Bytes) (words : List Bytes) (arguments new : List Expr)
+    → has_attribute name arguments ≡ false → is_nonempty words ≡ true → become_plain words ≡ true → add current name words arguments ≡ Ok new
+    → remove_values current name words new ≡ Ok arguments

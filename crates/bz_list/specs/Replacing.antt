@@ -1,0 +1,20 @@
+-- What `replace` and `substitute` do to an item, to a value and to an attribute, by the change that they are.
+use Rattle.std.specs.Prelude.{if◌then◌else◌}
+use Rattle.bz_value.specs.declared.value.Expr.{Expr}
+use Rattle.bz_value.specs.Gaps.{Bytes}
+use Rattle.bz_rule.specs.Values.{parts_of, first_text}
+use Rattle.bz_list.specs.declared.replacing.Change.{Change}
+use Rattle.bz_list.specs.declared.replacing.Change.TheVariants.{Replace, Substitute}
+use Rattle.bz_attribute.specs.Attributes.{is_other_attribute, on_value}
+use Rattle.bz_list.specs.Changes.{in_value, replaced_item, substituted_item}
+
+abbrev pub item_changed_by : Change → Bytes → Expr → Expr
+item_changed_by (Replace current old new) name = replaced_item current.now name old.now new.now
+item_changed_by (Substitute current pattern template) name = substituted_item current.now name pattern.now template.now
+
+abbrev pub value_changed_by : Change → Bytes → Expr → Expr
+value_changed_by change name = in_value (item_changed_by change name)
+
+-- in an attribute that `*` means
+abbrev pub other_changed_by : Change → Expr → Expr
+other_changed_by change x = if is_other_attribute x then on_value (value_changed_by change (first_text (parts_of x))) x else x

@@ -1,0 +1,342 @@
+//! Items that are added to the lists of an attribute: words, or items that come from another attribute.
+ghost use Rattle.std.specs.Prelude.{◌≡◌, ◌⊎◌, ◌++◌, ◌∷◌, [], List, ℕ, Ok, Err, IfOk, OnOk, IfErr, map};
+ghost use Rattle.std.specs.List.{position};
+ghost use Rattle.bz_tree.specs.declared.kind.Kind.TheVariants as kinds;
+ghost use Rattle.bz_value.specs.declared.value.Expr.{Expr as Value};
+ghost use Rattle.bz_value.specs.Gaps.{Bytes};
+ghost use Rattle.bz_rule.specs.Values.{has_kind as is_of, on_items};
+ghost use Rattle.bz_attribute.specs.Attributes.{on_first_that};
+ghost use Rattle.bz_attribute.specs.Lists.{items_in, travelled as as_travelled, with_more};
+ghost use Rattle.bz_attribute.specs.Made.{list_of as list_made, plus as sum_made, string_of as string_made};
+ghost use Rattle.bz_list.specs.Changes.{with_items_added};
+ghost use Rattle.bz_list.specs.KnownValues.{Asked, asked, new_words, new_items as items_new};
+ghost use Rattle.bz_list.specs.Adding.{added_by, added_to, shorter, with_added};
+
+use crate::known::Known;
+use bz_attribute::{
+    Refusal, add_attribute, body_of, has_kind, has_lists, is_no_list, list_of, plus, set_text,
+    set_value, string_of, take_value,
+};
+use bz_items::{Items, Memory, Text};
+use bz_label::bytes::{is_label_attribute, shortened};
+use bz_tree::Kind;
+use bz_value::Expr;
+use bz_words::quoted;
+use std::alloc::Global;
+use std::mem;
+
+/// What is added to an attribute.
+#[derive(Drop)]
+pub(crate) enum Added<'a> {
+    /// Words that become strings.
+    Words(&'a [Text]),
+    /// Items that another attribute had.
+    Moved(Items<Expr>),
+}
+
+/// Adds the string of a word that is not known yet.
+fn push_word(
+    alloc: Global,
+    current: &[u8],
+    name: &[u8],
+    word: &[u8],
+    known: &mut Known,
+    items: &mut Vec<Expr>,
+) -> Result<(), Memory>
+    ensures { (rest : List Bytes) → OnOk result (items.new.items ++ map (string_made current.now name.now) (new_words (asked known.new) rest)
+        ≡ items.old.items ++ map (string_made current.now name.now) (new_words (asked known.old) (word.now ∷ rest))) }
+{
+    if known.has(word)? {
+        return Ok(());
+    }
+    known.insert(word)?;
+    items.push(string_of(alloc, current, name, word)?)?;
+    Ok(())
+}
+
+/// The strings of the words that are not known yet, each once.
+fn new_strings(
+    alloc: Global,
+    current: &[u8],
+    name: &[u8],
+    words: &[Text],
+    mut known: Known,
+) -> Result<Vec<Expr>, Memory>
+    ensures { IfOk result (λ items. items.items ≡ map (string_made current.now name.now) (new_words (asked known) words.now)) }
+{
+    let mut items = Vec::new(alloc);
+    for word in words {
+        push_word(
+            alloc,
+            current,
+            name,
+            word.as_slice(),
+            &mut known,
+            &mut items,
+        )?;
+    }
+    Ok(items)
+}
+
+/// The shorter text of an item that comes to a label attribute, where it has one.
+fn shorter_text(
+    alloc: Global,
+    current: &[u8],
+    name: &[u8],
+    x: &Expr,
+) -> Result<Option<Text>, Memory>
+    ensures { IfOk result (λ text. text ≡ shorter current.now name.now x.now) }
+{
+    let Some(text) = body_of(x) else {
+        return Ok(None);
+    };
+    if !is_label_attribute(name) {
+        return Ok(None);
+    }
+    let short = shortened(current, text);
+    if short == text {
+        return Ok(None);
+    }
+    Ok(Some(quoted(alloc, short)?))
+}
+
+/// An item as it comes to another attribute.
+#[tactic(auto, using(crate::proofs::AddedItems::travelled_by))]
+fn travelled(alloc: Global, current: &[u8], name: &[u8], mut x: Expr) -> Result<Expr, Memory>
+    ensures { IfOk result (λ there. there ≡ as_travelled current.now name.now x) }
+{
+    match shorter_text(alloc, current, name, &x)? {
+        Some(text) => {
+            set_text(text, &mut x);
+            Ok(x)
+        }
+        None => Ok(x),
+    }
+}
+
+/// Adds an item that is not known yet.
+fn push_item(
+    alloc: Global,
+    current: &[u8],
+    name: &[u8],
+    x: Expr,
+    known: &mut Known,
+    items: &mut Vec<Expr>,
+) -> Result<(), Memory>
+    ensures { (rest : List Value) → OnOk result (items.new.items ++ items_new current.now name.now (asked known.new) rest
+        ≡ items.old.items ++ items_new current.now name.now (asked known.old) (x ∷ rest)) }
+{
+    if known.has_item(&x)? {
+        return Ok(());
+    }
+    known.insert_item(&x)?;
+    items.push(travelled(alloc, current, name, x)?)?;
+    Ok(())
+}
+
+/// The items that are not known yet, each once.
+fn new_items(
+    alloc: Global,
+    current: &[u8],
+    name: &[u8],
+    moved: Items<Expr>,
+    mut known: Known,
+) -> Result<Vec<Expr>, Memory>
+    ensures { IfOk result (λ items. items.items ≡ items_new current.now name.now (asked known) moved) }
+{
+    let mut items = Vec::new(alloc);
+    for x in moved.into_vec() {
+        push_item(alloc, current, name, x, &mut known, &mut items)?;
+    }
+    Ok(items)
+}
+
+/// The items that are added to those that are known.
+fn added_items(
+    alloc: Global,
+    current: &[u8],
+    name: &[u8],
+    added: Added<'_>,
+    known: Known,
+) -> Result<Vec<Expr>, Memory>
+    ensures { IfOk result (λ items. items.items ≡ added_to current.now name.now added.entry (asked known)) }
+{
+    match added {
+        Added::Words(words) => new_strings(alloc, current, name, words, known),
+        Added::Moved(moved) => new_items(alloc, current, name, moved, known),
+    }
+}
+
+/// The items that are added to those of a value.
+fn added_beside(
+    alloc: Global,
+    current: &[u8],
+    name: &[u8],
+    added: Added<'_>,
+    value: &Expr,
+) -> Result<Vec<Expr>, Memory>
+    ensures { IfOk result (λ items. items.items ≡ added_by current.now name.now added.entry (items_in value.now)) }
+{
+    let mut known = Known::new(alloc, current, name)?;
+    known.insert_value(value)?;
+    let items = added_items(alloc, current, name, added, known)?;
+    Ok(items)
+}
+
+/// A list of the items that are added where there are none.
+fn added_alone(alloc: Global, current: &[u8], name: &[u8], added: Added<'_>) -> Result<Expr, Memory>
+    ensures { IfOk result (λ list. list ≡ list_made (added_by current.now name.now added.entry [])) }
+{
+    let known = Known::new(alloc, current, name)?;
+    let items = added_items(alloc, current, name, added, known)?;
+    Ok(list_of(alloc, Items::from_vec(items)))
+}
+
+/// Puts all of `more` behind the items.
+fn append(more: &mut Vec<Expr>, items: &mut Items<Expr>) -> Result<(), Memory>
+    ensures { OnOk result (items.new ≡ items.old ++ more.old.items) }
+{
+    let alloc = items.alloc();
+    let mut all = mem::replace(items, Items::new(alloc)).into_vec();
+    all.append(more)?;
+    *items = Items::from_vec(all);
+    Ok(())
+}
+
+/// The same for a list; any other expression stays.
+fn append_to_list(more: &mut Vec<Expr>, x: &mut Expr) -> Result<(), Memory>
+    ensures { OnOk result (x.new ≡ on_items kinds.List (λ items. items ++ more.old.items) x.old) }
+{
+    match x {
+        Expr::Token(_) => Ok(()),
+        Expr::Form(form) => {
+            if form.kind == Kind::List {
+                append(more, &mut form.seq.items)?;
+            }
+            Ok(())
+        }
+    }
+}
+
+/// Where the first list among the operands of a sum stands.
+fn first_list(operands: &[Expr]) -> Option<usize>
+    ensures { result ≡ position (is_of kinds.List) operands.now }
+{
+    operands.iter().position(|x| has_kind(Kind::List, x))
+}
+
+/// The same for the first list among the operands of a sum.
+fn append_to_first(more: &mut Vec<Expr>, operands: &mut [Expr]) -> Result<(), Memory>
+    ensures { OnOk result (operands.new ≡ on_first_that (is_of kinds.List) (on_items kinds.List (λ items. items ++ more.old.items)) operands.old) }
+{
+    let Some(at) = first_list(operands) else {
+        return Ok(());
+    };
+    append_to_list(more, &mut operands[at])?;
+    Ok(())
+}
+
+/// The same for operands that can grow.
+fn append_to_operands(more: &mut Vec<Expr>, operands: &mut Items<Expr>) -> Result<(), Memory>
+    ensures { OnOk result (operands.new ≡ on_first_that (is_of kinds.List) (on_items kinds.List (λ items. items ++ more.old.items)) operands.old) }
+{
+    let alloc = operands.alloc();
+    let mut all = mem::replace(operands, Items::new(alloc)).into_vec();
+    append_to_first(more, all.as_mut_slice())?;
+    *operands = Items::from_vec(all);
+    Ok(())
+}
+
+/// The same for the first list of a value.
+fn append_to_value(more: &mut Vec<Expr>, value: &mut Expr) -> Result<(), Memory>
+    ensures { OnOk result (value.new ≡ with_more more.old.items value.old) }
+{
+    match value {
+        Expr::Token(_) => Ok(()),
+        Expr::Form(form) => {
+            if form.kind == Kind::Sum {
+                append_to_operands(more, &mut form.parts)?;
+            } else if form.kind == Kind::List {
+                append(more, &mut form.seq.items)?;
+            }
+            Ok(())
+        }
+    }
+}
+
+/// A value whose first list has the items that are added too.
+fn grown(
+    alloc: Global,
+    current: &[u8],
+    name: &[u8],
+    added: Added<'_>,
+    mut value: Expr,
+) -> Result<Expr, Memory>
+    ensures { IfOk result (λ new. new ≡ with_more (added_by current.now name.now added.entry (items_in value)) value) }
+{
+    let mut more = added_beside(alloc, current, name, added, &value)?;
+    append_to_value(&mut more, &mut value)?;
+    Ok(value)
+}
+
+/// A sum of a value and a list of the items that are added.
+fn joined(
+    alloc: Global,
+    current: &[u8],
+    name: &[u8],
+    added: Added<'_>,
+    value: Expr,
+) -> Result<Expr, Memory>
+    ensures { IfOk result (λ new. new ≡ sum_made value (list_made (added_by current.now name.now added.entry []))) }
+{
+    let list = added_alone(alloc, current, name, added)?;
+    let sum = plus(alloc, value, list)?;
+    Ok(sum)
+}
+
+/// A value with the items that are added.
+fn value_with(
+    alloc: Global,
+    current: &[u8],
+    name: &[u8],
+    added: Added<'_>,
+    value: Expr,
+) -> Result<Expr, Refusal>
+    ensures ok { IfOk result (λ new. with_added (added_by current.now name.now added.entry) value ≡ Ok new) }
+    ensures err { IfErr result (λ refusal. (with_added (added_by current.now name.now added.entry) value ≡ Err refusal) ⊎ (refusal ≡ Refusal.Memory)) }
+{
+    if has_lists(&value) {
+        let new = grown(alloc, current, name, added, value)?;
+        return Ok(new);
+    }
+    if is_no_list(&value) {
+        return Err(Refusal::NotAList);
+    }
+    let new = joined(alloc, current, name, added, value)?;
+    Ok(new)
+}
+
+/// Adds items to the end of the first list of an attribute. A value that is no list becomes a sum with a new one.
+pub(crate) fn add_items(
+    alloc: Global,
+    current: &[u8],
+    name: &[u8],
+    added: Added<'_>,
+    arguments: &mut Items<Expr>,
+) -> Result<(), Refusal>
+    ensures ok { OnOk result (with_items_added name.now (added_by current.now name.now added.entry) arguments.old ≡ Ok arguments.new) }
+    ensures err { IfErr result (λ refusal. (with_items_added name.now (added_by current.now name.now added.entry) arguments.old ≡ Err refusal) ⊎ (refusal ≡ Refusal.Memory)) }
+{
+    let Some(value) = take_value(alloc, name, arguments) else {
+        let list = added_alone(alloc, current, name, added)?;
+        add_attribute(alloc, name, list, arguments)?;
+        return Ok(());
+    };
+    match value_with(alloc, current, name, added, value) {
+        Ok(new) => {
+            set_value(alloc, name, new, arguments);
+            Ok(())
+        }
+        Err(refusal) => Err(refusal),
+    }
+}

@@ -1,0 +1,86 @@
+//! What each command on the values of attributes makes of the arguments of a rule.
+ghost use Rattle.std.specs.Prelude.{◌≡◌, ◌⊎◌, Ok, Err, OnOk, IfErr, IfOk};
+ghost use Rattle.bz_list.specs.Changes.{values_changed};
+
+use crate::listed::{add, move_values, remove_values};
+use crate::replacing::{replace, substitute};
+use bz_attribute::Refusal;
+use bz_items::Items;
+use bz_value::Expr;
+use bz_words::ValueOperation;
+use std::alloc::Global;
+
+// Changes the arguments in place; after a refusal part of them may be lost.
+fn change_in_place(
+    alloc: Global,
+    operation: &ValueOperation,
+    current: &[u8],
+    arguments: &mut Items<Expr>,
+) -> Result<(), Refusal>
+    ensures ok { OnOk result (values_changed operation.now current.now arguments.old ≡ Ok arguments.new) }
+    ensures err { IfErr result (λ refusal. (values_changed operation.now current.now arguments.old ≡ Err refusal) ⊎ (refusal ≡ Refusal.Memory)) }
+{
+    match operation {
+        ValueOperation::Add { attribute, values } => add(
+            alloc,
+            current,
+            attribute.as_slice(),
+            values.as_slice(),
+            arguments,
+        ),
+        ValueOperation::Remove { attribute, values } => remove_values(
+            alloc,
+            current,
+            attribute.as_slice(),
+            values.as_slice(),
+            arguments,
+        ),
+        ValueOperation::Replace {
+            attributes,
+            old,
+            new,
+        } => replace(
+            alloc,
+            current,
+            attributes,
+            old.as_slice(),
+            new.as_slice(),
+            arguments,
+        ),
+        ValueOperation::Substitute {
+            attributes,
+            pattern,
+            template,
+        } => substitute(
+            alloc,
+            current,
+            attributes,
+            pattern,
+            template.as_slice(),
+            arguments,
+        ),
+        ValueOperation::Move { from, to, values } => move_values(
+            alloc,
+            current,
+            from.as_slice(),
+            to.as_slice(),
+            values,
+            arguments,
+        ),
+    }
+}
+
+/// What an operation on the values of attributes makes of the arguments of a rule, which are given up where it is refused. `current`
+/// is the path of the file's package. Errors: the refusal of the operation; `Memory`: a growth was refused.
+pub fn change_values(
+    alloc: Global,
+    operation: &ValueOperation,
+    current: &[u8],
+    mut arguments: Items<Expr>,
+) -> Result<Items<Expr>, Refusal>
+    ensures ok { IfOk result (λ new. values_changed operation.now current.now arguments ≡ Ok new) }
+    ensures err { IfErr result (λ refusal. (values_changed operation.now current.now arguments ≡ Err refusal) ⊎ (refusal ≡ Refusal.Memory)) }
+{
+    change_in_place(alloc, operation, current, &mut arguments)?;
+    Ok(arguments)
+}

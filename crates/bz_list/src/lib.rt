@@ -1,0 +1,12 @@
+//! What the commands on the values of attributes, in lists or alone, make of the arguments of a rule.
+#![tactic(auto)]
+
+mod adding;
+mod changing;
+mod known;
+mod laws;
+mod listed;
+mod replacing;
+
+pub use changing::change_values;
+pub use laws::{added_is_there, adding_again, removing_again};

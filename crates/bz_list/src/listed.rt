@@ -1,0 +1,223 @@
+//! Commands on the items of an attribute's lists.
+ghost use Rattle.std.specs.Prelude.{◌≡◌, ◌⊎◌, ◌++◌, ◌∷◌, List, Ok, Err, IfOk, OnOk, IfErr, map, not};
+ghost use Rattle.std.specs.List.{filter, flat_map};
+ghost use Rattle.bz_tree.specs.declared.kind.Kind.TheVariants as kinds;
+ghost use Rattle.bz_value.specs.declared.value.Expr.{Expr as Value};
+ghost use Rattle.bz_rule.specs.Rules.{attribute as value_there};
+ghost use Rattle.bz_rule.specs.Values.{on_items, on_lists};
+ghost use Rattle.bz_value.specs.Empty.{is_empty};
+ghost use Rattle.bz_attribute.specs.Lists.{items_in};
+ghost use Rattle.bz_list.specs.Changes.{add, remove_values, is_moved, move};
+ghost use Rattle.bz_list.specs.Listing.{chooses, is_left, listed, put_back, without_chosen, chosen_in};
+
+use crate::adding::{Added, add_items};
+use crate::known::Chosen;
+use bz_attribute::{
+    Refusal, has_lists, is_empty_list, is_no_list, remove_first, set_value, take_value,
+};
+use bz_items::{Items, Memory, Text};
+use bz_rule::attribute;
+use bz_tree::Kind;
+use bz_value::Expr;
+use bz_words::Values;
+use std::alloc::Global;
+use std::mem;
+
+/// Puts an item to those that are taken, where the command is meant for it, else to those that are left.
+fn put_apart(
+    chosen: &Chosen,
+    x: Expr,
+    left: &mut Vec<Expr>,
+    taken: &mut Vec<Expr>,
+) -> Result<(), Memory>
+    ensures left { (rest : List Value) → OnOk result (left.new.items ++ filter (is_left chosen.now) rest ≡ left.old.items ++ filter (is_left chosen.now) (x ∷ rest)) }
+    ensures taken { (rest : List Value) → OnOk result (taken.new.items ++ filter (chooses chosen.now) rest ≡ taken.old.items ++ filter (chooses chosen.now) (x ∷ rest)) }
+{
+    if chosen.has(&x)? {
+        taken.push(x)?;
+        return Ok(());
+    }
+    left.push(x)?;
+    Ok(())
+}
+
+/// Takes the items that the command is meant for.
+fn take_chosen(
+    chosen: &Chosen,
+    items: &mut Items<Expr>,
+    taken: &mut Vec<Expr>,
+) -> Result<(), Memory>
+    ensures left { OnOk result (items.new ≡ filter (is_left chosen.now) items.old) }
+    ensures taken { OnOk result (taken.new.items ≡ taken.old.items ++ filter (chooses chosen.now) items.old) }
+{
+    let alloc = items.alloc();
+    let all = mem::replace(items, Items::new(alloc)).into_vec();
+    let mut left = Vec::new(alloc);
+    for x in all {
+        put_apart(chosen, x, &mut left, taken)?;
+    }
+    *items = Items::from_vec(left);
+    Ok(())
+}
+
+/// The same of a list; any other expression stays.
+fn take_from_list(chosen: &Chosen, x: &mut Expr, taken: &mut Vec<Expr>) -> Result<(), Memory>
+    ensures left { OnOk result (x.new ≡ on_items kinds.List (filter (is_left chosen.now)) x.old) }
+    ensures taken { OnOk result (taken.new.items ≡ taken.old.items ++ filter (chooses chosen.now) (listed x.old)) }
+{
+    match x {
+        Expr::Token(_) => Ok(()),
+        Expr::Form(form) => {
+            if form.kind == Kind::List {
+                take_chosen(chosen, &mut form.seq.items, taken)?;
+            }
+            Ok(())
+        }
+    }
+}
+
+/// The same of the lists among the operands of a sum.
+fn take_from_operands(
+    chosen: &Chosen,
+    operands: &mut Items<Expr>,
+    taken: &mut Vec<Expr>,
+) -> Result<(), Memory>
+    ensures left { OnOk result (operands.new ≡ map (on_items kinds.List (filter (is_left chosen.now))) operands.old) }
+    ensures taken { OnOk result (taken.new.items ≡ taken.old.items ++ filter (chooses chosen.now) (flat_map listed operands.old)) }
+{
+    let alloc = operands.alloc();
+    let mut all = mem::replace(operands, Items::new(alloc)).into_vec();
+    for x in all.iter_mut() {
+        take_from_list(chosen, x, taken)?;
+    }
+    *operands = Items::from_vec(all);
+    Ok(())
+}
+
+/// The same of the lists of a value.
+#[tactic(auto, using(crate::proofs::ListedTests::items_Form))]
+fn take_from_lists(chosen: &Chosen, value: &mut Expr, taken: &mut Vec<Expr>) -> Result<(), Memory>
+    ensures left { OnOk result (value.new ≡ on_lists (filter (is_left chosen.now)) value.old) }
+    ensures taken { OnOk result (taken.new.items ≡ taken.old.items ++ filter (chooses chosen.now) (items_in value.old)) }
+{
+    match value {
+        Expr::Token(_) => Ok(()),
+        Expr::Form(form) => {
+            if form.kind == Kind::Sum {
+                take_from_operands(chosen, &mut form.parts, taken)?;
+            } else if form.kind == Kind::List {
+                take_chosen(chosen, &mut form.seq.items, taken)?;
+            }
+            Ok(())
+        }
+    }
+}
+
+/// Puts what is left of the attribute's value back. Where items were taken and the whole value is an empty list, the
+/// attribute goes.
+fn put_back(alloc: Global, name: &[u8], taken: &[Expr], value: Expr, arguments: &mut Items<Expr>)
+    ensures { arguments.new ≡ put_back name.now (not (is_empty taken.now)) value arguments.old }
+{
+    if !taken.is_empty() && is_empty_list(&value) {
+        remove_first(name, arguments);
+        return;
+    }
+    set_value(alloc, name, value, arguments);
+}
+
+/// Takes the items that the command is meant for from the attribute's lists; the attribute goes where its whole value is
+/// then an empty list.
+fn take_items(
+    alloc: Global,
+    name: &[u8],
+    chosen: &Chosen,
+    arguments: &mut Items<Expr>,
+) -> Result<Items<Expr>, Memory>
+    ensures left { OnOk result (arguments.new ≡ without_chosen name.now (chooses chosen.now) (value_there name.now arguments.old) arguments.old) }
+    ensures taken { IfOk result (λ taken. taken ≡ chosen_in (chooses chosen.now) (value_there name.now arguments.old)) }
+{
+    let mut taken = Vec::new(alloc);
+    let Some(mut value) = take_value(alloc, name, arguments) else {
+        return Ok(Items::from_vec(taken));
+    };
+    take_from_lists(chosen, &mut value, &mut taken)?;
+    put_back(alloc, name, taken.as_slice(), value, arguments);
+    Ok(Items::from_vec(taken))
+}
+
+/// Words that are no items of the attribute's lists become items at the end of the first one.
+pub(crate) fn add(
+    alloc: Global,
+    current: &[u8],
+    name: &[u8],
+    words: &[Text],
+    arguments: &mut Items<Expr>,
+) -> Result<(), Refusal>
+    ensures ok { OnOk result (add current.now name.now words.now arguments.old ≡ Ok arguments.new) }
+    ensures err { IfErr result (λ refusal. (add current.now name.now words.now arguments.old ≡ Err refusal) ⊎ (refusal ≡ Refusal.Memory)) }
+{
+    add_items(alloc, current, name, Added::Words(words), arguments)
+}
+
+/// Items that are one of the words go; the attribute goes where its whole value is then an empty list.
+pub(crate) fn remove_values(
+    alloc: Global,
+    current: &[u8],
+    name: &[u8],
+    words: &[Text],
+    arguments: &mut Items<Expr>,
+) -> Result<(), Refusal>
+    ensures ok { OnOk result (remove_values current.now name.now words.now arguments.old ≡ Ok arguments.new) }
+    ensures err { IfErr result (λ refusal. (remove_values current.now name.now words.now arguments.old ≡ Err refusal) ⊎ (refusal ≡ Refusal.Memory)) }
+{
+    let Some(value) = attribute(name, arguments.as_slice()) else {
+        return Ok(());
+    };
+    if is_no_list(value) {
+        return Err(Refusal::NotAList);
+    }
+    let chosen = Chosen::of_words(alloc, current, name, words)?;
+    let _gone = take_items(alloc, name, &chosen, arguments)?;
+    Ok(())
+}
+
+/// Takes the items that are moved from the attribute's lists.
+fn take_moved(
+    alloc: Global,
+    current: &[u8],
+    from: &[u8],
+    values: &Values,
+    arguments: &mut Items<Expr>,
+) -> Result<Items<Expr>, Memory>
+    ensures left { OnOk result (arguments.new ≡ without_chosen from.now (is_moved current.now from.now values.now) (value_there from.now arguments.old) arguments.old) }
+    ensures taken { IfOk result (λ taken. taken ≡ chosen_in (is_moved current.now from.now values.now) (value_there from.now arguments.old)) }
+{
+    let chosen = Chosen::of_values(alloc, current, from, values)?;
+    let taken = take_items(alloc, from, &chosen, arguments)?;
+    Ok(taken)
+}
+
+/// Items leave one attribute and are added to another.
+pub(crate) fn move_values(
+    alloc: Global,
+    current: &[u8],
+    from: &[u8],
+    to: &[u8],
+    values: &Values,
+    arguments: &mut Items<Expr>,
+) -> Result<(), Refusal>
+    ensures ok { OnOk result (move current.now from.now to.now values.now arguments.old ≡ Ok arguments.new) }
+    ensures err { IfErr result (λ refusal. (move current.now from.now to.now values.now arguments.old ≡ Err refusal) ⊎ (refusal ≡ Refusal.Memory)) }
+{
+    let Some(value) = attribute(from, arguments.as_slice()) else {
+        return Err(Refusal::NoAttribute);
+    };
+    if !has_lists(value) {
+        return Err(Refusal::NotAList);
+    }
+    let taken = take_moved(alloc, current, from, values, arguments)?;
+    if taken.is_empty() {
+        return Ok(());
+    }
+    add_items(alloc, current, to, Added::Moved(taken), arguments)
+}

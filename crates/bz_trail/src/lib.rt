@@ -1,0 +1,8 @@
+//! A trail: one tree, and the steps that lead from it to the trees of other texts, as a list of whole texts.
+#![tactic(auto)]
+
+mod crossing;
+pub mod laws;
+mod moves;
+
+pub use moves::{go_back, go_forward, take_up};

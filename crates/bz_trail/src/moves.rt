@@ -1,0 +1,68 @@
+//! What changes a trail.
+ghost use Rattle.std.specs.Prelude.{◌≡◌, ◌-◌, ◌+◌, ◌≤◌, ◌<◌, ◌++◌, ◌∷◌, [], true, take, length, vec_len, vec_capacity, OnOk, OnErr, IsOk};
+ghost use Rattle.bz_tree.specs.Spell.{spell_node};
+ghost use Rattle.bz_trail.specs.Shown.{Moves, TakesUp};
+ghost use Rattle.bz_trail.specs.Trails.{IsTrail, trail_at, behind, ahead, are_even};
+
+use crate::crossing::{cross_back, cross_forward};
+use bz_edit::{Step, advance};
+use bz_items::Memory;
+use bz_tree::Tree;
+
+/// Puts a step behind the first n, in the place of those that follow.
+fn put_after(steps: &mut Vec<Step>, n: usize, step: Step)
+    requires room { vec_len steps.old < vec_capacity steps.old }
+    ensures { steps.new.items ≡ take n steps.old.items ++ step ∷ [] }
+{
+    steps.truncate(n);
+    steps.push(step).unwrap();
+}
+
+/// Takes up the next tree, which spells another text: the texts after the present one are cut, and its text is appended and
+/// is the present one. The error: a growth was refused; tree and steps are then as before.
+pub fn take_up(
+    tree: &mut Tree,
+    steps: &mut Vec<Step>,
+    cursor: usize,
+    next: Tree,
+) -> Result<(), Memory>
+    requires trail { IsTrail (trail_at tree.old steps.old.items cursor) }
+    requires other { spell_node next ≡ spell_node tree.old → ⊥ }
+    ensures ok { OnOk result (TakesUp (trail_at tree.old steps.old.items cursor) next (trail_at tree.new steps.new.items (cursor + 1))) }
+    ensures err { OnErr result ((tree.new ≡ tree.old) × (steps.new.items ≡ steps.old.items)) }
+{
+    steps.reserve(1)?;
+    let step = advance(tree, next)?;
+    let _edits = &step.edits;
+    put_after(steps, cursor, step);
+    Ok(())
+}
+
+/// Back by n steps. Where each of their edits holds as many parts as it covers, it takes no memory. The error: a growth was
+/// refused; tree and steps are then as before.
+pub fn go_back(tree: &mut Tree, steps: &mut [Step], cursor: usize, n: usize) -> Result<(), Memory>
+    requires trail { IsTrail (trail_at tree.old steps.old cursor) }
+    requires within { n ≤ cursor }
+    ensures ok { OnOk result (Moves (trail_at tree.old steps.old cursor) (trail_at tree.new steps.new (cursor - n))) }
+    ensures even { are_even (take n (behind (trail_at tree.old steps.old cursor))) ≡ true → IsOk result }
+    ensures err { OnErr result ((tree.new ≡ tree.old) × (steps.new ≡ steps.old)) }
+{
+    cross_back(tree, steps, cursor - n, cursor)
+}
+
+/// Forward by n steps. Where each of their edits holds as many parts as it covers, it takes no memory. The error: a growth
+/// was refused; tree and steps are then as before.
+pub fn go_forward(
+    tree: &mut Tree,
+    steps: &mut [Step],
+    cursor: usize,
+    n: usize,
+) -> Result<(), Memory>
+    requires trail { IsTrail (trail_at tree.old steps.old cursor) }
+    requires within { cursor + n ≤ length steps.old }
+    ensures ok { OnOk result (Moves (trail_at tree.old steps.old cursor) (trail_at tree.new steps.new (cursor + n))) }
+    ensures even { are_even (take n (ahead (trail_at tree.old steps.old cursor))) ≡ true → IsOk result }
+    ensures err { OnErr result ((tree.new ≡ tree.old) × (steps.new ≡ steps.old)) }
+{
+    cross_forward(tree, steps, cursor, cursor + n)
+}

@@ -1,0 +1,76 @@
+//! Commands, and the words that they are made of.
+use crate::case::{Case, CaseFault};
+use crate::page::Page;
+use bz_items::{Memory, Text};
+use bz_words::{Command, CommandFault, is_identifier, is_kind, quoted, read_words};
+use std::alloc::{AllocError, Global};
+
+/// What is asked of a text.
+#[derive(Clone, Copy)]
+pub(crate) enum CommandQuery {
+    Command,
+    Split,
+    Quoted,
+    Identifier,
+    RuleKind,
+}
+
+impl CommandQuery {
+    pub(crate) fn named(name: &str) -> Option<CommandQuery> {
+        match name {
+            "command" => Some(CommandQuery::Command),
+            "split" => Some(CommandQuery::Split),
+            "quoted" => Some(CommandQuery::Quoted),
+            "identifier" => Some(CommandQuery::Identifier),
+            "rule_kind" => Some(CommandQuery::RuleKind),
+            _ => None,
+        }
+    }
+
+    pub(crate) fn answer(self, case: &Case, page: &mut Page) -> Result<(), CaseFault> {
+        let text = case.text(0)?;
+        match self {
+            CommandQuery::Command => page.answer(told(case.alloc, text)?.as_bytes())?,
+            CommandQuery::Split => split(case.alloc, text, page)?,
+            CommandQuery::Quoted => page.answer(as_string(case.alloc, text)?.as_slice())?,
+            CommandQuery::Identifier => page.yes_or_no(is_identifier(text.as_bytes()))?,
+            CommandQuery::RuleKind => page.yes_or_no(is_kind(text.as_bytes()))?,
+        }
+        Ok(())
+    }
+}
+
+/// A copy of what `Command::read` makes of the text, of which nothing has to be known here.
+fn copied(alloc: Global, text: &str) -> Result<Command, CommandFault> {
+    Ok(Command::read(alloc, text)?.copy()?)
+}
+
+/// Whether the text is read as a command and copied, or its fault.
+fn told(alloc: Global, text: &str) -> Result<String, Memory> {
+    match copied(alloc, text) {
+        Ok(_) => String::from_str(alloc, "read and copied"),
+        Err(CommandFault::Memory) => Err(AllocError),
+        Err(fault) => {
+            let number = fault.number();
+            format!(in alloc; "{number} {fault}")
+        }
+    }
+}
+
+/// `read_words`, of which nothing has to be known here.
+fn words_of(alloc: Global, text: &str) -> Result<Vec<Text>, Memory> {
+    read_words(alloc, text.as_bytes())
+}
+
+/// Writes the words of a text, each on a line.
+fn split(alloc: Global, text: &str, page: &mut Page) -> Result<(), Memory> {
+    for word in words_of(alloc, text)?.as_slice() {
+        page.answer(word.as_slice())?;
+    }
+    Ok(())
+}
+
+/// `quoted`, of which nothing has to be known here.
+fn as_string(alloc: Global, word: &str) -> Result<Text, Memory> {
+    quoted(alloc, word.as_bytes())
+}

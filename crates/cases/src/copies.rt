@@ -1,0 +1,76 @@
+//! Values that no text has: each part with every comment that it can have.
+use crate::case::{Case, CaseFault};
+use crate::page::Page;
+use crate::values::show_form;
+use bz_items::{Items, Memory, Text};
+use bz_tree::{Class, Kind};
+use bz_value::{Comments, Expr, Form, Item, Seq, Token, push_others};
+use std::alloc::Global;
+
+/// Writes a copy of a form that has the comments of the first text but for that of its first line above, and the second text
+/// behind; then whether all copies are equal to what was copied, and to nothing else.
+pub(crate) fn answer(case: &Case, page: &mut Page) -> Result<(), CaseFault> {
+    let form = form_of(case.alloc, case.bytes(0)?, case.bytes(1)?)?;
+    page.answer(shown_copy(case.alloc, &form)?.as_slice())?;
+    let answer: &[u8] = if is_copied(form)? {
+        b"copied"
+    } else {
+        b"another copy"
+    };
+    Ok(page.answer(answer)?)
+}
+
+/// The comments of a gap but for that of its first line, and one behind.
+fn comments_of(alloc: Global, gap: &[u8], behind: &[u8]) -> Result<Comments, Memory> {
+    let mut above = Items::new(alloc);
+    push_others(alloc, gap, &mut above)?;
+    let suffix = Text::from_slice(alloc, behind)?;
+    Comments::new(alloc, above, Some(suffix))
+}
+
+fn token_of(alloc: Global, gap: &[u8], behind: &[u8]) -> Result<Token, Memory> {
+    Ok(Token {
+        class: Class::Name,
+        text: Text::from_slice(alloc, b"f")?,
+        break_: true,
+        comments: comments_of(alloc, gap, behind)?,
+    })
+}
+
+/// A list of one token, with each comment that either may have.
+fn form_of(alloc: Global, gap: &[u8], behind: &[u8]) -> Result<Form, Memory> {
+    let mut items = Items::new(alloc);
+    items.push(Expr::Token(token_of(alloc, gap, behind)?))?;
+    let mut end_ = Items::new(alloc);
+    end_.push(Text::from_slice(alloc, b"# end")?)?;
+    Ok(Form {
+        kind: Kind::List,
+        parts: Items::new(alloc),
+        seq: Seq {
+            items,
+            end_,
+            split: true,
+        },
+        open_: true,
+        comments: comments_of(alloc, gap, behind)?,
+    })
+}
+
+fn shown_copy(alloc: Global, form: &Form) -> Result<Vec<u8>, Memory> {
+    let mut shown = Vec::new(alloc);
+    show_form(alloc, &form.copy()?, &mut shown)?;
+    Ok(shown)
+}
+
+/// Whether the form and the item of it are equal to their copies, its sequence is copied, and its comments are not none.
+fn is_copied(form: Form) -> Result<bool, Memory> {
+    let is_form_copied = form.copy()?.equals(&form);
+    let has_comments = !Comments::none().equals(&form.comments);
+    let is_seq_copied = form.seq.copy().is_ok();
+    let item = Item::Stmt(Expr::Form(form));
+    Ok(is_form_copied && has_comments && is_seq_copied && is_item_copied(&item)?)
+}
+
+fn is_item_copied(item: &Item) -> Result<bool, Memory> {
+    Ok(item.copy()?.equals(item))
+}

@@ -1,0 +1,183 @@
+//! The laws: functions that do nothing, whose contracts say something of all texts, labels, trees or values. A call shows
+//! that what a law requires can be met.
+use crate::case::{Case, CaseFault};
+use crate::page::Page;
+use bz_edit::advance;
+use bz_journal::{Session, history_kept, session_holds};
+use bz_label::{Label, LabelFault, Target, TargetFault, shorten, shorten_repeat};
+use bz_tree::{ReadFault, parse};
+use std::alloc::Global;
+
+/// Calls each law, and writes whether the values were there of which some say something.
+pub(crate) fn answer(case: &Case, page: &mut Page) -> Result<(), CaseFault> {
+    call_tokens_and_trees();
+    call_values();
+    call_words();
+    call_effects();
+    call_programs();
+    let answer: &[u8] = if are_met(case.alloc) {
+        b"called"
+    } else {
+        b"not called, since a value that a law speaks of is not there"
+    };
+    Ok(page.answer(answer)?)
+}
+
+fn call_tokens_and_trees() {
+    bz_token::one_token();
+    bz_token::begins();
+    bz_token::separated();
+    bz_token::single();
+    bz_token::each_mark();
+    bz_token::each_keyword();
+    bz_token::each_number();
+    bz_token::cuts();
+    bz_token::by_characters();
+    bz_lex::laws::one_lexing();
+    bz_lex::laws::coded_leaves();
+    bz_tree::laws::one_reading();
+    bz_tree::laws::one_file();
+    bz_tree::laws::legal_by_nodes();
+    bz_tree::laws::worked_lines();
+}
+
+fn call_values() {
+    bz_value::worked_gaps();
+    bz_view::worked_views();
+    bz_view::views_are_proper();
+    bz_view::comments_kept();
+    bz_rule::worked_bodies();
+    bz_hosts::hosts_by_place();
+    bz_hosts::worked_hosts();
+    bz_write::flags_keep_layout();
+    bz_write::layout_is_accepted();
+    bz_write::layout_reads_back();
+    bz_write::worked_rows();
+    bz_tidy::worked_passes();
+    bz_tidy::tidy_settles();
+    bz_tidy::tidy_stays();
+    bz_tidy::comments_stay();
+    bz_tidy::proper_stays();
+    bz_tidy::marks_move();
+}
+
+fn call_words() {
+    bz_label::laws::path_law();
+    bz_label::laws::key_laws();
+    bz_label::laws::label_functions();
+    bz_pattern::text_stays_text();
+    bz_words::identifiers_are_names();
+    bz_words::worked_words();
+    bz_words::worked_identifiers();
+    bz_words::worked_commands();
+    bz_words::worked_strings();
+    bz_line::worked_lines();
+}
+
+fn call_effects() {
+    bz_change::renamed_back();
+    bz_list::adding_again();
+    bz_list::added_is_there();
+    bz_list::removing_again();
+    bz_dict::adding_entries_again();
+    bz_dict::added_entries_are_there();
+    bz_dict::set_entries_are_there();
+    bz_dict::removing_entries_again();
+    bz_load::worked_loads();
+    bz_load::loads_stay_proper();
+    bz_load::loading_again();
+    bz_load::dropping_again();
+    bz_load::moving_again();
+    bz_load::fixing_again();
+    bz_load::comments_stay();
+    bz_comment::comment_taken_away();
+    bz_comment::own_comment_taken_away();
+    bz_comment::comment_loses_none();
+    bz_comment::own_comment_loses_none();
+    bz_comment::worked_comments();
+    bz_print::worked_prints();
+    bz_command::worked_effects();
+    bz_command::effects_stay_proper();
+    bz_command::comments_stay();
+}
+
+fn call_programs() {
+    bz_files::worked_folders();
+    bz_files::folder_reads_back();
+    bz_files::other_files_stay();
+    bz_trail::laws::starts_small();
+    bz_trail::laws::texts_kept();
+    bz_trail::laws::steps_lead();
+    bz_trail::laws::small_steps();
+    bz_journal::worked_histories();
+    bz_journal::formatted_once();
+    bz_engine::worked_refusals();
+    bz_tools::worked_formats();
+    bz_tools::whole_runs_are_exact();
+}
+
+/// Calls the laws that speak of values. Whether each value was there.
+fn are_met(alloc: Global) -> bool {
+    one_label(alloc).is_ok()
+        && one_target(alloc).is_ok()
+        && one_short(alloc).is_ok()
+        && one_repeat(alloc).is_ok()
+        && one_tree(alloc).is_ok()
+        && one_step(alloc).is_ok()
+        && one_history(alloc).is_ok()
+}
+
+fn one_label(alloc: Global) -> Result<(), LabelFault> {
+    let one = Label::read(alloc, "p", "//a:b")?;
+    let other = Label::read(alloc, "p", "//a:b")?;
+    bz_label::laws::one_label("p", "//a:b", &one, &other);
+    Ok(())
+}
+
+fn one_target(alloc: Global) -> Result<(), TargetFault> {
+    let one = Target::read(alloc, "//a:b")?;
+    let other = Target::read(alloc, "//a:b")?;
+    bz_label::laws::one_target("//a:b", &one, &other);
+    Ok(())
+}
+
+fn one_short(alloc: Global) -> Result<(), CaseFault> {
+    let short = shorten(alloc, "p", "//p:x")?;
+    let short = str::from_utf8(short.as_slice())?;
+    bz_label::laws::one_short("p", "//p:x", short, short);
+    Ok(())
+}
+
+fn one_repeat(alloc: Global) -> Result<(), CaseFault> {
+    let short = shorten_repeat(alloc, "//a/x:x")?;
+    let short = str::from_utf8(short.as_slice())?;
+    bz_label::laws::one_repeat("//a/x:x", short, short);
+    Ok(())
+}
+
+fn one_tree(alloc: Global) -> Result<(), ReadFault> {
+    let tree = parse(alloc, b"x = [1]\n")?;
+    let other = parse(alloc, b"x = [1]\n")?;
+    bz_tree::laws::one_tree(&tree, &other);
+    Ok(())
+}
+
+fn one_step(alloc: Global) -> Result<(), ReadFault> {
+    let mut tree = parse(alloc, b"x = [1]\n")?;
+    let next = parse(alloc, b"x = [2]\n")?;
+    bz_edit::laws::least(&tree.root, &next.root);
+    bz_edit::laws::turned(&tree.root, &next.root);
+    bz_edit::laws::cut(&tree.root, &next.root);
+    let Ok(step) = advance(&mut tree, next) else {
+        return Err(ReadFault::Memory);
+    };
+    bz_edit::laws::gives_back(&tree.root, &step);
+    Ok(())
+}
+
+fn one_history(alloc: Global) -> Result<(), ReadFault> {
+    let session = Session::open(alloc, "p", b"x = [1]\n")?;
+    history_kept(&session);
+    session_holds(&session);
+    Ok(())
+}

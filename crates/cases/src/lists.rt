@@ -1,0 +1,67 @@
+//! Lists: items that are exchanged for others, and given back.
+use crate::case::{Case, CaseFault};
+use crate::page::Page;
+use bz_items::{Items, Memory};
+use std::alloc::Global;
+
+/// Writes the list of the bytes of the first text, in which as many as the argument says, from the place that it says on,
+/// are exchanged for those of the second; then the bytes that were there, and the list from its last byte on.
+pub(crate) fn answer(case: &Case, page: &mut Page) -> Result<(), CaseFault> {
+    let (place, count) = range_of(case.argument()?)?;
+    let mut list = list_of(case.alloc, case.bytes(0)?)?;
+    let mut other = list_of(case.alloc, case.bytes(1)?)?;
+    if !spliced(&mut list, place, count, &mut other)? {
+        return Err(CaseFault::Sheet("a place past the end"));
+    }
+    page.answer(list.as_slice())?;
+    page.answer(other.as_slice())?;
+    page.answer(given_back(case.alloc, &mut list)?.as_slice())?;
+    Ok(())
+}
+
+/// `splice`, where the list has so many items from the place on. Whether it has.
+fn spliced(
+    list: &mut Items<u8>,
+    place: usize,
+    count: usize,
+    other: &mut Items<u8>,
+) -> Result<bool, Memory> {
+    let len = list.len();
+    if place > len || count > len - place {
+        return Ok(false);
+    }
+    list.splice(place, count, other)?;
+    Ok(true)
+}
+
+/// The two numbers of an argument, a space between them.
+fn range_of(argument: &str) -> Result<(usize, usize), CaseFault> {
+    match argument.split_once(' ') {
+        Some((place, count)) => Ok((number_of(place)?, number_of(count)?)),
+        None => Err(CaseFault::Sheet("no place and count")),
+    }
+}
+
+fn number_of(word: &str) -> Result<usize, CaseFault> {
+    match word.parse::<usize>() {
+        Ok(number) => Ok(number),
+        Err(_) => Err(CaseFault::Sheet("no number")),
+    }
+}
+
+fn list_of(alloc: Global, text: &[u8]) -> Result<Items<u8>, Memory> {
+    Ok(Items::from_vec(text.to_vec(alloc)?))
+}
+
+/// The items from the last one on, each as it is seen at its place before it is given back.
+fn given_back(alloc: Global, list: &mut Items<u8>) -> Result<Vec<u8>, Memory> {
+    let mut given = Vec::new(alloc);
+    for place in (0..list.len()).rev() {
+        let seen = list.get(place).copied();
+        match list.pop() {
+            Some(item) if seen == Some(item) => given.push(item)?,
+            _ => given.extend_from_slice(b" another item ")?,
+        }
+    }
+    Ok(given)
+}

@@ -1,0 +1,177 @@
+//! Does one piece of work on a text, for the scripts of bench/. `copy` copies the bytes, `lex` cuts the text into its
+//! tokens, `tree` makes its tree and `parse` also spells it: each prints how many bytes or tokens that gives; `view` makes its
+//! file value, `set` the layout of that, and `format` the layout of it tidied. `time` prints the nanoseconds of the fastest of
+//! several rounds of `copy`, `lex`, `parse`, `view`, `set` and `format`; `peak WORK` does a work once and prints how many KiB of
+//! memory the process took at most. `spell` writes what the tree spells to standard output, and `layout` what it is laid out
+//! as, or the fault of a text that has none to standard error.
+use bz_lex::lex;
+use bz_tidy::tidy;
+use bz_tree::{ReadFault, Tree, parse};
+use bz_view::view;
+use bz_write::set;
+use std::alloc::Global;
+use std::fs;
+use std::io::Write;
+use std::time::Instant;
+
+/// How often `time` does a piece of work.
+const ROUNDS: u32 = 9;
+
+#[derive(Clone, Copy)]
+enum Work {
+    Copy,
+    Lex,
+    Tree,
+    Parse,
+    View,
+    Set,
+    Format,
+}
+
+impl Work {
+    fn named(word: &str) -> Option<Work> {
+        match word {
+            "copy" => Some(Work::Copy),
+            "lex" => Some(Work::Lex),
+            "tree" => Some(Work::Tree),
+            "parse" => Some(Work::Parse),
+            "view" => Some(Work::View),
+            "set" => Some(Work::Set),
+            "format" => Some(Work::Format),
+            _ => None,
+        }
+    }
+
+    /// Does the work once. What it writes goes to `out`, where nobody can leave it out.
+    fn count(self, alloc: Global, bytes: &[u8], out: &mut Vec<u8>) -> Option<usize> {
+        match self {
+            Work::Copy => {
+                out.clear();
+                out.extend_from_slice(bytes).ok()?;
+                Some(out.len())
+            }
+            Work::Lex => {
+                let text = str::from_utf8(bytes).ok()?;
+                Some(lex(alloc, text).ok()?.len())
+            }
+            Work::Tree => Some(parse(alloc, bytes).ok()?.len()),
+            Work::Parse => {
+                out.clear();
+                parse(alloc, bytes).ok()?.spell_into(out).ok()?;
+                Some(out.len())
+            }
+            Work::View => Some(view(alloc, &parse(alloc, bytes).ok()?).ok()?.items.len()),
+            Work::Set => {
+                out.clear();
+                laid_out(alloc, &parse(alloc, bytes).ok()?)?
+                    .spell_into(out)
+                    .ok()?;
+                Some(out.len())
+            }
+            Work::Format => {
+                out.clear();
+                formatted(alloc, &parse(alloc, bytes).ok()?)?
+                    .spell_into(out)
+                    .ok()?;
+                Some(out.len())
+            }
+        }
+    }
+}
+
+/// The tree of the layout of a tree.
+fn laid_out(alloc: Global, tree: &Tree) -> Option<Tree> {
+    set(alloc, &view(alloc, tree).ok()?).ok()
+}
+
+/// The tree of the layout of a tree's value, tidied.
+fn formatted(alloc: Global, tree: &Tree) -> Option<Tree> {
+    let file = view(alloc, tree).ok()?;
+    set(alloc, &tidy(alloc, file).ok()?).ok()
+}
+
+/// The nanoseconds of the fastest round.
+fn fastest(rt: &HostRuntime, work: Work, bytes: &[u8], out: &mut Vec<u8>) -> Option<u128> {
+    let mut best = u128::MAX;
+    for _ in 0..ROUNDS {
+        let start = Instant::now(rt).ok()?;
+        let _count = work.count(rt.alloc(), bytes, out)?;
+        best = best.min(start.elapsed(rt).ok()?.as_nanos());
+    }
+    Some(best)
+}
+
+fn timed(rt: &HostRuntime, bytes: &[u8]) -> Option<()> {
+    let mut out = Vec::new(rt.alloc());
+    for (name, work) in [
+        ("copy", Work::Copy),
+        ("lex", Work::Lex),
+        ("parse", Work::Parse),
+        ("view", Work::View),
+        ("set", Work::Set),
+        ("format", Work::Format),
+    ] {
+        let best = fastest(rt, work, bytes, &mut out)?;
+        println!(rt; "{name} {best}").ok()?;
+    }
+    Some(())
+}
+
+/// The KiB of memory that the process has taken at most, as the system tells them.
+fn peak(rt: &HostRuntime) -> Option<u64> {
+    let status = fs::read_to_string(rt, "/proc/self/status").ok()?;
+    for line in status.as_str().lines() {
+        if let Some(rest) = line.strip_prefix("VmHWM:") {
+            return rest.split_whitespace().next()?.parse().ok();
+        }
+    }
+    None
+}
+
+fn spelled(rt: &HostRuntime, tree: &Tree) -> Option<()> {
+    let mut out = Vec::new(rt.alloc());
+    tree.spell_into(&mut out).ok()?;
+    rt.stdout().write_all(out.as_slice()).ok()
+}
+
+/// The tree of a text, or the fault that is told of it.
+fn read(rt: &HostRuntime, bytes: &[u8]) -> Option<Tree> {
+    let tree: Result<Tree, ReadFault> = parse(rt.alloc(), bytes);
+    match tree {
+        Ok(tree) => Some(tree),
+        Err(fault) => {
+            let _told = eprintln!(rt; "{fault}");
+            None
+        }
+    }
+}
+
+/// Does the work that a word names once, and tells what it counts.
+fn counted(rt: &HostRuntime, word: &str, bytes: &[u8]) -> Option<usize> {
+    let mut out = Vec::new(rt.alloc());
+    Work::named(word)?.count(rt.alloc(), bytes, &mut out)
+}
+
+/// Does on a text what the first word names; the second is the work of `peak`. None: there is no such work, the text is
+/// refused, or something failed.
+pub(crate) fn measure(
+    rt: &HostRuntime,
+    word: &str,
+    further: Option<String>,
+    bytes: &[u8],
+) -> Option<()> {
+    match word {
+        "time" => timed(rt, bytes),
+        "spell" => spelled(rt, &read(rt, bytes)?),
+        "layout" => spelled(rt, &laid_out(rt.alloc(), &read(rt, bytes)?)?),
+        "peak" => {
+            let _count = counted(rt, further?.as_str(), bytes)?;
+            let most = peak(rt)?;
+            println!(rt; "{most}").ok()
+        }
+        name => {
+            let count = counted(rt, name, bytes)?;
+            println!(rt; "{count}").ok()
+        }
+    }
+}
