@@ -2,11 +2,11 @@
 # Reads each BUILD, WORKSPACE and MODULE.bazel file below a folder and spells it back: bench/corpus.sh FOLDER. Prints the
 # names of those that were refused or came back with other bytes, and how many did not; the status is 1 where any did.
 # A name may have another in front or behind, as in zlib.BUILD or BUILD.tools. Files past 4 MiB are left out, since no text is
-# longer. Build the program first (make).
+# longer. Build the program first (make bin/cases).
 set -eu
 folder=${1:?"FOLDER is missing: bench/corpus.sh FOLDER"}
-program=$(dirname "$0")/../bin/measure
-[ -x "$program" ] || { echo "bench/corpus.sh: bin/measure is not there: run make first" >&2; exit 1; }
+program=$(dirname "$0")/../bin/cases
+[ -x "$program" ] || { echo "bench/corpus.sh: bin/cases is not there: run make bin/cases first" >&2; exit 1; }
 scratch=$(mktemp -d)
 trap 'rm -rf "$scratch"' EXIT
 

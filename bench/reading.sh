@@ -2,11 +2,11 @@
 # How fast a text is copied, cut into tokens, parsed and spelled back, viewed as a file value, laid out, and formatted, in MB a second, by one run of one program; and
 # how much memory its tree takes at most while it is made. For two texts of about 2 and 4 MB: the BUILD files below a
 # folder joined, as often as it takes, or rules made here: bench/reading.sh [FOLDER]. The goal: twice the text takes at
-# most 2.2 times the time. Build the program first (make).
+# most 2.2 times the time. Build the program first (make bin/cases).
 set -eu
 [ $# = 0 ] || folder=$(cd "$1" && pwd)
 cd "$(dirname "$0")/.."
-[ -x bin/measure ] || { echo "bench/reading.sh: bin/measure is not there: run make first" >&2; exit 1; }
+[ -x bin/cases ] || { echo "bench/reading.sh: bin/cases is not there: run make bin/cases first" >&2; exit 1; }
 scratch=$(mktemp -d)
 trap 'rm -rf "$scratch"' EXIT
 
@@ -43,7 +43,7 @@ def joined(limit):
 
 def told(path, *words):
     with open(path, "rb") as text:
-        return subprocess.run(["bin/measure", *words], stdin=text, stdout=subprocess.PIPE, check=True).stdout.decode()
+        return subprocess.run(["bin/cases", *words], stdin=text, stdout=subprocess.PIPE, check=True).stdout.decode()
 
 
 times = []

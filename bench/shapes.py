@@ -1,9 +1,9 @@
 #!/usr/bin/env python3
-"""How much longer twice the text takes to parse, for texts of thirty shapes: bench/shapes.py [measure].
+"""How much longer twice the text takes to parse, for texts of thirty shapes: bench/shapes.py [cases].
 
-A text of a shape is some two million bytes, and twice as many; the time is the processor's for `measure parse`, less that
-for `measure copy`, each the least of several runs of the process. The goal: at most 2.1 times the time for twice the text,
-on an idle machine. Build the program first (make).
+A text of a shape is some two million bytes, and twice as many; the time is the processor's for `cases parse`, less that
+for `cases copy`, each the least of several runs of the process. The goal: at most 2.1 times the time for twice the text,
+on an idle machine. Build the program first (make bin/cases).
 """
 import os
 import pathlib
@@ -55,7 +55,7 @@ def text_of(shape, size):
     return front + unit * ((size - len(front) - len(back)) // len(unit)) + back
 
 
-def least(measure, work, path):
+def least(program, work, path):
     """The least seconds of the processor that a run takes, or None where the text is not accepted."""
     best = None
     for _ in range(ROUNDS):
@@ -63,7 +63,7 @@ def least(measure, work, path):
         if child == 0:
             os.dup2(os.open(path, os.O_RDONLY), 0)
             os.dup2(os.open(os.devnull, os.O_WRONLY), 1)
-            os.execv(measure, [measure, work])
+            os.execv(program, [program, work])
         _, status, used = os.wait4(child, 0)
         if status:
             return None
@@ -73,7 +73,9 @@ def least(measure, work, path):
 
 
 def main():
-    measure = sys.argv[1] if sys.argv[1:] else str(TOP / "bin/measure")
+    program = sys.argv[1] if sys.argv[1:] else str(TOP / "bin/cases")
+    if not os.path.exists(program):
+        sys.exit(f"bench/shapes.py: {pathlib.Path(program).name} is not there: run make bin/cases first")
     worst = 0
     with tempfile.TemporaryDirectory() as scratch:
         path = pathlib.Path(scratch, "text")
@@ -81,7 +83,7 @@ def main():
             times = []
             for size in (SIZE, 2 * SIZE):
                 path.write_text(text_of(shape, size))
-                parsed, copied = least(measure, "parse", path), least(measure, "copy", path)
+                parsed, copied = least(program, "parse", path), least(program, "copy", path)
                 times.append(parsed - copied if parsed and copied else None)
             if None in times:
                 sys.exit(f"bench/shapes.py: the text of {name} is not accepted")

@@ -6,26 +6,50 @@ standard error (stderr) and the status. A file that is not there is empty, and t
 once, by rt try, with no proof: what the engine does is proved, and here it is seen that main hands it the words and the
 streams, and passes its status on. A line for each failure; the last one is 'N passed, M failed'.
 
-With a command behind it, as 'tests/programs.py rt ci', that runs too, and the last line adds its last line's numbers; the
+With a command after it, as 'tests/programs.py rt ci', that runs too, and the last line adds its last line's numbers; the
 programs that it built then run over real files: buildifier over single ones (tests/files.py), buildozer over packages
-(tests/workspace.py).
+(tests/workspace.py), and both through the examples of README.md (tests/readme.py); buildozer beside a plain list of texts
+(tests/sessions.py); and buildozer and cases with memory refused at each request in turn (tests/memory.py). The first crate that
+it reports as not proved ends it, as soon as the proofs that run at that moment have ended; then comes once more what was
+reported of it. The line before the last one says how long the whole took, on how many processors, and how much of their time
+the machine gave to others.
 """
 import os
 import pathlib
 import re
 import shutil
+import signal
 import subprocess
 import sys
 import tempfile
+import time
 
 import files
+import memory
+import readme
+import sessions
 import workspace
 
 TOP = pathlib.Path(__file__).resolve().parent.parent
-# what rt try writes: behind a heading of its name each run's standard output, and in front of its result its standard error
+# what rt try writes: after a heading of its name each run's standard output, and before its result its standard error
 HEADING = re.compile(rb"^== (\w+)\n", re.MULTILINE)
 RESULT = re.compile(rb"case=(\w+) run=(\w+)(?: status=(\d+))?.*\n")
 SUM = re.compile(r"(\d+) passed, (\d+) failed")
+# what rt ci writes above all that it reports of a crate, or of its tests
+HEADED = re.compile(r"== \w+")
+# what rt ci reports of a crate, or of its tests, when its proof has ended
+PROVED = re.compile(r"rt: \w+ proved\n")
+NOT_PROVED = re.compile(r"rt: (\w+).* NOT PROVED")
+# how many lines of the report of a crate that is not proved are repeated at the end
+REPEATED = 20
+# what runs the built programs: the name of it, the script with its scenes, and the programs that they take
+SCRIPTS = [
+    ("runs over real files", files, ["buildifier"]),
+    ("runs over packages", workspace, ["buildozer"]),
+    ("examples of README", readme, ["buildozer", "buildifier"]),
+    ("runs beside a plain list of texts", sessions, ["buildozer"]),
+    ("runs with memory refused", memory, ["buildozer", "cases"]),
+]
 
 
 def content(file, default=b""):
@@ -64,17 +88,44 @@ def faults(folder, found):
     return [f"{name}: {is_}, and not {want}" for name, is_, want in zip(names, left, wanted) if is_ != want]
 
 
-def counts_of(command):
-    """Runs a command, prints its output, and gives the numbers of its last line; none of them is a failure."""
-    last = ""
+def let_interrupt():
+    """Has a command end at an interrupt also where this run was started to pass over them."""
+    signal.signal(signal.SIGINT, signal.SIG_DFL)
+
+
+def minutes_since(start):
+    minutes = int((time.monotonic() - start) / 60)
+    return f"{minutes} {'minute' if minutes == 1 else 'minutes'}"
+
+
+def counts_of(command, start):
+    """Runs a command, prints its output, each line with the minutes since the start, and gives the numbers of its last line, where
+    none of them is a failure, and no report; or, where a crate is not proved, how many were, one failure, and the end of what was
+    reported of that crate."""
+    last, proved, report, fallen = "", 0, [], False
     unbuffered = dict(os.environ, PYTHONUNBUFFERED="1")
-    with subprocess.Popen(command, cwd=TOP, env=unbuffered, stdout=subprocess.PIPE, text=True) as run:
+    how = {"stdout": subprocess.PIPE, "stderr": subprocess.STDOUT, "text": True, "preexec_fn": let_interrupt}
+    with subprocess.Popen(command, cwd=TOP, env=unbuffered, **how) as run:
         for line in run.stdout:
-            print(line, end="", flush=True)
+            # after an interrupt come the lines of the proofs that have ended, and those of the interrupt
+            if not fallen or line.startswith("rt: "):
+                print(f"{line.rstrip()}  ({minutes_since(start)})", flush=True)
             last = line
+            proved += bool(PROVED.fullmatch(line))
+            if fallen:
+                continue
+            report = [line] if HEADED.match(line) else [*report, line]
+            reported = NOT_PROVED.match(line)
+            if reported:
+                fallen = True
+                print(f"{reported[1]} is not proved: this ends when the proofs that run now have ended", flush=True)
+                # so rt ends as soon as they have, and gives the crates back what earlier checks kept
+                run.send_signal(signal.SIGINT)
+    if fallen:
+        return proved, 1, report[-REPEATED:]
     counts = SUM.fullmatch(last.strip())
     passed, failed = map(int, counts.groups()) if counts else (0, 1)
-    return passed, max(failed, 1) if run.returncode else failed
+    return passed, max(failed, 1) if run.returncode else failed, []
 
 
 def run_folders(program):
@@ -90,25 +141,50 @@ def run_folders(program):
     return len(folders) - failed, failed if folders else 1
 
 
-def run_scenes(script, program):
-    """Runs the built program through the scenes of a script; without a program none of them is passed."""
-    built = TOP / "crates" / program / "out" / program
-    failed = script.failures(built) if built.exists() else ["no program was built"] * len(script.SCENES)
+def run_scenes(script, programs):
+    """Runs the built programs through the scenes of a script; where one was not built none of them is passed."""
+    built = [TOP / "crates" / program / "out" / program for program in programs]
+    there = all(program.exists() for program in built)
+    failed = script.failures(*built) if there else ["a program was not built"] * len(script.SCENES)
     for name in dict.fromkeys(failed):
         print(f"tests/{script.__name__}.py: {name}", flush=True)
     return len(script.SCENES) - len(failed), len(failed)
 
 
+def run_gate(command, start):
+    """Runs a command that proves all, and then the programs that it built through the scripts; gives what passed and failed in each."""
+    passed, failed, report = counts_of(command, start)
+    counts = [(passed, failed)]
+    if report:
+        print("".join(report) + "what comes after this crate was not tried", flush=True)
+        return counts
+    for name, script, programs in SCRIPTS:
+        counts.append(run_scenes(script, programs))
+        print("{}: {} passed, {} failed".format(name, *counts[-1]), flush=True)
+    return counts
+
+
+def processor_times():
+    """How long all processors have been busy or idle, and how long the machine below took them away, in one unit."""
+    user, nice, system, idle, waiting, interrupts, soft, taken = map(int, content(pathlib.Path("/proc/stat")).split()[1:9])
+    return user + nice + system + idle + waiting + interrupts + soft, taken
+
+
+def given_away(before):
+    """How many hundredths of the processors' time the machine gave to others since then."""
+    had, taken = (now - then for now, then in zip(processor_times(), before))
+    return round(100 * taken / max(had + taken, 1))
+
+
 def main():
+    start, before = time.monotonic(), processor_times()
     counts = [run_folders(program) for program in ("buildozer", "buildifier")]
     if sys.argv[1:]:
         print("runs of the programs: {} passed, {} failed".format(*map(sum, zip(*counts))), flush=True)
-        counts.append(counts_of(sys.argv[1:]))
-        counts.append(run_scenes(files, "buildifier"))
-        print("runs over real files: {} passed, {} failed".format(*counts[-1]), flush=True)
-        counts.append(run_scenes(workspace, "buildozer"))
-        print("runs over packages: {} passed, {} failed".format(*counts[-1]), flush=True)
+        counts += run_gate(sys.argv[1:], start)
     passed, failed = map(sum, zip(*counts))
+    processors = len(os.sched_getaffinity(0))
+    print(f"the whole: {minutes_since(start)} on {processors} processors, {given_away(before)} % of their time given to others")
     print(f"{passed} passed, {failed} failed")
     return 1 if failed else 0
 

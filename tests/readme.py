@@ -1,0 +1,181 @@
+#!/usr/bin/env python3
+"""Runs the examples of README.md as they stand there, and compares its tables, and the picture of the crates, with the code.
+
+A block of code in which lines begin with `$` is an example: its commands run one after the other, in a folder of the block's own
+that is empty at first, with both programs on the PATH. What a command leaves on its two outputs must be what stands below it,
+byte for byte, up to the next command. The commands in the tables need only be such as the program takes.
+
+    tests/readme.py BUILDOZER BUILDIFIER
+"""
+import os
+import pathlib
+import re
+import shutil
+import subprocess
+import sys
+import tempfile
+
+from files import report
+
+TOP = pathlib.Path(__file__).resolve().parent.parent
+README = (TOP / "README.md").read_text()
+CRATES = TOP / "crates"
+# lines with four spaces before them, and the empty ones between them
+BLOCK = re.compile(r"(?:^ {4}.*\n(?:\n+(?= {4}))?)+", re.MULTILINE)
+COMMAND = re.compile(r"^\$ (.*)\n", re.MULTILINE)
+CODE = re.compile(r"`([^`]+)`")
+# a row of the code's tables of numbers
+NUMBER = re.compile(r"\b(?:\w+Fault|Refusal)::(\w+)(?: \{ \.\. \})? => (\d+),")
+
+
+class Programs:
+    """The built programs, in a folder that goes on the PATH."""
+
+    def __init__(self, path, built):
+        self.path = pathlib.Path(path)
+        for program in built:
+            shutil.copy(program, self.path)
+
+    def run(self, command, folder, text=b""):
+        """The status and both outputs, as one, of a command of the shell or of a list of words."""
+        words = ["sh", "-c", command] if isinstance(command, str) else command
+        environment = {**os.environ, "PATH": f"{self.path}{os.pathsep}{os.environ['PATH']}"}
+        how = {"stdout": subprocess.PIPE, "stderr": subprocess.STDOUT, "timeout": 60}
+        run = subprocess.run(words, cwd=folder, env=environment, input=text, **how)
+        return run.returncode, run.stdout.decode(errors="replace")
+
+
+# ---- what README says
+
+
+def examples():
+    """The blocks of code that have commands, each without its margin."""
+    blocks = (re.sub(r"^ {4}", "", block, flags=re.MULTILINE) for block in BLOCK.findall(README))
+    return [block for block in blocks if COMMAND.search(block)]
+
+
+def rows_of(header):
+    """The cells of each row of the tables whose header begins so."""
+    rows = []
+    for found in re.finditer(rf"^\| {header} \|.*\n\|[-|]+\|\n((?:\|.*\n)+)", README, re.MULTILINE):
+        rows += [re.split(r"(?<!\\)\|", line)[1:-1] for line in found[1].splitlines()]
+    return [[cell.strip() for cell in row] for row in rows]
+
+
+def command_examples():
+    return [command.replace("\\|", "|") for row in rows_of("Command") for command in CODE.findall(row[-1])]
+
+
+# ---- what the code says
+
+
+def texts_in(file, name):
+    """The texts in the definition of this name, in a file of definitions."""
+    found = re.search(rf"^{name} =.*\n(?: {{4}}.*\n)*", (CRATES / file).read_text(), re.MULTILINE)
+    return re.findall(r'codes "(\w+)"', found[0] if found else "")
+
+
+def refusals_of_code():
+    files = CRATES.glob("bz_*/src/*.rt")
+    return sorted({(int(number), name) for file in files for name, number in NUMBER.findall(file.read_text())})
+
+
+def attributes_of_code():
+    """The tables of attributes; beside the sorted ones stand the kind and the attribute that are left out."""
+    tables = "bz_label/specs/Tables.antt"
+    ordered, further = texts_in(tables, "sorted_attributes"), texts_in(tables, "further_lists")
+    others = texts_in(tables, "is_label_attribute attribute")
+    return {
+        "Sorted": (ordered, sorted(texts_in(tables, "is_sorted kind attribute"))),
+        "Labels": ([name for name in ordered if name not in others], []),
+        "Lists": (ordered + further, []),
+        "First": (texts_in(tables, "first_arguments"), []),
+        "Last": (texts_in(tables, "last_arguments"), []),
+    }
+
+
+# ---- scenes; each gives what is wrong
+
+
+def an_example(block):
+    def wrong(programs, folder):
+        front, *pieces = COMMAND.split(block)
+        faults = [f"{front!r} stands before the first command"] if front else []
+        for command, wanted in zip(pieces[::2], pieces[1::2]):
+            left = programs.run(command, folder)[1]
+            if left != wanted:
+                faults.append(f"{command}: {left!r}, and not {wanted!r}")
+        return faults
+
+    return wrong
+
+
+def different(what, of_readme, of_code):
+    return [] if of_code and of_readme == of_code else [f"{what}: {of_readme}, and not {of_code}"]
+
+
+def refusals(programs, folder):
+    rows = rows_of("Number")
+    told = [(int(row[0]), name) for row in rows for name in CODE.findall(row[1])]
+    return different("refusals", told, refusals_of_code()) + [f"{row[1]}: nothing is said of it" for row in rows if not all(row)]
+
+
+def attributes(programs, folder):
+    """Each row has the names of the code's table, in its order; in the first cell stand those that are left out."""
+    rows = {row[0].split()[0].rstrip(":"): row for row in rows_of("Attributes")}
+    faults = different("tables of attributes", sorted(rows), sorted(attributes_of_code()))
+    for name, (table, left_out) in attributes_of_code().items():
+        row = rows.get(name, ["", ""])
+        faults += different(name, CODE.findall(row[1]), table)
+        if left_out != sorted(CODE.findall(row[0])):
+            faults.append(f"{name}: {row[0]}, where {left_out} is left out")
+    return faults
+
+
+def commands(programs, folder):
+    """Each command has a row, and no other; the words of a row begin with its name."""
+    told = {word.split()[0] for row in rows_of("Command") for word in CODE.findall(row[0])}
+    known = texts_in("bz_words/specs/Commands.antt", "commands") + texts_in("bz_line/specs/Operands.antt", r"history_verb_in \(.*")
+    return different("commands", sorted(told), sorted(set(known)))
+
+
+def examples_of_commands(programs, folder):
+    """Each example in the tables is taken as a command, though it may be refused on this rule."""
+    faults = [] if command_examples() else ["there are no examples of commands"]
+    for command in command_examples():
+        status, left = programs.run(["buildozer", "--", command, "-:x"], folder, b'f(name = "x")\n')
+        refused = left.startswith(f"buildozer: <stdin>: {command}: ")
+        if status not in (0, 3) and not (status == 2 and refused):
+            faults.append(f"{command}: status {status}, {left!r}")
+    return faults
+
+
+def layers(programs, folder):
+    """Each crate stands once in the picture of the layers, and what it stands on stands in lines below its own."""
+    rows = [line.partition("#")[0].partition(":") for line in (TOP / "crates.txt").read_text().splitlines()]
+    uses = {name.strip(): below.split() for name, _, below in rows if name.strip()}
+    picture = BLOCK.search((TOP / "docs" / "ARCHITECTURE.md").read_text())[0]
+    found = [(word, at) for at, line in enumerate(picture.splitlines()) for word in re.findall(r"\w+", line) if word in uses]
+    line_of = dict(found)
+    pairs = [(crate, below) for crate, names in uses.items() for below in names if below in uses]
+    wrong = [f"{crate} stands on {below}" for crate, below in pairs if line_of.get(below, -1) <= line_of.get(crate, -1)]
+    return different("crates", sorted(word for word, _ in found), sorted(uses)) + wrong
+
+
+SCENES = {f"example {number}": an_example(block) for number, block in enumerate(examples(), 1)}
+SCENES |= {scene.__name__.replace("_", " "): scene for scene in (refusals, attributes, commands, examples_of_commands, layers)}
+
+
+def failures(*built):
+    """The names of the scenes that fail, each with what was wrong."""
+    failed = []
+    for name, scene in SCENES.items():
+        with tempfile.TemporaryDirectory() as path, tempfile.TemporaryDirectory() as folder:
+            wrong = scene(Programs(path, built), folder)
+        if wrong:
+            failed.append("; ".join([name, *wrong]))
+    return failed
+
+
+if __name__ == "__main__":
+    sys.exit(report("readme", SCENES, failures(*(pathlib.Path(word).resolve() for word in sys.argv[1:]))))

@@ -1,0 +1,480 @@
+#!/usr/bin/env python3
+"""Compares what the built program buildozer leaves after many commands in one run with a plain list of whole texts.
+
+A session keeps one tree and the steps between its texts, and makes each text from these. Here a list of whole texts and a cursor
+does the same work: the text that a command makes comes from a run of that one command over the whole text then present, and is
+appended behind the cursor, where it differs; `undo` and `redo` move the cursor. Both must leave the same text, printed lines,
+lines on standard error and status. So what one run shows is that of the runs of its commands one by one, and what undo gives
+back are the very bytes that stood there.
+
+The lists are those of tests/buildozer, of the program's own files and of README's examples, as far as they are about standard
+input; fixed ones, in which each command of README's tables stands; and many that are made by chance, always the same, over
+texts that are laid out oddly. Of all but the last each beginning is run too, and each also without -k.
+
+    tests/sessions.py PROGRAM
+"""
+import collections
+import concurrent.futures
+import os
+import pathlib
+import random
+import shlex
+import subprocess
+import sys
+import tempfile
+
+import readme
+from files import report
+
+TOP = pathlib.Path(__file__).resolve().parent.parent
+
+# How many lists are made, of how many commands at most, and how often one is an undo or a redo: behind one of these, and behind
+# another command.
+LISTS = 1000
+LONGEST = 12
+GOES_ON = 0.6
+GOES = 0.25
+
+# Commands that print, and leave the text.
+PRINTS = ["print", "print_comment"]
+# Options that change nothing of what stands on the outputs where only standard input is edited, but for -k.
+OPTIONS = ["-k", "--quiet", "--stdout"]
+
+# commands that each target gets, in order, of one run over a text
+Work = collections.namedtuple("Work", "commands targets text keeps_going", defaults=[True])
+
+# ---- odd texts: each has a rule x or y, as far as it has rules
+
+TEXTS = {
+    "no text": b"",
+    "empty lines": b"\n\n \n\t\n",
+    "comments alone": b"# one\n\n  # two\n#three",
+    "laid out": b'cc_library(\n    name = "x",\n    srcs = ["a.c"],\n    deps = [\n        ":a",\n        ":b",\n    ],\n)\n\ncc_test(name = "y")\n',
+    "tabs and spaces": b"cc_library(\tname = 'x',\n  \t srcs=[ \"b.c\",\t'a.c' ] )\t\n\n\n\n\ncc_test( name ='y' , deps=[':x'\t, ':b'])   \n",
+    "ends of lines with carriage returns": b'cc_library(\r\n  name = "x",\r\n  deps = [":b",":a"], # why\r\n)\r\n# end\r\n\r\ncc_test(name="y",size = "small")\r\n',
+    "no newline at the end": b'cc_library( name="x" ,deps=[":a"] )\ncc_test(name="y") # last',
+    "comments everywhere": b"""# file
+
+# above
+cc_library( # at the bracket
+    # above the name
+    name = "x", # name
+    deps = [ # at the list
+        # above a
+        ":a", # a
+        ":b"
+        # below
+        , # comma
+        # end of the list
+    ], # behind the list
+    # end of the rule
+) # behind
+
+# between
+
+cc_test(name="y") # y
+# end
+""",
+    "select and sums": b"""cc_library(name="x", deps = [":a"] + select({
+    "//c:d": [":b"], # d
+    "//conditions:default": [],
+}) + OTHERS, srcs = glob(["*.c"], exclude=["b.c"]), copts=select({"//c:d":["-O2"]}))
+cc_test(name="y",deps=DEPS,srcs=["y.c"]if a else[])
+""",
+    "dicts": b"""cc_test(name="x",env={"A":"1", # one
+  'B' : "2","C":[ "3" ]},size="small",
+  substitutions={}, more={a:b for a in c})
+cc_test(name="y", env = dict(A="1"))
+""",
+    "loads": b"""'''doc'''
+load("//:b.bzl","my_rule","other",third="fourth")
+x = 1
+load('//:a.bzl', "unused") # keep
+my_rule(name="x", deps=[":a"])
+package(default_visibility=["//visibility:public"])
+load(":b.bzl", "unused_too")
+cc_library(name = "y", deps = third)
+""",
+    "many on a line": b'x=1;cc_library(name="x",deps=[":b"]);y=[x,2];cc_test(name="y") ; z = -1  # z\n',
+    "newlines that are escaped": b'cc_library(name \\\n = "x", deps = \\\r\n[":a" \\\n, ":b"])\n\\\nx = a \\\n + b\ncc_test(name="y")\n\\\n',
+    "strings of all kinds": "cc_library(name=\"x\",srcs=['a.c',\"\"\"b.c\"\"\",r'c\\.c',\"d\\\"d\",\"\u00e9\u4e16.c\", 'it\\'s'],deps=['//a/b:b','@r//c','\\072a'])\ncc_test(name='y',linkopts='-l')\n".encode(),
+    "marks that steer": b"""cc_library(name="x",
+    srcs = [ # keep sorted
+        "b.c", "a.c"],
+    deps = [
+        # do not sort
+        ":b",":a",":b"])
+# buildifier: leave-alone
+cc_test( name="y",  deps=[ ":b",":a" ] )
+""",
+    "rules that are alike": b'cc_library(name="x")\ncc_library(name="x",deps=[":a"])\nnative.cc_library(name="x",deps="a")\nf()\ng(name=x)\ncc_test(name="y",name="y")\n',
+    "deep brackets": b"cc_library(name='x',deps=[[[(':a',),[]]],{'k':[{'l':(1,)}]}],args=f(g(h(1,*a,**b))))\ncc_test(name='y',size=('small'))\n",
+}  # fmt: skip
+
+# those from which one is taken by chance; more often one with rules
+NAMES = [name for name, text in TEXTS.items() for _ in range(4 if b"(" in text else 1)]
+
+TARGETS = ["-:x"] * 6 + ["-:y"] * 3 + ["-:all"] * 4 + ["-:*", "-:%cc_library", "-:%cc_test", "-:%1", "-:%4", "-:__pkg__", "-:none"]
+
+# ---- commands from which lists are made: each is taken by the program, though mostly refused on some of the texts
+
+COMMANDS = """
+new cc_test z
+new cc_library a.b before x
+new native.cc_test w after y
+new f x
+delete
+set deps :y
+set deps //-:a :b
+set testonly True
+set srcs a\\ b.c
+set kind native.cc_binary
+set size small
+set name y
+set_if_absent size large
+set_if_absent deps :c
+add deps :b //lib:a
+add deps :y :x y
+add srcs c.c
+add tags odd\\ tag "q"
+remove deps
+remove deps :a
+remove srcs a.c b.c c.c
+remove *
+remove size
+replace deps :a :z
+replace * :b //lib:b
+replace size small large
+substitute srcs (.*)\\.c$ $1.cc
+substitute * ^(:?)a$ ${1}zz
+substitute deps b bb
+move deps runtime_deps :a
+move deps exports *
+move srcs hdrs *
+rename deps data
+rename data deps
+rename size timeout
+copy deps x
+copy deps y
+copy_no_overwrite size x
+copy_no_overwrite srcs x
+dict_add env C:3 A:9
+dict_add substitutions k:v:w
+dict_set env A:2 B:3
+dict_set env D:\\ d
+dict_remove env A C
+dict_remove env A B C D
+comment why\\ not
+comment deps because
+comment deps :a the\\ first
+comment env \u00e9\u4e16
+remove_comment
+remove_comment deps
+remove_comment deps :a
+print_comment
+print_comment deps
+print_comment deps :a
+print
+print name kind deps
+print rule
+print startline size env
+new_load //:defs.bzl a my_b=b
+new_load :b.bzl unused_too new_one
+fix
+fix unusedLoads
+fix movePackageToTop
+""".strip().splitlines()
+
+# those that are seldom refused, and mostly leave another text
+BOLD = [command for command in COMMANDS if command.split()[0] in ("new", "set", "add", "dict_set", "comment", "new_load")]
+
+UNDOS = ["undo", "undo", "undo", "undo 1", "undo 2", "undo 003", "undo 9"]
+REDOS = ["redo", "redo", "redo", "redo 1", "redo 2", "redo 4"]
+
+# ---- fixed lists: a name, the text, the target, and the commands
+
+FIXED = [
+    ("what is cut by a new text is gone", "laid out", "-:x",
+     "add deps :c|add deps :d|undo 2|redo|set size small|redo|undo|undo|redo 2|redo"),
+    ("refused moves leave the cursor", "tabs and spaces", "-:x",
+     "redo|undo|delete|undo 2|redo|undo|redo 2|undo|redo|undo 4294967295|redo 4294967295|undo"),
+    ("a command that changes nothing cuts nothing", "laid out", "-:x",
+     "add deps :c|undo|add deps :a|set srcs a.c|remove size|print deps|redo|print deps|undo"),
+    ("a command that is refused cuts nothing", "dicts", "-:x",
+     "set size large|undo|add env :a|rename size env|move size deps *|redo|undo|dict_add size A:1|redo"),
+    ("a text that comes again is a further text", "tabs and spaces", "-:y",
+     "add deps :c|remove deps :c|add deps :c|undo|undo|undo|redo 3|undo 2|redo 2|redo"),
+    ("rules come", "comments everywhere", "-:__pkg__",
+     "new cc_test z|new f w before x|new g.h v after x|undo 2|new cc_test z|redo|new cc_test u before none|new f x|undo|redo|undo 3"),
+    ("rules go", "comments everywhere", "-:x", "delete|undo|delete|delete|undo|redo|undo"),
+    ("all rules go", "many on a line", "-:all", "delete|print|undo|print|redo|new f z|undo 2|print startline"),
+    ("values are set", "ends of lines with carriage returns", "-:x",
+     "set deps :y|undo|redo|set deps :y|set testonly True|set linkstatic 1|set srcs a b|set kind native.f|undo 4|redo 3|undo 5|undo"),
+    ("values are set where they are absent", "dicts", "-:all",
+     "set_if_absent size large|undo|set_if_absent deps :a|set_if_absent deps :b|undo|redo|undo 2|redo 2"),
+    ("values are added", "select and sums", "-:x",
+     "add deps :b :e|add copts -g|undo|add srcs :f|undo|redo|add name a|undo 2|add deps //-:a|redo"),
+    ("values are removed", "select and sums", "-:x",
+     "remove deps :a|remove deps :b|undo|redo|remove deps|remove *|undo|remove srcs b.c|undo 2|redo 2|undo 9"),
+    ("the last value goes with its attribute", "no newline at the end", "-:x",
+     "remove deps :a|undo|redo|add deps :a|undo 2|remove deps :a|redo"),
+    ("values are replaced", "marks that steer", "-:all",
+     "replace deps :b :z|undo|replace * :a //-:z|redo|undo|replace srcs b.c c.c|undo 2|redo"),
+    ("values are substituted", "strings of all kinds", "-:x",
+     r"substitute srcs (.*)\.c$ $1.cc|undo|substitute * ^(?P<first>.) ${first}_|redo|undo|substitute linkopts l m|substitute deps b bb|undo 3|redo"),
+    ("values are moved", "comments everywhere", "-:x",
+     "move deps runtime_deps :a|undo|redo|move deps runtime_deps *|undo 2|move deps exports :none|move deps exports * |redo|undo"),
+    ("attributes are renamed", "newlines that are escaped", "-:x",
+     "rename deps data|undo|redo|rename data deps|rename deps deps|undo 2|redo|rename none deps|undo|redo 2"),
+    ("attributes are copied", "rules that are alike", "-:y",
+     "copy deps x|set size small|copy_no_overwrite size x|undo|copy_no_overwrite testonly x|copy deps y|undo 2|redo 2"),
+    ("attributes are copied where they are absent", "tabs and spaces", "-:x",
+     "copy_no_overwrite deps y|copy_no_overwrite srcs y|undo|redo|copy deps y|copy srcs y|undo 2"),
+    ("entries come and go", "dicts", "-:x",
+     "dict_add env C:9 D:4 D:5|undo|redo|dict_set env A:2 E:\\ e|dict_set substitutions k:v|undo 2|dict_remove env A B C|redo|undo|dict_remove env none|dict_add more k:v|undo"),
+    ("a dict of its own", "laid out", "-:y", "dict_add env A:1|dict_remove env A|undo|redo|dict_set env A:1|undo 3|redo 3"),
+    ("comments come and go", "comments everywhere", "-:x",
+     "comment why\\ not|comment deps because|comment deps :b the\\ other|print_comment deps :b|undo 2|print_comment|remove_comment deps :a|undo|redo|remove_comment|remove_comment deps|undo 9|undo 4|redo 2|print_comment deps"),
+    ("comments are printed of each text", "ends of lines with carriage returns", "-:all",
+     "print_comment deps|comment all\\ of\\ them|print_comment|undo|print_comment|redo|remove_comment|print_comment|print rule|undo 2"),
+    ("lines are printed of each text", "many on a line", "-:all",
+     "print|print startline name|new f z before x|print startline name rule|undo|print startline deps|redo|print kind testonly|undo"),
+    ("printing alone", "loads", "-:x", "print|print rule deps|print none"),
+    ("printing and going nowhere", "loads", "-:x", "print|undo|redo|print deps"),
+    ("loads come", "loads", "-:__pkg__",
+     "new_load //:defs.bzl a my_b=b|new_load //:b.bzl fifth other|undo|redo|new_load //:b.bzl fifth|undo 2|new_load c.bzl z|redo"),
+    ("loads come where there is none", "many on a line", "-:__pkg__", "new_load //:defs.bzl a|undo|redo|new_load //:defs.bzl a b|undo 2"),
+    ("loads go, and the package goes up", "loads", "-:__pkg__",
+     "fix unusedLoads|undo|fix movePackageToTop|fix|undo 2|redo|fix|undo|undo|fix|fix|undo"),
+    ("a file of no text", "no text", "-:__pkg__", "new f x|undo|print|new g y|new_load a b|undo 2|redo 2|undo|delete|redo"),
+    ("a file of comments", "comments alone", "-:all", "delete|new f x|undo|redo|fix|new_load a b|undo 2|undo"),
+    ("two targets in turn", "rules that are alike", "-:x -:y", "set size small|undo|redo|add deps :c|print deps size|undo"),
+    ("a rule that goes under a target", "rules that are alike", "-:%1", "delete|delete|undo|delete|undo 2|redo|print name kind startline"),
+    ("a name that changes under a target", "laid out", "-:x", "set name z|set size small|undo|set name z|redo|print|undo"),
+    ("a text past the levels", "laid out", "-:x", "set kind " + ".".join(["k"] * 300) + "|set size small|undo|redo"),
+    ("a rule that is left alone", "marks that steer", "-:y", "print rule|add deps :c|undo|print rule|redo|set kind f|undo 2"),
+]  # fmt: skip
+
+# ---- the program
+
+
+def told_of(command, refusal):
+    return f"buildozer: <stdin>: {command}: {refusal}\n".encode()
+
+
+class Program:
+    """The built program; of each run of one command what it left is kept."""
+
+    def __init__(self, path):
+        self.path = path
+        self.known = {}
+
+    def ended(self, work):
+        """The status, standard output and standard error of a run."""
+        words = ["-k"] * work.keeps_going + ["--", *work.commands, *work.targets]
+        run = subprocess.run([self.path, *words], input=work.text, capture_output=True, timeout=60)
+        return run.returncode, run.stdout, run.stderr
+
+    def alone(self, command, target, text):
+        key = command, target, text
+        if key not in self.known:
+            self.known[key] = self.ended(Work([command], [target], text))
+        return self.known[key]
+
+
+# ---- the plain list
+
+
+class Plain:
+    """Texts and a cursor; beside them what was printed and told, and whether a command failed."""
+
+    def __init__(self, program, text):
+        self.program = program
+        self.texts, self.cursor = [text], 0
+        self.printed, self.told, self.failed = b"", b"", False
+
+    def present(self):
+        return self.texts[self.cursor]
+
+    def goes(self, command, steps):
+        place = self.cursor + steps
+        if 0 <= place < len(self.texts):
+            self.cursor = place
+        else:
+            self.told += told_of(command, "TooFar (61)")
+            self.failed = True
+
+    def does(self, command, target):
+        status, out, err = self.program.alone(command, target, self.present())
+        self.told += err
+        self.failed |= status == 2
+        if is_printing(command):
+            self.printed += out
+        elif out != self.present():
+            self.texts[self.cursor + 1 :] = [out]
+            self.cursor += 1
+
+    def step(self, command, target):
+        name, *words = command.split()
+        count = int(words[0]) if words[:1] and name in ("undo", "redo") else 1
+        if name == "undo":
+            self.goes(command, -count)
+        elif name == "redo":
+            self.goes(command, count)
+        else:
+            self.does(command, target)
+
+
+def is_printing(command):
+    return command.split()[0] in PRINTS
+
+
+def of_plain_list(program, work):
+    """What a run must leave: its status, standard output and standard error."""
+    status, _, fault = program.alone("print", "-:all", work.text)
+    if status == 2:
+        # the text is refused, which is told once, and no command has a file
+        return 2, b"", fault
+    plain = Plain(program, work.text)
+    for target in work.targets:
+        for command in work.commands:
+            if work.keeps_going or not plain.failed:
+                plain.step(command, target)
+    is_shown = not all(map(is_printing, work.commands))
+    status = 2 if plain.failed else 3 if plain.present() == work.text else 0
+    return status, plain.printed + (plain.present() if is_shown else b""), plain.told
+
+
+# ---- comparing
+
+
+def by_hand(work):
+    """The run as a line of a shell."""
+    text = work.text.decode(errors="backslashreplace").replace("\\", "\\\\")
+    for character, escape in ("\n", "\\n"), ("\r", "\\r"), ("\t", "\\t"):
+        text = text.replace(character, escape)
+    words = ["-k"] * work.keeps_going + ["--", *work.commands, *work.targets]
+    return f"printf '%b' {shlex.quote(text)} | buildozer {shlex.join(words)}"
+
+
+def faults(program, work):
+    """Where a run left something else than the plain list."""
+    names = "status", "standard output", "standard error"
+    left, wanted = program.ended(work), of_plain_list(program, work)
+    return [f"{by_hand(work)}: {name}: {is_}, and not {want}" for name, is_, want in zip(names, left, wanted) if is_ != want]
+
+
+def beginnings(work):
+    """Each beginning of the work, with and without -k."""
+    counts = range(1, len(work.commands) + 1)
+    return [work._replace(commands=work.commands[:count], keeps_going=goes) for count in counts for goes in (True, False)]
+
+
+def compared(works):
+    return lambda program: [fault for work in works for fault in faults(program, work)]
+
+
+# ---- where the lists come from
+
+
+def work_of(words, text):
+    """What the words ask of standard input; None where they ask for something else, or are a fault."""
+    if "--" not in words:
+        return None
+    options, operands = words[: words.index("--")], words[words.index("--") + 1 :]
+    targets = [word for word in operands if " " not in word and (":" in word or word.startswith("//"))]
+    commands = [word for word in operands if word not in targets]
+    fits = commands and targets and set(options) <= set(OPTIONS) and all(target.startswith("-:") for target in targets)
+    return Work(commands, targets, text, "-k" in options) if fits else None
+
+
+def content(file):
+    return file.read_bytes() if file.exists() else b""
+
+
+def rows():
+    """The runs over standard input that are worked out by hand, in folders of words and input."""
+    folders = [TOP / "crates" / "buildozer", *sorted((TOP / "tests" / "buildozer").iterdir())]
+    found = {folder.name: work_of(content(folder / "args").decode().splitlines(), content(folder / "stdin")) for folder in folders}
+    return {f"row {name}": work for name, work in found.items() if work}
+
+
+def an_example(block, words):
+    """The words of a command of the block, which reads the file that its last word names, as an example before it made it."""
+
+    def wrong(program):
+        with tempfile.TemporaryDirectory() as folder:
+            for command in readme.COMMAND.findall(block):
+                if command.startswith("printf "):
+                    subprocess.run(["sh", "-c", command], cwd=folder, check=True)
+            work = work_of(words[1:-2], pathlib.Path(folder, words[-1]).read_bytes())
+        return compared(beginnings(work))(program)
+
+    return wrong
+
+
+def examples():
+    """README's examples in which buildozer reads standard input from a file."""
+    commands = [(block, shlex.split(command)) for block in readme.examples() for command in readme.COMMAND.findall(block)]
+    fitting = [(block, words) for block, words in commands if words[0] == "buildozer" and words[-2:-1] == ["<"] and work_of(words[1:-2], b"")]
+    return {f"example {number}": an_example(*found) for number, found in enumerate(fitting, 1)}
+
+
+def fixed():
+    return {name: Work(commands.split("|"), targets.split(), TEXTS[text]) for name, text, targets, commands in FIXED}
+
+
+def made(number):
+    """A list of commands that is made by chance, the same for the same number, and the name of its text."""
+    chance = random.Random(number)
+    name = chance.choice(NAMES)
+    commands, was_going = [chance.choice(BOLD)], False
+    for _ in range(chance.randint(2, LONGEST) - 1):
+        is_going = chance.random() < (GOES_ON if was_going else GOES)
+        # there is something to redo only behind an undo
+        going = chance.choice([UNDOS, REDOS]) if was_going else UNDOS
+        commands.append(chance.choice(going if is_going else chance.choice([COMMANDS, BOLD])))
+        was_going = is_going
+    return name, Work(commands, [chance.choice(TARGETS)], TEXTS[name])
+
+
+def each_command(program):
+    """Each command of README's tables stands in a fixed list."""
+    named = {word.split()[0] for row in readme.rows_of("Command") for word in readme.CODE.findall(row[0])}
+    used = {command.split()[0] for work in fixed().values() for command in work.commands}
+    return readme.different("commands", sorted(used), sorted(named))
+
+
+def each_is_taken(program):
+    """Each command from which lists are made is taken by the program, and not refused on each of the texts."""
+
+    def is_done(command):
+        return any(program.alone(command, target, text)[0] in (0, 3) for target in ("-:x", "-:all") for text in TEXTS.values())
+
+    return [f"{command} is refused everywhere" for command in COMMANDS if not is_done(command)]
+
+
+def scenes():
+    found = {"each command has a list": each_command, "each command is taken": each_is_taken}
+    found |= {name: compared(beginnings(work)) for name, work in {**rows(), **fixed()}.items()}
+    found |= examples()
+    for number in range(1, LISTS + 1):
+        name, work = made(number)
+        found[f"made list {number}, {name}"] = compared([work])
+    return found
+
+
+# Each scene by its name; each gives what is wrong.
+SCENES = scenes()
+
+
+def failures(path):
+    """The names of the scenes that the program fails, each with what was wrong."""
+    program = Program(path)
+    with concurrent.futures.ThreadPoolExecutor(len(os.sched_getaffinity(0))) as pool:
+        wrong = list(pool.map(lambda scene: scene(program), SCENES.values()))
+    return ["; ".join([name, *faults]) for name, faults in zip(SCENES, wrong) if faults]
+
+
+if __name__ == "__main__":
+    sys.exit(report("sessions", SCENES, failures(pathlib.Path(sys.argv[1]).resolve())))

@@ -1,0 +1,241 @@
+#!/usr/bin/env python3
+"""Proves what programs stand on, several crates at a time, builds the programs, and puts them into bin/.
+
+    tools/build.py PROGRAM..
+
+A line tells of each crate that is done, with how many of all are done and the minutes since the start. What is proved is kept
+in the crates' folders out/, so a run that was interrupted goes on where it was, and one over unchanged sources proves nothing.
+The first proof that fails ends the run, and the last line names its crate.
+
+A crate is proved when all that it stands on is, by rt lib in a copy of the crates (tools/crates.py), of which there is one for
+each crate that is proved at a time; what came of it is put into the crate's own folder. Where several can be proved, the one
+with the most work above it comes first, and it gets the processors that the others leave. A program is built in the same way,
+by rt run, which also runs it on its own files (args, stdin): it must write what its file stdout has.
+
+JOBS in the environment is how many processors are used. Without it these are all, as far as there is memory for as many proofs.
+"""
+import contextlib
+import ctypes
+import functools
+import os
+import pathlib
+import re
+import shutil
+import signal
+import subprocess
+import sys
+import tempfile
+import time
+
+from crates import TOP, below, copy_sources, libraries_of, take_library
+
+# what a proof may take of memory, in bytes; most take less
+MEMORY = 4_000_000_000
+PROVED = re.compile(r"^logic=proved ", re.MULTILINE)
+# what rt run says when a program is proved and built
+RUNS = "rt: running out/"
+# how often it is looked whether a proof has ended, in seconds
+PAUSE = 0.2
+# by this option of prctl, PR_SET_CHILD_SUBREAPER, what an ended rt leaves behind becomes a child of this run
+ADOPTS = 36
+
+
+class NotDone(Exception):
+    """A crate that was not proved or built, with what was told of it."""
+
+    def __init__(self, crate, why, said):
+        super().__init__(f"{crate} {why}")
+        self.said = said
+
+
+class Progress:
+    """How many of the crates are done, and when the run began."""
+
+    def __init__(self, count):
+        self.count, self.done, self.start = count, 0, time.monotonic()
+
+    def tell(self, crate, what):
+        self.done += 1
+        minutes = int((time.monotonic() - self.start) / 60)
+        unit = "minute" if minutes == 1 else "minutes"
+        print(f"{crate} {what}, {self.done} of {self.count}, {minutes} {unit}", flush=True)
+
+
+def processors():
+    """How many processors are used."""
+    asked = os.environ.get("JOBS", "")
+    if asked.isdigit():
+        return max(int(asked), 1)
+    free = re.search(r"MemAvailable:\s+(\d+)", pathlib.Path("/proc/meminfo").read_text())
+    return max(min(len(os.sched_getaffinity(0)), 1024 * int(free[1]) // MEMORY), 1)
+
+
+def content(file):
+    return file.read_bytes() if file.exists() else b""
+
+
+def is_program(crate):
+    return (TOP / "crates" / crate / "src" / "main.rt").exists()
+
+
+class Proof:
+    """A crate that is being proved, or a program that is being built, in a copy of all crates."""
+
+    def __init__(self, crate, copy, jobs, libraries):
+        self.crate, self.copy, self.jobs = crate, copy, jobs
+        self.folder, self.kept = copy / "crates" / crate, TOP / "crates" / crate / "out"
+        for library in below(crate, libraries):
+            take_library(library, TOP, copy)
+        # what an earlier run kept of this crate makes this one faster
+        shutil.rmtree(self.folder / "out", ignore_errors=True)
+        if self.kept.exists():
+            self.kept.rename(self.folder / "out")
+        command = ["rt", "lib", "--jobs", str(jobs)]
+        if is_program(crate):
+            command = ["rt", "run", "--jobs", str(jobs), "--", *content(self.folder / "args").decode().splitlines()]
+        self.output, self.said = tempfile.TemporaryFile(), tempfile.TemporaryFile()
+        with tempfile.TemporaryFile() as given:
+            given.write(content(self.folder / "stdin"))
+            given.seek(0)
+            self.run = subprocess.Popen(command, cwd=self.folder, stdin=given, stdout=self.output, stderr=self.said)
+
+    def has_ended(self):
+        return self.run.poll() is not None
+
+    def texts(self):
+        """What came on standard output and on standard error."""
+        for file in (self.output, self.said):
+            file.seek(0)
+        return self.output.read(), self.said.read().decode(errors="replace")
+
+    def put_back(self):
+        """Puts what came of a proof that has ended into the crate's own folder."""
+        if (self.folder / "out").exists():
+            shutil.rmtree(self.kept, ignore_errors=True)
+            (self.folder / "out").rename(self.kept)
+
+    def finish(self):
+        """The word for what came of a proof that has ended."""
+        output, said = self.texts()
+        if is_program(self.crate):
+            self.look_at_run(output, said)
+        elif self.run.returncode:
+            raise NotDone(self.crate, "NOT PROVED", output.decode(errors="replace") + said)
+        self.put_back()
+        if is_program(self.crate):
+            install(self.crate)
+            return "built"
+        return "proved" if PROVED.search(output.decode(errors="replace") + said) else "was proved before"
+
+    def look_at_run(self, output, said):
+        """Sees that a program was built, and that it wrote what it should."""
+        if RUNS not in said:
+            raise NotDone(self.crate, "NOT BUILT", said)
+        if (output, self.run.returncode) != (content(self.folder / "stdout"), int(content(self.folder / "status") or 0)):
+            raise NotDone(self.crate, "does not write what its file stdout has, or ends with another status", said)
+
+    def end(self):
+        self.run.terminate()
+        self.run.wait()
+
+
+def install(program):
+    """Puts a built program into bin/, in two steps, so that one that runs now goes on."""
+    (TOP / "bin").mkdir(exist_ok=True)
+    made = TOP / "bin" / f"{program}.new"
+    shutil.copy(TOP / "crates" / program / "out" / program, made)
+    made.replace(TOP / "bin" / program)
+
+
+class Plan:
+    """Which crates are left, and how much work stands above each."""
+
+    def __init__(self, programs):
+        self.libraries = libraries_of()
+        unknown = [name for name in programs if name not in self.libraries]
+        if unknown or not programs:
+            raise SystemExit(f"tools/build.py PROGRAM..; crates.txt names no program {', '.join(unknown)}")
+        needed = [crate for program in programs for crate in [*below(program, self.libraries), program]]
+        self.left = list(dict.fromkeys(needed))
+        self.above = {crate: [other for other in self.left if crate in self.libraries[other]] for crate in self.left}
+        self.done = set()
+
+    @functools.cache
+    def work(self, crate):
+        """The bytes of the sources of a crate, and of the longest row of crates that follow one another above it."""
+        files = (file for part in ("src", "specs", "proofs") for file in (TOP / "crates" / crate / part).rglob("*"))
+        return sum(file.stat().st_size for file in files if file.is_file()) + max(map(self.work, self.above[crate]), default=0)
+
+    def ready(self):
+        """The crates all of whose libraries are done, the one with the most work first."""
+        ready = [crate for crate in self.left if self.done.issuperset(self.libraries[crate])]
+        return sorted(ready, key=self.work, reverse=True)
+
+
+@contextlib.contextmanager
+def copies(count):
+    """Folders beside the repository with copies of the crates, which go when the block ends."""
+    with tempfile.TemporaryDirectory(prefix=f"{TOP.name}-proofs-", dir=TOP.parent) as folder:
+        made = [pathlib.Path(folder, str(number)) for number in range(count)]
+        for copy in made:
+            copy.mkdir()
+            copy_sources(copy, without=("must-fail",))
+        yield made
+
+
+def start_ready(plan, running, free, at_once):
+    """Starts as many proofs as there are copies for. The first gets the processors that the others leave, and is given half as many
+    more as there are, since a proof has parts that one processor does alone."""
+    ready = plan.ready()
+    for others, crate in zip(range(len(ready) - 1, -1, -1), ready):
+        unused = at_once + at_once // 2 - sum(proof.jobs for proof in running)
+        if not free:
+            return
+        plan.left.remove(crate)
+        running.append(Proof(crate, free.pop(), min(max(unused - others, 1), at_once), plan.libraries))
+
+
+def prove_all(plan, at_once, progress):
+    running = []
+    with copies(at_once) as free:
+        try:
+            while plan.left or running:
+                start_ready(plan, running, free, at_once)
+                time.sleep(PAUSE)
+                for proof in [proof for proof in running if proof.has_ended()]:
+                    progress.tell(proof.crate, proof.finish())
+                    plan.done.add(proof.crate)
+                    running.remove(proof)
+                    free.append(proof.copy)
+        finally:
+            for proof in running:
+                proof.end()
+            # When rt ends, its guards end what it works with, and the copies can go when that has come about.
+            with contextlib.suppress(ChildProcessError):
+                while True:
+                    os.wait()
+            for proof in running:
+                proof.put_back()
+
+
+def main():
+    # An end that is asked for ends what was started too.
+    signal.signal(signal.SIGTERM, lambda *_: sys.exit(143))
+    ctypes.CDLL(None).prctl(ADOPTS, 1)
+    plan, at_once = Plan(sys.argv[1:]), processors()
+    progress = Progress(len(plan.left))
+    print(f"{progress.count} crates, on {at_once} processors", flush=True)
+    try:
+        prove_all(plan, at_once, progress)
+    except NotDone as failure:
+        print(failure.said, end="", file=sys.stderr)
+        print(failure, file=sys.stderr)
+        return 1
+    return 0
+
+
+if __name__ == "__main__":
+    try:
+        sys.exit(main())
+    except KeyboardInterrupt:
+        sys.exit(130)
