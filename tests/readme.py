@@ -1,9 +1,11 @@
 #!/usr/bin/env python3
-"""Runs the examples of README.md as they stand there, and compares its tables, and the picture of the crates, with the code.
+"""Runs the examples of README.md and of the other pages as they stand there, and compares README's tables, and the picture of the
+crates, with the code.
 
-A block of code in which lines begin with `$` is an example: its commands run one after the other, in a folder of the block's own
-that is empty at first, with both programs on the PATH. What a command leaves on its two outputs must be what stands below it,
-byte for byte, up to the next command. The commands in the tables need only be such as the program takes.
+The pages are README.md, those beside it and those of docs/. A block of code in which lines begin with `$` is an example: its commands
+run one after the other, in a folder of the block's own that is empty at first, with both programs on the PATH. What a command leaves
+on its two outputs must be what stands below it, byte for byte, up to the next command. A block that calls git is told as not run
+where there is no git. The commands in README's tables need only be such as the program takes.
 
     tests/readme.py BUILDOZER BUILDIFIER
 """
@@ -19,10 +21,13 @@ from files import report
 
 TOP = pathlib.Path(__file__).resolve().parent.parent
 README = (TOP / "README.md").read_text()
+# README comes first, so that its examples have the first numbers
+PAGES = sorted([*TOP.glob("*.md"), *TOP.glob("docs/*.md")], key=lambda page: (page.name != "README.md", page))
 CRATES = TOP / "crates"
 # lines with four spaces before them, and the empty ones between them
 BLOCK = re.compile(r"(?:^ {4}.*\n(?:\n+(?= {4}))?)+", re.MULTILINE)
 COMMAND = re.compile(r"^\$ (.*)\n", re.MULTILINE)
+GIT = re.compile(r"^\$ (?:.*[ ;|&(])?git ", re.MULTILINE)
 CODE = re.compile(r"`([^`]+)`")
 # a row of the code's tables of numbers
 NUMBER = re.compile(r"\b(?:\w+Fault|Refusal)::(\w+)(?: \{ \.\. \})? => (\d+),")
@@ -39,19 +44,34 @@ class Programs:
     def run(self, command, folder, text=b""):
         """The status and both outputs, as one, of a command of the shell or of a list of words."""
         words = ["sh", "-c", command] if isinstance(command, str) else command
-        environment = {**os.environ, "PATH": f"{self.path}{os.pathsep}{os.environ['PATH']}"}
         how = {"stdout": subprocess.PIPE, "stderr": subprocess.STDOUT, "timeout": 60}
-        run = subprocess.run(words, cwd=folder, env=environment, input=text, **how)
+        run = subprocess.run(words, cwd=folder, env=environment_with(self.path), input=text, **how)
         return run.returncode, run.stdout.decode(errors="replace")
 
 
-# ---- what README says
+def environment_with(path):
+    """The environment with a folder on the PATH, in which git knows of no repository and no settings of the user."""
+    rest = {name: value for name, value in os.environ.items() if not name.startswith("GIT_")}
+    settings = {"GIT_CONFIG_GLOBAL": os.devnull, "GIT_CONFIG_NOSYSTEM": "1"}
+    return {**rest, **settings, "PATH": f"{path}{os.pathsep}{os.environ['PATH']}"}
 
 
-def examples():
-    """The blocks of code that have commands, each without its margin."""
-    blocks = (re.sub(r"^ {4}", "", block, flags=re.MULTILINE) for block in BLOCK.findall(README))
+# ---- what the pages say
+
+
+def examples(page):
+    """The blocks of code of a page that have commands, each without its margin."""
+    blocks = (re.sub(r"^ {4}", "", block, flags=re.MULTILINE) for block in BLOCK.findall(page.read_text()))
     return [block for block in blocks if COMMAND.search(block)]
+
+
+def named_examples():
+    """Those of all pages, each by its page, which README's go without, and its number there."""
+    named = {}
+    for page in PAGES:
+        front = "" if page.name == "README.md" else f"{page.relative_to(TOP)} "
+        named.update({f"{front}example {number}": block for number, block in enumerate(examples(page), 1)})
+    return named
 
 
 def rows_of(header):
@@ -97,8 +117,11 @@ def attributes_of_code():
 # ---- scenes; each gives what is wrong
 
 
-def an_example(block):
+def an_example(name, block):
     def wrong(programs, folder):
+        if GIT.search(block) and not shutil.which("git"):
+            print(f"tests/readme.py: {name} was not run: there is no git", flush=True)
+            return []
         front, *pieces = COMMAND.split(block)
         faults = [f"{front!r} stands before the first command"] if front else []
         for command, wanted in zip(pieces[::2], pieces[1::2]):
@@ -162,7 +185,7 @@ def layers(programs, folder):
     return different("crates", sorted(word for word, _ in found), sorted(uses)) + wrong
 
 
-SCENES = {f"example {number}": an_example(block) for number, block in enumerate(examples(), 1)}
+SCENES = {name: an_example(name, block) for name, block in named_examples().items()}
 SCENES |= {scene.__name__.replace("_", " "): scene for scene in (refusals, attributes, commands, examples_of_commands, layers)}
 
 
