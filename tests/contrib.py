@@ -1,0 +1,202 @@
+#!/usr/bin/env python3
+"""Tries what contrib/ has for git, pre-commit, CI and editors, with the built programs, and looks whether the pictures are up to date.
+
+The hooks and the script of CI run in real repositories in a folder of their own; Vim, Emacs and Kakoune run without a screen. Each
+is told as not run where the tool isn't there, and is then not counted as failed.
+
+    tests/contrib.py BUILDOZER BUILDIFIER
+"""
+import json
+import pathlib
+import shutil
+import subprocess
+import sys
+import tempfile
+
+from files import report
+from readme import TOP, Programs, environment_with
+
+CONTRIB = TOP / "contrib"
+ODD = 'f( name="x" )\n'
+EVEN = 'f(name = "x")\n'
+REFUSED = "f(\n"
+# who commits, and where pre-commit keeps what it knows of hooks
+IDENTITY = {f"GIT_{who}_{what}": text for who in ("AUTHOR", "COMMITTER") for what, text in (("NAME", "a"), ("EMAIL", "a@b"))}
+
+
+class Repository:
+    """A folder with a repository of git, with both programs on the PATH."""
+
+    def __init__(self, programs, path):
+        self.path = pathlib.Path(path)
+        self.environment = {**environment_with(programs.path), **IDENTITY, "PRE_COMMIT_HOME": str(programs.path / "kept")}
+        self.wrong = []
+        self.run("git", "init", "--quiet")
+
+    def run(self, *words):
+        """The status and both outputs, as one, of a command."""
+        how = {"stdin": subprocess.DEVNULL, "stdout": subprocess.PIPE, "stderr": subprocess.STDOUT, "timeout": 60}
+        run = subprocess.run(list(map(str, words)), cwd=self.path, env=self.environment, **how)
+        return run.returncode, run.stdout.decode(errors="replace")
+
+    def put(self, name, text):
+        file = self.path / name
+        file.parent.mkdir(parents=True, exist_ok=True)
+        file.write_text(text)
+
+    def add(self, name, text):
+        self.put(name, text)
+        self.run("git", "add", name)
+
+    def wants(self, what, is_, wanted):
+        if is_ != wanted:
+            self.wrong.append(f"{what}: {is_!r}, and not {wanted!r}")
+
+    def commits(self, what, status, *lines):
+        """A commit ends so, and these lines are among those that it leaves."""
+        ended, left = self.run("git", "commit", "--quiet", "--message=m")
+        self.wants(what, ended, status)
+        self.wrong += [f"{what}: {left!r} lacks {line!r}" for line in lines if line not in left.splitlines()]
+
+
+# ---- scenes; each gives what is wrong
+
+
+def git_hook(programs, folder):
+    """The hook looks at what is to be committed, whatever stands in the folder, and changes nothing."""
+    here = Repository(programs, folder)
+    shutil.copy(CONTRIB / "git" / "pre-commit", here.path / ".git" / "hooks")
+    here.add("other", ODD)
+    here.commits("a commit without BUILD files", 0)
+    here.add("a b/BUILD", ODD)
+    here.put("a b/BUILD", EVEN)
+    here.commits("an odd file, mended in the folder alone", 1, "./a b/BUILD # reformat")
+    here.add("a b/BUILD", EVEN)
+    here.put("a b/BUILD", ODD)
+    here.commits("a formatted file, odd in the folder alone", 0)
+    here.wants("the file", (here.path / "a b/BUILD").read_text(), ODD)
+    here.add("c/BUILD.bazel", REFUSED)
+    here.commits("a text that is refused", 1, "./c/BUILD.bazel:2:1: Unexpected")
+    return here.wrong
+
+
+def pre_commit(programs, folder):
+    """pre-commit finds the hooks and formats; a second commit passes."""
+    hooks = pathlib.Path(folder, "hooks")
+    hooks.mkdir()
+    kept = Repository(programs, hooks)
+    kept.add(".pre-commit-hooks.yaml", (TOP / ".pre-commit-hooks.yaml").read_text())
+    kept.commits("the hooks", 0)
+    commit = kept.run("git", "rev-parse", "HEAD")[1].strip()
+    here = Repository(programs, pathlib.Path(folder))
+    settings = f"repos:\n- repo: {hooks}\n  rev: {commit}\n  hooks:\n  - id: buildifier\n  - id: buildifier-check\n"
+    here.add(".pre-commit-config.yaml", settings)
+    here.run("pre-commit", "install")
+    here.add("a/BUILD", ODD)
+    here.add("BUILDER", ODD)
+    here.commits("an odd file", 1, "- files were modified by this hook")
+    here.wants("the file", (here.path / "a/BUILD").read_text(), EVEN)
+    here.run("git", "add", "a/BUILD")
+    here.commits("the formatted file", 0)
+    return here.wrong
+
+
+def ci_script(programs, folder):
+    """The status is buildifier's, whatever xargs makes of it, and no file is changed."""
+    here = Repository(programs, folder)
+    script = CONTRIB / "ci" / "check-build-files.sh"
+    here.wants("no files", here.run(script), (0, ""))
+    here.add("a/BUILD", EVEN)
+    here.put("not added/BUILD", ODD)
+    here.wants("a formatted file", here.run(script), (0, ""))
+    here.commits("a commit", 0)
+    here.add("b c/BUILD.bazel", ODD)
+    here.wants("an odd file", here.run(script), (4, "b c/BUILD.bazel # reformat\n"))
+    here.wants("the file", (here.path / "b c/BUILD.bazel").read_text(), ODD)
+    here.add("c/BUILD", REFUSED)
+    here.wants("a text that is refused", here.run(script)[0], 1)
+    here.add("a/BUILD", EVEN + "\n# d\n")
+    here.wants("what differs", here.run(script, "HEAD")[0], 1)
+    (here.path / "a/BUILD").unlink()
+    here.wants("a file that is not there", here.run(script)[0], 3)
+    here.wants("what differs and is there", here.run(script, "HEAD")[0], 1)
+    here.wants("no such commit", here.run(script, "none")[0], 2)
+    return here.wrong
+
+
+def on_save(*commands):
+    """A scene in which an editor writes a file that it formats, and one that is refused."""
+
+    def wrong(programs, folder):
+        faults = []
+        for name, text, wanted in (("BUILD", ODD, EVEN), ("BUILD.bazel", REFUSED, REFUSED), ("other", ODD, ODD)):
+            file = pathlib.Path(folder, name)
+            file.write_text(text)
+            words = [word.replace("CONTRIB", str(CONTRIB)).replace("FILE", name) for word in commands]
+            try:
+                programs.run(words, folder)
+            except subprocess.TimeoutExpired:
+                faults.append(f"{name}: the editor does not end")
+            if file.read_text() != wanted:
+                faults.append(f"{name}: {file.read_text()!r}, and not {wanted!r}")
+        return faults
+
+    return wrong
+
+
+def json_files(programs, folder):
+    """The description of the extension for VS Code is JSON, and names a file that is there."""
+    described = json.loads((CONTRIB / "vscode" / "package.json").read_text())
+    return [] if (CONTRIB / "vscode" / described["main"]).exists() else [f"there is no {described['main']}"]
+
+
+def pictures(programs, folder):
+    status, left = programs.run([str(TOP / "tools" / "pictures.py"), "--check"], folder)
+    return [left] if status else []
+
+
+VIM = ("vim", "-N", "-u", "NONE", "-i", "NONE", "-es", "-S", "CONTRIB/vim/buildifier.vim", "-c", "edit FILE", "-c", "write", "-c", "qa!")
+EMACS = '(progn (find-file "FILE") (set-buffer-modified-p t) (save-buffer))'
+KAKOUNE = 'source "%val{runtime}/rc/tools/format.kak"; source "CONTRIB/kakoune/buildifier.kak"; edit FILE; write; kill!'
+
+# each with the tool that it needs
+NEEDS = {
+    "git hook": ("git", git_hook),
+    "pre-commit": ("pre-commit", pre_commit),
+    "script of CI": ("git", ci_script),
+    "Vim": ("vim", on_save(*VIM)),
+    "Emacs": ("emacs", on_save("emacs", "-Q", "--batch", "-l", "CONTRIB/emacs/buildifier.el", "--eval", EMACS)),
+    "Kakoune": ("kak", on_save("kak", "-n", "-ui", "dummy", "-e", KAKOUNE)),
+    "extension for VS Code": ("sh", json_files),
+    "pictures": ("sh", pictures),
+}
+
+
+def where_there(name, tool, scene):
+    """The scene, or where the tool isn't there one that tells so and finds nothing wrong."""
+
+    def wrong(programs, folder):
+        if shutil.which(tool):
+            return scene(programs, folder)
+        print(f"tests/contrib.py: {name} was not run: there is no {tool}", flush=True)
+        return []
+
+    return wrong
+
+
+SCENES = {name: where_there(name, tool, scene) for name, (tool, scene) in NEEDS.items()}
+
+
+def failures(*built):
+    """The names of the scenes that fail, each with what was wrong."""
+    failed = []
+    for name, scene in SCENES.items():
+        with tempfile.TemporaryDirectory() as path, tempfile.TemporaryDirectory() as folder:
+            wrong = scene(Programs(path, built), folder)
+        if wrong:
+            failed.append("; ".join([name, *wrong]))
+    return failed
+
+
+if __name__ == "__main__":
+    sys.exit(report("contrib", SCENES, failures(*(pathlib.Path(word).resolve() for word in sys.argv[1:]))))
