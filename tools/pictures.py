@@ -1,0 +1,296 @@
+#!/usr/bin/env python3
+"""Draws docs/layers.svg, the crates with the libraries that they stand on, from crates.txt; and docs/history.svg, a history of texts.
+
+    tools/pictures.py [--check]
+
+With --check nothing is written: the status is 1 where a picture is not the one that would be drawn, and a line names it.
+
+In the first picture each crate stands above all that it stands on. A line goes to a library only where no other line leads there
+through a library in between. A line that passes by rows has a bend in each of them, and bends and crates are brought into an order in
+which few lines cross. Below a crate's name stand the crates of others that it names.
+"""
+import sys
+from html import escape
+from xml.etree import ElementTree
+
+from crates import TOP, below, libraries_of
+
+PAPER, INK, FAINT, LINE = "#fbfaf7", "#222222", "#6b6b6b", "#8a93a0"
+LIBRARY, PROGRAM, MARKED = "#e4edf7", "#f6e6cf", "#cfe8d5"
+WIDE, HIGH, ACROSS, DOWN, MARGIN = 104, 34, 20, 40, 24
+BEND = 10
+ROUNDS = 40
+
+
+# ---- an SVG, as a list of its elements
+
+
+def shape(tag, **attributes):
+    """An element; a name's underscore stands for a dash."""
+    return f"<{tag} " + " ".join(f'{name.replace("_", "-")}="{value}"' for name, value in attributes.items()) + "/>"
+
+
+def words(x, y, text, size=13, fill=INK, anchor="middle", **further):
+    """A line of text at a place."""
+    attributes = {"x": x, "y": y, "font_size": size, "fill": fill, "text_anchor": anchor, **further}
+    return shape("text", **attributes)[:-2] + f">{escape(text)}</text>"
+
+
+def box(x, y, width, height, fill, stroke=LINE, **further):
+    return shape("rect", x=x, y=y, width=width, height=height, rx=5, fill=fill, stroke=stroke, **further)
+
+
+def picture(width, height, title, elements):
+    """The whole file: on paper of its own, so that it reads on a dark page too."""
+    front = f'<svg xmlns="http://www.w3.org/2000/svg" viewBox="0 0 {width} {height}" width="{width}" height="{height}"'
+    head = [f'{front} font-family="Helvetica, Arial, sans-serif" role="img">', f"<title>{escape(title)}</title>"]
+    paper = shape("rect", width=width, height=height, rx=8, fill=PAPER)
+    return "\n".join([*head, paper, *elements, "</svg>", ""])
+
+
+# ---- the layers
+
+
+def direct(libraries):
+    """For each crate the libraries that no other one of its libraries stands on."""
+    under = {name: set(below(name, libraries)) for name in libraries}
+    return {name: [use for use in uses if not any(use in under[other] for other in uses)] for name, uses in libraries.items()}
+
+
+def rows_of(uses):
+    """The row of each crate, from 0 at the bottom: as low as what it stands on lets it be; where more stand on it than it stands
+    on, right below the lowest of these."""
+    row = {}
+    for name in uses:
+        row[name] = max((row[use] + 1 for use in uses[name]), default=0)
+    for name in reversed(list(uses)):
+        users = [row[user] for user, its in uses.items() if name in its]
+        if len(users) > len(uses[name]):
+            row[name] = min(users) - 1
+    return row
+
+
+def chains(uses, row):
+    """Each line as a list of what it goes through, from above: a crate, a bend in each row between, and a crate."""
+    lines = [(name, use) for name in uses for use in uses[name]]
+    return [[name, *((name, use, at) for at in range(row[name] - 1, row[use], -1)), use] for name, use in lines]
+
+
+def middle(one, beside, place):
+    """Where the neighbours of one stand in the mean, or itself where it has none."""
+    there = [place[other] for other in beside.get(one, [])]
+    return sum(there) / len(there) if there else place[one]
+
+
+def crossings(levels, upper):
+    """How many pairs of lines cross, between neighbouring rows."""
+    count = 0
+    for level, over in zip(levels, levels[1:]):
+        place = {one: at for at, one in enumerate(over)}
+        ends = [place[user] for one in level for user in sorted(upper.get(one, []), key=place.get)]
+        count += sum(left > right for at, left in enumerate(ends) for right in ends[at + 1 :])
+    return count
+
+
+def ordered(levels, lower, upper):
+    """The rows, each in the order of the means of its neighbours, up and down by turns; of all rounds the one with the fewest
+    crossings."""
+    best, fewest = levels, crossings(levels, upper)
+    for turn in range(ROUNDS):
+        levels = list(levels)
+        beside, steps = (lower, range(1, len(levels))) if turn % 2 else (upper, range(len(levels) - 2, -1, -1))
+        for at in steps:
+            place = {one: number for level in levels for number, one in enumerate(level)}
+            levels[at] = sorted(levels[at], key=lambda one: (middle(one, beside, place), place[one]))
+        count = crossings(levels, upper)
+        if count < fewest:
+            best, fewest = levels, count
+    return best
+
+
+def width_of(one):
+    return WIDE if isinstance(one, str) else BEND
+
+
+def spread(level, wanted):
+    """Places of the ones of a row, in its order and apart, near the wanted ones: from the left, from the right, and their mean."""
+    gaps = [(width_of(one) + width_of(other)) / 2 + ACROSS for one, other in zip(level, level[1:])]
+    left, right = [wanted[level[0]]], [wanted[level[-1]]]
+    for one, gap in zip(level[1:], gaps):
+        left.append(max(wanted[one], left[-1] + gap))
+    for one, gap in zip(reversed(level[:-1]), reversed(gaps)):
+        right.append(min(wanted[one], right[-1] - gap))
+    return {one: (low + high) / 2 for one, low, high in zip(level, left, reversed(right))}
+
+
+def places(levels, lower, upper):
+    """The middle of each one, from left to right."""
+    across = {}
+    for level in levels:
+        across.update(spread(level, {one: at * (WIDE + ACROSS) for at, one in enumerate(level)}))
+    for turn in range(ROUNDS):
+        for level in levels if turn % 2 else reversed(levels):
+            near = {one: [*lower.get(one, []), *upper.get(one, [])] for one in level}
+            across.update(spread(level, {one: middle(one, near, across) for one in level}))
+    least = min(across[one] - width_of(one) / 2 for one in across)
+    return {one: round(at - least + MARGIN, 1) for one, at in across.items()}
+
+
+def curve(points):
+    """A line through the points, upright in each."""
+    drawn = "M {} {}".format(*points[0])
+    for (x, y), (to_x, to_y) in zip(points, points[1:]):
+        between = round((y + to_y) / 2, 1)
+        drawn += f" C {x} {between} {to_x} {between} {to_x} {to_y}"
+    return shape("path", d=drawn, fill="none", stroke=LINE, stroke_width=1.3)
+
+
+def line_through(chain, across, height_of):
+    """A line from the bottom of a crate, through its bends, to the top of another one."""
+    first, *bends, last = chain
+    points = [(across[first], height_of(first) + HIGH)]
+    for bend in bends:
+        points += [(across[bend], height_of(bend)), (across[bend], height_of(bend) + HIGH)]
+    return curve([*points, (across[last], height_of(last))])
+
+
+def crate(name, x, y, others, is_program):
+    """A crate, with those of others that it names below its own name."""
+    drawn = [box(round(x - WIDE / 2, 1), y, WIDE, HIGH, PROGRAM if is_program else LIBRARY)]
+    drawn.append(words(x, y + (15 if others else 21), name))
+    if others:
+        drawn.append(words(x, y + 28, " ".join(others), size=9, fill=FAINT))
+    return drawn
+
+
+def named_by_others():
+    """For each crate what it names that is no crate of the repository, nor a part of what it names (as `regex_vm` is of `regex`)."""
+    ours, found = libraries_of(), {}
+    for line in (TOP / "crates.txt").read_text().splitlines():
+        name, _, uses = line.partition("#")[0].partition(":")
+        others = [use for use in uses.split() if use not in ours]
+        found[name.strip()] = [use for use in others if not any(use.startswith(other + "_") for other in others)]
+    return found
+
+
+def layers():
+    """The picture of the crates."""
+    uses, others = direct(libraries_of()), named_by_others()
+    row = rows_of(uses)
+    lines = chains(uses, row)
+    levels = [[name for name in uses if row[name] == at] for at in range(max(row.values()) + 1)]
+    lower, upper = {}, {}
+    for chain in lines:
+        for one in chain[1:-1]:
+            levels[one[2]].append(one)
+        for one, under in zip(chain, chain[1:]):
+            lower.setdefault(one, []).append(under)
+            upper.setdefault(under, []).append(one)
+    levels = ordered(levels, lower, upper)
+    across = places(levels, lower, upper)
+
+    def height_of(one):
+        at = row[one] if isinstance(one, str) else one[2]
+        return MARGIN + (len(levels) - 1 - at) * (HIGH + DOWN)
+
+    used = {use for its in uses.values() for use in its}
+    drawn = [line_through(chain, across, height_of) for chain in lines]
+    for name in uses:
+        drawn += crate(name, across[name], height_of(name), others[name], name not in used)
+    width = round(max(across[one] + width_of(one) / 2 for one in across) + MARGIN)
+    return picture(width, len(levels) * (HIGH + DOWN) - DOWN + 2 * MARGIN, "The crates and what they stand on", drawn)
+
+
+# ---- the history
+
+
+# how far apart the texts of a history stand
+STRIDE = 186
+
+
+def a_text(number, x, y, is_present):
+    """A text of a history: the present one is the tree that the session keeps, the others are kept as steps only."""
+    if is_present:
+        drawn = [box(x - 40, y, 80, 44, MARKED, stroke="#2f7d4a", stroke_width=2)]
+        drawn += [words(x, y + 18, f"text {number}"), words(x, y + 34, "the tree", size=11, fill=FAINT)]
+        drawn.append(shape("path", d=f"M {x - 7} {y - 16} L {x + 7} {y - 16} L {x} {y - 4} Z", fill="#2f7d4a"))
+        return [*drawn, words(x, y - 21, "cursor", size=11, fill="#2f7d4a")]
+    drawn = [box(x - 40, y, 80, 44, PAPER, stroke_dasharray="4 3")]
+    return [*drawn, words(x, y + 26, f"text {number}", fill=FAINT)]
+
+
+def a_step(number, x, y, holds, is_marked):
+    """A step between two texts, with the side that it holds."""
+    drawn = [box(x - 34, y + 4, 68, 36, PROGRAM if is_marked else LIBRARY, stroke="#b4762a" if is_marked else LINE)]
+    drawn.append(words(x, y + 19, f"step {number}", size=12))
+    return [*drawn, words(x, y + 33, holds, size=9, fill=FAINT)]
+
+
+def a_history(y, title, remark, texts, cursor, marked):
+    """A row: its title, the texts with the steps between them, and a remark below."""
+    drawn = [words(MARGIN, y, title, size=14, anchor="start", font_weight="bold")]
+    top, left = y + 46, MARGIN + 44
+    drawn.append(shape("path", d=f"M {left} {top + 22} H {left + (texts - 1) * STRIDE}", stroke=LINE, stroke_width=1.3))
+    for number in range(texts):
+        drawn += a_text(number, left + number * STRIDE, top, number == cursor)
+    for number in range(1, texts):
+        side = "earlier parts" if number <= cursor else "later parts"
+        drawn += a_step(number, left + number * STRIDE - STRIDE // 2, top, side, number == marked)
+    return [*drawn, *(words(MARGIN, top + 66 + 17 * at, line, size=12, fill=FAINT, anchor="start") for at, line in enumerate(remark))]
+
+
+HISTORIES = [
+    (
+        "After three commands, each of which changed the text",
+        [
+            "The session keeps one tree, that of the text at the cursor. A step holds the parts in which its two texts differ:",
+            "those of the earlier text where it stands before the cursor, those of the later one where it stands after it.",
+        ],
+        (4, 3, None),
+    ),
+    (
+        "After undo",
+        [
+            "The parts that step 3 held and those at their places in the tree have changed sides. The tree is that of text 2",
+            "again, byte for byte, and step 3 holds what redo needs. undo 2 goes on with step 2 in the same way.",
+        ],
+        (4, 2, 3),
+    ),
+    (
+        "After another command",
+        [
+            "The steps after the cursor are gone, so redo has nothing to go to. A new step holds the parts of text 2 that",
+            "differ in the new text 3. A command that prints, or changes nothing, moves nothing.",
+        ],
+        (4, 3, 3),
+    ),
+]
+
+
+def history():
+    """The picture of a history, before and after an undo."""
+    drawn = []
+    for at, (title, remark, (texts, cursor, marked)) in enumerate(HISTORIES):
+        drawn += a_history(MARGIN + 14 + at * 172, title, remark, texts, cursor, marked)
+    return picture(760, 172 * len(HISTORIES) + MARGIN, "A history of texts, its cursor, its tree and its steps", drawn)
+
+
+PICTURES = {"docs/layers.svg": layers, "docs/history.svg": history}
+
+
+def main(checks):
+    """Writes the pictures, or looks whether they are as they would be written."""
+    wrong = False
+    for name, draw in PICTURES.items():
+        drawn, file = draw(), TOP / name
+        ElementTree.fromstring(drawn)  # what is no XML is not written
+        if not checks:
+            file.write_text(drawn)
+        elif not file.exists() or file.read_text() != drawn:
+            print(f"{name} is not up to date: call tools/pictures.py")
+            wrong = True
+    return 1 if wrong else 0
+
+
+if __name__ == "__main__":
+    sys.exit(main(sys.argv[1:] == ["--check"]))
