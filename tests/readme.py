@@ -38,8 +38,9 @@ class Programs:
 
     def __init__(self, path, built):
         self.path = pathlib.Path(path)
-        for program in built:
-            shutil.copy(program, self.path)
+        for program in map(pathlib.Path, built):
+            # a link, since they are large and each scene has such a folder
+            (self.path / program.name).symlink_to(program.resolve())
 
     def run(self, command, folder, text=b""):
         """The status and both outputs, as one, of a command of the shell or of a list of words."""
