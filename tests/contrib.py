@@ -17,8 +17,8 @@ from files import report
 from readme import TOP, Programs, environment_with
 
 CONTRIB = TOP / "contrib"
-ODD = 'f( name="x" )\n'
-EVEN = 'f(name = "x")\n'
+ODD = 'f( name="\u00e9" )\n'
+EVEN = 'f(name = "\u00e9")\n'
 REFUSED = "f(\n"
 # who commits, and where pre-commit keeps what it knows of hooks
 IDENTITY = {f"GIT_{who}_{what}": text for who in ("AUTHOR", "COMMITTER") for what, text in (("NAME", "a"), ("EMAIL", "a@b"))}
@@ -42,7 +42,7 @@ class Repository:
     def put(self, name, text):
         file = self.path / name
         file.parent.mkdir(parents=True, exist_ok=True)
-        file.write_text(text)
+        file.write_text(text, encoding="utf-8")
 
     def add(self, name, text):
         self.put(name, text)
@@ -74,7 +74,7 @@ def git_hook(programs, folder):
     here.add("a b/BUILD", EVEN)
     here.put("a b/BUILD", ODD)
     here.commits("a formatted file, odd in the folder alone", 0)
-    here.wants("the file", (here.path / "a b/BUILD").read_text(), ODD)
+    here.wants("the file", (here.path / "a b/BUILD").read_text(encoding="utf-8"), ODD)
     here.add("c/BUILD.bazel", REFUSED)
     here.commits("a text that is refused", 1, "./c/BUILD.bazel:2:1: Unexpected")
     return here.wrong
@@ -95,7 +95,7 @@ def pre_commit(programs, folder):
     here.add("a/BUILD", ODD)
     here.add("BUILDER", ODD)
     here.commits("an odd file", 1, "- files were modified by this hook")
-    here.wants("the file", (here.path / "a/BUILD").read_text(), EVEN)
+    here.wants("the file", (here.path / "a/BUILD").read_text(encoding="utf-8"), EVEN)
     here.run("git", "add", "a/BUILD")
     here.commits("the formatted file", 0)
     return here.wrong
@@ -112,7 +112,7 @@ def ci_script(programs, folder):
     here.commits("a commit", 0)
     here.add("b c/BUILD.bazel", ODD)
     here.wants("an odd file", here.run(script), (4, "b c/BUILD.bazel # reformat\n"))
-    here.wants("the file", (here.path / "b c/BUILD.bazel").read_text(), ODD)
+    here.wants("the file", (here.path / "b c/BUILD.bazel").read_text(encoding="utf-8"), ODD)
     here.add("c/BUILD", REFUSED)
     here.wants("a text that is refused", here.run(script)[0], 1)
     here.add("a/BUILD", EVEN + "\n# d\n")
@@ -131,23 +131,47 @@ def on_save(*commands):
         faults = []
         for name, text, wanted in (("BUILD", ODD, EVEN), ("BUILD.bazel", REFUSED, REFUSED), ("other", ODD, ODD)):
             file = pathlib.Path(folder, name)
-            file.write_text(text)
+            file.write_text(text, encoding="utf-8")
             words = [word.replace("CONTRIB", str(CONTRIB)).replace("FILE", name) for word in commands]
             try:
                 programs.run(words, folder)
             except subprocess.TimeoutExpired:
                 faults.append(f"{name}: the editor does not end")
-            if file.read_text() != wanted:
-                faults.append(f"{name}: {file.read_text()!r}, and not {wanted!r}")
+            left = file.read_text(encoding="utf-8")
+            if left != wanted:
+                faults.append(f"{name}: {left!r}, and not {wanted!r}")
         return faults
 
     return wrong
 
 
-def json_files(programs, folder):
-    """The description of the extension for VS Code is JSON, and names a file that is there."""
+# what stands for VS Code: it keeps what formats and what is told, and hands a text to it
+VSCODE = """
+const module_ = require("module"), load = module_._load, told = [];
+let provider;
+const vscode = {
+  Range: class {},
+  TextEdit: { replace: (range, text) => text },
+  window: { showWarningMessage: (line) => told.push(line) },
+  languages: { registerDocumentFormattingEditProvider: (language, given) => { provider = given; } },
+};
+module_._load = (name, ...rest) => (name === "vscode" ? vscode : load(name, ...rest));
+require(process.argv[1]).activate({ subscriptions: [] });
+const document_ = { getText: () => process.argv[2], positionAt: (at) => at };
+provider.provideDocumentFormattingEdits(document_).then((edits) => console.log(JSON.stringify([edits, told])));
+"""
+
+
+def extension(programs, folder):
+    """The extension for VS Code is described in JSON, and gives the formatted text, or tells why not."""
     described = json.loads((CONTRIB / "vscode" / "package.json").read_text())
-    return [] if (CONTRIB / "vscode" / described["main"]).exists() else [f"there is no {described['main']}"]
+    main = str(CONTRIB / "vscode" / described["main"])
+    faults = []
+    for text, wanted in ((ODD, [[EVEN], []]), (REFUSED, [[], ["buildifier: <stdin>:2:1: Unexpected"]])):
+        left = programs.run(["node", "-e", VSCODE, main, text], folder)[1]
+        if left != json.dumps(wanted, separators=(",", ":"), ensure_ascii=False) + "\n":
+            faults.append(f"{text!r}: {left!r}, and not {wanted}")
+    return faults
 
 
 def pictures(programs, folder):
@@ -155,7 +179,7 @@ def pictures(programs, folder):
     return [left] if status else []
 
 
-VIM = ("vim", "-N", "-u", "NONE", "-i", "NONE", "-es", "-S", "CONTRIB/vim/buildifier.vim", "-c", "edit FILE", "-c", "write", "-c", "qa!")
+VIM = ("-u", "NONE", "-i", "NONE", "-es", "-S", "CONTRIB/vim/buildifier.vim", "-c", "edit FILE", "-c", "write", "-c", "qa!")
 EMACS = '(progn (find-file "FILE") (set-buffer-modified-p t) (save-buffer))'
 KAKOUNE = 'source "%val{runtime}/rc/tools/format.kak"; source "CONTRIB/kakoune/buildifier.kak"; edit FILE; write; kill!'
 
@@ -164,10 +188,11 @@ NEEDS = {
     "git hook": ("git", git_hook),
     "pre-commit": ("pre-commit", pre_commit),
     "script of CI": ("git", ci_script),
-    "Vim": ("vim", on_save(*VIM)),
+    "Vim": ("vim", on_save("vim", "-N", *VIM)),
+    "Neovim": ("nvim", on_save("nvim", "--headless", *VIM)),
     "Emacs": ("emacs", on_save("emacs", "-Q", "--batch", "-l", "CONTRIB/emacs/buildifier.el", "--eval", EMACS)),
     "Kakoune": ("kak", on_save("kak", "-n", "-ui", "dummy", "-e", KAKOUNE)),
-    "extension for VS Code": ("sh", json_files),
+    "extension for VS Code": ("node", extension),
     "pictures": ("sh", pictures),
 }
 
