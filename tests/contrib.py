@@ -181,7 +181,8 @@ def pictures(programs, folder):
 
 VIM = ("-u", "NONE", "-i", "NONE", "-es", "-S", "CONTRIB/vim/buildifier.vim", "-c", "edit FILE", "-c", "write", "-c", "qa!")
 EMACS = '(progn (find-file "FILE") (set-buffer-modified-p t) (save-buffer))'
-KAKOUNE = 'source "%val{runtime}/rc/tools/format.kak"; source "CONTRIB/kakoune/buildifier.kak"; edit FILE; write; kill!'
+# after a fault Kakoune would wait for more to do
+KAKOUNE = 'try %{ source "%val{runtime}/rc/tools/format.kak"; source "CONTRIB/kakoune/buildifier.kak"; edit FILE; write }; kill!'
 
 # each with the tool that it needs
 NEEDS = {
