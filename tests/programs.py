@@ -8,7 +8,8 @@ streams, and passes its status on. A line for each failure; the last one is 'N p
 
 With a command after it, as 'tests/programs.py rt ci', that runs too, and the last line adds its last line's numbers; the
 programs that it built then run over real files: buildifier over single ones (tests/files.py), buildozer over packages
-(tests/workspace.py), and both through the examples of README.md (tests/readme.py); buildozer beside a plain list of texts
+(tests/workspace.py), and both through the examples of README.md and the pages beside it (tests/readme.py), and through what contrib/ has for git, CI and
+editors (tests/contrib.py); buildozer beside a plain list of texts
 (tests/sessions.py); and buildozer and cases with memory refused at each request in turn (tests/memory.py). The first crate that
 it reports as not proved ends it, as soon as the proofs that run at that moment have ended; then comes once more what was
 reported of it. The line before the last one says how long the whole took, on how many processors, and how much of their time
@@ -24,6 +25,7 @@ import sys
 import tempfile
 import time
 
+import contrib
 import files
 import memory
 import readme
@@ -46,7 +48,8 @@ REPEATED = 20
 SCRIPTS = [
     ("runs over real files", files, ["buildifier"]),
     ("runs over packages", workspace, ["buildozer"]),
-    ("examples of README", readme, ["buildozer", "buildifier"]),
+    ("examples of the pages", readme, ["buildozer", "buildifier"]),
+    ("what contrib has", contrib, ["buildozer", "buildifier"]),
     ("runs beside a plain list of texts", sessions, ["buildozer"]),
     ("runs with memory refused", memory, ["buildozer", "cases"]),
 ]
