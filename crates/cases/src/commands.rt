@@ -1,8 +1,7 @@
 //! Commands, and the words that they are made of.
-use crate::case::{Case, CaseFault};
-use crate::page::Page;
 use bz_items::{Memory, Text};
 use bz_words::{Command, CommandFault, is_identifier, is_kind, quoted, read_words};
+use sheets::{Case, CaseFault, Page};
 use std::alloc::{AllocError, Global};
 
 /// What is asked of a text.

@@ -1,10 +1,9 @@
 //! Values that no text has: each part with every comment that it can have.
-use crate::case::{Case, CaseFault};
-use crate::page::Page;
 use crate::values::show_form;
 use bz_items::{Items, Memory, Text};
 use bz_tree::{Class, Kind};
 use bz_value::{Comments, Expr, Form, Item, Seq, Token, push_others};
+use sheets::{Case, CaseFault, Page};
 use std::alloc::Global;
 
 /// Writes a copy of a form that has the comments of the first text but for that of its first line above, and the second text

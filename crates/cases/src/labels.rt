@@ -1,11 +1,10 @@
 //! Labels, targets, the order of keys and the tables of attributes.
-use crate::case::{Case, CaseFault};
-use crate::page::Page;
 use bz_items::Memory;
 use bz_label::{
     Label, LabelFault, Target, TargetFault, Which, is_label_attribute, is_list_attribute,
     is_sorted, key_cmp, priority, same, shorten, shorten_repeat,
 };
+use sheets::{Case, CaseFault, Page};
 use std::alloc::{AllocError, Global};
 
 /// What is asked of a text.

@@ -1,11 +1,10 @@
 //! The laws: functions that do nothing, whose contracts say something of all texts, labels, trees or values. A call shows
 //! that what a law requires can be met.
-use crate::case::{Case, CaseFault};
-use crate::page::Page;
 use bz_edit::advance;
 use bz_journal::{Session, history_kept, session_holds};
 use bz_label::{Label, LabelFault, Target, TargetFault, shorten, shorten_repeat};
 use bz_tree::{ReadFault, parse};
+use sheets::{Case, CaseFault, Page};
 use std::alloc::Global;
 
 /// Calls each law, and writes whether the values were there of which some say something.
@@ -14,7 +13,7 @@ pub(crate) fn answer(case: &Case, page: &mut Page) -> Result<(), CaseFault> {
     call_values();
     call_words();
     call_effects();
-    call_programs();
+    call_histories();
     let answer: &[u8] = if are_met(case.alloc) {
         b"called"
     } else {
@@ -101,7 +100,7 @@ fn call_effects() {
     bz_command::comments_stay();
 }
 
-fn call_programs() {
+fn call_histories() {
     bz_files::worked_folders();
     bz_files::folder_reads_back();
     bz_files::other_files_stay();
@@ -111,9 +110,6 @@ fn call_programs() {
     bz_trail::laws::small_steps();
     bz_journal::worked_histories();
     bz_journal::formatted_once();
-    bz_engine::worked_refusals();
-    bz_tools::worked_formats();
-    bz_tools::whole_runs_are_exact();
 }
 
 /// Calls the laws that speak of values. Whether each value was there.

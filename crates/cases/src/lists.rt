@@ -1,7 +1,6 @@
 //! Lists: items that are exchanged for others, and given back.
-use crate::case::{Case, CaseFault};
-use crate::page::Page;
 use bz_items::{Items, Memory};
+use sheets::{Case, CaseFault, Page};
 use std::alloc::Global;
 
 /// Writes the list of the bytes of the first text, in which as many as the argument says, from the place that it says on,

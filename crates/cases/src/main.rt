@@ -3,22 +3,8 @@
 //!
 //! Standard input is a sheet of cases, which is copied to standard output with the answers put in: the file `stdin` beside
 //! `src` holds the cases, and `stdout` the same sheet with the answers that are wanted, worked out by hand, so it can be
-//! read and checked by eye alone. `rt run < stdin | diff - stdout` compares them. The beginning of a line says what it is:
-//!
-//! - nothing or `#`: a remark;
-//! - `>`: a case, with its text; the answer comes behind the last line of the case;
-//! - `&`: a further text of the case; right below a question, a text that goes with each of its cases, behind their own;
-//! - `|`: the next line of the text above;
-//! - anything else: a question, which is asked of all cases below it, up to the next one, and behind a space its argument.
-//!
-//! Behind a mark stands a space and then the text; a mark alone is an empty line. The lines of a text are joined by
-//! newlines, so that a text ends in a newline where its last line is `|` alone. What cannot be seen or written stands
-//! between two backquotes, on the sheet and in answers: `n`, `r`, `t` and `s` are a newline, a carriage return, a tab, and a
-//! space at the end of a line, `xFF` is a byte and `uFEFF` a character by their numbers in hexadecimal, `197*TEXT` the
-//! text 197 times, and nothing at all a backquote.
-//!
-//! An answer begins with `=`. Behind `!` stands a line of standard error, and behind `<` a text on standard output or a
-//! layout, written as the texts of cases are. A line that begins with `?` says why there is no answer.
+//! read and checked by eye alone. `rt run < stdin | diff - stdout` compares them. The library `sheets` says how a sheet is
+//! written; the runs of the engines are asked for by the sheet of the program `runs`.
 //!
 //! The questions, with what they are asked of and what is answered:
 //!
@@ -55,58 +41,36 @@
 //! | `identifier`, `rule_kind` | a text | whether it is an identifier, whether it is one or several joined by dots |
 //! | `session PACKAGE` | actions, and a text | the reply to each, the place in the history, and the present text |
 //! | `weights PACKAGE` | the same | the weight of each step between two texts, in their order |
-//! | `buildifier WORDS`, `buildozer WORDS` | standard input, and files, each behind a line with its name | status, standard error, standard output, and each file that is changed |
-//! | `words` | words of buildozer, standard input, and files | the same |
-//! | `status` | the same | the status, on which of the two outputs something is written, and each file that is changed |
 //! | `laws` | nothing | that all laws were called |
 //!
-//! An action is `COMMAND TARGET`, `format`, `undo N` or `redo N`. Words are separated by spaces; one that is empty or holds spaces stands in double quotes.
+//! An action is `COMMAND TARGET`, `format`, `undo N` or `redo N`.
 //!
 //! With words behind its name the program answers no sheet: it does one piece of work on the text that is standard input, and
 //! tells what that took. The module `measuring` says which.
 #![tactic(auto)]
 
-mod case;
 mod commands;
 mod copies;
-mod escape;
 mod labels;
 mod laws;
 mod lists;
 mod measuring;
-mod page;
 mod query;
-mod runs;
 mod sessions;
-mod sheet;
 mod tokens;
 mod trees;
 mod values;
 
+use crate::query::Query;
 use anyhow::Result;
-use std::io::{Read, Write};
+use sheets::{answer, input};
+use std::env;
 use std::process::ExitCode;
-use std::{env, io};
-
-/// Standard input, up to its end.
-fn input(rt: &HostRuntime) -> io::Result<Vec<u8>> {
-    let mut bytes = Vec::new(rt.alloc());
-    rt.stdin().read_to_end(&mut bytes)?;
-    Ok(bytes)
-}
-
-/// Answers the sheet that is standard input.
-fn answer(rt: &HostRuntime) -> Result<()> {
-    let sheet = input(rt)?;
-    let page = sheet::answered(rt.alloc(), str::from_utf8(&sheet)?)?;
-    rt.stdout().write_all(page.as_bytes())?;
-    Ok(())
-}
 
 fn main(rt: HostRuntime) -> Result<ExitCode> {
     let mut words = env::args(&rt)?.skip(1);
     let Some(word) = words.next() else {
-        answer(&rt)?;
+        answer::<Query>(&rt)?;
         return Ok(ExitCode::SUCCESS);
     };
     let bytes = input(&rt)?;

@@ -1,13 +1,11 @@
 //! The questions that a sheet asks of its cases.
-use crate::case::{Case, CaseFault};
 use crate::commands::CommandQuery;
 use crate::labels::LabelQuery;
-use crate::page::Page;
-use crate::runs::RunQuery;
 use crate::tokens::TokenQuery;
 use crate::trees::TreeQuery;
 use crate::values::ValueQuery;
 use crate::{copies, laws, lists, sessions};
+use sheets::{Case, CaseFault, Page, Question};
 
 /// What is asked of a case, by the layer that answers.
 #[derive(Clone, Copy)]
@@ -17,7 +15,6 @@ pub(crate) enum Query {
     Value(ValueQuery),
     Label(LabelQuery),
     Command(CommandQuery),
-    Run(RunQuery),
     Single(SingleQuery),
 }
 
@@ -54,9 +51,8 @@ impl SingleQuery {
     }
 }
 
-impl Query {
-    /// The question of this name.
-    pub(crate) fn named(name: &str) -> Option<Query> {
+impl Question for Query {
+    fn named(name: &str) -> Option<Query> {
         if let Some(query) = TokenQuery::named(name) {
             return Some(Query::Token(query));
         }
@@ -72,21 +68,16 @@ impl Query {
         if let Some(query) = CommandQuery::named(name) {
             return Some(Query::Command(query));
         }
-        if let Some(query) = RunQuery::named(name) {
-            return Some(Query::Run(query));
-        }
         SingleQuery::named(name).map(Query::Single)
     }
 
-    /// Writes the answer at the case.
-    pub(crate) fn answer(self, case: &Case, page: &mut Page) -> Result<(), CaseFault> {
+    fn answer(self, case: &Case, page: &mut Page) -> Result<(), CaseFault> {
         match self {
             Query::Token(query) => query.answer(case, page),
             Query::Tree(query) => query.answer(case, page),
             Query::Value(query) => query.answer(case, page),
             Query::Label(query) => query.answer(case, page),
             Query::Command(query) => query.answer(case, page),
-            Query::Run(query) => query.answer(case, page),
             Query::Single(query) => query.answer(case, page),
         }
     }

@@ -1,8 +1,6 @@
 //! Sessions: what each of several actions on a text is answered, and the text that is then present.
 ghost use Rattle.std.specs.Prelude.{◌≤◌, length};
 
-use crate::case::{Case, CaseFault};
-use crate::page::Page;
 use crate::trees::{apart, told};
 use bz_attribute::Refusal;
 use bz_items::Memory;
@@ -10,6 +8,7 @@ use bz_journal::{Action, Reply, Session};
 use bz_label::{Target, TargetFault};
 use bz_tree::ReadFault;
 use bz_words::{Command, CommandFault};
+use sheets::{Case, CaseFault, Page};
 use std::alloc::Global;
 
 /// A session after its actions, with the reply to each.

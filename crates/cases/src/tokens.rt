@@ -1,10 +1,9 @@
 //! Tokens and leaves.
-use crate::case::{Case, CaseFault};
-use crate::page::Page;
 use crate::trees::{apart, told};
 use bz_items::Memory;
 use bz_lex::{Class, Leaf, ReadFault, Reading, lex, place_of, read_leaves};
 use bz_token::token;
+use sheets::{Case, CaseFault, Page};
 use std::alloc::Global;
 
 /// What is asked of a text.

@@ -1,8 +1,7 @@
 //! Trees: what a text is read as, and where it is refused.
-use crate::case::{Case, CaseFault};
-use crate::page::Page;
 use bz_items::Memory;
 use bz_tree::{Class, Kind, Leaf, Node, Part, ReadFault, Tree, parse};
+use sheets::{Case, CaseFault, Page};
 use std::alloc::{AllocError, Global};
 
 /// What is asked of a text.

@@ -1,6 +1,4 @@
 //! File values: what a text says, its layout, and the layout of it tidied.
-use crate::case::{Case, CaseFault};
-use crate::page::Page;
 use crate::trees::{read, told};
 use bz_items::{Memory, Text};
 use bz_tidy::tidy;
@@ -8,6 +6,7 @@ use bz_tree::Tree;
 use bz_value::{Comments, Expr, File, Form, Item};
 use bz_view::view;
 use bz_write::{SetFault, set};
+use sheets::{Case, CaseFault, Page};
 use std::alloc::{AllocError, Global};
 
 /// What is asked of a text.

@@ -5,30 +5,30 @@ use std::alloc::Global;
 
 /// The lines that are written so far.
 #[derive(Drop)]
-pub(crate) struct Page {
+pub struct Page {
     lines: String,
 }
 
 impl Page {
     /// A page without lines.
-    pub(crate) fn new(alloc: Global) -> Page {
+    pub fn new(alloc: Global) -> Page {
         Page {
             lines: String::new(alloc),
         }
     }
 
-    pub(crate) fn as_bytes(&self) -> &[u8] {
+    pub fn as_bytes(&self) -> &[u8] {
         self.lines.as_bytes()
     }
 
     /// A line of the sheet, as it stands there.
-    pub(crate) fn copy(&mut self, line: &str) -> Result<(), Memory> {
+    pub fn copy(&mut self, line: &str) -> Result<(), Memory> {
         self.lines.push_str(line)?;
         self.lines.push_str("\n")
     }
 
     /// A line with a mark in front, and with escapes.
-    pub(crate) fn line(&mut self, mark: &str, bytes: &[u8]) -> Result<(), Memory> {
+    pub fn line(&mut self, mark: &str, bytes: &[u8]) -> Result<(), Memory> {
         self.lines.push_str(mark)?;
         if !bytes.is_empty() {
             self.lines.push_str(" ")?;
@@ -38,17 +38,17 @@ impl Page {
     }
 
     /// An answer on one line.
-    pub(crate) fn answer(&mut self, bytes: &[u8]) -> Result<(), Memory> {
+    pub fn answer(&mut self, bytes: &[u8]) -> Result<(), Memory> {
         self.line("=", bytes)
     }
 
     /// The answer to what either holds or doesn't.
-    pub(crate) fn yes_or_no(&mut self, holds: bool) -> Result<(), Memory> {
+    pub fn yes_or_no(&mut self, holds: bool) -> Result<(), Memory> {
         self.answer(if holds { b"yes" } else { b"no" })
     }
 
     /// A text with its newlines, the mark in front of its first line.
-    pub(crate) fn text(&mut self, mark: &str, bytes: &[u8]) -> Result<(), Memory> {
+    pub fn text(&mut self, mark: &str, bytes: &[u8]) -> Result<(), Memory> {
         let mut is_first = true;
         for line in bytes.split(|byte| *byte == b'\n') {
             if is_first {
@@ -62,7 +62,7 @@ impl Page {
     }
 
     /// Lines that each end in a newline, with the mark in front of each; the last one may lack it, which is told.
-    pub(crate) fn lines(&mut self, mark: &str, bytes: &[u8]) -> Result<(), Memory> {
+    pub fn lines(&mut self, mark: &str, bytes: &[u8]) -> Result<(), Memory> {
         let Some(lines) = bytes.strip_suffix(b"\n") else {
             self.text(mark, bytes)?;
             return self.line("?", b"no newline at the end");

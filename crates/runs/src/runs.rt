@@ -1,10 +1,9 @@
 //! Runs of the programs over readers and writers in memory.
-use crate::case::{Case, CaseFault, text_of};
-use crate::page::Page;
 use bz_engine::buildozer;
 use bz_files::MemoryFiles;
 use bz_items::Memory;
 use bz_tools::{Cut, Exit, MemorySink, MemorySource, buildifier};
+use sheets::{Case, CaseFault, Page, text_of};
 use std::alloc::Global;
 
 /// What is asked of a run.

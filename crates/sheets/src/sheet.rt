@@ -2,7 +2,6 @@
 use crate::case::{Case, CaseFault};
 use crate::escape::unescaped;
 use crate::page::Page;
-use crate::query::Query;
 use bz_items::Memory;
 use std::alloc::{AllocError, Global};
 
@@ -40,6 +39,15 @@ impl<'a> Line<'a> {
     }
 }
 
+/// What a sheet can ask of its cases.
+pub trait Question: Copy {
+    /// The question of this name.
+    fn named(name: &str) -> Option<Self>;
+
+    /// Writes the answer at a case.
+    fn answer(self, case: &Case, page: &mut Page) -> Result<(), CaseFault>;
+}
+
 /// To what the last text belongs.
 #[derive(Clone, Copy, PartialEq, Eq)]
 enum Owner {
@@ -50,9 +58,9 @@ enum Owner {
 
 /// A sheet that is read line by line: the question that is asked, the case that is read, and the answers so far.
 #[derive(Drop)]
-struct Reader {
+struct Reader<Q: Question> {
     alloc: Global,
-    query: Option<Query>,
+    question: Option<Q>,
     argument: String,
     // Texts that go with each case.
     shared: Vec<String>,
@@ -62,10 +70,10 @@ struct Reader {
 }
 
 /// The sheet with its answers put in. The error: a growth was refused.
-pub(crate) fn answered(alloc: Global, sheet: &str) -> Result<Page, Memory> {
-    let mut reader = Reader {
+pub fn answered<Q: Question>(alloc: Global, sheet: &str) -> Result<Page, Memory> {
+    let mut reader = Reader::<Q> {
         alloc,
-        query: None,
+        question: None,
         argument: String::new(alloc),
         shared: Vec::new(alloc),
         texts: Vec::new(alloc),
@@ -88,7 +96,7 @@ fn append_line(texts: &mut Vec<String>, line: &str) -> Result<(), Memory> {
     Ok(())
 }
 
-impl Reader {
+impl<Q: Question> Reader<Q> {
     fn read(&mut self, line: &str) -> Result<(), Memory> {
         let read = Line::read(line);
         if !matches!(read, Line::Further(_) | Line::Next(_)) {
@@ -109,7 +117,7 @@ impl Reader {
 
     fn ask(&mut self, question: &str) -> Result<(), Memory> {
         let (name, argument) = question.split_once(' ').unwrap_or((question, ""));
-        self.query = Query::named(name);
+        self.question = Q::named(name);
         self.argument = String::from_str(self.alloc, argument)?;
         self.shared.clear();
         self.owner = Owner::Question;
@@ -151,7 +159,7 @@ impl Reader {
     }
 
     fn answer(&mut self) -> Result<(), CaseFault> {
-        let Some(query) = self.query else {
+        let Some(question) = self.question else {
             return Err(CaseFault::Sheet("no such question"));
         };
         let mut texts = Vec::new(self.alloc);
@@ -164,6 +172,6 @@ impl Reader {
             argument: unescaped(self.alloc, self.argument.as_str())?,
             texts,
         };
-        query.answer(&case, &mut self.page)
+        question.answer(&case, &mut self.page)
     }
 }

@@ -5,7 +5,7 @@ use std::str::Utf8Error;
 
 /// Why a case has no answer.
 #[derive(Drop)]
-pub(crate) enum CaseFault {
+pub enum CaseFault {
     /// A growth was refused.
     Memory,
     /// The sheet is not written as it should be: why.
@@ -26,20 +26,20 @@ impl From<Utf8Error> for CaseFault {
 
 /// The texts of a case, their escapes taken away, and the argument of its question.
 #[derive(Drop)]
-pub(crate) struct Case {
-    pub(crate) alloc: Global,
-    pub(crate) argument: Vec<u8>,
-    pub(crate) texts: Vec<Vec<u8>>,
+pub struct Case {
+    pub alloc: Global,
+    pub argument: Vec<u8>,
+    pub texts: Vec<Vec<u8>>,
 }
 
 /// The text of bytes that have to be UTF-8.
-pub(crate) fn text_of(bytes: &[u8]) -> Result<&str, CaseFault> {
+pub fn text_of(bytes: &[u8]) -> Result<&str, CaseFault> {
     Ok(str::from_utf8(bytes)?)
 }
 
 impl Case {
     /// The text at this place, from 0.
-    pub(crate) fn bytes(&self, place: usize) -> Result<&[u8], CaseFault> {
+    pub fn bytes(&self, place: usize) -> Result<&[u8], CaseFault> {
         match at(self.texts.as_slice(), place) {
             Some(text) => Ok(text.as_slice()),
             None => Err(CaseFault::Sheet("a text is missing")),
@@ -47,12 +47,12 @@ impl Case {
     }
 
     /// The same of a text that has to be UTF-8.
-    pub(crate) fn text(&self, place: usize) -> Result<&str, CaseFault> {
+    pub fn text(&self, place: usize) -> Result<&str, CaseFault> {
         text_of(self.bytes(place)?)
     }
 
     /// The argument of the question, which has to be UTF-8.
-    pub(crate) fn argument(&self) -> Result<&str, CaseFault> {
+    pub fn argument(&self) -> Result<&str, CaseFault> {
         text_of(self.argument.as_slice())
     }
 }

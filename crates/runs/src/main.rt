@@ -1,0 +1,61 @@
+//! Answers cases of runs: words of a command line, standard input and files, and what the engines of both programs leave of
+//! them over readers, writers and files in memory. A new case is a line or two of data, and costs no proof.
+//!
+//! Standard input is a sheet of cases, which is copied to standard output with the answers put in: the file `stdin` beside
+//! `src` holds the cases, and `stdout` the same sheet with the answers that are wanted, worked out by hand. The library
+//! `sheets` says how a sheet is written.
+//!
+//! The questions, with what they are asked of and what is answered:
+//!
+//! | Question | Asked of | Answer |
+//! |---|---|---|
+//! | `buildifier WORDS`, `buildozer WORDS` | standard input, and files, each behind a line with its name | status, standard error, standard output, and each file that is changed |
+//! | `words` | words of buildozer, standard input, and files | the same |
+//! | `status` | the same | the status, on which of the two outputs something is written, and each file that is changed |
+//! | `laws` | nothing | that all laws of the engines were called |
+//!
+//! Words are separated by spaces; one that is empty or holds spaces stands in double quotes.
+#![tactic(auto)]
+
+mod runs;
+
+use crate::runs::RunQuery;
+use anyhow::Result;
+use sheets::{Case, CaseFault, Page, Question, answer};
+
+/// What is asked of a case.
+#[derive(Clone, Copy)]
+enum Query {
+    Run(RunQuery),
+    Laws,
+}
+
+impl Question for Query {
+    fn named(name: &str) -> Option<Query> {
+        match name {
+            "laws" => Some(Query::Laws),
+            _ => RunQuery::named(name).map(Query::Run),
+        }
+    }
+
+    fn answer(self, case: &Case, page: &mut Page) -> Result<(), CaseFault> {
+        match self {
+            Query::Run(query) => query.answer(case, page),
+            Query::Laws => {
+                call_laws();
+                Ok(page.answer(b"called")?)
+            }
+        }
+    }
+}
+
+/// Calls each law: functions that do nothing, whose contracts say something of all runs.
+fn call_laws() {
+    bz_engine::worked_refusals();
+    bz_tools::worked_formats();
+    bz_tools::whole_runs_are_exact();
+}
+
+fn main(rt: HostRuntime) -> Result<()> {
+    answer::<Query>(&rt)
+}
