@@ -1,0 +1,178 @@
+#!/usr/bin/env python3
+"""Makes the pages buildozer.1 and buildifier.1, in the macros of man, from README.md: its sections on each program, on the refusals and
+on what differs. What a page says stands in README.md alone; here it is said only where each block of it goes.
+
+The paragraphs become the description, the examples the examples, each table a section of its own. An example stays in the
+description where the paragraph above it ends with a colon. Of the tables of refusals and of other lines the page of a program
+leaves out what only the other one tells.
+
+    tools/manual.py FOLDER        puts both pages into FOLDER/man/man1; a page that is there and would not change stays
+"""
+import pathlib
+import re
+import sys
+import textwrap
+
+from blocks import CODE, Example, Paragraph, Points, Table, sections, tables_of
+from version import version
+
+PROGRAMS = ["buildozer", "buildifier"]
+WIDTH = 78
+# the section of a page for each table, by the first word of its header, in the order of the pages
+TABLES = {"Mode": "OPTIONS", "Option": "OPTIONS", "Command": "COMMANDS", "Target": "TARGETS", "Attributes": "ATTRIBUTES",
+          "Status": "EXIT STATUS", "Number": "REFUSALS", "Line": "DIAGNOSTICS"}  # fmt: skip
+# what stands before each row's name
+FRONTS = {"Mode": "--mode="}
+# the column behind the name is told without its header where that says only what the table is for
+UNTOLD = ("What", "Their", "Means", "When")
+REFUSALS, DIFFERENCES = "Refusals and other lines on standard error", "What differs from bazelbuild's tools"
+LIMITS = "How to use them"
+# a refusal of a text, which both programs report; those behind them are of labels, targets and commands
+LAST_OF_TEXTS = 8
+# this line is buildozer's, though it doesn't name it
+LINES_OF_BUILDOZER = ["`FILE: no operands`"]
+# signs that roff reads as others than they are
+SIGNS = {"\\": r"\e", "`": r"\(ga", "^": r"\(ha", "~": r"\(ti"}
+CODE_SIGNS = {**SIGNS, "-": r"\-", "'": r"\(aq", '"': r"\(dq"}
+
+
+# ---- texts as roff reads them
+
+
+def written(text, signs):
+    """A text whose signs stand for themselves."""
+    return "".join(signs.get(sign, sign if sign.isascii() else rf"\[u{ord(sign):04X}]") for sign in text)
+
+
+def bold(code):
+    return rf"\fB{written(code, CODE_SIGNS)}\fR"
+
+
+def form(code):
+    """The form of a command, an option or a line: what is to be filled in, in capitals, is slanted."""
+    pieces = re.split(r"\b([A-Z]+)\b(?!\.bazel)", code)
+    return "".join(rf"\fI{written(piece, CODE_SIGNS)}\fR" if at % 2 else bold(piece) if piece else "" for at, piece in enumerate(pieces))
+
+
+def inline(text, code=bold):
+    """A text in which some stands between marks of code."""
+    pieces = CODE.split(text.replace("**", ""))
+    return "".join(code(piece) if at % 2 else written(piece, SIGNS) for at, piece in enumerate(pieces))
+
+
+def guarded(line):
+    """A line of text that roff would else take as a request."""
+    return rf"\&{line}" if line[:1] in (".", "'") else line
+
+
+def filled(text):
+    lines = textwrap.wrap(inline(text), WIDTH, break_long_words=False, break_on_hyphens=False)
+    return [guarded(line) for line in lines]
+
+
+def sentence(text):
+    """A text that stands alone, with a capital letter and a full stop; code, and the name of a program, stay as they are."""
+    if CODE.fullmatch(text):
+        return text
+    begun = text if text.startswith(("`", *PROGRAMS)) else text[:1].upper() + text[1:]
+    return begun if begun.endswith((".", ":")) else begun + "."
+
+
+# ---- blocks
+
+
+def example(block):
+    return [".PP", ".RS 4", ".EX", *(guarded(written(line, CODE_SIGNS)) for line in block.lines), ".EE", ".RE"]
+
+
+def row(header, cells):
+    """A row of a table as an entry of a list: its name, or its number and its name, and then what is said of it."""
+    named = 2 if header[0] == "Number" else 1
+    name = " ".join(cells[:named]).replace("`", f"`{FRONTS.get(header[0], '')}", 1)
+    name, *remarks = re.split(r"[:;] ", name, maxsplit=1) if header[0] == "Attributes" else [name]
+    lines = [".TP", inline(name, form), *(line for remark in remarks for line in filled(sentence(remark)))]
+    for title, cell in zip(header[named:], cells[named:]):
+        told = cell if title.startswith(UNTOLD) else f"{title}: {cell}"
+        lines += [".br"] * (len(lines) > 2) + filled(told if title == "Example" else sentence(told))
+    return lines
+
+
+def block_lines(block):
+    if isinstance(block, Table):
+        return [line for cells in block.rows for line in row(block.header, cells)]
+    if isinstance(block, Points):
+        return [line for text in block.texts for line in (r".IP \(bu 2", *filled(text))]
+    return example(block) if isinstance(block, Example) else [".PP", *filled(block.text)]
+
+
+# ---- pages
+
+
+def is_told_by(program, header, cells):
+    """Whether a row of the tables of refusals and lines is for the page of a program."""
+    text = " ".join(cells)
+    if program in text or header[0] not in ("Number", "Line"):
+        return True
+    if header[0] == "Number":
+        return program == "buildozer" or int(cells[0]) <= LAST_OF_TEXTS
+    return not any(other in text for other in PROGRAMS) and (program == "buildozer" or cells[0] not in LINES_OF_BUILDOZER)
+
+
+def sorted_blocks(program, found):
+    """The blocks of a program's page, by the section where each goes."""
+    own = found[program]
+    first = CODE.sub(lambda code: f"`{program}`", own[0].text, count=1)
+    parts = {title: [] for title in ("DESCRIPTION", *TABLES.values())}
+    above = None
+    for block in [Paragraph(first), *own[1:], *found[LIMITS][1:], *found[REFUSALS]]:
+        if isinstance(block, Table):
+            rows = [cells for cells in block.rows if is_told_by(program, block.header, cells)]
+            parts.setdefault(TABLES.get(block.header[0], block.header[0].upper()), []).append(Table(block.header, rows))
+        elif block in found[REFUSALS]:
+            parts["DIAGNOSTICS"].append(block)
+        elif isinstance(block, Example) and not above.text.endswith(":"):
+            parts.setdefault("EXAMPLES", []).append(block)
+        else:
+            parts["DESCRIPTION"].append(block)
+        above = block if isinstance(block, Paragraph) else Paragraph("")
+    parts["EXAMPLES"] = parts.pop("EXAMPLES", [])
+    return {**parts, "COMPATIBILITY": found[DIFFERENCES]}
+
+
+def page(program, found):
+    word, day = version()
+    synopsis = CODE.search(found[program][0].text)[1]
+    does = CODE.sub("", found[program][0].text, count=1).split(";")[0].split(".")[0].strip()
+    others = ", ".join(rf"\fB{other}\fR(1)" for other in PROGRAMS if other != program)
+    lines = [
+        r'.\" Made by tools/manual.py from README.md.',
+        f'.TH {program.upper()} 1 {day} "kinduzar {written(word, CODE_SIGNS)}" "User Commands"',
+        ".SH NAME", rf"{program} \- {does}",
+        ".SH SYNOPSIS", form(synopsis),
+    ]  # fmt: skip
+    for title, blocks in sorted_blocks(program, found).items():
+        if blocks:
+            lines += [f".SH {title}", *(line for block in blocks for line in block_lines(block))]
+    lines += [".SH SEE ALSO", others, ".PP", "The documents that this page names stand beside the sources."]
+    # a paragraph right behind the heading of a section is one by itself
+    return re.sub(r"(?m)^(\.SH .*\n)\.PP\n", r"\1", "\n".join(lines) + "\n")
+
+
+def put(file, text):
+    """Writes a file whole, where it differs, in two steps, so that who reads it finds one of both."""
+    if file.exists() and file.read_text() == text:
+        return
+    file.parent.mkdir(parents=True, exist_ok=True)
+    new = file.with_name(f"{file.name}.new")
+    new.write_text(text)
+    new.replace(file)
+
+
+def main():
+    found = sections()
+    for program in PROGRAMS:
+        put(pathlib.Path(sys.argv[1], "man", "man1", f"{program}.1"), page(program, found))
+
+
+if __name__ == "__main__":
+    main()
