@@ -1,0 +1,178 @@
+#!/usr/bin/env python3
+"""Makes the completions of both programs for bash, zsh and fish from README.md's tables, so that a new command or option stands there alone.
+
+tools/completions/ has what each shell does, with names between two `@` where a table goes, and candidates.sh, a script of sh that all
+three shells run to learn what an operand of buildozer may become.
+
+    tools/completions.py FOLDER   puts them below FOLDER, where each shell looks for them; a file that would not change stays
+"""
+import pathlib
+import re
+import sys
+
+from blocks import CODE, TOP, sections, tables_of
+from manual import put
+
+TEMPLATES = TOP / "tools" / "completions"
+# where each file of a shell goes
+PLACES = {"bash": "bash-completion/completions/{}", "zsh": "zsh/site-functions/_{}", "fish": "fish/vendor_completions.d/{}.fish"}
+# what candidates.sh knows of a word in the form of a command, and of words that mean something else in one command
+KNOWN = {"ATTR": "ATTR", "KIND": "KIND", "RULE": "RULE", "FIELD": "FIELD", "VALUE": "LABEL"}
+OF_COMMAND = {("rename", "OLD"): "ATTR", ("move", "FROM"): "ATTR", ("move", "TO"): "ATTR", ("replace", "OLD"): "LABEL", ("replace", "NEW"): "LABEL"}
+UNKNOWN = "-"
+HELP = "--help"
+
+
+# ---- the forms of commands
+
+
+def sequences(tokens):
+    """All rows of words that a form allows; what stands in brackets may be left out."""
+    if not tokens:
+        return [[]]
+    if tokens[0] != "[":
+        return [[tokens[0], *rest] for rest in sequences(tokens[1:])]
+    depth = 0
+    for end, token in enumerate(tokens):
+        depth += (token == "[") - (token == "]")
+        if depth == 0:
+            break
+    behind = sequences(tokens[end + 1 :])
+    return [front + rest for front in [*sequences(tokens[1:end]), []] for rest in behind]
+
+
+def is_literal(word):
+    return word == "*" or word[:1].islower()
+
+
+def what_stands(command, words, at):
+    """What candidates.sh is told of the word at this place: what it is, and, behind a word that stands as it is, which one."""
+    word = words[at].removesuffix("..")
+    what = word if is_literal(word) else OF_COMMAND.get((command, word), KNOWN.get(word, UNKNOWN))
+    before = words[at - 1] if at else ""
+    return f"{before}>{what}" if is_literal(before) and what != UNKNOWN else what
+
+
+def place(command, rows, at):
+    """What may stand at a place: each thing with a `+` where a further word is needed behind it."""
+    there = {}
+    for words in rows:
+        if len(words) > at:
+            there.setdefault(what_stands(command, words, at), []).append(len(words) == at + 1)
+    things = [what + "+" * (not any(ends)) for what, ends in there.items() if what.rpartition(">")[2] != UNKNOWN]
+    things = [thing for thing in things if thing.partition(">")[2] not in things]
+    repeated = any(len(words) > at and words[at].endswith("..") for words in rows)
+    return ("|".join(things) or UNKNOWN) + ".." * repeated
+
+
+def commands(blocks):
+    """A line for each command: its name, its places and its forms, between semicolons."""
+    forms, told = {}, {}
+    for row in tables_of(blocks, "Command"):
+        for form in CODE.findall(row[0]):
+            name, _, words = form.partition(" ")
+            forms.setdefault(name, []).append(words)
+            told.setdefault(name, row[1])
+    lines = []
+    for name, all_words in forms.items():
+        tokens = [re.findall(r"[][]|[^][ ]+", re.sub(r"\[[A-Z]+=\]", "", words)) for words in all_words]
+        rows = [words for form in tokens for words in sequences(form)]
+        places = [place(name, rows, at) for at in range(max(map(len, rows)))]
+        form = " or ".join(filter(None, all_words)) or CODE.sub(r"\1", told[name])
+        lines.append(f"{name}{'' if [] in rows else '+'};{' '.join(places)};{form}")
+    return lines
+
+
+# ---- the other tables
+
+
+def attributes(found):
+    """The attributes of the tables, and those whose values are labels."""
+    rows = {row[0].split(":")[0]: CODE.findall(row[1]) for row in tables_of(found["buildifier"], "Attributes")}
+    return sorted({name for names in rows.values() for name in names}), rows["Labels"]
+
+
+def fields(blocks):
+    """The fields that `print` knows beside attributes: those that its row names in small letters, up to the attribute's."""
+    row = next(row for row in tables_of(blocks, "Command") if row[0].startswith("`print ["))
+    return CODE.findall(row[1].split(", or ")[0])
+
+
+def which(blocks):
+    """What may stand behind the colon of a target as it is, such as `all`."""
+    forms = [form for row in tables_of(blocks, "Target") for form in CODE.findall(row[0])]
+    return [word for form in forms for word in re.findall(r":(\w+)$", form) if word == word.lower() and form.startswith("//pkg")]
+
+
+def options(blocks):
+    """The options: each with the word that stands behind it, or none, and what it does, in a few words."""
+    rows = [(CODE.findall(row[0])[0].split(" "), row[1]) for row in tables_of(blocks, "Option")]
+    short = [(*words, "")[:2] + (re.split(r"[;,]", CODE.sub(r"\1", told))[0],) for words, told in rows]
+    return [*short, (HELP, "", "tells the options and shows examples")]
+
+
+def modes(blocks):
+    return " ".join(CODE.findall(row[0])[0] for row in tables_of(blocks, "Mode"))
+
+
+def sh(text):
+    """A text inside quotation marks of sh, bash and zsh."""
+    return text.replace("'", "'\\''")
+
+
+def fish(text):
+    return text.replace("\\", "\\\\").replace("'", "\\'")
+
+
+def zsh_option(option, word, told):
+    excluded = "(- *)" if option == HELP else "(*)" if word else ""
+    told = re.sub(r"([][:\\])", r"\\\1", told)
+    return f"    '{excluded}{option}[{sh(told)}]{':' + word.lower() + ':_files' if word else ''}' \\"
+
+
+def fish_option(option, word, told):
+    name = f"-l {option[2:]}" if option.startswith("--") else f"-s {option[1:]}"
+    return f"complete -c buildozer {name}{' -r -F' if word else ''} -d '{fish(told)}'"
+
+
+# ---- files
+
+
+def filled(text, tables):
+    for name, table in tables.items():
+        text = text.replace(f"@{name}@", table)
+    return text
+
+
+def template(name):
+    return (TEMPLATES / name).read_text()
+
+
+def candidates(found):
+    known, labels = attributes(found)
+    tables = {
+        "COMMANDS": "\n" + "\n".join(commands(found["buildozer"])) + "\n",
+        "ATTRIBUTES": " ".join(known),
+        "LABEL_ATTRIBUTES": " ".join(labels),
+        "FIELDS": " ".join(fields(found["buildozer"])),
+        "WHICH": " ".join(which(found["buildozer"])),
+    }
+    return filled(template("candidates.sh"), {name: sh(table) for name, table in tables.items()}).rstrip("\n")
+
+
+def main():
+    found = sections()
+    script, rows = candidates(found), options(found["buildozer"])
+    tables = {
+        "bash": {"CANDIDATES": script, "OPTIONS": " ".join(row[0] for row in rows)},
+        "zsh": {"CANDIDATES": script, "OPTIONS": "\n".join(zsh_option(*row) for row in rows)},
+        "fish": {"CANDIDATES": fish(script), "OPTIONS": "\n".join(fish_option(*row) for row in rows)},
+    }
+    for shell, place in PLACES.items():
+        for program in ("buildozer", "buildifier"):
+            text = filled(template(f"{program}.{shell}"), {**tables[shell], "MODES": modes(found["buildifier"])})
+            put(pathlib.Path(sys.argv[1], place.format(program)), text)
+
+
+if __name__ == "__main__":
+    main()

@@ -1,0 +1,80 @@
+# Completion of buildozer's words in bash. Made by tools/completions.py from README.md.
+
+_buildozer_candidates() {
+    sh -s -- "$@" << 'END'
+@CANDIDATES@
+END
+}
+
+# Cuts the text of a line into words: the last one to word, without its quotation marks, and as it stands to raw; the one that is
+# open there to quote; the others to before.
+_buildozer_cut() {
+    local rest=$1 sign
+    word='' raw='' quote='' before=()
+    while [[ $rest ]]; do
+        sign=${rest:0:1} rest=${rest:1} raw+=$sign
+        if [[ $sign == "$quote" ]]; then
+            quote=''
+        elif [[ $sign == \\ && $quote != \' ]]; then
+            if [[ $quote && ${rest:0:1} != [\\\"\$\`] ]]; then
+                word+=$sign
+            else
+                word+=${rest:0:1} raw+=${rest:0:1} rest=${rest:1}
+            fi
+        elif [[ ! $quote && $sign == [\'\"] ]]; then
+            quote=$sign
+        elif [[ ! $quote && $sign == [[:blank:]] ]]; then
+            [[ $raw == "$sign" ]] || before+=("$word")
+            word='' raw=''
+        else
+            word+=$sign
+        fi
+    done
+}
+
+# The text by which readline replaces what it completes: inside quotation marks all behind the first of them, else what stands
+# behind the last sign that parts words.
+_buildozer_reply() {
+    local text=$1 front=''
+    case $quote in
+        \') REPLY=${text//\'/\'\\\'\'} ;;
+        \") REPLY=$(printf '%s' "$text" | sed 's/[\\"$`]/\\&/g') ;;
+        *)
+            if [[ $text == *' '* && $word != *' '* ]]; then
+                REPLY="'${text//\'/\'\\\'\'}"
+                return
+            fi
+            [[ $word == *[:=]* && $COMP_WORDBREAKS == *:* ]] && printf -v front %q "${word%"${word##*[:=]}"}"
+            printf -v REPLY %q "$text"
+            REPLY=${REPLY#"$front"}
+            ;;
+    esac
+}
+
+_buildozer() {
+    local word raw quote before text REPLY options=1
+    COMPREPLY=()
+    _buildozer_cut "${COMP_LINE:0:COMP_POINT}"
+    [[ " ${before[*]} " == *' -- '* ]] && options=''
+    if [[ $options && ${before[${#before[@]} - 1]} == -f ]]; then
+        compopt -o default 2> /dev/null
+        return
+    fi
+    if [[ $options && $raw == -* ]]; then
+        mapfile -t COMPREPLY < <(compgen -W '@OPTIONS@' -- "$word")
+        return
+    fi
+    # beside -f there are no operands, and what stands behind closed quotation marks is no longer completed
+    [[ $options && " ${before[*]} " == *' -f '* || ! $quote && $raw == *[\'\"]* ]] && return
+    while IFS=$'\t' read -r text _; do
+        _buildozer_reply "$text"
+        COMPREPLY+=("$REPLY")
+    done < <(_buildozer_candidates "${before[0]/#\~/$HOME}" "$word")
+    # behind a single text that goes on comes no space; readline leaves its quotation marks open only where there are two texts
+    if [[ ${#COMPREPLY[@]} == 1 && $REPLY == *[\ :/] ]]; then
+        compopt -o nospace 2> /dev/null
+        [[ $quote ]] && COMPREPLY+=("$REPLY..")
+    fi
+}
+
+complete -F _buildozer buildozer

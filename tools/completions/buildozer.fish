@@ -1,0 +1,34 @@
+# Completion of buildozer's words in fish. Made by tools/completions.py from README.md.
+
+set -g __buildozer_script '@CANDIDATES@'
+
+# The word at the cursor, without quotation marks, of which the last one may be open.
+function __buildozer_operand
+    set -l token (commandline -ct)
+    switch "$token"
+        case "'*" '"*'
+            string sub -s 2 -- $token
+        case '*'
+            string unescape -- $token
+            or echo
+    end
+end
+
+# Behind a single text that goes on fish would close its quotation marks, so there a second one is shown.
+function __buildozer_operands
+    set -l program (string replace -r '^~' $HOME -- (commandline -opc)[1])
+    set -l texts (sh -c "$__buildozer_script" sh $program (__buildozer_operand))
+    if test (count $texts) = 1; and string match -qr '[ :/]\t' -- $texts
+        set -a texts (string replace \t ..\t -- $texts)
+    end
+    printf '%s\n' $texts
+end
+
+# Beside -f there are no operands.
+function __buildozer_has_file
+    contains -- -f (commandline -opc)
+end
+
+complete -c buildozer -f
+complete -c buildozer -n 'not __buildozer_has_file' -a '(__buildozer_operands)'
+@OPTIONS@
