@@ -1,4 +1,7 @@
 # make        proves and builds both programs, leaves them in bin/, and shows a first run; JOBS=N sets how many processors that takes
+# make install    puts both programs, their pages for man, and completions for bash, zsh and fish below PREFIX (/usr/local); with DESTDIR=.. before it
+# make uninstall  removes just these
+# make dist   packs the same and README.md into an archive in dist/, with its SHA-256 sum beside it
 # make edits  tries the further edits that the prover must refuse, those of edits/; with CRATE=.. those of one crate
 # make test   the tests: runs of the programs (tests/), every proof from nothing, the edits that the prover must refuse, each program and each test
 # make bench  the time and the memory of a delete in a large file, of many commands in one run, of a run over many packages, and of reading a file; with FOLDER=.. of the BUILD files there
@@ -7,12 +10,20 @@
 
 PROGRAMS = bin/buildozer bin/buildifier
 
+# where they are installed, and the folder that stands for the root while a package is made
+PREFIX = /usr/local
+DESTDIR =
+
+# what is installed beside the programs, in the folders where man and each shell look for it
+SHARED = $(foreach program,$(notdir $(PROGRAMS)),share/man/man1/$(program).1 share/bash-completion/completions/$(program) \
+    share/zsh/site-functions/_$(program) share/fish/vendor_completions.d/$(program).fish)
+
 # what the programs are made of; a second 'make' with nothing changed does nothing
 SOURCES = crates.txt $(shell find crates -name out -prune -o -path '*/must-fail' -prune -o -type f -print)
 
-.PHONY: all test edits bench shapes corpus clean rt
+.PHONY: all share install uninstall dist test edits bench shapes corpus clean rt
 
-all: $(PROGRAMS) bin/.shown
+all: $(PROGRAMS) share bin/.shown
 
 rt:
 	@command -v rt > /dev/null || { \
@@ -34,6 +45,25 @@ bin/.shown: bin/buildozer bin/buildifier examples/BUILD
 	@echo; echo "bin/buildifier < examples/BUILD"; echo
 	@bin/buildifier < examples/BUILD
 	@touch $@
+
+# pages and completions, made of README.md each time; a file that would not change stays
+share:
+	@PYTHONDONTWRITEBYTECODE=1 tools/manual.py share
+	@PYTHONDONTWRITEBYTECODE=1 tools/completions.py share
+
+# What make has built is installed as it is, so that nothing is built with the rights that installing takes.
+install: share
+	@for program in $(PROGRAMS); do \
+	    [ -x "$$program" ] || { echo "$$program was not found: run make first." >&2; exit 1; }; done
+	@umask 022; \
+	    for file in $(PROGRAMS); do install -D -m 755 "$$file" "$(DESTDIR)$(PREFIX)/$$file" || exit 1; done; \
+	    for file in $(SHARED); do install -D -m 644 "$$file" "$(DESTDIR)$(PREFIX)/$$file" || exit 1; done
+
+uninstall:
+	@for file in $(PROGRAMS) $(SHARED); do rm -f "$(DESTDIR)$(PREFIX)/$$file" || exit 1; done
+
+dist: $(PROGRAMS) share
+	@PYTHONDONTWRITEBYTECODE=1 tools/archive.py dist $(PROGRAMS) $(SHARED) README.md $(wildcard LICENSE)
 
 # Where four processors and the memory for four proofs are there, four run side by side; by its own estimates rt starts fewer.
 LANES = $(shell [ "$$(nproc)" -ge 4 ] && [ "$$(awk '/MemAvailable/ { print int($$2 / 1000000) }' /proc/meminfo)" -ge 18 ] && echo RT_JOBS=4)
@@ -58,4 +88,4 @@ corpus: bin/cases bin/buildifier
 	@bench/formats.sh "$(FOLDER)"
 
 clean:
-	rm -rf bin crates/*/out
+	rm -rf bin share dist crates/*/out

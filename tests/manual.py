@@ -1,0 +1,145 @@
+#!/usr/bin/env python3
+"""Makes the pages buildozer.1 and buildifier.1, and looks in them for all that the code has: each command, option, mode, status and
+refusal must stand there as an entry. Where `man` or `mandoc` is there, it must read the pages without a warning.
+
+    tests/manual.py
+"""
+import pathlib
+import re
+import shutil
+import subprocess
+import sys
+import tempfile
+
+from files import report
+from readme import CRATES, TOP, refusals_of_code, texts_in
+
+# the crates in which a program's statuses stand, and the file with its options
+STATUSES = {"buildozer": ("buildozer", "bz_engine"), "buildifier": ("buildifier", "bz_tools")}
+OPTIONS = {"buildozer": "bz_line/specs/App.antt", "buildifier": "bz_tools/specs/Modes.antt"}
+# refusals of a text; buildifier tells them all, and of the others those of a formatted text
+OF_TEXTS, OF_FORMATTED = range(1, 9), (21, 22)
+READERS = {
+    "man": ["man", "--warnings=w", "-E", "UTF-8", "-l"],
+    "mandoc": ["mandoc", "-T", "lint", "-W", "style"],
+    "groff": ["groff", "-man", "-ww", "-T", "utf8", "-z"],
+}
+
+
+def plain(text):
+    """A text of a page without the signs of its letters."""
+    signs = {r"\-": "-", r"\e": "\\", r"\(aq": "'", r"\(dq": '"', r"\(ga": "`", r"\(ha": "^", r"\(ti": "~", r"\&": ""}
+    return re.sub(r"\\f[BIR]|\\-|\\e|\\&|\\\(..", lambda found: signs.get(found[0], ""), text)
+
+
+class Pages:
+    """The pages, made anew in a folder."""
+
+    def __init__(self, folder):
+        self.folder = pathlib.Path(folder)
+        self.make()
+
+    def make(self):
+        subprocess.run([TOP / "tools" / "manual.py", self.folder], check=True, timeout=60)
+
+    def file(self, program):
+        return self.folder / "man" / "man1" / f"{program}.1"
+
+    def entries(self, program, *sections):
+        """The name of each entry of a list in these sections of a page."""
+        parts = re.split(r"(?m)^\.SH (.*)\n", self.file(program).read_text())
+        text = "".join(text for title, text in zip(parts[1::2], parts[2::2]) if title in sections)
+        return [plain(name) for name in re.findall(r"(?m)^\.TP\n(.*)", text)]
+
+
+# ---- what the code says
+
+
+def commands_of_code():
+    return texts_in("bz_words/specs/Commands.antt", "commands") + texts_in("bz_line/specs/Operands.antt", r"history_verb_in \(.*")
+
+
+def options_of_code(program):
+    text = (CRATES / OPTIONS[program]).read_text()
+    long = re.findall(r'long = Some \(codes "(\w+)"\)', text)
+    return [f"--{name}" for name in long] + [f"-{name}" for name in re.findall(r"short = Some letter_(\w)", text)]
+
+
+def statuses_of_code(program):
+    files = [file for crate in STATUSES[program] for file in (CRATES / crate / "src").glob("*.rt")]
+    return sorted({number for file in files for number in re.findall(r"const [A-Z]+: u8 = (\d+);", file.read_text())})
+
+
+# ---- scenes; each gives what is wrong
+
+
+def missing(what, wanted, found):
+    return [f"{what}: nothing was found in the code"] * (not wanted) + [f"{what}: {name}" for name in wanted if name not in found]
+
+
+def commands(pages):
+    names = [form.split()[0] for entry in pages.entries("buildozer", "COMMANDS") for form in entry.split(", ")]
+    return missing("commands", commands_of_code(), names) + missing("commands that are none", names, commands_of_code())
+
+
+def options(pages):
+    wrong = []
+    for program in OPTIONS:
+        names = [re.split("[ =]", entry)[0] for entry in pages.entries(program, "OPTIONS")]
+        wrong += missing(program, options_of_code(program), names) + missing(f"{program} has not", names, options_of_code(program))
+    return wrong
+
+
+def modes(pages):
+    names = [entry.partition("=")[2].split()[0] for entry in pages.entries("buildifier", "OPTIONS")]
+    return missing("modes", texts_in("bz_tools/specs/Modes.antt", "mode_called name"), names)
+
+
+def statuses(pages):
+    return [fault for program in STATUSES for fault in missing(program, statuses_of_code(program), pages.entries(program, "EXIT STATUS"))]
+
+
+def refusals(pages):
+    all_of_them = [(number, f"{number} {name}") for number, name in refusals_of_code()]
+    few = [name for number, name in all_of_them if number in OF_TEXTS or number in OF_FORMATTED]
+    wrong = missing("buildozer", [name for _, name in all_of_them], pages.entries("buildozer", "REFUSALS"))
+    return wrong + missing("buildifier", few, pages.entries("buildifier", "REFUSALS"))
+
+
+def readers_warn_of_nothing(pages):
+    wrong = []
+    for reader, command in READERS.items():
+        if not shutil.which(reader):
+            print(f"tests/manual.py: not run with {reader}, which is not there", flush=True)
+            continue
+        for program in STATUSES:
+            run = subprocess.run([*command, pages.file(program)], stdout=subprocess.PIPE, stderr=subprocess.PIPE, text=True, timeout=60)
+            told = run.stderr + (run.stdout if reader == "mandoc" else "")
+            wrong += [f"{reader}: {program}: {run.returncode}: {told}"] * bool(told or run.returncode)
+    return wrong
+
+
+def a_page_that_would_not_change_stays(pages):
+    before = [pages.file(program).stat().st_mtime_ns for program in STATUSES]
+    pages.make()
+    return ["a page was written again"] * (before != [pages.file(program).stat().st_mtime_ns for program in STATUSES])
+
+
+FUNCTIONS = [commands, options, modes, statuses, refusals, readers_warn_of_nothing, a_page_that_would_not_change_stays]
+SCENES = {scene.__name__.replace("_", " "): scene for scene in FUNCTIONS}
+
+
+def failures():
+    """The names of the scenes that fail, each with what was wrong."""
+    failed = []
+    with tempfile.TemporaryDirectory() as folder:
+        pages = Pages(folder)
+        for name, scene in SCENES.items():
+            wrong = scene(pages)
+            if wrong:
+                failed.append("; ".join([name, *wrong]))
+    return failed
+
+
+if __name__ == "__main__":
+    sys.exit(report("manual", SCENES, failures()))
