@@ -114,8 +114,8 @@ def readers_warn_of_nothing(pages):
             continue
         for program in STATUSES:
             run = subprocess.run([*command, pages.file(program)], stdout=subprocess.PIPE, stderr=subprocess.PIPE, text=True, timeout=60)
-            told = run.stderr + (run.stdout if reader == "mandoc" else "")
-            wrong += [f"{reader}: {program}: {run.returncode}: {told}"] * bool(told or run.returncode)
+            told = (run.stderr + (run.stdout if reader == "mandoc" else "")).splitlines()
+            wrong += [f"{reader}: {program}: {run.returncode}: {told[:3]}"] * bool(told or run.returncode)
     return wrong
 
 

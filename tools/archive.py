@@ -39,7 +39,7 @@ def pack(archive, front, files, day):
 
 
 def compress(packed, archive):
-    with open(packed, "rb") as plain, open(archive, "wb") as out, gzip.GzipFile("", "wb", 9, out, mtime=0) as compressed:
+    with open(packed, "rb") as plain, open(archive, "wb") as out, gzip.GzipFile("", "wb", 6, out, mtime=0) as compressed:
         while piece := plain.read(1 << 20):
             compressed.write(piece)
 

@@ -1,0 +1,187 @@
+#!/usr/bin/env python3
+"""Installs the built programs from a copy of this folder, takes them away, and packs them, and looks at what is left each time.
+
+In the copy bin/ holds the programs, rt is a script that does nothing, and there are no crates, so nothing is proved or built.
+
+    tests/install.py BUILDOZER BUILDIFIER
+"""
+import hashlib
+import os
+import pathlib
+import re
+import shutil
+import subprocess
+import sys
+import tarfile
+import tempfile
+
+from files import report
+from readme import TOP
+
+PROGRAMS = ["buildozer", "buildifier"]
+SHARED = ["share/man/man1/{}.1", "share/bash-completion/completions/{}", "share/zsh/site-functions/_{}", "share/fish/vendor_completions.d/{}.fish"]
+FILES = {f"bin/{program}": 0o755 for program in PROGRAMS} | {file.format(program): 0o644 for file in SHARED for program in PROGRAMS}
+ODD, EVEN = b'f(name="x")\n', b'f(name = "x")\n'
+SECONDS = 600
+# the words by which sources are called that have no tag
+OF_DAY = re.compile(r"\d{4}\.\d\d\.\d\d-[0-9a-f]{7,40}")
+
+
+class Copy:
+    """A copy of the folder, with built programs."""
+
+    def __init__(self, path, built):
+        self.path, self.top, self.root = pathlib.Path(path), pathlib.Path(path, "top"), pathlib.Path(path, "a root")
+        for folder in ("bin", "crates"):
+            (self.top / folder).mkdir(parents=True)
+        for file in ("Makefile", "README.md", "crates.txt"):
+            shutil.copy(TOP / file, self.top)
+        shutil.copytree(TOP / "tools", self.top / "tools", ignore=shutil.ignore_patterns("__pycache__"))
+        for program, file in zip(PROGRAMS, built):
+            shutil.copyfile(file, self.top / "bin" / program)
+            (self.top / "bin" / program).chmod(0o700)
+        rt = self.path / "rt"
+        rt.write_text("#!/bin/sh\n")
+        rt.chmod(0o755)
+
+    def run(self, *words, umask=0o022):
+        """The status and both outputs, as one, of a command in the copy."""
+        environment = {name: value for name, value in os.environ.items() if not name.startswith(("MAKE", "MFLAGS", "GIT_"))}
+        environment["PATH"] = f"{self.path}{os.pathsep}{environment['PATH']}"
+        how = {"stdout": subprocess.PIPE, "stderr": subprocess.STDOUT, "text": True, "timeout": SECONDS, "umask": umask}
+        run = subprocess.run(words, cwd=self.top, env=environment, **how)
+        return run.returncode, run.stdout
+
+    def make(self, *words, umask=0o022):
+        return self.run("make", "--no-print-directory", f"DESTDIR={self.root}", *words, umask=umask)
+
+    def installed(self, prefix="usr/local"):
+        """The permission bits of each file below a folder of the root."""
+        folder = self.root / prefix
+        return {str(file.relative_to(folder)): file.stat().st_mode & 0o7777 for file in folder.rglob("*") if not file.is_dir()}
+
+    def version(self):
+        return self.run("tools/version.py")[1].split()[0]
+
+    def git(self, *words):
+        return self.run("git", "-c", "user.name=a", "-c", "user.email=a", "-c", "init.defaultBranch=main", *words)
+
+
+# ---- scenes; each gives what is wrong
+
+
+def different(what, is_, want):
+    return [] if is_ == want else [f"{what}: {is_}, and not {want}"]
+
+
+def installed(copy):
+    """All files, for all to read, whatever rights new files have else; a second time makes no difference."""
+    wrong = []
+    for _ in range(2):
+        wrong += different("install", copy.make("install", umask=0o077), (0, ""))
+        wrong += different("files", copy.installed(), FILES)
+    wrong += [f"{file} is another one" for file in FILES if (copy.root / "usr/local" / file).read_bytes() != (copy.top / file).read_bytes()]
+    folders = [folder for folder in (copy.root / "usr").rglob("*") if folder.is_dir()]
+    return wrong + [f"{folder} is closed" for folder in folders if folder.stat().st_mode & 0o777 != 0o755]
+
+
+def installed_elsewhere(copy):
+    wrong = different("install", copy.make("install", "PREFIX=/opt/a folder"), (0, ""))
+    return wrong + different("files", copy.installed(""), {f"opt/a folder/{file}": mode for file, mode in FILES.items()})
+
+
+def taken_away(copy):
+    """Just what was installed, also where the copy has no pages any more, and a second time nothing."""
+    copy.make("install")
+    other = copy.root / "usr/local/share/man/man1/other.1"
+    other.write_text("other")
+    shutil.rmtree(copy.top / "share")
+    wrong = [fault for _ in range(2) for fault in different("uninstall", copy.make("uninstall"), (0, ""))]
+    return wrong + different("files", list(copy.installed()), ["share/man/man1/other.1"])
+
+
+def not_built(copy):
+    """Nothing is installed where one of the programs was not built."""
+    (copy.top / "bin/buildifier").unlink()
+    status, told = copy.make("install")
+    wrong = different("told", told.splitlines()[0], "bin/buildifier was not found: run make first.")
+    return wrong + ["it ends well"] * (status == 0) + different("files", copy.installed(), {})
+
+
+def packed(copy):
+    """The archive has the same files and README.md, its sum is told, and what is unpacked runs; a second one is the same. For the
+    larger program stands a short text."""
+    (copy.top / "bin/buildozer").write_text("#!/bin/sh\n")
+    status, told = copy.make("dist")
+    archive = copy.top / told.strip()
+    content = archive.read_bytes()
+    front = archive.name.removesuffix(".tar.gz")
+    wrong = different("status", status, 0) + different("name", front, f"kinduzar-{copy.version()}-{os.uname().machine}-linux")
+    sums = (archive.parent / f"{front}.sha256").read_text()
+    wrong += different("sum", sums, f"{hashlib.sha256(content).hexdigest()}  {archive.name}\n")
+    with tarfile.open(archive) as packed:
+        rows = {row.name: (row.mode, row.uid, row.gid) for row in packed}
+        packed.extractall(copy.path)
+    wanted = {f"{front}/{file}": (mode, 0, 0) for file, mode in {**FILES, "README.md": 0o644}.items()}
+    wrong += different("files", rows, wanted)
+    run = subprocess.run([copy.path / front / "bin/buildifier"], input=ODD, stdout=subprocess.PIPE, timeout=SECONDS)
+    wrong += different("what it writes", run.stdout, EVEN)
+    shutil.rmtree(copy.top / "share")
+    archive.unlink()
+    copy.make("dist")
+    return wrong + ["a second archive is another one"] * (archive.read_bytes() != content)
+
+
+def called_by_a_version(copy):
+    """By a fixed word outside of git, in git by the day and the commit, or by the tag, and by what was changed since."""
+    wrong = different("no repository", copy.version(), "unversioned")
+    if not shutil.which("git"):
+        print("tests/install.py: not run with git, which is not there", flush=True)
+        return wrong
+    for words in (["init", "-q"], ["add", "README.md"], ["commit", "-qm", "one"]):
+        wrong += different(words[0], copy.git(*words), (0, ""))
+    word = copy.version()
+    wrong += [] if OF_DAY.fullmatch(word) else [f"no tag: {word}"]
+    (copy.top / "README.md").write_text("changed")
+    wrong += different("changed", copy.version(), f"{word}-changed")
+    copy.git("checkout", "-q", "README.md")
+    copy.git("tag", "1.2")
+    return wrong + different("tag", copy.version(), "1.2")
+
+
+def runs_with_libraries_alone(copy):
+    """In a root that has the programs, the libraries that they name, and nothing else."""
+    root = copy.path / "bare"
+    enter = ["unshare", "--map-root-user", "chroot", str(root)]
+    if not shutil.which("ldd") or copy.run("unshare", "--map-root-user", "chroot", "/", "true")[0]:
+        print("tests/install.py: not run in a bare root, which may not be entered here", flush=True)
+        return []
+    wrong = []
+    for program in PROGRAMS:
+        for library in re.findall(r"(/\S+) \(", copy.run("ldd", f"bin/{program}")[1]):
+            (root / library[1:]).parent.mkdir(parents=True, exist_ok=True)
+            shutil.copy(library, root / library[1:])
+        shutil.copy(copy.top / "bin" / program, root)
+    for words in (["/buildifier"], ["/buildozer", "--", "set name x", "set name y", "undo", "-:all"]):
+        run = subprocess.run([*enter, *words], input=ODD, capture_output=True, timeout=SECONDS)
+        wrong += different(words[0], (run.stdout, run.stderr), (EVEN if words == ["/buildifier"] else ODD, b""))
+    return wrong
+
+
+FUNCTIONS = [installed, installed_elsewhere, taken_away, not_built, packed, called_by_a_version, runs_with_libraries_alone]
+SCENES = {scene.__name__.replace("_", " "): scene for scene in FUNCTIONS}
+
+
+def failures(*built):
+    """The names of the scenes that fail, each with what was wrong."""
+    failed = []
+    for name, scene in SCENES.items():
+        with tempfile.TemporaryDirectory() as path:
+            wrong = scene(Copy(path, built))
+        if wrong:
+            failed.append("; ".join([name, *wrong]))
+    return failed
+
+
+if __name__ == "__main__":
+    sys.exit(report("install", SCENES, failures(*(pathlib.Path(word).resolve() for word in sys.argv[1:]))))
