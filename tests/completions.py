@@ -138,7 +138,8 @@ class Terminal:
             os.chdir(place.work)
             os.execvpe(shell, [shell, *words], place.environment(shell))
         fcntl.ioctl(self.end, termios.TIOCSWINSZ, struct.pack("HHHH", 50, 200, 0, 0))
-        threading.Thread(target=self.read, daemon=True).start()
+        self.reading = threading.Thread(target=self.read, daemon=True)
+        self.reading.start()
         self.type(f"{'source' if shell == 'fish' else '.'} {place.path}/first; echo ready >> {self.line}\r")
         self.ready = self.wait(1)
 
@@ -173,6 +174,7 @@ class Terminal:
     def close(self):
         os.kill(self.id, signal.SIGKILL)
         os.waitpid(self.id, 0)
+        self.reading.join(SECONDS)
         os.close(self.end)
 
 

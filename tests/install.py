@@ -19,7 +19,8 @@ from files import report
 from readme import TOP
 
 PROGRAMS = ["buildozer", "buildifier"]
-SHARED = ["share/man/man1/{}.1", "share/bash-completion/completions/{}", "share/zsh/site-functions/_{}", "share/fish/vendor_completions.d/{}.fish"]
+SHARED = ["share/man/man1/{}.1", "share/bash-completion/completions/{}", "share/zsh/site-functions/_{}",
+          "share/fish/vendor_completions.d/{}.fish"]  # fmt: skip
 FILES = {f"bin/{program}": 0o755 for program in PROGRAMS} | {file.format(program): 0o644 for file in SHARED for program in PROGRAMS}
 ODD, EVEN = b'f(name="x")\n', b'f(name = "x")\n'
 SECONDS = 600
@@ -162,9 +163,10 @@ def runs_with_libraries_alone(copy):
             (root / library[1:]).parent.mkdir(parents=True, exist_ok=True)
             shutil.copy(library, root / library[1:])
         shutil.copy(copy.top / "bin" / program, root)
-    for words in (["/buildifier"], ["/buildozer", "--", "set name x", "set name y", "undo", "-:all"]):
+    for words in (["/buildifier"], ["/buildozer", "--", "set name y", "undo", "-:all"]):
         run = subprocess.run([*enter, *words], input=ODD, capture_output=True, timeout=SECONDS)
-        wrong += different(words[0], (run.stdout, run.stderr), (EVEN if words == ["/buildifier"] else ODD, b""))
+        found, wanted = (run.returncode, run.stdout), (0, EVEN) if words == ["/buildifier"] else (3, ODD)
+        wrong += different(f"{words[0]}: {run.stderr}", found, wanted)
     return wrong
 
 

@@ -1,5 +1,5 @@
 #!/usr/bin/env python3
-"""Makes the completions of both programs for bash, zsh and fish from README.md's tables, so that a new command or option stands there alone.
+"""Makes the completions of both programs for bash, zsh and fish from README.md's tables, so that a command or option stands there alone.
 
 tools/completions/ has what each shell does, with names between two `@` where a table goes, and candidates.sh, a script of sh that all
 three shells run to learn what an operand of buildozer may become.
@@ -18,7 +18,8 @@ TEMPLATES = TOP / "tools" / "completions"
 PLACES = {"bash": "bash-completion/completions/{}", "zsh": "zsh/site-functions/_{}", "fish": "fish/vendor_completions.d/{}.fish"}
 # what candidates.sh knows of a word in the form of a command, and of words that mean something else in one command
 KNOWN = {"ATTR": "ATTR", "KIND": "KIND", "RULE": "RULE", "FIELD": "FIELD", "VALUE": "LABEL"}
-OF_COMMAND = {("rename", "OLD"): "ATTR", ("move", "FROM"): "ATTR", ("move", "TO"): "ATTR", ("replace", "OLD"): "LABEL", ("replace", "NEW"): "LABEL"}
+OF_COMMAND = {("rename", "OLD"): "ATTR", ("move", "FROM"): "ATTR", ("move", "TO"): "ATTR",
+              ("replace", "OLD"): "LABEL", ("replace", "NEW"): "LABEL"}  # fmt: skip
 UNKNOWN = "-"
 HELP = "--help"
 

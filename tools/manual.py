@@ -13,7 +13,7 @@ import re
 import sys
 import textwrap
 
-from blocks import CODE, Example, Paragraph, Points, Table, sections, tables_of
+from blocks import CODE, Example, Paragraph, Points, Table, sections
 from version import version
 
 PROGRAMS = ["buildozer", "buildifier"]

@@ -52,7 +52,7 @@ _buildozer_reply() {
 }
 
 _buildozer() {
-    local word raw quote before text REPLY options=1
+    local word raw quote before text REPLY options=1 IFS=$' \t\n'
     COMPREPLY=()
     _buildozer_cut "${COMP_LINE:0:COMP_POINT}"
     [[ " ${before[*]} " == *' -- '* ]] && options=''
