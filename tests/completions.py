@@ -45,6 +45,8 @@ REPLIES = [
     ("buildozer 'new f a a", ["new f a after ", "new f a after .."]),
     ("buildozer 'new f a after x", ["new f a after x", "new f a after xt"]),
     ("buildozer 'copy deps x", ["copy deps x", "copy deps xt"]),
+    (r"buildozer 'copy deps odd'\''", ["$x"]),
+    ('buildozer "copy deps odd', [r"copy deps odd'\$x"]),
     ("buildozer 'print k", ["print kind"]),
     ("buildozer 'fix ", ["fix unusedLoads", "fix movePackageToTop"]),
     ("buildozer delete //", ["//:", "//app:", "//app/", "//bad:"]),

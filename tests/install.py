@@ -48,9 +48,9 @@ class Copy:
     def run(self, *words, umask=0o022):
         """The status and both outputs, as one, of a command in the copy."""
         environment = {name: value for name, value in os.environ.items() if not name.startswith(("MAKE", "MFLAGS", "GIT_"))}
-        environment["PATH"] = f"{self.path}{os.pathsep}{environment['PATH']}"
+        own = {"PATH": f"{self.path}{os.pathsep}{environment['PATH']}", "GIT_CONFIG_GLOBAL": os.devnull, "GIT_CONFIG_NOSYSTEM": "1"}
         how = {"stdout": subprocess.PIPE, "stderr": subprocess.STDOUT, "text": True, "timeout": SECONDS, "umask": umask}
-        run = subprocess.run(words, cwd=self.top, env=environment, **how)
+        run = subprocess.run(words, cwd=self.top, env={**environment, **own}, **how)
         return run.returncode, run.stdout
 
     def make(self, *words, umask=0o022):

@@ -15,7 +15,7 @@ UNKNOWN = "unversioned"
 
 def git(*words):
     """What git says of the repository that begins in this folder; nothing where it is none or git is not there."""
-    command = ["git", "-C", str(TOP), "-c", f"safe.directory={TOP}", *words]
+    command = ["git", "--no-optional-locks", "-C", str(TOP), "-c", f"safe.directory={TOP}", *words]
     try:
         run = subprocess.run(command, stdin=subprocess.DEVNULL, stdout=subprocess.PIPE, stderr=subprocess.DEVNULL, text=True)
     except OSError:

@@ -6,11 +6,11 @@ _buildozer_candidates() {
 END
 }
 
-# Cuts the text of a line into words: the last one to word, without its quotation marks, and as it stands to raw; the one that is
-# open there to quote; the others to before.
+# Cuts the text of a line into words: the last one to word, without its quotation marks, and as it stands to raw; the mark that is
+# open there to quote, and what stands before it in that word to front; the other words to before.
 _buildozer_cut() {
     local rest=$1 sign
-    word='' raw='' quote='' before=()
+    word='' raw='' quote='' front='' before=()
     while [[ $rest ]]; do
         sign=${rest:0:1} rest=${rest:1} raw+=$sign
         if [[ $sign == "$quote" ]]; then
@@ -22,7 +22,7 @@ _buildozer_cut() {
                 word+=${rest:0:1} raw+=${rest:0:1} rest=${rest:1}
             fi
         elif [[ ! $quote && $sign == [\'\"] ]]; then
-            quote=$sign
+            quote=$sign front=$word
         elif [[ ! $quote && $sign == [[:blank:]] ]]; then
             [[ $raw == "$sign" ]] || before+=("$word")
             word='' raw=''
@@ -32,27 +32,27 @@ _buildozer_cut() {
     done
 }
 
-# The text by which readline replaces what it completes: inside quotation marks all behind the first of them, else what stands
+# The text by which readline replaces what it completes: inside quotation marks what stands behind the open one, else what stands
 # behind the last sign that parts words.
 _buildozer_reply() {
-    local text=$1 front=''
+    local text=$1 kept=''
     case $quote in
-        \') REPLY=${text//\'/\'\\\'\'} ;;
-        \") REPLY=$(printf '%s' "$text" | sed 's/[\\"$`]/\\&/g') ;;
+        \') text=${text#"$front"} REPLY=${text//\'/\'\\\'\'} ;;
+        \") REPLY=$(printf '%s' "${text#"$front"}" | sed 's/[\\"$`]/\\&/g') ;;
         *)
             if [[ $text == *' '* && $word != *' '* ]]; then
                 REPLY="'${text//\'/\'\\\'\'}"
                 return
             fi
-            [[ $word == *[:=]* && $COMP_WORDBREAKS == *:* ]] && printf -v front %q "${word%"${word##*[:=]}"}"
+            [[ $word == *[:=]* && $COMP_WORDBREAKS == *:* ]] && printf -v kept %q "${word%"${word##*[:=]}"}"
             printf -v REPLY %q "$text"
-            REPLY=${REPLY#"$front"}
+            REPLY=${REPLY#"$kept"}
             ;;
     esac
 }
 
 _buildozer() {
-    local word raw quote before text REPLY options=1 IFS=$' \t\n'
+    local word raw quote front before text REPLY options=1 IFS=$' \t\n'
     COMPREPLY=()
     _buildozer_cut "${COMP_LINE:0:COMP_POINT}"
     [[ " ${before[*]} " == *' -- '* ]] && options=''

@@ -2,16 +2,14 @@
 
 set -g __buildozer_script '@CANDIDATES@'
 
-# The word at the cursor, without quotation marks, of which the last one may be open.
+# The word at the cursor without quotation marks, of which the last one may be open.
 function __buildozer_operand
     set -l token (commandline -ct)
-    switch "$token"
-        case "'*" '"*'
-            string sub -s 2 -- $token
-        case '*'
-            string unescape -- $token
-            or echo
+    for closing in '' "'" '"'
+        string unescape -- "$token$closing" 2> /dev/null
+        and return
     end
+    echo
 end
 
 # Behind a single text that goes on fish would close its quotation marks, so there a second one is shown.
