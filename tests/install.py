@@ -24,6 +24,8 @@ SHARED = ["share/man/man1/{}.1", "share/bash-completion/completions/{}", "share/
 FILES = {f"bin/{program}": 0o755 for program in PROGRAMS} | {file.format(program): 0o644 for file in SHARED for program in PROGRAMS}
 ODD, EVEN = b'f(name="x")\n', b'f(name = "x")\n'
 SECONDS = 600
+# the version of glibc with which the programs run, and every later one
+LIBRARY = (2, 34)
 # the words by which sources are called that have no tag
 OF_DAY = re.compile(r"\d{4}\.\d\d\.\d\d-[0-9a-f]{7,40}")
 
@@ -170,7 +172,23 @@ def runs_with_libraries_alone(copy):
     return wrong
 
 
-FUNCTIONS = [installed, installed_elsewhere, taken_away, not_built, packed, called_by_a_version, runs_with_libraries_alone]
+def asks_for_no_later_library(copy):
+    """Of the C library nothing is asked for that came after the version that README.md names."""
+    if not shutil.which("objdump"):
+        print("tests/install.py: not run with objdump, which is not there", flush=True)
+        return []
+    wrong = []
+    for program in PROGRAMS:
+        found = re.findall(r"GLIBC_(\d+)\.(\d+)", copy.run("objdump", "-T", f"bin/{program}")[1])
+        latest = max(((int(major), int(minor)) for major, minor in found), default=None)
+        wrong += [f"{program}: {latest}"] * (latest is None or latest > LIBRARY)
+    return wrong
+
+
+FUNCTIONS = [
+    installed, installed_elsewhere, taken_away, not_built, packed, called_by_a_version, runs_with_libraries_alone,
+    asks_for_no_later_library,
+]  # fmt: skip
 SCENES = {scene.__name__.replace("_", " "): scene for scene in FUNCTIONS}
 
 

@@ -120,9 +120,11 @@ def readers_warn_of_nothing(pages):
 
 
 def a_page_that_would_not_change_stays(pages):
-    before = [pages.file(program).stat().st_mtime_ns for program in STATUSES]
+    files = [pages.file(program) for program in STATUSES]
+    before = [(file.read_text(), file.stat().st_mtime_ns) for file in files]
     pages.make()
-    return ["a page was written again"] * (before != [pages.file(program).stat().st_mtime_ns for program in STATUSES])
+    again = [file.name for file, (text, time) in zip(files, before) if file.stat().st_mtime_ns != time and file.read_text() == text]
+    return [f"{name} was written again" for name in again]
 
 
 FUNCTIONS = [commands, options, modes, statuses, refusals, readers_warn_of_nothing, a_page_that_would_not_change_stays]
