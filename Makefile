@@ -11,8 +11,8 @@
 PROGRAMS = bin/buildozer bin/buildifier
 
 # where they are installed, and the folder that stands for the root while a package is made
-PREFIX = /usr/local
-DESTDIR =
+PREFIX ?= /usr/local
+DESTDIR ?=
 
 # what is installed beside the programs, in the folders where man and each shell look for it
 SHARED = $(foreach program,$(notdir $(PROGRAMS)),share/man/man1/$(program).1 share/bash-completion/completions/$(program) \

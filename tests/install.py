@@ -89,8 +89,12 @@ def installed(copy):
 
 
 def installed_elsewhere(copy):
+    """Below another folder, of which make or its environment is told."""
     wrong = different("install", copy.make("install", "PREFIX=/opt/a folder"), (0, ""))
-    return wrong + different("files", copy.installed(""), {f"opt/a folder/{file}": mode for file, mode in FILES.items()})
+    wrong += different("files", copy.installed(""), {f"opt/a folder/{file}": mode for file, mode in FILES.items()})
+    variables = [f"DESTDIR={copy.root}", "PREFIX=/other"]
+    wrong += different("install", copy.run("env", *variables, "make", "--no-print-directory", "install"), (0, ""))
+    return wrong + different("files", copy.installed("other"), FILES)
 
 
 def taken_away(copy):

@@ -158,7 +158,7 @@ place_of() {
 
 # words: what the last word of the operand may become, where a command and a space stand before it
 words() {
-    front= word= count=0 command= attribute= before= rest=$operand
+    front='' word='' count=0 command='' attribute='' before='' rest=$operand
     while :; do
         case $rest in
         *' '*) piece=${rest%%' '*} rest=${rest#*' '} ;;
@@ -175,7 +175,7 @@ words() {
             2) attribute=$word ;;
             esac
         fi
-        front="$front$word " word=
+        front="$front$word " word=''
     done
     word "$front" "$word$rest" "$(place_of "$command" "$count")" "$attribute" "$before"
 }
