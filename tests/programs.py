@@ -8,8 +8,9 @@ streams, and passes its status on. A line for each failure; the last one is 'N p
 
 With a command after it, as 'tests/programs.py rt ci', that runs too, and the last line adds its last line's numbers; the
 programs that it built then run over real files: buildifier over single ones (tests/files.py), buildozer over packages
-(tests/workspace.py), and both through the examples of README.md and the pages beside it (tests/readme.py), and through what contrib/ has for git, CI and
-editors (tests/contrib.py); buildozer beside a plain list of texts
+(tests/workspace.py), both through the examples of README.md and the pages beside it (tests/readme.py) and through what contrib/ has
+for git, CI and editors (tests/contrib.py); the pages for man and the completions are compared with the code and tried in shells
+(tests/manual.py, tests/completions.py), and both programs installed and packed (tests/install.py); buildozer runs beside a plain list of texts
 (tests/sessions.py); and buildozer and cases with memory refused at each request in turn (tests/memory.py). The first crate that
 it reports as not proved ends it, as soon as the proofs that run at that moment have ended; then comes once more what was
 reported of it. The line before the last one says how long the whole took, on how many processors, and how much of their time
@@ -25,8 +26,11 @@ import sys
 import tempfile
 import time
 
+import completions
 import contrib
 import files
+import install
+import manual
 import memory
 import readme
 import sessions
@@ -50,6 +54,9 @@ SCRIPTS = [
     ("runs over packages", workspace, ["buildozer"]),
     ("examples of the pages", readme, ["buildozer", "buildifier"]),
     ("what contrib has", contrib, ["buildozer", "buildifier"]),
+    ("pages for man", manual, []),
+    ("completions in shells", completions, ["buildozer"]),
+    ("installing and packing", install, ["buildozer", "buildifier"]),
     ("runs beside a plain list of texts", sessions, ["buildozer"]),
     ("runs with memory refused", memory, ["buildozer", "cases"]),
 ]
