@@ -1,0 +1,262 @@
+#!/usr/bin/env python3
+"""Runs the built programs with each of their calls to the system failing in turn, and looks at what they leave.
+
+A small library of C (failing.c), which stands between a program and the C library, lets the k-th open, read, write, flush, rename
+or the like fail, by several errors, or be short, or ends the program right before it, or has another program change or remove a
+file there; for k = 1, 2, .. until a run meets no such call; over each of the worked rows. Whatever fails, no run may end by a
+signal of its own, and each file must be whole, as it was or as the run without a failure leaves it, but for those whose names end
+in .bznew. A run that ends with the status of the one without a failure must have left all that this one leaves; every other one
+must say what failed, by a line of README, and end with the status of a failure.
+
+    [HOSTILE=whole] tests/failing.py BUILDOZER BUILDIFIER
+
+Where there is no C compiler the script says so, and nothing is tried.
+"""
+
+import collections
+import errno
+import os
+import pathlib
+import re
+import signal
+import subprocess
+import sys
+
+import worked
+from files import report
+from hostile import PATIENCE, files_in, library_of, new_folder, put, sample, told
+
+# Calls at most of one kind in one run; there are a few tens.
+MOST = 1000
+SAMPLE = 14
+# the status of a run in which something failed
+FAILED = {"buildifier": 3, "buildozer": 2}
+# lines that say what failed, those that say so of what comes behind it
+FAULT = re.compile(rb"([^\n]*): cannot (open|write)")
+BEHIND = re.compile(rb"buildozer: [^\n]*: (?:undo|redo)[^\n]*: TooFar \(61\)")
+
+# ways to fail, by what is called
+WAYS = {
+    "open": [errno.EIO, errno.EACCES, errno.ENOENT, errno.EMFILE, errno.EINTR],
+    "read": [errno.EIO, errno.EINTR, errno.EISDIR, "short"],
+    "write": [errno.EIO, errno.ENOSPC, errno.EINTR, errno.EPIPE, "short"],
+    "fsync": [errno.EIO, errno.ENOSPC, errno.EINTR],
+    "rename": [errno.EIO, errno.ENOSPC, errno.EINTR],
+    "unlink": [errno.EIO],
+    "statx": [errno.EIO, errno.EINTR],
+    "fchmod": [errno.EPERM],
+    "close": [errno.EIO],
+}
+# the calls from one on fail too
+ONWARD = [("read", errno.EIO), ("write", errno.ENOSPC), ("open", errno.EMFILE), ("read", "short"), ("write", "short")]
+
+# What a run leaves: the status, both outputs, and all files but those whose names end in .bznew.
+Left = collections.namedtuple("Left", "status out err files")
+
+
+def way_name(way):
+    return way if isinstance(way, str) else errno.errorcode[way]
+
+
+class Failing:
+    """The built programs, and the library under which their calls fail."""
+
+    def __init__(self, buildozer, buildifier, library):
+        self.programs = {"buildozer": buildozer, "buildifier": buildifier}
+        self.library = library
+
+    def run(self, row, files, call="", number="", way="", **further):
+        """What a run over these files leaves, and what failed in it: a line for each call."""
+        ours, its = os.pipe()
+        how = {"FAILING_TOLD": its, "FAILING_CALL": call, "FAILING_NUMBER": number, "FAILING_HOW": way, **further} if call else {}
+        # a program that was built to look after its memory itself takes the library in front of it as well
+        asan = {"ASAN_OPTIONS": "verify_asan_link_order=0"}
+        environment = {**os.environ, **asan, "LD_PRELOAD": self.library, **{name: str(word) for name, word in how.items()}}
+        with new_folder() as folder:
+            put(folder, files)
+            command = [self.programs[row.program], *row.words]
+            run = subprocess.run(command, input=row.text, capture_output=True, env=environment, cwd=folder, pass_fds=[its], timeout=PATIENCE)
+            left = {name: text for name, text in files_in(folder).items() if not name.endswith(".bznew")}
+        os.close(its)
+        with open(ours) as lines:
+            return Left(run.returncode, run.stdout, run.stderr, left), lines.read().splitlines()
+
+    def sweep(self, row, call, way, mark="", **further):
+        """What each run left, with the number of the call and what failed in it; until none does."""
+        for number in range(1, MOST):
+            left, failed = self.run(row, row.files, call, f"{number}{mark}", way, **further)
+            if not failed:
+                return
+            yield number, left, failed
+        raise RuntimeError(f"{call}: no end")
+
+
+# ---- what may be left
+
+
+def is_cut_from(told_lines, lines):
+    """Whether a text is beginnings of these lines, one behind the other."""
+    places = {0}
+    for line in lines:
+        places = {at + length for at in places for length in range(len(line) + 1) if told_lines.startswith(line[:length], at)}
+    return len(told_lines) in places
+
+
+def is_within(part, whole):
+    """Whether the lines of a text stand in another one, in their order; the last one may be cut."""
+    rest = iter(whole.splitlines(keepends=True))
+    return all(any(other.startswith(line) for other in rest) for line in part.splitlines(keepends=True))
+
+
+class Allowed:
+    """What a row leaves when nothing fails, and when some of its files are not there."""
+
+    def __init__(self, failing, row):
+        self.row = row
+        self.ample = failing.run(row, row.files)[0]
+        others = [failing.run(row, {kept: text for kept, text in row.files.items() if kept != name})[0] for name in row.files]
+        self.all = [self.ample, *others]
+
+    def contents(self, name):
+        found = [left.files[name] for left in self.all if name in left.files]
+        return [self.row.files[name], *found] if name in self.row.files else found
+
+    def files_wrong(self, left):
+        wrong = [f"{name}: {text!r}" for name, text in left.files.items() if text not in self.contents(name)]
+        return wrong + [f"{name} is gone" for name in self.row.files if name not in left.files]
+
+    def faults(self, left, failed):
+        """What is wrong with what a run left in which these calls failed."""
+        if left.status < 0:
+            return [f"signal {-left.status}"]
+        if left == self.ample:
+            return []
+        if all(line == "write 2" for line in failed):
+            same = left._replace(err=b"") == self.ample._replace(err=b"")
+            return [] if same and is_cut_from(left.err, self.ample.err.splitlines(keepends=True)) else [f"standard error failed: {left}"]
+        return self.files_wrong(left) + self.told_wrong(left, failed)
+
+    def told_wrong(self, left, failed):
+        """Where something is not as without a failure that must be told, and the status with it."""
+        lines = left.err.splitlines()
+        known = {line for run in self.all for line in run.err.splitlines()}
+        faults = [found for found in map(FAULT.fullmatch, lines) if found]
+        new = [found for found in faults if found[0] not in self.ample.err.splitlines()]
+        cuts = "write 2" in failed
+        wrong = [] if new or cuts else [f"nothing is told: {left}"]
+        # lines of operands that can't be read are a fault of usage
+        usage = {1} if self.row.program == "buildozer" and "-f" in self.row.words else set()
+        if left.status not in {FAILED[self.row.program]} | usage:
+            wrong.append(f"status {left.status}")
+        if not cuts:
+            wrong += [f"the line {line}" for line in lines if line not in known and not FAULT.fullmatch(line) and not BEHIND.fullmatch(line)]
+        unwritten = {found[1].decode() for found in faults if found[2] == b"write"}
+        wrong += [f"{name} is written, and told as not" for name in unwritten & set(self.row.files) if left.files.get(name) != self.row.files[name]]
+        if not any(is_within(left.out, run.out) for run in self.all):
+            wrong.append(f"standard output {left.out!r}")
+        return wrong
+
+
+# ---- scenes
+
+
+def each_call_fails(row):
+    def wrong(failing):
+        allowed, found = Allowed(failing, row), []
+        if allowed.ample.status != row.status:
+            found.append(f"status {allowed.ample.status} without a failure, and not {row.status}")
+        ways = [(call, way, "") for call, ways in WAYS.items() for way in ways] + [(call, way, "-") for call, way in ONWARD]
+        for call, way, mark in ways:
+            for number, left, failed in failing.sweep(row, call, way, mark):
+                found += [f"{call} {number}{mark} {way_name(way)}: {fault}" for fault in allowed.faults(left, failed)]
+        return found
+
+    return wrong
+
+
+def each_call_is_the_last(row):
+    """The program is killed right before it: each file is whole, and a run after that leaves what the first one would."""
+
+    def wrong(failing):
+        allowed, found = Allowed(failing, row), []
+        for call in WAYS:
+            for number, left, _ in failing.sweep(row, call, "kill"):
+                fault = allowed.files_wrong(left) + ([f"status {left.status}"] if left.status != -signal.SIGKILL else [])
+                found += [f"killed at {call} {number}: {each}" for each in fault]
+        return found
+
+    return wrong
+
+
+CHANGED = b"another = 1\n"
+EDITS = {
+    "buildifier": worked.Row("buildifier", ["f"], b"", {"f": b"x=1\n"}),
+    "buildozer": worked.Row("buildozer", ["set k 1", "//:x"], b"", {"BUILD": b'f(name="x")\n'}),
+}
+
+
+def another_program(program, way):
+    """It changes or removes the file right before a call: what it left stays, but where it comes in between the last read of the file
+    and the rename, when nobody can tell."""
+    row = EDITS[program]
+    (name, before), *_ = row.files.items()
+    line = f"{name}: cannot write\n".encode()
+
+    def wrong(failing):
+        found, after = [], failing.run(row, row.files)[0].files[name]
+        further = {"FAILING_FILE": name, "FAILING_BYTES": CHANGED.decode()}
+        for call in ("open", "read", "close"):
+            for number, left, failed in failing.sweep(row, call, way, **further):
+                text = left.files.get(name)
+                is_told = line in left.err and left.status == FAILED[program]
+                if failed[0].endswith(".bznew"):
+                    is_right = text == after
+                elif way == "change":
+                    # read as a whole before or after the change, or told
+                    is_right = text == CHANGED and (is_told or left.err == b"" or b": cannot" in left.err or b"(41)" in left.err) or text == after
+                else:
+                    is_right = text is None or text == after
+                if left.status < 0 or not is_right:
+                    found.append(f"{way} before {call} {number}, of {failed[0]}: {left}, from {before}")
+        return found
+
+    return wrong
+
+
+def a_left_file_is_written_over(failing):
+    """Where a run was killed with its new file half written, the next one leaves what the first one would, and nothing else."""
+    row = worked.ROWS["a package is edited"]
+    name = worked.MANY
+    after = failing.run(row, row.files)[0].files
+    found = []
+    with new_folder() as folder:
+        put(folder, {**row.files, f"{name}.bznew": b"half"})
+        subprocess.run([failing.programs["buildozer"], *row.words], cwd=folder, capture_output=True, timeout=PATIENCE)
+        if files_in(folder) != after:
+            found.append(f"{files_in(folder)}, and not {after}")
+    return found
+
+
+def scenes():
+    names = sample(worked.ROWS, SAMPLE)
+    found = {f"each call fails, {name}": each_call_fails(worked.ROWS[name]) for name in names}
+    with_files = [name for name, row in worked.ROWS.items() if row.files]
+    found |= {f"killed at each call, {name}": each_call_is_the_last(worked.ROWS[name]) for name in sample(with_files, 6)}
+    for program in EDITS:
+        found |= {f"another program's {way} beside {program}": another_program(program, way) for way in ("change", "remove")}
+    return found | {"a left file is written over": a_left_file_is_written_over}
+
+
+# Each scene by its name; each gives what is wrong.
+SCENES = scenes()
+
+
+def failures(buildozer, buildifier):
+    """The names of the scenes that the programs fail, each with what was wrong."""
+    with new_folder() as folder:
+        library = library_of("failing.c", folder)
+        return told(SCENES, Failing(buildozer, buildifier, library)) if library else []
+
+
+if __name__ == "__main__":
+    sys.exit(report("failing", SCENES, failures(*(pathlib.Path(word).resolve() for word in sys.argv[1:]))))
