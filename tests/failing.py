@@ -116,6 +116,8 @@ class Allowed:
         self.ample = failing.run(row, row.files)[0]
         others = [failing.run(row, {kept: text for kept, text in row.files.items() if kept != name})[0] for name in row.files]
         self.all = [self.ample, *others]
+        # where a file is not found it stays, and all goes as if it weren't there
+        self.whole = [left._replace(files={**row.files, **left.files}) for left in self.all]
 
     def contents(self, name):
         found = [left.files[name] for left in self.all if name in left.files]
@@ -129,7 +131,7 @@ class Allowed:
         """What is wrong with what a run left in which these calls failed."""
         if left.status < 0:
             return [f"signal {-left.status}"]
-        if left == self.ample:
+        if left in self.whole:
             return []
         if all(line == "write 2" for line in failed):
             same = left._replace(err=b"") == self.ample._replace(err=b"")
