@@ -6,6 +6,8 @@
 # make test   the tests: runs of the programs (tests/), every proof from nothing, the edits that the prover must refuse, each program and each test
 # make bench  the time and the memory of a delete in a large file, of many commands in one run, of a run over many packages, and of reading a file; with FOLDER=.. of the BUILD files there
 # make shapes how much longer reading takes for twice the text, for texts of thirty shapes (5 minutes)
+# make hostile    torn, deep and made texts, each request for memory refused, each call of the system failing, and devices that fail: all of it
+# make fuzz       both programs over mutants for MINUTES=10 of the clock; with SEED=.. the case of that number alone
 # make corpus FOLDER=..   reads each BUILD file below the folder, spells it back byte for byte, and formats it twice
 
 PROGRAMS = bin/buildozer bin/buildifier
@@ -21,7 +23,7 @@ SHARED = $(foreach program,$(notdir $(PROGRAMS)),share/man/man1/$(program).1 sha
 # what the programs are made of; a second 'make' with nothing changed does nothing
 SOURCES = crates.txt $(shell find crates -name out -prune -o -path '*/must-fail' -prune -o -type f -print)
 
-.PHONY: all share install uninstall dist test edits bench shapes corpus clean rt
+.PHONY: all share install uninstall dist test edits bench shapes hostile fuzz corpus clean rt
 
 all: $(PROGRAMS) share bin/.shown
 
@@ -82,6 +84,17 @@ bench: $(PROGRAMS) bin/cases
 
 shapes: bin/cases
 	@bench/shapes.py
+
+hostile: $(PROGRAMS) bin/cases
+	@HOSTILE=whole tests/torn.py $(PROGRAMS)
+	@HOSTILE=whole tests/memory.py bin/buildozer bin/cases bin/buildifier
+	@HOSTILE=whole tests/failing.py $(PROGRAMS)
+	@HOSTILE=whole tests/devices.py $(PROGRAMS)
+
+MINUTES = 10
+
+fuzz: $(PROGRAMS)
+	@MINUTES=$(MINUTES) tests/fuzz.py $(PROGRAMS) $(SEED)
 
 corpus: bin/cases bin/buildifier
 	@bench/corpus.sh "$(FOLDER)"

@@ -7,26 +7,38 @@ signal, and each must leave what ample memory gives, or what its row allows besi
 refused memory, which changes nothing. So the rows show of the programs what is proved of the session: an undo or redo over a step
 whose edits hold as many parts as they cover takes no memory, whatever else is refused, since no such answer is allowed there.
 
-    tests/memory.py BUILDOZER CASES
+Beside them stand the rows that both programs were worked out by (worked.py). What each of these may leave is found by runs with
+ample memory: of all its commands, and of some of them only, since one that is refused memory changes nothing. Of some rows some
+requests are refused; with HOSTILE=whole in the environment, each request of each row.
 
-Where there is no C compiler the script says so, and nothing is tried.
+    [HOSTILE=whole] tests/memory.py BUILDOZER CASES [BUILDIFIER]
+
+Where there is no C compiler the script says so, and nothing is tried; without buildifier its rows are not.
 """
 import collections
+import itertools
 import os
 import pathlib
-import shutil
+import re
 import subprocess
 import sys
-import tempfile
 
+import worked
 from files import report
+from hostile import PATIENCE, WHOLE, files_in, library_of, new_folder, put, sample
 from sessions import told_of
 
 # Requests at most of one run; there are a few hundred.
 MOST = 100_000
 
+# Of how many worked rows requests are refused, how many of each, and of the rows of long texts, where only a sample is wanted; of the
+# rows of long texts the whole is these first requests too.
+SAMPLE_OF_ROWS = 24
+SAMPLE_OF_REQUESTS = 10
+LONG_REQUESTS = 100
+
 # What a run leaves: the status, standard output, and standard error, of which None takes any.
-Left = collections.namedtuple("Left", "status out err", defaults=[b""])
+Left = collections.namedtuple("Left", "status out err", defaults=[b"", b""])
 
 # A run: the program with its words and standard input, what ample memory answers, and the other answers, each of which must
 # come where some request alone is refused. Where each request from some one on is refused nothing can be written, and the lines
@@ -124,15 +136,23 @@ class Refusing:
         self.programs = programs
         self.library = library
 
-    def ended(self, row, refused):
+    def ended(self, row, refused, folder=None):
         """What a run leaves, and whether it was refused what `refused` says."""
         ours, its = os.pipe()
         environment = {**os.environ, "LD_PRELOAD": self.library, "REFUSED": refused, "REFUSED_TOLD": str(its)}
         command = [self.programs[row.program], *row.words]
-        run = subprocess.run(command, input=row.text, capture_output=True, env=environment, pass_fds=[its], timeout=60)
+        how = {"env": environment, "cwd": folder, "pass_fds": [its], "timeout": PATIENCE}
+        run = subprocess.run(command, input=row.text, capture_output=True, **how)
         os.close(its)
         with open(ours, "rb") as told:
             return Left(run.returncode, run.stdout, run.stderr), bool(told.read())
+
+    def over_files(self, row, refused):
+        """The same of a row with files, and what stands in these behind it, but for those whose names end in .bznew."""
+        with new_folder() as folder:
+            put(folder, row.files)
+            left, was_refused = self.ended(row, refused, folder)
+            return left, {name: text for name, text in files_in(folder).items() if not name.endswith(".bznew")}, was_refused
 
     def sweep(self, row, mark):
         """What each run left, with the number of the request that it was refused; the last one was refused none."""
@@ -143,6 +163,16 @@ class Refusing:
             if not was_refused:
                 return found
         return [*found, ("each request", "no end")]
+
+    def requests(self, row):
+        """How many requests a run of a row makes, where none is refused."""
+        low, high = 0, 1
+        while self.over_files(row, f"{high}-")[2]:
+            low, high = high, high * 2
+        while high - low > 1:
+            middle = (low + high) // 2
+            low, high = (middle, high) if self.over_files(row, f"{middle}-")[2] else (low, middle)
+        return low
 
 
 def is_one_of(left, allowed):
@@ -159,23 +189,106 @@ def faults(refusing, row):
     return wrong + [f"no refusal gave {other}" for other in row.others if other not in met]
 
 
+# ---- the worked rows
+
+# a line that says that memory was refused; one that may come behind it; and the status of a run in which it was
+MEMORY = re.compile(rb"(?:buildozer|buildifier): Memory|[^\n]*: (?:Memory|Memory \(8\)|cannot write)")
+BEHIND = re.compile(rb"buildozer: [^\n]*: (?:TooFar \(61\)|NoTarget \(41\))")
+FAILED = {"buildozer": 2, "buildifier": 3}
+# who tells nothing, and ends with that status, where memory is refused while its words are read and nothing is done yet
+SILENT = ["buildifier"]
+
+
+def is_command(row, place):
+    """Whether the word at the place is a command of buildozer."""
+    word = row.words[place]
+    is_target = " " not in word and (":" in word or word.startswith("//"))
+    return row.program == "buildozer" and "-f" not in row.words and not is_target and not word.startswith("-")
+
+
+def with_fewer_commands(row):
+    """The row, and the same row without some of its commands; of lines of operands, without some lines."""
+    commands = [place for place in range(len(row.words)) if is_command(row, place)]
+    gone = [set(places) for count in range(max(len(commands), 1)) for places in itertools.combinations(commands, count)]
+    fewer = [row._replace(words=[word for place, word in enumerate(row.words) if place not in left_out]) for left_out in gone]
+    return fewer + ([row._replace(text=row.text.replace(b"add deps :y|//p:a\n", b""), files={**row.files, "cmds": b"delete|//p:zz\n"})] if "-f" in row.words else [])
+
+
+class Allowed:
+    """What a worked row may leave."""
+
+    def __init__(self, refusing, row):
+        # a refusal that is never met: this run and the others have ample memory
+        runs = [refusing.over_files(fewer, str(MOST))[:2] for fewer in with_fewer_commands(row)]
+        self.row = row
+        self.ample, self.after = runs[0]
+        self.known = {line for left, _ in runs for line in left.err.splitlines()}
+        printed = self.ample.out.splitlines(keepends=True)
+        texts = {b"", row.text, *(left.out for left, _ in runs)}
+        self.outs = {b"".join(printed[:count]) + text for count in range(len(printed) + 1) for text in texts}
+        self.files = {name: [text, *(after.get(name) for _, after in runs)] for name, text in row.files.items()}
+
+    def wrong(self, left, files):
+        """What is wrong with what a run left; where memory was refused that must be told, with the status of it."""
+        if (left, files) == (self.ample, self.after):
+            return []
+        found = [f"the file {name}: {files.get(name)!r}" for name in {*files, *self.files} if files.get(name) not in self.files.get(name, [])]
+        lines = left.err.splitlines()
+        told = [line for line in lines if MEMORY.fullmatch(line) and line not in self.ample.err.splitlines()]
+        if self.row.program in SILENT and not told and (left, files) == (Left(FAILED[self.row.program], b""), self.row.files):
+            return []
+        if left.status != FAILED[self.row.program] or not told:
+            found.append(f"status {left.status}, and told is {left.err!r}")
+        found += [f"the line {line}" for line in lines if line not in self.known and not MEMORY.fullmatch(line) and not BEHIND.fullmatch(line)]
+        return found + ([] if left.out in self.outs else [f"standard output {left.out!r}"])
+
+
+def worked_faults(refusing, row, most):
+    """What is wrong in the runs of a worked row, of which at most so many requests are refused."""
+    allowed, found = Allowed(refusing, row), []
+    if allowed.ample.status != row.status:
+        found.append(f"status {allowed.ample.status} with ample memory, and not {row.status}")
+    numbers = range(1, min(refusing.requests(row), most) + 1)
+    for mark in ("", "-"):
+        for number in sample(numbers, SAMPLE_OF_REQUESTS):
+            left, files, _ = refusing.over_files(row, f"{number}{mark}")
+            found += [f"request {number}{mark} refused: {fault}" for fault in allowed.wrong(left, files)]
+    return found
+
+
+def a_row(row):
+    return lambda refusing: faults(refusing, row)
+
+
+def a_worked_row(row, most=MOST):
+    return lambda refusing: worked_faults(refusing, row, most) if row.program in refusing.programs else []
+
+
+def scenes():
+    found = {name: a_row(row) for name, row in ROWS.items()}
+    found |= {f"worked out: {name}": a_worked_row(worked.ROWS[name]) for name in sample(worked.ROWS, SAMPLE_OF_ROWS)}
+    if WHOLE:
+        found |= {f"worked out: {name}": a_worked_row(row, LONG_REQUESTS) for name, row in worked.LONG_ROWS.items()}
+    return found
+
+
 # Each scene by its name.
-SCENES = ROWS
+SCENES = scenes()
 
 
-def failures(buildozer, cases):
+def failures(buildozer, cases, buildifier=None):
     """The names of the rows that fail, each with what was wrong."""
-    if not shutil.which("cc"):
-        print("tests/memory.py: there is no cc, so no request for memory was refused", flush=True)
-        return []
+    programs = {"buildozer": buildozer, "cases": cases, **({"buildifier": buildifier} if buildifier else {})}
+    if not buildifier:
+        print("tests/memory.py: buildifier was not named, so it was refused no memory", flush=True)
     failed = []
-    with tempfile.TemporaryDirectory() as folder:
-        library = f"{folder}/refused.so"
-        source = pathlib.Path(__file__).resolve().with_name("refused.c")
-        subprocess.run(["cc", "-O1", "-shared", "-fPIC", "-o", library, source], check=True)
-        refusing = Refusing({"buildozer": buildozer, "cases": cases}, library)
-        for name, row in ROWS.items():
-            wrong = faults(refusing, row)
+    with new_folder() as folder:
+        library = library_of("refused.c", folder)
+        if not library:
+            return []
+        refusing = Refusing(programs, library)
+        for name, scene in SCENES.items():
+            wrong = scene(refusing)
             if wrong:
                 failed.append("; ".join([name, *wrong]))
     return failed
