@@ -13,6 +13,7 @@ whoever starts them, it is told as any other failure.
     tests/devices.py BUILDOZER BUILDIFIER
 """
 
+import contextlib
 import os
 import pathlib
 import resource
@@ -136,8 +137,10 @@ def a_reader_that_goes(p):
         how = {"cwd": p.folder, "stdin": subprocess.PIPE, "stdout": subprocess.PIPE, "stderr": subprocess.PIPE}
         with subprocess.Popen([p.programs[program], *words], **how) as run:
             run.stdout.close()
-            run.stdin.write(text)
-            run.stdin.close()
+            # a program that is gone already takes no input
+            with contextlib.suppress(BrokenPipeError):
+                run.stdin.write(text)
+                run.stdin.close()
             told_lines = run.stderr.read()
         p.expect(f"{program} without a reader", (run.returncode, told_lines), (FAILED[program], UNSHOWN))
 
@@ -172,7 +175,7 @@ def a_limit_of_files(p):
 # In a file system of two pages, of which one is the file's, and one is taken by another file but for what is left of it.
 FULL = """mount -t tmpfs -o size=8k,nr_inodes=6 none "$1" && cd "$1" || exit 77
 cat > "$2" && head -c 4096 /dev/zero > other && shift 2; name=$1; shift
-"$@" 2> /dev/null; echo "status $?"; cat "$name"
+"$@" 2> /dev/null; echo "status $?"; cat "$name"; exit 0
 """
 
 

@@ -61,7 +61,10 @@ def told(scenes, *given):
     """The names of the scenes that fail, each with what was wrong: a few of it, and how much there was."""
     failed = []
     for name, scene in scenes.items():
-        wrong = scene(*given)
+        try:
+            wrong = scene(*given)
+        except (OSError, subprocess.SubprocessError) as error:
+            wrong = [repr(error)[:500]]
         if wrong:
             more = [f"and {len(wrong) - 5} more"] if len(wrong) > 5 else []
             failed.append("; ".join([name, *wrong[:5], *more]))
