@@ -21,6 +21,7 @@ import shutil
 import signal
 import subprocess
 import sys
+import tempfile
 
 from files import report
 from hostile import PATIENCE, files_in, new_folder, put, told
@@ -79,14 +80,13 @@ def in_place(scene):
     """A scene in a folder of its own."""
 
     def wrong(programs):
-        with new_folder() as folder:
-            os.chmod(folder, 0o755)
-            copies = {name: shutil.copy(program, folder) for name, program in programs.items()}
-            for copy in copies.values():
-                os.chmod(copy, 0o755)
-            inner = pathlib.Path(folder, "place")
-            inner.mkdir()
-            place = Place(copies, inner)
+        with new_folder() as folder, tempfile.TemporaryDirectory() as built:
+            copies = {name: f"{built}/{name}" for name in programs}
+            for name, program in programs.items():
+                shutil.copy(program, copies[name])
+            for path in (built, *copies.values()):
+                os.chmod(path, 0o755)
+            place = Place(copies, folder)
             scene(place)
         return place.wrong
 

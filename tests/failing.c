@@ -2,7 +2,7 @@
  * Makes a call of the system fail. Loaded in front of a program by LD_PRELOAD, it counts the program's calls of each kind from
  * its own beginning on, and hands them on to the system. The words FAILING_CALL, FAILING_NUMBER and FAILING_HOW in the environment
  * say which call of which kind does what: `7` is the seventh alone, `7-` the seventh and each one after it. A number as HOW is that
- * of the error with which it fails; `short` is a read or write of one byte; `kill` ends the program before the call; `change` and
+ * of the error with which it fails; `short` is a read or write of one byte, `none` of no byte; `kill` ends the program before the call; `change` and
  * `remove` are another program's work right before the call, which gives FAILING_FILE the bytes of FAILING_BYTES, or removes it.
  * Where that comes to pass, a line is written to the open file whose number is FAILING_TOLD: what was called, and on which file.
  */
@@ -86,6 +86,8 @@ static size_t taken(const char *call, int file, size_t count, int *failed)
         *failed = 1;
         errno = error;
     }
+    if (strcmp(how, "none") == 0)
+        return 0;
     return strcmp(how, "short") == 0 && count > 1 ? 1 : count;
 }
 

@@ -21,6 +21,7 @@ import re
 import signal
 import subprocess
 import sys
+import tempfile
 
 import worked
 from files import report
@@ -39,7 +40,7 @@ BEHIND = re.compile(rb"buildozer: [^\n]*: (?:undo|redo)[^\n]*: TooFar \(61\)")
 WAYS = {
     "open": [errno.EIO, errno.EACCES, errno.ENOENT, errno.EMFILE, errno.EINTR],
     "read": [errno.EIO, errno.EINTR, errno.EISDIR, "short"],
-    "write": [errno.EIO, errno.ENOSPC, errno.EINTR, errno.EPIPE, "short"],
+    "write": [errno.EIO, errno.ENOSPC, errno.EINTR, errno.EPIPE, "short", "none"],
     "fsync": [errno.EIO, errno.ENOSPC, errno.EINTR],
     "rename": [errno.EIO, errno.ENOSPC, errno.EINTR],
     "unlink": [errno.EIO],
@@ -48,7 +49,7 @@ WAYS = {
     "close": [errno.EIO],
 }
 # the calls from one on fail too
-ONWARD = [("read", errno.EIO), ("write", errno.ENOSPC), ("open", errno.EMFILE), ("read", "short"), ("write", "short")]
+ONWARD = [("read", errno.EIO), ("write", errno.ENOSPC), ("open", errno.EMFILE), ("read", "short"), ("write", "short"), ("write", "none")]
 
 # What a run leaves: the status, both outputs, and all files but those whose names end in .bznew.
 Left = collections.namedtuple("Left", "status out err files")
@@ -168,10 +169,12 @@ def each_call_fails(row):
         if allowed.ample.status != row.status:
             found.append(f"status {allowed.ample.status} without a failure, and not {row.status}")
         ways = [(call, way, "") for call, ways in WAYS.items() for way in ways] + [(call, way, "-") for call, way in ONWARD]
+        seen = 0
         for call, way, mark in ways:
             for number, left, failed in failing.sweep(row, call, way, mark):
+                seen += 1
                 found += [f"{call} {number}{mark} {way_name(way)}: {fault}" for fault in allowed.faults(left, failed)]
-        return found
+        return found + ([] if seen else ["no call was seen, so none failed"])
 
     return wrong
 
@@ -228,7 +231,7 @@ def another_program(program, way):
 def a_left_file_is_written_over(failing):
     """Where a run was killed with its new file half written, the next one leaves what the first one would, and nothing else."""
     row = worked.ROWS["a package is edited"]
-    name = worked.MANY
+    name = worked.PACKAGE_FILE
     after = failing.run(row, row.files)[0].files
     found = []
     with new_folder() as folder:
@@ -255,7 +258,7 @@ SCENES = scenes()
 
 def failures(buildozer, buildifier):
     """The names of the scenes that the programs fail, each with what was wrong."""
-    with new_folder() as folder:
+    with tempfile.TemporaryDirectory() as folder:
         library = library_of("failing.c", folder)
         return told(SCENES, Failing(buildozer, buildifier, library)) if library else []
 

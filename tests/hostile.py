@@ -14,7 +14,8 @@ import tempfile
 WHOLE = os.environ.get("HOSTILE") == "whole"
 # how long a run over many files may take, in seconds, before it counts as one that hangs
 PATIENCE = 300
-# a file system in memory, on which a flush to the disk costs nothing; where there is none, the usual place
+# a file system in memory, on which a flush to the disk costs nothing; where there is none, the usual place. It may be one from which
+# nothing is run
 MEMORY = pathlib.Path("/dev/shm")
 
 
@@ -28,7 +29,7 @@ def sample(things, count):
 
 
 def new_folder():
-    """A folder of its own that goes with its use, in memory where that can be."""
+    """A folder of its own that goes with its use, in memory where that can be; for files only, since no program may be run there."""
     return tempfile.TemporaryDirectory(dir=MEMORY if os.access(MEMORY, os.W_OK | os.X_OK) else None)
 
 

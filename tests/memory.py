@@ -22,6 +22,7 @@ import pathlib
 import re
 import subprocess
 import sys
+import tempfile
 
 import worked
 from files import report
@@ -249,6 +250,8 @@ def worked_faults(refusing, row, most):
     if allowed.ample.status != row.status:
         found.append(f"status {allowed.ample.status} with ample memory, and not {row.status}")
     numbers = range(1, min(refusing.requests(row), most) + 1)
+    if not numbers:
+        found.append("no request was seen, so none was refused")
     for mark in ("", "-"):
         for number in sample(numbers, SAMPLE_OF_REQUESTS):
             left, files, _ = refusing.over_files(row, f"{number}{mark}")
@@ -282,7 +285,7 @@ def failures(buildozer, cases, buildifier=None):
     if not buildifier:
         print("tests/memory.py: buildifier was not named, so it was refused no memory", flush=True)
     failed = []
-    with new_folder() as folder:
+    with tempfile.TemporaryDirectory() as folder:
         library = library_of("refused.c", folder)
         if not library:
             return []

@@ -27,10 +27,10 @@ LAID_TWO = b't(\n    name = "a",\n    deps = [\n        ":x",\n        ":z",\n  
 PAIR = b'a(name="p")\nb(name="q")\n'
 MODES = b"a = 1; b = 2; # c\n"
 
-MANY = 'p/BUILD'
-PACKAGE = {MANY: b't(name="a",deps=[])\n'}
+PACKAGE_FILE = "p/BUILD"
+PACKAGE = {PACKAGE_FILE: b't(name="a",deps=[])\n'}
 LINES = b"# c\n\nadd deps :y|//p:a\ndelete|//p:zz\n"
-THREE = {"BUILD": b'f( name="x" )\n', "a/BUILD.bazel": b'g(name="x",deps=["b","a"])\n', "a/BUILD": b'h(name="x")\n', "b/BUILD": b"x(\n"}
+SORTS = {"BUILD": b'f( name="x" )\n', "a/BUILD.bazel": b'g(name="x",deps=["b","a"])\n', "a/BUILD": b'h(name="x")\n', "b/BUILD": b"x(\n"}
 
 # ---- buildifier: a name, the text, and the status
 
@@ -138,8 +138,8 @@ OVER_FILES = [
     ("a package is shown", "buildozer", ["--stdout", "add deps //p:x", "//p:a"], b"", PACKAGE, 0),
     ("lines of a file", "buildozer", ["-k", "-f", "cmds"], b"", {**PACKAGE, "cmds": LINES}, 2),
     ("lines of standard input", "buildozer", ["-k", "-f", "-"], LINES, PACKAGE, 2),
-    ("packages of all sorts", "buildozer", ["-k", "set size small", "//:x", "//a:x", "//b:x", "//none:x"], b"", THREE, 2),
-    ("packages and standard input", "buildozer", ["--", "print name", "set size small", "//:x", "-:p", "//a:x"], PAIR, THREE, 0),
+    ("packages of all sorts", "buildozer", ["-k", "set size small", "//:x", "//a:x", "//b:x", "//none:x"], b"", SORTS, 2),
+    ("packages and standard input", "buildozer", ["--", "print name", "set size small", "//:x", "-:p", "//a:x"], PAIR, SORTS, 0),
 ]  # fmt: skip
 
 ROWS = {name: Row("buildifier", [], text, {}, status) for name, text, status in FORMATTED}
@@ -147,7 +147,6 @@ ROWS |= {name: Row("buildozer", words, text, {}, status) for name, words, text, 
 ROWS |= {name: Row(*row) for name, *row in OVER_FILES}
 
 # ---- texts past a limit, or right before one: too long to be torn
-
 
 LONGEST = 4_194_304
 LONG_ROWS = {
