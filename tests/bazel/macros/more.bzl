@@ -1,0 +1,4 @@
+"""More of them."""
+
+def more(name, outs):
+    native.genrule(name = name, outs = outs, cmd = "touch $(OUTS)")
