@@ -16,6 +16,7 @@ import os
 import pathlib
 import re
 import shutil
+import signal
 import subprocess
 import sys
 import tempfile
@@ -33,7 +34,7 @@ WITHOUT_WORKSPACE = 7
 LIMIT = 300
 
 # How the server's Java is started: it is short-lived and small.
-JAVA = [f"--host_jvm_args={word}" for word in ("-Xmx512m", "-XX:+UseSerialGC", "-XX:TieredStopAtLevel=1")]
+JAVA = [f"--host_jvm_args={word}" for word in ("-Xmx512m", "-XX:TieredStopAtLevel=1")]
 
 # The attributes whose lists formatting sorts, in every kind of rule but for srcs in genrule.
 SORTED = frozenset("compatible_with data deps exports hdrs implementation_deps runtime_deps srcs tags textual_hdrs visibility".split())
@@ -110,6 +111,15 @@ class Workspace:
         run = subprocess.run(words, cwd=self.path / folder, stdin=subprocess.DEVNULL, capture_output=True, timeout=LIMIT)
         return run.returncode, run.stdout.decode(), run.stderr.decode(errors="replace")
 
+    def end(self):
+        """Ends the server, by its number where it doesn't answer, and lets each folder be removed."""
+        folder = self.path.parent
+        try:
+            self.bazel("shutdown")
+        except subprocess.TimeoutExpired:
+            os.kill(int((folder / "base/server/server.pid.txt").read_text()), signal.SIGKILL)
+        subprocess.run(["chmod", "-R", "u+w", folder])
+
     def answer(self, output):
         """What a query answers; it passes over a package that Bazel refuses."""
         _, out, err = self.bazel("query", "--keep_going", f"--output={output}", "//read/...:*")
@@ -120,7 +130,7 @@ class Workspace:
         """What Bazel reads in the made packages, for each target."""
         targets = targets_of(self.answer("xml"))
         for label, chosen in chosen_of(self.answer("build"), self.path).items():
-            targets[label].update(chosen)
+            targets.setdefault(label, {"kind": None}).update(chosen)
         return targets
 
     def put(self):
@@ -319,9 +329,10 @@ def failures(buildozer, buildifier):
         try:
             workspace.read_all()
             wrong = {name: scene(workspace) for name, scene in SCENES.items()}
+        except (subprocess.TimeoutExpired, ElementTree.ParseError, SyntaxError) as fault:
+            return [f"no answer of bazel: {fault}"] * len(SCENES)
         finally:
-            workspace.bazel("shutdown")
-            subprocess.run(["chmod", "-R", "u+w", folder])
+            workspace.end()
     return ["; ".join([name, *lines]) for name, lines in wrong.items() if lines]
 
 
