@@ -11,8 +11,9 @@ programs that it built then run over real files: buildifier over single ones (te
 (tests/workspace.py), both through the examples of README.md and the pages beside it (tests/readme.py) and through what contrib/ has
 for git, CI and editors (tests/contrib.py); the pages for man and the completions are compared with the code and tried in shells
 (tests/manual.py, tests/completions.py), and both programs installed and packed (tests/install.py); buildozer runs beside a plain list of texts
-(tests/sessions.py); and buildozer and cases with memory refused at each request in turn (tests/memory.py). The first crate that
-it reports as not proved ends it, as soon as the proofs that run at that moment have ended; then comes once more what was
+(tests/sessions.py); both programs and cases run with memory refused at each request in turn (tests/memory.py); both programs over torn, deep and made
+texts (tests/torn.py), with calls of the system and devices that fail (tests/failing.py, tests/devices.py), over cases by chance (tests/fuzz.py), and
+beside Bazel where it is there (tests/bazel.py). The first crate that it reports as not proved ends it, as soon as the proofs that run at that moment have ended; then comes once more what was
 reported of it. The line before the last one says how long the whole took, on how many processors, and how much of their time
 the machine gave to others.
 """
@@ -26,14 +27,19 @@ import sys
 import tempfile
 import time
 
+import bazel
 import completions
 import contrib
+import devices
+import failing
 import files
+import fuzz
 import install
 import manual
 import memory
 import readme
 import sessions
+import torn
 import workspace
 
 TOP = pathlib.Path(__file__).resolve().parent.parent
@@ -58,7 +64,12 @@ SCRIPTS = [
     ("completions in shells", completions, ["buildozer"]),
     ("installing and packing", install, ["buildozer", "buildifier"]),
     ("runs beside a plain list of texts", sessions, ["buildozer"]),
-    ("runs with memory refused", memory, ["buildozer", "cases"]),
+    ("runs with memory refused", memory, ["buildozer", "cases", "buildifier"]),
+    ("torn, deep and made texts", torn, ["buildozer", "buildifier"]),
+    ("runs with failing calls", failing, ["buildozer", "buildifier"]),
+    ("runs with failing devices", devices, ["buildozer", "buildifier"]),
+    ("runs by chance", fuzz, ["buildozer", "buildifier"]),
+    ("runs beside Bazel", bazel, ["buildozer", "buildifier"]),
 ]
 
 

@@ -7,7 +7,7 @@ appended behind the cursor, where it differs; `undo` and `redo` move the cursor.
 lines on standard error and status. So what one run shows is that of the runs of its commands one by one, and what undo gives
 back are the very bytes that stood there.
 
-The lists are those of tests/buildozer, of the program's own files and of README's examples, as far as they are about standard
+The lists are those of tests/buildozer, of the program's own files and of the pages' examples, as far as they are about standard
 input; fixed ones, in which each command of README's tables stands; and many that are made by chance, always the same, over
 texts that are laid out oddly. Of all but the last each beginning is run too, and each also without -k.
 
@@ -414,8 +414,8 @@ def an_example(block, words):
 
 
 def examples():
-    """README's examples in which buildozer reads standard input from a file."""
-    commands = [(block, shlex.split(command)) for block in readme.examples() for command in readme.COMMAND.findall(block)]
+    """The examples of the pages in which buildozer reads standard input from a file."""
+    commands = [(block, shlex.split(command)) for block in readme.named_examples().values() for command in readme.COMMAND.findall(block)]
     fitting = [(block, words) for block, words in commands if words[0] == "buildozer" and words[-2:-1] == ["<"] and work_of(words[1:-2], b"")]
     return {f"example {number}": an_example(*found) for number, found in enumerate(fitting, 1)}
 
