@@ -1,0 +1,5 @@
+pub mod Chains
+pub mod Counting
+pub mod Formats
+pub mod Lines
+pub mod Loops

@@ -1,0 +1,4 @@
+pub mod Spellings
+pub mod Readers
+pub mod Outcomes
+pub mod Laws
