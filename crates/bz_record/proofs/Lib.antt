@@ -1,0 +1,11 @@
+pub mod Numbers
+pub mod Inner
+pub mod Marks
+pub mod Held
+pub mod Whole
+pub mod Appends
+pub mod Finds
+pub mod Versions
+pub mod Own
+pub mod Digests
+pub mod Added
