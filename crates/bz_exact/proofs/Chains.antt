@@ -64,13 +64,6 @@ so {sa = sa} {sb = sb} {read = read} spelled to from exact = record {
   complete = λ x rest q. ap (λ t. read (t ++ rest)) (sym (spelled x)) ∙ exact.complete x rest (from x q);
 }
 
--- and by another reader that reads the same
-pub as_read : {X : Type 0} {spell : X → List ℕ} {P : X → Type 0} {ra rb : Reader X} → ((s : List ℕ) → rb s ≡ ra s) → IsExact X spell P ra → IsExact X spell P rb
-as_read same exact = record {
-  sound = λ s x rest e. exact.sound s x rest (sym (same s) ∙ e);
-  complete = λ x rest p. same _ ∙ exact.complete x rest p;
-}
-
 -- ---- marks
 
 pub after_own : (mark s : List ℕ) → after_mark mark (mark ++ s) ≡ Some s

@@ -1,10 +1,9 @@
 -- Which readers are exact, and what that says.
-use Rattle.std.specs.Prelude.{◌≡◌, ℕ, ◌≢◌, ◌<◌, false, List, [], ◌∷◌, ◌++◌, length, Some}
-use Rattle.std.specs.List.{flat_map, AllByRecursion}
+use Rattle.std.specs.Prelude.{◌≡◌, ℕ, ◌<◌, false, List, [], ◌∷◌, ◌++◌, length, Some}
 use Rattle.hex.specs.Hex.{encode_lower}
 use Rattle.bz_token.specs.Bytes.{is_digit, line_feed}
 use Rattle.bz_exact.specs.Spellings.{counted_text, IsDigest, IsLine, number_limit, numeral}
-use Rattle.bz_exact.specs.Readers.{counted_at, digest_at, field_at, line_at, listed_at, number_at, Reader}
+use Rattle.bz_exact.specs.Readers.{counted_at, digest_at, field_at, ended_line_at, number_at, Reader}
 
 -- A reader is exact for a spelling where it reads from its spelling whatever fits, and nothing else.
 pub record IsExact (X : Type 0) (spell : X → List ℕ) (P : X → Type 0) (read : Reader X) : Type 0 where
@@ -18,7 +17,7 @@ abbrev pub FieldsExact : Type 0
 FieldsExact = (n : ℕ) → IsExact (List ℕ) (λ bytes. bytes) (λ bytes. length bytes ≡ n) (field_at n)
 
 abbrev pub LinesExact : Type 0
-LinesExact = IsExact (List ℕ) (λ line. line ++ line_feed ∷ []) IsLine line_at
+LinesExact = IsExact (List ℕ) (λ line. line ++ line_feed ∷ []) IsLine ended_line_at
 
 abbrev pub CountedExact : Type 0
 CountedExact = (stop : ℕ) → is_digit stop ≡ false → IsExact (List ℕ) (counted_text stop) (λ bytes. length bytes < number_limit) (counted_at stop)

@@ -1,5 +1,5 @@
 -- Reading from the left: what each reader of the code gives. That they read just what is spelled is told by laws.
-use Rattle.std.specs.Prelude.{◌≡◌, ℕ, zero, suc, ◌+◌, ◌-◌, ◌*◌, Bool, List, [], ◌∷◌, ◌&&◌, length, take, drop, Option, Some, None, Result, Ok, Err, if◌then◌else◌, nat_eq, nat_lt, nat_le}
+use Rattle.std.specs.Prelude.{ℕ, zero, suc, ◌+◌, ◌-◌, ◌*◌, Bool, List, [], ◌∷◌, ◌&&◌, length, take, drop, Option, Some, None, Result, Ok, Err, if◌then◌else◌, nat_eq, nat_lt, nat_le}
 use Rattle.std.specs.Str.{bytes_eq}
 use Rattle.hex.specs.Hex.{encode_lower, decode_sized}
 use Rattle.hex.specs.declared.error.FromHexError.{FromHexError}
@@ -25,9 +25,9 @@ unfoldable pub field_at : ℕ → Reader (List ℕ)
 field_at n s = if nat_lt (length s) n then None else Some (take n s, drop n s)
 
 -- a line: the bytes before the first newline
-unfoldable pub line_at : Reader (List ℕ)
-line_at [] = None
-line_at (b ∷ s) = if nat_eq b line_feed then Some ([], s) else (line_at s >>= λ x. Some (b ∷ x.0, x.1))
+unfoldable pub ended_line_at : Reader (List ℕ)
+ended_line_at [] = None
+ended_line_at (b ∷ s) = if nat_eq b line_feed then Some ([], s) else (ended_line_at s >>= λ x. Some (b ∷ x.0, x.1))
 
 -- the number whose first digits are those of n, by the digits up to the stop
 unfoldable pub digits_at : ℕ → ℕ → Reader ℕ
@@ -43,6 +43,7 @@ number_at stop (b ∷ s) =
     if nat_eq b digit_zero then (after_mark (stop ∷ []) s >>= λ r. Some (0, r))
     else (if is_digit b then digits_at stop (b - digit_zero) s else None)
 
+-- what a decoding gives, where it gives something
 abbrev pub ok_value : {A : Type 0} → Result A FromHexError → Option A
 ok_value (Ok x) = Some x
 ok_value (Err e) = None

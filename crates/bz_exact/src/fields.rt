@@ -2,7 +2,7 @@
 ghost use Rattle.std.specs.Prelude.{◌≡◌, ◌∷◌, ◌<◌, ◌≤◌, ◌^◌, [], ℕ, Bool, nat_eq, position, IfOk, MatchOption, Some, None};
 ghost use Rattle.bz_token.specs.Bytes.{line_feed};
 ghost use Rattle.bz_exact.specs.Outcomes.{Gives};
-ghost use Rattle.bz_exact.specs.Readers.{after_mark, counted_at, digest_at, digits_at, field_at, line_at, number_at, up_to};
+ghost use Rattle.bz_exact.specs.Readers.{after_mark, counted_at, digest_at, digits_at, field_at, ended_line_at, number_at, up_to};
 
 use crate::pushing::hex_digits;
 use crate::unread::Unread;
@@ -48,7 +48,7 @@ fn line_end(text: &[u8]) -> Option<usize>
 /// The bytes before the first newline, and those after it; `None` where no newline stands there.
 #[tactic(auto, using(crate::proofs::Lines::line_ends, crate::proofs::Lines::no_line_ends))]
 pub fn split_line(input: &[u8]) -> Option<(&[u8], &[u8])>
-    ensures { MatchOption result (line_at input.now ≡ None) (λ x. line_at input.now ≡ Some (x.0.now, x.1.now)) }
+    ensures { MatchOption result (ended_line_at input.now ≡ None) (λ x. ended_line_at input.now ≡ Some (x.0.now, x.1.now)) }
 {
     let Some(end) = line_end(input) else {
         return None;
@@ -58,8 +58,8 @@ pub fn split_line(input: &[u8]) -> Option<(&[u8], &[u8])>
     Some((line, rest))
 }
 
-/// A number below 2^32 in decimal digits without leading zeros, with the byte `stop` right after it, which is no digit
-/// wherever this is of use. The error is `Damaged`: no such number stands there.
+/// A number below 2^32 in decimal digits without leading zeros, with the byte `stop` right after it; `numbers_exact` says
+/// what is read where that byte is no digit. The error is `Damaged`: no such number stands there.
 #[tactic(auto, unfolding(crate::specs::Readers::number_at, crate::specs::Readers::after_mark))]
 pub fn read_number(input: &[u8], stop: u8) -> Result<(u32, &[u8]), Unread>
     ensures { Gives (λ x. (x.0, x.1.now)) result (number_at stop input.now) }

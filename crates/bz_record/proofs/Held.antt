@@ -22,7 +22,7 @@ use Rattle.bz_exact.specs.Laws.{IsExact}
 use Rattle.bz_exact.specs.Readers.{Reader, after_mark, field_at, listed_at, number_at, ◌>>=◌}
 use Rattle.bz_exact.specs.Spellings.{number_limit}
 use Rattle.bz_lex.specs.Characters.{space}
-use Rattle.bz_record.specs.Reading.{as_leaf, as_node, choice, either, held_at, leaf_at, node_at, nodes_at, numbered_class_at, numbered_kind_at}
+use Rattle.bz_record.specs.Reading.{leaf_read, node_read, choice, either, held_at, leaf_at, node_at, nodes_at, numbered_class_at, numbered_kind_at}
 use Rattle.bz_record.specs.Texts.{AreSmallParts, IsHeld, IsSmallPart, held_row_text, last_number, node_line, part_text, row_length, spaced_number}
 use Rattle.bz_token.specs.Bytes.{line_feed}
 
@@ -144,17 +144,17 @@ module _ (d : ℕ) (nodes : Reader Node) (exact : IsExact Node node_body (IsHeld
 
   choice_sound : (s : List ℕ) (x : Part) (rest : List ℕ) → choice nodes s ≡ Some (x, rest) → IsHeld d x × (s ≡ part_text x ++ rest)
   unfolding choice
-  choice_sound s x rest e = elim (either_some (after_mark (codes "leaf ") s) (λ r. leaf_at r >>= as_leaf) (after_mark (codes "node ") s >>= λ r. nodes r >>= as_node) (x, rest) e) [
+  choice_sound s x rest e = elim (either_some (after_mark (codes "leaf ") s) (λ r. leaf_at r >>= leaf_read) (after_mark (codes "node ") s >>= λ r. nodes r >>= node_read) (x, rest) e) [
     | inl h ↦
-        let b = bind_some (leaf_at h.0) as_leaf (x, rest) h.2 in
+        let b = bind_some (leaf_at h.0) leaf_read (x, rest) h.2 in
         let f = same_read (p.Leaf b.0.0) x b.0.1 rest b.2 in
         let q = leaf_exact.sound h.0 b.0.0 b.0.1 b.1 in
         let line : s ≡ codes "leaf " ++ (leaf_body b.0.0 ++ rest) = after_told (codes "leaf ") s h.0 h.1 ∙ ap (λ t. codes "leaf " ++ t) (q.1 ∙ ap (λ t. leaf_body b.0.0 ++ t) f.1) in
         let spelled : s ≡ part_text (p.Leaf b.0.0) ++ rest = line ∙ sym (append_assoc (codes "leaf ") (leaf_body b.0.0) rest) ∙ ap (λ t. t ++ rest) (sym (leaf_begins b.0.0)) in
         subst (λ y. IsHeld d y × (s ≡ part_text y ++ rest)) f.0 ((held_Leaf d b.0.0).1 q.0, spelled)
     | inr h ↦
-        let m = bind_some (after_mark (codes "node ") s) (λ r. nodes r >>= as_node) (x, rest) h.1 in
-        let b = bind_some (nodes m.0) as_node (x, rest) m.2 in
+        let m = bind_some (after_mark (codes "node ") s) (λ r. nodes r >>= node_read) (x, rest) h.1 in
+        let b = bind_some (nodes m.0) node_read (x, rest) m.2 in
         let f = same_read (p.Node b.0.0) x b.0.1 rest b.2 in
         let q = exact.sound m.0 b.0.0 b.0.1 b.1 in
         let line : s ≡ codes "node " ++ (node_body b.0.0 ++ rest) = after_told (codes "node ") s m.0 m.1 ∙ ap (λ t. codes "node " ++ t) (q.1 ∙ ap (λ t. node_body b.0.0 ++ t) f.1) in
@@ -167,17 +167,17 @@ module _ (d : ℕ) (nodes : Reader Node) (exact : IsExact Node node_body (IsHeld
   choice_leaf l rest h =
       let spelled : part_text (p.Leaf l) ++ rest ≡ codes "leaf " ++ (leaf_body l ++ rest) = ap (λ t. t ++ rest) (leaf_begins l) ∙ append_assoc (codes "leaf ") (leaf_body l) rest in
       ap (choice nodes) spelled
-      ∙ ap (λ o. either o (λ r. leaf_at r >>= as_leaf) (after_mark (codes "node ") (codes "leaf " ++ (leaf_body l ++ rest)) >>= λ r. nodes r >>= as_node)) (after_own (codes "leaf ") (leaf_body l ++ rest))
-      ∙ ap (λ o. o >>= as_leaf) (leaf_exact.complete l rest ((held_Leaf d l).0 h))
+      ∙ ap (λ o. either o (λ r. leaf_at r >>= leaf_read) (after_mark (codes "node ") (codes "leaf " ++ (leaf_body l ++ rest)) >>= λ r. nodes r >>= node_read)) (after_own (codes "leaf ") (leaf_body l ++ rest))
+      ∙ ap (λ o. o >>= leaf_read) (leaf_exact.complete l rest ((held_Leaf d l).0 h))
 
   choice_node : (n : Node) (rest : List ℕ) → IsHeld d (p.Node n) → choice nodes (part_text (p.Node n) ++ rest) ≡ Some (p.Node n, rest)
   unfolding choice
   choice_node n rest h =
       let spelled : part_text (p.Node n) ++ rest ≡ codes "node " ++ (node_body n ++ rest) = ap (λ t. t ++ rest) (node_begins n) ∙ append_assoc (codes "node ") (node_body n) rest in
       ap (choice nodes) spelled
-      ∙ ap (λ o. either o (λ r. leaf_at r >>= as_leaf) (after_mark (codes "node ") (codes "node " ++ (node_body n ++ rest)) >>= λ r. nodes r >>= as_node)) (no_leaf (node_body n ++ rest))
-      ∙ ap (λ o. o >>= λ r. nodes r >>= as_node) (after_own (codes "node ") (node_body n ++ rest))
-      ∙ ap (λ o. o >>= as_node) (exact.complete n rest ((held_Node d n).0 h))
+      ∙ ap (λ o. either o (λ r. leaf_at r >>= leaf_read) (after_mark (codes "node ") (codes "node " ++ (node_body n ++ rest)) >>= λ r. nodes r >>= node_read)) (no_leaf (node_body n ++ rest))
+      ∙ ap (λ o. o >>= λ r. nodes r >>= node_read) (after_own (codes "node ") (node_body n ++ rest))
+      ∙ ap (λ o. o >>= node_read) (exact.complete n rest ((held_Node d n).0 h))
 
   choice_complete : (x : Part) (rest : List ℕ) → IsHeld d x → choice nodes (part_text x ++ rest) ≡ Some (x, rest)
   choice_complete x rest h = elim (leaf_or_node x) [

@@ -7,7 +7,7 @@ use Rattle.std.proofs.lemmas.Bool.Decides.{nat_tests}
 use Rattle.std.proofs.lemmas.Option.{same_Some}
 use Rattle.bz_exact.proofs.Chains.{after_own, after_told, none_there, one_reading}
 use Rattle.bz_exact.proofs.Lines.{line_exact}
-use Rattle.bz_exact.specs.Readers.{after_mark, line_at}
+use Rattle.bz_exact.specs.Readers.{after_mark, ended_line_at}
 use Rattle.bz_exact.specs.Spellings.{IsLine}
 use Rattle.bz_record.specs.Texts.{IsOtherNumber}
 use Rattle.bz_token.specs.Bytes.{is_digit, line_feed}
@@ -36,10 +36,10 @@ module _ (mark s : List ℕ) where
     line_is : (n : Names) → line ≡ n.0 ++ line_feed ∷ n.1
     line_is n = same_Some line (n.0 ++ line_feed ∷ n.1) (sym begun ∙ ap (after_mark mark) (n.3 ∙ append_assoc mark n.0 (line_feed ∷ n.1)) ∙ after_own mark (n.0 ++ line_feed ∷ n.1))
 
-    pub no_end : line_at line ≡ None → (IsTrue false → Names) × (Names → IsTrue false)
+    pub no_end : ended_line_at line ≡ None → (IsTrue false → Names) × (Names → IsTrue false)
     no_end e = (λ f. cc f, λ n. absurd (none_there line_exact line e n.0 n.1 (digits_in_line n.0 n.2.digits_alone) (line_is n ∙ sym (append_assoc n.0 (line_feed ∷ []) n.1))))
 
-    pub ends_there : (number rest : List ℕ) (t : Bool) → line_at line ≡ Some (number, rest) → (IsTrue t → IsOtherNumber number) × (IsOtherNumber number → IsTrue t) → (IsTrue t → Names) × (Names → IsTrue t)
+    pub ends_there : (number rest : List ℕ) (t : Bool) → ended_line_at line ≡ Some (number, rest) → (IsTrue t → IsOtherNumber number) × (IsOtherNumber number → IsTrue t) → (IsTrue t → Names) × (Names → IsTrue t)
     ends_there number rest t e told =
         let c = line_exact.sound line number rest e in
         let cut : line ≡ number ++ line_feed ∷ rest = c.1 ∙ append_assoc number (line_feed ∷ []) rest in (

@@ -1,5 +1,5 @@
 -- Reading a record from the left: what each reader of the code gives. That these read just the texts of records is proved.
-use Rattle.std.specs.Prelude.{◌≡◌, ℕ, zero, suc, ◌+◌, ◌-◌, Bool, List, [], ◌∷◌, ◌&&◌, length, take, Option, Some, None, if◌then◌else◌, nat_le, codes}
+use Rattle.std.specs.Prelude.{ℕ, zero, suc, ◌+◌, ◌-◌, Bool, List, [], ◌∷◌, ◌&&◌, length, take, Option, Some, None, if◌then◌else◌, nat_le, codes}
 use Rattle.std.specs.Str.{bytes_eq, is_utf8}
 use Rattle.bz_token.specs.declared.class.Class.{Class}
 use Rattle.bz_token.specs.Classes.{class_of}
@@ -21,12 +21,14 @@ use Rattle.bz_token.specs.Bytes.{line_feed}
 
 -- ---- parts
 
+-- a class by its number, and a space
 unfoldable pub numbered_class_at : Reader Class
 numbered_class_at s = do
   n ← number_at space s
   class ← class_of n.0
   Some (class, n.1)
 
+-- a kind by its number, and a space
 unfoldable pub numbered_kind_at : Reader Kind
 numbered_kind_at s = do
   n ← number_at space s
@@ -44,19 +46,20 @@ leaf_at s = do
   rest ← after_mark (line_feed ∷ []) token.1
   Some (record { class = class.0; gap = gap.0; token = token.0 }, rest)
 
+-- the one reading, or else the other
 abbrev pub either : {A B : Type 0} → Option A → (A → Option B) → Option B → Option B
 either None f o = o
 either (Some x) f o = f x
 
-abbrev pub as_leaf : Leaf × List ℕ → Option (Part × List ℕ)
-as_leaf x = Some (p.Leaf x.0, x.1)
+abbrev pub leaf_read : Leaf × List ℕ → Option (Part × List ℕ)
+leaf_read x = Some (p.Leaf x.0, x.1)
 
-abbrev pub as_node : Node × List ℕ → Option (Part × List ℕ)
-as_node x = Some (p.Node x.0, x.1)
+abbrev pub node_read : Node × List ℕ → Option (Part × List ℕ)
+node_read x = Some (p.Node x.0, x.1)
 
 -- a leaf, or a node by a reader of what follows `node `
 unfoldable pub choice : Reader Node → Reader Part
-choice nodes s = either (after_mark (codes "leaf ") s) (λ r. leaf_at r >>= as_leaf) (after_mark (codes "node ") s >>= λ r. nodes r >>= as_node)
+choice nodes s = either (after_mark (codes "leaf ") s) (λ r. leaf_at r >>= leaf_read) (after_mark (codes "node ") s >>= λ r. nodes r >>= node_read)
 
 -- what follows `node `, by a reader of its parts
 unfoldable pub node_at : Reader Part → Reader Node
@@ -70,6 +73,7 @@ unfoldable pub nodes_at : ℕ → Reader Node
 nodes_at zero s = None
 nodes_at (suc d) s = node_at (choice (nodes_at d)) s
 
+-- a part of which at most so many nodes stand inside each other
 abbrev pub held_at : ℕ → Reader Part
 held_at d = choice (nodes_at d)
 
@@ -84,6 +88,7 @@ edit_at depth s = do
   held ← listed_at line_feed (held_at depth) count.1
   Some (record { path = path.0; at = at.0; count = count.0; held = held.0 }, held.1)
 
+-- the name of a package, or a note
 abbrev pub is_short_text : List ℕ → Bool
 is_short_text name = nat_le (length name) short_limit && is_utf8 name
 
