@@ -1,0 +1,11 @@
+pub mod Entries
+pub mod Paths
+pub mod Around
+pub mod Outcomes
+pub mod Loops
+pub mod Opens
+pub mod Sized
+pub mod Fewer
+pub mod Slots
+pub mod Saves
+pub mod Stands

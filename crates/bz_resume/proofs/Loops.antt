@@ -1,0 +1,67 @@
+-- The loops over steps, and the test of a tree by its spelling.
+use Rattle.std.proofs.Common.{ℕ, ◌≡◌, ◌+◌, ◌<◌, ◌≤◌, ◌↔◌, Bool, List, [], ◌∷◌, length, drop, get_or, sym, ap, ◌∙◌, subst}
+use Rattle.std.specs.Prelude.{IsTrue}
+use Rattle.std.proofs.lemmas.List.{drop_more, drop_all}
+use Rattle.bz_tree.specs.declared.tree.Node.{Node}
+use Rattle.bz_tree.specs.Legal.{Reads}
+use Rattle.bz_tree.specs.Spell.{spell_node, limit}
+use Rattle.bz_tree.proofs.Accepts.{one_tree}
+use Rattle.bz_edit.specs.declared.edit.Edit.{Edit}
+use Rattle.bz_edit.specs.Steps.{swap_node}
+use Rattle.bz_trail.specs.Trails.{IsTree}
+use Rattle.bz_resume.specs.Told.{IsTold, AreTold}
+
+-- the tree that a spelling reads as is the node, or the node is no tree
+pub same_tree : (n m root : Node) (text : List ℕ) (t : Bool) → Reads text m → text ≡ spell_node n → root ≡ m → (IsTrue t ↔ (root ≡ n)) → IsTrue t ↔ IsTree n
+same_tree n m root text t reads is root_is told = (
+  λ h. subst IsTree (sym root_is ∙ told.0 h) (reads.0, subst (λ (s : List ℕ). length s ≤ limit) (sym reads.1) reads.2),
+  λ tree. told.1 (root_is ∙ one_tree m n reads.0 tree.0 (reads.1 ∙ is)),
+)
+
+pub no_tree : (n : Node) (text : List ℕ) → ((m : Node) → Reads text m → ⊥) → text ≡ spell_node n → IsTree n → ⊥
+no_tree n text none is tree = none n (tree.0, sym is, subst (λ (s : List ℕ). length s ≤ limit) (sym is) tree.1)
+
+-- after i steps: the tree and its text, and what is left tells of all
+pub record IsGoing (n : Node) (es : List (List Edit)) (ds : List (List ℕ)) (i : ℕ) (m : Node) (text : List ℕ) : Type 0 where
+  pub tree : IsTree m
+  pub text_is : text ≡ spell_node m
+  pub left : AreTold n es ds → AreTold m (drop i es) (drop i ds)
+  pub back : AreTold m (drop i es) (drop i ds) → AreTold n es ds
+
+pub begins : (n m : Node) (es : List (List Edit)) (ds : List (List ℕ)) (text : List ℕ) → IsTree n → m ≡ n → text ≡ spell_node n → IsGoing n es ds 0 m text
+begins n m es ds text tree is shown = record {
+  tree = subst IsTree (sym is) tree;
+  text_is = shown ∙ ap spell_node (sym is);
+  left = λ h. subst (λ (z : Node). AreTold z es ds) (sym is) h;
+  back = λ h. subst (λ (z : Node). AreTold z es ds) is h;
+}
+
+module _ (n m : Node) (es : List (List Edit)) (ds : List (List ℕ)) (i : ℕ) (text : List ℕ) (a : List Edit) (b : List ℕ) (same : length es ≡ length ds) (lt : i < length es) (going : IsGoing n es ds i m text) where
+  abbrev e : List Edit
+  e = get_or es i a
+
+  abbrev d : List ℕ
+  d = get_or ds i b
+
+  opened : AreTold m (drop i es) (drop i ds) → IsTold e m d × AreTold (swap_node e m) (drop (i + 1) es) (drop (i + 1) ds)
+  opened h =
+      subst (λ l. AreTold m (e ∷ drop (i + 1) es) l) (drop_more ds i b (subst (λ k. i < k) same lt)) (subst (λ l. AreTold m l (drop i ds)) (drop_more es i a lt) h)
+
+  closed : IsTold e m d × AreTold (swap_node e m) (drop (i + 1) es) (drop (i + 1) ds) → AreTold m (drop i es) (drop i ds)
+  closed h =
+      subst (λ l. AreTold m l (drop i ds)) (sym (drop_more es i a lt)) (subst (λ l. AreTold m (e ∷ drop (i + 1) es) l) (sym (drop_more ds i b (subst (λ k. i < k) same lt))) h)
+
+  pub goes_further : (m' : Node) (text' : List ℕ) → IsTold e m d → m' ≡ swap_node e m → text' ≡ spell_node m' → IsGoing n es ds (i + 1) m' text'
+  goes_further m' text' told is shown = record {
+    tree = subst IsTree (sym is) told.0.tree;
+    text_is = shown;
+    left = λ h. subst (λ (z : Node). AreTold z (drop (i + 1) es) (drop (i + 1) ds)) (sym is) (opened (going.left h)).1;
+    back = λ h. going.back (closed (told, subst (λ (z : Node). AreTold z (drop (i + 1) es) (drop (i + 1) ds)) is h));
+  }
+
+  pub stops : (IsTold e m d → ⊥) → AreTold n es ds → ⊥
+  stops none h = none (opened (going.left h)).0
+
+pub ends : (n m : Node) (es : List (List Edit)) (ds : List (List ℕ)) (i : ℕ) (text : List ℕ) → length es ≡ length ds → length es ≤ i → IsGoing n es ds i m text → AreTold n es ds
+ends n m es ds i text same past going =
+    going.back (subst (λ l. AreTold m l (drop i ds)) (sym (drop_all i es past)) (subst (λ l. AreTold m [] l) (sym (drop_all i ds (subst (λ k. k ≤ i) same past))) tt))

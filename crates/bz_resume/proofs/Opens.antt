@@ -1,0 +1,87 @@
+-- A record opened, as the code has it.
+use Rattle.std.proofs.Common.{ℕ, ◌≡◌, ◌+◌, ◌-◌, ◌<◌, ◌≤◌, ◌↔◌, Bool, true, false, List, length, reverse, get_or, refl, sym, ap, ◌∙◌, subst, arith}
+use Rattle.std.specs.Prelude.{IsTrue, Result, Err}
+use Rattle.std.specs.List.{AllByRecursion}
+use Rattle.std.proofs.lemmas.Bool.{false≢true}
+use Rattle.std.proofs.lemmas.List.{length-reverse, get_or-reverse}
+use Rattle.bz_tree.specs.declared.tree.Node.{Node}
+use Rattle.bz_tree.specs.Legal.{Reads}
+use Rattle.bz_tree.specs.Spell.{spell_node, limit}
+use Rattle.bz_edit.specs.declared.edit.Edit.{Edit}
+use Rattle.bz_edit.specs.Steps.{swap_node}
+use Rattle.bz_trail.specs.Trails.{IsTree}
+use Rattle.bz_trail.specs.Shown.{Text}
+use Rattle.bz_record.specs.declared.content.Record.{Record}
+use Rattle.bz_resume.specs.Told.{AreTold, AreToldAround, IsCounted, IsOpened, IsTold, IsToldOf, MayLead, NoneTold, edits_of, notes_of, told_trail}
+use Rattle.bz_resume.proofs.Around.{to_whole, from_whole}
+use Rattle.bz_resume.proofs.Loops.{IsGoing, goes_further, stops}
+use Rattle.bz_resume.proofs.Outcomes.{one_told}
+use Rattle.bz_resume.proofs.Paths.{trail_may}
+
+-- ---- steps from the last one on
+
+module _ (n m : Node) (steps : List (List Edit)) (digests : List (List ℕ)) (i count : ℕ) (text : List ℕ) (a e : List Edit) (b d : List ℕ) (same : length steps ≡ length digests) (counts : count ≡ length steps) (lt : i < count) (going : IsGoing n (reverse steps) (reverse digests) i m text) (step : e ≡ get_or steps (count - 1 - i) a) (digest : d ≡ get_or digests (count - 1 - i) b) where
+  within : i < length (reverse steps)
+  within = omega (arith, counts, length-reverse steps)
+
+  sizes : length (reverse steps) ≡ length (reverse digests)
+  sizes = length-reverse steps ∙ same ∙ sym (length-reverse digests)
+
+  step_is : get_or (reverse steps) i a ≡ e
+  step_is = get_or-reverse steps i a (omega (arith, counts)) ∙ ap (λ k. get_or steps (k - 1 - i) a) (sym counts) ∙ sym step
+
+  digest_is : get_or (reverse digests) i b ≡ d
+  digest_is = get_or-reverse digests i b (omega (arith, counts, same)) ∙ ap (λ k. get_or digests (k - 1 - i) b) (sym same ∙ sym counts) ∙ sym digest
+
+  there : IsTold e m d → IsTold (get_or (reverse steps) i a) m (get_or (reverse digests) i b)
+  there h = subst (λ (z : List Edit). IsTold z m (get_or (reverse digests) i b)) (sym step_is) (subst (λ (z : List ℕ). IsTold e m z) (sym digest_is) h)
+
+  here : IsTold (get_or (reverse steps) i a) m (get_or (reverse digests) i b) → IsTold e m d
+  here h = subst (λ (z : List ℕ). IsTold e m z) digest_is (subst (λ (z : List Edit). IsTold z m (get_or (reverse digests) i b)) step_is h)
+
+  pub stops_back : (IsTold e m d → ⊥) → AreTold n (reverse steps) (reverse digests) → ⊥
+  stops_back none = stops n m (reverse steps) (reverse digests) i text a b sizes within going (λ h. none (here h))
+
+  pub goes_back : (m' : Node) (text' : List ℕ) → IsTold e m d → m' ≡ swap_node e m → text' ≡ spell_node m' → IsGoing n (reverse steps) (reverse digests) (i + 1) m' text'
+  goes_back m' text' told is shown = goes_further n m (reverse steps) (reverse digests) i text a b sizes within going m' text' (there told) (is ∙ ap (λ (z : List Edit). swap_node z m) (sym step_is)) shown
+
+-- ---- a record
+
+pub split_none : (r : Record) → (AllByRecursion MayLead (edits_of r.steps) → ⊥) → NoneTold r
+split_none r none n reads told = none (trail_may (told_trail r n) told.0)
+
+around_same : (n : Node) (cursor : ℕ) (es fs : List (List Edit)) (ds gs : List Text) → es ≡ fs → ds ≡ gs → AreToldAround n cursor es ds → AreToldAround n cursor fs gs
+around_same n cursor es fs ds gs e d h = subst (λ l. AreToldAround n cursor l gs) e (subst (λ l. AreToldAround n cursor es l) d h)
+
+pub record HasOpened (r : Record) (tree : Node) : Type 0 where
+  pub reads : Reads r.text tree
+  pub told : IsToldOf r tree
+
+module _ (r : Record) (tree : Node) (text : Text) (steps es : List (List Edit)) (ds : List Text) (t : Bool) (counted : IsCounted r) (own : Reads text tree) (text_is : text ≡ r.text) (steps_are : steps ≡ edits_of r.steps) (same : es ≡ steps) (digests_are : ds ≡ r.digests) (told : IsTrue t ↔ AreToldAround tree r.cursor es ds) where
+  read : Reads r.text tree
+  read = subst (λ (s : Text). Reads s tree) text_is own
+
+  pub opens_none : t ≡ false → NoneTold r
+  opens_none f n reads h =
+      let whole = from_whole r tree counted (subst (IsToldOf r) (one_told r n tree reads read) h) in
+      false≢true (sym f ∙ told.1 (around_same tree r.cursor (edits_of r.steps) es r.digests ds (sym (same ∙ steps_are)) (sym digests_are) whole))
+
+  pub opens : t ≡ true → HasOpened r tree
+  opens good =
+      let is_tree : IsTree tree = (read.0, subst (λ (s : Text). length s ≤ limit) (sym read.1) read.2) in
+      record { reads = read; told = to_whole r tree is_tree counted (around_same tree r.cursor es (edits_of r.steps) ds r.digests (same ∙ steps_are) digests_are (told.0 good)) }
+
+pub is_opened : (r : Record) (tree : Node) (steps : List (List Edit)) (notes : List Text) → HasOpened r tree → steps ≡ edits_of r.steps → notes ≡ notes_of r.steps
+    → IsOpened r (record { «package» = r.package; tree = tree; steps = steps; digests = r.digests; notes = notes; cursor = r.cursor })
+is_opened r tree steps notes h steps_are notes_are = record {
+  package_is = refl;
+  steps = steps_are;
+  digests = refl;
+  notes = notes_are;
+  cursor = refl;
+  reads = h.reads;
+  told = h.told;
+}
+
+pub one_err : {A E : Type 0} (r : Result A E) (x y : E) → r ≡ Err x → r ≡ Err y → x ≡ y
+one_err r x y e f = let g = sym e ∙ f in cc

@@ -1,0 +1,86 @@
+-- A history whose numbers fit has a journal.
+use Rattle.std.proofs.Common.{◌≡◌, ◌<◌, List, [], ◌∷◌, length, map, reverse, take, drop, refl, sym, ap, ◌∙◌, subst, arith}
+use Rattle.std.specs.Prelude.{slice_index_or}
+use Rattle.std.specs.List.{AllByRecursion}
+use Rattle.std.proofs.lemmas.List.{length-map, reverse-reverse, take-append-drop}
+use Rattle.sha2.specs.Sha256.{sha256}
+use Rattle.bz_tree.specs.declared.tree.Node.{Node}
+use Rattle.bz_tree.specs.Spell.{spell_node, depth_limit}
+use Rattle.bz_edit.specs.declared.edit.Edit.{Edit}
+use Rattle.bz_edit.specs.Steps.{swap_node}
+use Rattle.bz_trail.specs.Trails.{Trail, IsTrail, IsTree, LeadOn, trail_at}
+use Rattle.bz_trail.specs.Shown.{Text, texts_of}
+use Rattle.bz_trail.proofs.Keeps.{present_text, texts_length}
+use Rattle.bz_record.specs.declared.content.Entry.{Entry}
+use Rattle.bz_record.specs.declared.content.Record.{Record}
+use Rattle.bz_record.specs.declared.content.Version.TheVariants.{Two}
+use Rattle.bz_exact.specs.Spellings.{number_limit, IsDigest}
+use Rattle.bz_record.specs.Texts.{IsEdit, IsNotedStep, IsNote, IsRecord}
+use Rattle.bz_record.proofs.Digests.{digest_fits}
+use Rattle.bz_resume.specs.Journals.{History, Journal, MaySave, entries_of, journal_text, record_of, text_of}
+use Rattle.bz_resume.proofs.Entries.{entries_length}
+use Rattle.bz_resume.proofs.Paths.{all_joined, all_reversed}
+use Rattle.bz_resume.proofs.Sized.{step_fits}
+use Rattle.bz_resume.proofs.Slots.{few_edits}
+
+-- ---- the steps of a trail fit
+
+abbrev Fits : List Edit → Type 0
+Fits e = (length e < number_limit) × AllByRecursion (IsEdit depth_limit) e
+
+each_fits : (n : Node) (es : List (List Edit)) → IsTree n → LeadOn n es → AllByRecursion Fits es
+each_fits n [] t l = tt
+each_fits n (e ∷ es) t l = ((few_edits n e t l.0, step_fits n e l.0), each_fits (swap_node e n) es l.0.tree l.1)
+
+trail_fits : (t : Trail) → IsTrail t → AllByRecursion Fits t.steps
+trail_fits t h =
+    let back = take t.cursor t.steps in
+    subst (AllByRecursion Fits) (take-append-drop t.cursor t.steps)
+    (all_joined Fits back (drop t.cursor t.steps)
+    (subst (AllByRecursion Fits) (reverse-reverse back) (all_reversed Fits (reverse back) (each_fits t.tree (reverse back) h.tree h.back)))
+    (each_fits t.tree (drop t.cursor t.steps) h.tree h.forward))
+
+entries_fit : (ns : List Text) (es : List (List Edit)) → AllByRecursion (IsNote Two) ns → AllByRecursion Fits es → AllByRecursion (IsNotedStep Two depth_limit) (entries_of ns es)
+entries_fit [] es h k = tt
+entries_fit (n ∷ ns) [] h k = tt
+entries_fit (n ∷ ns) (e ∷ es) h k = (record { note = h.0; edits_length = k.0.0; edits = k.0.1 }, entries_fit ns es h.1 k.1)
+
+digests_fit : (ts : List Text) → AllByRecursion IsDigest (map sha256 ts)
+digests_fit [] = tt
+digests_fit (t ∷ ts) = (digest_fits t, digests_fit ts)
+
+-- ---- the record of a history
+
+module _ (h : History) (es : List (List Edit)) (n : Node) (trail : IsTrail (trail_at n es h.cursor)) (is : texts_of (trail_at n es h.cursor) ≡ h.texts) (noted : length h.notes ≡ length es) (saves : MaySave h) where
+  fits : IsRecord Two depth_limit (record_of h es)
+  fits =
+      let t = trail_at n es h.cursor in
+      let size = entries_length h.notes es noted in
+      let steps = saves.steps_length in
+      let cursor = trail.within in
+      let before = saves.known in
+      let shown : text_of h h.cursor ≡ spell_node n = sym (ap (λ l. slice_index_or l h.cursor []) is) ∙ present_text t trail in
+      record {
+        package_length = saves.package_length;
+        package_text = saves.package_text;
+        text = omega (arith, ap length shown, trail.tree.1);
+        steps_length = omega (arith, size, noted);
+        cursor = omega (arith, size);
+        before = omega (arith, size, noted);
+        digests_length = omega (arith, size, length-map h.texts sha256, ap length is, texts_length t trail);
+        digests = digests_fit h.texts;
+        steps = entries_fit h.notes es saves.notes (trail_fits t trail);
+      }
+
+  pub is_saved : Journal (journal_text h es) h es
+  is_saved = record { version = Two; spelled = refl; fits = fits; noted = noted; follows = (n, trail, is) }
+
+-- ---- what is written
+
+pub record_made : (h : History) (es : List (List Edit)) (p t : Text) (ds : List Text) (fs : List Entry) → p ≡ h.package → t ≡ text_of h h.cursor → ds ≡ map sha256 h.texts → fs ≡ entries_of h.notes es
+    → (let r : Record = record { «package» = p; text = t; cursor = h.cursor; before = h.before; digests = ds; steps = fs } in r) ≡ record_of h es
+record_made h es p t ds fs a e g f =
+    ap (λ z. let r : Record = record { «package» = z; text = t; cursor = h.cursor; before = h.before; digests = ds; steps = fs } in r) a
+    ∙ ap (λ z. let r : Record = record { «package» = h.package; text = z; cursor = h.cursor; before = h.before; digests = ds; steps = fs } in r) e
+    ∙ ap (λ z. let r : Record = record { «package» = h.package; text = text_of h h.cursor; cursor = h.cursor; before = h.before; digests = z; steps = fs } in r) g
+    ∙ ap (λ z. let r : Record = record { «package» = h.package; text = text_of h h.cursor; cursor = h.cursor; before = h.before; digests = map sha256 h.texts; steps = z } in r) f

@@ -1,0 +1,48 @@
+use Rattle.std.proofs.Common.{Err, List, ap, sym, subst, refl}
+use Rattle.bz_edit.specs.declared.edit.Edit.{Edit}
+use Rattle.bz_trail.specs.Trails.{trail_at}
+use Rattle.bz_resume.specs.Told.{HasStood}
+use Rattle.bz_resume.specs.declared.resumed.Resumed.{Resumed}
+use Rattle.bz_resume.specs.Resumed.{IsResumed}
+use Rattle.bz_resume.proofs.Stands.{written_back}
+use Rattle.bz_resume.proofs.Outcomes.{opened_trail, is_resumed, is_stale, known_ok, known_stale, no_journal, none_journal, not_other}
+use Rattle.bz_resume.proofs.resuming.resume.Goals as goal
+
+pub returns-in-Err-Damaged-clause-damaged : goal.returns-in-Err-Damaged-clause-damaged
+returns-in-Err-Damaged-clause-damaged c _ = no_journal c.args.journal.now (c.in-Err-Damaged.ensures.damaged (ap Err c.in-Err-Damaged.field-0-is))
+
+pub returns-in-Err-Damaged-clause-known : goal.returns-in-Err-Damaged-clause-known
+returns-in-Err-Damaged-clause-known c = no_journal c.args.journal.now (c.in-Err-Damaged.ensures.damaged (ap Err c.in-Err-Damaged.field-0-is))
+
+pub returns-in-Err-Version-clause-known : goal.returns-in-Err-Version-clause-known
+returns-in-Err-Version-clause-known c h es = not_other c.args.journal.now h es (c.in-Err-Version.ensures.version.0 (ap Err c.in-Err-Version.field-0-is))
+
+pub returns-in-Err-Damaged-open-clause-damaged : goal.returns-in-Err-Damaged-open-clause-damaged
+returns-in-Err-Damaged-open-clause-damaged c _ = none_journal c.args.journal.now c.in-Ok.record c.in-Ok.ensures.ok (c.in-Err-Damaged-open.ensures.damaged (ap Err c.in-Err-Damaged-open.field-0-is))
+
+pub returns-in-Err-Damaged-open-clause-known : goal.returns-in-Err-Damaged-open-clause-known
+returns-in-Err-Damaged-open-clause-known c = none_journal c.args.journal.now c.in-Ok.record c.in-Ok.ensures.ok (c.in-Err-Damaged-open.ensures.damaged (ap Err c.in-Err-Damaged-open.field-0-is))
+
+pub returns-in-None-clause-stale : goal.returns-in-None-clause-stale
+returns-in-None-clause-stale c _ =
+    let s = c.in-Ok-open.resumed in
+    is_stale c.args.journal.now c.args.text.now c.in-Ok.record c.in-Ok.ensures.ok s c.in-Ok-open.ensures.ok
+    (subst (HasStood (trail_at s.tree s.steps s.cursor) c.in-Ok.record.before c.args.text.now c.stand.new.tree c.stand.new.steps) c.in-None.is
+    (subst (λ (l : List (List Edit)). HasStood (trail_at s.tree l s.cursor) c.in-Ok.record.before c.args.text.now c.stand.new.tree c.stand.new.steps c.in_ok-cursor.field-0) c.as_mut_slice-steps.ensures.value c.in_ok-cursor.ensures))
+
+pub returns-in-None-clause-known : goal.returns-in-None-clause-known
+returns-in-None-clause-known c h es journal = known_stale c.args.journal.now c.args.text.now h es journal (returns-in-None-clause-stale c refl)
+
+pub returns-in-Some-clause-ok : goal.returns-in-Some-clause-ok
+returns-in-Some-clause-ok c =
+    let s = c.in-Ok-open.resumed in
+    let stood = subst (HasStood (trail_at s.tree s.steps s.cursor) c.in-Ok.record.before c.args.text.now c.stand.new.tree c.stand.new.steps) c.in-Some.is
+    (subst (λ (l : List (List Edit)). HasStood (trail_at s.tree l s.cursor) c.in-Ok.record.before c.args.text.now c.stand.new.tree c.stand.new.steps c.in_ok-cursor.field-0) c.as_mut_slice-steps.ensures.value c.in_ok-cursor.ensures) in
+    let trail = opened_trail c.args.journal.now c.args.text.now c.in-Ok.record c.in-Ok.ensures.ok s c.in-Ok-open.ensures.ok in
+    let back = written_back (trail_at s.tree s.steps s.cursor) c.stand.new.tree c.stand.new.steps c.in-Some.cursor trail stood.1 in
+    subst
+    (λ (l : List (List Edit)). IsResumed c.args.journal.now c.args.text.now (let r : Resumed = record { «package» = s.package; tree = c.stand.new.tree; steps = l; digests = s.digests; notes = s.notes; cursor = c.in-Some.cursor } in r))
+    (sym back) (is_resumed c.args.journal.now c.args.text.now c.in-Ok.record c.in-Ok.ensures.ok s c.in-Ok-open.ensures.ok c.stand.new.tree c.stand.new.steps c.in-Some.cursor stood.0 stood.1)
+
+pub returns-in-Some-clause-known : goal.returns-in-Some-clause-known
+returns-in-Some-clause-known c h es journal = known_ok c.args.journal.now c.args.text.now h es _ journal (returns-in-Some-clause-ok c)

@@ -1,0 +1,21 @@
+use Rattle.std.proofs.Common.{ap, ◌∙◌, ◌++◌, refl}
+use Rattle.std.proofs.lemmas.Result.{on_ok_weaker}
+use Rattle.bz_record.specs.declared.content.Record.{Record}
+use Rattle.bz_record.specs.declared.content.Version.TheVariants.{Two}
+use Rattle.bz_record.specs.Texts.{record_text}
+use Rattle.bz_resume.specs.Saved.{saved_history}
+use Rattle.bz_resume.proofs.Saves.{is_saved}
+use Rattle.bz_resume.proofs.saving.save_into.Goals as goal
+
+pub returns-in_err-content-clause-journal : goal.returns-in_err-content-clause-journal
+returns-in_err-content-clause-journal c =
+    let s = c.args.saved.now in
+    is_saved (saved_history s) s.steps.now s.tree.now c.requires.trail refl c.requires.noted c.requires.fits
+
+pub returns-clause-ok : goal.returns-clause-ok
+returns-clause-ok c = on_ok_weaker c.write_record.result (λ h. h ∙ ap (λ (r : Record). c.args.out.now.items ++ record_text Two r) c.in_ok-content.ensures) c.write_record.ensures.ok
+
+pub returns-clause-journal : goal.returns-clause-journal
+returns-clause-journal c =
+    let s = c.args.saved.now in
+    is_saved (saved_history s) s.steps.now s.tree.now c.requires.trail refl c.requires.noted c.requires.fits

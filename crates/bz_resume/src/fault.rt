@@ -1,0 +1,59 @@
+use std::alloc::{AllocError, AllocFailed};
+use thiserror::Error;
+
+/// Why a journal was not resumed.
+#[derive(Clone, Copy, Debug, PartialEq, Eq, Error)]
+pub enum ResumeFault {
+    /// A growth was refused.
+    #[error("Memory")]
+    Memory,
+    /// The bytes are no journal.
+    #[error("Damaged")]
+    Damaged,
+    /// The first line names another version.
+    #[error("Version")]
+    Version,
+    /// The text of the file is neither the one at the cursor nor the one at the cursor before.
+    #[error("Stale")]
+    Stale,
+}
+
+impl From<AllocError> for ResumeFault {
+    ghost use Rattle.std.specs.Prelude.{◌≡◌};
+    ghost use Rattle.bz_resume.specs.declared.fault.ResumeFault.TheVariants as f;
+
+    ghost from_gives = { λ _ fault. fault ≡ f.Memory };
+
+    fn from(_refused: AllocError) -> ResumeFault {
+        ResumeFault::Memory
+    }
+}
+
+/// Why a record was not opened.
+#[derive(Debug, Drop)]
+pub enum Halt {
+    Memory,
+    Damaged,
+}
+
+impl From<AllocError> for Halt {
+    ghost use Rattle.std.specs.Prelude.{◌≡◌};
+    ghost use Rattle.bz_resume.specs.declared.fault.Halt.TheVariants as h;
+
+    ghost from_gives = { λ _ halt. halt ≡ h.Memory };
+
+    fn from(_refused: AllocError) -> Halt {
+        Halt::Memory
+    }
+}
+
+impl<T: Drop> From<AllocFailed<T>> for Halt {
+    ghost use Rattle.std.specs.Prelude.{◌≡◌};
+    ghost use Rattle.bz_resume.specs.declared.fault.Halt.TheVariants as h;
+
+    ghost from_gives = { λ _ halt. halt ≡ h.Memory };
+
+    fn from(_refused: AllocFailed<T>) -> Halt {
+        Halt::Memory
+    }
+}
