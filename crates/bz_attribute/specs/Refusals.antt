@@ -2,7 +2,7 @@
 use Rattle.std.specs.Prelude.{ℕ, codes}
 use Rattle.bz_value.specs.Gaps.{Bytes}
 use Rattle.bz_attribute.specs.declared.refusal.Refusal.{Refusal}
-use Rattle.bz_attribute.specs.declared.refusal.Refusal.TheVariants.{Memory, TooLarge, TooDeep, NoTarget, NoAttribute, AttributeExists, NotAList, NotADict, NoSource, NameTaken, TooFar, Full}
+use Rattle.bz_attribute.specs.declared.refusal.Refusal.TheVariants.{Memory, TooLarge, TooDeep, NoTarget, NoAttribute, AttributeExists, NotAList, NotADict, NoSource, NameTaken, TooFar, Full, NoteTooLong}
 
 -- the table of refusals: names
 abbrev pub refusal_name : Refusal → Bytes
@@ -18,6 +18,7 @@ refusal_name NoSource = codes "NoSource"
 refusal_name NameTaken = codes "NameTaken"
 refusal_name TooFar = codes "TooFar"
 refusal_name Full = codes "Full"
+refusal_name NoteTooLong = codes "NoteTooLong"
 
 -- the table of refusals: numbers
 abbrev pub refusal_number : Refusal → ℕ
@@ -33,3 +34,4 @@ refusal_number NoSource = 46
 refusal_number NameTaken = 47
 refusal_number TooFar = 61
 refusal_number Full = 62
+refusal_number NoteTooLong = 63

@@ -32,6 +32,8 @@ pub enum Refusal {
     TooFar,
     /// A command would change the text behind which there are 100,000 steps.
     Full,
+    /// The note of an action is longer than 65,536 bytes.
+    NoteTooLong,
 }
 
 impl Refusal {
@@ -52,6 +54,7 @@ impl Refusal {
             Refusal::NameTaken => "NameTaken",
             Refusal::TooFar => "TooFar",
             Refusal::Full => "Full",
+            Refusal::NoteTooLong => "NoteTooLong",
         }
     }
 
@@ -72,6 +75,7 @@ impl Refusal {
             Refusal::NameTaken => 47,
             Refusal::TooFar => 61,
             Refusal::Full => 62,
+            Refusal::NoteTooLong => 63,
         }
     }
 }
