@@ -1,5 +1,5 @@
 -- What files hold, and how the calls of those in memory go on.
-use Rattle.std.specs.Prelude.{ℕ, List, Option, None, [], map, string_bytes}
+use Rattle.std.specs.Prelude.{ℕ, List, Option, None, [], length, take, map, string_bytes}
 use Rattle.bz_files.specs.Folder.{Folder, Text}
 use Rattle.bz_files.specs.Log.{folder_after}
 use Rattle.bz_files.specs.declared.disk.DiskFiles.{DiskFiles}
@@ -13,10 +13,18 @@ disk_faults files = files.faults
 abbrev pub folder_in : MemoryFiles → Folder
 folder_in files = folder_after files.log.items
 
--- which calls fail: the call of this number, each from this number on, and each read of these names; and how many calls
--- there were, how many of `replace` among all of them, and how many failed
+-- how many folders there were before this one, and the folder after so many writes
+abbrev pub moments_in : MemoryFiles → ℕ
+moments_in files = length files.log.items
+
+abbrev pub folder_then : MemoryFiles → ℕ → Folder
+folder_then files moment = folder_after (take moment files.log.items)
+
+-- which calls fail: the call of this number, that of this number once its file is replaced, each from this number on, and
+-- each read of these names; and how many calls there were, how many of `replace` among all of them, and how many failed
 pub record Plan : Type 0 where
   pub fails_at : Option ℕ
+  pub fails_behind : Option ℕ
   pub stops_at : Option ℕ
   pub unreadable : List Text
   pub calls : ℕ
@@ -26,6 +34,7 @@ pub record Plan : Type 0 where
 abbrev pub plan_in : MemoryFiles → Plan
 plan_in files = record {
   fails_at = files.fails_at;
+  fails_behind = files.fails_behind;
   stops_at = files.stops_at;
   unreadable = map string_bytes files.unreadable.items;
   calls = files.calls;
@@ -35,4 +44,4 @@ plan_in files = record {
 
 -- before the first call, of which none is to fail
 abbrev pub no_plan : Plan
-no_plan = record { fails_at = None; stops_at = None; unreadable = []; calls = 0; replaces = 0; faults = 0 }
+no_plan = record { fails_at = None; fails_behind = None; stops_at = None; unreadable = []; calls = 0; replaces = 0; faults = 0 }

@@ -1,10 +1,10 @@
 //! Files in memory, which can be made to fail.
-ghost use Rattle.std.specs.Prelude.{◌≡◌, ◌≤◌, ◌<◌, ◌+◌, ◌-◌, ◌^◌, [], ◌∷◌, ◌++◌, true, length, map, option_map, Some, None, OnOk, OnErr, IfOk, string_bytes};
+ghost use Rattle.std.specs.Prelude.{◌≡◌, ◌≤◌, ◌<◌, ◌+◌, ◌-◌, ◌^◌, [], ◌∷◌, ◌++◌, true, length, take, map, option_map, Some, None, OnOk, OnErr, IfOk, string_bytes};
 ghost use Rattle.std.specs.FinMap.{empty, get};
 ghost use Rattle.bz_files.specs.Faults.{Rises};
 ghost use Rattle.bz_files.specs.Folder.{with_file, folder_of};
 ghost use Rattle.bz_files.specs.Log.{folder_after, StoodSince, stands_now, only_stands};
-ghost use Rattle.bz_files.specs.Held.{folder_in, plan_in, no_plan};
+ghost use Rattle.bz_files.specs.Held.{folder_in, plan_in, no_plan, moments_in, folder_then};
 
 use crate::entry::Entry;
 use crate::{FileFault, Files};
@@ -19,6 +19,7 @@ pub struct MemoryFiles {
     unreadable: Vec<String>,
     calls: u64,
     fails_at: Option<u64>,
+    fails_behind: Option<u64>,
     stops_at: Option<u64>,
     replaces: u64,
     faults: u64,
@@ -34,6 +35,16 @@ fn found<'a>(log: &'a [Entry], name: &str) -> Option<&'a [u8]>
         }
     }
     bytes
+}
+
+// The first writes of a log, or all where it has fewer.
+fn first_of(log: &[Entry], count: usize) -> &[Entry]
+    ensures { result.now ≡ take count log.now }
+{
+    match log.get(..count) {
+        Some(front) => front,
+        None => log,
+    }
 }
 
 fn new_entry(alloc: Global, name: &str, bytes: &[u8]) -> Result<Entry, AllocError>
@@ -64,6 +75,7 @@ impl MemoryFiles {
             unreadable: Vec::new(alloc),
             calls: 0,
             fails_at: None,
+            fails_behind: None,
             stops_at: None,
             replaces: 0,
             faults: 0,
@@ -91,6 +103,16 @@ impl MemoryFiles {
         self.fails_at = Some(k);
     }
 
+    /// Makes the k-th call from now on, counted from 1, answer `Write` where it is a `replace`, but only when the file is
+    /// replaced. A read goes on.
+    pub fn fail_behind(&mut self, k: u64)
+        ensures same { folder_in self.new ≡ folder_in self.old }
+        ensures plan { plan_in self.new ≡ record (plan_in self.old) { calls = 0; fails_behind = Some k } }
+    {
+        self.calls = 0;
+        self.fails_behind = Some(k);
+    }
+
     /// Makes each call from the k-th from now on fail, counted from 1.
     pub fn stop_at(&mut self, k: u64)
         ensures same { folder_in self.new ≡ folder_in self.old }
@@ -116,6 +138,20 @@ impl MemoryFiles {
         ensures { option_map (λ bytes. bytes.now) result ≡ get (folder_in self.now) name.now }
     {
         found(&self.log, name)
+    }
+
+    /// How many moments there were before this one: how many files were written.
+    pub fn moments(&self) -> usize
+        ensures { result ≡ moments_in self.now }
+    {
+        self.log.len()
+    }
+
+    /// The bytes of a file at a moment, where there was one; at a moment that is still to come those of now.
+    pub fn bytes_then(&self, moment: usize, name: &str) -> Option<&[u8]>
+        ensures { option_map (λ bytes. bytes.now) result ≡ get (folder_then self.now moment) name.now }
+    {
+        found(first_of(&self.log, moment), name)
     }
 
     /// How often `replace` was called, by `rewrite` too, up to the greatest number.
@@ -149,6 +185,13 @@ impl MemoryFiles {
         let fails = self.fails_at == Some(self.calls);
         let stops = self.stops_at.is_some_and(|k| k <= self.calls);
         !fails && !stops
+    }
+
+    // Whether the call that was counted last is one that fails when its work is done.
+    fn fails_now(&self) -> bool
+        ensures { result ≡ true → (plan_in self.now).fails_behind ≡ Some (plan_in self.now).calls }
+    {
+        self.fails_behind == Some(self.calls)
     }
 
     // Whether a file can be read and holds these bytes. The call is counted.
@@ -208,6 +251,9 @@ impl Files for MemoryFiles {
         };
         if self.add(entry).is_err() {
             return Err(self.failed(FileFault::Memory));
+        }
+        if self.fails_now() {
+            return Err(self.failed(FileFault::Write));
         }
         Ok(())
     }
