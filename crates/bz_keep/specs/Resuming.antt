@@ -1,0 +1,52 @@
+-- A file whose journal tells its history, and what a stop leaves of the two.
+use Rattle.std.specs.Prelude.{◌≡◌, ◌≢◌, ◌⊎◌, ℕ, List, [], ◌∷◌, Some, None}
+use Rattle.std.specs.FinMap.{get}
+use Rattle.bz_edit.specs.declared.edit.Edit.{Edit}
+use Rattle.bz_files.specs.Folder.{Folder, Text, new_name}
+use Rattle.bz_resume.specs.Journals.{History, Journal, stands, text_of}
+use Rattle.bz_keep.specs.Pair.{journal_name}
+
+-- the present text
+abbrev pub present : History → Text
+present h = text_of h h.cursor
+
+-- what tells the texts of a file that holds `text`: it has no journal, and these are that text alone; or its journal tells a
+-- history of this package and these texts, which stands for that text
+abbrev pub IsToldBy : Folder → Text → Text → Text → List Text → Type 0
+IsToldBy folder file current text texts = ((get folder (journal_name file) ≡ None) × (texts ≡ text ∷ []))
+    ⊎ ((bytes : Text) × (h : History) × (es : List (List Edit)) × (place : ℕ) × (get folder (journal_name file) ≡ Some bytes)
+    × Journal bytes h es × (h.package ≡ current) × (texts ≡ h.texts) × (stands h text ≡ Some place))
+
+-- the file holds this text and goes on, in this package, with these texts
+pub record Holds (folder : Folder) (file current text : Text) (texts : List Text) : Type 0 where
+  pub holds : get folder file ≡ Some text
+  pub history : IsToldBy folder file current text texts
+
+-- the file goes on, in this package, with these texts
+abbrev pub Resumes : Folder → Text → Text → List Text → Type 0
+Resumes folder file current texts = (text : Text) × Holds folder file current text texts
+
+-- one action leads from h to this history: the text before its present one is the one that is present in h
+abbrev pub Follows : History → History → Type 0
+Follows h after = (after.package ≡ h.package) × (text_of after after.before ≡ present h)
+
+-- An action leads from h to another history, and these are its journal and its text. The folder resumes with the texts of h, and
+-- the text at which the action was begun is its present one; the file may hold another.
+pub record MayResume (folder : Folder) (file standing told text : Text) (h after : History) (es : List (List Edit)) : Type 0 where
+  pub resumes : Resumes folder file h.package h.texts
+  pub begun : standing ≡ present h
+  pub follows : Follows h after
+  pub journal : Journal told after es
+  pub written : text ≡ present after
+
+-- Of a folder as it was, this one differs at most in the file, its journal, and the names under which these are written first.
+abbrev pub OthersStay : Text → Folder → Folder → Type 0
+OthersStay file old now = (name : Text) → name ≢ file → name ≢ journal_name file → name ≢ new_name file → name ≢ new_name (journal_name file)
+    → get now name ≡ get old name
+
+-- in the package of h the file goes on with the texts before the action, or with those after it, and it holds the present text
+-- of either; other files are as they were
+pub record Survives (file : Text) (h after : History) (old now : Folder) : Type 0 where
+  pub holds : Holds now file h.package (present h) h.texts
+      ⊎ (Holds now file h.package (present h) after.texts ⊎ Holds now file h.package (present after) after.texts)
+  pub others : OthersStay file old now
