@@ -1,3 +1,4 @@
+pub mod Apps
 pub mod AskedLemmas
 pub mod Counts
 pub mod GroupLemmas

@@ -20,6 +20,10 @@ stdout_rule = record (new_rule (codes "stdout")) { long = Some (codes "stdout");
 abbrev pub quiet_rule : Rule
 quiet_rule = record (new_rule (codes "quiet")) { long = Some (codes "quiet"); action = Some SetTrue }
 
+-- `--journal`: a journal is kept beside each file
+abbrev pub journal_rule : Rule
+journal_rule = record (new_rule (codes "journal")) { long = Some (codes "journal"); action = Some SetTrue }
+
 abbrev pub operand_rule : Rule
 operand_rule = record (new_rule (codes "operand")) { action = Some Append; value_names = 1 }
 
@@ -27,9 +31,14 @@ operand_rule = record (new_rule (codes "operand")) { action = Some Append; value
 abbrev pub nameless : App
 nameless = let app = new_app (codes "buildozer") in record { top = record app.top { no_binary_name = true }; subs = [] }
 
-abbrev pub options_app : App
-options_app = with_rule (with_rule (with_rule (with_rule nameless keep_going_rule) file_rule) stdout_rule) quiet_rule
+-- how lines are found and run
+abbrev pub lines_app : App
+lines_app = with_rule (with_rule nameless keep_going_rule) file_rule
 
--- buildozer [-k] [-f FILE] [--stdout] [--quiet] [OPERAND..]
+-- and what becomes of files
+abbrev pub options_app : App
+options_app = with_rule (with_rule (with_rule lines_app stdout_rule) quiet_rule) journal_rule
+
+-- buildozer [-k] [-f FILE] [--stdout] [--quiet] [--journal] [OPERAND..]
 abbrev pub buildozer_app : App
 buildozer_app = with_rule options_app operand_rule

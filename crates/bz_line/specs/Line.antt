@@ -1,5 +1,5 @@
 -- What the words of a command line say, as clap reads them.
-use Rattle.std.specs.Prelude.{◌==◌, Option, Some, None, List, [], ◌∷◌, length, codes, bytes_eq, Bool, false, if◌then◌else◌, unwrap_or, Result, Ok, Err}
+use Rattle.std.specs.Prelude.{◌==◌, Option, Some, None, List, [], ◌∷◌, length, codes, bytes_eq, Bool, false, ◌&&◌, if◌then◌else◌, unwrap_or, Result, Ok, Err}
 use Rattle.std.specs.Option.{option_map_or}
 use Rattle.clap.specs.Words.{Row, Text, all_of, first_of, fault_of, matches_of}
 use Rattle.bz_line.specs.App.{buildozer_app}
@@ -14,10 +14,11 @@ pub record Line : Type 0 where
   pub options : Options
   pub given : Given
 
--- why words are no line of the program's: a fault that clap finds, or operands beside `-f`
+-- why words are no line of the program's: a fault that clap finds, operands beside `-f`, or `--journal` beside `--stdout`
 pub data LineUsage : Type 0 where
   of_clap : LineUsage
   beside_script : LineUsage
+  beside_stdout : LineUsage
 
 -- the flag was given
 abbrev pub is_set : Text → List Row → Bool
@@ -28,6 +29,7 @@ options_of rows = record {
   keep_going = is_set (codes "keep_going") rows;
   to_stdout = is_set (codes "stdout") rows;
   quiet = is_set (codes "quiet") rows;
+  journal = is_set (codes "journal") rows;
 }
 
 -- what stands behind `-f`, where it is given, and the operands
@@ -39,8 +41,9 @@ given_by (Some file) (text ∷ texts) = Err beside_script
 abbrev pub given_of : List Row → Result Given LineUsage
 given_of rows = given_by (first_of (codes "file") rows) (unwrap_or (all_of (codes "operand") rows) [])
 
+-- Operands beside `-f` are told first.
 abbrev pub with_options : Options → Result Given LineUsage → Result Line LineUsage
-with_options options (Ok given) = Ok (record { options = options; given = given })
+with_options options (Ok given) = if options.journal && options.to_stdout then Err beside_stdout else Ok (record { options = options; given = given })
 with_options options (Err usage) = Err usage
 
 -- the line that the words say, or why they say none

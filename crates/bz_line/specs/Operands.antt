@@ -14,7 +14,7 @@ use Rattle.bz_words.specs.declared.fault.CommandFault.{CommandFault}
 use Rattle.bz_words.specs.declared.fault.CommandFault.TheVariants as c
 use Rattle.bz_line.specs.Characters.{space}
 use Rattle.bz_line.specs.declared.verb.Verb.{Verb}
-use Rattle.bz_line.specs.declared.verb.Verb.TheVariants.{Do, Undo, Redo}
+use Rattle.bz_line.specs.declared.verb.Verb.TheVariants.{Do, Undo, Redo, Journal}
 use Rattle.bz_line.specs.declared.verb.OperandFault.{OperandFault}
 use Rattle.bz_line.specs.declared.verb.OperandFault.TheVariants.{Memory, BadTarget, Command}
 
@@ -32,13 +32,13 @@ is_target operand = not (has_space operand) && (has_colon operand || begins_with
 abbrev pub target_of : Bytes → Result Target OperandFault
 target_of text = ok_or (target_in text) BadTarget
 
--- ---- `undo` and `redo`
+-- ---- `undo`, `redo` and `journal`
 
 -- a count of steps: decimal, from 1 to 4,294,967,295
 abbrev pub count_of : Bytes → Option ℕ
 count_of word = if all_ascii_digits word && nat_lt 0 (decimal word) && nat_lt (decimal word) (2 ^ 32) then Some (decimal word) else None
 
--- They take a count of steps, or none for one step.
+-- `undo` and `redo` take a count of steps, or none for one step.
 abbrev pub steps_of : List Bytes → Result ℕ OperandFault
 steps_of [] = Ok 1
 steps_of (count ∷ []) = ok_or (count_of count) (Command c.Arguments)
@@ -48,12 +48,18 @@ abbrev pub by_steps : (ℕ → Verb) → Result ℕ OperandFault → Result Verb
 by_steps verb (Ok count) = Ok (verb count)
 by_steps verb (Err fault) = Err fault
 
+-- `journal` takes nothing.
+abbrev pub journal_of : List Bytes → Result Verb OperandFault
+journal_of [] = Ok Journal
+journal_of (argument ∷ more) = Err (Command c.Arguments)
+
 -- what the one that these words begin with reads in the others, where they begin with one
 abbrev pub history_verb_in : List Bytes → Option (Result Verb OperandFault)
 history_verb_in [] = None
 history_verb_in (name ∷ arguments) =
     if bytes_eq name (codes "undo") then Some (by_steps Undo (steps_of arguments))
-    else (if bytes_eq name (codes "redo") then Some (by_steps Redo (steps_of arguments)) else None)
+    else (if bytes_eq name (codes "redo") then Some (by_steps Redo (steps_of arguments))
+    else (if bytes_eq name (codes "journal") then Some (journal_of arguments) else None))
 
 -- Their text is as long at most as that of a command.
 abbrev pub within_limit : Bool → Result Verb OperandFault → Result Verb OperandFault
@@ -69,6 +75,6 @@ abbrev pub by_command : Result Operation CommandFault → Result Verb OperandFau
 by_command (Ok operation) = Ok (Do operation)
 by_command (Err fault) = Err (of_command fault)
 
--- `undo` or `redo`, else a command on the rules of a target
+-- `undo`, `redo` or `journal`, else a command on the rules of a target
 abbrev pub verb_of : Bytes → Result Verb OperandFault
 verb_of text = option_map_or (within_limit (nat_le (length text) text_limit)) (history_verb_in (words_of text)) (by_command (command_of text))

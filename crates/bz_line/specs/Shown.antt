@@ -24,6 +24,7 @@ line_in line = record { options = line.options; given = given_in line.given }
 abbrev pub line_usage_in : LineFault → Option l.LineUsage
 line_usage_in (f.Clap error) = Some l.of_clap
 line_usage_in f.BesideScript = Some l.beside_script
+line_usage_in f.BesideStdout = Some l.beside_stdout
 line_usage_in f.Memory = None
 
 abbrev pub asking_in : Asking → a.Asking

@@ -7,17 +7,18 @@ use Rattle.bz_words.specs.declared.command.Operation.TheVariants as w
 use Rattle.bz_words.specs.declared.command.RuleOperation.TheVariants as wr
 use Rattle.bz_words.specs.declared.fault.CommandFault.TheVariants.{Unknown, Arguments}
 use Rattle.bz_line.specs.Asked.{Asked, Asking, Usage, of_operand, no_command, no_target, no_line, group_of}
-use Rattle.bz_line.specs.Line.{Line, Given, operands, script, of_clap, beside_script, line_of}
+use Rattle.bz_line.specs.Line.{Line, Given, operands, script, of_clap, beside_script, beside_stdout, line_of}
 use Rattle.bz_line.specs.Operands.{target_of, verb_of}
 use Rattle.bz_line.specs.Script.{script_of}
+use Rattle.bz_line.specs.Verbs.{prints}
 use Rattle.bz_line.specs.declared.line.Options.{Options}
 use Rattle.bz_line.specs.declared.verb.OperandFault.{OperandFault}
 use Rattle.bz_line.specs.declared.verb.OperandFault.TheVariants.{BadTarget, Command}
 use Rattle.bz_line.specs.declared.verb.Verb.{Verb}
-use Rattle.bz_line.specs.declared.verb.Verb.TheVariants.{Do, Undo, Redo}
+use Rattle.bz_line.specs.declared.verb.Verb.TheVariants.{Do, Undo, Redo, Journal}
 
 abbrev plain : Options
-plain = record { keep_going = false; to_stdout = false; quiet = false }
+plain = record { keep_going = false; to_stdout = false; quiet = false; journal = false }
 
 abbrev with_plain : Given → Line
 with_plain given = record { options = plain; given = given }
@@ -28,6 +29,7 @@ Words = (line_of [] ≡ Ok (with_plain (operands [])))
     × (line_of (codes "-k" ∷ []) ≡ Ok (record { options = record plain { keep_going = true }; given = operands [] }))
     × (line_of (codes "--stdout" ∷ []) ≡ Ok (record { options = record plain { to_stdout = true }; given = operands [] }))
     × (line_of (codes "--quiet" ∷ []) ≡ Ok (record { options = record plain { quiet = true }; given = operands [] }))
+    × (line_of (codes "--journal" ∷ []) ≡ Ok (record { options = record plain { journal = true }; given = operands [] }))
     × (line_of (codes "--" ∷ codes "delete" ∷ codes "-:x" ∷ []) ≡ Ok (with_plain (operands (codes "delete" ∷ codes "-:x" ∷ []))))
     × (line_of (codes "delete" ∷ codes "-k" ∷ codes "//a:x" ∷ [])
     ≡ Ok (record { options = record plain { keep_going = true }; given = operands (codes "delete" ∷ codes "//a:x" ∷ []) }))
@@ -41,6 +43,18 @@ Scripts = (line_of (codes "-f" ∷ codes "lines" ∷ []) ≡ Ok (with_plain (scr
     × (line_of (codes "delete" ∷ codes "-f" ∷ codes "lines" ∷ []) ≡ Err beside_script)
     × (line_of (codes "-k" ∷ codes "-k" ∷ []) ≡ Err of_clap) × (line_of (codes "-f" ∷ []) ≡ Err of_clap)
     × (line_of (codes "delete" ∷ codes "-:x" ∷ []) ≡ Err of_clap)
+
+-- a journal beside the other options and behind an operand; beside standard output, in both orders; beside operands and a file, which
+-- are told first; a repeated one
+abbrev Journals : Type 0
+Journals = (line_of (codes "-k" ∷ codes "--quiet" ∷ codes "--journal" ∷ codes "-f" ∷ codes "lines" ∷ [])
+    ≡ Ok (record { options = record plain { keep_going = true; quiet = true; journal = true }; given = script (codes "lines") }))
+    × (line_of (codes "undo" ∷ codes "//a:x" ∷ codes "--journal" ∷ [])
+    ≡ Ok (record { options = record plain { journal = true }; given = operands (codes "undo" ∷ codes "//a:x" ∷ []) }))
+    × (line_of (codes "--journal" ∷ codes "--stdout" ∷ []) ≡ Err beside_stdout)
+    × (line_of (codes "--stdout" ∷ codes "-f" ∷ codes "lines" ∷ codes "--journal" ∷ []) ≡ Err beside_stdout)
+    × (line_of (codes "--journal" ∷ codes "--stdout" ∷ codes "delete" ∷ codes "-f" ∷ codes "lines" ∷ []) ≡ Err beside_script)
+    × (line_of (codes "--journal" ∷ codes "--journal" ∷ []) ≡ Err of_clap)
 
 -- the rule of this name in the package a
 abbrev meant : Bytes → Target
@@ -87,7 +101,13 @@ abbrev Operands : Type 0
 Operands = (target_of (codes "//a:x") ≡ Ok (meant (codes "x"))) × (target_of (codes "//a/") ≡ Err BadTarget)
     × (verb_of (codes "redo") ≡ Ok (Redo 1)) × (verb_of (codes "undo 0") ≡ Err (Command Arguments))
     × (verb_of (codes "undo +1") ≡ Err (Command Arguments)) × (verb_of (codes "redo 4294967296") ≡ Err (Command Arguments))
-    × (verb_of (codes "journal") ≡ Err (Command Unknown)) × (verb_of [] ≡ Err (Command Unknown))
+    × (verb_of (codes "journals") ≡ Err (Command Unknown)) × (verb_of [] ≡ Err (Command Unknown))
+
+-- the list of texts, which takes no argument and prints, and other steps of a history, which don't
+abbrev Listed : Type 0
+Listed = (verb_of (codes " journal ") ≡ Ok Journal) × (verb_of (codes "journal 1") ≡ Err (Command Arguments))
+    × (group_of (codes "journal" ∷ codes "//a:x" ∷ []) ≡ Ok (record { commands = asking Journal (codes "journal") ∷ []; targets = meant (codes "x") ∷ [] }))
+    × (prints Journal ≡ true) × (prints (Undo 1) ≡ false) × (prints (Redo 1) ≡ false)
 
 abbrev pub WorkedLines : Type 0
-WorkedLines = Words × Scripts × Groups × Lines × Faults × Operands
+WorkedLines = Words × Scripts × Journals × Groups × Lines × Faults × Operands × Listed

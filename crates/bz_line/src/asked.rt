@@ -56,17 +56,15 @@ fn add_command<'a>(
         ⊎ (fault ≡ OperandFault.Memory)) }
     ensures paths { All HasPath asked.old.targets.items → OnOk result (All HasPath asked.new.targets.items) }
 {
-    let verb = read_verb(alloc, operand)?;
-    if asked
-        .commands
-        .push(Asking {
-            verb,
-            text: operand,
-        })
-        .is_err()
-    {
+    // The room comes first: a push that fails gives the command back, and the proof that it is let go is long.
+    if asked.commands.reserve(1).is_err() {
         return Err(OperandFault::Memory);
     }
+    let verb = read_verb(alloc, operand)?;
+    asked.commands.push_reserved(Asking {
+        verb,
+        text: operand,
+    });
     Ok(())
 }
 

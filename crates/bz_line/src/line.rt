@@ -1,7 +1,7 @@
 //! The words of a command line: options, and where commands and targets stand.
 ghost use Rattle.std.specs.Prelude.{◌≡◌, [], false, Ok, Err, IfOk, IfErr, IfSome, map};
 ghost use Rattle.clap.specs.Words.{app_of, rule_of, found_of, fault_of, matches_of, rows_of};
-ghost use Rattle.bz_line.specs.App.{nameless, buildozer_app, options_app, keep_going_rule, file_rule, stdout_rule, quiet_rule, operand_rule};
+ghost use Rattle.bz_line.specs.App.{nameless, buildozer_app, lines_app, options_app, keep_going_rule, file_rule, stdout_rule, quiet_rule, journal_rule, operand_rule};
 ghost use Rattle.bz_line.specs.Line.{is_set, options_of, given_of, line_of};
 ghost use Rattle.bz_line.specs.Shown.{given_in, line_in, line_usage_in};
 
@@ -20,6 +20,8 @@ pub struct Options {
     pub to_stdout: bool,
     /// `--quiet`: nothing is told of what was done.
     pub quiet: bool,
+    /// `--journal`: FILE.journal is kept beside each file, so that a later run can undo.
+    pub journal: bool,
 }
 
 /// Where commands and targets stand.
@@ -45,6 +47,8 @@ pub enum LineFault {
     Clap(clap::Error),
     /// There are operands beside `-f`.
     BesideScript,
+    /// `--journal` stands beside `--stdout`.
+    BesideStdout,
     /// A growth was refused.
     Memory,
 }
@@ -60,6 +64,7 @@ Examples:
   buildozer 'add deps //lib:a' 'set testonly True' //pkg:rule
   buildozer 'print name kind deps' //pkg:all
   buildozer -- 'remove deps :old' undo redo -:rule < BUILD
+  buildozer --journal 'add deps //lib:a' //pkg:rule; buildozer --journal undo //pkg:rule
   buildozer -k -f commands.txt
     with lines as: add deps :x|//pkg:a|//pkg:b";
 
@@ -102,6 +107,16 @@ fn quiet<'a>(alloc: Global) -> Arg<'a>
         .help("Doesn't tell which files were written")
 }
 
+fn journal<'a>(alloc: Global) -> Arg<'a>
+    ensures rule { rule_of result ≡ journal_rule }
+    ensures local { result.global ≡ false }
+{
+    Arg::new(alloc, "journal")
+        .long("journal")
+        .action(ArgAction::SetTrue)
+        .help("Keeps FILE.journal beside each file, so that a later run can undo")
+}
+
 fn operand<'a>(alloc: Global) -> Arg<'a>
     ensures rule { rule_of result ≡ operand_rule }
     ensures local { result.global ≡ false }
@@ -121,14 +136,19 @@ fn described<'a>(alloc: Global) -> Command<'a>
         .after_help(EXAMPLES)
 }
 
+fn lines_command<'a>(alloc: Global) -> Result<Command<'a>, AllocError>
+    ensures { IfOk result (λ command. app_of command ≡ lines_app) }
+{
+    described(alloc).arg(keep_going(alloc))?.arg(file(alloc))
+}
+
 fn options_command<'a>(alloc: Global) -> Result<Command<'a>, AllocError>
     ensures { IfOk result (λ command. app_of command ≡ options_app) }
 {
-    described(alloc)
-        .arg(keep_going(alloc))?
-        .arg(file(alloc))?
+    lines_command(alloc)?
         .arg(to_stdout(alloc))?
-        .arg(quiet(alloc))
+        .arg(quiet(alloc))?
+        .arg(journal(alloc))
 }
 
 fn buildozer_command<'a>(alloc: Global) -> Result<Command<'a>, AllocError>
@@ -169,6 +189,7 @@ fn options_of(matches: &ArgMatches<'_>) -> Options
         keep_going: is_set(matches, "keep_going"),
         to_stdout: is_set(matches, "stdout"),
         quiet: is_set(matches, "quiet"),
+        journal: is_set(matches, "journal"),
     }
 }
 
@@ -191,15 +212,17 @@ fn given_of<'a>(alloc: Global, matches: &ArgMatches<'a>) -> Result<Given<'a>, Li
 }
 
 /// What the words behind the program's name say. Errors: `Clap` where clap finds a fault in them, repeated options among
-/// these; `BesideScript` where operands stand beside `-f`; `Memory`: a growth was refused.
+/// these; `BesideScript` where operands stand beside `-f`, else `BesideStdout` where `--journal` stands beside `--stdout`;
+/// `Memory`: a growth was refused.
 pub fn read_line<'a, S: AsStr>(alloc: Global, words: &'a [S]) -> Result<Line<'a>, LineFault>
     ensures ok { IfOk result (λ line. line_of (map S.text words.entry.now) ≡ Ok (line_in line)) }
     ensures err { IfErr result (λ fault. IfSome (line_usage_in fault) (λ usage. line_of (map S.text words.entry.now) ≡ Err usage)) }
 {
     let matches = parse(alloc, words)?;
     let given = given_of(alloc, &matches)?;
-    Ok(Line {
-        options: options_of(&matches),
-        given,
-    })
+    let options = options_of(&matches);
+    if options.journal && options.to_stdout {
+        return Err(LineFault::BesideStdout);
+    }
+    Ok(Line { options, given })
 }

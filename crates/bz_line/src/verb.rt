@@ -1,7 +1,7 @@
 //! What a command's text asks for.
-ghost use Rattle.std.specs.Prelude.{◌≡◌, ◌⊎◌, Ok, Err, IfOk, IfErr};
+ghost use Rattle.std.specs.Prelude.{◌≡◌, ◌⊎◌, Ok, Err, IfOk, IfErr, option_map};
 ghost use Rattle.bz_words.specs.Commands.{command_of};
-ghost use Rattle.bz_line.specs.Operands.{verb_of, by_command, by_steps, count_of, history_verb_in, steps_of, within_limit};
+ghost use Rattle.bz_line.specs.Operands.{verb_of, by_command, by_steps, count_of, history_verb_in, journal_of, steps_of, within_limit};
 ghost use Rattle.bz_line.specs.Refused.{IsPatternFault};
 ghost use Rattle.bz_line.specs.Verbs.{prints, fault_name, fault_number};
 
@@ -18,6 +18,8 @@ pub enum Verb {
     Undo(u32),
     /// Forward by so many steps.
     Redo(u32),
+    /// The texts of the file are listed.
+    Journal,
 }
 
 impl Verb {
@@ -28,6 +30,7 @@ impl Verb {
         match self {
             Verb::Do(command) => command.prints(),
             Verb::Undo(_) | Verb::Redo(_) => false,
+            Verb::Journal => true,
         }
     }
 }
@@ -82,7 +85,7 @@ impl From<CommandFault> for OperandFault {
     }
 }
 
-/// The most bytes of a text that asks for steps.
+/// The most bytes of a text that asks for steps, or for the journal.
 const TEXT_LIMIT: usize = 65_536;
 
 const WRONG_ARGUMENTS: OperandFault = OperandFault::Command(CommandFault::Arguments);
@@ -114,34 +117,45 @@ fn read_steps(arguments: &[Text]) -> Result<u32, OperandFault>
     }
 }
 
-fn undo_in(arguments: &[Text]) -> Result<Verb, OperandFault>
-    ensures { result ≡ by_steps Verb.Undo (steps_of arguments.now) }
+fn undo_in(fits: bool, arguments: &[Text]) -> Result<Verb, OperandFault>
+    ensures { result ≡ within_limit fits (by_steps Verb.Undo (steps_of arguments.now)) }
 {
+    if !fits {
+        return Err(WRONG_ARGUMENTS);
+    }
     Ok(Verb::Undo(read_steps(arguments)?))
 }
 
-fn redo_in(arguments: &[Text]) -> Result<Verb, OperandFault>
-    ensures { result ≡ by_steps Verb.Redo (steps_of arguments.now) }
+fn redo_in(fits: bool, arguments: &[Text]) -> Result<Verb, OperandFault>
+    ensures { result ≡ within_limit fits (by_steps Verb.Redo (steps_of arguments.now)) }
 {
+    if !fits {
+        return Err(WRONG_ARGUMENTS);
+    }
     Ok(Verb::Redo(read_steps(arguments)?))
 }
 
-// What `undo` or `redo` reads, where the words begin with one of them.
-fn history_verb_in(words: &[Text]) -> Option<Result<Verb, OperandFault>>
-    ensures { result ≡ history_verb_in words.now }
+fn journal_in(fits: bool, arguments: &[Text]) -> Result<Verb, OperandFault>
+    ensures { result ≡ within_limit fits (journal_of arguments.now) }
 {
-    let (name, arguments) = words.split_first()?;
-    match name.as_slice() {
-        b"undo" => Some(undo_in(arguments)),
-        b"redo" => Some(redo_in(arguments)),
-        _ => None,
+    if fits && arguments.is_empty() {
+        Ok(Verb::Journal)
+    } else {
+        Err(WRONG_ARGUMENTS)
     }
 }
 
-fn within_limit(fits: bool, verb: Result<Verb, OperandFault>) -> Result<Verb, OperandFault>
-    ensures { result ≡ within_limit fits verb }
+// What `undo`, `redo` or `journal` reads, where the words begin with one of them.
+fn history_verb_in(fits: bool, words: &[Text]) -> Option<Result<Verb, OperandFault>>
+    ensures { result ≡ option_map (within_limit fits) (history_verb_in words.now) }
 {
-    if fits { verb } else { Err(WRONG_ARGUMENTS) }
+    let (name, arguments) = words.split_first()?;
+    match name.as_slice() {
+        b"undo" => Some(undo_in(fits, arguments)),
+        b"redo" => Some(redo_in(fits, arguments)),
+        b"journal" => Some(journal_in(fits, arguments)),
+        _ => None,
+    }
 }
 
 fn read_command(alloc: Global, text: &str) -> Result<Verb, OperandFault>
@@ -161,8 +175,8 @@ pub(crate) fn read_verb(alloc: Global, text: &str) -> Result<Verb, OperandFault>
     let Ok(words) = read_words(alloc, text.as_bytes()) else {
         return Err(OperandFault::Memory);
     };
-    match history_verb_in(&words) {
-        Some(verb) => within_limit(text.len() <= TEXT_LIMIT, verb),
+    match history_verb_in(text.len() <= TEXT_LIMIT, &words) {
+        Some(verb) => verb,
         None => read_command(alloc, text),
     }
 }

@@ -5,10 +5,12 @@ use Rattle.bz_line.proofs.laws.worked_lines.Goals as goal
 pub returns : goal.returns
 unfolding clap_on_literals
 returns c = (
-  (refl, refl, refl, refl, refl, refl),
   (refl, refl, refl, refl, refl, refl, refl),
+  (refl, refl, refl, refl, refl, refl, refl),
+  (refl, refl, refl, refl, refl, refl),
   (refl, refl, refl, refl, refl),
   (refl, refl, refl),
   (refl, refl, refl, refl, refl, refl, refl, refl),
   (refl, refl, refl, refl, refl, refl, refl, refl),
+  (refl, refl, refl, refl, refl, refl),
 )
