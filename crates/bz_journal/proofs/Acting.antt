@@ -18,7 +18,7 @@ use Rattle.bz_attribute.specs.declared.refusal.Refusal.TheVariants.{Memory}
 use Rattle.bz_journal.specs.declared.action.Action.TheVariants.{Do, Format}
 use Rattle.bz_journal.specs.declared.action.Reply.{Reply}
 use Rattle.bz_journal.specs.Meaning.{Meaning, gives, refuses, told, written, EffectMeans, Means, Formats}
-use Rattle.bz_journal.specs.History.{History, Answer, present, unchanged, after_text, Acts}
+use Rattle.bz_journal.specs.History.{History, Answer, present, unchanged, after_text, MakesOrWants}
 
 -- ---- commands, in a history
 
@@ -28,10 +28,10 @@ meant_there : (operation : Operation) (target : Target) (h : History) (current h
 meant_there operation target h current here m own is means =
     subst (λ (c : Bytes). Means operation target c (present h) m) own (subst (λ (text : Bytes). Means operation target current text m) is means)
 
-pub acts_refused : (operation : Operation) (target : Target) (h : History) (current here : Bytes) (refusal : Refusal) → current ≡ h.package → here ≡ present h
-    → Means operation target current here (refuses refusal) ⊎ (refusal ≡ Memory) → Acts (Do operation target) h (Err refusal) h
-acts_refused operation target h current here refusal own is (inl means) = inl (refuses refusal, meant_there operation target h current here (refuses refusal) own is means, refl)
-acts_refused operation target h current here refusal own is (inr memory) = inr (λ none. none, ap Err memory, refl)
+pub acts_refused : (note : Bytes) (operation : Operation) (target : Target) (h : History) (current here : Bytes) (refusal : Refusal) → current ≡ h.package → here ≡ present h
+    → Means operation target current here (refuses refusal) ⊎ (refusal ≡ Memory) → MakesOrWants (Do operation target) note h (Err refusal) h
+acts_refused note operation target h current here refusal own is (inl means) = inl (refuses refusal, meant_there operation target h current here (refuses refusal) own is means, refl)
+acts_refused note operation target h current here refusal own is (inr memory) = inr (λ none. none, ap Err memory, refl)
 
 -- what a command leaves: the text of a tree, or the one that was there
 pub means_left : (operation : Operation) (target : Target) (current here : Bytes) (left other : Option Node) (printed : Option Bytes) → left ≡ other
@@ -40,19 +40,19 @@ pub means_left : (operation : Operation) (target : Target) (current here : Bytes
 means_left operation target current here left other printed is =
     subst (λ (l : Option Node). Means operation target current here (gives (unwrap_or (option_map spell_node l) here) printed)) is
 
-pub acts_same : (operation : Operation) (target : Target) (h : History) (current here : Bytes) (printed : Option Bytes) (reply : Reply) → current ≡ h.package → here ≡ present h
-    → Means operation target current here (gives here printed) → reply ≡ unchanged printed → Acts (Do operation target) h (Ok reply) h
-acts_same operation target h current here printed reply own is means told =
+pub acts_same : (note : Bytes) (operation : Operation) (target : Target) (h : History) (current here : Bytes) (printed : Option Bytes) (reply : Reply) → current ≡ h.package → here ≡ present h
+    → Means operation target current here (gives here printed) → reply ≡ unchanged printed → MakesOrWants (Do operation target) note h (Ok reply) h
+acts_same note operation target h current here printed reply own is means told =
     let same : bytes_eq (present h) (present h) ≡ true = (bytes_eq-Decides (present h) (present h)).1 refl in
-    let led : ◌≡◌ {A = Answer × History} (Ok reply, h) (after_text h (present h) printed) = rw (same, told) in
+    let led : ◌≡◌ {A = Answer × History} (Ok reply, h) (after_text note h (present h) printed) = rw (same, told) in
     let given : Means operation target current here (gives (present h) printed) = subst (λ (text : Bytes). Means operation target current here (gives text printed)) is means in
     inl (gives (present h) printed, meant_there operation target h current here (gives (present h) printed) own is given, led)
 
-pub acts_given : (operation : Operation) (target : Target) (h : History) (current here text : Bytes) (printed : Option Bytes) (answer : Answer) (after : History)
+pub acts_given : (note : Bytes) (operation : Operation) (target : Target) (h : History) (current here text : Bytes) (printed : Option Bytes) (answer : Answer) (after : History)
     → current ≡ h.package → here ≡ present h → Means operation target current here (gives text printed)
-    → ((answer, after) ≡ after_text h text printed) ⊎ ((answer ≡ Err Memory) × (after ≡ h)) → Acts (Do operation target) h answer after
-acts_given operation target h current here text printed answer after own is means (inl led) = inl (gives text printed, meant_there operation target h current here (gives text printed) own is means, led)
-acts_given operation target h current here text printed answer after own is means (inr memory) = inr (λ none. none, memory.0, memory.1)
+    → ((answer, after) ≡ after_text note h text printed) ⊎ ((answer ≡ Err Memory) × (after ≡ h)) → MakesOrWants (Do operation target) note h answer after
+acts_given note operation target h current here text printed answer after own is means (inl led) = inl (gives text printed, meant_there operation target h current here (gives text printed) own is means, led)
+acts_given note operation target h current here text printed answer after own is means (inr memory) = inr (λ none. none, memory.0, memory.1)
 
 -- ---- a new value
 
@@ -94,12 +94,12 @@ means_written operation target current text out laid tree value new lines left a
 
 -- ---- formatting
 
-pub formats_refused : (h : History) (here : Bytes) (refusal : Refusal) → here ≡ present h
-    → Formats here (refuses refusal) ⊎ (refusal ≡ Memory) → Acts Format h (Err refusal) h
-formats_refused h here refusal is (inl formats) = inl (refuses refusal, subst (λ (text : Bytes). Formats text (refuses refusal)) is formats, refl)
-formats_refused h here refusal is (inr memory) = inr (λ none. none, ap Err memory, refl)
+pub formats_refused : (note : Bytes) (h : History) (here : Bytes) (refusal : Refusal) → here ≡ present h
+    → Formats here (refuses refusal) ⊎ (refusal ≡ Memory) → MakesOrWants Format note h (Err refusal) h
+formats_refused note h here refusal is (inl formats) = inl (refuses refusal, subst (λ (text : Bytes). Formats text (refuses refusal)) is formats, refl)
+formats_refused note h here refusal is (inr memory) = inr (λ none. none, ap Err memory, refl)
 
-pub formats_given : (h : History) (here text : Bytes) (answer : Answer) (after : History) → here ≡ present h
-    → Formats here (gives text None) → ((answer, after) ≡ after_text h text None) ⊎ ((answer ≡ Err Memory) × (after ≡ h)) → Acts Format h answer after
-formats_given h here text answer after is formats (inl led) = inl (gives text None, subst (λ (t : Bytes). Formats t (gives text None)) is formats, led)
-formats_given h here text answer after is formats (inr memory) = inr (λ none. none, memory.0, memory.1)
+pub formats_given : (note : Bytes) (h : History) (here text : Bytes) (answer : Answer) (after : History) → here ≡ present h
+    → Formats here (gives text None) → ((answer, after) ≡ after_text note h text None) ⊎ ((answer ≡ Err Memory) × (after ≡ h)) → MakesOrWants Format note h answer after
+formats_given note h here text answer after is formats (inl led) = inl (gives text None, subst (λ (t : Bytes). Formats t (gives text None)) is formats, led)
+formats_given note h here text answer after is formats (inr memory) = inr (λ none. none, memory.0, memory.1)

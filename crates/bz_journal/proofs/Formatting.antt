@@ -25,7 +25,7 @@ use Rattle.bz_journal.specs.declared.action.Reply.{Reply}
 use Rattle.bz_journal.specs.declared.action.Reply.TheVariants.{Changed}
 use Rattle.bz_journal.specs.Meaning.{Meaning, gives, refuses, written, Formats}
 use Rattle.bz_journal.specs.Fixed.{IsFormatted, FixedPoint}
-use Rattle.bz_journal.specs.History.{History, Answer, present, changed, unchanged, after_text, after_meaning, most_steps, Acts}
+use Rattle.bz_journal.specs.History.{History, Answer, present, changed, unchanged, after_text, after_meaning, most_steps, MakesOrWants}
 use Rattle.bz_journal.proofs.Writes.{IsGiven, given}
 
 -- what is written of a value that is tidy already
@@ -70,31 +70,32 @@ formatted_again layers text formatted formats =
 prints_none : (text formatted : Bytes) (printed : Option Bytes) → Formats text (gives formatted printed) → printed ≡ None
 prints_none text formatted printed formats = IsGiven.same (given (view_of formats.0) formatted None printed (sym formats.2))
 
-present_changed : (h : History) (text : Bytes) → h.cursor < length h.texts → present (changed h text) ≡ text
-present_changed h text within =
+present_changed : (note : Bytes) (h : History) (text : Bytes) → h.cursor < length h.texts → present (changed note h text) ≡ text
+present_changed note h text within =
     let long : length (take (h.cursor + 1) h.texts) ≡ h.cursor + 1 = rw length-take (omega arith) in
     subst (λ (n : ℕ). get_or (take (h.cursor + 1) h.texts ++ text ∷ []) n [] ≡ text) long (get_or-append_seam (take (h.cursor + 1) h.texts) text [] [])
 
 -- what the text is where an answer is none of Full
-behind : (same below : Bool) (h after : History) (text : Bytes) (reply : Reply) → h.cursor < length h.texts → (same ≡ true → text ≡ present h)
-    → ◌≡◌ {A = Answer × History} (Ok reply, after) (if same then (Ok (unchanged None), h) else (if below then (Ok Changed, changed h text) else (Err Full, h)))
+after_is : (same below : Bool) (note : Bytes) (h after : History) (text : Bytes) (reply : Reply) → h.cursor < length h.texts → (same ≡ true → text ≡ present h)
+    → ◌≡◌ {A = Answer × History} (Ok reply, after) (if same then (Ok (unchanged None), h) else (if below then (Ok Changed, changed note h text) else (Err Full, h)))
     → present after ≡ text
-behind true below h after text reply within is led = ap (λ (z : Answer × History). present z.1) led ∙ sym (is refl)
-behind false true h after text reply within is led = ap (λ (z : Answer × History). present z.1) led ∙ present_changed h text within
-behind false false h after text reply within is led = let answer = ap (λ (z : Answer × History). z.0) led in absurd (cc)
+after_is true below note h after text reply within is led = ap (λ (z : Answer × History). present z.1) led ∙ sym (is refl)
+after_is false true note h after text reply within is led = ap (λ (z : Answer × History). present z.1) led ∙ present_changed note h text within
+after_is false false note h after text reply within is led = let answer = ap (λ (z : Answer × History). z.0) led in absurd (cc)
 
-by_meaning : FixedPoint → (h after : History) (reply : Reply) (m : Meaning) → h.cursor < length h.texts → Formats (present h) m
-    → ◌≡◌ {A = Answer × History} (Ok reply, after) (after_meaning h m) → IsFormatted (present h) (present after)
-by_meaning fixed h after reply (gives text printed) within formats led =
+by_meaning : FixedPoint → (note : Bytes) (h after : History) (reply : Reply) (m : Meaning) → h.cursor < length h.texts → Formats (present h) m
+    → ◌≡◌ {A = Answer × History} (Ok reply, after) (after_meaning note h m) → IsFormatted (present h) (present after)
+by_meaning fixed note h after reply (gives text printed) within formats led =
     let none : printed ≡ None = prints_none (present h) text printed formats in
     let first : Formats (present h) (gives text None) = subst (λ (p : Option Bytes). Formats (present h) (gives text p)) none formats in
-    let after_is : ◌≡◌ {A = Answer × History} (Ok reply, after) (after_text h text None) = led ∙ ap (λ (p : Option Bytes). after_text h text p) none in
+    let led_none : ◌≡◌ {A = Answer × History} (Ok reply, after) (after_text note h text None) = led ∙ ap (λ (p : Option Bytes). after_text note h text p) none in
     let new : present after ≡ text =
-    behind (bytes_eq text (present h)) (nat_lt h.cursor most_steps) h after text reply within (bytes_eq-Decides text (present h)).0 after_is in
+    after_is (bytes_eq text (present h)) (nat_lt h.cursor most_steps) note h after text reply within (bytes_eq-Decides text (present h)).0 led_none in
     subst (IsFormatted (present h)) (sym new) (fixed (present h) text first)
-by_meaning fixed h after reply (refuses refusal) within formats led = let answer = ap (λ (z : Answer × History). z.0) led in absurd (cc)
+by_meaning fixed note h after reply (refuses refusal) within formats led = let answer = ap (λ (z : Answer × History). z.0) led in absurd (cc)
 
-pub formatted_after : FixedPoint → (h after : History) (answer : Answer) → h.cursor < length h.texts → Acts Format h answer after → OnOk answer (IsFormatted (present h) (present after))
-formatted_after fixed h after (Err refusal) within acts = tt
-formatted_after fixed h after (Ok reply) within (inl (m, formats, led)) = by_meaning fixed h after reply m within formats led
-formatted_after fixed h after (Ok reply) within (inr memory) = let answer = memory.1 in absurd (cc)
+pub formatted_after : FixedPoint → (note : Bytes) (h after : History) (answer : Answer) → h.cursor < length h.texts → MakesOrWants Format note h answer after
+    → OnOk answer (IsFormatted (present h) (present after))
+formatted_after fixed note h after (Err refusal) within acts = tt
+formatted_after fixed note h after (Ok reply) within (inl (m, formats, led)) = by_meaning fixed note h after reply m within formats led
+formatted_after fixed note h after (Ok reply) within (inr memory) = let answer = memory.1 in absurd (cc)

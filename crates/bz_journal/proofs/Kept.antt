@@ -1,5 +1,6 @@
 -- What the histories of sessions keep, and what a new text makes of a session.
-use Rattle.std.proofs.Common.{◌≡◌, ◌<◌, ◌+◌, ◌-◌, ℕ, List, [], ◌∷◌, ◌++◌, length, map, take, sym, ap, ◌∙◌, arith, length-append, length-take-le}
+use Rattle.std.proofs.Common.{◌≡◌, ◌<◌, ◌≤◌, ◌+◌, ◌-◌, ℕ, zero, suc, List, [], ◌∷◌, ◌++◌, length, map, take, sym, ap, subst, ◌∙◌, arith, length-append, length-take-le}
+use Rattle.std.specs.List.{AllByRecursion}
 use Rattle.std.proofs.lemmas.List.{map-append, take-map}
 use Rattle.sha2.specs.Sha256.{sha256}
 use Rattle.bz_tree.specs.declared.tree.Node.{Node}
@@ -7,6 +8,8 @@ use Rattle.bz_tree.specs.Spell.{spell_node}
 use Rattle.bz_edit.specs.declared.edit.Edit.{Edit}
 use Rattle.bz_trail.specs.Trails.{IsSmall, trail_at}
 use Rattle.bz_trail.specs.Shown.{TakesUp, TrailsKeep, texts_of}
+use Rattle.bz_record.specs.Texts.{IsNote}
+use Rattle.bz_record.specs.declared.content.Version.TheVariants.{Two}
 use Rattle.bz_value.specs.Gaps.{Bytes}
 use Rattle.bz_journal.specs.History.{History, IsKept, changed, most_steps, present}
 use Rattle.bz_journal.specs.State.{State, IsSession, trail_of}
@@ -15,7 +18,7 @@ use Rattle.bz_journal.specs.Shown.{history_of}
 pub session_kept : TrailsKeep → (s : State) → IsSession s → IsKept (history_of s)
 session_kept keep s h =
     let k = keep (trail_of s) h.trail in
-    record { accepted = k.accepted; within = k.within; known = omega (arith, k.counted, h.known); bounded = omega (arith, k.counted, h.bounded) }
+    record { accepted = k.accepted; noted = omega (arith, k.counted, h.noted); within = k.within; known = omega (arith, k.counted, h.known); bounded = omega (arith, k.counted, h.bounded) }
 
 pub session_present : TrailsKeep → (s : State) → IsSession s → spell_node s.tree ≡ present (history_of s)
 session_present keep s h = let k = keep (trail_of s) h.trail in sym k.present
@@ -28,26 +31,46 @@ session_ahead keep s steps cursor h a b = omega (arith, session_counted keep s h
 
 -- ---- a new text
 
-pub record HasExtended (s : State) (next : Node) (v : State) : Type 0 where
+-- one more at the end of the first ones
+all_put : {X : Type 0} (P : X → Type 0) (n : ℕ) (xs : List X) (x : X) → AllByRecursion P xs → P x → AllByRecursion P (take n xs ++ x ∷ [])
+all_put P zero [] x h own = (own, tt)
+all_put P zero (y ∷ ys) x h own = (own, tt)
+all_put P (suc n) [] x h own = (own, tt)
+all_put P (suc n) (y ∷ ys) x h own = (h.0, all_put P n ys x h.1 own)
+
+pub record HasExtended (s : State) (next : Node) (note : Bytes) (v : State) : Type 0 where
   pub session : IsSession v
-  pub history : history_of v ≡ changed (history_of s) (spell_node next)
+  pub history : history_of v ≡ changed note (history_of s) (spell_node next)
   pub small : IsSmall (trail_of s) → IsSmall (trail_of v)
 
-pub extended : TrailsKeep → (s : State) (next tree : Node) (steps : List (List Edit)) (digests : List Bytes) → IsSession s → s.cursor < most_steps
-    → TakesUp (trail_of s) next (trail_at tree steps (s.cursor + 1)) → digests ≡ take (s.cursor + 1) s.digests ++ sha256 (spell_node next) ∷ []
-    → HasExtended s next (record { tree = tree; steps = steps; digests = digests; «package» = s.«package»; cursor = s.cursor + 1; before = s.cursor })
-extended keep s next tree steps digests h room t is =
+pub extended : TrailsKeep → (s : State) (next tree : Node) (steps : List (List Edit)) (digests notes : List Bytes) (note : Bytes) → IsSession s → s.cursor < most_steps → IsNote Two note
+    → TakesUp (trail_of s) next (trail_at tree steps (s.cursor + 1)) → digests ≡ take (s.cursor + 1) s.digests ++ sha256 (spell_node next) ∷ [] → notes ≡ take s.cursor s.notes ++ note ∷ []
+    → HasExtended s next note (record { tree = tree; steps = steps; digests = digests; notes = notes; «package» = s.«package»; cursor = s.cursor + 1; before = s.cursor })
+extended keep s next tree steps digests notes note h room fits t is put =
     let to = s.cursor + 1 in
     let texts = texts_of (trail_of s) in
     let old = keep (trail_of s) h.trail in
     let new = keep (trail_at tree steps to) t.trail in
     let cut : length (take to texts) ≡ to = length-take-le to texts (omega (arith, old.within)) in
     let size : length steps ≡ to = omega (arith, new.counted, ap length t.texts, length-append (take to texts) (spell_node next ∷ []), cut) in
+    let kept : length (take s.cursor s.notes) ≡ s.cursor = length-take-le s.cursor s.notes (omega (arith, h.noted, h.trail.within)) in
+    let noted : length notes ≡ to = ap length put ∙ length-append (take s.cursor s.notes) (note ∷ []) ∙ ap (λ k. k + 1) kept in
     let digested : digests ≡ map sha256 (texts_of (trail_at tree steps to)) =
     is ∙ ap (λ (l : List Bytes). take to l ++ sha256 (spell_node next) ∷ []) h.digests ∙ ap (λ (l : List Bytes). l ++ sha256 (spell_node next) ∷ []) (take-map sha256 to texts)
     ∙ sym (map-append sha256 (take to texts) (spell_node next ∷ [])) ∙ ap (map sha256) (sym t.texts) in
     record {
-      session = record { trail = t.trail; digests = digested; named = h.named; known = omega (arith, size); bounded = omega (arith, size, room) };
-      history = ap (λ (l : List Bytes). let g : History = record { «package» = s.«package»; texts = l; cursor = to; before = s.cursor } in g) t.texts;
+      session = record {
+        trail = t.trail;
+        digests = digested;
+        named = h.named;
+        spelled = h.spelled;
+        noted = noted ∙ sym size;
+        notes = subst (AllByRecursion (IsNote Two)) (sym put) (all_put (IsNote Two) s.cursor s.notes note h.notes fits);
+        known = omega (arith, size);
+        bounded = omega (arith, size, room);
+      };
+      history =
+          ap (λ (l : List Bytes). let g : History = record { «package» = s.«package»; texts = l; notes = notes; cursor = to; before = s.cursor } in g) t.texts
+          ∙ ap (λ (l : List Bytes). let g : History = record { «package» = s.«package»; texts = take to texts ++ spell_node next ∷ []; notes = l; cursor = to; before = s.cursor } in g) put;
       small = t.small;
     }

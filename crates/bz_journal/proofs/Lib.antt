@@ -1,6 +1,9 @@
 pub mod Acting
+pub mod Alike
+pub mod Following
 pub mod Formatting
 pub mod Kept
+pub mod Resuming
 pub mod Opening
 pub mod Running
 pub mod Writes

@@ -4,34 +4,35 @@ use Rattle.std.specs.List.{All}
 use Rattle.bz_tree.specs.Legal.{Accepted}
 use Rattle.bz_value.specs.Gaps.{Bytes}
 use Rattle.bz_attribute.specs.declared.refusal.Refusal.{Refusal}
-use Rattle.bz_attribute.specs.declared.refusal.Refusal.TheVariants.{TooFar, Full, Memory}
+use Rattle.bz_attribute.specs.declared.refusal.Refusal.TheVariants.{TooFar, Full, NoteTooLong, Memory}
 use Rattle.bz_journal.specs.declared.action.Action.{Action}
 use Rattle.bz_journal.specs.declared.action.Action.TheVariants.{Do, Format, Undo, Redo}
 use Rattle.bz_journal.specs.declared.action.Reply.{Reply}
 use Rattle.bz_journal.specs.declared.action.Reply.TheVariants.{Changed, Same, Printed, Moved}
 use Rattle.bz_journal.specs.Meaning.{Meaning, gives, refuses, Means, Formats}
-
--- the path of the file's package, the texts in the order in which they came, the number of the present one, and the number of
--- the one that was present before it
-pub record History : Type 0 where
-  pub «package» : Bytes
-  pub texts : List Bytes
-  pub cursor : ℕ
-  pub before : ℕ
+-- the path of the file's package, the texts in the order in which they came, a note of each step between two of them, the number of
+-- the present text, and that of the one that was present before it
+pub use Rattle.bz_resume.specs.Journals.{History}
 
 abbrev pub present : History → Bytes
 present h = slice_index_or h.texts h.cursor []
 
 -- the history of one text of a package's file
 abbrev pub opened : Bytes → Bytes → History
-opened current text = record { «package» = current; texts = text ∷ []; cursor = 0; before = 0 }
+opened current text = record { «package» = current; texts = text ∷ []; notes = []; cursor = 0; before = 0 }
 
 abbrev pub most_steps : ℕ
 most_steps = 100000
 
--- Every text is accepted, one is the present one and one the one before it, and there are no more steps than may be.
+-- the most bytes of a note
+abbrev pub note_limit : ℕ
+note_limit = 65536
+
+-- Every text is accepted, each step between two of them has a note, one is the present one and one the one before it, and there
+-- are no more steps than may be.
 pub record IsKept (h : History) : Type 0 where
   pub accepted : All Accepted h.texts
+  pub noted : length h.notes + 1 ≡ length h.texts
   pub within : h.cursor < length h.texts
   pub known : h.before < length h.texts
   pub bounded : length h.texts ≤ most_steps + 1
@@ -41,9 +42,15 @@ pub record IsKept (h : History) : Type 0 where
 abbrev pub Answer : Type 0
 Answer = Result Reply Refusal
 
--- The texts after the present one are cut, and the new one is appended and is the present one.
-abbrev pub changed : History → Bytes → History
-changed h text = record { «package» = h.package; texts = take (h.cursor + 1) h.texts ++ text ∷ []; cursor = h.cursor + 1; before = h.cursor }
+-- The texts after the present one are cut with their notes, and the new one is appended and is the present one.
+abbrev pub changed : Bytes → History → Bytes → History
+changed note h text = record {
+  «package» = h.package;
+  texts = take (h.cursor + 1) h.texts ++ text ∷ [];
+  notes = take h.cursor h.notes ++ note ∷ [];
+  cursor = h.cursor + 1;
+  before = h.cursor;
+}
 
 -- what is answered where the text is as it was
 abbrev pub unchanged : Option Bytes → Reply
@@ -51,14 +58,14 @@ unchanged None = Same
 unchanged (Some printed) = Printed printed
 
 -- A text equal to the present one changes nothing; a history of the most steps takes no other.
-abbrev pub after_text : History → Bytes → Option Bytes → Answer × History
-after_text h text printed =
+abbrev pub after_text : Bytes → History → Bytes → Option Bytes → Answer × History
+after_text note h text printed =
     if bytes_eq text (present h) then (Ok (unchanged printed), h)
-    else (if nat_lt h.cursor most_steps then (Ok Changed, changed h text) else (Err Full, h))
+    else (if nat_lt h.cursor most_steps then (Ok Changed, changed note h text) else (Err Full, h))
 
-abbrev pub after_meaning : History → Meaning → Answer × History
-after_meaning h (gives text printed) = after_text h text printed
-after_meaning h (refuses refusal) = (Err refusal, h)
+abbrev pub after_meaning : Bytes → History → Meaning → Answer × History
+after_meaning note h (gives text printed) = after_text note h text printed
+after_meaning note h (refuses refusal) = (Err refusal, h)
 
 -- the present text is another one, or the same
 abbrev pub moved : History → ℕ → History
@@ -70,23 +77,35 @@ undone n h = if nat_lt h.cursor n then (Err TooFar, h) else (Ok Moved, moved h (
 abbrev pub redone : ℕ → History → Answer × History
 redone n h = if nat_lt (h.cursor + n) (length h.texts) then (Ok Moved, moved h (h.cursor + n)) else (Err TooFar, h)
 
--- what an action answers and leaves, with ample memory
-abbrev pub Leads : Action → History → Answer → History → Type 0
-Leads (Do command target) h answer after = (m : Meaning) × Means command target h.package (present h) m × ((answer, after) ≡ after_meaning h m)
-Leads Format h answer after = (m : Meaning) × Formats (present h) m × ((answer, after) ≡ after_meaning h m)
-Leads (Undo n) h answer after = (answer, after) ≡ undone n h
-Leads (Redo n) h answer after = (answer, after) ≡ redone n h
+-- what an action answers and leaves, with ample memory, whatever the length of its note
+abbrev pub Makes : Action → Bytes → History → Answer → History → Type 0
+Makes (Do command target) note h answer after = (m : Meaning) × Means command target h.package (present h) m × ((answer, after) ≡ after_meaning note h m)
+Makes Format note h answer after = (m : Meaning) × Formats (present h) m × ((answer, after) ≡ after_meaning note h m)
+Makes (Undo n) note h answer after = (answer, after) ≡ undone n h
+Makes (Redo n) note h answer after = (answer, after) ≡ redone n h
 
--- Going by no step takes no memory, and going by more steps than there are takes none.
-abbrev pub TakesNone : Action → History → Type 0
-TakesNone (Do command target) h = ⊥
-TakesNone Format h = ⊥
-TakesNone (Undo n) h = (n ≡ 0) ⊎ (h.cursor < n)
-TakesNone (Redo n) h = (n ≡ 0) ⊎ (length h.texts ≤ h.cursor + n)
+-- going by no step takes no memory, and going by more steps than there are takes none
+abbrev pub IsFree : Action → History → Type 0
+IsFree (Do command target) h = ⊥
+IsFree Format h = ⊥
+IsFree (Undo n) h = (n ≡ 0) ⊎ (h.cursor < n)
+IsFree (Redo n) h = (n ≡ 0) ⊎ (length h.texts ≤ h.cursor + n)
 
 -- Memory may be refused to an action that takes some, and then nothing changes.
-abbrev pub Acts : Action → History → Answer → History → Type 0
-Acts action h answer after = Leads action h answer after ⊎ ((TakesNone action h → ⊥) × (answer ≡ Err Memory) × (after ≡ h))
+abbrev pub MakesOrWants : Action → Bytes → History → Answer → History → Type 0
+MakesOrWants action note h answer after = Makes action note h answer after ⊎ ((IsFree action h → ⊥) × (answer ≡ Err Memory) × (after ≡ h))
+
+-- what an action with a note answers and leaves, with ample memory: too long a note is refused before all else
+abbrev pub Leads : Action → Bytes → History → Answer → History → Type 0
+Leads action note h answer after =
+    ((note_limit < length note) × (◌≡◌ {A = Answer × History} (answer, after) (Err NoteTooLong, h)))
+    ⊎ ((length note ≤ note_limit) × Makes action note h answer after)
+
+-- the same, or memory was refused to an action that takes some, and nothing has changed
+abbrev pub Acts : Action → Bytes → History → Answer → History → Type 0
+Acts action note h answer after =
+    ((note_limit < length note) × (◌≡◌ {A = Answer × History} (answer, after) (Err NoteTooLong, h)))
+    ⊎ ((length note ≤ note_limit) × MakesOrWants action note h answer after)
 
 abbrev pub IsFormat : Action → Type 0
 IsFormat (Do command target) = ⊥
@@ -96,9 +115,9 @@ IsFormat (Redo n) = ⊥
 
 -- ---- many actions
 
--- Actions one after the other, each with its answer.
+-- Actions without a note one after the other, each with its answer.
 abbrev pub Runs : History → List Action → List Answer → History → Type 0
 Runs h [] [] after = after ≡ h
-Runs h (action ∷ actions) (answer ∷ answers) after = (mid : History) × Acts action h answer mid × Runs mid actions answers after
+Runs h (action ∷ actions) (answer ∷ answers) after = (mid : History) × Acts action [] h answer mid × Runs mid actions answers after
 Runs h [] (answer ∷ answers) after = ⊥
 Runs h (action ∷ actions) [] after = ⊥

@@ -1,6 +1,9 @@
 pub mod Faults
 pub mod Fixed
 pub mod History
+pub mod Keeping
+pub mod Lasting
+pub mod Listing
 pub mod Meaning
 pub mod Shown
 pub mod Worked

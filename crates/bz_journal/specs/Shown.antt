@@ -9,7 +9,7 @@ use Rattle.bz_journal.specs.declared.action.Action.TheVariants.{Do, Format, Undo
 
 -- the history that a session keeps
 abbrev pub history_of : State → History
-history_of s = record { «package» = s.«package»; texts = texts_of (trail_of s); cursor = s.cursor; before = s.before }
+history_of s = record { «package» = s.«package»; texts = texts_of (trail_of s); notes = s.notes; cursor = s.cursor; before = s.before }
 
 -- An undo or redo by steps that are there, each edit of which holds as many parts as it covers.
 abbrev pub IsOverEven : Action → Trail → Type 0

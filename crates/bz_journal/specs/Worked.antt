@@ -12,17 +12,19 @@ WorkedHistories =
     let b : Bytes = codes "\n" in
     let c : Bytes = [] in
     let current : Bytes = codes "p" in
+    let m : Bytes = codes "delete" in
+    let n : Bytes = codes "new f y" in
     let first : History = opened current a in
-    let second : History = record { «package» = current; texts = a ∷ b ∷ []; cursor = 1; before = 0 } in
-    let back : History = record { «package» = current; texts = a ∷ b ∷ []; cursor = 0; before = 1 } in
-    let cut : History = record { «package» = current; texts = a ∷ c ∷ []; cursor = 1; before = 0 } in
-    let full : History = record { «package» = current; texts = []; cursor = 100000; before = 0 } in
-    (after_meaning first (gives b None) ≡ (Ok Changed, second))
+    let second : History = record { «package» = current; texts = a ∷ b ∷ []; notes = m ∷ []; cursor = 1; before = 0 } in
+    let back : History = record { «package» = current; texts = a ∷ b ∷ []; notes = m ∷ []; cursor = 0; before = 1 } in
+    let cut : History = record { «package» = current; texts = a ∷ c ∷ []; notes = n ∷ []; cursor = 1; before = 0 } in
+    let full : History = record { «package» = current; texts = []; notes = []; cursor = 100000; before = 0 } in
+    (after_meaning m first (gives b None) ≡ (Ok Changed, second))
     -- the present text again, with something printed or nothing; a refusal
-    × (after_meaning first (gives a None) ≡ (Ok Same, first))
-    × (after_meaning first (gives a (Some (codes "x\n"))) ≡ (Ok (Printed (codes "x\n")), first))
-    × (after_meaning first (gives a (Some [])) ≡ (Ok (Printed []), first))
-    × (after_meaning first (refuses NoTarget) ≡ (Err NoTarget, first))
+    × (after_meaning m first (gives a None) ≡ (Ok Same, first))
+    × (after_meaning m first (gives a (Some (codes "x\n"))) ≡ (Ok (Printed (codes "x\n")), first))
+    × (after_meaning m first (gives a (Some [])) ≡ (Ok (Printed []), first))
+    × (after_meaning m first (refuses NoTarget) ≡ (Err NoTarget, first))
     -- back and forward, and by no step
     × (undone 1 second ≡ (Ok Moved, back))
     × (redone 1 back ≡ (Ok Moved, second))
@@ -30,8 +32,8 @@ WorkedHistories =
     -- not so many steps
     × (undone 2 second ≡ (Err TooFar, second))
     × (redone 1 second ≡ (Err TooFar, second))
-    -- a new text cuts those after the present one, so there is no way forward
-    × (after_meaning back (gives c None) ≡ (Ok Changed, cut))
+    -- a new text cuts those after the present one with their notes, so there is no way forward
+    × (after_meaning n back (gives c None) ≡ (Ok Changed, cut))
     × (redone 1 cut ≡ (Err TooFar, cut))
     -- behind the most steps there is no further one
-    × (after_meaning full (gives a None) ≡ (Err Full, full))
+    × (after_meaning m full (gives a None) ≡ (Err Full, full))

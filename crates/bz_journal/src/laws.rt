@@ -6,6 +6,7 @@ ghost use Rattle.bz_trail.specs.Shown.{StepsAreBetween, StepsLead};
 ghost use Rattle.bz_trail.specs.Trails.{HasLeast, IsSmall};
 ghost use Rattle.bz_journal.specs.Fixed.{FixedPoint};
 ghost use Rattle.bz_journal.specs.History.{IsKept};
+ghost use Rattle.bz_journal.specs.Lasting.{AlikeGoesOn};
 ghost use Rattle.bz_journal.specs.Shown.{history_of};
 ghost use Rattle.bz_journal.specs.State.{trail_of};
 ghost use Rattle.bz_journal.specs.Worked.{WorkedHistories};
@@ -20,6 +21,12 @@ use bz_write::{layout_is_accepted, layout_reads_back};
 /// Worked rows: what undo, redo and new texts make of small histories.
 pub fn worked_histories()
     ensures { WorkedHistories }
+{}
+
+/// Two histories that differ at most in the number of the text that was present before answer alike whatever is done, and stay so:
+/// a session that was saved and resumed at its own text goes on as one that never stopped.
+pub fn alike_goes_on()
+    ensures { AlikeGoesOn }
 {}
 
 /// What the history of each session keeps.

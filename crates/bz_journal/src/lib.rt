@@ -3,11 +3,16 @@
 
 mod action;
 mod formatter;
+mod keeping;
+mod lasting;
 mod laws;
+mod listing;
 mod meaning;
 mod session;
 
 pub use action::{Action, Reply};
+pub use bz_resume::ResumeFault;
 pub use formatter::{FormatFault, format};
-pub use laws::{formatted_once, history_kept, session_holds, worked_histories};
+pub use keeping::KeepFault;
+pub use laws::{alike_goes_on, formatted_once, history_kept, session_holds, worked_histories};
 pub use session::Session;

@@ -10,7 +10,7 @@ ghost use Rattle.bz_trail.specs.Trails.{IsSmall, are_even, behind, ahead};
 ghost use Rattle.bz_attribute.specs.declared.refusal.Refusal.{Refusal};
 ghost use Rattle.bz_journal.specs.declared.action.Reply.{Reply};
 ghost use Rattle.bz_journal.specs.declared.action.Action.{Action};
-ghost use Rattle.bz_journal.specs.History.{present, opened, changed, after_text, unchanged, most_steps, IsFormat, Acts, Runs};
+ghost use Rattle.bz_journal.specs.History.{present, opened, changed, after_text, unchanged, most_steps, note_limit, IsFormat, Acts, MakesOrWants, Runs};
 ghost use Rattle.bz_journal.specs.Fixed.{IsFormatted};
 ghost use Rattle.bz_journal.specs.State.{trail_of};
 ghost use Rattle.bz_journal.specs.Shown.{history_of, IsOverEven};
@@ -33,6 +33,9 @@ use std::marker::Model;
 
 const MOST_STEPS: u32 = 100_000;
 
+/// The most bytes of a note.
+const MOST_NOTE: usize = 65_536;
+
 /// The texts of a BUILD file of a package, one after another, and the place in them: the tree of the present text, and
 /// between neighbours the step that leads from the one tree to the other. Contracts speak of its history.
 #[derive(Drop)]
@@ -44,6 +47,8 @@ pub struct Session {
     pub steps: Vec<Step>,
     /// The SHA-256 of each text.
     pub digests: Vec<[u8; 32]>,
+    /// The note of each step.
+    pub notes: Vec<Text>,
     /// The path of the file's package.
     pub package: String,
     /// The number of the present text, from 0.
@@ -62,9 +67,9 @@ impl Model for Session {
 
     ghost coded = { state_code t.the_row.coded s.the_row.coded };
 
-    ghost view = { λ session. record { tree = session.tree; steps = session.steps.items; digests = session.digests.items; «package» = string_bytes session.«package»; cursor = session.cursor; before = session.before } };
+    ghost view = { λ session. record { tree = session.tree; steps = session.steps.items; digests = session.digests.items; notes = session.notes.items; «package» = string_bytes session.«package»; cursor = session.cursor; before = session.before } };
 
-    ghost invariant = { λ session. IsSession (record { tree = session.tree; steps = session.steps.items; digests = session.digests.items; «package» = string_bytes session.«package»; cursor = session.cursor; before = session.before }) };
+    ghost invariant = { λ session. IsSession (record { tree = session.tree; steps = session.steps.items; digests = session.digests.items; notes = session.notes.items; «package» = string_bytes session.«package»; cursor = session.cursor; before = session.before }) };
 }
 
 impl Session {
@@ -105,6 +110,7 @@ impl Session {
             tree,
             steps: Vec::new(alloc),
             digests,
+            notes: Vec::new(alloc),
             package,
             cursor: 0,
             before: 0,
@@ -154,22 +160,50 @@ impl Session {
         self.present().spell_into(out)
     }
 
-    /// Does an action. At an error the history is as before. Errors: those of the command; `TooLarge` and `TooDeep`
-    /// where the new text would be past a limit; `TooFar` where there aren't so many steps; `Full` where a command or
-    /// formatting would change the present text, which is 100,000 steps from the first; `Memory`: a growth was refused,
-    /// never at undo and redo by no step or by steps whose edits hold as many parts as they cover. Behind formatting the
-    /// present text is formatted: to format it once more leaves it as it is.
+    /// Does an action with an empty note, as `act_noted` does.
     pub fn act(&mut self, action: &Action) -> Result<Reply, Refusal>
-        ensures acts { Acts action.now (history_of self.old) result (history_of self.new) }
+        ensures acts { Acts action.now [] (history_of self.old) result (history_of self.new) }
         ensures formatted { OnOk result (IsFormat action.now → IsFormatted (present (history_of self.old)) (present (history_of self.new))) }
         ensures err { OnErr result (history_of self.new ≡ history_of self.old) }
         ensures unmoved { OnErr result (self.new ≡ self.old) }
         ensures even { IsOverEven action.now (trail_of self.old) → IsOk result }
         ensures small { IsSmall (trail_of self.old) → IsSmall (trail_of self.new) }
     {
+        self.act_noted(action, "")
+    }
+
+    /// Does an action, with a note of at most 65,536 bytes for the step that it makes. At an error the history is as before.
+    /// Errors: `NoteTooLong` before all others; those of the command; `TooLarge` and `TooDeep` where the new text would be past
+    /// a limit; `TooFar` where there aren't so many steps; `Full` where a command or formatting would change the present text,
+    /// which is 100,000 steps from the first; `Memory`: a growth was refused, never at undo and redo by no step or by steps whose
+    /// edits hold as many parts as they cover. After formatting the present text is formatted: to format it once more leaves it
+    /// as it is.
+    pub fn act_noted(&mut self, action: &Action, note: &str) -> Result<Reply, Refusal>
+        ensures acts { Acts action.now note.now (history_of self.old) result (history_of self.new) }
+        ensures formatted { OnOk result (IsFormat action.now → IsFormatted (present (history_of self.old)) (present (history_of self.new))) }
+        ensures err { OnErr result (history_of self.new ≡ history_of self.old) }
+        ensures unmoved { OnErr result (self.new ≡ self.old) }
+        ensures even { length note.now ≤ note_limit → IsOverEven action.now (trail_of self.old) → IsOk result }
+        ensures small { IsSmall (trail_of self.old) → IsSmall (trail_of self.new) }
+    {
+        if note.len() > MOST_NOTE {
+            return Err(Refusal::NoteTooLong);
+        }
+        self.do_action(action, note)
+    }
+
+    /// Does an action whose note isn't too long.
+    fn do_action(&mut self, action: &Action, note: &str) -> Result<Reply, Refusal>
+        requires { length note.now ≤ note_limit }
+        ensures makes { MakesOrWants action.now note.now (history_of self.old) result (history_of self.new) }
+        ensures formatted { OnOk result (IsFormat action.now → IsFormatted (present (history_of self.old)) (present (history_of self.new))) }
+        ensures unmoved { OnErr result (self.new ≡ self.old) }
+        ensures even { IsOverEven action.now (trail_of self.old) → IsOk result }
+        ensures small { IsSmall (trail_of self.old) → IsSmall (trail_of self.new) }
+    {
         match action {
-            Action::Do(command, target) => self.edit(command, target),
-            Action::Format => self.format(),
+            Action::Do(command, target) => self.edit(command, target, note),
+            Action::Format => self.format(note),
             Action::Undo(n) => self.undo(*n),
             Action::Redo(n) => self.redo(*n),
         }
@@ -180,7 +214,7 @@ impl Session {
     }
 
     /// The tree of the present text.
-    fn present(&self) -> &Tree
+    pub(crate) fn present(&self) -> &Tree
         ensures text { spell_node result.now ≡ present (history_of self.now) }
         ensures within { (history_of self.now).cursor < length (history_of self.now).texts }
     {
@@ -213,10 +247,11 @@ impl Session {
         next.equals(here)
     }
 
-    /// Takes up a new tree: what it spells is the text behind the present one; where it is the same one, tells what is
+    /// Takes up a new tree with a note: what it spells is the text after the present one; where it is the same one, tells what is
     /// printed.
-    fn take_up(&mut self, next: Tree, printed: Option<Text>) -> Result<Reply, Refusal>
-        ensures acts { ((result, history_of self.new) ≡ after_text (history_of self.old) (spell_node next) printed)
+    fn take_up(&mut self, next: Tree, printed: Option<Text>, note: &str) -> Result<Reply, Refusal>
+        requires { length note.now ≤ note_limit }
+        ensures makes { ((result, history_of self.new) ≡ after_text note.now (history_of self.old) (spell_node next) printed)
             ⊎ ((result ≡ Err Refusal.Memory) × (history_of self.new ≡ history_of self.old)) }
         ensures unmoved { OnErr result (self.new ≡ self.old) }
         ensures small { IsSmall (trail_of self.old) → IsSmall (trail_of self.new) }
@@ -227,34 +262,40 @@ impl Session {
         if self.cursor() >= MOST_STEPS {
             return Err(Refusal::Full);
         }
-        match self.extend(next) {
+        match self.extend(next, note) {
             Ok(()) => Ok(Reply::Changed),
             Err(_) => Err(Refusal::Memory),
         }
     }
 
-    /// Puts the text of a tree behind the present one.
-    fn extend(&mut self, next: Tree) -> Result<(), Memory>
+    /// Puts the text of a tree after the present one, with a note of the step to it.
+    fn extend(&mut self, next: Tree, note: &str) -> Result<(), Memory>
         requires other { spell_node next ≡ present (history_of self.old) → ⊥ }
         requires room { self.old.cursor < most_steps }
-        ensures ok { OnOk result (history_of self.new ≡ changed (history_of self.old) (spell_node next)) }
+        requires short { length note.now ≤ note_limit }
+        ensures ok { OnOk result (history_of self.new ≡ changed note.now (history_of self.old) (spell_node next)) }
         ensures err { OnErr result (self.new ≡ self.old) }
         ensures small { IsSmall (trail_of self.old) → IsSmall (trail_of self.new) }
     {
         texts_kept();
-        let digest = digest_of(self.alloc(), &next)?;
+        let alloc = self.alloc();
+        let digest = digest_of(alloc, &next)?;
+        let note = Text::from_slice(alloc, note.as_bytes())?;
         self.digests.reserve(1)?;
+        self.notes.reserve(1)?;
         let cursor = self.cursor;
         take_up(&mut self.tree, &mut self.steps, cursor as usize, next)?;
         put_after(&mut self.digests, cursor as usize + 1, digest);
+        put_after(&mut self.notes, cursor as usize, note);
         self.before = cursor;
         self.cursor = cursor + 1;
         Ok(())
     }
 
     /// Does a command on the present text.
-    fn edit(&mut self, command: &Command, target: &Target) -> Result<Reply, Refusal>
-        ensures acts { Acts (Action.Do command.now target.now) (history_of self.old) result (history_of self.new) }
+    fn edit(&mut self, command: &Command, target: &Target, note: &str) -> Result<Reply, Refusal>
+        requires { length note.now ≤ note_limit }
+        ensures makes { MakesOrWants (Action.Do command.now target.now) note.now (history_of self.old) result (history_of self.new) }
         ensures unmoved { OnErr result (self.new ≡ self.old) }
         ensures small { IsSmall (trail_of self.old) → IsSmall (trail_of self.new) }
     {
@@ -270,14 +311,15 @@ impl Session {
             Err(refusal) => return Err(refusal),
         };
         match tree {
-            Some(tree) => self.take_up(tree, printed),
+            Some(tree) => self.take_up(tree, printed, note),
             None => Ok(unchanged(printed)),
         }
     }
 
     /// Formats the present text.
-    fn format(&mut self) -> Result<Reply, Refusal>
-        ensures acts { Acts Action.Format (history_of self.old) result (history_of self.new) }
+    fn format(&mut self, note: &str) -> Result<Reply, Refusal>
+        requires { length note.now ≤ note_limit }
+        ensures makes { MakesOrWants Action.Format note.now (history_of self.old) result (history_of self.new) }
         ensures formatted { OnOk result (IsFormatted (present (history_of self.old)) (present (history_of self.new))) }
         ensures unmoved { OnErr result (self.new ≡ self.old) }
         ensures small { IsSmall (trail_of self.old) → IsSmall (trail_of self.new) }
@@ -285,14 +327,14 @@ impl Session {
         let alloc = self.alloc();
         formatted_once();
         match formatted(alloc, self.present()) {
-            Ok(tree) => self.take_up(tree, None),
+            Ok(tree) => self.take_up(tree, None, note),
             Err(refusal) => Err(refusal),
         }
     }
 
     /// Goes back by n steps.
     fn undo(&mut self, n: u32) -> Result<Reply, Refusal>
-        ensures acts { Acts (Action.Undo n) (history_of self.old) result (history_of self.new) }
+        ensures makes { (note : List ℕ) → MakesOrWants (Action.Undo n) note (history_of self.old) result (history_of self.new) }
         ensures unmoved { OnErr result (self.new ≡ self.old) }
         ensures even { n ≤ self.old.cursor → are_even (take n (behind (trail_of self.old))) ≡ true → IsOk result }
         ensures small { IsSmall (trail_of self.old) → IsSmall (trail_of self.new) }
@@ -311,7 +353,7 @@ impl Session {
 
     /// Goes forward by n steps.
     fn redo(&mut self, n: u32) -> Result<Reply, Refusal>
-        ensures acts { Acts (Action.Redo n) (history_of self.old) result (history_of self.new) }
+        ensures makes { (note : List ℕ) → MakesOrWants (Action.Redo n) note (history_of self.old) result (history_of self.new) }
         ensures unmoved { OnErr result (self.new ≡ self.old) }
         ensures even { self.old.cursor + n ≤ length self.old.steps → are_even (take n (ahead (trail_of self.old))) ≡ true → IsOk result }
         ensures small { IsSmall (trail_of self.old) → IsSmall (trail_of self.new) }
@@ -419,11 +461,11 @@ fn one_digest(alloc: Global, digest: [u8; 32]) -> Result<Vec<[u8; 32]>, Memory>
     Ok(digests)
 }
 
-/// Puts a digest behind the first n, in the place of those that follow.
-fn put_after(digests: &mut Vec<[u8; 32]>, n: usize, digest: [u8; 32])
-    requires room { vec_len digests.old < vec_capacity digests.old }
-    ensures { digests.new.items ≡ take n digests.old.items ++ digest ∷ [] }
+/// Puts an item after the first n, in the place of those that follow.
+fn put_after<T: Drop>(items: &mut Vec<T>, n: usize, item: T)
+    requires room { vec_len items.old < vec_capacity items.old }
+    ensures { items.new.items ≡ take n items.old.items ++ item ∷ [] }
 {
-    digests.truncate(n);
-    digests.push(digest).unwrap();
+    items.truncate(n);
+    items.push(item).unwrap();
 }

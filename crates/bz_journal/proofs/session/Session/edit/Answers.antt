@@ -3,21 +3,21 @@ use Rattle.bz_journal.specs.Shown.{history_of}
 use Rattle.bz_journal.proofs.Acting.{acts_refused, acts_same, acts_given, means_left}
 use Rattle.bz_journal.proofs.session.Session.edit.Goals as goal
 
-pub returns-in-Err-clause-acts : goal.returns-in-Err-clause-acts
-returns-in-Err-clause-acts c =
-    acts_refused c.args.command.now c.args.target.now (history_of c.args.self.now) c.own_package.result.now (spell_node c.present.result.now) c.in-Err.refusal c.own_package.ensures c.present.ensures.text
+pub returns-in-Err-clause-makes : goal.returns-in-Err-clause-makes
+returns-in-Err-clause-makes c =
+    acts_refused c.args.note.now c.args.command.now c.args.target.now (history_of c.args.self.now) c.own_package.result.now (spell_node c.present.result.now) c.in-Err.refusal c.own_package.ensures c.present.ensures.text
     c.in-Err.ensures.err
 
-pub returns-in-Some-clause-acts : goal.returns-in-Some-clause-acts
-returns-in-Some-clause-acts c =
-    acts_given c.args.command.now c.args.target.now (history_of c.args.self.now) c.own_package.result.now (spell_node c.present.result.now) (spell_node c.in-Some.tree) c.in-Ok.meant.printed c.take_up.result
+pub returns-in-Some-clause-makes : goal.returns-in-Some-clause-makes
+returns-in-Some-clause-makes c =
+    acts_given c.args.note.now c.args.command.now c.args.target.now (history_of c.args.self.now) c.own_package.result.now (spell_node c.present.result.now) (spell_node c.in-Some.tree) c.in-Ok.meant.printed c.take_up.result
     (history_of c.take_up.new.self) c.own_package.ensures c.present.ensures.text
     (means_left c.args.command.now c.args.target.now c.own_package.result.now (spell_node c.present.result.now) c.in-Ok.meant.tree _ c.in-Ok.meant.printed c.in-Some.is c.in-Ok.ensures.ok)
-    c.take_up.ensures.acts
+    c.take_up.ensures.makes
 
-pub returns-in-None-clause-acts : goal.returns-in-None-clause-acts
-returns-in-None-clause-acts c =
-    acts_same c.args.command.now c.args.target.now (history_of c.args.self.now) c.own_package.result.now (spell_node c.present.result.now) c.in-Ok.meant.printed c.unchanged.result c.own_package.ensures
+pub returns-in-None-clause-makes : goal.returns-in-None-clause-makes
+returns-in-None-clause-makes c =
+    acts_same c.args.note.now c.args.command.now c.args.target.now (history_of c.args.self.now) c.own_package.result.now (spell_node c.present.result.now) c.in-Ok.meant.printed c.unchanged.result c.own_package.ensures
     c.present.ensures.text
     (means_left c.args.command.now c.args.target.now c.own_package.result.now (spell_node c.present.result.now) c.in-Ok.meant.tree _ c.in-Ok.meant.printed c.in-None.is c.in-Ok.ensures.ok)
     c.unchanged.ensures

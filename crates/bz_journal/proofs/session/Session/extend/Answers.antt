@@ -1,4 +1,4 @@
-use Rattle.std.proofs.Common.{List, ◌≡◌, ◌<◌, ◌+◌, ◌++◌, ◌∷◌, [], ◌∙◌, ap, sym, subst, take, string_bytes}
+use Rattle.std.proofs.Common.{List, ◌≡◌, ◌<◌, ◌+◌, ◌++◌, ◌∷◌, [], ◌∙◌, ap, sym, subst, rules, take, string_bytes}
 use Rattle.sha2.specs.Sha256.{sha256}
 use Rattle.bz_tree.specs.declared.tree.Node.{Node}
 use Rattle.bz_tree.specs.Spell.{spell_node}
@@ -15,10 +15,15 @@ take_up-requires-clause-other c = λ same.
 
 pub invariant_of-self-2 : goal.invariant_of-self-2
 invariant_of-self-2 c =
-    let s : State = record { tree = c.self.inside.tree; steps = c.self.inside.steps.items; digests = c.self.inside.digests.items; «package» = string_bytes c.self.inside.«package»; cursor = c.self.inside.cursor; before = c.self.inside.before } in
+    let s : State = record { tree = c.self.inside.tree; steps = c.self.inside.steps.items; digests = c.self.inside.digests.items; notes = c.self.inside.notes.items; «package» = string_bytes c.self.inside.«package»; cursor = c.self.inside.cursor; before = c.self.inside.before } in
     let next : Node = c.args.next in
     let room : c.self.inside.cursor < most_steps = subst (λ (t : State). t.cursor < most_steps) (sym c.self.view_is) c.requires.room in
-    let digests : c.put_after.new.digests.items ≡ take (c.self.inside.cursor + 1) c.self.inside.digests.items ++ sha256 (spell_node next) ∷ [] =
+    let digests : c.put_after.new.items.items ≡ take (c.self.inside.cursor + 1) c.self.inside.digests.items ++ sha256 (spell_node next) ∷ [] =
     c.put_after.ensures ∙ ap (λ (l : List Bytes). take (c.self.inside.cursor + 1) l ++ c.in_ok-digest.digest ∷ []) c.reserve.ensures.items
     ∙ ap (λ (d : Bytes). take (c.self.inside.cursor + 1) c.self.inside.digests.items ++ d ∷ []) c.in_ok-digest.ensures in
-    HasExtended.session (extended c.texts_kept.ensures s next c.take_up.new.tree c.take_up.new.steps.items c.put_after.new.digests.items c.self.invariant room c.in_ok-take_up.ensures.ok digests)
+    let notes : c.put_after-2.new.items.items ≡ take c.self.inside.cursor c.self.inside.notes.items ++ c.args.note.now ∷ [] =
+    c.put_after-2.ensures ∙ ap (λ (l : List Bytes). take c.self.inside.cursor l ++ c.in_ok-note.note ∷ []) c.reserve-2.ensures.items
+    ∙ ap (λ (d : Bytes). take c.self.inside.cursor c.self.inside.notes.items ++ d ∷ []) (c.in_ok-note.ensures ∙ c.as_bytes.ensures.value) in
+    HasExtended.session
+    (extended c.texts_kept.ensures s next c.take_up.new.tree c.take_up.new.steps.items c.put_after.new.items.items c.put_after-2.new.items.items c.args.note.now c.self.invariant room (c.requires.short, search rules)
+    c.in_ok-take_up.ensures.ok digests notes)

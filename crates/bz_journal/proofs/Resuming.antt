@@ -1,0 +1,134 @@
+-- What is saved of a session, and what is resumed of a journal.
+use Rattle.std.proofs.Common.{◌≡◌, ◌≤◌, ◌+◌, ℕ, List, [], length, map, IsUtf8, refl, sym, ap, subst, ◌∙◌, arith, Some}
+use Rattle.std.specs.Prelude.{slice_index_or, Result, Ok, Err, IfOk, IfErr}
+use Rattle.sha2.specs.Sha256.{sha256}
+use Rattle.bz_tree.specs.declared.tree.Node.{Node}
+use Rattle.bz_tree.specs.Laws.{OneReading}
+use Rattle.bz_tree.specs.Legal.{Reads}
+use Rattle.bz_tree.specs.Spell.{spell_node, limit}
+use Rattle.bz_edit.specs.declared.edit.Edit.{Edit}
+use Rattle.bz_trail.specs.Trails.{IsSmall, IsTrail, Trail, trail_at}
+use Rattle.bz_trail.specs.Shown.{TrailsKeep, texts_of}
+use Rattle.bz_value.specs.Gaps.{Bytes}
+use Rattle.bz_resume.specs.declared.fault.ResumeFault.{ResumeFault}
+use Rattle.bz_resume.specs.declared.fault.ResumeFault.TheVariants as f
+use Rattle.bz_resume.specs.declared.resumed.Resumed.{Resumed}
+use Rattle.bz_resume.specs.Journals.{AreSmall, Journal, MaySave, stands}
+use Rattle.bz_resume.specs.Resumed as r
+use Rattle.bz_resume.specs.Resumed.{StandsFor}
+use Rattle.bz_journal.specs.History.{History, present}
+use Rattle.bz_files.specs.Folder.{Folder}
+use Rattle.bz_keep.specs.Resuming.{Follows, MayResume, Resumes}
+use Rattle.bz_journal.specs.Lasting.{GoesOn, IsAgain, IsKnown, IsResumed, IsSaved, saved}
+use Rattle.bz_journal.specs.Shown.{history_of}
+use Rattle.bz_journal.specs.State.{State, IsSession, trail_of}
+
+-- ---- states
+
+pub same_state : (n : Node) (es fs : List (List Edit)) (ds gs ns ms : List Bytes) (p q : Bytes) (c b : ℕ) → es ≡ fs → ds ≡ gs → ns ≡ ms → p ≡ q
+    → (let s : State = record { tree = n; steps = es; digests = ds; notes = ns; «package» = p; cursor = c; before = b } in s)
+    ≡ (let s : State = record { tree = n; steps = fs; digests = gs; notes = ms; «package» = q; cursor = c; before = b } in s)
+same_state n es fs ds gs ns ms p q c b steps digests notes named =
+    ap (λ z. let s : State = record { tree = n; steps = z; digests = ds; notes = ns; «package» = p; cursor = c; before = b } in s) steps
+    ∙ ap (λ z. let s : State = record { tree = n; steps = fs; digests = z; notes = ns; «package» = p; cursor = c; before = b } in s) digests
+    ∙ ap (λ z. let s : State = record { tree = n; steps = fs; digests = gs; notes = z; «package» = p; cursor = c; before = b } in s) notes
+    ∙ ap (λ z. let s : State = record { tree = n; steps = fs; digests = gs; notes = ms; «package» = z; cursor = c; before = b } in s) named
+
+-- ---- saving
+
+pub may_save : (s : State) → IsSession s → MaySave (history_of s)
+may_save s h = record {
+  package_length = h.named;
+  package_text = h.spelled;
+  steps_length = omega (arith, h.noted, h.bounded);
+  notes = h.notes;
+  known = omega (arith, h.noted, h.known);
+}
+
+-- the tree at the cursor is the one that its text reads as
+pub saves_small : TrailsKeep → OneReading → (s : State) → IsSession s → IsSmall (trail_of s) → AreSmall (history_of s) s.steps
+saves_small keep one s h small n trail is =
+    let other = keep (trail_at n s.steps s.cursor) trail in
+    let own = keep (trail_of s) h.trail in
+    let shown : spell_node n ≡ spell_node s.tree = sym other.present ∙ ap (λ (l : List Bytes). slice_index_or l s.cursor []) is ∙ own.present in
+    let reads : Reads (spell_node s.tree) n = (trail.tree.0, shown, subst (λ (t : Bytes). length t ≤ limit) shown trail.tree.1) in
+    let tree : n ≡ s.tree = one (spell_node s.tree) n s.tree reads (h.trail.tree.0, refl, h.trail.tree.1) in
+    subst (λ (m : Node). IsSmall (trail_at m s.steps s.cursor)) (sym tree) small
+
+-- ---- resuming
+
+abbrev pub state_of : Resumed → Bytes → State
+state_of s current = record { tree = s.tree; steps = s.steps; digests = s.digests; notes = s.notes; «package» = current; cursor = s.cursor; before = s.cursor }
+
+pub lasts : TrailsKeep → (bytes text current : Bytes) (s : Resumed) → r.IsResumed bytes text s → current ≡ s.«package» → IsSession (state_of s current)
+lasts keep bytes text current s (h, es, journal, stood) is =
+    let own = keep (r.trail_of s) stood.trail in
+    let n : Node = journal.follows.0 in
+    let first = keep (trail_at n es h.cursor) journal.follows.1 in
+    let saves = stood.saves in
+    let noted : length s.notes ≡ length s.steps =
+    omega (arith, ap length stood.notes, journal.noted, first.counted, ap length journal.follows.2, ap length stood.texts, own.counted) in
+    record {
+      trail = stood.trail;
+      digests = stood.digests ∙ ap (map sha256) (sym stood.texts);
+      named = subst (λ (p : Bytes). length p ≤ 65536) (sym is) saves.package_length;
+      spelled = subst IsUtf8 (sym is) saves.package_text;
+      noted = noted;
+      notes = saves.notes;
+      known = omega (arith, noted, saves.known);
+      bounded = omega (arith, noted, saves.steps_length);
+    }
+
+same_history : (p q : Bytes) (ts us ns ms : List Bytes) (c : ℕ) → q ≡ p → us ≡ ts → ms ≡ ns
+    → (let h : History = record { «package» = q; texts = us; notes = ms; cursor = c; before = c } in h) ≡ (let h : History = record { «package» = p; texts = ts; notes = ns; cursor = c; before = c } in h)
+same_history p q ts us ns ms c e f g =
+    ap (λ z. let h : History = record { «package» = z; texts = us; notes = ms; cursor = c; before = c } in h) e
+    ∙ ap (λ z. let h : History = record { «package» = p; texts = z; notes = ms; cursor = c; before = c } in h) f
+    ∙ ap (λ z. let h : History = record { «package» = p; texts = ts; notes = z; cursor = c; before = c } in h) g
+
+pub goes_on : (h : History) (es : List (List Edit)) (text current : Bytes) (s : Resumed) → StandsFor h es text s → current ≡ s.«package» → GoesOn h es text (state_of s current)
+goes_on h es text current s stood is = record {
+  at = s.cursor;
+  stands_there = stood.stands_there;
+  history = same_history h.«package» current h.texts (texts_of (r.trail_of s)) h.notes s.notes s.cursor (is ∙ stood.package_is) stood.texts stood.notes;
+  small = stood.small;
+}
+
+pub resumed_made : (bytes text : Bytes) (s : Resumed) (result : Result State ResumeFault) → r.IsResumed bytes text s
+    → IfOk result (λ t. (h : History) (es : List (List Edit)) (text : Bytes) → StandsFor h es text s → GoesOn h es text t) → IfOk result (IsResumed bytes text)
+resumed_made bytes text s (Ok t) (h, es, journal, stood) made = (h, es, journal, made h es text stood)
+resumed_made bytes text s (Err fault) resumed made = tt
+
+pub known_made : (h : History) (es : List (List Edit)) (text : Bytes) (s : Resumed) (result : Result State ResumeFault) → StandsFor h es text s
+    → IfOk result (λ t. (h : History) (es : List (List Edit)) (text : Bytes) → StandsFor h es text s → GoesOn h es text t) → IfErr result (λ fault. fault ≡ f.Memory)
+    → IsKnown h es text result
+known_made h es text s (Ok t) stood made memory = made h es text stood
+known_made h es text s (Err fault) stood made memory = subst (λ (x : ResumeFault). IsKnown h es text (Err x)) (sym memory) tt
+
+-- ---- once more
+
+some_same : (a b : ℕ) → Some a ≡ Some b → a ≡ b
+some_same a b e = cc
+
+pub is_again : (s : State) (small : IsSmall (trail_of s) → AreSmall (history_of s) s.steps) (text : Bytes) (result : Result State ResumeFault)
+    → stands (history_of s) text ≡ Some s.cursor → IsKnown (history_of s) s.steps text result → IsAgain s result
+is_again s small text (Ok t) there known =
+    let at : known.at ≡ s.cursor = some_same known.at s.cursor (sym known.stands_there ∙ there) in
+    (known.history ∙ ap (λ (n : ℕ). let h : History = record (history_of s) { cursor = n; before = n } in h) at, λ own. known.small (small own))
+is_again s small text (Err f.Memory) there known = tt
+is_again s small text (Err f.Stale) there known = let e = sym known ∙ there in absurd (cc)
+is_again s small text (Err f.Damaged) there known = known
+is_again s small text (Err f.Version) there known = known
+
+-- ---- keeping
+
+pub may_resume : (folder : Folder) (file standing told text standing' told' text' : Bytes) (h : History) (s : State) → standing ≡ standing' → told ≡ told' → text ≡ text'
+    → standing' ≡ present h → told' ≡ saved s → text' ≡ present (history_of s) → IsSaved s → Follows h (history_of s) → Resumes folder file h.«package» h.texts
+    → MayResume folder file standing told text h (history_of s) s.steps
+may_resume folder file standing told text standing' told' text' h s a b c begun journal written own follows resumes = record {
+  resumes = resumes;
+  begun = a ∙ begun;
+  follows = follows;
+  journal = subst (λ (j : Bytes). Journal j (history_of s) s.steps) (sym (b ∙ journal)) own;
+  written = c ∙ written;
+}

@@ -1,0 +1,119 @@
+//! Sessions that outlive the run: their journal, and what is resumed of one.
+ghost use Rattle.std.specs.Prelude.{◌≡◌, ◌++◌, ◌↔◌, ℕ, List, Err, IfOk, IfErr, OnOk, OnErr, IsUtf8, option_map, slice_get, string_bytes};
+ghost use Rattle.bz_edit.specs.declared.edit.Edit.{Edit};
+ghost use Rattle.bz_record.specs.Texts.{IsOtherVersion};
+ghost use Rattle.bz_resume.specs.declared.fault.ResumeFault.TheVariants as f;
+ghost use Rattle.bz_resume.specs.Journals.{AreSmall, Journal, NoJournal};
+ghost use Rattle.bz_resume.specs.Resumed.{IsResumed as WasResumed, IsStale, StandsFor};
+ghost use Rattle.bz_trail.specs.Trails.{IsSmall};
+ghost use Rattle.bz_journal.specs.History.{History};
+ghost use Rattle.bz_journal.specs.Lasting.{GoesOn, IsAgain, IsKnown, IsResumed, IsSaved, saved};
+ghost use Rattle.bz_journal.specs.Shown.{history_of};
+ghost use Rattle.bz_journal.specs.State.{trail_of};
+
+use crate::session::Session;
+use bz_items::{Memory, Text};
+use bz_resume::laws::reopened;
+use bz_resume::{ResumeFault, Resumed, Saved, resume};
+use bz_trail::laws::texts_kept;
+use bz_tree::laws::one_reading;
+use std::alloc::Global;
+
+/// The path of a package. The error: memory was refused.
+fn path_of(alloc: Global, package: &Text) -> Result<String, Memory>
+    requires { IsUtf8 «package».now }
+    ensures { IfOk result (λ path. string_bytes path ≡ «package».now) }
+{
+    String::from_str(alloc, str::from_utf8(package.as_slice()).unwrap())
+}
+
+impl Session {
+    /// The note of the step between texts i and i + 1; `None` past the last step.
+    pub fn note(&self, i: u32) -> Option<&str>
+        ensures { option_map (λ note. note.now) result ≡ slice_get (history_of self.now).notes i }
+    {
+        match bz_items::at(self.notes.as_slice(), i as usize) {
+            Some(note) => Some(str::from_utf8(note.as_slice()).unwrap()),
+            None => None,
+        }
+    }
+
+    /// Appends the journal of the session, in version 2. The error: a growth was refused; `out` is then as before.
+    pub fn save_into(&self, out: &mut Vec<u8>) -> Result<(), Memory>
+        ensures ok { OnOk result (out.new.items ≡ out.old.items ++ saved self.now) }
+        ensures err { OnErr result (out.new.items ≡ out.old.items) }
+
+        // It is the journal of its history and steps, also when the steps are small.
+        ensures journal { IsSaved self.now }
+        ensures small { IsSmall (trail_of self.now) → AreSmall (history_of self.now) self.now.steps }
+    {
+        one_reading();
+        texts_kept();
+        let saved = Saved {
+            package: self.package.as_bytes(),
+            tree: &self.tree,
+            steps: self.steps.as_slice(),
+            digests: self.digests.as_slice(),
+            notes: self.notes.as_slice(),
+            cursor: self.cursor,
+            before: self.before,
+        };
+        bz_resume::save_into(&saved, out)
+    }
+
+    /// The session that a journal says, at the text that the file has now: at the cursor where that is the text there, else at
+    /// the cursor before. Errors: `Version` exactly where the first line names another version; `Damaged` only where the bytes
+    /// are no journal; `Stale` only where they are one, and the file has neither text; `Memory` where a growth was refused.
+    pub fn resume(alloc: Global, journal: &[u8], text: &[u8]) -> Result<Session, ResumeFault>
+        ensures ok { IfOk result (IsResumed journal.now text.now) }
+        ensures version { (result ≡ Err f.Version) ↔ IsOtherVersion journal.now }
+        ensures damaged { (result ≡ Err f.Damaged) → NoJournal journal.now }
+        ensures stale { (result ≡ Err f.Stale) → IsStale journal.now text.now }
+        ensures known { (h : History) (es : List (List Edit)) → Journal journal.now h es → IsKnown h es text.now result }
+    {
+        match resume(alloc, journal, text) {
+            Ok(resumed) => Session::of_resumed(alloc, resumed),
+            Err(fault) => Err(fault),
+        }
+    }
+
+    /// The session of what was resumed. The error: memory was refused.
+    fn of_resumed(alloc: Global, resumed: Resumed) -> Result<Session, ResumeFault>
+        requires { (bytes : List ℕ) × (text : List ℕ) × WasResumed bytes text resumed }
+        ensures ok { IfOk result (λ session. (h : History) (es : List (List Edit)) (text : List ℕ) → StandsFor h es text resumed → GoesOn h es text session) }
+        ensures kinds { IfErr result (λ fault. fault ≡ f.Memory) }
+    {
+        texts_kept();
+        let Resumed {
+            package,
+            tree,
+            steps,
+            digests,
+            notes,
+            cursor,
+        } = resumed;
+        let package = path_of(alloc, &package)?;
+        Ok(Session {
+            tree,
+            steps: steps.into_vec(),
+            digests: digests.into_vec(),
+            notes: notes.into_vec(),
+            package,
+            cursor: cursor as u32,
+            before: cursor as u32,
+        })
+    }
+
+    /// The session, saved and resumed at its own text: the same, but that the present text counts as the one before. Errors:
+    /// `Memory`, where a growth was refused, and no other.
+    pub fn saved_and_resumed(&self, alloc: Global) -> Result<Session, ResumeFault>
+        ensures { IsAgain self.now result }
+    {
+        reopened();
+        let mut journal = Vec::new(alloc);
+        self.save_into(&mut journal)?;
+        let mut text = Vec::new(alloc);
+        self.text_into(&mut text)?;
+        Session::resume(alloc, journal.as_slice(), text.as_slice())
+    }
+}

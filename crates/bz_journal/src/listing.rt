@@ -1,0 +1,88 @@
+//! The texts of a session, listed.
+ghost use Rattle.std.specs.Prelude.{◌≡◌, ◌++◌, IfOk, OnOk, length};
+ghost use Rattle.bz_journal.specs.Listing.{lines_from, listing, noted, text_line};
+ghost use Rattle.bz_journal.specs.Shown.{history_of};
+
+use crate::session::Session;
+use bz_exact::{hex_digits, push_number};
+use bz_items::{Memory, Text};
+use bz_trail::laws::texts_kept;
+use std::alloc::Global;
+
+/// Appends a note after a space, where there is one, its newlines as `\n`. The error: a growth was refused.
+fn put_note(out: &mut Vec<u8>, note: &[u8]) -> Result<(), Memory>
+    ensures { OnOk result (out.new.items ≡ out.old.items ++ noted note.now) }
+{
+    if note.is_empty() {
+        return Ok(());
+    }
+    out.push(b' ')?;
+    for byte in note {
+        match byte {
+            b'\n' => out.extend_from_slice(b"\\n")?,
+            other => out.push(*other)?,
+        }
+    }
+    Ok(())
+}
+
+/// Appends the line of a text. The error: a growth was refused.
+fn put_line(
+    out: &mut Vec<u8>,
+    is_present: bool,
+    number: usize,
+    digest: &[u8; 32],
+    note: &[u8],
+) -> Result<(), Memory>
+    ensures { OnOk result (out.new.items ≡ out.old.items ++ text_line is_present number digest.now note.now) }
+{
+    let mark = if is_present { "* " } else { "  " };
+    out.extend_from_slice(mark.as_bytes())?;
+    push_number(out, number, b' ')?;
+    out.extend_from_slice(hex_digits(digest).as_slice())?;
+    put_note(out, note)?;
+    out.push(b'\n')?;
+    Ok(())
+}
+
+/// Appends the lines of the texts after the first one. The error: a growth was refused.
+fn put_lines(
+    out: &mut Vec<u8>,
+    cursor: usize,
+    notes: &[Text],
+    digests: &[[u8; 32]],
+) -> Result<(), Memory>
+    requires { length digests.now ≡ length notes.now }
+    ensures { OnOk result (out.new.items ≡ out.old.items ++ lines_from cursor 1 notes.now digests.now) }
+{
+    for i in 0..notes.len() {
+        let number = i + 1;
+        put_line(
+            out,
+            number == cursor,
+            number,
+            &digests[i],
+            notes[i].as_slice(),
+        )?;
+    }
+    Ok(())
+}
+
+impl Session {
+    /// The texts, one line each: `*` at the present one or a space, a space, its number from 0, a space, its SHA-256 in 64
+    /// digits, and after a space the note of the step to it where there is one, newlines as `\n`. The error: a growth was
+    /// refused.
+    pub fn listing(&self, alloc: Global) -> Result<Text, Memory>
+        ensures { IfOk result (λ text. text ≡ listing (history_of self.now)) }
+    {
+        texts_kept();
+        let mut out = Vec::new(alloc);
+        let cursor = self.cursor as usize;
+        let Some((first, digests)) = self.digests.split_first() else {
+            return Ok(Text::from_vec(out));
+        };
+        put_line(&mut out, cursor == 0, 0, first, b"")?;
+        put_lines(&mut out, cursor, self.notes.as_slice(), digests)?;
+        Ok(Text::from_vec(out))
+    }
+}
