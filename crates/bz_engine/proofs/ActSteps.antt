@@ -1,11 +1,12 @@
 -- What an action leaves in the files of a run.
-use Rattle.std.proofs.Common.{◌≡◌, ◌∙◌, ◌++◌, ◌||◌, inl, inr, ℕ, zero, suc, List, [], ◌∷◌, Bool, true, false, Option, Some, None, Err, refl, sym, ap, subst}
-use Rattle.std.specs.Prelude.{map, slice_get}
+use Rattle.std.proofs.Common.{◌≡◌, ◌∙◌, ◌++◌, ◌||◌, inl, inr, ℕ, zero, suc, List, [], ◌∷◌, Bool, true, false, Option, Some, None, Ok, Err, refl, sym, ap, subst, true≢false}
+use Rattle.std.specs.Prelude.{map, slice_get, IsSome}
 use Rattle.std.proofs.lemmas.List.{append-nil}
 use Rattle.bz_value.specs.Gaps.{Bytes}
 use Rattle.bz_attribute.specs.declared.refusal.Refusal.{Refusal}
 use Rattle.bz_attribute.specs.declared.refusal.Refusal.TheVariants.{Memory}
 use Rattle.bz_journal.specs.declared.action.Action.{Action}
+use Rattle.bz_journal.specs.declared.action.Reply.{Reply}
 use Rattle.bz_journal.specs.History.{History, Acts, Leads}
 use Rattle.bz_ports.specs.Faults.{AppendsUnlessFailed}
 use Rattle.bz_ports.specs.Outputs.{Tells}
@@ -26,10 +27,28 @@ pub file_put : (place : ℕ) (used after : List Used) (file new : Opened) → fi
 file_put place used after file new there put = ap (file_at place) put ∙ put_there place used file new there
 
 -- a refusal for another cause than memory is what an action leads to
-pub led_to : (h after : History) (action : Action) (refusal : Refusal) → Acts action h (Err refusal) after → (refusal ≡ Memory → ⊥)
-    → Leads action h (Err refusal) after
-led_to h after action refusal (inl done) other = done
-led_to h after action refusal (inr wanting) other = let e = wanting.1 in absurd (other (cc))
+pub led_to : (h after : History) (action : Action) (note : Bytes) (refusal : Refusal) → Acts action note h (Err refusal) after → (refusal ≡ Memory → ⊥)
+    → Leads action note h (Err refusal) after
+led_to h after action note refusal (inl long) other = inl long
+led_to h after action note refusal (inr (short, inl makes)) other = inr (short, makes)
+led_to h after action note refusal (inr (short, inr wanting)) other = let e = wanting.1 in absurd (other (cc))
+
+-- a reply is what an action leads to
+pub led_on : (h after : History) (action : Action) (note : Bytes) (reply : Reply) → Acts action note h (Ok reply) after → Leads action note h (Ok reply) after
+led_on h after action note reply (inl long) = inl long
+led_on h after action note reply (inr (short, inl makes)) = inr (short, makes)
+led_on h after action note reply (inr (short, inr wanting)) = let e = wanting.1 in absurd (cc)
+
+-- a file that is there
+pub some_of : (found : Option Opened) → IsSome found → (file : Opened) × (found ≡ Some file)
+some_of None is = absurd (true≢false (sym is))
+some_of (Some file) is = (file, refl)
+
+-- a file that takes its own place
+pub put_again : (place : ℕ) (used : List Used) (file : Opened) → file_at place used ≡ Some file → with_file place (Some file) used ≡ used
+put_again place [] file there = refl
+put_again zero (one ∷ more) file there = ap (λ (f : Option Opened). record one { file = f } ∷ more) (sym there)
+put_again (suc place) (one ∷ more) file there = ap (λ (rest : List Used). one ∷ rest) (put_again place more file there)
 
 -- the state behind a refusal
 abbrev state : List Used → Bytes → Bool → State
@@ -39,6 +58,10 @@ or_true : (b : Bool) → true ≡ (b || true)
 or_true true = refl
 or_true false = refl
 
+or_false : (b : Bool) → b ≡ (b || false)
+or_false true = refl
+or_false false = refl
+
 pub was_refused : (place : ℕ) (file : Opened) (refusal : Refusal) (history : History) (before after : State) (used : List Used)
     → after ≡ record before { used = used; failed = true } → used ≡ with_file place (Some (record file { history = history })) before.used
     → after ≡ answered place file (Err refusal) history before
@@ -47,6 +70,14 @@ was_refused place file refusal history before after used is put =
     is ∙ (ap (λ (u : List Used). state u before.printed true) put
     ∙ (ap (λ (text : Bytes). state put_in text true) (sym (append-nil before.printed))
     ∙ ap (state put_in (before.printed ++ [])) (or_true before.failed)))
+
+pub was_listed : (place : ℕ) (file : Opened) (before after : State) (text listing : Bytes) (printed : Bytes) → file_at place before.used ≡ Some file
+    → after ≡ record before { printed = printed } → printed ≡ before.printed ++ text → text ≡ listing
+    → after ≡ record { used = with_file place (Some file) before.used; printed = before.printed ++ listing; failed = before.failed || false }
+was_listed place file before after text listing printed there is put same =
+    is ∙ (ap (λ (bytes : Bytes). record before { printed = bytes }) (put ∙ ap (λ (t : Bytes). before.printed ++ t) same)
+    ∙ (ap (λ (u : List Used). state u (before.printed ++ listing) before.failed) (sym (put_again place before.used file there))
+    ∙ ap (state (with_file place (Some file) before.used) (before.printed ++ listing)) (or_false before.failed)))
 
 -- a refusal is told by the name of the file
 pub told_by : (f f' : ℕ) (old new : Option Bytes) (name other command : Bytes) (refusal : Refusal) → name ≡ other

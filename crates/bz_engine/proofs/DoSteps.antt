@@ -1,11 +1,14 @@
 -- One step, in the file that was opened for it.
-use Rattle.std.proofs.Common.{◌≡◌, ◌∙◌, ◌++◌, ℕ, List, [], Option, Some, None, true, refl, sym, subst}
+use Rattle.std.proofs.Common.{◌≡◌, ◌∙◌, ◌++◌, ℕ, List, [], Option, Some, None, Ok, true, refl, sym, subst}
 use Rattle.std.specs.Option.{option_map}
 use Rattle.std.proofs.lemmas.List.{append-nil}
 use Rattle.bz_value.specs.Gaps.{Bytes}
 use Rattle.bz_workspace.specs.Packages.{Opened, Used, file_at}
-use Rattle.bz_engine.specs.Run.{Answers, Does, State, Uses, World}
-use Rattle.bz_engine.specs.Steps.{Step}
+use Rattle.bz_journal.specs.declared.action.Action.{Action}
+use Rattle.bz_journal.specs.declared.action.Reply.TheVariants.{Printed}
+use Rattle.bz_journal.specs.Listing.{listing}
+use Rattle.bz_engine.specs.Run.{Answers, Does, LeadsBy, State, Uses, World, answered}
+use Rattle.bz_engine.specs.Steps.{Step, action_of}
 
 same_place : (found : Option Opened) (at place : ℕ) → Some at ≡ option_map (λ _. place) found → at ≡ place
 same_place None at place is = let e = is in absurd (cc)
@@ -42,3 +45,16 @@ done_nowhere world step before used found place name opening named uses is opene
       (sym (no_file (file_at place used) place (sym is ∙ opened))) (refl, refl);
   told = sym (append-nil opening);
 }
+
+-- the texts of the file are listed
+pub listed_answers : (step : Step) (place : ℕ) (found : Option Opened) (file : Opened) (before after : State) → found ≡ Some file
+    → None ≡ action_of step.target step.asking.verb → after ≡ answered place file (Ok (Printed (listing file.history))) file.history before
+    → Answers step place found before [] after
+listed_answers step place found file before after there none is =
+    subst (λ (f : Option Opened). Answers step place f before [] after) (sym there) (
+      Ok (Printed (listing file.history)),
+      file.history,
+      subst (λ (a : Option Action). LeadsBy a step.asking.text file.history (Ok (Printed (listing file.history))) file.history) none (refl, refl),
+      refl,
+      is,
+    )

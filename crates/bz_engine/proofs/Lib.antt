@@ -4,6 +4,7 @@ pub mod DoSteps
 pub mod EndingSteps
 pub mod HeldSteps
 pub mod InputSteps
+pub mod KeepSteps
 pub mod OpenSteps
 pub mod Outcomes
 pub mod Performing

@@ -15,7 +15,7 @@ use Rattle.bz_ports.specs.Outputs.{Tells}
 use Rattle.bz_ports.specs.Told.{named_line, fault_line}
 use Rattle.bz_ports.proofs.Outputs.{appends_nothing}
 use Rattle.bz_engine.specs.Ending.{Left, Performs, Stands}
-use Rattle.bz_engine.specs.Outcome.{unused, AreOfInput, IsOfInput, NamesNoFile, IsScript, told_name, OperandsOutcome, LinesOutcome, TextOutcome, ScriptOutcome, GivenOutcome, LineOutcome, Outcome}
+use Rattle.bz_engine.specs.Outcome.{unused, AreOfInput, IsOfInput, NamesNoFile, KeepsNoJournal, IsScript, told_name, OperandsOutcome, LinesOutcome, TextOutcome, ScriptOutcome, GivenOutcome, LineOutcome, Outcome}
 use Rattle.bz_engine.specs.Run.{World}
 use Rattle.bz_ports.specs.Ports.{IsInput}
 use Rattle.bz_engine.specs.Steps.{all_steps, names_input, input_package}
@@ -87,6 +87,16 @@ operands_premise honest texts asked lines is same (inl is_honest) = inl is_hones
 operands_premise honest texts asked lines is same (inr are) =
     let these : AreOfInput (asked ∷ []) = subst (λ (it : Result Asked Usage). IfOk it (λ asked. AreOfInput (asked ∷ []))) is are in
     inr (subst AreOfInput (sym same) these)
+
+-- rules of standard input that operands name
+pub names_given : (texts : List Bytes) (asked : Asked) (lines : List Asked) → group_of texts ≡ Ok asked → lines ≡ asked ∷ []
+    → (other : Asked) × (group_of texts ≡ Ok other) × (names_input (other ∷ []) ≡ true) → names_input lines ≡ true
+names_given texts asked lines is same (other, found, named) =
+    let one : other ≡ asked = ok_same other asked (sym found ∙ is) in
+    ap names_input (same ∙ ap (λ (a : Asked). a ∷ []) (sym one)) ∙ named
+  where
+    ok_same : (a b : Asked) → ◌≡◌ {A = Result Asked Usage} (Ok a) (Ok b) → a ≡ b
+    ok_same a b e = cc
 
 -- ---- lines
 
@@ -184,6 +194,9 @@ words_premise honest words line given is same (inl is_honest) = inl is_honest
 words_premise honest words line given is same (inr none) =
     let here : IsOfInput line.given = subst (λ (it : Result Line LineUsage). IfOk it (λ line. IsOfInput line.given)) is none in
     inr (subst IsOfInput same here)
+
+pub words_plain : (words : List Bytes) (line : Line) → line_of words ≡ Ok line → KeepsNoJournal words → line.options.journal ≡ false
+words_plain words line is plain = subst (λ (it : Result Line LineUsage). IfOk it (λ line. line.options.journal ≡ false)) is plain
 
 pub script_premise : (honest : Bool) (name : Bytes) → (honest ≡ true) ⊎ IsOfInput (script name) → honest ≡ true
 script_premise honest name (inl is_honest) = is_honest

@@ -92,14 +92,19 @@ IsOfInput (script name) = ⊥
 abbrev pub NamesNoFile : List Bytes → Type 0
 NamesNoFile words = IfOk (line_of words) (λ line. IsOfInput line.given)
 
+-- The words don't ask for journals.
+abbrev pub KeepsNoJournal : List Bytes → Type 0
+KeepsNoJournal words = IfOk (line_of words) (λ line. line.options.journal ≡ false)
+
 -- ---- words that ask for nothing
 
--- operands that are refused, or lack a command or a target
-abbrev pub GivesNothing : Given → Type 0
-GivesNothing (operands texts) = IsErr (group_of texts)
-GivesNothing (script name) = ⊥
+-- operands that are refused, or lack a command or a target, or mean rules of standard input where journals are kept
+abbrev pub GivesNothing : Options → Given → Type 0
+GivesNothing options (operands texts) = IsErr (group_of texts)
+    ⊎ ((options.journal ≡ true) × ((asked : Asked) × (group_of texts ≡ Ok asked) × (names_input (asked ∷ []) ≡ true)))
+GivesNothing options (script name) = ⊥
 
 -- words that are no line, or whose operands ask for nothing
 abbrev pub LineGivesNothing : Result Line LineUsage → Type 0
 LineGivesNothing (Err usage) = Unit {0}
-LineGivesNothing (Ok line) = GivesNothing line.given
+LineGivesNothing (Ok line) = GivesNothing line.options line.given

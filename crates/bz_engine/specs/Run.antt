@@ -2,9 +2,11 @@
 use Rattle.std.specs.Prelude.{◌≡◌, ◌≢◌, ◌⊎◌, ◌&&◌, ◌||◌, not, Bool, true, false, ℕ, List, [], ◌∷◌, ◌++◌, length, is_err, Option, Some, None, Ok, Err, IfSome}
 use Rattle.bz_value.specs.Gaps.{Bytes}
 use Rattle.bz_files.specs.Folder.{Folder}
+use Rattle.bz_journal.specs.declared.action.Action.{Action}
 use Rattle.bz_journal.specs.declared.action.Reply.{Reply}
 use Rattle.bz_journal.specs.declared.action.Reply.TheVariants.{Changed, Same, Printed, Moved}
 use Rattle.bz_journal.specs.History.{History, Answer, Leads}
+use Rattle.bz_journal.specs.Listing.{listing}
 use Rattle.bz_ports.specs.Ports.{IsInput}
 use Rattle.bz_ports.specs.Told.{stdin}
 use Rattle.bz_workspace.specs.Found.{Found, found_in}
@@ -69,11 +71,17 @@ answered place file answer history state = record {
   failed = state.failed || is_err answer;
 }
 
+-- What is answered in an open file and left of its history: what the action leads to, with the command's text as its note; where there is
+-- none, the texts are listed.
+abbrev pub LeadsBy : Option Action → Bytes → History → Answer → History → Type 0
+LeadsBy None note h answer after = (answer ≡ Ok (Printed (listing h))) × (after ≡ h)
+LeadsBy (Some action) note h answer after = Leads action note h answer after
+
 -- In a package without an open file a step does nothing and fails.
 abbrev pub Answers : Step → ℕ → Option Opened → State → List Bytes → State → Type 0
 Answers step place None state lines after = (lines ≡ []) × (after ≡ record state { failed = true })
 Answers step place (Some file) state lines after =
-    (answer : Answer) × (history : History) × Leads (action_of step.target step.asking.verb) file.history answer history
+    (answer : Answer) × (history : History) × LeadsBy (action_of step.target step.asking.verb) step.asking.text file.history answer history
     × (lines ≡ told_of file.name step.asking.text answer) × (after ≡ answered place file answer history state)
 
 -- Its package is opened, if it was not used before; then its command is done there.

@@ -1,5 +1,5 @@
 -- What a line asks for, step by step.
-use Rattle.std.specs.Prelude.{List, map, codes, Bool, not, ◌&&◌, bytes_eq}
+use Rattle.std.specs.Prelude.{List, map, codes, Bool, not, ◌&&◌, bytes_eq, Option, Some, None}
 use Rattle.std.specs.List.{flat_map, list_any}
 use Rattle.bz_value.specs.Gaps.{Bytes}
 use Rattle.bz_label.specs.declared.target.Target.{Target}
@@ -8,7 +8,7 @@ use Rattle.bz_journal.specs.declared.action.Action.TheVariants as a
 use Rattle.bz_line.specs.Asked.{Asked, Asking}
 use Rattle.bz_line.specs.Verbs.{prints}
 use Rattle.bz_line.specs.declared.verb.Verb.{Verb}
-use Rattle.bz_line.specs.declared.verb.Verb.TheVariants.{Do, Undo, Redo}
+use Rattle.bz_line.specs.declared.verb.Verb.TheVariants.{Do, Undo, Redo, Journal}
 
 -- a command on one target
 pub record Step : Type 0 where
@@ -25,11 +25,12 @@ steps_of asked = flat_map (λ target. map (step_of target) asked.commands) asked
 abbrev pub all_steps : List Asked → List Step
 all_steps lines = flat_map steps_of lines
 
--- what the session of the target's file is asked to do
-abbrev pub action_of : Target → Verb → Action
-action_of target (Do operation) = a.Do operation target
-action_of target (Undo count) = a.Undo count
-action_of target (Redo count) = a.Redo count
+-- what the session of the target's file is asked to do; to list its texts is no action
+abbrev pub action_of : Target → Verb → Option Action
+action_of target (Do operation) = Some (a.Do operation target)
+action_of target (Undo count) = Some (a.Undo count)
+action_of target (Redo count) = Some (a.Redo count)
+action_of target Journal = None
 
 -- the package that stands for standard input
 abbrev pub input_package : Bytes

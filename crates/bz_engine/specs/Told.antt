@@ -4,7 +4,7 @@ use Rattle.bz_value.specs.Gaps.{Bytes}
 use Rattle.bz_attribute.specs.Refusals.{refusal_name, refusal_number}
 use Rattle.bz_attribute.specs.declared.refusal.Refusal.{Refusal}
 use Rattle.bz_line.specs.Asked.{Refused, Usage, of_operand, no_command, no_target, no_line}
-use Rattle.bz_line.specs.Line.{LineUsage, of_clap, beside_script}
+use Rattle.bz_line.specs.Line.{LineUsage, of_clap, beside_script, beside_stdout}
 use Rattle.bz_line.specs.Verbs.{fault_name, fault_number}
 use Rattle.bz_ports.specs.Told.{named_line}
 
@@ -36,7 +36,12 @@ IsUsageLine file no_line line = line ≡ named_line file (codes "no operands")
 abbrev pub IsLineUsageLine : LineUsage → Bytes → Type 0
 IsLineUsageLine of_clap line = Unit {0}
 IsLineUsageLine beside_script line = line ≡ codes "buildozer: operands beside -f\n"
+IsLineUsageLine beside_stdout line = line ≡ codes "buildozer: --stdout beside --journal\n"
 
 -- a target of standard input, where the lines themselves come from there
 abbrev pub input_line : Bytes
 input_line = codes "buildozer: package - cannot be edited beside -f -\n"
+
+-- a target of standard input, which has no journal
+abbrev pub no_journal_line : Bytes
+no_journal_line = codes "buildozer: package - has no journal\n"

@@ -1,6 +1,8 @@
 //! One step.
-ghost use Rattle.std.specs.Prelude.{◌≡◌, ◌≢◌, ◌⊎◌, ◌++◌, [], ◌∷◌, ℕ, List, Option, Some, None, Ok, Err, true, IsSome, OnOk, OnErr};
+ghost use Rattle.std.specs.Prelude.{◌≡◌, ◌≢◌, ◌⊎◌, ◌++◌, [], ◌∷◌, ℕ, List, Option, Some, None, Ok, Err, true, IsSome, IfOk, OnOk, OnErr};
 ghost use Rattle.bz_journal.specs.History.{History, Answer, Leads};
+ghost use Rattle.bz_journal.specs.Listing.{listing};
+ghost use Rattle.bz_journal.specs.declared.action.Reply.TheVariants as Reply;
 ghost use Rattle.bz_line.specs.Paths.{HasPath};
 ghost use Rattle.bz_line.specs.Shown.{asking_in};
 ghost use Rattle.bz_ports.specs.Outputs.{Tells, Counts};
@@ -17,7 +19,7 @@ use crate::step::{action_of, package_of};
 use crate::told::tell_refusal;
 use bz_attribute::Refusal;
 use bz_files::Files;
-use bz_items::at;
+use bz_items::{Text, at};
 use bz_journal::{Action, Reply};
 use bz_label::Target;
 use bz_line::Asking;
@@ -36,7 +38,7 @@ fn name_of(used: &Used) -> &str
 }
 
 // The name of the open file of the package with this number.
-fn name_at(workspace: &Workspace, place: usize) -> &str
+pub(crate) fn name_at(workspace: &Workspace, place: usize) -> &str
     ensures { (file : Opened) → file_at place workspace.now ≡ Some file → result.now ≡ file.name }
 {
     match at(workspace.used(), place) {
@@ -45,8 +47,28 @@ fn name_at(workspace: &Workspace, place: usize) -> &str
     }
 }
 
+// The listing of the texts of an open file. The error: memory was refused, or no file is open.
+fn listing_in(alloc: Global, used: &Used) -> Result<Text, AllocError>
+    ensures { IfOk result (λ text. (file : Opened) → (used_in used.now).file ≡ Some file → text ≡ listing file.history) }
+{
+    match &used.file {
+        Some(file) => file.session.listing(alloc),
+        None => Err(AllocError),
+    }
+}
+
+// The listing of the texts of the open file of the package with this number. The error: memory was refused, or there is none.
+fn listing_at(alloc: Global, workspace: &Workspace, place: usize) -> Result<Text, AllocError>
+    ensures { IfOk result (λ text. (file : Opened) → file_at place workspace.now ≡ Some file → text ≡ listing file.history) }
+{
+    match at(workspace.used(), place) {
+        Some(used) => listing_in(alloc, used),
+        None => Err(AllocError),
+    }
+}
+
 // Appends what a reply prints. The error: memory was refused, and nothing is appended.
-fn put_printed(reply: &Reply, printed: &mut Vec<u8>) -> Result<(), AllocError>
+pub(crate) fn put_printed(reply: &Reply, printed: &mut Vec<u8>) -> Result<(), AllocError>
     ensures ok { OnOk result (printed.new.items ≡ printed.old.items ++ printed_in reply.now) }
     ensures err { OnErr result (printed.new.items ≡ printed.old.items) }
 {
@@ -57,7 +79,13 @@ fn put_printed(reply: &Reply, printed: &mut Vec<u8>) -> Result<(), AllocError>
 }
 
 // A command is refused, which is told by its file.
-fn refuse<E: Sink>(run: &mut Run, place: usize, command: &str, refusal: Refusal, err: &mut E) -> Cut
+pub(crate) fn refuse<E: Sink>(
+    run: &mut Run,
+    place: usize,
+    command: &str,
+    refusal: Refusal,
+    err: &mut E,
+) -> Cut
     ensures kinds { (result ≡ Cut.Whole) ⊎ (result ≡ Cut.Memory) }
     ensures whole { result ≡ Cut.Whole → (refusal ≢ Refusal.Memory) }
     ensures state { state_in run.new ≡ record (state_in run.old) { failed = true } }
@@ -77,10 +105,10 @@ fn act_at<E: Sink>(run: &mut Run, place: usize, action: &Action, command: &str, 
     requires { IsSome (file_at place run.old.workspace) }
     ensures kinds { (result ≡ Cut.Whole) ⊎ (result ≡ Cut.Memory) }
     ensures whole { result ≡ Cut.Whole → (file : Opened) × (answer : Answer) × (history : History) × (file_at place run.old.workspace ≡ Some file)
-        × Leads action.now file.history answer history × (state_in run.new ≡ answered place file answer history (state_in run.old))
+        × Leads action.now command.now file.history answer history × (state_in run.new ≡ answered place file answer history (state_in run.old))
         × Tells (E.faults err.old) (E.faults err.new) (E.contents err.old) (E.contents err.new) (told_of file.name command.now answer) }
 {
-    match run.workspace.act(place, action) {
+    match run.workspace.act(place, action, command) {
         Ok(reply) => match put_printed(&reply, &mut run.printed) {
             Ok(()) => Cut::Whole,
             Err(_) => refuse(run, place, command, Refusal::Memory, err),
@@ -89,8 +117,32 @@ fn act_at<E: Sink>(run: &mut Run, place: usize, action: &Action, command: &str, 
     }
 }
 
+// Lists the texts of the open file of the package with this number.
+pub(crate) fn list_at<E: Sink>(
+    alloc: Global,
+    run: &mut Run,
+    place: usize,
+    command: &str,
+    err: &mut E,
+) -> Cut
+    requires { IsSome (file_at place run.old.workspace) }
+    ensures kinds { (result ≡ Cut.Whole) ⊎ (result ≡ Cut.Memory) }
+    ensures whole { result ≡ Cut.Whole → (file : Opened) × (file_at place run.old.workspace ≡ Some file)
+        × (state_in run.new ≡ answered place file (Ok (Reply.Printed (listing file.history))) file.history (state_in run.old))
+        × Tells (E.faults err.old) (E.faults err.new) (E.contents err.old) (E.contents err.new) [] }
+{
+    let Ok(text) = listing_at(alloc, &run.workspace, place) else {
+        return refuse(run, place, command, Refusal::Memory, err);
+    };
+    match put_printed(&Reply::Printed(text), &mut run.printed) {
+        Ok(()) => Cut::Whole,
+        Err(_) => refuse(run, place, command, Refusal::Memory, err),
+    }
+}
+
 // Does a command on a target in the open file of the package with this number.
 fn act_on<E: Sink>(
+    alloc: Global,
     run: &mut Run,
     place: usize,
     target: &Target,
@@ -104,7 +156,8 @@ fn act_on<E: Sink>(
         × Tells (E.faults err.old) (E.faults err.new) (E.contents err.old) (E.contents err.new) lines }
 {
     match action_of(&asking.verb, target) {
-        Ok(action) => act_at(run, place, &action, asking.text, err),
+        Ok(Some(action)) => act_at(run, place, &action, asking.text, err),
+        Ok(None) => list_at(alloc, run, place, asking.text, err),
         Err(_) => refuse(run, place, asking.text, Refusal::Memory, err),
     }
 }
@@ -134,7 +187,7 @@ pub(crate) fn do_step<R: Source, F: Files, E: Sink>(
     let package = package_of(target);
     let opening = open_package(alloc, &mut run.workspace, package, input, files, err);
     match opening.place {
-        Some(place) => first_cut(opening.cut, act_on(run, place, target, asking, err)),
+        Some(place) => first_cut(opening.cut, act_on(alloc, run, place, target, asking, err)),
         None => {
             run.failed = true;
             opening.cut

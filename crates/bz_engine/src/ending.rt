@@ -336,3 +336,42 @@ pub(crate) fn finish<W: Sink, F: Files, E: Sink>(
         err,
     )
 }
+
+// Tells which files were written, in order.
+fn tell_written<E: Sink>(packages: &[Used], err: &mut E) {
+    for used in packages {
+        if let Some(file) = &used.file {
+            if file.written {
+                tell_fixed(err, file.name.as_str());
+            }
+        }
+    }
+}
+
+/// Ends a run whose files kept their journals, and that this failure cut, if one did: standard output is given what was printed, and
+/// the files that were written are told.
+pub(crate) fn finish_kept<W: Sink, E: Sink>(
+    options: Options,
+    run: Run,
+    cut: Cut,
+    out: &mut W,
+    err: &mut E,
+) -> Exit
+    ensures status { result.cut ≢ Cut.Whole → result.status ≡ 2 }
+    ensures whole { result.cut ≡ Cut.Whole → (cut ≡ Cut.Whole) × (W.faults out.new ≡ W.faults out.old) }
+    ensures cause { (result.cut ≡ cut) ⊎ ((cut ≡ Cut.Whole) × ((result.cut ≡ Cut.Memory) ⊎ ((result.cut ≡ Cut.Write) × Rises (W.faults out.old) (W.faults out.new)))) }
+{
+    let Run {
+        workspace,
+        printed,
+        failed,
+    } = run;
+    let output = print_all(workspace.used(), false, false, printed, out, err);
+    if !options.quiet {
+        tell_written(workspace.used(), err);
+    }
+    match output {
+        Ok(changed) => ended(failed, changed, cut),
+        Err(later) => ended(failed, true, first_cut(cut, later)),
+    }
+}

@@ -3,22 +3,24 @@ ghost use Rattle.std.specs.Prelude.{◌≡◌, ◌≢◌, ◌⊎◌, ◌∷◌, 
 ghost use Rattle.std.specs.List.{All};
 ghost use Rattle.bz_line.specs.Asked.{Usage, group_of};
 ghost use Rattle.bz_line.specs.Line.{LineUsage, line_of};
+ghost use Rattle.bz_line.specs.Line.{operands as words_given};
 ghost use Rattle.bz_line.specs.Paths.{HasPath};
 ghost use Rattle.bz_line.specs.Shown.{asked_in, usage_in, line_usage_in};
 ghost use Rattle.bz_ports.specs.Faults.{AppendsSome};
 ghost use Rattle.bz_ports.specs.Outputs.{Tells};
 ghost use Rattle.bz_engine.specs.Cuts.{IsEndedBy};
 ghost use Rattle.bz_engine.specs.Ending.{Left, Performs, Stands};
-ghost use Rattle.bz_engine.specs.Outcome.{Outcome, OperandsOutcome, LinesOutcome, TextOutcome, ScriptOutcome, AreOfInput, LineGivesNothing, NamesNoFile, TakesScript};
-ghost use Rattle.bz_engine.specs.Steps.{all_steps, input_package};
+ghost use Rattle.bz_engine.specs.Outcome.{Outcome, OperandsOutcome, LinesOutcome, TextOutcome, ScriptOutcome, AreOfInput, GivesNothing, KeepsNoJournal, LineGivesNothing, NamesNoFile, TakesScript};
+ghost use Rattle.bz_engine.specs.Steps.{all_steps, input_package, names_input};
 ghost use Rattle.bz_engine.specs.Told.{IsUsageLine, IsLineUsageLine};
 
-use crate::ending::{FAILED, finish};
+use crate::ending::{FAILED, finish, finish_kept};
+use crate::keeping::keep_lines;
 use crate::run::begun;
 use crate::running::run_lines;
 use crate::script::{INPUT, USAGE, read_bytes, told_name};
 use crate::step::{names_input, shows_input};
-use crate::told::{tell_input, tell_line_usage, tell_usage};
+use crate::told::{tell_input, tell_line_usage, tell_no_journal, tell_usage};
 use bz_files::Files;
 use bz_line::{Asked, Given, LineFault, Options, UsageFault, read_group, read_line, read_script};
 use bz_ports::{Cut, Exit, Sink, Source, tell, tell_fault};
@@ -111,6 +113,58 @@ fn perform<R: Source, W: Sink, E: Sink, F: Files>(
     )
 }
 
+// Does what lines ask for on files with their journals, and ends the run. Standard input has none, so rules of it can't be meant.
+fn perform_kept<W: Sink, E: Sink, F: Files>(
+    alloc: Global,
+    options: Options,
+    lines: &[Asked<'_>],
+    out: &mut W,
+    err: &mut E,
+    files: &mut F,
+) -> Exit
+    requires { All (λ asked. All HasPath asked.targets.items) lines.now }
+    ensures unread { names_input (map asked_in lines.now) ≡ true → (out.new ≡ out.old) × (files.new ≡ files.old) }
+    ensures status { result.cut ≢ Cut.Whole → result.status ≡ 2 }
+    ensures ended { (reads : ℕ) → IsEndedBy result.cut reads reads (W.faults out.old) (W.faults out.new) (F.faults files.old) (F.faults files.new) }
+    ensures honest { F.honest files.new ≡ F.honest files.old }
+{
+    if names_input(lines) {
+        tell_no_journal(err);
+        return UNUSED;
+    }
+    let mut run = begun(alloc);
+    let cut = keep_lines(alloc, options.keep_going, lines, &mut run, files, err);
+    finish_kept(options, run, cut, out, err)
+}
+
+// Does what lines ask for, on files alone or with their journals.
+fn perform_lines<R: Source, W: Sink, E: Sink, F: Files>(
+    alloc: Global,
+    options: Options,
+    lines: &[Asked<'_>],
+    input: &mut R,
+    out: &mut W,
+    err: &mut E,
+    files: &mut F,
+) -> Exit
+    requires { All (λ asked. All HasPath asked.targets.items) lines.now }
+    ensures whole { options.journal ≡ false → (F.honest files.old ≡ true) ⊎ AreOfInput (map asked_in lines.now) → result.cut ≡ Cut.Whole → (left : Left)
+        × Performs options (all_steps (map asked_in lines.now)) (record { folder = F.folder files.old; known = R.remaining input.old }) left
+        × Stands left result.status (F.folder files.new) (W.contents out.old) (W.contents out.new) (E.faults err.old) (E.faults err.new) (E.contents err.old) (E.contents err.new) }
+    ensures write { options.journal ≡ false → (F.honest files.old ≡ true) ⊎ AreOfInput (map asked_in lines.now) → result.cut ≡ Cut.Write → (left : Left)
+        × Performs options (all_steps (map asked_in lines.now)) (record { folder = F.folder files.old; known = R.remaining input.old }) left
+        × AppendsSome (W.contents out.old) (W.contents out.new) left.output }
+    ensures unread { options.journal ≡ true → names_input (map asked_in lines.now) ≡ true → (input.new ≡ input.old) × (out.new ≡ out.old) × (files.new ≡ files.old) }
+    ensures status { result.cut ≢ Cut.Whole → result.status ≡ 2 }
+    ensures ended { IsEndedBy result.cut (R.faults input.old) (R.faults input.new) (W.faults out.old) (W.faults out.new) (F.faults files.old) (F.faults files.new) }
+    ensures honest { F.honest files.new ≡ F.honest files.old }
+{
+    if options.journal {
+        return perform_kept(alloc, options, lines, out, err, files);
+    }
+    perform(alloc, options, lines, input, out, err, files)
+}
+
 // Operands among the words.
 fn run_operands<R: Source, W: Sink, E: Sink, F: Files>(
     alloc: Global,
@@ -121,19 +175,19 @@ fn run_operands<R: Source, W: Sink, E: Sink, F: Files>(
     err: &mut E,
     files: &mut F,
 ) -> Exit
-    ensures whole { (F.honest files.old ≡ true) ⊎ IfOk (group_of (map (λ s. s.now) operands.now)) (λ asked. AreOfInput (asked ∷ [])) → result.cut ≡ Cut.Whole → (left : Left)
+    ensures whole { options.journal ≡ false → (F.honest files.old ≡ true) ⊎ IfOk (group_of (map (λ s. s.now) operands.now)) (λ asked. AreOfInput (asked ∷ [])) → result.cut ≡ Cut.Whole → (left : Left)
         × OperandsOutcome options (map (λ s. s.now) operands.now) (record { folder = F.folder files.old; known = R.remaining input.old }) left
         × Stands left result.status (F.folder files.new) (W.contents out.old) (W.contents out.new) (E.faults err.old) (E.faults err.new) (E.contents err.old) (E.contents err.new) }
-    ensures write { (F.honest files.old ≡ true) ⊎ IfOk (group_of (map (λ s. s.now) operands.now)) (λ asked. AreOfInput (asked ∷ [])) → result.cut ≡ Cut.Write → (left : Left)
+    ensures write { options.journal ≡ false → (F.honest files.old ≡ true) ⊎ IfOk (group_of (map (λ s. s.now) operands.now)) (λ asked. AreOfInput (asked ∷ [])) → result.cut ≡ Cut.Write → (left : Left)
         × OperandsOutcome options (map (λ s. s.now) operands.now) (record { folder = F.folder files.old; known = R.remaining input.old }) left
         × AppendsSome (W.contents out.old) (W.contents out.new) left.output }
-    ensures unread { IsErr (group_of (map (λ s. s.now) operands.now)) → (input.new ≡ input.old) × (out.new ≡ out.old) × (files.new ≡ files.old) }
+    ensures unread { GivesNothing options (words_given (map (λ s. s.now) operands.now)) → (input.new ≡ input.old) × (out.new ≡ out.old) × (files.new ≡ files.old) }
     ensures status { result.cut ≢ Cut.Whole → result.status ≡ 2 }
     ensures ended { IsEndedBy result.cut (R.faults input.old) (R.faults input.new) (W.faults out.old) (W.faults out.new) (F.faults files.old) (F.faults files.new) }
     ensures honest { F.honest files.new ≡ F.honest files.old }
 {
     match read_group(alloc, operands) {
-        Ok(asked) => perform(alloc, options, from_ref(&asked), input, out, err, files),
+        Ok(asked) => perform_lines(alloc, options, from_ref(&asked), input, out, err, files),
         Err(fault) => unasked(err, "", &fault),
     }
 }
@@ -150,11 +204,11 @@ fn run_lines_of<R: Source, W: Sink, E: Sink, F: Files>(
     files: &mut F,
 ) -> Exit
     requires { All (λ asked. All HasPath asked.targets.items) lines.now }
-    ensures whole { F.honest files.old ≡ true → result.cut ≡ Cut.Whole → (known : Option (List ℕ)) → (of_input ≡ false → known ≡ R.remaining input.old)
+    ensures whole { options.journal ≡ false → F.honest files.old ≡ true → result.cut ≡ Cut.Whole → (known : Option (List ℕ)) → (of_input ≡ false → known ≡ R.remaining input.old)
         → (left : Left)
         × LinesOutcome options of_input (map asked_in lines.now) (record { folder = F.folder files.old; known = known }) left
         × Stands left result.status (F.folder files.new) (W.contents out.old) (W.contents out.new) (E.faults err.old) (E.faults err.new) (E.contents err.old) (E.contents err.new) }
-    ensures write { F.honest files.old ≡ true → result.cut ≡ Cut.Write → (known : Option (List ℕ)) → (of_input ≡ false → known ≡ R.remaining input.old)
+    ensures write { options.journal ≡ false → F.honest files.old ≡ true → result.cut ≡ Cut.Write → (known : Option (List ℕ)) → (of_input ≡ false → known ≡ R.remaining input.old)
         → (left : Left)
         × LinesOutcome options of_input (map asked_in lines.now) (record { folder = F.folder files.old; known = known }) left
         × AppendsSome (W.contents out.old) (W.contents out.new) left.output }
@@ -166,7 +220,7 @@ fn run_lines_of<R: Source, W: Sink, E: Sink, F: Files>(
         tell_input(err);
         return UNUSED;
     }
-    perform(alloc, options, lines, input, out, err, files)
+    perform_lines(alloc, options, lines, input, out, err, files)
 }
 
 // What a text of lines by this name asks for.
@@ -180,10 +234,10 @@ fn run_text<R: Source, W: Sink, E: Sink, F: Files>(
     err: &mut E,
     files: &mut F,
 ) -> Exit
-    ensures whole { F.honest files.old ≡ true → result.cut ≡ Cut.Whole → (known : Option (List ℕ)) → (name.now ≢ input_package → known ≡ R.remaining input.old)
+    ensures whole { options.journal ≡ false → F.honest files.old ≡ true → result.cut ≡ Cut.Whole → (known : Option (List ℕ)) → (name.now ≢ input_package → known ≡ R.remaining input.old)
         → (left : Left) × TextOutcome options name.now (Some bytes.now) (record { folder = F.folder files.old; known = known }) left
         × Stands left result.status (F.folder files.new) (W.contents out.old) (W.contents out.new) (E.faults err.old) (E.faults err.new) (E.contents err.old) (E.contents err.new) }
-    ensures write { F.honest files.old ≡ true → result.cut ≡ Cut.Write → (known : Option (List ℕ)) → (name.now ≢ input_package → known ≡ R.remaining input.old)
+    ensures write { options.journal ≡ false → F.honest files.old ≡ true → result.cut ≡ Cut.Write → (known : Option (List ℕ)) → (name.now ≢ input_package → known ≡ R.remaining input.old)
         → (left : Left) × TextOutcome options name.now (Some bytes.now) (record { folder = F.folder files.old; known = known }) left
         × AppendsSome (W.contents out.old) (W.contents out.new) left.output }
     ensures status { result.cut ≢ Cut.Whole → result.status ≡ 2 }
@@ -223,10 +277,10 @@ fn run_script<R: Source, W: Sink, E: Sink, F: Files>(
     err: &mut E,
     files: &mut F,
 ) -> Exit
-    ensures whole { F.honest files.old ≡ true → result.cut ≡ Cut.Whole → (left : Left)
+    ensures whole { options.journal ≡ false → F.honest files.old ≡ true → result.cut ≡ Cut.Whole → (left : Left)
         × ScriptOutcome options name.now (record { folder = F.folder files.old; known = R.remaining input.old }) left
         × Stands left result.status (F.folder files.new) (W.contents out.old) (W.contents out.new) (E.faults err.old) (E.faults err.new) (E.contents err.old) (E.contents err.new) }
-    ensures write { F.honest files.old ≡ true → result.cut ≡ Cut.Write → (left : Left)
+    ensures write { options.journal ≡ false → F.honest files.old ≡ true → result.cut ≡ Cut.Write → (left : Left)
         × ScriptOutcome options name.now (record { folder = F.folder files.old; known = R.remaining input.old }) left
         × AppendsSome (W.contents out.old) (W.contents out.new) left.output }
     ensures status { result.cut ≢ Cut.Whole → (result.status ≡ 2) ⊎ (result.status ≡ 1) }
@@ -244,7 +298,8 @@ fn run_script<R: Source, W: Sink, E: Sink, F: Files>(
 /// all steps. A package's file is read where it is used first. Behind the last step `out` is given what commands printed,
 /// then the text of standard input, unless each command on it prints, and with `--stdout` the text of each file that
 /// changed; without it those files are written, each where it still holds what was read of it, and told by a line on `err`
-/// unless `--quiet` was given. Statuses: 1 where the words or lines ask for nothing, or the file of lines was not read
+/// unless `--quiet` was given. With `--journal` each action that changes a text replaces FILE.journal and then the file, and what is
+/// told at the end is which files were written. Statuses: 1 where the words or lines ask for nothing, or the file of lines was not read
 /// (nothing is then done); else 2 where a step or a port failed or memory was refused; else 0 where some text at the end is
 /// another one than was read; else 3. Each fault is told by a line on `err`, whose own faults are passed over.
 pub fn buildozer<S: AsStr, R: Source, W: Sink, E: Sink, F: Files>(
@@ -255,13 +310,14 @@ pub fn buildozer<S: AsStr, R: Source, W: Sink, E: Sink, F: Files>(
     err: &mut E,
     files: &mut F,
 ) -> Exit
-    // Where the files are honest, or none is named, a whole run leaves what the words, the bytes of standard input and the folder mean.
-    ensures whole { (F.honest files.old ≡ true) ⊎ NamesNoFile (map S.text words.now) → result.cut ≡ Cut.Whole → (left : Left)
+    // Without journals, where the files are honest, or none is named, a whole run leaves what the words, the bytes of standard input
+    // and the folder mean.
+    ensures whole { KeepsNoJournal (map S.text words.now) → (F.honest files.old ≡ true) ⊎ NamesNoFile (map S.text words.now) → result.cut ≡ Cut.Whole → (left : Left)
         × Outcome (map S.text words.now) (record { folder = F.folder files.old; known = R.remaining input.old }) left
         × Stands left result.status (F.folder files.new) (W.contents out.old) (W.contents out.new) (E.faults err.old) (E.faults err.new) (E.contents err.old) (E.contents err.new) }
 
     // Where standard output fails, a beginning of what it is to be given stands there.
-    ensures write { (F.honest files.old ≡ true) ⊎ NamesNoFile (map S.text words.now) → result.cut ≡ Cut.Write → (left : Left)
+    ensures write { KeepsNoJournal (map S.text words.now) → (F.honest files.old ≡ true) ⊎ NamesNoFile (map S.text words.now) → result.cut ≡ Cut.Write → (left : Left)
         × Outcome (map S.text words.now) (record { folder = F.folder files.old; known = R.remaining input.old }) left
         × AppendsSome (W.contents out.old) (W.contents out.new) left.output }
 

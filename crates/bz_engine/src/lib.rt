@@ -5,6 +5,7 @@
 mod acting;
 mod ending;
 mod engine;
+mod keeping;
 mod laws;
 mod opening;
 mod run;

@@ -84,5 +84,5 @@ pub(crate) fn open_package<R: Source, F: Files, E: Sink>(
     if wants_input(workspace, package) {
         return open_input(alloc, workspace, input, err);
     }
-    workspace.open(package, files, err)
+    workspace.open(package, false, files, err)
 }

@@ -33,14 +33,15 @@ fn copy_target(target: &Target) -> Result<Target, Memory>
     })
 }
 
-/// What the session of the target's file is asked to do. The error: memory was refused.
-pub(crate) fn action_of(verb: &Verb, target: &Target) -> Result<Action, Memory>
+/// What the session of the target's file is asked to do; to list its texts is no action. The error: memory was refused.
+pub(crate) fn action_of(verb: &Verb, target: &Target) -> Result<Option<Action>, Memory>
     ensures { IfOk result (λ action. action ≡ s.action_of target.now verb.now) }
 {
     match verb {
-        Verb::Do(command) => Ok(Action::Do(command.copy()?, copy_target(target)?)),
-        Verb::Undo(count) => Ok(Action::Undo(*count)),
-        Verb::Redo(count) => Ok(Action::Redo(*count)),
+        Verb::Do(command) => Ok(Some(Action::Do(command.copy()?, copy_target(target)?))),
+        Verb::Undo(count) => Ok(Some(Action::Undo(*count))),
+        Verb::Redo(count) => Ok(Some(Action::Redo(*count))),
+        Verb::Journal => Ok(None),
     }
 }
 

@@ -2,7 +2,7 @@
 ghost use Rattle.std.specs.Prelude.{◌≡◌, ◌++◌, codes, List, ℕ, IfSome, IsSome, OnOk, OnErr};
 ghost use Rattle.bz_line.specs.Shown.{refused_in, usage_in, line_usage_in};
 ghost use Rattle.bz_ports.specs.Faults.{AppendsUnlessFailed};
-ghost use Rattle.bz_engine.specs.Told.{numbered, refusal_line, operand_line, fixed_line, input_line, IsUsageLine, IsLineUsageLine};
+ghost use Rattle.bz_engine.specs.Told.{numbered, refusal_line, operand_line, fixed_line, input_line, no_journal_line, IsUsageLine, IsLineUsageLine};
 
 use bz_attribute::Refusal;
 use bz_line::{LineFault, Refused, UsageFault};
@@ -96,6 +96,13 @@ pub(crate) fn tell_input<E: Sink>(err: &mut E)
     );
 }
 
+/// Tells that rules of standard input are meant where journals are kept.
+pub(crate) fn tell_no_journal<E: Sink>(err: &mut E)
+    ensures { AppendsUnlessFailed (E.faults err.old) (E.faults err.new) (E.contents err.old) (E.contents err.new) no_journal_line }
+{
+    tell(err, &["buildozer: package - has no journal\n"]);
+}
+
 /// Tells why operands, or a file of lines of this name, ask for nothing. The error: memory was refused; nothing is told.
 pub(crate) fn tell_usage<E: Sink>(
     err: &mut E,
@@ -131,6 +138,7 @@ pub(crate) fn tell_line_usage<E: Sink>(
     match fault {
         LineFault::Clap(error) => return tell_clap(alloc, err, error),
         LineFault::BesideScript => tell(err, &["buildozer: operands beside -f\n"]),
+        LineFault::BesideStdout => tell(err, &["buildozer: --stdout beside --journal\n"]),
         LineFault::Memory => return Err(AllocError),
     }
     Ok(())

@@ -1,11 +1,14 @@
 -- How a package is opened, and what an action does in one.
-use Rattle.std.specs.Prelude.{◌≡◌, ◌⊎◌, ℕ, List, [], ◌∷◌, codes, Option, Some, None}
+use Rattle.std.specs.Prelude.{◌≡◌, ◌⊎◌, ℕ, List, [], ◌∷◌, codes, Option, Some, None, Result}
 use Rattle.bz_lex.specs.declared.fault.ReadFault.{ReadFault}
 use Rattle.bz_tree.specs.Legal.{Accepted}
 use Rattle.bz_value.specs.Gaps.{Bytes}
 use Rattle.bz_journal.specs.declared.action.Action.{Action}
+use Rattle.bz_journal.specs.declared.action.Reply.{Reply}
+use Rattle.bz_journal.specs.declared.keeping.KeepFault.{KeepFault}
 use Rattle.bz_journal.specs.Faults.{IsFaultOf}
 use Rattle.bz_journal.specs.History.{History, Answer, opened, Acts}
+use Rattle.bz_journal.specs.Keeping.{Keeps}
 use Rattle.bz_ports.specs.Told.{named_line, fault_line}
 use Rattle.bz_workspace.specs.Packages.{Opened, Used, file_at, with_file}
 use Rattle.bz_workspace.specs.Found.{Found, second_name}
@@ -25,10 +28,18 @@ abbrev pub Opens : Bytes → Option Found → Option Opened → List Bytes → T
 Opens current (Some found) file lines = Takes current found.0 found.1 file lines
 Opens current None file lines = (file ≡ None) × (lines ≡ named_line (second_name current) (codes "cannot open") ∷ [])
 
--- An action is done in the open file of the package with this number.
-pub record ActsAt (place : ℕ) (action : Action) (before : List Used) (answer : Answer) (after : List Used) : Type 0 where
+-- An action with a note is done in the open file of the package with this number.
+pub record ActsAt (place : ℕ) (action : Action) (note : Bytes) (before : List Used) (answer : Answer) (after : List Used) : Type 0 where
   pub file : Opened
   pub history : History
   pub there : file_at place before ≡ Some file
-  pub acts : Acts action file.history answer history
+  pub acts : Acts action note file.history answer history
+  pub kept : after ≡ with_file place (Some (record file { history = history })) before
+
+-- The same, and its journal and it are kept, or not.
+pub record KeepsAt (place : ℕ) (action : Action) (note : Bytes) (before : List Used) (answer : Result Reply KeepFault) (after : List Used) : Type 0 where
+  pub file : Opened
+  pub history : History
+  pub there : file_at place before ≡ Some file
+  pub keeps : Keeps action note file.history answer history
   pub kept : after ≡ with_file place (Some (record file { history = history })) before

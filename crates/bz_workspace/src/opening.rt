@@ -12,7 +12,7 @@ ghost use Rattle.bz_workspace.specs.Shown.{opened_in};
 use crate::Opened;
 use bz_files::{FileFault, Files};
 use bz_items::{Memory, Text};
-use bz_journal::Session;
+use bz_journal::{ResumeFault, Session};
 use bz_lex::ReadFault;
 use bz_ports::{Cut, Sink, tell, tell_named};
 use std::alloc::Global;
@@ -84,12 +84,35 @@ pub(crate) fn opened(
         Err(fault) => return Err(fault),
     };
     match String::from_str(alloc, name) {
-        Ok(name) => Ok(Opened {
-            name,
-            read: Text::from_vec(text),
-            session,
-        }),
+        Ok(name) => Ok(Opened::new(name, Text::from_vec(text), session)),
         Err(_) => Err(ReadFault::Memory),
+    }
+}
+
+/// The open file of a text that was read, with what its journal says. Errors: those of resuming the journal; `Damaged` also where it
+/// is the journal of another package's file; `Memory` where a growth was refused.
+pub(crate) fn resumed(
+    alloc: Global,
+    package: &str,
+    name: &str,
+    journal: &[u8],
+    text: Vec<u8>,
+) -> Result<Opened, ResumeFault> {
+    let session = Session::resume(alloc, journal, text.as_slice())?;
+    if session.package.as_str() != package {
+        return Err(ResumeFault::Damaged);
+    }
+    let name = String::from_str(alloc, name)?;
+    Ok(Opened::new(name, Text::from_vec(text), session))
+}
+
+/// The name and the number of why a journal is refused, as they are told after its name.
+pub(crate) fn told_fault(fault: &ResumeFault) -> &'static str {
+    match fault {
+        ResumeFault::Memory => "Memory (8)",
+        ResumeFault::Damaged => "Damaged (71)",
+        ResumeFault::Version => "Version (72)",
+        ResumeFault::Stale => "Stale (73)",
     }
 }
 

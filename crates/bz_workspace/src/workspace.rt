@@ -1,5 +1,5 @@
 //! The packages of a run, each found by its path in one step.
-ghost use Rattle.std.specs.Prelude.{◌≡◌, ◌⊎◌, ◌≤◌, ◌<◌, ℕ, [], ◌∷◌, ◌++◌, List, Option, map, length, take, true, Some, None, IsSome, IfSome, OnOk, OnErr, IfOk};
+ghost use Rattle.std.specs.Prelude.{◌≡◌, ◌⊎◌, ◌≤◌, ◌<◌, ℕ, [], ◌∷◌, ◌++◌, List, Option, map, length, take, true, false, Some, None, IsSome, IfSome, OnOk, OnErr, IfOk};
 ghost use Rattle.std.specs.Option.{option_map};
 ghost use Rattle.std.specs.FinMap.{get};
 ghost use Rattle.bz_value.specs.Gaps.{Bytes};
@@ -7,18 +7,22 @@ ghost use Rattle.bz_ports.specs.Faults.{Rises};
 ghost use Rattle.bz_ports.specs.Outputs.{Counts, Tells};
 ghost use Rattle.bz_workspace.specs.Found.{found_in, found_at, second_name};
 ghost use Rattle.bz_workspace.specs.Kept.{texts_of_keys, packages_of};
-ghost use Rattle.bz_workspace.specs.Opens.{ActsAt, Opens, Takes};
+ghost use Rattle.bz_journal.specs.Keeping.{IsWriteOrOpen};
+ghost use Rattle.bz_workspace.specs.Opens.{ActsAt, KeepsAt, Opens, Takes};
 ghost use Rattle.bz_workspace.specs.Packages as p;
 ghost use Rattle.bz_workspace.specs.Packages.{file_at, place_of, with_file};
 ghost use Rattle.bz_workspace.specs.Shown.{used_in};
 
-use crate::opening::{bytes_of, fail, is_memory, name_in, opened, unnamed, without_file};
-use crate::used::{act_at, place_of_open, put_file};
+use crate::opening::{
+    bytes_of, fail, is_memory, name_in, opened, resumed, told_fault, unnamed, without_file,
+};
+use crate::used::{act_at, keep_at, place_of_open, put_file};
 use crate::{Opening, Used};
 use bz_attribute::Refusal;
 use bz_files::{FileFault, Files};
 use bz_items::{Memory, Text, at};
-use bz_journal::{Action, Reply};
+use bz_journal::{Action, KeepFault, Reply, ResumeFault};
+use bz_keep::journal_name;
 use bz_ports::{Cut, Sink, tell_fault, tell_named};
 use indexmap::IndexSet;
 use std::alloc::Global;
@@ -158,18 +162,116 @@ impl Workspace {
         without_file(Cut::Whole)
     }
 
+    /// Opens the file of a used package with what was read of it and of its journal, or tells `JOURNAL: NAME (NUMBER)`. It is cut
+    /// where memory was refused.
+    fn open_resumed<E: Sink>(
+        &mut self,
+        place: usize,
+        package: &str,
+        name: &str,
+        journal: (&str, Vec<u8>),
+        text: Vec<u8>,
+        err: &mut E,
+    ) -> Opening
+        requires { place < length self.old }
+        ensures there { IfSome result.place (λ at. IsSome (file_at at self.new)) }
+        ensures kept { take place self.new ≡ take place self.old }
+        ensures cut { (result.cut ≡ Cut.Whole) ⊎ (result.cut ≡ Cut.Memory) }
+    {
+        let alloc = *self.used.allocator();
+        let (journal, bytes) = journal;
+        match resumed(alloc, package, name, bytes.as_slice(), text) {
+            Ok(file) => {
+                put_file(&mut self.used, place, Some(file));
+                Opening {
+                    place: Some(place),
+                    cut: Cut::Whole,
+                }
+            }
+            Err(ResumeFault::Memory) => fail(err, journal, "Memory (8)", Cut::Memory),
+            Err(fault) => fail(err, journal, told_fault(&fault), Cut::Whole),
+        }
+    }
+
+    /// Opens the file of a used package with what was read of it: its journal is read, and resumed where it is there.
+    fn open_kept<F: Files, E: Sink>(
+        &mut self,
+        place: usize,
+        package: &str,
+        name: &str,
+        text: Vec<u8>,
+        files: &mut F,
+        err: &mut E,
+    ) -> Opening
+        requires short { length «package».now ≤ 65536 }
+        requires within { place < length self.old }
+        ensures there { IfSome result.place (λ at. IsSome (file_at at self.new)) }
+        ensures kept { take place self.new ≡ take place self.old }
+        ensures folder { F.honest files.old ≡ true → F.folder files.new ≡ F.folder files.old }
+        ensures cut { (result.cut ≡ Cut.Whole) ⊎ (result.cut ≡ Cut.Memory) ⊎ ((result.cut ≡ Cut.Files) × Rises (F.faults files.old) (F.faults files.new)) }
+        ensures steady { result.cut ≡ Cut.Whole → F.faults files.new ≡ F.faults files.old }
+        ensures counts { Counts (F.faults files.old) (F.faults files.new) }
+        ensures honest { F.honest files.new ≡ F.honest files.old }
+    {
+        let alloc = *self.used.allocator();
+        let Ok(journal) = journal_name(alloc, name) else {
+            return fail(err, name, "Memory", Cut::Memory);
+        };
+        let journal = journal.as_str();
+        match bytes_of(alloc, files, journal) {
+            Ok(bytes) => self.open_resumed(place, package, name, (journal, bytes), text, err),
+            Err(FileFault::Absent) => self.open_text(place, package, name, text, err),
+            Err(FileFault::Memory) => fail(err, journal, "Memory", Cut::Memory),
+            Err(_) => fail(err, journal, "cannot open", Cut::Files),
+        }
+    }
+
+    /// Opens the file of a used package with what was read of it, and resumes its journal where journals are kept.
+    fn open_found<F: Files, E: Sink>(
+        &mut self,
+        place: usize,
+        package: &str,
+        name: &str,
+        text: Vec<u8>,
+        journals: bool,
+        files: &mut F,
+        err: &mut E,
+    ) -> Opening
+        requires short { length «package».now ≤ 65536 }
+        requires within { place < length self.old }
+        ensures whole { journals ≡ false → result.cut ≡ Cut.Whole → (file : Option p.Opened) × (lines : List Bytes)
+            × Takes «package».now name.now text.items file lines
+            × (self.new ≡ with_file place file self.old)
+            × (result.place ≡ option_map (λ _. place) file)
+            × Tells (E.faults err.old) (E.faults err.new) (E.contents err.old) (E.contents err.new) lines }
+        ensures there { IfSome result.place (λ at. IsSome (file_at at self.new)) }
+        ensures kept { take place self.new ≡ take place self.old }
+        ensures folder { F.honest files.old ≡ true → F.folder files.new ≡ F.folder files.old }
+        ensures cut { (result.cut ≡ Cut.Whole) ⊎ (result.cut ≡ Cut.Memory) ⊎ ((result.cut ≡ Cut.Files) × Rises (F.faults files.old) (F.faults files.new)) }
+        ensures steady { result.cut ≡ Cut.Whole → F.faults files.new ≡ F.faults files.old }
+        ensures counts { Counts (F.faults files.old) (F.faults files.new) }
+        ensures honest { F.honest files.new ≡ F.honest files.old }
+    {
+        if journals {
+            self.open_kept(place, package, name, text, files, err)
+        } else {
+            self.open_text(place, package, name, text, err)
+        }
+    }
+
     /// Reads the second name of a package whose file isn't open.
     fn open_second<F: Files, E: Sink>(
         &mut self,
         place: usize,
         package: &str,
+        journals: bool,
         files: &mut F,
         err: &mut E,
     ) -> Opening
         requires short { length «package».now ≤ 65536 }
         requires within { place < length self.old }
         requires closed { file_at place self.old ≡ None }
-        ensures second { F.honest files.old ≡ true → result.cut ≡ Cut.Whole → (file : Option p.Opened) × (lines : List Bytes)
+        ensures second { journals ≡ false → F.honest files.old ≡ true → result.cut ≡ Cut.Whole → (file : Option p.Opened) × (lines : List Bytes)
             × Opens «package».now (found_at (second_name «package».now) (get (F.folder files.old) (second_name «package».now)) None) file lines
             × (self.new ≡ with_file place file self.old)
             × (result.place ≡ option_map (λ _. place) file)
@@ -188,7 +290,7 @@ impl Workspace {
         };
         let name = name.as_str();
         match bytes_of(alloc, files, name) {
-            Ok(text) => self.open_text(place, package, name, text, err),
+            Ok(text) => self.open_found(place, package, name, text, journals, files, err),
             Err(FileFault::Absent) => fail(err, name, "cannot open", Cut::Whole),
             Err(FileFault::Memory) => fail(err, name, "Memory", Cut::Memory),
             Err(_) => fail(err, name, "cannot open", Cut::Files),
@@ -200,13 +302,14 @@ impl Workspace {
         &mut self,
         place: usize,
         package: &str,
+        journals: bool,
         files: &mut F,
         err: &mut E,
     ) -> Opening
         requires short { length «package».now ≤ 65536 }
         requires within { place < length self.old }
         requires closed { file_at place self.old ≡ None }
-        ensures first { F.honest files.old ≡ true → result.cut ≡ Cut.Whole → (file : Option p.Opened) × (lines : List Bytes)
+        ensures first { journals ≡ false → F.honest files.old ≡ true → result.cut ≡ Cut.Whole → (file : Option p.Opened) × (lines : List Bytes)
             × Opens «package».now (found_in (F.folder files.old) «package».now) file lines
             × (self.new ≡ with_file place file self.old)
             × (result.place ≡ option_map (λ _. place) file)
@@ -225,12 +328,12 @@ impl Workspace {
         };
         let name = name.as_str();
         match bytes_of(alloc, files, name) {
-            Ok(text) => self.open_text(place, package, name, text, err),
-            Err(FileFault::Absent) => self.open_second(place, package, files, err),
+            Ok(text) => self.open_found(place, package, name, text, journals, files, err),
+            Err(FileFault::Absent) => self.open_second(place, package, journals, files, err),
             Err(FileFault::Memory) => fail(err, name, "Memory", Cut::Memory),
             Err(_) => {
                 tell_named(err, name, "cannot open");
-                let opening = self.open_second(place, package, files, err);
+                let opening = self.open_second(place, package, journals, files, err);
                 Opening {
                     place: opening.place,
                     cut: Cut::Files,
@@ -240,15 +343,23 @@ impl Workspace {
     }
 
     /// A package: one that was used is not read again; of a new one the file `BUILD.bazel` is read, else `BUILD`, and it is
-    /// a used one from then on, whatever comes. A fault is told by one line for each file: those of the text, `NAME: cannot
-    /// open` where neither is there or one could not be read, and `NAME: Memory` where memory was refused. Cuts: `Memory`
-    /// and `Files`, the first that came; the second file may be open behind a `Files` of the first.
-    pub fn open<F: Files, E: Sink>(&mut self, package: &str, files: &mut F, err: &mut E) -> Opening
+    /// a used one from then on, whatever comes. Where journals are kept, `FILE.journal` is read too, and resumed where it is
+    /// there. A fault is told by one line for each file: those of the text, `NAME: cannot
+    /// open` where neither is there or one could not be read, and `NAME: Memory` where memory was refused; of
+    /// a journal `NAME.journal: cannot open`, or `NAME.journal: FAULT (NUMBER)`. Cuts: `Memory` and `Files`, the first that
+    /// came; the second file may be open after a `Files` of the first.
+    pub fn open<F: Files, E: Sink>(
+        &mut self,
+        package: &str,
+        journals: bool,
+        files: &mut F,
+        err: &mut E,
+    ) -> Opening
         requires { length «package».now ≤ 65536 }
         ensures again { (place : ℕ) → place_of «package».now self.old ≡ Some place
             → (result ≡ record { place = option_map (λ _. place) (file_at place self.old); cut = Cut.Whole })
             × (self.new ≡ self.old) × (files.new ≡ files.old) × (err.new ≡ err.old) }
-        ensures first { F.honest files.old ≡ true → result.cut ≡ Cut.Whole → place_of «package».now self.old ≡ None
+        ensures first { journals ≡ false → F.honest files.old ≡ true → result.cut ≡ Cut.Whole → place_of «package».now self.old ≡ None
             → (file : Option p.Opened) × (lines : List Bytes)
             × Opens «package».now (found_in (F.folder files.old) «package».now) file lines
             × (self.new ≡ self.old ++ record { «package» = «package».now; file = file } ∷ [])
@@ -271,18 +382,37 @@ impl Workspace {
             };
         }
         match self.add(package.as_bytes()) {
-            Ok(place) => self.open_first(place, package, files, err),
+            Ok(place) => self.open_first(place, package, journals, files, err),
             Err(_) => unnamed(err, package),
         }
     }
 
-    /// Does an action in the open file of the package with this number. Errors: those of `Session::act`; the file is then
-    /// as before.
-    pub fn act(&mut self, place: usize, action: &Action) -> Result<Reply, Refusal>
+    /// Does an action with a note in the open file of the package with this number. Errors: those of `Session::act_noted`; the
+    /// file is then as before.
+    pub fn act(&mut self, place: usize, action: &Action, note: &str) -> Result<Reply, Refusal>
         requires { IsSome (file_at place self.old) }
-        ensures { ActsAt place action.now self.old result self.new }
+        ensures { ActsAt place action.now note.now self.old result self.new }
     {
-        act_at(&mut self.used, place, action)
+        act_at(&mut self.used, place, action, note)
+    }
+
+    /// The same, and where the text is another one then, the file's journal and it are replaced. Errors: those of
+    /// `Session::keep_noted`.
+    pub fn keep<F: Files>(
+        &mut self,
+        place: usize,
+        action: &Action,
+        note: &str,
+        files: &mut F,
+    ) -> Result<Reply, KeepFault>
+        requires { IsSome (file_at place self.old) }
+        ensures keeps { KeepsAt place action.now note.now self.old result self.new }
+        ensures cause { IsWriteOrOpen result → Rises (F.faults files.old) (F.faults files.new) }
+        ensures rest { (IsWriteOrOpen result → ⊥) → F.faults files.new ≡ F.faults files.old }
+        ensures count { F.faults files.old ≤ F.faults files.new }
+        ensures honest { F.honest files.new ≡ F.honest files.old }
+    {
+        keep_at(&mut self.used, place, action, note, files)
     }
 
     /// The packages that were used, in order of first use.

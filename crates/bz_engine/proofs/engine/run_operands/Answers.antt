@@ -1,4 +1,4 @@
-use Rattle.std.proofs.Common.{◌≡◌, ◌∷◌, [], List, ℕ, map, ap, sym, subst, arith, true≢false, Bor}
+use Rattle.std.proofs.Common.{◌≡◌, ◌∷◌, [], List, ℕ, inl, inr, map, ap, sym, subst, arith, true≢false, Bor}
 use Rattle.std.specs.Prelude.{IsErr}
 use Rattle.std.specs.List.{All}
 use Rattle.std.proofs.lemmas.List.Elements.{All-push}
@@ -6,37 +6,37 @@ use Rattle.bz_line.specs.Paths.{HasPath}
 use Rattle.bz_line.specs.Shown.{asked_in, usage_in}
 use Rattle.bz_line.specs.declared.asked.Asked.{Asked}
 use Rattle.bz_engine.specs.Run.{World}
-use Rattle.bz_engine.proofs.Outcomes.{operands_refused, operands_done, operands_premise}
+use Rattle.bz_engine.proofs.Outcomes.{names_given, operands_refused, operands_done, operands_premise}
 use Rattle.bz_engine.proofs.engine.run_operands.Goals as goal
 
-pub perform-requires : goal.perform-requires
-perform-requires g c =
+pub perform_lines-requires : goal.perform_lines-requires
+perform_lines-requires g c =
     let paths : All (λ (asked : Asked). All HasPath asked.targets.items) (c.in-Ok.asked ∷ []) =
     All-push (λ (asked : Asked). All HasPath asked.targets.items) [] c.in-Ok.asked (λ k d less. absurd (omega arith)) c.in-Ok.ensures.paths in
     subst (λ (lines : List Asked). All (λ (asked : Asked). All HasPath asked.targets.items) lines) (sym c.from_ref.ensures.value) paths
 
 pub returns-in-Ok-clause-whole : goal.returns-in-Ok-clause-whole
-returns-in-Ok-clause-whole g c premise is_whole =
+returns-in-Ok-clause-whole g c plain premise is_whole =
     let texts = map (λ (s : Bor (List ℕ)). s.now) c.args.operands.now in
     let asked = asked_in c.in-Ok.asked in
     let lines = map asked_in c.from_ref.result.now in
     let same : lines ≡ asked ∷ [] = ap (map asked_in) c.from_ref.ensures.value in
     let world : World = record { folder = g.F.Files.folder c.args.files.now; known = g.R.Source.remaining c.args.input.now } in
-    let done = c.perform.ensures.whole (operands_premise (g.F.Files.honest c.args.files.now) texts asked lines c.in-Ok.ensures.ok same premise) is_whole in
+    let done = c.perform_lines.ensures.whole plain (operands_premise (g.F.Files.honest c.args.files.now) texts asked lines c.in-Ok.ensures.ok same premise) is_whole in
     (done.0, operands_done c.args.options texts world asked lines done.0 c.in-Ok.ensures.ok same done.1, done.2)
 
 pub returns-in-Ok-clause-write : goal.returns-in-Ok-clause-write
-returns-in-Ok-clause-write g c premise is_write =
+returns-in-Ok-clause-write g c plain premise is_write =
     let texts = map (λ (s : Bor (List ℕ)). s.now) c.args.operands.now in
     let asked = asked_in c.in-Ok.asked in
     let lines = map asked_in c.from_ref.result.now in
     let same : lines ≡ asked ∷ [] = ap (map asked_in) c.from_ref.ensures.value in
     let world : World = record { folder = g.F.Files.folder c.args.files.now; known = g.R.Source.remaining c.args.input.now } in
-    let done = c.perform.ensures.write (operands_premise (g.F.Files.honest c.args.files.now) texts asked lines c.in-Ok.ensures.ok same premise) is_write in
+    let done = c.perform_lines.ensures.write plain (operands_premise (g.F.Files.honest c.args.files.now) texts asked lines c.in-Ok.ensures.ok same premise) is_write in
     (done.0, operands_done c.args.options texts world asked lines done.0 c.in-Ok.ensures.ok same done.1, done.2)
 
 pub returns-in-Err-clause-whole : goal.returns-in-Err-clause-whole
-returns-in-Err-clause-whole g c premise is_whole =
+returns-in-Err-clause-whole g c plain premise is_whole =
     let told = c.unasked.ensures.whole is_whole in
     let world : World = record { folder = g.F.Files.folder c.args.files.now; known = g.R.Source.remaining c.args.input.now } in
     operands_refused c.args.options (map (λ (s : Bor (List ℕ)). s.now) c.args.operands.now) world (usage_in c.in-Err.fault) told.1 told.2 c.unasked.result.status
@@ -44,4 +44,10 @@ returns-in-Err-clause-whole g c premise is_whole =
     (g.E.Sink.contents c.unasked.new.err) c.in-Err.ensures.err told.3 told.4 told.0 told.5
 
 pub returns-in-Ok-clause-unread : goal.returns-in-Ok-clause-unread
-returns-in-Ok-clause-unread g c nothing = absurd (true≢false (sym (subst IsErr c.in-Ok.ensures.ok nothing)))
+returns-in-Ok-clause-unread g c nothing = elim nothing [
+  | inl refused ↦ absurd (true≢false (sym (subst IsErr c.in-Ok.ensures.ok refused)))
+  | inr named ↦
+      let lines = map asked_in c.from_ref.result.now in
+      let same : lines ≡ asked_in c.in-Ok.asked ∷ [] = ap (map asked_in) c.from_ref.ensures.value in
+      c.perform_lines.ensures.unread named.0 (names_given (map (λ (s : Bor (List ℕ)). s.now) c.args.operands.now) (asked_in c.in-Ok.asked) lines c.in-Ok.ensures.ok same named.1)
+]

@@ -4,7 +4,7 @@ use Rattle.bz_engine.proofs.Outcomes.{stands_from, script_unread, script_done}
 use Rattle.bz_engine.proofs.engine.run_script.Goals as goal
 
 pub returns-in-Err-clause-whole : goal.returns-in-Err-clause-whole
-returns-in-Err-clause-whole g c honest is_whole =
+returns-in-Err-clause-whole g c plain honest is_whole =
     let told = c.in-Err.ensures.err.0 is_whole in
     let world : World = record { folder = g.F.Files.folder c.args.files.now; known = g.R.Source.remaining c.args.input.now } in
     script_unread c.args.options c.args.name.now world (g.F.Files.folder c.read_bytes.new.files) c.in-Err.exit.status (g.W.Sink.contents c.args.out.now)
@@ -12,11 +12,11 @@ returns-in-Err-clause-whole g c honest is_whole =
     (c.read_bytes.ensures.folder honest) (told.1 honest) told.0 told.2
 
 pub returns-clause-whole : goal.returns-clause-whole
-returns-clause-whole g c honest is_whole =
+returns-clause-whole g c plain honest is_whole =
     let ok = c.in-Ok.ensures.ok in
     let known = g.R.Source.remaining c.args.input.now in
     let still = c.read_bytes.ensures.folder honest in
-    let done = c.run_text.ensures.whole (c.read_bytes.ensures.honest ∙ honest) is_whole known (λ differs. ap g.R.Source.remaining (sym (ok.4 differs))) in
+    let done = c.run_text.ensures.whole plain (c.read_bytes.ensures.honest ∙ honest) is_whole known (λ differs. ap g.R.Source.remaining (sym (ok.4 differs))) in
     let outcome = script_done c.args.options c.args.name.now c.in-Ok.bytes.items c.deref.result.now (g.F.Files.folder c.args.files.now)
     (g.F.Files.folder c.read_bytes.new.files) known done.0 c.deref.ensures.value still (ok.0 honest) done.1 in (
       done.0,
@@ -28,11 +28,11 @@ returns-clause-whole g c honest is_whole =
     )
 
 pub returns-clause-write : goal.returns-clause-write
-returns-clause-write g c honest is_write =
+returns-clause-write g c plain honest is_write =
     let ok = c.in-Ok.ensures.ok in
     let known = g.R.Source.remaining c.args.input.now in
     let still = c.read_bytes.ensures.folder honest in
-    let done = c.run_text.ensures.write (c.read_bytes.ensures.honest ∙ honest) is_write known (λ differs. ap g.R.Source.remaining (sym (ok.4 differs))) in
+    let done = c.run_text.ensures.write plain (c.read_bytes.ensures.honest ∙ honest) is_write known (λ differs. ap g.R.Source.remaining (sym (ok.4 differs))) in
     let outcome = script_done c.args.options c.args.name.now c.in-Ok.bytes.items c.deref.result.now (g.F.Files.folder c.args.files.now)
     (g.F.Files.folder c.read_bytes.new.files) known done.0 c.deref.ensures.value still (ok.0 honest) done.1 in
     (done.0, outcome, done.2)

@@ -35,7 +35,7 @@ returns-clause-uses g c = λ can whole known left.
           c.wants_input.ensures.other c.if-wants_input.false is (sym (ap (λ (n : Bytes). place_of n old) is) ∙ none) in
           elim can [
             | inl honest ↦
-                let done = c.open.ensures.first honest whole none in (
+                let done = c.open.ensures.first refl honest whole none in (
                   length old,
                   done.1,
                   uses_found (record { folder = g.F.Files.folder c.args.files.now; known = known }) name old new done.0 done.1 other none done.2 done.3,

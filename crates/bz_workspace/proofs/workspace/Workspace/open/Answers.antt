@@ -10,8 +10,8 @@ open_first-requires-clause-closed g c =
     closed_last c.in-Ok.place c.args.self.now c.add.new.self (record { «package» = c.as_bytes-2.result.now; file = None }) c.in-Ok.ensures.place c.in-Ok.ensures.ok refl
 
 pub returns-in-Ok-clause-first : goal.returns-in-Ok-clause-first
-returns-in-Ok-clause-first g c = λ honest cut none.
-    let done = c.open_first.ensures.first honest cut in
+returns-in-Ok-clause-first g c = λ plain honest cut none.
+    let done = c.open_first.ensures.first plain honest cut in
     let old = c.args.self.now in
     let added : c.add.new.self ≡ old ++ record { «package» = c.args.package.now; file = None } ∷ [] =
     c.in-Ok.ensures.ok ∙ ap (λ (text : Bytes). old ++ record { «package» = text; file = None } ∷ []) c.as_bytes-2.ensures.value in (

@@ -1,13 +1,13 @@
-use Rattle.std.proofs.Common.{inl, inr, take, ◌∙◌, ap, sym, refl, Err, None, [], ◌∷◌, codes}
+use Rattle.std.proofs.Common.{◌∙◌, ap, sym, refl, Err, None, [], ◌∷◌, codes}
 use Rattle.bz_ports.specs.Told.{named_line}
 use Rattle.bz_workspace.specs.declared.opening.Opening.{Opening}
-use Rattle.bz_workspace.proofs.FileSteps.{before_stay, none_stays}
+use Rattle.bz_workspace.proofs.FileSteps.{none_stays}
 use Rattle.bz_workspace.proofs.FoundSteps.{second_opens, neither_opens}
 use Rattle.bz_workspace.proofs.workspace.Workspace.open_second.Goals as goal
 
 pub returns-in-Ok-bytes_of-clause-second : goal.returns-in-Ok-bytes_of-clause-second
-returns-in-Ok-bytes_of-clause-second g c = λ honest cut.
-    let done = c.open_text.ensures.whole cut in (
+returns-in-Ok-bytes_of-clause-second g c = λ plain honest cut.
+    let done = c.open_found.ensures.whole plain cut in (
       done.0,
       done.1,
       second_opens c.args.package.now c.as_str-name.result.now c.in-Ok-bytes_of.text.items (g.F.Files.folder c.args.files.now) done.0 done.1
@@ -18,7 +18,7 @@ returns-in-Ok-bytes_of-clause-second g c = λ honest cut.
     )
 
 pub returns-in-Err-Absent-clause-second : goal.returns-in-Err-Absent-clause-second
-returns-in-Err-Absent-clause-second g c = λ honest cut.
+returns-in-Err-Absent-clause-second g c = λ plain honest cut.
     let name = c.as_str-name.result.now in (
       None,
       named_line name (codes "cannot open") ∷ [],
@@ -28,10 +28,3 @@ returns-in-Err-Absent-clause-second g c = λ honest cut.
       ap (λ (o : Opening). o.place) c.fail.ensures.opening,
       (g.E.Sink.faults c.fail.new.err, g.E.Sink.contents c.fail.new.err, c.fail.ensures.told, (refl, refl)),
     )
-
-pub returns-in-Ok-bytes_of-clause-kept : goal.returns-in-Ok-bytes_of-clause-kept
-returns-in-Ok-bytes_of-clause-kept g c = elim c.open_text.ensures.cut [
-  | inl whole ↦
-      let done = c.open_text.ensures.whole whole in before_stay c.args.place done.0 c.args.self.now c.open_text.new.self done.3
-  | inr memory ↦ ap (take c.args.place) memory.2
-]

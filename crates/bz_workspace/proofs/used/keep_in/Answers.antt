@@ -1,0 +1,10 @@
+use Rattle.std.proofs.Common.{◌∙◌, ap, Some}
+use Rattle.std.specs.Option.{option_map}
+use Rattle.bz_workspace.specs.Shown.{opened_in, used_in}
+use Rattle.bz_workspace.specs.Packages as p
+use Rattle.bz_workspace.proofs.used.keep_in.Goals as goal
+
+pub returns-in-Some-clause-keeps : goal.returns-in-Some-clause-keeps
+returns-in-Some-clause-keeps g c =
+    let done = c.keep.ensures.keeps in
+    (opened_in c.in-Some.opened, done.0, ap (option_map opened_in) c.in-Some.is, done.1, ap (λ (f : p.Opened). record (used_in c.args.used.now) { file = Some f }) done.2)
