@@ -109,6 +109,7 @@ fn call_histories() {
     bz_trail::laws::steps_lead();
     bz_trail::laws::small_steps();
     bz_journal::worked_histories();
+    bz_journal::alike_goes_on();
     bz_journal::formatted_once();
 }
 

@@ -51,6 +51,7 @@
 
 mod commands;
 mod copies;
+mod journals;
 mod labels;
 mod laws;
 mod lists;

@@ -4,7 +4,7 @@ use crate::labels::LabelQuery;
 use crate::tokens::TokenQuery;
 use crate::trees::TreeQuery;
 use crate::values::ValueQuery;
-use crate::{copies, laws, lists, sessions};
+use crate::{copies, journals, laws, lists, sessions};
 use sheets::{Case, CaseFault, Page, Question};
 
 /// What is asked of a case, by the layer that answers.
@@ -25,6 +25,7 @@ pub(crate) enum SingleQuery {
     Copies,
     Session,
     Weights,
+    Journal,
     Laws,
 }
 
@@ -35,6 +36,7 @@ impl SingleQuery {
             "copies" => Some(SingleQuery::Copies),
             "session" => Some(SingleQuery::Session),
             "weights" => Some(SingleQuery::Weights),
+            "journal" => Some(SingleQuery::Journal),
             "laws" => Some(SingleQuery::Laws),
             _ => None,
         }
@@ -46,6 +48,7 @@ impl SingleQuery {
             SingleQuery::Copies => copies::answer(case, page),
             SingleQuery::Session => sessions::answer(case, page),
             SingleQuery::Weights => sessions::answer_weights(case, page),
+            SingleQuery::Journal => journals::answer(case, page),
             SingleQuery::Laws => laws::answer(case, page),
         }
     }

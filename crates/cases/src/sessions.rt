@@ -62,14 +62,18 @@ pub(crate) fn answer_weights(case: &Case, page: &mut Page) -> Result<(), CaseFau
 }
 
 /// `Session::open`, of which nothing has to be known here.
-fn opened(alloc: Global, current: &str, text: &[u8]) -> Result<Result<Session, ReadFault>, Memory>
+pub(crate) fn opened(
+    alloc: Global,
+    current: &str,
+    text: &[u8],
+) -> Result<Result<Session, ReadFault>, Memory>
     requires { length current.now ≤ 65536 }
 {
     apart(Session::open(alloc, current, text))
 }
 
 /// The action that a line names: a command and behind it, as the last word, its target.
-fn action_of(alloc: Global, line: &str) -> Result<Action, CaseFault> {
+pub(crate) fn action_of(alloc: Global, line: &str) -> Result<Action, CaseFault> {
     if line == "format" {
         return Ok(Action::Format);
     }
@@ -119,7 +123,7 @@ fn replies_of(
     Ok(replies)
 }
 
-fn show_reply(
+pub(crate) fn show_reply(
     alloc: Global,
     reply: &Result<Reply, Refusal>,
     page: &mut Page,
