@@ -4,9 +4,9 @@
 # make dist   packs the same and README.md into an archive in dist/, with its SHA-256 sum beside it
 # make edits  tries the further edits that the prover must refuse, those of edits/; with CRATE=.. those of one crate
 # make test   the tests: runs of the programs (tests/), every proof from nothing, the edits that the prover must refuse, each program and each test
-# make bench  the time and the memory of a delete in a large file, of many commands in one run, of a run over many packages, and of reading a file; with FOLDER=.. of the BUILD files there
+# make bench  the time and the memory of a delete in a large file, of many commands in one run, also where it keeps a journal, of a run over many packages, and of reading a file; with FOLDER=.. of the BUILD files there
 # make shapes how much longer reading takes for twice the text, for texts of thirty shapes (5 minutes)
-# make hostile    torn, deep and made texts, each request for memory refused, each call of the system failing, and devices that fail: all of it
+# make hostile    torn, deep and made texts, torn and forged journals, runs that are killed, each request for memory refused, each call of the system failing, and devices that fail: all of it
 # make fuzz       both programs over mutants for MINUTES=10 of the clock; with SEED=.. the case of that number alone
 # make corpus FOLDER=..   reads each BUILD file below the folder, spells it back byte for byte, and formats it twice
 
@@ -79,6 +79,7 @@ edits: rt
 bench: $(PROGRAMS) bin/cases
 	@bench/delete.sh
 	@bench/commands.py
+	@bench/journals.py
 	@bench/packages.py
 	@bench/reading.sh $(if $(FOLDER),"$(FOLDER)")
 
@@ -87,6 +88,8 @@ shapes: bin/cases
 
 hostile: $(PROGRAMS) bin/cases
 	@HOSTILE=whole tests/torn.py $(PROGRAMS)
+	@HOSTILE=whole tests/journals.py bin/buildozer
+	@HOSTILE=whole tests/killed.py bin/buildozer
 	@HOSTILE=whole tests/memory.py bin/buildozer bin/cases bin/buildifier
 	@HOSTILE=whole tests/failing.py $(PROGRAMS)
 	@HOSTILE=whole tests/devices.py $(PROGRAMS)

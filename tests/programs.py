@@ -11,7 +11,8 @@ programs that it built then run over real files: buildifier over single ones (te
 (tests/workspace.py), both through the examples of README.md and the pages beside it (tests/readme.py) and through what contrib/ has
 for git, CI and editors (tests/contrib.py); the pages for man and the completions are compared with the code and tried in shells
 (tests/manual.py, tests/completions.py), and both programs installed and packed (tests/install.py); buildozer runs beside a plain list of texts
-(tests/sessions.py); both programs and cases run with memory refused at each request in turn (tests/memory.py); both programs over torn, deep and made
+(tests/sessions.py), keeps journals and reads torn and forged ones (tests/journals.py), and is killed while it keeps one (tests/killed.py); both
+programs and cases run with memory refused at each request in turn (tests/memory.py); both programs over torn, deep and made
 texts (tests/torn.py), with calls of the system and devices that fail (tests/failing.py, tests/devices.py), over cases by chance (tests/fuzz.py), and
 beside Bazel where it is there (tests/bazel.py). The first crate that it reports as not proved ends it, as soon as the proofs that run at that moment have ended; then comes once more what was
 reported of it. The line before the last one says how long the whole took, on how many processors, and how much of their time
@@ -35,6 +36,8 @@ import failing
 import files
 import fuzz
 import install
+import journals
+import killed
 import manual
 import memory
 import readme
@@ -64,6 +67,8 @@ SCRIPTS = [
     ("completions in shells", completions, ["buildozer"]),
     ("installing and packing", install, ["buildozer", "buildifier"]),
     ("runs beside a plain list of texts", sessions, ["buildozer"]),
+    ("runs that keep journals", journals, ["buildozer"]),
+    ("runs that are killed", killed, ["buildozer"]),
     ("runs with memory refused", memory, ["buildozer", "cases", "buildifier"]),
     ("torn, deep and made texts", torn, ["buildozer", "buildifier"]),
     ("runs with failing calls", failing, ["buildozer", "buildifier"]),

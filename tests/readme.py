@@ -31,6 +31,8 @@ GIT = re.compile(r"^\$ (?:.*[ ;|&(])?git ", re.MULTILINE)
 CODE = re.compile(r"`([^`]+)`")
 # a row of the code's tables of numbers
 NUMBER = re.compile(r"\b(?:\w+Fault|Refusal)::(\w+)(?: \{ \.\. \})? => (\d+),")
+# a row of the table of why a journal is refused, in which the name and the number are one text
+TOLD = re.compile(r'\bResumeFault::(\w+) => "\1 \((\d+)\)",')
 
 
 class Programs:
@@ -97,8 +99,8 @@ def texts_in(file, name):
 
 
 def refusals_of_code():
-    files = CRATES.glob("bz_*/src/*.rt")
-    return sorted({(int(number), name) for file in files for name, number in NUMBER.findall(file.read_text())})
+    texts = [file.read_text() for file in CRATES.glob("bz_*/src/*.rt")]
+    return sorted({(int(number), name) for row in (NUMBER, TOLD) for text in texts for name, number in row.findall(text)})
 
 
 def attributes_of_code():

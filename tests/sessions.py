@@ -15,6 +15,7 @@ texts that are laid out oddly. Of all but the last each beginning is run too, an
 """
 import collections
 import concurrent.futures
+import hashlib
 import os
 import pathlib
 import random
@@ -36,7 +37,7 @@ GOES_ON = 0.6
 GOES = 0.25
 
 # Commands that print, and leave the text.
-PRINTS = ["print", "print_comment"]
+PRINTS = ["print", "print_comment", "journal"]
 # Options that change nothing of what stands on the outputs where only standard input is edited, but for -k.
 OPTIONS = ["-k", "--quiet", "--stdout"]
 
@@ -241,6 +242,8 @@ FIXED = [
      "print|print startline name|new f z before x|print startline name rule|undo|print startline deps|redo|print kind testonly|undo"),
     ("printing alone", "loads", "-:x", "print|print rule deps|print none"),
     ("printing and going nowhere", "loads", "-:x", "print|undo|redo|print deps"),
+    ("texts are listed", "tabs and spaces", "-:x",
+     "journal|set size small|journal|set size small|add deps  :c //lib:d|undo|journal|comment a\\ b|journal|undo 2|journal|redo|delete|delete|journal"),
     ("loads come", "loads", "-:__pkg__",
      "new_load //:defs.bzl a my_b=b|new_load //:b.bzl fifth other|undo|redo|new_load //:b.bzl fifth|undo 2|new_load c.bzl z|redo"),
     ("loads come where there is none", "many on a line", "-:__pkg__", "new_load //:defs.bzl a|undo|redo|new_load //:defs.bzl a b|undo 2"),
@@ -286,11 +289,12 @@ class Program:
 
 
 class Plain:
-    """Texts and a cursor; beside them what was printed and told, and whether a command failed."""
+    """Texts, the commands that led to those after the first one, and a cursor; beside them what was printed and told, and whether a
+    command failed."""
 
     def __init__(self, program, text):
         self.program = program
-        self.texts, self.cursor = [text], 0
+        self.texts, self.notes, self.cursor = [text], [""], 0
         self.printed, self.told, self.failed = b"", b"", False
 
     def present(self):
@@ -312,7 +316,13 @@ class Plain:
             self.printed += out
         elif out != self.present():
             self.texts[self.cursor + 1 :] = [out]
+            self.notes[self.cursor + 1 :] = [" " + command]
             self.cursor += 1
+
+    def lists(self):
+        for number, (text, note) in enumerate(zip(self.texts, self.notes)):
+            mark = "*" if number == self.cursor else " "
+            self.printed += f"{mark} {number} {hashlib.sha256(text).hexdigest()}{note}\n".encode()
 
     def step(self, command, target):
         name, *words = command.split()
@@ -321,6 +331,8 @@ class Plain:
             self.goes(command, -count)
         elif name == "redo":
             self.goes(command, count)
+        elif name == "journal":
+            self.lists()
         else:
             self.does(command, target)
 

@@ -1,6 +1,6 @@
 #!/usr/bin/env python3
-"""Makes the pages buildozer.1 and buildifier.1, in the macros of man, from README.md: its sections on each program, on the refusals and
-on what differs. What a page says stands in README.md alone; here it is said only where each block of it goes.
+"""Makes the pages buildozer.1 and buildifier.1, in the macros of man, from README.md: its sections on each program, on undo across
+runs, on the refusals and on what differs. What a page says stands in README.md alone; here it is said only where each block of it goes.
 
 The paragraphs become the description, the examples the examples, each table a section of its own. An example stays in the
 description where the paragraph above it ends with a colon. Of the tables of refusals and of other lines the page of a program
@@ -27,6 +27,8 @@ FRONTS = {"Mode": "--mode="}
 UNTOLD = ("What", "Their", "Means", "When")
 REFUSALS, DIFFERENCES = "Refusals and other lines on standard error", "What differs from bazelbuild's tools"
 LIMITS = "How to use them"
+# sections that are whole ones of buildozer's page too
+OF_BUILDOZER = ["Undo across runs"]
 # a refusal of a text, which both programs report; those behind them are of labels, targets and commands
 LAST_OF_TEXTS = 8
 # this line is buildozer's, though it doesn't name it
@@ -136,7 +138,8 @@ def sorted_blocks(program, found):
             parts["DESCRIPTION"].append(block)
         above = block if isinstance(block, Paragraph) else Paragraph("")
     parts["EXAMPLES"] = parts.pop("EXAMPLES", [])
-    return {**parts, "COMPATIBILITY": found[DIFFERENCES]}
+    whole = {title.upper(): found[title] for title in OF_BUILDOZER if program == "buildozer"}
+    return {**parts, **whole, "COMPATIBILITY": found[DIFFERENCES]}
 
 
 def page(program, found):

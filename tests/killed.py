@@ -1,0 +1,234 @@
+#!/usr/bin/env python3
+"""Kills the built program buildozer at moments by chance while it edits a file with --journal, and looks at what the next run finds.
+
+The program runs some hundred commands from a file of lines, each of which it keeps as soon as it is done, and is killed in the midst
+of them. What must be there is known from a small model of the commands: the texts that stood one behind the other, and at each moment
+the history, and where it stood. So after each kill
+
+- the file holds a text of that model, whole, and the next run lists a history of it, with the mark at this very text;
+- run by run, undo gives each earlier text back byte for byte, down to the first one, and then there is none.
+
+Each moment has a folder of its own. The moments come from a seed, which is printed; SEED=.. in the environment repeats it, as far as
+the machine is as fast.
+
+    [HOSTILE=whole] [SEED=..] tests/killed.py PROGRAM
+"""
+
+import collections
+import concurrent.futures
+import os
+import pathlib
+import random
+import signal
+import subprocess
+import sys
+import time
+
+from files import report
+from forging import listing
+from hostile import PATIENCE, WHOLE, new_folder, put
+
+MOMENTS = 100 if WHOLE else 20
+# how many commands a run is asked for, and how many texts its history may have at most, so that it is soon undone
+COMMANDS = 120
+MOST = 6
+RULES = 2
+NAME = "p/BUILD"
+
+# A history: its texts, the notes of the steps between them, and the number of the present one.
+History = collections.namedtuple("History", "texts notes cursor")
+
+
+# ---- the model: rules with a size, each a number
+
+
+def first_text(sizes):
+    """The text without the layout."""
+    return b"# odd\r\n" + b"".join(b"f( name='r%d',size = %d )\n" % pair for pair in enumerate(sizes))
+
+
+def laid_out(sizes):
+    rules = [b'f(\n    name = "r%d",\n    size = %d,\n)\n' % pair for pair in enumerate(sizes)]
+    return b"# odd\n" + b"\n".join(rules)
+
+
+class Model:
+    """What the commands make of the file: the sizes of each text, the notes, and the cursor."""
+
+    def __init__(self):
+        self.states, self.notes, self.cursor = [(0,) * RULES], [], 0
+
+    def history(self):
+        texts = [first_text(self.states[0]), *map(laid_out, self.states[1:])]
+        return History(texts, list(self.notes), self.cursor)
+
+    def set(self, rule, size):
+        sizes = list(self.states[self.cursor])
+        sizes[rule] = size
+        command = f"set size {size}"
+        self.states[self.cursor + 1 :] = [tuple(sizes)]
+        self.notes[self.cursor :] = [command.encode()]
+        self.cursor += 1
+        return f"{command}|//p:r{rule}"
+
+    def move(self, steps):
+        self.cursor += steps
+        return f"{'undo' if steps < 0 else 'redo'} {abs(steps)}|//p:all"
+
+
+def script(chance):
+    """Lines of commands by chance, and the history before the first one and behind each."""
+    model, lines = Model(), []
+    histories = [model.history()]
+    for number in range(1, COMMANDS + 1):
+        ahead = len(model.states) - 1 - model.cursor
+        if model.cursor == MOST or model.cursor > 1 and chance.random() < 0.2:
+            lines.append(model.move(-chance.randint(1, min(model.cursor, 5))))
+        elif ahead and chance.random() < 0.4:
+            lines.append(model.move(chance.randint(1, ahead)))
+        else:
+            lines.append(model.set(chance.randrange(RULES), number))
+        histories.append(model.history())
+    return "".join(line + "\n" for line in lines).encode(), histories
+
+
+# ---- a killed run, and those behind it
+
+
+class Killed:
+    """The program, and a folder in which a run of it is killed."""
+
+    def __init__(self, program, folder, chance):
+        self.program, self.folder = program, pathlib.Path(folder)
+        lines, self.histories = script(chance)
+        put(folder, {NAME: self.histories[0].texts[0], "lines": lines})
+
+    def text(self):
+        return (self.folder / NAME).read_bytes()
+
+    def start(self):
+        words = [self.program, "--quiet", "--journal", "-f", "lines"]
+        return subprocess.Popen(words, cwd=self.folder, stdin=subprocess.DEVNULL, stdout=subprocess.DEVNULL, stderr=subprocess.PIPE)
+
+    def kill(self, seconds):
+        """Kills the run so many seconds behind its start, and gives how it ended and what it told."""
+        with self.start() as run:
+            time.sleep(seconds)
+            run.send_signal(signal.SIGKILL)
+            told = run.stderr.read()
+        return run.returncode, told
+
+    def ended(self, command):
+        words = [self.program, "--quiet", "--journal", command, "//p:all"]
+        run = subprocess.run(words, cwd=self.folder, stdin=subprocess.DEVNULL, capture_output=True, timeout=PATIENCE)
+        return run.returncode, run.stdout, run.stderr
+
+    def found(self):
+        """The history that the next run lists, which is one of the model's, at its cursor or, where the file wasn't written yet, at
+        the one before it; None where it is neither."""
+        status, out, err = self.ended("journal")
+        if (status, err) != (3, b""):
+            return None
+        for number, history in enumerate(self.histories):
+            for cursor in {history.cursor, self.histories[max(number - 1, 0)].cursor}:
+                if cursor < len(history.texts) and out == listing(history.texts, cursor, history.notes):
+                    return history._replace(cursor=cursor)
+        return None
+
+    def wrong(self):
+        """What the runs behind a killed one show that must not be."""
+        text, history = self.text(), self.found()
+        if history is None:
+            return [f"listed: {self.ended('journal')}, with {text}"]
+        if text != history.texts[history.cursor]:
+            return [f"the file holds {text}, and is listed at {history.cursor} of {history.texts}"]
+        for cursor in range(history.cursor - 1, -1, -1):
+            ended = self.ended("undo")
+            if ended != (0, b"", b"") or self.text() != history.texts[cursor]:
+                return [f"undo to {cursor}: {ended}, {self.text()}, and not {history.texts[cursor]}"]
+        return self.wrong_at_the_first(history)
+
+    def wrong_at_the_first(self, history):
+        """Nothing comes before the first text; and redo gives the last one again, behind which no half file is left."""
+        wanted = 2, b"", b"buildozer: p/BUILD: undo: TooFar (61)\n"
+        ended, last = self.ended("undo"), len(history.texts) - 1
+        if ended != wanted:
+            return [f"undo of the first text: {ended}"]
+        if last == 0:
+            return []
+        ended = self.ended(f"redo {last}")
+        names = {str(file.relative_to(self.folder)) for file in self.folder.rglob("*") if file.is_file()}
+        right = ended == (0, b"", b"") and self.text() == history.texts[-1] and names == {NAME, f"{NAME}.journal", "lines"}
+        return [] if right else [f"redo {last}: {ended}, {self.text()}, {names}"]
+
+
+# ---- scenes
+
+SEED = int(os.environ.get("SEED", random.SystemRandom().randrange(1_000_000)))
+
+
+class Moments:
+    """The program, how long a whole run of it takes in seconds, the moments at which a run was killed before it ended, and those
+    behind which there was something to undo or to redo."""
+
+    def __init__(self, program):
+        self.program, self.seconds, self.struck, self.kept = program, 0.0, [], []
+
+    def not_killed(self):
+        """A whole run, which leaves the last history, and goes back to the first text; it is timed."""
+        with new_folder() as folder:
+            killed = Killed(self.program, folder, random.Random(SEED))
+            start = time.monotonic()
+            with killed.start() as run:
+                told = run.stderr.read()
+            self.seconds = time.monotonic() - start
+            last = killed.histories[-1]
+            if (run.returncode, told, killed.found()) != (0, b"", last):
+                return [f"seed {SEED}: status {run.returncode}, {told}, {killed.found()}, and not {last}"]
+            return killed.wrong()
+
+    def killed(self, number):
+        """A run that is killed at a moment of its own."""
+        chance = random.Random(f"{SEED} {number}")
+        with new_folder() as folder:
+            killed = Killed(self.program, folder, chance)
+            seconds = chance.uniform(0, self.seconds)
+            status, told = killed.kill(seconds)
+            self.struck += [number] if status == -signal.SIGKILL else []
+            history = killed.found()
+            self.kept += [number] if history and len(history.texts) > 1 else []
+            # one that had ended by then is no fault
+            faults = [] if told == b"" and status in (0, 3, -signal.SIGKILL) else [f"status {status}, {told}"]
+            return [f"seed {SEED}, moment {number}, {seconds:.3f} s: {fault}"[:2000] for fault in faults + killed.wrong()]
+
+    def most_were_killed(self):
+        """Else the moments show nothing: most must come before a run ends, and behind its first commands."""
+        struck, kept = len(self.struck), len(self.kept)
+        if min(struck, kept) * 2 > MOMENTS:
+            return []
+        return [f"seed {SEED}: of {MOMENTS} runs {struck} were killed before they ended, and {kept} behind their first command"]
+
+
+def at_moment(number):
+    return lambda moments: moments.killed(number)
+
+
+# Each scene by its name; each gives what is wrong. The first one is timed, so nothing runs beside it.
+FIRST, LAST = "a run that is not killed", "most runs are killed behind their first command"
+KILLED = {f"killed at moment {number}": at_moment(number) for number in range(1, MOMENTS + 1)}
+SCENES = {FIRST: Moments.not_killed, **KILLED, LAST: Moments.most_were_killed}
+
+
+def failures(program):
+    """The names of the scenes that the program fails, each with what was wrong."""
+    moments = Moments(program)
+    print(f"tests/killed.py: seed {SEED}, {MOMENTS} moments", flush=True)
+    wrong = {FIRST: moments.not_killed()}
+    with concurrent.futures.ThreadPoolExecutor(len(os.sched_getaffinity(0))) as pool:
+        wrong |= zip(KILLED, pool.map(lambda scene: scene(moments), KILLED.values()))
+    wrong[LAST] = moments.most_were_killed()
+    return ["; ".join([name, *faults]) for name, faults in wrong.items() if faults]
+
+
+if __name__ == "__main__":
+    sys.exit(report("killed", SCENES, failures(pathlib.Path(sys.argv[1]).resolve())))
