@@ -1,5 +1,6 @@
 pub mod Exits
 pub mod Faults
+pub mod Laws
 pub mod Outputs
 pub mod Ports
 pub mod Told

@@ -4,6 +4,7 @@
 
 mod device;
 mod exit;
+mod laws;
 mod memory;
 mod sink;
 mod source;
@@ -12,6 +13,7 @@ mod words;
 
 pub use device::Device;
 pub use exit::{Cut, Exit, first_cut};
+pub use laws::lines_are_whole;
 pub use memory::{MemorySink, MemorySource};
 pub use sink::{Sink, write_whole};
 pub use source::{InputFault, MOST, PortFault, Source, read_most};

@@ -42,5 +42,8 @@ returns g c =
     let pieces = c.args.pieces.now in
     let contents = g.E.Sink.contents in
     let left : texts (drop c.loop-piece.piece-index pieces) ≡ [] = ap texts (drop_all c.loop-piece.piece-index pieces (search rules)) in
-    inl (all_written (contents c.args.err.now) (contents c.loop-piece.err) (texts pieces)
-    (subst (SoFar (contents c.args.err.now) (contents c.loop-piece.err) (texts pieces)) left c.loop-piece.invariant.so_far))
+    inl (
+      search rules,
+      all_written (contents c.args.err.now) (contents c.loop-piece.err) (texts pieces)
+          (subst (SoFar (contents c.args.err.now) (contents c.loop-piece.err) (texts pieces)) left c.loop-piece.invariant.so_far),
+    )
