@@ -76,7 +76,7 @@ class Chance(random.Random):
         at, to = sorted(self.randint(0, len(text)) for _ in range(2))
         lines = text.splitlines(keepends=True) or [b""]
         line = self.randrange(len(lines))
-        count = self.choice([2, 3, 50, 198, 199, 400])
+        count = self.choice([2, 3, 50, 498, 499, 1000])
         ways = [
             lambda: text[:at] + self.choice(SPLICES) + text[at:],
             lambda: text[:at] + self.choice(SPLICES) + text[at:],

@@ -38,7 +38,7 @@ ADDRESSES = 500_000_000
 # the longest note and package, in bytes
 LONGEST = 65_536
 # levels of a tree, and how many of them stand above the value of an assignment
-LEVELS, ABOVE = 200, 3
+LEVELS, ABOVE = 500, 3
 
 # ---- worked by hand: the texts
 
@@ -203,7 +203,7 @@ FORGED = {
     "a text that is not UTF-8": holding(b'"\xff"', leaf(forging.STRING, b" ", b'"\xff"')),
     "a present text that is refused": SOUND._replace(texts=[ONE, b"x = (\n"]),
     "a present text that is not UTF-8": SOUND._replace(texts=[ONE, b"x = '\xff'\n"]),
-    "a tree of 201 levels": nesting(LEVELS - ABOVE + 1),
+    "a tree of 501 levels": nesting(LEVELS - ABOVE + 1),
     "a tree of 1,000 levels": nesting(1000),
     "a tree of 100,000 levels": nesting(100_000),
     "the first digest is another": SOUND._replace(digests=[digest(TWO), digest(TWO)]),
@@ -300,7 +300,7 @@ OPENED = {
     "no note": stepping(*SOUND.steps[0].edits, note=b""),
     "a note of two lines": stepping(*SOUND.steps[0].edits, note=b"a\nend \nb"),
     "the longest note": stepping(*SOUND.steps[0].edits, note=b"a" * LONGEST),
-    "a tree of 200 levels": nesting(LEVELS - ABOVE),
+    "a tree of 500 levels": nesting(LEVELS - ABOVE),
 }
 
 # ---- many journals in one run, each in a package of its own

@@ -254,7 +254,7 @@ FIXED = [
     ("two targets in turn", "rules that are alike", "-:x -:y", "set size small|undo|redo|add deps :c|print deps size|undo"),
     ("a rule that goes under a target", "rules that are alike", "-:%1", "delete|delete|undo|delete|undo 2|redo|print name kind startline"),
     ("a name that changes under a target", "laid out", "-:x", "set name z|set size small|undo|set name z|redo|print|undo"),
-    ("a text past the levels", "laid out", "-:x", "set kind " + ".".join(["k"] * 300) + "|set size small|undo|redo"),
+    ("a text past the levels", "laid out", "-:x", "set kind " + ".".join(["k"] * 600) + "|set size small|undo|redo"),
     ("a rule that is left alone", "marks that steer", "-:y", "print rule|add deps :c|undo|print rule|redo|set kind f|undo 2"),
 ]  # fmt: skip
 

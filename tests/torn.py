@@ -2,7 +2,7 @@
 """Runs both built programs over torn, deep and made texts, many of them in one run, and looks at what becomes of each.
 
 The texts are every beginning, and every removal of one byte, of the texts of the worked rows and of some odd ones; every construct
-that nests, at 200 and at 201 levels, and far deeper; texts of 24 pieces by chance, of which none is accepted; and texts that are
+that nests, at as many levels as a tree may have and at one more, and far deeper; texts of 24 pieces by chance, of which none is accepted; and texts that are
 made by the grammar, of which all are. Whatever a text is, both programs must agree on it: both refuse it, by the same line, and
 leave it as it is; or both accept it, and then
 
@@ -34,7 +34,7 @@ LENGTH = 24
 TEXTS_OF_GRAMMAR = 20_000
 # rows of more bytes are not torn
 LONGEST = 1000
-LEVELS = 200
+LEVELS = 500
 
 PIECES = ["a", "load", '"x"', "1.", "(", ")", "[", "]", ",", "=", "+", ".", " ", "\n", "# c\n", "\\\n"]
 
@@ -193,7 +193,7 @@ def nested(nest, levels):
     return (before * count + "(" * rest + "a" + ")" * rest + after * count + "\n").encode()
 
 
-def levels_200_and_201(*programs):
+def levels_at_the_limit(*programs):
     accepted = {nested(nest, LEVELS): name for name, nest in NESTS.items()}
     deeper = {nested(nest, LEVELS + 1): name for name, nest in NESTS.items()}
     wrong, refused = tried(programs, [*accepted, *deeper])
@@ -205,7 +205,7 @@ def levels_200_and_201(*programs):
 def far_too_many_levels(*programs):
     """Also where the text ends before what is nested does."""
     texts = {}
-    for count in [400, 20_000, 200_000] if WHOLE else [2_000]:
+    for count in [2 * LEVELS, 20_000, 200_000] if WHOLE else [2_000]:
         for name, (before, after, *_) in NESTS.items():
             texts[(before * count + "a" + after * count).encode()] = f"{name}, {count} times"
             texts[(before * count).encode()] = f"{name}, {count} times without its end"
@@ -244,7 +244,7 @@ def texts_by_the_grammar(*programs):
 SCENES = {
     "beginnings and removals of the rows": torn_texts_of(worked.texts()),
     "beginnings and removals of odd texts": torn_texts_of(TEXTS.values()),
-    "200 and 201 levels": levels_200_and_201,
+    "as many levels as a tree may have, and one more": levels_at_the_limit,
     "far too many levels": far_too_many_levels,
     "texts of pieces are refused": pieces_by_chance,
     "texts by the grammar are accepted": texts_by_the_grammar,

@@ -45,8 +45,8 @@ FORMATTED = [
     ("labels that repeat a name", LABELS, 0),
     ("sources of genrule", b'genrule(name="g",srcs=["b","a"])', 0),
     ("a list that is left alone", b'cc_library(name="g",\n# do not sort\nsrcs=["b","a"])', 0),
-    ("200 levels", b"[" * 197 + b"]" * 197, 0),
-    ("201 levels", b"[" * 198 + b"]" * 198, 1),
+    ("500 levels", b"[" * 497 + b"]" * 497, 0),
+    ("501 levels", b"[" * 498 + b"]" * 498, 1),
     ("two comparisons", b"a < b < c", 1),
     ("two strings", b'"a" "b"', 1),
     ("a space before the first token", b" x = 1", 1),
@@ -83,7 +83,7 @@ EDITED = [
     ("a name that is taken", ["--", "rename srcs deps", "-:a"], TAKEN, 2),
     ("undo further than there are texts", ["--", "new cc_library a", "new cc_library b", "undo 3", "-:__pkg__"], b"", 2),
     ("redo behind a new text", ["--", "new cc_library a", "new cc_library b", "undo", "new cc_library c", "redo", "-:__pkg__"], b"", 2),
-    ("one level too many", ["--", "add deps :x", "-:a"], b'r(name = "a", deps = f(' + b"[" * 194 + b"]" * 194 + b"))", 2),
+    ("one level too many", ["--", "add deps :x", "-:a"], b'r(name = "a", deps = f(' + b"[" * 494 + b"]" * 494 + b"))", 2),
     ("fields are printed", ["--", "print name kind srcs deps", "-:a"], ODD_RULE, 3),
     ("a pattern is replaced", ["--", r"substitute srcs ^(.*)\.c$ ${1}.cc", "-:a"], ODD_RULE, 0),
     ("a dict of its own", ["--", "dict_add env A:1 B:2", "-:x"], b't(name="x")', 0),
@@ -148,7 +148,7 @@ ROWS |= {name: Row(*row) for name, *row in OVER_FILES}
 
 # ---- texts past a limit, or right before one: too long to be torn
 
-LONGEST = 4_194_304
+LONGEST = 67_108_864
 LONG_ROWS = {
     "a newline too many": Row("buildifier", [], b"#" + b"a" * (LONGEST - 1), {}, 3),
     "a byte too many": Row("buildifier", [], b"#" + b"a" * LONGEST, {}, 1),

@@ -10,9 +10,9 @@ use std::fmt;
 pub enum Refusal {
     /// A growth was refused.
     Memory,
-    /// The new text would be longer than 4,194,304 bytes.
+    /// The new text would be longer than `LENGTH_LIMIT`.
     TooLarge,
-    /// The new tree would be deeper than 200.
+    /// The new tree would be deeper than `DEPTH_LIMIT`.
     TooDeep,
     /// The target means no rule, or the rule beside which a new one goes isn't there.
     NoTarget,

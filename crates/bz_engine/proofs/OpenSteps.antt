@@ -27,9 +27,9 @@ use Rattle.bz_engine.specs.Steps.{Step, input_package}
 fits_limit : (text : Bytes) → Accepted text → length text ≤ limit
 fits_limit text accepted = accepted.1.2
 
-same_fault : (all : Bytes) (fault : ReadFault) → limit < length all → IsFaultOf (take 4194305 all) fault → IsFaultOf all fault
+same_fault : (all : Bytes) (fault : ReadFault) → limit < length all → IsFaultOf (take (limit + 1) all) fault → IsFaultOf all fault
 same_fault all fault long of_front =
-    let len = length-take 4194305 all in
+    let len = length-take (limit + 1) all in
     let large : fault ≡ f.TooLarge = of_front.too_large.1 (omega arith) in
     record {
       too_large = (λ _. long, λ _. large);
@@ -37,27 +37,27 @@ same_fault all fault long of_front =
       other = of_front.other;
     }
 
-long_takes : (current name all : Bytes) (file : Option Opened) (lines : List Bytes) → limit < length all → Takes current name (take 4194305 all) file lines
+long_takes : (current name all : Bytes) (file : Option Opened) (lines : List Bytes) → limit < length all → Takes current name (take (limit + 1) all) file lines
     → Takes current name all file lines
 long_takes current name all file lines long (inl opened) =
-    let le = fits_limit (take 4194305 all) opened.0 in
-    let len = length-take 4194305 all in absurd (omega arith)
+    let le = fits_limit (take (limit + 1) all) opened.0 in
+    let len = length-take (limit + 1) all in absurd (omega arith)
 long_takes current name all file lines long (inr refused) =
     inr (
       (λ accepted. let le = fits_limit all accepted in omega arith),
       (refused.1.0, same_fault all refused.1.0 long refused.1.1, refused.1.2, refused.1.3),
     )
 
-front_takes : (current name all : Bytes) (file : Option Opened) (lines : List Bytes) → Takes current name (take 4194305 all) file lines
+front_takes : (current name all : Bytes) (file : Option Opened) (lines : List Bytes) → Takes current name (take (limit + 1) all) file lines
     → Takes current name all file lines
 front_takes current name all file lines takes = go (cases_lt limit (length all))
   where
     go : (limit < length all) ⊎ (length all ≤ limit) → Takes current name all file lines
     go (inl long) = long_takes current name all file lines long takes
-    go (inr short) = subst (λ (text : Bytes). Takes current name text file lines) (take_all 4194305 all (omega arith)) takes
+    go (inr short) = subst (λ (text : Bytes). Takes current name text file lines) (take_all (limit + 1) all (omega arith)) takes
 
 pub input_takes : (known : Option Bytes) (current name front : Bytes) (file : Option Opened) (lines : List Bytes)
-    → IfSome known (λ all. front ≡ take 4194305 all) → Takes current name front file lines
+    → IfSome known (λ all. front ≡ take (limit + 1) all) → Takes current name front file lines
     → (text : Bytes) × IsInput known text × Takes current name text file lines
 input_takes None current name front file lines read takes = (front, tt, takes)
 input_takes (Some all) current name front file lines read takes =

@@ -8,7 +8,7 @@ use Rattle.bz_engine.specs.Told.{refusal_line, operand_line, fixed_line}
 
 abbrev pub WorkedRefusals : Type 0
 WorkedRefusals = (fault_line stdin (Unexpected 12 305) ≡ codes "<stdin>:12:305: Unexpected\n")
-    × (fault_line (codes "a/BUILD") (NotUtf8 4194303) ≡ codes "a/BUILD: NotUtf8 at 4194303\n")
+    × (fault_line (codes "a/BUILD") (NotUtf8 67108863) ≡ codes "a/BUILD: NotUtf8 at 67108863\n")
     × (refusal_line stdin (codes "undo 3") TooFar ≡ codes "buildozer: <stdin>: undo 3: TooFar (61)\n")
     × (refusal_line (codes "a/BUILD") (codes "redo") TooFar ≡ codes "buildozer: a/BUILD: redo: TooFar (61)\n")
     × (operand_line (record { operand = codes "//a::b"; fault = BadTarget }) ≡ codes "buildozer: //a::b: BadTarget (12)\n")

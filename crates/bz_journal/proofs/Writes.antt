@@ -83,7 +83,7 @@ limits : (depth : ℕ) (all text : Bytes) (asked printed : Option Bytes) → lim
 limits depth all text asked printed e =
     let tests : (nat_lt limit (length all) ≡ false) × (nat_lt depth_limit depth ≡ false) = within (nat_lt limit (length all)) (nat_lt depth_limit depth) all text asked printed e in
     let long : length all ≤ limit = ltb-false limit (length all) tests.0 in
-    let deep : depth ≤ depth_limit = ltb-false 200 depth tests.1 in
+    let deep : depth ≤ depth_limit = ltb-false depth_limit depth tests.1 in
     let same : gives all asked ≡ gives text printed = sym (fitting depth all asked long deep) ∙ e in
     (sym (ap (text_in []) same), sym (ap printed_in same), long, deep)
 

@@ -18,10 +18,10 @@ pub enum FormatFault {
     /// The text is not accepted.
     #[error("{0}")]
     Unread(ReadFault),
-    /// The formatted text would be longer than 4,194,304 bytes.
+    /// The formatted text would be longer than `LENGTH_LIMIT`.
     #[error("TooLarge")]
     TooLarge,
-    /// The tree of the formatted text would be deeper than 200.
+    /// The tree of the formatted text would be deeper than `DEPTH_LIMIT`.
     #[error("TooDeep")]
     TooDeep,
     /// A growth was refused.

@@ -74,7 +74,7 @@ impl Model for Session {
 
 impl Session {
     /// A session at the first text of a file of the package with this path, which has at most 65,536 bytes. Errors: those
-    /// of reading the text: `TooLarge` past 4,194,304 bytes; `NotUtf8` with the length of the longest beginning that is
+    /// of reading the text: `TooLarge` past `LENGTH_LIMIT`; `NotUtf8` with the length of the longest beginning that is
     /// UTF-8; a fault with line and column where the text reads as no tree; `Memory` where a growth was refused.
     pub fn open(alloc: Global, package: &str, text: &[u8]) -> Result<Session, ReadFault>
         requires { length «package».now ≤ 65536 }

@@ -7,7 +7,7 @@ pub enum ReadFault {
     /// The bytes are not UTF-8; `at` is the length of the longest beginning that is.
     #[error("NotUtf8 at {at}")]
     NotUtf8 { at: usize },
-    /// The text is longer than 4,194,304 bytes.
+    /// The text is longer than `LENGTH_LIMIT`.
     #[error("TooLarge")]
     TooLarge,
     /// No lexeme, blank or comment begins here.
@@ -22,7 +22,7 @@ pub enum ReadFault {
     /// No file goes on with this token here.
     #[error("{line}:{column}: Unexpected")]
     Unexpected { line: u32, column: u32 },
-    /// The tree of the text is deeper than 200.
+    /// The tree of the text is deeper than `DEPTH_LIMIT`.
     #[error("{line}:{column}: TooDeep")]
     TooDeep { line: u32, column: u32 },
     /// A growth was refused.

@@ -4,6 +4,7 @@ ghost use Rattle.std.specs.Io.{ReadsAtMost};
 ghost use Rattle.std.specs.Io.KnownBytes.{ReadConsumes, Consumes, IsAtEnd};
 ghost use Rattle.bz_ports.specs.Faults.{Rises};
 
+use bz_lex::LENGTH_LIMIT;
 use std::alloc::Global;
 
 /// A read or a write failed.
@@ -37,7 +38,7 @@ pub enum InputFault {
 }
 
 /// The length of the longest text in bytes, and one byte more, by which a longer one is told.
-pub const MOST: usize = 4_194_305;
+pub const MOST: usize = LENGTH_LIMIT + 1;
 
 const CHUNK: usize = 16_384;
 

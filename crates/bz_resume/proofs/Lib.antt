@@ -5,7 +5,6 @@ pub mod Outcomes
 pub mod Loops
 pub mod Opens
 pub mod Sized
-pub mod Fewer
 pub mod Slots
 pub mod Saves
 pub mod Stands

@@ -1,5 +1,5 @@
 -- A place in a tree is no deeper than the tree, so the steps of a trail have short paths.
-use Rattle.std.proofs.Common.{ℕ, zero, suc, ◌≡◌, ◌≤◌, true, List, [], ◌∷◌, ◌++◌, length, reverse, take, drop, Some, refl, sym, ap, subst, arith}
+use Rattle.std.proofs.Common.{ℕ, zero, suc, ◌≡◌, ◌≤◌, ◌<◌, true, List, [], ◌∷◌, ◌++◌, length, reverse, take, drop, Some, refl, sym, ap, subst, arith}
 use Rattle.std.specs.Prelude.{slice_get, Bool, ◌&&◌}
 use Rattle.std.specs.List.{AllByRecursion}
 use Rattle.std.proofs.lemmas.Bool.{and_parts, lt-ltb}
@@ -29,7 +29,7 @@ place_within (i ∷ path) at count n h =
     let w = child_found i n (has_place path at count) h in
     omega (arith, place_within path at count w.0 w.2, item_depth n.parts i (p.Node w.0) w.1, depth_Node w.0)
 
-short_edits : (es : List Edit) (n : Node) → all_there es n ≡ true → deepest n.parts ≤ 199 → are_short es ≡ true
+short_edits : (es : List Edit) (n : Node) → all_there es n ≡ true → deepest n.parts < depth_limit → are_short es ≡ true
 short_edits [] n h d = refl
 short_edits (e ∷ es) n h d =
     let w = and_parts (has_place e.path e.at e.count n) (all_there es n) h in

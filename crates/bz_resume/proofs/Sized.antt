@@ -17,7 +17,7 @@ use Rattle.bz_edit.specs.Plans.{parts_in, total}
 use Rattle.bz_edit.specs.Steps.{CountsFit, all_there, swap_node, turned_all}
 use Rattle.bz_edit.proofs.Planning.{parts_Node, length_total}
 use Rattle.bz_edit.proofs.Puts.{child_found}
-use Rattle.bz_edit.proofs.Sizes.{few_parts}
+use Rattle.bz_edit.proofs.Sizes.{counted}
 use Rattle.bz_edit.proofs.Turns.{apart_of}
 use Rattle.bz_edit.proofs.Twice.{twice}
 use Rattle.bz_trail.specs.Trails.{IsTree, Leads}
@@ -61,7 +61,7 @@ fits = part_ind Fits (λ l h t. (omega (arith, length-append l.gap l.token), ome
 -- ---- parts of a legal tree
 
 pub record IsLow (xs : List Part) : Type 0 where
-  pub deep : deepest xs ≤ 199
+  pub deep : deepest xs < depth_limit
   pub few : total xs < number_limit
   pub short : length (flat_map spell_part xs) ≤ limit
 
@@ -184,7 +184,7 @@ edits_fit m (f ∷ fs) h low sizes =
     )
 
 pub low_tree : (n : Node) → IsTree n → IsLow n.parts
-low_tree n tree = let d = tree.0.depth in record { deep = omega arith; few = few_parts n tree.0 tree.1; short = tree.1 }
+low_tree n tree = let d = tree.0.depth in record { deep = omega arith; few = counted n tree.0 tree.1; short = tree.1 }
 
 pub step_fits : (n : Node) (e : List Edit) → Leads e n → AllByRecursion (IsEdit depth_limit) e
 step_fits n e leads =

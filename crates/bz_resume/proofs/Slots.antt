@@ -14,7 +14,7 @@ use Rattle.bz_edit.specs.Plans.{parts_in, total}
 use Rattle.bz_edit.specs.Steps.{IsBefore, WellFormed, MayFollow, all_there}
 use Rattle.bz_edit.proofs.Planning.{parts_Node, length_total}
 use Rattle.bz_edit.proofs.Puts.{child_found}
-use Rattle.bz_resume.proofs.Fewer.{fewer_parts}
+use Rattle.bz_edit.proofs.Sizes.{few_parts}
 use Rattle.bz_trail.specs.Trails.{IsTree, Leads}
 
 -- ---- parts before a place
@@ -131,4 +131,4 @@ all_zero n [] = tt
 all_zero n (e ∷ es) = (omega arith, all_zero n es)
 
 pub few_edits : (n : Node) (e : List Edit) → IsTree n → Leads e n → length e < 2 ^ 32
-few_edits n e tree leads = omega (arith, counted n e 0 (omega arith) leads.there leads.is_step.0 (all_zero n e), fewer_parts n tree.0 tree.1)
+few_edits n e tree leads = omega (arith, counted n e 0 (omega arith) leads.there leads.is_step.0 (all_zero n e), few_parts n tree.0 tree.1)

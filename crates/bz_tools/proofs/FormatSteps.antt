@@ -1,5 +1,5 @@
 -- What one text of buildifier's does.
-use Rattle.std.proofs.Common.{◌≡◌, ◌⊎◌, ◌<◌, ◌∙◌, ◌++◌, inl, inr, ℕ, List, [], take, length, Option, Some, None, Ok, Err, Bool, true, false, refl, sym, ap, subst, arith}
+use Rattle.std.proofs.Common.{◌≡◌, ◌⊎◌, ◌<◌, ◌∙◌, ◌++◌, ◌+◌, inl, inr, ℕ, List, [], take, length, Option, Some, None, Ok, Err, Bool, true, false, refl, sym, ap, subst, arith}
 use Rattle.std.specs.Prelude.{IfSome}
 use Rattle.std.specs.FinMap.{get}
 use Rattle.bz_tree.specs.Spell.{limit}
@@ -52,27 +52,27 @@ held folder name bytes start items at is empty = at ∙ ap Some (sym (is ∙ ap 
 
 -- ---- the front of standard input, one byte longer than a text may be, tells what becomes of it
 
-pub ok_of_front : (known : Option (List ℕ)) (front new : List ℕ) → IfSome known (λ all. front ≡ take 4194305 all) → FormatsTo front (Ok new)
+pub ok_of_front : (known : Option (List ℕ)) (front new : List ℕ) → IfSome known (λ all. front ≡ take (limit + 1) all) → FormatsTo front (Ok new)
     → (input : List ℕ) × IsInput known input × (input ≡ front)
 ok_of_front None front new read formats = (front, tt, refl)
 ok_of_front (Some all) front new read formats = go (cut_at_limit all)
   where
-    go : (take 4194305 all ≡ all) ⊎ (limit < length all) → (input : List ℕ) × IsInput (Some all) input × (input ≡ front)
+    go : (take (limit + 1) all ≡ all) ⊎ (limit < length all) → (input : List ℕ) × IsInput (Some all) input × (input ≡ front)
     go (inl whole) = (all, refl, sym (read ∙ whole))
     go (inr long) = absurd (long_front all long (subst Accepted read (formats.0, formats.1)))
 
-pub err_of_front : (known : Option (List ℕ)) (front : List ℕ) (fault : FormatFault) → IfSome known (λ all. front ≡ take 4194305 all)
+pub err_of_front : (known : Option (List ℕ)) (front : List ℕ) (fault : FormatFault) → IfSome known (λ all. front ≡ take (limit + 1) all)
     → FormatsTo front (Err fault) → (input : List ℕ) × IsInput known input × FormatsTo input (Err fault)
 err_of_front None front fault read formats = (front, tt, formats)
 err_of_front (Some all) front fault read formats = go (cut_at_limit all)
   where
-    longer : limit < length all → (told : FormatFault) → FormatsTo (take 4194305 all) (Err told) → FormatsTo all (Err told)
+    longer : limit < length all → (told : FormatFault) → FormatsTo (take (limit + 1) all) (Err told) → FormatsTo all (Err told)
     longer long (f.Unread fault) of_front =
         ((λ accepted. let le = within_limit all accepted in omega (arith, le, long)), fault_of_front all fault long of_front.1)
     longer long f.TooLarge of_front = absurd (long_front all long (of_front.0, of_front.1))
     longer long f.TooDeep of_front = absurd (long_front all long (of_front.0, of_front.1))
     longer long f.Memory of_front = tt
 
-    go : (take 4194305 all ≡ all) ⊎ (limit < length all) → (input : List ℕ) × IsInput (Some all) input × FormatsTo input (Err fault)
+    go : (take (limit + 1) all ≡ all) ⊎ (limit < length all) → (input : List ℕ) × IsInput (Some all) input × FormatsTo input (Err fault)
     go (inl whole) = (all, refl, subst (λ (text : List ℕ). FormatsTo text (Err fault)) (read ∙ whole) formats)
     go (inr long) = (all, refl, longer long fault (subst (λ (text : List ℕ). FormatsTo text (Err fault)) read formats))

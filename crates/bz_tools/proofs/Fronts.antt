@@ -1,5 +1,5 @@
 -- The first bytes of an input, one more than a text may have, tell what becomes of it.
-use Rattle.std.proofs.Common.{◌≡◌, ◌⊎◌, inl, inr, ℕ, ◌≤◌, ◌<◌, List, length, take, arith, length-take}
+use Rattle.std.proofs.Common.{◌≡◌, ◌⊎◌, ◌+◌, inl, inr, ℕ, ◌≤◌, ◌<◌, List, length, take, arith, length-take}
 use Rattle.std.proofs.lemmas.List.{take_all}
 use Rattle.std.proofs.lemmas.Bool.{cases_lt}
 use Rattle.bz_lex.specs.declared.fault.ReadFault.{ReadFault}
@@ -11,9 +11,9 @@ use Rattle.bz_journal.specs.Faults.{IsFaultOf}
 pub within_limit : (text : List ℕ) → Accepted text → length text ≤ limit
 within_limit text accepted = accepted.1.2
 
-pub fault_of_front : (all : List ℕ) (fault : ReadFault) → limit < length all → IsFaultOf (take 4194305 all) fault → IsFaultOf all fault
+pub fault_of_front : (all : List ℕ) (fault : ReadFault) → limit < length all → IsFaultOf (take (limit + 1) all) fault → IsFaultOf all fault
 fault_of_front all fault long of_front =
-    let len = length-take 4194305 all in
+    let len = length-take (limit + 1) all in
     let large : fault ≡ f.TooLarge = of_front.too_large.1 (omega arith) in
     record {
       too_large = (λ _. long, λ _. large);
@@ -22,14 +22,14 @@ fault_of_front all fault long of_front =
     }
 
 -- the whole text, or what its front shows of a longer one
-pub cut_at_limit : (all : List ℕ) → (take 4194305 all ≡ all) ⊎ (limit < length all)
+pub cut_at_limit : (all : List ℕ) → (take (limit + 1) all ≡ all) ⊎ (limit < length all)
 cut_at_limit all = go (cases_lt limit (length all))
   where
-    go : (limit < length all) ⊎ (length all ≤ limit) → (take 4194305 all ≡ all) ⊎ (limit < length all)
-    go (inr short) = inl (take_all 4194305 all (omega arith))
+    go : (limit < length all) ⊎ (length all ≤ limit) → (take (limit + 1) all ≡ all) ⊎ (limit < length all)
+    go (inr short) = inl (take_all (limit + 1) all (omega arith))
     go (inl long) = inr long
 
-pub long_front : (all : List ℕ) → limit < length all → Accepted (take 4194305 all) → ⊥
+pub long_front : (all : List ℕ) → limit < length all → Accepted (take (limit + 1) all) → ⊥
 long_front all long accepted =
-    let le = within_limit (take 4194305 all) accepted in
-    let len = length-take 4194305 all in omega arith
+    let le = within_limit (take (limit + 1) all) accepted in
+    let len = length-take (limit + 1) all in omega arith

@@ -1,8 +1,11 @@
 -- What is read is the one file that the leaves are.
-use Rattle.std.proofs.Common.{◌≡◌, ℕ, suc, ◌-◌, ◌≤◌, max, List, [], ◌∷◌, ◌++◌, Some, None, refl, sym, ap, subst, ◌∙◌, arith}
+use Rattle.std.proofs.Common.{◌≡◌, ℕ, suc, ◌≤◌, max, Result, Ok, Err, List, [], ◌∷◌, ◌++◌, Some, None, refl, sym, ap, subst, ◌∙◌, arith}
+use Rattle.std.specs.Prelude.{IfOk}
 use Rattle.std.proofs.lemmas.List.{append-nil}
 use Rattle.std.proofs.lemmas.Option.{same_Some, none-some}
 use Rattle.bz_lex.specs.declared.leaf.Leaf.{Leaf}
+use Rattle.bz_tree.specs.declared.token.Halt.{Halt}
+use Rattle.bz_tree.specs.declared.token.Halt.TheVariants as halt
 use Rattle.bz_tree.specs.declared.kind.Kind.{Kind}
 use Rattle.bz_tree.specs.declared.kind.Kind.TheVariants as k
 use Rattle.bz_tree.specs.declared.tree.Node.{Node}
@@ -11,6 +14,7 @@ use Rattle.bz_tree.specs.Spell.{leaves_of, depth_of, depth_limit}
 use Rattle.bz_tree.specs.Shapes.{Fits, shape}
 use Rattle.bz_tree.specs.Legal.{IsFile, IsFileOf}
 use Rattle.bz_tree.specs.Laws.{OneFile}
+use Rattle.bz_tree.specs.Words.{Fails}
 use Rattle.bz_tree.specs.Reading.{run, reading, if_all, read_file}
 use Rattle.bz_tree.proofs.Exact.{all_leaves, bind_some, Exact}
 use Rattle.bz_tree.proofs.Shapes.{go, run_exact}
@@ -42,11 +46,18 @@ read_sound d ts n e =
     let s = (file_shape d).sound ts x.0 x.1 in
     subst (λ (m : Node). IsFile m × (leaves_of m ≡ ts) × (depth_of m ≤ suc d)) w.1 (sound_file d ts x.0.0 s.0 (s.1 ∙ ap (λ (us : List Leaf). all_leaves x.0.0 ++ us) w.0))
 
-pub file_read : (ts : List Leaf) (n : Node) → read_file (depth_limit - 1) ts ≡ Some n → IsFileOf ts n
-file_read ts n e = let w = read_sound (depth_limit - 1) ts n e in record { file = w.0; leaves = w.1; depth = omega (arith, w.2) }
+-- Of any depth: at a number, the reader would be computed as far down as the number says.
+pub file_read : (d : ℕ) (ts : List Leaf) (result : Result Node Halt) → IfOk result (λ file. read_file d ts ≡ Some file) → suc d ≡ depth_limit → IfOk result (λ file. IsFileOf ts file)
+file_read d ts (Ok n) e is = let w = read_sound d ts n e in record { file = w.0; leaves = w.1; depth = omega (arith, w.2, is) }
+file_read d ts (Err _) e is = tt
 
-pub no_file : (ts : List Leaf) → read_file (depth_limit - 1) ts ≡ None → (n : Node) → IsFileOf ts n → ⊥
-no_file ts e n h = let c = read_complete (depth_limit - 1) n h.file (omega (arith, h.depth)) in none-some n (sym e ∙ ap (read_file (depth_limit - 1)) (sym h.leaves) ∙ c)
+no_file_of : (d : ℕ) (ts : List Leaf) → suc d ≡ depth_limit → read_file d ts ≡ None → (n : Node) → IsFileOf ts n → ⊥
+no_file_of d ts is e n h = let c = read_complete d n h.file (omega (arith, h.depth, is)) in none-some n (sym e ∙ ap (read_file d) (sym h.leaves) ∙ c)
+
+pub no_file : (d : ℕ) (ts : List Leaf) (result : Result Node Halt) → Fails result (read_file d ts) → suc d ≡ depth_limit → result ≡ Err halt.Unexpected → (n : Node) → IsFileOf ts n → ⊥
+no_file d ts (Ok n) fails is e = absurd (cc)
+no_file d ts (Err halt.Unexpected) none is e = no_file_of d ts is none
+no_file d ts (Err halt.Memory) fails is e = absurd (cc)
 
 pub one_file : OneFile
 one_file m n f g e =

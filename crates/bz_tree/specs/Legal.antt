@@ -33,7 +33,7 @@ pub record IsFile (n : Node) : Type 0 where
   pub root : n.kind ≡ k.File
   pub shapes : LegalShapes n
 
--- A file of these leaves, at most 200 nodes deep.
+-- A file of these leaves, no deeper than the limit of depth.
 pub record IsFileOf (leaves_there : List Leaf) (n : Node) : Type 0 where
   pub file : IsFile n
   pub leaves : leaves_of n ≡ leaves_there
@@ -41,7 +41,7 @@ pub record IsFileOf (leaves_there : List Leaf) (n : Node) : Type 0 where
 
 -- A tree is legal where it is a file by its shapes, its gaps stand where they may (said on the nodes: where newlines,
 -- comments and indents stand), its tokens are the longest lexemes of its spelling, gaps and tokens are texts of
--- characters, and its depth is at most 200.
+-- characters, and it is no deeper than the limit of depth.
 pub record Legal (n : Node) : Type 0 where
   pub file : IsFile n
   pub gaps : AtParts Stands Begins Begins n.parts
@@ -49,7 +49,7 @@ pub record Legal (n : Node) : Type 0 where
   pub coded : AreCoded (leaves_of n)
   pub depth : depth_of n ≤ depth_limit
 
--- A text reads as a tree: the tree is legal, spells the text, and the text has at most 4,194,304 bytes.
+-- A text reads as a tree: the tree is legal, spells the text, and the text is no longer than the limit.
 abbrev pub Reads : List ℕ → Node → Type 0
 Reads s n = Legal n × (spell_node n ≡ s) × (length s ≤ limit)
 

@@ -1,8 +1,8 @@
 //! The parser: nodes by the table of states, expressions by their ranks.
-ghost use Rattle.std.specs.Prelude.{◌≡◌, ◌∷◌, ◌≤◌, ◌<◌, [], ℕ, Some, None, Err, IfOk, length, take, drop};
+ghost use Rattle.std.specs.Prelude.{◌≡◌, ◌∷◌, ◌≤◌, ◌*◌, [], ℕ, Some, None, Err, IfOk, length, take, drop};
 ghost use Rattle.bz_tree.specs.declared.tree.Node.{Node};
 ghost use Rattle.bz_tree.specs.declared.token.Halt.TheVariants as h;
-ghost use Rattle.bz_tree.specs.Spell.{deepest};
+ghost use Rattle.bz_tree.specs.Spell.{deepest, depth_limit};
 ghost use Rattle.bz_tree.specs.Legal.{IsFileOf};
 ghost use Rattle.bz_tree.specs.Reading.{read_file};
 ghost use Rattle.bz_tree.specs.Words.{terminals_of, part_at, Pushes, Fails};
@@ -11,7 +11,6 @@ ghost use Rattle.bz_tree.specs.declared.tree.Part.{Part};
 
 use crate::deep::{goes_on, mark_next, mark_part};
 use crate::kind::Kind;
-use crate::limits::DEPTH_LIMIT;
 use crate::row::{Stack, deeper};
 use crate::state::{
     CONDITION, FileAt, Items, ItemsAt, Move, NOT, PRIMARY, Rest, RoundAt, Rung, Sort, State,
@@ -19,12 +18,12 @@ use crate::state::{
 };
 use crate::token::{Halt, Leaves, Token};
 use crate::tree::{Node, Part};
+use bz_lex::DEPTH_LIMIT;
 use std::alloc::Global;
 
 /// The leaves as a file within the limit of depth.
 ///
 /// Errors: `Unexpected` where no such file has these leaves; `Memory` where a growth was refused.
-#[tactic(auto, using(crate::proofs::Files::file_read, crate::proofs::Files::no_file))]
 pub fn file(alloc: Global, leaves: &mut Leaves) -> Result<Node, Halt>
     ensures ok { IfOk result (λ file. IsFileOf leaves.old file) }
     ensures err { (result ≡ Err h.Unexpected) → (file : Node) → IsFileOf leaves.old file → ⊥ }
@@ -34,7 +33,7 @@ pub fn file(alloc: Global, leaves: &mut Leaves) -> Result<Node, Halt>
 
 /// All leaves as a file of which the parts are at most so deep.
 pub fn whole(alloc: Global, depth: u32, leaves: &mut Leaves) -> Result<Node, Halt>
-    requires { depth < 1000 }
+    requires { depth ≤ 2 * depth_limit }
     ensures ok { IfOk result (λ file. read_file depth leaves.old ≡ Some file) }
     ensures err { Fails result (read_file depth leaves.old) }
 {
@@ -56,7 +55,7 @@ pub fn whole(alloc: Global, depth: u32, leaves: &mut Leaves) -> Result<Node, Hal
 /// What is read of a file of which the parts are at most so deep: the file, or where no file goes on with some leaf its lines
 /// in front of that one and then parts of the line there. The error, `Memory` alone: a growth was refused.
 pub fn read_so_far(alloc: Global, depth: u32, leaves: &mut Leaves) -> Result<Stack, Halt>
-    requires { depth < 1000 }
+    requires { depth ≤ 2 * depth_limit }
 {
     let mut stack = Stack::new(alloc);
     match begin(State::File(FileAt::Lines), depth, &mut stack, leaves) {
@@ -78,7 +77,7 @@ fn follow(
     requires from { from ≤ length stack.old }
     requires deep { deep ≡ deepest (drop from stack.old) }
     requires within { deep ≤ depth }
-    requires small { depth < 1000 }
+    requires small { depth ≤ 2 * depth_limit }
     ensures ok { IfOk result (λ deep. Pushes (found_at depth (drop from stack.old) state leaves.old) (take from stack.old) stack.new leaves.new deep) }
     ensures err { Fails result (found_at depth (drop from stack.old) state leaves.old) }
 {
@@ -108,7 +107,7 @@ fn follow(
 /// A node from its first part on.
 #[cycle(parser)]
 fn begin(state: State, depth: u32, stack: &mut Stack, leaves: &mut Leaves) -> Result<u32, Halt>
-    requires small { depth < 1000 }
+    requires small { depth ≤ 2 * depth_limit }
     ensures ok { IfOk result (λ deep. Pushes (found_at depth [] state leaves.old) stack.old stack.new leaves.new deep) }
     ensures err { Fails result (found_at depth [] state leaves.old) }
 {
@@ -128,7 +127,7 @@ fn go_on(
 ) -> Result<u32, Halt>
     requires from { from ≤ length stack.old }
     requires deep { deep ≡ deepest (drop from stack.old) }
-    requires small { depth < 1000 }
+    requires small { depth ≤ 2 * depth_limit }
     ensures ok { IfOk result (λ after. Pushes (fitted_at depth deep (drop from stack.old) state leaves.old) (take from stack.old) stack.new leaves.new after) }
     ensures err { Fails result (fitted_at depth deep (drop from stack.old) state leaves.old) }
 {
@@ -144,7 +143,7 @@ fn go_on(
 /// A part of this sort that is at most so deep. Tells how deep it is.
 #[cycle(parser)]
 fn part(sort: Sort, depth: u32, stack: &mut Stack, leaves: &mut Leaves) -> Result<u32, Halt>
-    requires small { depth < 1000 }
+    requires small { depth ≤ 2 * depth_limit }
     ensures ok { IfOk result (λ deep. Pushes (part_at depth (sort_of sort) leaves.old) stack.old stack.new leaves.new deep) }
     ensures err { Fails result (part_at depth (sort_of sort) leaves.old) }
 {
@@ -198,7 +197,7 @@ fn leaf_of(sort: Sort, stack: &mut Stack, leaves: &mut Leaves) -> Result<u32, Ha
 /// operators behind it, from those that bind tightest on.
 #[cycle(parser)]
 fn expression(n: u8, depth: u32, stack: &mut Stack, leaves: &mut Leaves) -> Result<u32, Halt>
-    requires small { depth < 1000 }
+    requires small { depth ≤ 2 * depth_limit }
     ensures ok { IfOk result (λ deep. Pushes (level_at depth n leaves.old) stack.old stack.new leaves.new deep) }
     ensures err { Fails result (level_at depth n leaves.old) }
 {
@@ -223,7 +222,7 @@ struct Begun {
 /// What an expression of this rank begins with: the node of `not` or of a sign, or a primary.
 #[cycle(parser)]
 fn operand(n: u8, depth: u32, stack: &mut Stack, leaves: &mut Leaves) -> Result<Begun, Halt>
-    requires small { depth < 1000 }
+    requires small { depth ≤ 2 * depth_limit }
     ensures ok { IfOk result (λ first. Rises depth first.rank n leaves.old leaves.new stack.old stack.new first.deep) }
     ensures err { Fails result (level_at depth n leaves.old) }
 {
@@ -259,7 +258,7 @@ fn raised(
 ) -> Result<u32, Halt>
     requires from { from ≤ length stack.old }
     requires deep { deep ≡ deepest (drop from stack.old) }
-    requires small { depth < 1000 }
+    requires small { depth ≤ 2 * depth_limit }
     ensures ok { (a : Part) → drop from stack.old ≡ a ∷ [] → IfOk result (λ after. Pushes (bound_at depth rank a leaves.old) (take from stack.old) stack.new leaves.new after) }
     ensures err { (a : Part) → drop from stack.old ≡ a ∷ [] → Fails result (bound_at depth rank a leaves.old) }
 {
@@ -279,7 +278,7 @@ fn raised(
 /// A name, a number, a string or what stands in brackets, and what stands behind it.
 #[cycle(parser)]
 fn primary(depth: u32, stack: &mut Stack, leaves: &mut Leaves) -> Result<u32, Halt>
-    requires small { depth < 1000 }
+    requires small { depth ≤ 2 * depth_limit }
     ensures ok { IfOk result (λ deep. Pushes (level_at depth 0 leaves.old) stack.old stack.new leaves.new deep) }
     ensures err { Fails result (level_at depth 0 leaves.old) }
 {
@@ -301,7 +300,7 @@ fn primary(depth: u32, stack: &mut Stack, leaves: &mut Leaves) -> Result<u32, Ha
 /// A name, a number, a string or what stands in brackets.
 #[cycle(parser)]
 fn atom(depth: u32, stack: &mut Stack, leaves: &mut Leaves) -> Result<u32, Halt>
-    requires small { depth < 1000 }
+    requires small { depth ≤ 2 * depth_limit }
     ensures ok { IfOk result (λ deep. Pushes (atom_at depth leaves.old) stack.old stack.new leaves.new deep) }
     ensures err { Fails result (atom_at depth leaves.old) }
 {
@@ -319,7 +318,7 @@ fn atom(depth: u32, stack: &mut Stack, leaves: &mut Leaves) -> Result<u32, Halt>
 /// An argument of a call.
 #[cycle(parser)]
 fn argument(depth: u32, stack: &mut Stack, leaves: &mut Leaves) -> Result<u32, Halt>
-    requires small { depth < 1000 }
+    requires small { depth ≤ 2 * depth_limit }
     ensures ok { IfOk result (λ deep. Pushes (argument_at depth leaves.old) stack.old stack.new leaves.new deep) }
     ensures err { Fails result (argument_at depth leaves.old) }
 {

@@ -5,7 +5,6 @@ mod deep;
 mod grammar;
 mod kind;
 pub mod laws;
-mod limits;
 mod parsing;
 mod row;
 mod same;
@@ -15,8 +14,7 @@ mod symbol;
 mod token;
 mod tree;
 
-pub use bz_lex::{Class, Leaf, ReadFault};
+pub use bz_lex::{Class, DEPTH_LIMIT, LENGTH_LIMIT, Leaf, ReadFault};
 pub use kind::Kind;
-pub use limits::{DEPTH_LIMIT, LENGTH_LIMIT};
 pub use parsing::{parse, unexpected_at};
 pub use tree::{Node, Part, Tree, copy_all};

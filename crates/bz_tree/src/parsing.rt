@@ -8,17 +8,16 @@ ghost use Rattle.bz_tree.specs.Faults.{IsOfText, IsOther};
 
 use crate::deep::deeper_at;
 use crate::grammar::{file, read_so_far};
-use crate::limits::{DEPTH_LIMIT, LENGTH_LIMIT};
 use crate::token::{Halt, Leaves};
 use crate::tree::Tree;
-use bz_lex::{ReadFault, fault_at, place_of};
+use bz_lex::{DEPTH_LIMIT, LENGTH_LIMIT, ReadFault, fault_at, place_of};
 use std::alloc::Global;
 use std::str::from_utf8;
 
 /// Reads a text as the legal tree that spells it.
 ///
-/// Errors: `TooLarge` for a text past 4,194,304 bytes; `NotUtf8` with the length of the longest beginning that is;
-/// `BadCharacter`, `OpenString`, `Indented`, `Unexpected` or `TooDeep` (a tree deeper than 200) with line and column of the
+/// Errors: `TooLarge` for a text past `LENGTH_LIMIT`; `NotUtf8` with the length of the longest beginning that is;
+/// `BadCharacter`, `OpenString`, `Indented`, `Unexpected` or `TooDeep` (a tree past `DEPTH_LIMIT`) with line and column of the
 /// first fault where no legal tree spells the text; `Memory` where a growth was refused.
 pub fn parse(alloc: Global, text: &[u8]) -> Result<Tree, ReadFault>
     ensures ok { IfOk result (λ tree. Reads text.now tree) }

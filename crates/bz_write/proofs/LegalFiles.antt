@@ -15,7 +15,7 @@ use Rattle.bz_tree.specs.declared.kind.Kind.TheVariants as k
 use Rattle.bz_tree.specs.declared.tree.Node.{Node}
 use Rattle.bz_tree.specs.declared.tree.Part.{Part, Row_of-Part, end_of-Part, more_of-Part, Node'}
 use Rattle.bz_tree.specs.declared.tree.Part.TheVariants as p
-use Rattle.bz_tree.specs.Spell.{spell_node, leaves_part, leaves_row, depth_of}
+use Rattle.bz_tree.specs.Spell.{spell_node, leaves_part, leaves_row, depth_of, depth_limit}
 use Rattle.bz_tree.specs.Shapes as s
 use Rattle.bz_tree.specs.Shapes.{Fits, shape, has_sort, has_kind}
 use Rattle.bz_tree.specs.Legal.{IsSort, LegalPart, Legal}
@@ -184,7 +184,7 @@ lines_stand (i.Stmt x ∷ xs) h gap g =
     }
 
 -- what is drawn of a proper file value is legal, where it is not too deep
-pub drawn_legal : (items : List Item) → IsProper items → depth_of (drawn items) ≤ 200 → Legal (drawn items)
+pub drawn_legal : (items : List Item) → IsProper items → depth_of (drawn items) ≤ depth_limit → Legal (drawn items)
 drawn_legal items h d =
     let lines : AreLines (lines_from [] items) = lines_stand items (recursion_from_All IsProperItem items h) [] first_nothing in
     record {

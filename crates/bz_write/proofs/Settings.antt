@@ -1,9 +1,9 @@
 -- What the tests of the limits say of the tree of a layout.
-use Rattle.std.proofs.Common.{◌≡◌, ◌≤◌, ◌<◌, true, false, suc, List, [], length, ap, sym, ◌∙◌, subst, arith}
+use Rattle.std.proofs.Common.{◌≡◌, ◌≤◌, ◌<◌, ◌-◌, true, false, suc, List, [], length, ap, sym, ◌∙◌, subst, arith}
 use Rattle.bz_tree.specs.declared.kind.Kind.TheVariants as k
 use Rattle.bz_tree.specs.declared.tree.Node.{Node}
 use Rattle.bz_tree.specs.declared.tree.Part.{Part}
-use Rattle.bz_tree.specs.Spell.{spell_node, depth_of, limit}
+use Rattle.bz_tree.specs.Spell.{spell_node, depth_of, limit, depth_limit}
 use Rattle.bz_tree.specs.Legal.{Legal}
 use Rattle.bz_value.specs.declared.value.Item.{Item}
 use Rattle.bz_value.specs.Proper.{IsProper}
@@ -21,16 +21,16 @@ use Rattle.bz_write.proofs.Spelled.{drawn_spelled}
 abbrev pub file_of : List Part → Node
 file_of parts = record { kind = k.File; parts = parts }
 
-pub past_limit : (xs : List Item) → (length (layout xs) ≤ 4194304 → false ≡ true) → limit < length (layout xs)
-past_limit xs long = let longer : length (layout xs) ≤ 4194304 → ⊥ = λ short. let no_ : false ≡ true = long short in cc in omega (arith, longer)
+pub past_limit : (xs : List Item) → (length (layout xs) ≤ limit → false ≡ true) → limit < length (layout xs)
+past_limit xs long = let longer : length (layout xs) ≤ limit → ⊥ = λ short. let no_ : false ≡ true = long short in cc in omega (arith, longer)
 
-pub past_depth : (xs : List Item) → length (layout xs) ≤ 4194304 → (depth_items xs ≤ 199 → false ≡ true) → (length (layout xs) ≤ limit) × (200 < depth_of (drawn xs))
+pub past_depth : (xs : List Item) → length (layout xs) ≤ limit → (depth_items xs ≤ depth_limit - 1 → false ≡ true) → (length (layout xs) ≤ limit) × (depth_limit < depth_of (drawn xs))
 past_depth xs short deep =
-    let deeper : depth_items xs ≤ 199 → ⊥ = λ shallow. let no_ : false ≡ true = deep shallow in cc in
+    let deeper : depth_items xs ≤ depth_limit - 1 → ⊥ = λ shallow. let no_ : false ≡ true = deep shallow in cc in
     let depth : depth_of (drawn xs) ≡ suc (depth_items xs) = drawn_depth xs in
     (short, omega (arith, depth, deeper))
 
-pub legal_file : (xs : List Item) (parts : List Part) → IsProper xs → parts ≡ lines_from [] xs → length (layout xs) ≤ 4194304 → depth_items xs ≤ 199 →
+pub legal_file : (xs : List Item) (parts : List Part) → IsProper xs → parts ≡ lines_from [] xs → length (layout xs) ≤ limit → depth_items xs ≤ depth_limit - 1 →
     Legal (file_of parts) × (length (spell_node (file_of parts)) ≤ limit)
 legal_file xs parts h e short shallow =
     let depth : depth_of (drawn xs) ≡ suc (depth_items xs) = drawn_depth xs in

@@ -18,10 +18,10 @@ pub enum SetFault {
     /// A growth was refused.
     #[error("Memory")]
     Memory,
-    /// The text of the layout is longer than 4,194,304 bytes.
+    /// The text of the layout is longer than `LENGTH_LIMIT`.
     #[error("TooLarge")]
     TooLarge,
-    /// The tree of the layout is deeper than 200.
+    /// The tree of the layout is deeper than `DEPTH_LIMIT`.
     #[error("TooDeep")]
     TooDeep,
 }
