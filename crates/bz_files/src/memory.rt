@@ -37,13 +37,13 @@ fn found<'a>(log: &'a [Entry], name: &str) -> Option<&'a [u8]>
     bytes
 }
 
-// The first writes of a log, or all where it has fewer.
-fn first_of(log: &[Entry], count: usize) -> &[Entry]
-    ensures { result.now ≡ take count log.now }
+// The first items of a list, or all where it has fewer.
+fn first_of<T>(items: &[T], count: usize) -> &[T]
+    ensures { result.now ≡ take count items.now }
 {
-    match log.get(..count) {
+    match items.get(..count) {
         Some(front) => front,
-        None => log,
+        None => items,
     }
 }
 
@@ -228,13 +228,13 @@ impl Files for MemoryFiles {
 
     ghost only_now = { λ m now stood. only_stands m.log.items now stood };
 
-    fn read(&mut self, name: &str, into: &mut Vec<u8>) -> Result<(), FileFault> {
+    fn read_most(&mut self, name: &str, most: usize, into: &mut Vec<u8>) -> Result<(), FileFault> {
         if !self.goes_on() || self.refuses(name) {
             return Err(self.failed(FileFault::Open));
         }
         match self.bytes_at(name) {
             None => Err(FileFault::Absent),
-            Some(bytes) => match into.extend_from_slice(bytes) {
+            Some(bytes) => match into.extend_from_slice(first_of(bytes, most)) {
                 Ok(()) => Ok(()),
                 Err(_) => Err(FileFault::Memory),
             },

@@ -10,8 +10,8 @@ use crate::file::keep_file;
 use bz_files::{FileFault, Files};
 use std::alloc::Global;
 
-// Reads a file, which is to hold this text. Errors: `Changed`: it holds another or isn't there; `Open`: it could not be read;
-// `Memory`: a growth was refused.
+// Reads a file, which is to hold this text: of a longer one no more than the byte that tells. Errors: `Changed`: it holds another or
+// isn't there; `Open`: it could not be read; `Memory`: a growth was refused.
 fn check_file<F: Files>(
     alloc: Global,
     files: &mut F,
@@ -30,7 +30,7 @@ fn check_file<F: Files>(
     ensures honest { F.honest files.new ≡ F.honest files.old }
 {
     let mut held = Vec::new(alloc);
-    match files.read(file, &mut held) {
+    match files.read_most(file, standing.len() + 1, &mut held) {
         Ok(()) => {
             if held.as_slice() == standing {
                 Ok(())

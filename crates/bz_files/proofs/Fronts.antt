@@ -1,0 +1,26 @@
+-- The front of a list.
+use Rattle.std.proofs.Common.{◌≡◌, ◌<◌, ◌+◌, ◌++◌, ◌∙◌, ℕ, List, [], length, take, ap, sym, arith, length-append, length-take}
+use Rattle.std.proofs.lemmas.List.{take_all}
+
+-- Fewer than could be taken are all.
+pub all_taken : (most : ℕ) (bytes : List ℕ) → length (take most bytes) < most → take most bytes ≡ bytes
+all_taken most bytes short = take_all most bytes (omega (arith, short, length-take most bytes))
+
+pub all_added : (most : ℕ) (bytes start items : List ℕ) → items ≡ start ++ take most bytes → length items < most → items ≡ start ++ bytes
+all_added most bytes start items is short =
+    let len : length items ≡ length start + length (take most bytes) = ap length is ∙ length-append start (take most bytes) in
+    is ∙ ap (λ (front : List ℕ). start ++ front) (all_taken most bytes (omega (arith, len, short)))
+
+-- what was read behind nothing
+pub front_read : (most : ℕ) (bytes start items read : List ℕ) → items ≡ start ++ take most bytes → start ≡ [] → read ≡ items → read ≡ take most bytes
+front_read most bytes start items read is empty same = same ∙ is ∙ ap (λ (s : List ℕ). s ++ take most bytes) empty
+
+-- ---- a front of one more than a list has tells whether this is the list
+
+pub is_list : (held bytes : List ℕ) → take (length held + 1) bytes ≡ held → bytes ≡ held
+is_list held bytes front =
+    let short : length (take (length held + 1) bytes) < length held + 1 = omega (arith, ap length front) in
+    sym (all_taken (length held + 1) bytes short) ∙ front
+
+pub front_is : (held bytes : List ℕ) → bytes ≡ held → take (length held + 1) bytes ≡ held
+front_is held bytes same = take_all (length held + 1) bytes (omega (arith, ap length same)) ∙ same
