@@ -5,6 +5,7 @@
 # make edits  tries the further edits that the prover must refuse, those of edits/; with CRATE=.. those of one crate
 # make test   the tests: runs of the programs (tests/), every proof from nothing, the edits that the prover must refuse, each program and each test
 # make bench  the time and the memory of a delete in a large file, of many commands in one run, also where it keeps a journal, of a run over many packages, and of reading a file; with FOLDER=.. of the BUILD files there
+# make largest    what texts of 4, 16 and 64 MiB cost: a format, a command, one with --journal and an undo (6 minutes, 4 GB of memory)
 # make shapes how much longer reading takes for twice the text, for texts of thirty shapes (5 minutes)
 # make hostile    torn, deep and made texts, torn and forged journals, runs that are killed, each request for memory refused, each call of the system failing, and devices that fail: all of it
 # make fuzz       both programs over mutants for MINUTES=10 of the clock; with SEED=.. the case of that number alone
@@ -23,7 +24,7 @@ SHARED = $(foreach program,$(notdir $(PROGRAMS)),share/man/man1/$(program).1 sha
 # what the programs are made of; a second 'make' with nothing changed does nothing
 SOURCES = crates.txt $(shell find crates -name out -prune -o -path '*/must-fail' -prune -o -type f -print)
 
-.PHONY: all share install uninstall dist test edits bench shapes hostile fuzz corpus clean rt
+.PHONY: all share install uninstall dist test edits bench largest shapes hostile fuzz corpus clean rt
 
 all: $(PROGRAMS) share bin/.shown
 
@@ -82,6 +83,9 @@ bench: $(PROGRAMS) bin/cases
 	@bench/journals.py
 	@bench/packages.py
 	@bench/reading.sh $(if $(FOLDER),"$(FOLDER)")
+
+largest: $(PROGRAMS)
+	@bench/largest.py
 
 shapes: bin/cases
 	@bench/shapes.py

@@ -17,7 +17,7 @@ import tempfile
 
 TOP = pathlib.Path(__file__).resolve().parent.parent
 RUNS = int(os.environ.get("BEST_OF", "3"))
-# rules whose text is just below the longest that is read
+# rules whose text has 4.2 MB
 MOST = 28_600
 
 RULE = """\

@@ -1,7 +1,7 @@
 #!/bin/sh
 # Reads each BUILD, WORKSPACE and MODULE.bazel file below a folder and spells it back: bench/corpus.sh FOLDER. Prints the
 # names of those that were refused or came back with other bytes, and how many did not; the status is 1 where any did.
-# A name may have another in front or behind, as in zlib.BUILD or BUILD.tools. Files past 4 MiB are left out, since no text is
+# A name may have another in front or behind, as in zlib.BUILD or BUILD.tools. Files past 64 MiB are left out, since no text is
 # longer. Build the program first (make bin/cases).
 set -eu
 folder=${1:?"FOLDER is missing: bench/corpus.sh FOLDER"}
@@ -10,7 +10,7 @@ program=$(dirname "$0")/../bin/cases
 scratch=$(mktemp -d)
 trap 'rm -rf "$scratch"' EXIT
 
-find "$folder" -type f ! -size +4194304c \
+find "$folder" -type f ! -size +67108864c \
     \( -name '*BUILD' -o -name '*BUILD.*' -o -name '*WORKSPACE*' -o -name '*MODULE.bazel' \) | sort > "$scratch/names"
 accepted=0
 others=0

@@ -39,7 +39,7 @@ for path, _, names in sorted(os.walk(folder)):
         file = os.path.join(path, name)
         with open(file, "rb") as source:
             text = source.read()
-        if len(text) > 4194304:
+        if len(text) > 67108864:
             continue
         once = formatted(text)
         if once is None:

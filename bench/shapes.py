@@ -13,7 +13,7 @@ import tempfile
 TOP = pathlib.Path(__file__).resolve().parent.parent
 SIZE = 2_000_000
 ROUNDS = 9
-DEEP = 190
+DEEP = 490
 
 # a shape is what stands in front, what is repeated, and what stands behind
 SHAPES = {
