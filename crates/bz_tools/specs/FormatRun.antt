@@ -174,10 +174,11 @@ FormatOutcomeOf (Err usage) known folder after folder' =
 FormatOutcomeOf (Ok line) known folder after folder' = RunOf line.mode line.files known folder after folder'
 
 -- Words, the bytes of standard input where they are known, and the folder before: what the run has done at its end, and
--- the folder after. Memory may be refused before anything is done.
+-- the folder after. Memory may be refused before anything is done, which is told.
 abbrev pub FormatOutcome : List Bytes → Option Bytes → Folder → Run → Folder → Type 0
 FormatOutcome words known folder after folder' =
-    ((after ≡ record begun { status = 3; cut = c.Memory }) × (folder' ≡ folder)) ⊎ FormatOutcomeOf (format_line words) known folder after folder'
+    ((after ≡ record begun { lines = named_line (codes "buildifier") (codes "Memory") ∷ []; status = 3; cut = c.Memory }) × (folder' ≡ folder))
+    ⊎ FormatOutcomeOf (format_line words) known folder after folder'
 
 -- ---- why a run of files is cut
 

@@ -49,7 +49,7 @@ const DONE: u8 = 0;
 
 const REFUSED: u8 = 1;
 
-pub(crate) const FAILED: u8 = 3;
+const FAILED: u8 = 3;
 
 const DIFFERS: u8 = 4;
 

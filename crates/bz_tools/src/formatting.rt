@@ -1,9 +1,9 @@
 //! The program buildifier over any reader, writers and files.
-ghost use Rattle.std.specs.Prelude.{◌≡◌, ◌≢◌, ◌⊎◌, ◌≤◌, [], ◌∷◌, List, ℕ, true, false, IfOk, IfSome, OnOk, OnErr, IsErr, Some, map};
+ghost use Rattle.std.specs.Prelude.{◌≡◌, ◌≢◌, ◌⊎◌, ◌≤◌, [], ◌∷◌, List, ℕ, true, false, IfOk, OnOk, OnErr, IsErr, Some, codes, map};
 ghost use Rattle.std.specs.FinMap.{get};
 ghost use Rattle.bz_ports.specs.Faults.{Rises, AppendsUnlessFailed};
 ghost use Rattle.bz_ports.specs.Outputs.{Tells, Counts, Writes, WritesUnlessClosed};
-ghost use Rattle.bz_ports.specs.Told.{stdin};
+ghost use Rattle.bz_ports.specs.Told.{stdin, named_line};
 ghost use Rattle.bz_tools.specs.Modes as m;
 ghost use Rattle.bz_tools.specs.Modes.{format_line};
 ghost use Rattle.bz_tools.specs.FormatRun as r;
@@ -11,7 +11,7 @@ ghost use Rattle.bz_tools.specs.FormatRun.{IsCutBy, Rewrites, FileStep, InputSte
 ghost use Rattle.bz_tools.specs.FormatShown.{effect_of, progress_of, usage_of};
 
 use crate::effect::{
-    BEGUN, Effect, FAILED, Progress, fail, file_out, grown, input_out, is_rewritten, print,
+    BEGUN, Effect, Progress, fail, file_out, grown, input_out, is_rewritten, print,
     refused, text_status, unread_file,
 };
 use crate::format_line::{FormatLine, FormatUsage, read_format_line};
@@ -154,51 +154,50 @@ fn run_files<F: Files, W: Sink, E: Sink>(
     progress
 }
 
-// Tells why the words are no line of the program's; of memory that was refused nothing is told. The error: there was no
-// memory for the text of a fault that clap finds; nothing is then told.
+// Tells why the words are no line of the program's. The error: memory was refused, to the words or to the text of a fault
+// that clap finds; nothing is then told.
 fn tell_unusable<E: Sink>(
     alloc: Global,
     err: &mut E,
     fault: &FormatUsage<'_>,
 ) -> Result<(), AllocError>
-    ensures ok { OnOk result (IfSome (usage_of fault.now) (λ usage. (line : List ℕ) × IsFormatUsageLine usage line
-        × AppendsUnlessFailed (E.faults err.old) (E.faults err.new) (E.contents err.old) (E.contents err.new) line)) }
+    ensures ok { OnOk result ((usage : m.FormatUsage) × (line : List ℕ) × (usage_of fault.now ≡ Some usage) × IsFormatUsageLine usage line
+        × AppendsUnlessFailed (E.faults err.old) (E.faults err.new) (E.contents err.old) (E.contents err.new) line) }
     ensures err { OnErr result (err.new ≡ err.old) }
 {
     match fault {
-        FormatUsage::Line(error) => return tell_clap(alloc, err, error),
-        FormatUsage::NoMode(name) => tell(err, &["buildifier: no mode: ", name, "\n"]),
-        FormatUsage::Memory => {}
+        FormatUsage::Line(error) => tell_clap(alloc, err, error),
+        FormatUsage::NoMode(name) => {
+            tell(err, &["buildifier: no mode: ", name, "\n"]);
+            Ok(())
+        }
+        FormatUsage::Memory => Err(AllocError),
     }
-    Ok(())
 }
 
-// The words are no line of the program's, which is told; or memory was refused.
+// Memory was refused before anything was done, which is told.
+fn wanting<E: Sink>(err: &mut E) -> Exit
+    ensures exit { result ≡ record { status = 3; cut = Cut.Memory } }
+    ensures told { Tells (E.faults err.old) (E.faults err.new) (E.contents err.old) (E.contents err.new) (named_line (codes "buildifier") (codes "Memory") ∷ []) }
+{
+    let Effect { status, cut, .. } = fail(err, "buildifier", "Memory", Cut::Memory);
+    Exit { status, cut }
+}
+
+// The words are no line of the program's, or memory was refused. Each is told.
 fn unusable<E: Sink>(alloc: Global, fault: &FormatUsage<'_>, err: &mut E) -> Exit
     ensures { ((usage : m.FormatUsage) × (line : List ℕ) × (usage_of fault.now ≡ Some usage) × IsFormatUsageLine usage line
         × AppendsUnlessFailed (E.faults err.old) (E.faults err.new) (E.contents err.old) (E.contents err.new) line
         × (result ≡ record { status = 2; cut = Cut.Whole }))
-        ⊎ ((result ≡ record { status = 3; cut = Cut.Memory }) × (err.new ≡ err.old)) }
+        ⊎ ((result ≡ record { status = 3; cut = Cut.Memory })
+        × Tells (E.faults err.old) (E.faults err.new) (E.contents err.old) (E.contents err.new) (named_line (codes "buildifier") (codes "Memory") ∷ [])) }
 {
-    if let FormatUsage::Memory = fault {
-        return wanting();
-    }
     match tell_unusable(alloc, err, fault) {
         Ok(()) => Exit {
             status: USAGE,
             cut: Cut::Whole,
         },
-        Err(_) => wanting(),
-    }
-}
-
-// Memory was refused before anything was done.
-fn wanting() -> Exit
-    ensures { result ≡ record { status = 3; cut = Cut.Memory } }
-{
-    Exit {
-        status: FAILED,
-        cut: Cut::Memory,
+        Err(_) => wanting(err),
     }
 }
 
@@ -208,7 +207,8 @@ fn wanting() -> Exit
 /// text there. Statuses: 2 where the words are no line of the program's (nothing is then read); else 3 where a file could
 /// not be opened, read or written, memory was refused, or a formatted text would be past a limit; else 1 where a text is
 /// not accepted; else 4 where `check` found a difference; else 0. Each fault is told by one line on `err`, whose faults are
-/// passed over. Behind a fault of `out` nothing more is written there; files still are.
+/// passed over; where memory is refused to the words the line is `buildifier: Memory`. Behind a fault of `out` nothing more
+/// is written there; files still are.
 pub fn buildifier<S: AsStr, R: Source, W: Sink, E: Sink, F: Files>(
     alloc: Global,
     words: &[S],

@@ -1,6 +1,7 @@
-use Rattle.std.proofs.Common.{◌≡◌, ◌∙◌, ◌∷◌, [], inl, inr, refl, ap, map}
+use Rattle.std.proofs.Common.{◌≡◌, ◌∙◌, ◌∷◌, [], inl, inr, refl, ap, map, codes}
 use Rattle.bz_tools.specs.FormatRun as r
 use Rattle.bz_tools.specs.FormatShown.{seen_line}
+use Rattle.bz_ports.specs.Told.{named_line}
 use Rattle.bz_ports.specs.declared.exit.Cut.TheVariants as cut
 use Rattle.bz_tools.specs.declared.effect.Progress.{Progress}
 use Rattle.bz_ports.proofs.Outputs.{appends_nothing}
@@ -21,11 +22,11 @@ returns-in-Err-clause-run g c = λ _.
         (g.E.Sink.faults c.unusable.new.err, g.E.Sink.contents c.unusable.new.err, t.4, (refl, refl)),
       )
       | inr t ↦ (
-        record r.begun { status = 3; cut = cut.Memory },
+        record r.begun { lines = named_line (codes "buildifier") (codes "Memory") ∷ []; status = 3; cut = cut.Memory },
         inl (refl, refl),
         t.0,
         (refl, appends_nothing (g.W.Sink.contents c.args.out.now)),
-        (ap g.E.Sink.faults t.1, ap g.E.Sink.contents t.1),
+        t.1,
       )
     ]
 
