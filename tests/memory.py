@@ -196,8 +196,6 @@ def faults(refusing, row):
 MEMORY = re.compile(rb"(?:buildozer|buildifier): Memory|[^\n]*: (?:Memory|Memory \(8\)|cannot write)")
 BEHIND = re.compile(rb"buildozer: [^\n]*: (?:TooFar \(61\)|NoTarget \(41\))")
 FAILED = {"buildozer": 2, "buildifier": 3}
-# who tells nothing, and ends with that status, where memory is refused while its words are read and nothing is done yet
-SILENT = ["buildifier"]
 
 
 def is_command(row, place):
@@ -236,8 +234,6 @@ class Allowed:
         found = [f"the file {name}: {files.get(name)!r}" for name in {*files, *self.files} if files.get(name) not in self.files.get(name, [])]
         lines = left.err.splitlines()
         told = [line for line in lines if MEMORY.fullmatch(line) and line not in self.ample.err.splitlines()]
-        if self.row.program in SILENT and not told and (left, files) == (Left(FAILED[self.row.program], b""), self.row.files):
-            return []
         if left.status != FAILED[self.row.program] or not told:
             found.append(f"status {left.status}, and told is {left.err!r}")
         found += [f"the line {line}" for line in lines if line not in self.known and not MEMORY.fullmatch(line) and not BEHIND.fullmatch(line)]
