@@ -2,6 +2,12 @@ pub mod ActSteps
 pub mod CutSteps
 pub mod DoSteps
 pub mod EndingSteps
+pub mod ExactActions
+pub mod ExactEnding
+pub mod ExactFaults
+pub mod ExactLines
+pub mod ExactOutcomes
+pub mod ExactSteps
 pub mod HeldSteps
 pub mod InputSteps
 pub mod KeepSteps

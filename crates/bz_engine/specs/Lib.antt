@@ -1,5 +1,6 @@
 pub mod Cuts
 pub mod Ending
+pub mod Exact
 pub mod Outcome
 pub mod Run
 pub mod Shown

@@ -1,7 +1,19 @@
 //! Facts about the definitions, for readers: the functions do nothing.
+ghost use Rattle.bz_engine.specs.Exact.{OutcomesAreExact};
 ghost use Rattle.bz_engine.specs.Worked.{WorkedRefusals};
+
+use bz_tree::laws::one_reading;
 
 /// How refusals and faults are told, worked out by hand.
 pub fn worked_refusals()
     ensures { WorkedRefusals }
 {}
+
+/// Words, the bytes of standard input and a folder have at most one outcome: the same output, the same status, the same folder,
+/// names that end in `.bznew` set aside, and the same lines, but for clap's text and for which fault of a text that can't be
+/// read is told. Where `regex` refuses a pattern, that it is told is an outcome too.
+pub fn outcomes_are_exact()
+    ensures { OutcomesAreExact }
+{
+    one_reading();
+}

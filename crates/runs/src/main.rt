@@ -51,7 +51,9 @@ impl Question for Query {
 
 /// Calls each law: functions that do nothing, whose contracts say something of all runs.
 fn call_laws() {
+    bz_ports::lines_are_whole();
     bz_engine::worked_refusals();
+    bz_engine::outcomes_are_exact();
     bz_tools::worked_formats();
     bz_tools::whole_runs_are_exact();
 }

@@ -1,0 +1,234 @@
+-- Words, standard input and a folder have at most one outcome.
+use Rattle.std.proofs.Common.{◌≡◌, ◌⊎◌, ◌&&◌, ℕ, List, [], ◌∷◌, length, bytes_eq, Option, Some, None, Result, Ok, Err, Bool, true, false, true≢false, inl, inr, refl, sym, ap, subst, ◌∙◌, arith}
+use Rattle.std.specs.FinMap.{get}
+use Rattle.std.specs.Str.{IsUtf8, IsValidUpTo}
+use Rattle.std.proofs.Math.Seq.{take-length}
+use Rattle.std.proofs.lemmas.Bool.{cases_lt}
+use Rattle.bz_lex.specs.declared.fault.ReadFault.TheVariants.{NotUtf8}
+use Rattle.bz_tree.specs.Laws.{OneReading}
+use Rattle.bz_value.specs.Gaps.{Bytes}
+use Rattle.bz_line.specs.Asked.{Asked, Refused, Usage, of_operand, group_of}
+use Rattle.bz_line.specs.Line.{Given, operands, script, LineUsage, of_clap, beside_script, beside_stdout, Line, line_of}
+use Rattle.bz_line.specs.Refused.{IsFirstFault}
+use Rattle.bz_line.specs.Script.{lines_in, script_of}
+use Rattle.bz_line.specs.declared.line.Options.{Options}
+use Rattle.bz_ports.specs.Told.{fault_line}
+use Rattle.bz_engine.specs.Ending.{Left, Performs}
+use Rattle.bz_engine.specs.Exact.{SameLeft, TellsPattern, GivenTellsPattern, IsToldPattern, OutcomesAreExact}
+use Rattle.bz_engine.specs.Outcome.{unused, IsScript, told_name, OperandsOutcome, LinesOutcome, TextOutcome, GivenOutcome, LineOutcome}
+use Rattle.bz_engine.specs.Run.{World}
+use Rattle.bz_engine.specs.Steps.{all_steps, names_input, input_package}
+use Rattle.bz_engine.specs.Told.{IsUsageLine, IsLineUsageLine, operand_line}
+use Rattle.bz_engine.proofs.ExactEnding.{no_steps, performed_unread, same_performed}
+use Rattle.bz_engine.proofs.ExactFaults.{group_fault, script_fault, one_usage_line}
+use Rattle.bz_engine.proofs.ExactLines.{same_lines, same_as}
+use Rattle.bz_engine.proofs.ExactSteps.{one_input}
+
+-- ---- what is left where nothing is done
+
+same_left : (words : List Bytes) (world : World) (left other : Left) → left ≡ other → SameLeft words world left other
+same_left words world left other is = record {
+  output = ap (λ (l : Left). l.output) is;
+  status = ap (λ (l : Left). l.status) is;
+  lines = same_lines words world left.lines other.lines (ap (λ (l : Left). l.lines) is);
+  folder = λ name aside. ap (λ (l : Left). get l.folder name) (sym is);
+}
+
+-- one line is told
+abbrev Refuses : Bytes → Usage → World → Left → Type 0
+Refuses file usage world left = (line : Bytes) × IsUsageLine file usage line × (left ≡ unused world.folder line)
+
+same_refusal : (words : List Bytes) (file : Bytes) (usage : Usage) (world : World) (left other : Left) → Refuses file usage world left
+    → Refuses file usage world other → SameLeft words world left other
+same_refusal words file usage world left other (line, told, is) (line', told', is') =
+    same_left words world left other (is ∙ ap (unused world.folder) (one_usage_line file usage line line' told told') ∙ sym is')
+
+told_pattern : (file : Bytes) (usage : Usage) (refused : Refused) (world : World) (left : Left) (line : Bytes) → usage ≡ of_operand refused
+    → IsUsageLine file usage line → left ≡ unused world.folder line → left ≡ unused world.folder (operand_line refused)
+told_pattern file usage refused world left line is told none =
+    let here : line ≡ operand_line refused = subst (λ (it : Usage). IsUsageLine file it line) is told in
+    none ∙ ap (unused world.folder) here
+
+-- ---- by what is asked for
+
+-- A usage is told, or what is asked for is done.
+abbrev Decided : {A : Type 0} → Bytes → (A → World → Left → Type 0) → Result A Usage → World → Left → Type 0
+Decided file Done (Ok asked) world left = Done asked world left
+Decided file Done (Err usage) world left = Refuses file usage world left
+
+abbrev IsOne : {A : Type 0} → List Bytes → World → (A → World → Left → Type 0) → Type 0
+IsOne {A} words world Done = (asked : A) (left other : Left) → Done asked world left → Done asked world other → SameLeft words world left other
+
+same_decided : {A : Type 0} (words : List Bytes) (file : Bytes) (Done : A → World → Left → Type 0) (result : Result A Usage) (world : World) (left other : Left)
+    → IsOne words world Done → Decided file Done result world left → Decided file Done result world other → SameLeft words world left other
+same_decided words file Done (Ok asked) world left other one decided decided' = one asked left other decided decided'
+same_decided words file Done (Err usage) world left other one decided decided' = same_refusal words file usage world left other decided decided'
+
+-- ---- operands
+
+abbrev OperandsDone : Options → Asked → World → Left → Type 0
+OperandsDone options asked world left = Performs options (all_steps (asked ∷ [])) world left
+
+abbrev OperandsExact : Options → List Bytes → World → Left → Type 0
+OperandsExact options texts world left = Decided [] (OperandsDone options) (group_of texts) world left
+
+operands_exact : (options : Options) (texts : List Bytes) (world : World) (left : Left) → OperandsOutcome options texts world left
+    → GivenTellsPattern (operands texts) world left ⊎ OperandsExact options texts world left
+operands_exact options texts world left (inl (usage, line, fault, told, none)) = elim (group_fault texts usage fault) [
+  | inl is ↦ inr (subst (λ (it : Result Asked Usage). Decided [] (OperandsDone options) it world left) (sym is) (line, told, none))
+  | inr tells ↦ inl (tells.0, tells.2, (tells.3, told_pattern [] usage tells.0 world left line tells.1 told none))
+]
+operands_exact options texts world left (inr (asked, is, performs)) =
+    inr (subst (λ (it : Result Asked Usage). Decided [] (OperandsDone options) it world left) (sym is) performs)
+
+-- ---- lines
+
+one_valid : (text : Bytes) (n m : ℕ) → IsValidUpTo text n → IsValidUpTo text m → n ≡ m
+one_valid text n m a b = elim (cases_lt n m) [
+  | inl below ↦ absurd (a.longest m below b.front)
+  | inr le ↦ elim (cases_lt m n) [
+    | inl below ↦ absurd (b.longest n below a.front)
+    | inr ge ↦ omega arith
+  ]
+]
+
+not_whole : (text : Bytes) (n : ℕ) → IsUtf8 text → IsValidUpTo text n → ⊥
+not_whole text n whole valid = valid.longest (length text) valid.short (subst IsUtf8 (sym (take-length text)) whole)
+
+done_at : (options : Options) (of_input : Bool) (lines : List Asked) (world : World) (known : Option Bytes) (left : Left) → of_input && names_input lines ≡ false
+    → (of_input ≡ false → known ≡ world.known) → Performs options (all_steps lines) (record world { known = known }) left
+    → Performs options (all_steps lines) world left
+done_at options true lines world known left none same performs = performed_unread options (all_steps lines) world known left (no_steps lines none) performs
+done_at options false lines world known left none same performs =
+    subst (λ (k : Option Bytes). Performs options (all_steps lines) (record world { known = k }) left) (same refl) performs
+
+same_lines_done : OneReading → (words : List Bytes) (bytes : Bytes) (options : Options) (of_input : Bool) (lines : List Asked) (world : World) (left other : Left)
+    → world.known ≡ Some bytes → LinesOutcome options of_input lines world left → LinesOutcome options of_input lines world other → SameLeft words world left other
+same_lines_done one words bytes options of_input lines world left other known (inl (named, is)) (inl (named', is')) =
+    same_left words world left other (is ∙ sym is')
+same_lines_done one words bytes options of_input lines world left other known (inl (named, is)) (inr (none, done)) = absurd (true≢false (sym named ∙ none))
+same_lines_done one words bytes options of_input lines world left other known (inr (none, done)) (inl (named, is)) = absurd (true≢false (sym named ∙ none))
+same_lines_done one words bytes options of_input lines world left other known (inr (none, (left_over, same, performs))) (inr (none', (left_over', same', performs'))) =
+    same_performed one words bytes options (all_steps lines) world left other known (done_at options of_input lines world left_over left none same performs)
+    (done_at options of_input lines world left_over' other none' same' performs')
+
+abbrev TextDecided : Options → Bytes → Bytes → World → Left → Type 0
+TextDecided options name text world left = Decided (told_name name) (LinesOutcome options (bytes_eq name input_package)) (script_of text) world left
+
+abbrev TextExact : Options → Bytes → Bytes → World → Left → Type 0
+TextExact options name text world left =
+    ((at : ℕ) × IsValidUpTo text at × (left ≡ unused world.folder (fault_line (told_name name) (NotUtf8 at)))) ⊎ (IsUtf8 text × TextDecided options name text world left)
+
+-- a pattern of a line of this text is told
+abbrev TextTells : Bytes → World → Left → Type 0
+TextTells text world left = (refused : Refused) × IsFirstFault (lines_in text) (of_operand refused) × IsToldPattern refused world left
+
+text_exact : (options : Options) (name text : Bytes) (world : World) (left : Left) → TextOutcome options name (Some text) world left
+    → TextTells text world left ⊎ TextExact options name text world left
+text_exact options name text world left (inl invalid) = inr (inl invalid)
+text_exact options name text world left (inr (inl (whole, (usage, line, fault, told, none)))) = elim (script_fault text usage fault) [
+  | inl is ↦ inr (inr (
+    whole,
+    subst (λ (it : Result (List Asked) Usage). Decided (told_name name) (LinesOutcome options (bytes_eq name input_package)) it world left) (sym is) (line, told, none),
+  ))
+  | inr tells ↦ inl (tells.0, tells.2, (tells.3, told_pattern (told_name name) usage tells.0 world left line tells.1 told none))
+]
+text_exact options name text world left (inr (inr (whole, (lines, is, done)))) = inr (inr (
+  whole,
+  subst (λ (it : Result (List Asked) Usage). Decided (told_name name) (LinesOutcome options (bytes_eq name input_package)) it world left) (sym is) done,
+))
+
+same_text : OneReading → (words : List Bytes) (bytes : Bytes) (options : Options) (name text : Bytes) (world : World) (left other : Left)
+    → world.known ≡ Some bytes → TextExact options name text world left → TextExact options name text world other → SameLeft words world left other
+same_text one words bytes options name text world left other known (inl (at, valid, is)) (inl (at', valid', is')) =
+    same_left words world left other
+    (is ∙ ap (λ (n : ℕ). unused world.folder (fault_line (told_name name) (NotUtf8 n))) (one_valid text at at' valid valid') ∙ sym is')
+same_text one words bytes options name text world left other known (inl (at, valid, is)) (inr (whole, decided)) = absurd (not_whole text at whole valid)
+same_text one words bytes options name text world left other known (inr (whole, decided)) (inl (at, valid, is)) = absurd (not_whole text at whole valid)
+same_text one words bytes options name text world left other known (inr (whole, decided)) (inr (whole', decided')) =
+    same_decided words (told_name name) (LinesOutcome options (bytes_eq name input_package)) (script_of text) world left other
+    (λ lines l o done done'. same_lines_done one words bytes options (bytes_eq name input_package) lines world l o known done done') decided decided'
+
+one_script : (world : World) (bytes name : Bytes) (text text' : Option Bytes) → world.known ≡ Some bytes → IsScript world name text → IsScript world name text'
+    → text ≡ text'
+one_script world bytes name text text' known (inl (is, (read, input, here))) (inl (is', (read', input', here'))) =
+    here ∙ ap (λ (it : Bytes). Some it) (one_input world.known bytes read read' known input input') ∙ sym here'
+one_script world bytes name text text' known (inl (is, input)) (inr (other, here)) = absurd (other is)
+one_script world bytes name text text' known (inr (other, here)) (inl (is, input)) = absurd (other is)
+one_script world bytes name text text' known (inr (other, here)) (inr (other', here')) = here ∙ sym here'
+
+-- ---- what is given
+
+-- Two ways of the same words are the same, unless one of them tells a pattern.
+abbrev Exactly : List Bytes → Given → World → Left → Left → Type 0
+Exactly words given world left other = GivenTellsPattern given world left ⊎ GivenTellsPattern given world other ⊎ SameLeft words world left other
+
+exactly_operands : OneReading → (words : List Bytes) (bytes : Bytes) (options : Options) (texts : List Bytes) (world : World) (left other : Left)
+    → world.known ≡ Some bytes → GivenTellsPattern (operands texts) world left ⊎ OperandsExact options texts world left
+    → GivenTellsPattern (operands texts) world other ⊎ OperandsExact options texts world other → Exactly words (operands texts) world left other
+exactly_operands one words bytes options texts world left other known (inl tells) outcome = inl tells
+exactly_operands one words bytes options texts world left other known (inr exact) (inl tells) = inr (inl tells)
+exactly_operands one words bytes options texts world left other known (inr exact) (inr exact') =
+    inr (inr (same_decided words [] (OperandsDone options) (group_of texts) world left other
+    (λ asked l o done done'. same_performed one words bytes options (all_steps (asked ∷ [])) world l o known done done') exact exact'))
+
+exactly_text : OneReading → (words : List Bytes) (bytes : Bytes) (options : Options) (name text : Bytes) (world : World) (left other : Left)
+    → world.known ≡ Some bytes → IsScript world name (Some text) → TextTells text world left ⊎ TextExact options name text world left
+    → TextTells text world other ⊎ TextExact options name text world other → Exactly words (script name) world left other
+exactly_text one words bytes options name text world left other known is (inl tells) outcome = inl (text, is, tells.0, tells.1, tells.2)
+exactly_text one words bytes options name text world left other known is (inr exact) (inl tells) = inr (inl (text, is, tells.0, tells.1, tells.2))
+exactly_text one words bytes options name text world left other known is (inr exact) (inr exact') =
+    inr (inr (same_text one words bytes options name text world left other known exact exact'))
+
+exactly_read : OneReading → (words : List Bytes) (bytes : Bytes) (options : Options) (name : Bytes) (text : Option Bytes) (world : World) (left other : Left)
+    → world.known ≡ Some bytes → IsScript world name text → TextOutcome options name text world left → TextOutcome options name text world other
+    → Exactly words (script name) world left other
+exactly_read one words bytes options name None world left other known is outcome outcome' =
+    inr (inr (same_left words world left other (outcome ∙ sym outcome')))
+exactly_read one words bytes options name (Some text) world left other known is outcome outcome' =
+    exactly_text one words bytes options name text world left other known is (text_exact options name text world left outcome)
+    (text_exact options name text world other outcome')
+
+exactly_given : OneReading → (words : List Bytes) (bytes : Bytes) (options : Options) (given : Given) (world : World) (left other : Left)
+    → world.known ≡ Some bytes → GivenOutcome options given world left → GivenOutcome options given world other → Exactly words given world left other
+exactly_given one words bytes options (operands texts) world left other known outcome outcome' =
+    exactly_operands one words bytes options texts world left other known (operands_exact options texts world left outcome)
+    (operands_exact options texts world other outcome')
+exactly_given one words bytes options (script name) world left other known (text, is, outcome) (text', is', outcome') =
+    let here : TextOutcome options name text world other = subst (λ (it : Option Bytes). TextOutcome options name it world other)
+    (sym (one_script world bytes name text text' known is is')) outcome' in
+    exactly_read one words bytes options name text world left other known is outcome here
+
+-- ---- whole lines
+
+-- What clap tells is its own.
+same_usage : (words : List Bytes) (usage : LineUsage) (world : World) (line line' : Bytes) (left other : Left) → line_of words ≡ Err usage
+    → IsLineUsageLine usage line → IsLineUsageLine usage line' → left ≡ unused world.folder line
+    → other ≡ unused world.folder line' → SameLeft words world left other
+same_usage words of_clap world line line' left other claps told told' is is' = record {
+  output = ap (λ (l : Left). l.output) is ∙ sym (ap (λ (l : Left). l.output) is');
+  status = ap (λ (l : Left). l.status) is ∙ sym (ap (λ (l : Left). l.status) is');
+  lines = same_as words world left.lines other.lines (line ∷ []) (line' ∷ []) (ap (λ (l : Left). l.lines) is) (ap (λ (l : Left). l.lines) is') (inr (inr claps), tt);
+  folder = λ name aside. ap (λ (l : Left). get l.folder name) is' ∙ sym (ap (λ (l : Left). get l.folder name) is);
+}
+same_usage words beside_script world line line' left other claps told told' is is' =
+    same_left words world left other (is ∙ ap (unused world.folder) (told ∙ sym told') ∙ sym is')
+same_usage words beside_stdout world line line' left other claps told told' is is' =
+    same_left words world left other (is ∙ ap (unused world.folder) (told ∙ sym told') ∙ sym is')
+
+exactly_line : OneReading → (words : List Bytes) (bytes : Bytes) (line : Result Line LineUsage) (world : World) (left other : Left) → line_of words ≡ line
+    → world.known ≡ Some bytes → LineOutcome line world left → LineOutcome line world other
+    → TellsPattern words world left ⊎ TellsPattern words world other ⊎ SameLeft words world left other
+exactly_line one words bytes (Err usage) world left other says known (line, told, is) (line', told', is') =
+    inr (inr (same_usage words usage world line line' left other says told told' is is'))
+exactly_line one words bytes (Ok line) world left other says known outcome outcome' =
+    elim (exactly_given one words bytes line.options line.given world left other known outcome outcome') [
+      | inl tells ↦ inl (line, says, tells)
+      | inr rest ↦ elim rest [
+        | inl tells ↦ inr (inl (line, says, tells))
+        | inr same ↦ inr (inr same)
+      ]
+    ]
+
+pub exact : OneReading → OutcomesAreExact
+exact one words world bytes left other known outcome outcome' = exactly_line one words bytes (line_of words) world left other refl known outcome outcome'

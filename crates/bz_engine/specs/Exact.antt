@@ -1,0 +1,75 @@
+-- Words, standard input and a folder have at most one outcome, but for what is left open: clap's text, which fault of a text that
+-- can't be read is told, names that end in `.bznew`, and whether `regex` takes a pattern.
+use Rattle.std.specs.Prelude.{◌≡◌, ◌⊎◌, List, [], ◌∷◌, Some, Ok, Err}
+use Rattle.bz_lex.specs.declared.fault.ReadFault.{ReadFault}
+use Rattle.bz_tree.specs.Legal.{Accepted}
+use Rattle.bz_value.specs.Gaps.{Bytes}
+use Rattle.bz_files.specs.Folder.{SameFolders}
+use Rattle.bz_journal.specs.Faults.{IsFaultOf}
+use Rattle.bz_line.specs.Asked.{Refused, of_operand}
+use Rattle.bz_line.specs.Line.{Given, operands, script, Line, of_clap, line_of}
+use Rattle.bz_line.specs.Refused.{IsPatternFault, IsFirstRefused, IsFirstFault}
+use Rattle.bz_line.specs.Script.{lines_in}
+use Rattle.bz_ports.specs.Told.{fault_line}
+use Rattle.bz_engine.specs.Ending.{Left}
+use Rattle.bz_engine.specs.Outcome.{Outcome, IsScript, unused}
+use Rattle.bz_engine.specs.Run.{World, Finds}
+use Rattle.bz_engine.specs.Told.{operand_line}
+
+-- ---- lines
+
+-- Two lines tell a fault of one text that is read for a package and isn't accepted. The faults are TooLarge or NotUtf8 exactly where
+-- the text is that; what else it is, and its place, may differ.
+pub record TellFaults (world : World) (line other : Bytes) : Type 0 where
+  pub current : Bytes
+  pub name : Bytes
+  pub text : Bytes
+  pub first : ReadFault
+  pub second : ReadFault
+  pub found : Finds world current (Some (name, text))
+  pub refused : Accepted text → ⊥
+  pub one : IsFaultOf text first
+  pub two : IsFaultOf text second
+  pub told : line ≡ fault_line name first
+  pub told_other : other ≡ fault_line name second
+
+-- clap finds a fault in the words, and tells it in its own text
+abbrev pub AreClaps : List Bytes → Type 0
+AreClaps words = line_of words ≡ Err of_clap
+
+abbrev pub SameLine : List Bytes → World → Bytes → Bytes → Type 0
+SameLine words world line other = (line ≡ other) ⊎ TellFaults world line other ⊎ AreClaps words
+
+-- as many lines, each the same as the other
+abbrev pub SameLines : List Bytes → World → List Bytes → List Bytes → Type 0
+SameLines words world [] [] = Unit {0}
+SameLines words world [] (other ∷ others) = ⊥
+SameLines words world (line ∷ lines) [] = ⊥
+SameLines words world (line ∷ lines) (other ∷ others) = SameLine words world line other × SameLines words world lines others
+
+-- ---- outcomes
+
+-- The same output, status and lines, and the same folder, names that end in `.bznew` set aside.
+pub record SameLeft (words : List Bytes) (world : World) (left other : Left) : Type 0 where
+  pub output : left.output ≡ other.output
+  pub status : left.status ≡ other.status
+  pub lines : SameLines words world left.lines other.lines
+  pub folder : SameFolders left.folder other.folder
+
+-- Nothing is done, and the pattern of this operand is told as one that `regex` refuses.
+abbrev pub IsToldPattern : Refused → World → Left → Type 0
+IsToldPattern refused world left = IsPatternFault refused.operand refused.fault × (left ≡ unused world.folder (operand_line refused))
+
+-- The operand stands among the words, or in the file of lines.
+abbrev pub GivenTellsPattern : Given → World → Left → Type 0
+GivenTellsPattern (operands texts) world left = (refused : Refused) × IsFirstRefused texts refused × IsToldPattern refused world left
+GivenTellsPattern (script name) world left =
+    (text : Bytes) × IsScript world name (Some text) × (refused : Refused) × IsFirstFault (lines_in text) (of_operand refused) × IsToldPattern refused world left
+
+abbrev pub TellsPattern : List Bytes → World → Left → Type 0
+TellsPattern words world left = (line : Line) × (line_of words ≡ Ok line) × GivenTellsPattern line.given world left
+
+-- Two outcomes of words are the same, unless one of them is that a pattern is refused.
+abbrev pub OutcomesAreExact : Type 0
+OutcomesAreExact = (words : List Bytes) (world : World) (bytes : Bytes) (left other : Left) → world.known ≡ Some bytes → Outcome words world left
+    → Outcome words world other → TellsPattern words world left ⊎ TellsPattern words world other ⊎ SameLeft words world left other
