@@ -11,8 +11,8 @@ ghost use Rattle.bz_tools.specs.FormatRun.{IsCutBy, Rewrites, FileStep, InputSte
 ghost use Rattle.bz_tools.specs.FormatShown.{effect_of, progress_of, usage_of};
 
 use crate::effect::{
-    BEGUN, Effect, Progress, fail, file_out, grown, input_out, is_rewritten, print,
-    refused, text_status, unread_file,
+    BEGUN, Effect, Progress, fail, file_out, grown, input_out, is_rewritten, print, refused,
+    text_status, unread_file,
 };
 use crate::format_line::{FormatLine, FormatUsage, read_format_line};
 use crate::mode::Mode;
