@@ -165,6 +165,8 @@ class Killed:
 # ---- scenes
 
 SEED = int(os.environ.get("SEED", random.SystemRandom().randrange(1_000_000)))
+# how often a run is tried that had ended before it was to be killed
+TRIES = 5
 
 
 class Moments:
@@ -188,18 +190,28 @@ class Moments:
             return killed.wrong()
 
     def killed(self, number):
-        """A run that is killed at a moment of its own."""
-        chance = random.Random(f"{SEED} {number}")
+        """A run that is killed at a moment of its own; where it had ended by then, another one at half of that, so that most are
+        killed also where the run that was timed was slow."""
+        seconds, wrong = random.Random(f"{SEED} {number}").uniform(0, self.seconds), []
+        for _ in range(TRIES):
+            status, has_more, faults = self.killed_at(number, seconds)
+            wrong += [f"seed {SEED}, moment {number}, {seconds:.3f} s: {fault}"[:2000] for fault in faults]
+            if status == -signal.SIGKILL:
+                break
+            seconds /= 2
+        self.struck += [number] if status == -signal.SIGKILL else []
+        self.kept += [number] if has_more else []
+        return wrong
+
+    def killed_at(self, number, seconds):
+        """How a run ended that is killed after so long, whether there is something to undo or to redo, and what is wrong."""
         with new_folder() as folder:
-            killed = Killed(self.program, folder, chance)
-            seconds = chance.uniform(0, self.seconds)
+            killed = Killed(self.program, folder, random.Random(f"{SEED} {number} lines"))
             status, told = killed.kill(seconds)
-            self.struck += [number] if status == -signal.SIGKILL else []
             history = killed.found()
-            self.kept += [number] if history and len(history.texts) > 1 else []
             # one that had ended by then is no fault
             faults = [] if told == b"" and status in (0, 3, -signal.SIGKILL) else [f"status {status}, {told}"]
-            return [f"seed {SEED}, moment {number}, {seconds:.3f} s: {fault}"[:2000] for fault in faults + killed.wrong()]
+            return status, bool(history and len(history.texts) > 1), faults + killed.wrong()
 
     def most_were_killed(self):
         """Else the moments show nothing: most must come before a run ends, and behind its first commands."""
