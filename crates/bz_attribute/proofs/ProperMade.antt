@@ -193,6 +193,7 @@ tight_kind k.Not n t h = absurd (true≢false t)
 tight_kind k.And n t h = absurd (true≢false t)
 tight_kind k.Or n t h = absurd (true≢false t)
 tight_kind k.Cond n t h = absurd (true≢false t)
+tight_kind k.Lambda n t h = absurd (true≢false t)
 tight_kind k.Row n t h = absurd (true≢false t)
 tight_kind _ n t h = h
 

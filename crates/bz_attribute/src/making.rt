@@ -151,6 +151,7 @@ fn is_looser(kind: Kind) -> bool
         | Kind::And
         | Kind::Or
         | Kind::Cond
+        | Kind::Lambda
         | Kind::Row => true,
         _ => false,
     }

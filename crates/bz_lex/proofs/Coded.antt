@@ -37,7 +37,7 @@ by_newline g s u =
 
 -- one leaf of such a text
 parted : (p : Place) (l : Leaf) (s : List ℕ) → May IsToken p l s → IsUtf8 (l.gap ++ (l.token ++ s)) → Parted l s
-parted p l s (first g f t) u = by_token true l.class l.gap l.token s g t u
+parted p l s (first g t) u = by_token true l.class l.gap l.token s g t u
 parted p l s (later g t) u = by_token false l.class l.gap l.token s g t u
 parted p l s (inner g t) u = by_token true l.class l.gap l.token s g t u
 parted p l s (newline {gap = g} b h) u = by_newline g s u

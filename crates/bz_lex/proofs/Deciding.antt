@@ -13,12 +13,11 @@ use Rattle.bz_lex.specs.declared.gap.GapState.TheVariants.{Open}
 use Rattle.bz_lex.specs.declared.front.Front.{Front}
 use Rattle.bz_lex.specs.declared.front.Stop.{Stop}
 use Rattle.bz_lex.specs.declared.front.Reason.TheVariants.{BadCharacter}
-use Rattle.bz_lex.specs.Gaps.{is_flush}
 use Rattle.bz_lex.specs.GapStates.{gap_move, after, Stops, is_end}
 use Rattle.bz_lex.specs.Places.{Place, Fresh, Behind, Inside, Last, Over, newlines_at}
 use Rattle.bz_lex.specs.Fronts.{IsGapFront, IsFront, NoLeaf}
 use Rattle.bz_lex.proofs.Forms.{form}
-use Rattle.bz_lex.proofs.Fronts.{fresh_token, fresh_no_token, indented, fresh_end, behind_token, behind_end, behind_line, inside_token, inside_end, last_end, last_more, broken_front}
+use Rattle.bz_lex.proofs.Fronts.{fresh_token, fresh_no_token, fresh_end, behind_token, behind_end, behind_line, inside_token, inside_end, last_end, last_more, broken_front}
 
 -- as much of a text as a gap goes on with
 record GapAt (n : Bool) (q : GapState) (s : List ℕ) : Type 0 where
@@ -76,10 +75,7 @@ fresh_found : (s : List ℕ) (gap : GapFront) → IsGapFront true gap s → (o :
 fresh_found s gap g None e = inl (front End gap.length 0, fresh_end gap s (front End gap.length 0) g e refl)
 fresh_found s gap g (Some c) e = elim (token_found (drop gap.length s)) [
   | inr none ↦ inr (fresh_no_token gap s c g e none)
-  | inl w ↦ elim (cases_Bool (is_flush (take gap.length s))) [
-    | inl f ↦ inl (front w.0 gap.length w.1, fresh_token gap s c (front w.0 gap.length w.1) g e f (refl, w.2))
-    | inr f ↦ inr (indented gap s c g e f)
-  ]
+  | inl w ↦ inl (front w.0 gap.length w.1, fresh_token gap s c (front w.0 gap.length w.1) g e (refl, w.2))
 ]
 
 behind_found : (s : List ℕ) (gap : GapFront) → IsGapFront false gap s → (o : Option ℕ) → slice_get s gap.length ≡ o → Decided Behind s

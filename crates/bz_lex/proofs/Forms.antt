@@ -7,7 +7,6 @@ use Rattle.bz_token.specs.Tokens.{IsToken}
 use Rattle.bz_lex.specs.declared.leaf.Leaf.{Leaf}
 use Rattle.bz_lex.specs.declared.gap.GapState.{GapState}
 use Rattle.bz_lex.specs.declared.gap.GapState.TheVariants.{Open, Escape, EscapeReturn, Comment}
-use Rattle.bz_lex.specs.Gaps.{is_flush}
 use Rattle.bz_lex.specs.GapStates.{gap_move, after, Stops, is_end}
 use Rattle.bz_lex.specs.Places.{Place, Fresh, Behind, Inside, Last, Over, newlines_at, May, first, later, inner, newline, no_newline, end, end_at_once}
 use Rattle.bz_lex.proofs.Gaps.{gap_after, gap_from}
@@ -31,7 +30,7 @@ pub record ByNewline (q : GapState) (l : Leaf) : Type 0 where
   pub ends : is_end true q ≡ true
 
 abbrev pub Form : Place → GapState → Leaf → List ℕ → Type 0
-Form Fresh q l s = ((is_flush l.gap ≡ true) × ByToken q l s) ⊎ Empty End q l s
+Form Fresh q l s = ByToken q l s ⊎ Empty End q l s
 Form Behind q l s = ByToken q l s ⊎ (ByNewline q l ⊎ Empty Newline q l s)
 Form (Inside n) q l s = ByToken q l s
 Form Last q l s = (l.gap ≡ []) × Empty End q l s
@@ -62,9 +61,9 @@ wider u EscapeReturn h = absurd (both_ways false refl h)
 
 -- the state in which the gap of a leaf ends, and what the leaf then is
 pub form : (p : Place) (l : Leaf) (s : List ℕ) → May IsToken p l s → (q : GapState) × Ended (newlines_at p) q l.gap (l.token ++ s) × Form p q l s
-form p l s (first g f t) =
+form p l s (first g t) =
     let w = gap_after true false l.gap g in let o = closed_is w.0 w.2 in
-    (w.0, record { taken = w.1; stops = rw o (token_stops true l.class l.token s t) }, inl (f, record { closed = o; token = t }))
+    (w.0, record { taken = w.1; stops = rw o (token_stops true l.class l.token s t) }, inl (record { closed = o; token = t }))
 form p l s (later g t) =
     let w = gap_after false false l.gap g in let o = closed_is w.0 w.2 in
     (w.0, record { taken = w.1; stops = rw o (token_stops false l.class l.token s t) }, inl (record { closed = o; token = t }))
@@ -91,7 +90,7 @@ same_leaf l m a b c =
 
 -- the leaf of such a form stands there
 pub may : (p : Place) (q : GapState) (l : Leaf) (s : List ℕ) → after (newlines_at p) Open l.gap ≡ Some q → Form p q l s → May IsToken p l s
-may Fresh q l s e (inl h) = first (gap_from true false q l.gap e (rw h.1.closed refl)) h.0 h.1.token
+may Fresh q l s e (inl h) = first (gap_from true false q l.gap e (rw h.closed refl)) h.token
 may Fresh q l s e (inr h) =
     rw (same_leaf l (record { class = End; gap = l.gap; token = [] }) h.class refl h.token, h.rest) (end true (gap_from true true q l.gap e h.ends))
 may Behind q l s e (inl h) = later (gap_from false false q l.gap e (rw h.closed refl)) h.token

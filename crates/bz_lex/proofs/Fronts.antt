@@ -13,7 +13,6 @@ use Rattle.bz_lex.specs.declared.gap.GapState.{GapState}
 use Rattle.bz_lex.specs.declared.gap.GapState.TheVariants.{Open, Escape, EscapeReturn, Comment}
 use Rattle.bz_lex.specs.declared.front.Front.{Front}
 use Rattle.bz_lex.specs.declared.front.Stop.{Stop}
-use Rattle.bz_lex.specs.Gaps.{is_flush}
 use Rattle.bz_lex.specs.GapStates.{after, Stops, is_end}
 use Rattle.bz_lex.specs.Places.{Place, Fresh, Behind, Inside, Last, Over, newlines_at, end_at_once}
 use Rattle.bz_lex.specs.Fronts.{IsGapFront, front_leaf, behind_front, IsFront, NoLeaf, TellsFront}
@@ -57,7 +56,7 @@ no_leaf p q n s e h f l t m i =
     f l t (subst (λ (r : GapState). Form p r l t) o.2 x.2) o.0 o.1
 
 form_ends : (p : Place) (q : GapState) (l : Leaf) (t : List ℕ) → Form p q l t → is_end true q ≡ true
-form_ends Fresh q l t (inl h) = rw h.1.closed refl
+form_ends Fresh q l t (inl h) = rw h.closed refl
 form_ends Fresh q l t (inr h) = h.ends
 form_ends Behind q l t (inl h) = rw h.closed refl
 form_ends Behind q l t (inr (inl h)) = h.ends
@@ -110,24 +109,21 @@ behind_token gap s c (Err stop) g b off t = no_token Behind gap s g only t
     only l t (inr (inl h)) i = absurd (off (let j : 10 ∷ t ≡ c ∷ drop (suc gap.length) s = sym (ap (λ (x : List ℕ). x ++ t) h.token) ∙ i ∙ rest_some s gap.length c b in cc))
     only l t (inr (inr h)) i = absurd (empty_form Newline gap.state l t s gap.length c b h i)
 
-pub fresh_token : (gap : GapFront) (s : List ℕ) (c : ℕ) (front : Front) → IsGapFront true gap s → slice_get s gap.length ≡ Some c → is_flush (take gap.length s) ≡ true → TellsToken gap.length s (Ok front) → IsFront Fresh front s
-fresh_token gap s c front g b f t =
+pub fresh_token : (gap : GapFront) (s : List ℕ) (c : ℕ) (front : Front) → IsGapFront true gap s → slice_get s gap.length ≡ Some c → TellsToken gap.length s (Ok front) → IsFront Fresh front s
+fresh_token gap s c front g b t =
     leaf_of Fresh gap front s g t.0 (token_within gap.length front s g.within t.0 t.1)
-    (inl (rw t.0 f, record { closed = open_true gap.state c (drop (suc gap.length) s) (subst (Stops true gap.state) (rest_some s gap.length c b) g.stops) g.ends; token = token_of gap.length front s t.0 t.1 }))
+    (inl (record { closed = open_true gap.state c (drop (suc gap.length) s) (subst (Stops true gap.state) (rest_some s gap.length c b) g.stops) g.ends; token = token_of gap.length front s t.0 t.1 }))
 
 pub fresh_no_token : (gap : GapFront) (s : List ℕ) (c : ℕ) → IsGapFront true gap s → slice_get s gap.length ≡ Some c → NoToken (drop gap.length s) → NoLeaf Fresh s
 fresh_no_token gap s c g b t = no_token Fresh gap s g only t
   where
     only : (l : Leaf) (t : List ℕ) → Form Fresh gap.state l t → l.token ++ t ≡ drop gap.length s → IsToken l.class l.token t
-    only l t (inl h) i = h.1.token
+    only l t (inl h) i = h.token
     only l t (inr h) i = absurd (empty_form End gap.state l t s gap.length c b h i)
 
-pub indented : (gap : GapFront) (s : List ℕ) (c : ℕ) → IsGapFront true gap s → slice_get s gap.length ≡ Some c → is_flush (take gap.length s) ≡ false → NoLeaf Fresh s
-indented gap s c g b f = no_leaf Fresh gap.state gap.length s g.taken g.stops none
-  where
-    none : (l : Leaf) (t : List ℕ) → Form Fresh gap.state l t → l.gap ≡ take gap.length s → l.token ++ t ≡ drop gap.length s → ⊥
-    none l t (inl h) e i = both_ways (is_flush (take gap.length s)) f (rw e at h.0)
-    none l t (inr h) e i = empty_form End gap.state l t s gap.length c b h i
+pub fresh_told : (gap : GapFront) (s : List ℕ) (c : ℕ) (r : Result Front Stop) → IsGapFront true gap s → slice_get s gap.length ≡ Some c → TellsToken gap.length s r → TellsFront Fresh s r
+fresh_told gap s c (Ok front) g b t = fresh_token gap s c front g b t
+fresh_told gap s c (Err stop) g b t = fresh_no_token gap s c g b t
 
 -- the leaves that are no token
 end_text : (s : List ℕ) (n : ℕ) → drop n s ≡ [] → n ≤ length s → n ≡ length s
@@ -178,17 +174,3 @@ refused p s (Err x) i h = h
 
 pub broken_front : (p : Place) (m : Bool) (gap : GapFront) (s : List ℕ) → m ≡ newlines_at p → is_end true gap.state ≡ false → after m Open (take gap.length s) ≡ Some gap.state → Stops m gap.state (drop gap.length s) → NoLeaf p s
 broken_front p m gap s i b h k = broken_gap p gap.state gap.length s (rw i at h) (rw i at k) b
-
--- the byte right before what follows
-abbrev pub flush_at : Option ℕ → Bool
-flush_at None = true
-flush_at (Some c) = not (eqb c 32 || eqb c 9)
-
-negated : (b : Bool) → (let x : Bool = if b then false else true in x ≡ not b)
-negated true = refl
-negated false = refl
-
-pub flush_last : (s : List ℕ) → is_flush s ≡ flush_at (slice_get s (length s - 1))
-flush_last [] = refl
-flush_last (c ∷ []) = negated (eqb c 32 || eqb c 9)
-flush_last (c ∷ d ∷ s) = flush_last (d ∷ s) ∙ ap flush_at (let e : length (c ∷ d ∷ s) - 1 ≡ suc (length (d ∷ s) - 1) = omega arith in sym (ap (slice_get (c ∷ d ∷ s)) e))

@@ -79,7 +79,7 @@ by_token p q l s e h =
     simp length-append (omega arith)
 
 pub smaller : (p : Place) (l : Leaf) (s : List ℕ) → May IsToken p l s → left (next p l) s < left p (l.gap ++ (l.token ++ s))
-smaller p l s (first g f t) = by_token p (next p l) l s refl t
+smaller p l s (first g t) = by_token p (next p l) l s refl t
 smaller p l s (later g t) = by_token p (next p l) l s refl t
 smaller p l s (inner g t) = by_token p (next p l) l s refl t
 smaller p l s (newline u g) = simp length-append (omega arith)
@@ -112,7 +112,7 @@ no_end Number t s p h e = (no_over p).0 e
 no_end String t s p h e = (no_over p).0 e
 
 pub over_rest : (p : Place) (l : Leaf) (s : List ℕ) → May IsToken p l s → next p l ≡ Over → s ≡ []
-over_rest p l s (first g f t) e = absurd (no_end l.class l.token s Fresh t e)
+over_rest p l s (first g t) e = absurd (no_end l.class l.token s Fresh t e)
 over_rest p l s (later g t) e = absurd (no_end l.class l.token s Behind t e)
 over_rest p l s (inner {depth = n} g t) e = absurd (no_end l.class l.token s (Inside n) t e)
 over_rest p l s (newline u g) e = absurd (let f : Fresh ≡ Over = e in cc)

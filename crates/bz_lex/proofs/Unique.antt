@@ -42,9 +42,9 @@ two_lines q r l m s t g h i e =
     (same_leaf l m (h.class ∙ sym i.class) g (h.token ∙ sym i.token), let f : 10 ∷ s ≡ 10 ∷ t = sym (line_text q l s h) ∙ e ∙ line_text r m t i in cc)
 
 one_form : (p : Place) (q r : GapState) (l m : Leaf) (s t : List ℕ) → l.gap ≡ m.gap → Form p q l s → Form p r m t → l.token ++ s ≡ m.token ++ t → (l ≡ m) × (s ≡ t)
-one_form Fresh q r l m s t g (inl h) (inl i) e = two_tokens q r l m s t g h.1 i.1 e
-one_form Fresh q r l m s t g (inl h) (inr i) e = absurd (token_or_empty End q r l m s t h.1 i e)
-one_form Fresh q r l m s t g (inr h) (inl i) e = absurd (token_or_empty End r q m l t s i.1 h (sym e))
+one_form Fresh q r l m s t g (inl h) (inl i) e = two_tokens q r l m s t g h i e
+one_form Fresh q r l m s t g (inl h) (inr i) e = absurd (token_or_empty End q r l m s t h i e)
+one_form Fresh q r l m s t g (inr h) (inl i) e = absurd (token_or_empty End r q m l t s i h (sym e))
 one_form Fresh q r l m s t g (inr h) (inr i) e = two_empty End q r l m s t g h i
 one_form Behind q r l m s t g (inl h) (inl i) e = two_tokens q r l m s t g h i e
 one_form Behind q r l m s t g (inl h) (inr (inl i)) e = absurd (token_or_line q r l m s t h i e)

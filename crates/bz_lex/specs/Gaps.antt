@@ -1,5 +1,5 @@
 -- Gaps: what may stand before a token.
-use Rattle.std.specs.Prelude.{◌≡◌, ◌≢◌, ℕ, Bool, true, false, List, [], ◌∷◌, ◌++◌, ◌||◌, nat_eq, if◌then◌else◌}
+use Rattle.std.specs.Prelude.{◌≡◌, ◌≢◌, ℕ, Bool, true, false, List, [], ◌∷◌, ◌++◌, ◌||◌, ◌&&◌, nat_eq, if◌then◌else◌}
 use Rattle.bz_token.specs.Bytes.{line_feed, is_blank}
 use Rattle.bz_lex.specs.Characters.{tab, carriage_return, space, number_sign, backslash}
 
@@ -27,3 +27,17 @@ abbrev pub is_flush : List ℕ → Bool
 is_flush [] = true
 is_flush (byte ∷ []) = if nat_eq byte space || nat_eq byte tab then false else true
 is_flush (byte ∷ second ∷ rest) = is_flush (second ∷ rest)
+
+-- a space or a tab
+abbrev pub is_indent : ℕ → Bool
+is_indent byte = nat_eq byte space || nat_eq byte tab
+
+-- nothing but spaces and tabs
+abbrev pub are_indents : List ℕ → Bool
+are_indents [] = true
+are_indents (byte ∷ rest) = is_indent byte && are_indents rest
+
+-- The indent of what follows a gap: the spaces and tabs right before it.
+abbrev pub indent : List ℕ → List ℕ
+indent [] = []
+indent (byte ∷ rest) = if are_indents (byte ∷ rest) then byte ∷ rest else indent rest

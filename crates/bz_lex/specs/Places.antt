@@ -4,7 +4,7 @@ use Rattle.bz_token.specs.declared.class.Class.{Class}
 use Rattle.bz_token.specs.declared.class.Class.TheVariants.{Mark, Newline, End}
 use Rattle.bz_token.specs.Bytes.{line_feed}
 use Rattle.bz_lex.specs.declared.leaf.Leaf.{Leaf}
-use Rattle.bz_lex.specs.Gaps.{IsGap, is_flush}
+use Rattle.bz_lex.specs.Gaps.{IsGap}
 pub use Rattle.bz_lex.specs.declared.place.Place.{Place}
 pub use Rattle.bz_lex.specs.declared.place.Place.TheVariants.{Fresh, Behind, Inside, Last, Over}
 
@@ -63,10 +63,10 @@ newlines_at _ = true
 -- token, which is neither a newline nor the end, is the longest lexeme there.
 -- An unescaped newline stands in a gap only inside brackets, before the first token of a line, or before the end; a
 -- comment stands there too and in the gap of a newline, and its newline stands in the same gap, but for the last
--- comment in the gap of a newline or of the end. The byte right before the first token of a line is no space and no
--- tab. The newline that is no byte stands only last, and then the end's gap is empty.
+-- comment in the gap of a newline or of the end. The newline that is no byte stands only last, and then the end's gap is
+-- empty. (Which indent a line may have is no matter of its leaf alone: trees say it.)
 pub data May (IsToken : Class → List ℕ → List ℕ → Type 0) : Place → Leaf → List ℕ → Type 0 where
-  first : {leaf : Leaf} {rest : List ℕ} → IsGap true false leaf.gap → is_flush leaf.gap ≡ true → IsToken leaf.class leaf.token rest → May IsToken Fresh leaf rest
+  first : {leaf : Leaf} {rest : List ℕ} → IsGap true false leaf.gap → IsToken leaf.class leaf.token rest → May IsToken Fresh leaf rest
   later : {leaf : Leaf} {rest : List ℕ} → IsGap false false leaf.gap → IsToken leaf.class leaf.token rest → May IsToken Behind leaf rest
   inner : {depth : ℕ} {leaf : Leaf} {rest : List ℕ} → IsGap true false leaf.gap → IsToken leaf.class leaf.token rest → May IsToken (Inside depth) leaf rest
   newline : {gap rest : List ℕ} (unclosed : Bool) → IsGap false unclosed gap → May IsToken Behind (record { class = Newline; gap = gap; token = line_feed ∷ [] }) rest

@@ -16,7 +16,7 @@ pub enum ReadFault {
     /// A string that begins here is not closed.
     #[error("{line}:{column}: OpenString")]
     OpenString { line: u32, column: u32 },
-    /// A space or tab stands right before the first token of a line.
+    /// The spaces and tabs right before the first token of a line are no indent that it may have there: in a BUILD file, any.
     #[error("{line}:{column}: Indented")]
     Indented { line: u32, column: u32 },
     /// No file goes on with this token here.

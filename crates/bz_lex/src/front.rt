@@ -1,8 +1,7 @@
-ghost use Rattle.std.specs.Prelude.{◌≡◌, ℕ, ◌≤◌, ◌+◌, IfOk, length, drop, MatchOption, MatchResult, nat_eq, ◌||◌, IfErr, true, false};
+ghost use Rattle.std.specs.Prelude.{◌≡◌, ℕ, ◌≤◌, ◌+◌, IfOk, length, drop, MatchOption, MatchResult, IfErr, true, false};
 ghost use Rattle.bz_token.specs.Tokens.{NoToken, TokenAt};
 ghost use Rattle.bz_lex.specs.Fronts.{IsGapFront, IsLexemeFront, TellsFront, front_leaf, front_token, behind_front};
-ghost use Rattle.bz_lex.specs.Characters.{space, tab};
-ghost use Rattle.bz_lex.specs.Gaps.{IsGap, is_flush};
+ghost use Rattle.bz_lex.specs.Gaps.{IsGap};
 ghost use Rattle.bz_lex.specs.Lexing.{NoLexemes};
 
 use crate::gap::{GapFront, gap_front};
@@ -109,24 +108,7 @@ fn fresh(text: &[u8], gap: GapFront) -> Result<Front, Stop>
     if gap.length == text.len() {
         return Ok(Front::new(Class::End, gap.length, 0));
     }
-    let found = token_front(text, gap.length)?;
-    if is_flush(&text[..gap.length]) {
-        Ok(found)
-    } else {
-        Err(indented(text, gap.length))
-    }
-}
-
-/// Why no leaf stands behind a gap of this length that ends in a blank: a string that is not closed is told first.
-fn indented(text: &[u8], gap: usize) -> Stop
-    requires { gap ≤ length text.now }
-    ensures { result.at ≡ gap }
-{
-    if opens_string(&text[gap..]) {
-        Stop::new(Reason::OpenString, gap)
-    } else {
-        Stop::new(Reason::Indented, gap)
-    }
+    token_front(text, gap.length)
 }
 
 /// Behind a token of a line: a token, a newline, or the newline that is no byte.
@@ -196,20 +178,4 @@ fn token_front(text: &[u8], gap: usize) -> Result<Front, Stop>
         None if opens_string(behind) => Err(Stop::new(Reason::OpenString, gap)),
         None => Err(Stop::new(Reason::BadCharacter, gap)),
     }
-}
-
-/// Whether the byte right before what follows is neither a space nor a tab.
-fn is_flush(gap: &[u8]) -> bool
-    ensures { result ≡ is_flush gap.now }
-{
-    match gap.last().copied() {
-        None => true,
-        Some(byte) => !is_indent(byte),
-    }
-}
-
-fn is_indent(byte: u8) -> bool
-    ensures { result ≡ (nat_eq byte space || nat_eq byte tab) }
-{
-    byte == b' ' || byte == b'\t'
 }

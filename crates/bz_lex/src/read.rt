@@ -18,8 +18,8 @@ pub struct Reading {
     pub fault: Option<ReadFault>,
 }
 
-/// Reads a text as leaves. Where none cover it the fault is one of `BadCharacter`, `OpenString`, `Indented` and
-/// `Unexpected`, and the leaves are those in front of it. The error: a growth was refused.
+/// Reads a text as leaves. Where none cover it the fault is one of `BadCharacter`, `OpenString` and `Unexpected`, and the
+/// leaves are those in front of it. The error: a growth was refused.
 pub fn read_leaves(alloc: Global, text: &[u8]) -> Result<Reading, AllocError>
     ensures told { IfOk result (λ reading. MatchOption reading.fault (AreLeaves reading.leaves × (spell_leaves reading.leaves ≡ text.now)) (λ _. NoLeaves text.now)) }
     ensures kind { IfOk result (λ reading. IfSome reading.fault (λ fault. is_of_leaves fault ≡ true)) }

@@ -24,6 +24,7 @@ lacks o (s.sub sort then_) = lacks o then_
 lacks o (s.alt left right) = lacks o left && lacks o right
 lacks o (s.list sort separators last then_) = lacks_mark o separators && lacks o then_
 lacks o (s.each sort then_) = lacks o then_
+lacks o (s.times group then_) = false
 
 no_token : (b : Bool) → not b ≡ true → b ≡ true → ⊥
 no_token true e h = true≢false (sym e)
@@ -72,6 +73,7 @@ module _ (o : ℕ) (ys : List Part) where
   fits_free (s.alt left right) n xs (inr h) = fits_free right (and_parts _ _ n).1 xs h
   fits_free (s.list sort separators last then_) n xs h = listed_free sort separators last (Fits IsSort then_) (and_parts _ _ n).0 (fits_free then_ (and_parts _ _ n).1) xs h
   fits_free (s.each sort then_) n xs h = several_free sort (Fits IsSort then_) (fits_free then_ n) xs h
+  fits_free (s.times group then_) n xs h = true≢false (sym n)
 
   -- the bracket comes first
   none_before : (terminals : List Terminal) (then_ : Shape) → lacks o then_ ≡ true → (xs : List Part) → Fits IsSort (s.tok terminals then_) (xs ++ (mark o ∷ ys)) → length xs ≡ 0

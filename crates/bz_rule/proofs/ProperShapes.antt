@@ -33,6 +33,7 @@ textless (s.sub sort then_) = textless then_
 textless (s.alt left right) = textless left && textless right
 textless (s.list sort separators last then_) = are_textless separators && textless then_
 textless (s.each sort then_) = textless then_
+textless (s.times group then_) = false
 
 pub kind_textless : (kind : Kind) → textless (shape kind) ≡ true
 kind_textless k.File = refl
@@ -83,6 +84,7 @@ fits_alike (s.alt left right) n xs ys w (inl h) = inl (fits_alike left (and_part
 fits_alike (s.alt left right) n xs ys w (inr h) = inr (fits_alike right (and_parts _ _ n).1 xs ys w h)
 fits_alike (s.list q ts last then_) n xs ys w h = listed_alike q (Fits IsSort then_) (fits_alike then_ (and_parts _ _ n).1) ts last (and_parts _ _ n).0 xs ys w h
 fits_alike (s.each q then_) n xs ys w h = several_alike q (Fits IsSort then_) (fits_alike then_ n) xs ys w h
+fits_alike (s.times group then_) n xs ys w h = absurd (true≢false (sym n))
 
 -- ---- a string and the same with another text
 

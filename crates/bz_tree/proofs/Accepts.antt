@@ -19,13 +19,14 @@ use Rattle.bz_tree.specs.declared.kind.Kind.{Kind}
 use Rattle.bz_tree.specs.declared.tree.Node.{Node}
 use Rattle.bz_tree.specs.declared.tree.Part.{Part}
 use Rattle.bz_tree.specs.Spell.{spell_node, leaves_part, leaves_of, limit}
-use Rattle.bz_tree.specs.Shapes.{is_one_of, has_token, end, line, Several, Fits, done, tok, shape}
-use Rattle.bz_tree.specs.Legal.{IsSort, IsFile, IsFileOf, Legal, Reads, NoTree}
+use Rattle.bz_tree.specs.Shapes.{is_one_of, has_token, end, stmt, Several, Fits, done, tok, bzl_shape}
+use Rattle.bz_tree.specs.Legal.{IsSort, IsBzlFile, IsFileOf, Legal, LegalBzl, IsBuild, Reads, ReadsBzl, NoTree, NoBzlTree}
 use Rattle.bz_tree.specs.Faults.{NoFile, IsOther}
 use Rattle.bz_tree.proofs.Exact.{token_leaf}
 use Rattle.bz_tree.proofs.Spells.{node_spelled}
 use Rattle.bz_tree.proofs.Files.{one_file}
-use Rattle.bz_tree.proofs.Both.{leaves_legal, legal_leaves}
+use Rattle.bz_tree.proofs.Both.{leaves_bzl_legal, legal_leaves}
+use Rattle.bz_tree.proofs.Build.{legal_by_lines}
 
 -- ---- the end of a file
 
@@ -45,64 +46,64 @@ end_behind : (ls ms : List Leaf) → has_end ms ≡ true → has_end (ls ++ ms) 
 end_behind [] ms h = h
 end_behind (l ∷ ls) ms h = or_right _ (has_end (ls ++ ms)) (end_behind ls ms h)
 
-end_in : (xs : List Part) → Several (IsSort line) (Fits IsSort (tok end done)) xs → has_end (flat_map leaves_part xs) ≡ true
+end_in : (xs : List Part) → Several (IsSort stmt) (Fits IsSort (tok end done)) xs → has_end (flat_map leaves_part xs) ≡ true
 end_in [] h = absurd h
 end_in (x ∷ xs) (inl h) = end_among x (flat_map leaves_part xs) h.0
 end_in (x ∷ xs) (inr h) = end_behind (leaves_part x) (flat_map leaves_part xs) (end_in xs h.1)
 
-file_end : (n : Node) → IsFile n → has_end (leaves_of n) ≡ true
-file_end n h = end_in n.parts (subst (λ (kind : Kind). Fits IsSort (shape kind) n.parts) h.root h.shapes.0)
+file_end : (n : Node) → IsBzlFile n → has_end (leaves_of n) ≡ true
+file_end n h = end_in n.parts (subst (λ (kind : Kind). Fits IsSort (bzl_shape kind) n.parts) h.root h.shapes.0)
 
 -- ---- legal trees and their leaves
 
 -- a file of the leaves of a text of characters is a legal tree
-pub legal_of : (ls : List Leaf) (n : Node) → IsFileOf ls n → AreLeaves ls → IsUtf8 (spell_leaves ls) → Legal n
+pub legal_of : (ls : List Leaf) (n : Node) → IsFileOf ls n → AreLeaves ls → IsUtf8 (spell_leaves ls) → LegalBzl n
 legal_of ls n e h u =
     let w = legal_leaves n e.file (subst AreLeaves (sym e.leaves) h) in
-    record { file = e.file; gaps = w.0; tokens = w.1; coded = subst AreCoded (sym e.leaves) (leaves_coded ls h u); depth = e.depth }
+    record { file = e.file; gaps = w.0; indents = e.indents; tokens = w.1; coded = subst AreCoded (sym e.leaves) (leaves_coded ls h u); depth = e.depth }
 
 -- a legal tree is a file of its leaves
-pub file_of_legal : (n : Node) (ls : List Leaf) → Legal n → leaves_of n ≡ ls → IsFileOf ls n
-file_of_legal n ls h e = record { file = h.file; leaves = e; depth = h.depth }
+pub file_of_legal : (n : Node) (ls : List Leaf) → LegalBzl n → leaves_of n ≡ ls → IsFileOf ls n
+file_of_legal n ls h e = record { file = h.file; indents = h.indents; leaves = e; depth = h.depth }
 
 -- no text has two legal trees
-pub one_tree : (n m : Node) → Legal n → Legal m → spell_node n ≡ spell_node m → n ≡ m
-one_tree n m h k e = one_file n m h.file k.file (one_lexing (leaves_of n) (leaves_of m) (leaves_legal n h) (leaves_legal m k) (sym (node_spelled n) ∙ e ∙ node_spelled m))
+pub one_bzl_tree : (n m : Node) → LegalBzl n → LegalBzl m → spell_node n ≡ spell_node m → n ≡ m
+one_bzl_tree n m h k e = one_file n m h.file k.file h.indents k.indents (one_lexing (leaves_of n) (leaves_of m) (leaves_bzl_legal n h) (leaves_bzl_legal m k) (sym (node_spelled n) ∙ e ∙ node_spelled m))
 
 -- a legal tree spells a text of characters
-pub legal_coded : (n : Node) → Legal n → IsUtf8 (spell_node n)
+pub legal_coded : (n : Node) → LegalBzl n → IsUtf8 (spell_node n)
 legal_coded n h = subst IsUtf8 (sym (node_spelled n)) (coded_spelled (leaves_of n) h.coded)
 
 -- ---- texts
 
-pub reads_of : (text : List ℕ) (ls : List Leaf) (n : Node) → AreLeaves ls → spell_leaves ls ≡ text → length text ≤ limit → IsUtf8 text → IsFileOf ls n → Reads text n
+pub reads_of : (text : List ℕ) (ls : List Leaf) (n : Node) → AreLeaves ls → spell_leaves ls ≡ text → length text ≤ limit → IsUtf8 text → IsFileOf ls n → ReadsBzl text n
 reads_of text ls n h s le u e = (legal_of ls n e h (subst IsUtf8 (sym s) u), node_spelled n ∙ ap spell_leaves e.leaves ∙ s, le)
 
 -- a file of the leaves that come is a tree of the text, since the end is among them
-pub tree_of_leaves : (text : List ℕ) (ls : List Leaf) (n : Node) → ls ≡ to_come Fresh text → length text ≤ limit → IsUtf8 text → IsFileOf ls n → Reads text n
+pub tree_of_leaves : (text : List ℕ) (ls : List Leaf) (n : Node) → ls ≡ to_come Fresh text → length text ≤ limit → IsUtf8 text → IsFileOf ls n → ReadsBzl text n
 tree_of_leaves text ls n e le u w = elim (all_come text) [
   | inl a ↦ reads_of text (to_come Fresh text) n a.0 a.1 le u (subst (λ (ms : List Leaf). IsFileOf ms n) e w)
   | inr a ↦ absurd (both_ways (has_end (to_come Fresh text)) a.1 (ap has_end (sym (w.leaves ∙ e)) ∙ file_end n w.file))
 ]
 
 -- the spelling of a tree that a text reads as is within the limit
-pub reads_within : (text : List ℕ) (n : Node) → Reads text n → Legal n × (length (spell_node n) ≤ limit)
+pub reads_within : (text : List ℕ) (n : Node) → ReadsBzl text n → LegalBzl n × (length (spell_node n) ≤ limit)
 reads_within text n r = (r.0, rw r.1 r.2)
 
-pub no_leaves : (text : List ℕ) → NoLeaves text → NoTree text
-no_leaves text h n r = h (leaves_of n) (leaves_legal n r.0) (sym (node_spelled n) ∙ r.1)
+pub no_leaves : (text : List ℕ) → NoLeaves text → NoBzlTree text
+no_leaves text h n r = h (leaves_of n) (leaves_bzl_legal n r.0) (sym (node_spelled n) ∙ r.1)
 
-pub no_file : (text : List ℕ) (ls : List Leaf) → AreLeaves ls → spell_leaves ls ≡ text → NoFile ls → NoTree text
-no_file text ls h s bad n r = bad n (file_of_legal n ls r.0 (one_lexing (leaves_of n) ls (leaves_legal n r.0) h (sym (node_spelled n) ∙ r.1 ∙ sym s)))
+pub no_file : (text : List ℕ) (ls : List Leaf) → AreLeaves ls → spell_leaves ls ≡ text → NoFile ls → NoBzlTree text
+no_file text ls h s bad n r = bad n (file_of_legal n ls r.0 (one_lexing (leaves_of n) ls (leaves_bzl_legal n r.0) h (sym (node_spelled n) ∙ r.1 ∙ sym s)))
 
-pub no_tree_refused : (text : List ℕ) (ls : List Leaf) → ls ≡ to_come Fresh text → NoFile ls → NoTree text
+pub no_tree_refused : (text : List ℕ) (ls : List Leaf) → ls ≡ to_come Fresh text → NoFile ls → NoBzlTree text
 no_tree_refused text ls e bad = elim (all_come text) [
   | inl a ↦ no_file text (to_come Fresh text) a.0 a.1 (λ n w. bad n (subst (λ (ms : List Leaf). IsFileOf ms n) (sym e) w))
   | inr a ↦ no_leaves text a.0
 ]
 
 -- a text past the limit has none
-pub no_tree_so_long : (text : List ℕ) → limit < length text → NoTree text
+pub no_tree_so_long : (text : List ℕ) → limit < length text → NoBzlTree text
 no_tree_so_long text h n r = let within = r.2 in omega arith
 
 -- ---- texts that are not UTF-8
@@ -121,7 +122,7 @@ valid_text : (text : List ℕ) (n : ℕ) → IsUtf8 text → IsValidUpTo text n 
 valid_text text n u v = v.longest (length text) v.short (subst IsUtf8 (sym (take-length text)) u)
 
 -- a text that breaks off has none
-pub no_tree_coded : (text : List ℕ) (at : ℕ) → IsValidUpTo text at → NoTree text
+pub no_tree_coded : (text : List ℕ) (at : ℕ) → IsValidUpTo text at → NoBzlTree text
 no_tree_coded text at v n r = valid_text text at (subst IsUtf8 r.1 (legal_coded n r.0)) v
 
 abbrev NotUtf8Exactly : {X : Type 0} → Result X ReadFault → List ℕ → ℕ → Type 0
@@ -142,3 +143,25 @@ of_result result at h e = let w = subst (λ (z : Result _ ReadFault). IfErr z Is
 
 pub not_told : {X : Type 0} (result : Result X ReadFault) (text : List ℕ) (at : ℕ) → IsUtf8 text → IfErr result IsOther → NotUtf8Exactly result text at
 not_told result text at u h = (λ e. absurd (of_result result at h e), λ w. absurd (valid_text text at u w.1))
+
+-- ---- BUILD files
+
+-- a legal tree is legal as that of a .bzl file
+pub bzl_of : (n : Node) → Legal n → LegalBzl n
+bzl_of n h = ((legal_by_lines n).0 h).0
+
+pub one_tree : (n m : Node) → Legal n → Legal m → spell_node n ≡ spell_node m → n ≡ m
+one_tree n m h k e = one_bzl_tree n m (bzl_of n h) (bzl_of m k) e
+
+pub no_tree_bzl : (text : List ℕ) → NoBzlTree text → NoTree text
+no_tree_bzl text h n r = h n (bzl_of n r.0, r.1, r.2)
+
+-- the one tree of the text is none of a BUILD file
+pub no_build_tree : (text : List ℕ) (tree : Node) → ReadsBzl text tree → (IsBuild tree → ⊥) → NoTree text
+no_build_tree text tree r bad n h = bad (subst IsBuild (one_bzl_tree n tree (bzl_of n h.0) r.0 (h.1 ∙ sym r.1)) ((legal_by_lines n).0 h.0).1)
+
+pub build_reads : (text : List ℕ) (tree : Node) → ReadsBzl text tree → IsBuild tree → Reads text tree
+build_reads text tree r b = ((legal_by_lines tree).1 (r.0, b), r.1, r.2)
+
+pub build_within : (text : List ℕ) (n : Node) → Reads text n → Legal n × (length (spell_node n) ≤ limit)
+build_within text n r = (r.0, rw r.1 r.2)

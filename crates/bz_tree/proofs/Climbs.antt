@@ -7,10 +7,8 @@ use Rattle.bz_tree.specs.declared.token.Halt.{Halt}
 use Rattle.bz_lex.specs.declared.leaf.Leaf.{Leaf}
 use Rattle.bz_tree.specs.declared.kind.Kind.{Kind}
 use Rattle.bz_tree.specs.declared.kind.Kind.TheVariants as k
-use Rattle.bz_tree.specs.declared.tree.Node.{Node}
 use Rattle.bz_tree.specs.declared.tree.Part.{Part, items-the_row-Part}
 use Rattle.bz_tree.specs.declared.tree.Part as p
-use Rattle.bz_tree.specs.declared.tree.Part.TheVariants as v
 use Rattle.bz_tree.specs.Spell.{depth_part}
 use Rattle.bz_tree.specs.declared.token.Token.{Token}
 use Rattle.bz_tree.specs.declared.token.Token.TheVariants as t
@@ -23,14 +21,16 @@ use Rattle.bz_tree.specs.declared.state.State.TheVariants as s
 use Rattle.bz_tree.specs.declared.state.Rest.TheVariants as in_rest
 use Rattle.bz_tree.specs.declared.state.ItemsAt.TheVariants as items_at
 use Rattle.bz_tree.specs.declared.state.Items.TheVariants as items_row
-use Rattle.bz_tree.specs.declared.state.FileAt.TheVariants as file_at
+use Rattle.bz_tree.specs.declared.state.StarredAt.TheVariants as starred_at
+use Rattle.bz_tree.specs.declared.indented.Header.{Header}
 use Rattle.bz_tree.specs.declared.state.RoundAt.TheVariants as round_at
 use Rattle.bz_tree.specs.declared.state.SuffixAt.TheVariants as suffix_at
 use Rattle.bz_tree.specs.declared.state.StatementAt.TheVariants as statement_at
-use Rattle.bz_tree.specs.Shapes.{Terminal, has_token, Sort, level, argument, entry, clause, first_clause, loaded, small, line, Shape, done, tok, list, shape, name, simple, string, equals, stars, products, sums, shifts, comma, open_round, open_square, open_curly}
-use Rattle.bz_tree.specs.Reading.{◌>>=◌, Read, starts_with, first, put, run, finish, first_of, Found, as_kind, put_found, follow, node, wrap, wrap_found, infix_at, fits_in, suffixes, climb, named_tail, reading, round, square, curly, suffix, clause_plan, small_plan, if_all, read_file}
+use Rattle.bz_tree.specs.Shapes.{Terminal, has_token, Sort, level, argument, entry, clause, first_clause, loaded, small, line, param, Shape, done, tok, list, starred, bzl_shape, name, simple, string, equals, stars, products, sums, shifts, comma, open_round, open_square, open_curly}
+use Rattle.bz_tree.specs.Reading.{◌>>=◌, Read, starts_with, first, put, run, finish, first_of, Found, as_kind, put_found, follow, node, wrap, wrap_found, infix_at, fits_in, suffixes, climb, named_tail, param_tail, token_of, reading, round, square, curly, suffix, clause_plan, small_plan}
 use Rattle.bz_tree.specs.Words.{terminals_of, token_at, part_at, with_found, found_by, Halts, Fails}
-use Rattle.bz_tree.specs.States.{sort_of, compare_tail, cond_tail, found_at, begun_at, level_at, rung_of, climbed, suffixes_at, atom_at, argument_at}
+use Rattle.bz_tree.specs.States.{sort_of, compare_tail, cond_tail, found_at, begun_at, level_at, rung_of, climbed, suffixes_at, atom_at, argument_at, param_at}
+use Rattle.bz_tree.specs.Rows.{plan_of_header, header_at, shape_of_header}
 use Rattle.bz_tree.proofs.Nested.{items_of_row}
 use Rattle.bz_tree.proofs.Terminals.{full_front}
 use Rattle.bz_tree.proofs.Exact.{all_leaves, token_leaf}
@@ -39,7 +39,7 @@ use Rattle.bz_tree.proofs.Nodes.{wrap_found_some}
 use Rattle.bz_tree.proofs.Trees.{At}
 use Rattle.bz_tree.proofs.Levels.{begins, goes}
 use Rattle.bz_tree.proofs.ExactSorts.{reading_exact}
-use Rattle.bz_tree.proofs.Steps.{bind_same, halts}
+use Rattle.bz_tree.proofs.Steps.{bind_same, halts, reading_sound, token_parts}
 
 -- ---- nodes of an empty row, and of one part
 
@@ -80,7 +80,7 @@ argument_is d ts = refl
 
 pub entry_is : (d : ℕ) (ts : List Leaf) → part_at (suc d) entry ts ≡ found_at d [] s.Entry ts
 unfolding part_at found_at found_by
-entry_is d ts = wrapped k.Entry (run (reading d) (shape k.Entry) ts)
+entry_is d ts = wrapped k.Entry (run (reading d) (bzl_shape k.Entry) ts)
 
 pub clause_is : (d : ℕ) (ts : List Leaf) → part_at (suc d) clause ts ≡ found_at d [] s.Clause ts
 unfolding part_at found_at found_by
@@ -88,7 +88,7 @@ clause_is d ts = found_plain (follow (reading d) clause_plan ts)
 
 pub first_clause_is : (d : ℕ) (ts : List Leaf) → part_at (suc d) first_clause ts ≡ found_at d [] s.For ts
 unfolding part_at found_at found_by
-first_clause_is d ts = wrapped k.For (run (reading d) (shape k.For) ts)
+first_clause_is d ts = wrapped k.For (run (reading d) (bzl_shape k.For) ts)
 
 pub small_is : (d : ℕ) (ts : List Leaf) → part_at (suc d) small ts ≡ found_at d [] (s.Statement statement_at.Begin) ts
 unfolding part_at found_at found_by
@@ -96,11 +96,11 @@ small_is d ts = found_plain (follow (reading d) small_plan ts)
 
 pub line_is : (d : ℕ) (ts : List Leaf) → part_at (suc d) line ts ≡ found_at d [] (s.Items items_row.Statements items_at.Part) ts
 unfolding part_at found_at found_by
-line_is d ts = wrapped k.Line (run (reading d) (shape k.Line) ts)
+line_is d ts = wrapped k.Line (run (reading d) (bzl_shape k.Line) ts)
 
 pub alias_is : (d : ℕ) (ts : List Leaf) → starts_with name ts ≡ true → part_at (suc d) loaded ts ≡ found_at d [] s.Alias ts
 unfolding part_at found_at found_by
-alias_is d ts h = cond-true (starts_with name ts) _ _ h ∙ wrapped k.Alias (run (reading d) (shape k.Alias) ts)
+alias_is d ts h = cond-true (starts_with name ts) _ _ h ∙ wrapped k.Alias (run (reading d) (bzl_shape k.Alias) ts)
 
 pub loaded_is : (d : ℕ) (ts : List Leaf) → starts_with name ts ≡ false → part_at (suc d) loaded ts ≡ token_at string ts
 unfolding part_at token_at
@@ -116,7 +116,7 @@ inside place place' d ts o is h e = let same : d ≡ suc (d - 1) = one_less d h 
 
 pub part_depth : (d : ℕ) (sort : Sort) (ts rest : List Leaf) (x : Part) → part_at d sort ts ≡ Some (x, rest) → depth_part x ≤ d
 unfolding part_at
-part_depth d sort ts rest x e = ((reading_exact d sort).sound ts (x, rest) e).0.2
+part_depth d sort ts rest x e = (reading_sound d sort ts (x, rest) e).0.2
 
 -- ---- operators
 
@@ -141,7 +141,7 @@ tail_of n operators = tok operators (list (level n) operators false done)
 
 pub level_step : (d n : ℕ) (ts : List Leaf) → level_at d (suc n) ts ≡ climbed d (rung_of n) (level_at d n) ts
 unfolding level_at begun_at found_at
-level_step d zero ts = prefix_is d k.Unary (shape k.Unary) 0 ts
+level_step d zero ts = prefix_is d k.Unary (bzl_shape k.Unary) 0 ts
 level_step d (suc zero) ts = infix_is d k.Product (tail_of 1 products) 1 ts
 level_step d (suc (suc zero)) ts = infix_is d k.Sum (tail_of 2 sums) 2 ts
 level_step d (suc (suc (suc zero))) ts = infix_is d k.Shift (tail_of 3 shifts) 3 ts
@@ -149,12 +149,13 @@ level_step d (suc (suc (suc (suc zero)))) ts = infix_is d k.BitAnd (tail_of 4 (t
 level_step d (suc (suc (suc (suc (suc zero))))) ts = infix_is d k.Xor (tail_of 5 (terminals_of t.Caret)) 5 ts
 level_step d (suc (suc (suc (suc (suc (suc zero)))))) ts = infix_is d k.BitOr (tail_of 6 (terminals_of t.Bar)) 6 ts
 level_step d (suc (suc (suc (suc (suc (suc (suc zero))))))) ts = infix_is d k.Compare compare_tail 7 ts
-level_step d (suc (suc (suc (suc (suc (suc (suc (suc zero)))))))) ts = prefix_is d k.Not (shape k.Not) 8 ts
+level_step d (suc (suc (suc (suc (suc (suc (suc (suc zero)))))))) ts = prefix_is d k.Not (bzl_shape k.Not) 8 ts
 level_step d (suc (suc (suc (suc (suc (suc (suc (suc (suc zero))))))))) ts = infix_is d k.And (tail_of 9 (terminals_of t.And)) 9 ts
 level_step d (suc (suc (suc (suc (suc (suc (suc (suc (suc (suc zero)))))))))) ts = infix_is d k.Or (tail_of 10 (terminals_of t.Or)) 10 ts
 level_step d (suc (suc (suc (suc (suc (suc (suc (suc (suc (suc (suc zero))))))))))) ts = infix_is d k.Cond (tok (terminals_of t.If) cond_tail) 11 ts
-level_step d (suc (suc (suc (suc (suc (suc (suc (suc (suc (suc (suc (suc zero)))))))))))) ts = infix_is d k.Row (tail_of 12 comma) 12 ts
-level_step d (suc (suc (suc (suc (suc (suc (suc (suc (suc (suc (suc (suc (suc n))))))))))))) ts = refl
+level_step d (suc (suc (suc (suc (suc (suc (suc (suc (suc (suc (suc (suc zero)))))))))))) ts = prefix_is d k.Lambda (bzl_shape k.Lambda) 12 ts
+level_step d (suc (suc (suc (suc (suc (suc (suc (suc (suc (suc (suc (suc (suc zero))))))))))))) ts = infix_is d k.Row (tail_of 13 comma) 13 ts
+level_step d (suc (suc (suc (suc (suc (suc (suc (suc (suc (suc (suc (suc (suc (suc n)))))))))))))) ts = refl
 
 module _ (d n : ℕ) (ts : List Leaf) (h : n ≡ 0 → ⊥) where
   climb_by : (r : Rung) → r ≡ rung_of (n - 1) → level_at d n ts ≡ climbed d r (level_at d (n - 1)) ts
@@ -275,92 +276,104 @@ module _ (d : ℕ) (a : Part) (ts : List Leaf) where
 -- ---- arguments
 
 module _ (d : ℕ) (ts : List Leaf) where
-  pub star_is : starts_with stars ts ≡ true → argument_at d ts ≡ found_at d [] (s.Rest k.Star (in_rest.TokenPart t.Stars (q.Level 12))) ts
+  pub star_is : starts_with stars ts ≡ true → argument_at d ts ≡ found_at d [] (s.Rest k.Star (in_rest.TokenPart t.Stars (q.Level 13))) ts
   unfolding argument_at found_at found_by
-  star_is h = cond-true (starts_with stars ts) _ _ h ∙ wrapped k.Star (run (reading d) (shape k.Star) ts)
+  star_is h = cond-true (starts_with stars ts) _ _ h ∙ wrapped k.Star (run (reading d) (bzl_shape k.Star) ts)
 
   abbrev named : Read Part
-  named us = level_at d 12 us >>= λ a. cond (starts_with equals a.1) (cond (has_token name a.0) (found_at d (a.0 ∷ []) (s.Rest k.Named (in_rest.TokenPart t.Equals (q.Level 12))) a.1) None) (Some a)
+  named us = level_at d 13 us >>= λ a. cond (starts_with equals a.1) (cond (has_token name a.0) (found_at d (a.0 ∷ []) (s.Rest k.Named (in_rest.TokenPart t.Equals (q.Level 13))) a.1) None) (Some a)
 
   named_is : starts_with stars ts ≡ false → argument_at d ts ≡ named ts
   unfolding argument_at found_at found_by level_at
   named_is h =
       cond-false (starts_with stars ts) _ _ h ∙
-      bind_same (climb d (reading d) 12 ts) (λ a. cond (starts_with equals a.1) (cond (has_token name a.0) (wrap k.Named (put a.0 (run (reading d) named_tail a.1))) None) (Some a))
+      bind_same (climb d (reading d) 13 ts) (λ a. cond (starts_with equals a.1) (cond (has_token name a.0) (wrap k.Named (put a.0 (run (reading d) named_tail a.1))) None) (Some a))
       (λ a. cond (starts_with equals a.1) (cond (has_token name a.0) (wrap_found (with_found (a.0 ∷ []) (as_kind k.Named (run (reading d) named_tail a.1)))) None) (Some a))
       (λ a e. ap (λ o. cond (starts_with equals a.1) (cond (has_token name a.0) o None) (Some a)) (wrapped_one k.Named a.0 (run (reading d) named_tail a.1)))
 
-  pub argument_none : starts_with stars ts ≡ false → level_at d 12 ts ≡ None → argument_at d ts ≡ None
+  pub argument_none : starts_with stars ts ≡ false → level_at d 13 ts ≡ None → argument_at d ts ≡ None
   argument_none h e = named_is h ∙ rw e refl
 
-  pub argument_odd : (a : Part) (rest : List Leaf) → starts_with stars ts ≡ false → level_at d 12 ts ≡ Some (a, rest) → starts_with equals rest ≡ true → has_token name a ≡ false → argument_at d ts ≡ None
+  pub argument_odd : (a : Part) (rest : List Leaf) → starts_with stars ts ≡ false → level_at d 13 ts ≡ Some (a, rest) → starts_with equals rest ≡ true → has_token name a ≡ false → argument_at d ts ≡ None
   argument_odd a rest h e m n = named_is h ∙ rw (e, m, n) refl
 
-  named_fits : (a : Part) → has_token name a ≡ true → fits_in d a ≡ true
+  pub named_fits : (a : Part) → has_token name a ≡ true → fits_in d a ≡ true
   named_fits a h = let w = token_leaf name a h in rw w.1 (le-leb 0 d (omega arith))
 
-  pub argument_stays : (a : Part) (rest : List Leaf) → starts_with stars ts ≡ false → level_at d 12 ts ≡ Some (a, rest) → starts_with equals rest ≡ false → argument_at d ts ≡ Some (a, rest)
+  pub argument_stays : (a : Part) (rest : List Leaf) → starts_with stars ts ≡ false → level_at d 13 ts ≡ Some (a, rest) → starts_with equals rest ≡ false → argument_at d ts ≡ Some (a, rest)
   argument_stays a rest h e m = named_is h ∙ rw (e, m) refl
 
-  pub argument_named : (a : Part) (rest : List Leaf) → starts_with stars ts ≡ false → level_at d 12 ts ≡ Some (a, rest) → has_token name a ≡ true → argument_at d ts ≡ begun_at d t.Equals (s.Rest k.Named (in_rest.TokenPart t.Equals (q.Level 12))) a rest
+  pub argument_named : (a : Part) (rest : List Leaf) → starts_with stars ts ≡ false → level_at d 13 ts ≡ Some (a, rest) → has_token name a ≡ true → argument_at d ts ≡ begun_at d t.Equals (s.Rest k.Named (in_rest.TokenPart t.Equals (q.Level 13))) a rest
   argument_named a rest h e n =
       elim (cases_Bool (starts_with equals rest)) [
-        | inl m ↦ named_is h ∙ rw (e, m, n) (sym (begun_goes d t.Equals (s.Rest k.Named (in_rest.TokenPart t.Equals (q.Level 12))) a rest m (named_fits a n)))
-        | inr m ↦ argument_stays a rest h e m ∙ sym (begun_stays d t.Equals (s.Rest k.Named (in_rest.TokenPart t.Equals (q.Level 12))) a rest m)
+        | inl m ↦ named_is h ∙ rw (e, m, n) (sym (begun_goes d t.Equals (s.Rest k.Named (in_rest.TokenPart t.Equals (q.Level 13))) a rest m (named_fits a n)))
+        | inr m ↦ argument_stays a rest h e m ∙ sym (begun_stays d t.Equals (s.Rest k.Named (in_rest.TokenPart t.Equals (q.Level 13))) a rest m)
       ]
 
--- ---- files
+-- ---- parameters
 
-no_leaf : (n : Node) (l : Leaf) → v.Node n ≡ v.Leaf l → ⊥
-no_leaf n l h = absurd cc
-
-abbrev back : Part → Node → Node
-back (p.Leaf l) m = m
-back (p.Node' kind size row) m = record { kind = kind; parts = items-the_row-Part _ row }
-
-back_is : (n m : Node) → back (v.Node n) m ≡ n
-back_is n m = ap (λ (ps : List Part). let z : Node = record { kind = n.kind; parts = ps } in z) (items_of_row n)
-
-same_node : (m n : Node) → v.Node m ≡ v.Node n → m ≡ n
-same_node m n h = sym (back_is m m) ∙ ap (λ (x : Part). back x m) h ∙ back_is n m
-
-left_over : (ps : List Part) (us : List Leaf) → (us ≡ [] → ⊥) → if_all (ps, us) ≡ None
-left_over ps [] h = absurd (h refl)
-left_over ps (u ∷ us) h = refl
-
-abbrev framed : Option (List Part × List Leaf) → Option (Part × List Leaf)
-framed o = wrap_found (with_found [] (as_kind k.File o))
-
-framed_some : (o : Option (List Part × List Leaf)) (x : Part) (rest : List Leaf) → framed o ≡ Some (x, rest) → (ps : List Part) × (o ≡ Some (ps, rest)) × (node k.File ps ≡ x)
-framed_some None x rest e = absurd cc
-framed_some (Some y) x rest e = let w = same_Some (node k.File y.0, y.1) (x, rest) e in (y.0, ap (λ (z : Part × List Leaf). Some (y.0, z.1)) w, ap (λ (z : Part × List Leaf). z.0) w)
-
-framed_none : (o : Option (List Part × List Leaf)) → framed o ≡ None → o ≡ None
-framed_none None e = refl
-framed_none (Some y) e = absurd cc
-
-pub file_part : (x y : Part) (rest : List Leaf) → x ≡ y → (let z : Option (Part × List Leaf) = Some (x, rest) in z) ≡ Some (y, rest)
-file_part x y rest e = ap (λ (z : Part). let w : Option (Part × List Leaf) = Some (z, rest) in w) e
+pub param_is : (d : ℕ) (ts : List Leaf) → part_at (suc d) param ts ≡ param_at d ts
+unfolding part_at param_at
+param_is d ts = refl
 
 module _ (d : ℕ) (ts : List Leaf) where
-  pub file_none : found_at d [] (s.File file_at.Lines) ts ≡ None → read_file d ts ≡ None
-  unfolding found_at found_by
-  file_none e = rw (framed_none (run (reading d) (shape k.File) ts) e) refl
+  pub starred_is : starts_with stars ts ≡ true → param_at d ts ≡ found_at d [] (s.Starred starred_at.Begin) ts
+  unfolding param_at found_at found_by
+  starred_is h = cond-true (starts_with stars ts) _ _ h ∙ wrapped k.Param (run (reading d) starred ts)
 
-  pub file_leaf : {A : Type 0} (l : Leaf) (rest : List Leaf) → found_at d [] (s.File file_at.Lines) ts ≡ Some (v.Leaf l, rest) → A
-  unfolding found_at found_by
-  file_leaf l rest e = let w = framed_some (run (reading d) (shape k.File) ts) (v.Leaf l) rest e in absurd (no_leaf (record { kind = k.File; parts = w.0 }) l w.2)
+  abbrev valued : Read Part
+  valued us = token_at name us >>= λ a. cond (starts_with equals a.1) (cond (has_token name a.0) (found_at d (a.0 ∷ []) (s.Rest k.Param (in_rest.TokenPart t.Equals (q.Level 13))) a.1) None) (Some a)
 
-  pub file_whole : (n : Node) (rest : List Leaf) → found_at d [] (s.File file_at.Lines) ts ≡ Some (v.Node n, rest) → rest ≡ [] → read_file d ts ≡ Some n
-  unfolding found_at found_by
-  file_whole n rest e h =
-      let w = framed_some (run (reading d) (shape k.File) ts) (v.Node n) rest e in
-      let m : Node = record { kind = k.File; parts = w.0 } in
-      let same : m ≡ n = same_node m n w.2 in
-      rw (w.1, h) (ap (λ (z : Node). Some z) same)
+  valued_is : starts_with stars ts ≡ false → param_at d ts ≡ valued ts
+  unfolding param_at found_at found_by token_at
+  valued_is h =
+      cond-false (starts_with stars ts) _ _ h ∙
+      bind_same (token_of name ts) (λ a. cond (starts_with equals a.1) (cond (has_token name a.0) (wrap k.Param (put a.0 (run (reading d) param_tail a.1))) None) (Some a))
+      (λ a. cond (starts_with equals a.1) (cond (has_token name a.0) (wrap_found (with_found (a.0 ∷ []) (as_kind k.Param (run (reading d) param_tail a.1)))) None) (Some a))
+      (λ a e. ap (λ o. cond (starts_with equals a.1) (cond (has_token name a.0) o None) (Some a)) (wrapped_one k.Param a.0 (run (reading d) param_tail a.1)))
 
-  pub file_more : (n : Node) (rest : List Leaf) → found_at d [] (s.File file_at.Lines) ts ≡ Some (v.Node n, rest) → (rest ≡ [] → ⊥) → read_file d ts ≡ None
-  unfolding found_at found_by
-  file_more n rest e h =
-      let w = framed_some (run (reading d) (shape k.File) ts) (v.Node n) rest e in
-      rw w.1 (left_over w.0 rest h)
+  pub param_none : starts_with stars ts ≡ false → token_at name ts ≡ None → param_at d ts ≡ None
+  param_none h e = valued_is h ∙ rw e refl
+
+  pub param_stays : (a : Part) (rest : List Leaf) → starts_with stars ts ≡ false → token_at name ts ≡ Some (a, rest) → starts_with equals rest ≡ false → param_at d ts ≡ Some (a, rest)
+  param_stays a rest h e m = valued_is h ∙ rw (e, m) refl
+
+  pub param_valued : (a : Part) (rest : List Leaf) → starts_with stars ts ≡ false → token_at name ts ≡ Some (a, rest) → param_at d ts ≡ begun_at d t.Equals (s.Rest k.Param (in_rest.TokenPart t.Equals (q.Level 13))) a rest
+  param_valued a rest h e =
+      let w = token_parts name ts rest a e in
+      let n : has_token name a ≡ true = rw w.3 w.2 in
+      elim (cases_Bool (starts_with equals rest)) [
+        | inl m ↦ valued_is h ∙ rw (e, m, n) (sym (begun_goes d t.Equals (s.Rest k.Param (in_rest.TokenPart t.Equals (q.Level 13))) a rest m (named_fits d ts a n)))
+        | inr m ↦ param_stays a rest h e m ∙ sym (begun_stays d t.Equals (s.Rest k.Param (in_rest.TokenPart t.Equals (q.Level 13))) a rest m)
+      ]
+
+-- ---- headers
+
+abbrev back : Part → List Part
+back (p.Leaf l) = []
+back (p.Node' kind size row) = items-the_row-Part _ row
+
+back_is : (kind : Kind) (ps : List Part) → back (node kind ps) ≡ ps
+back_is kind ps = items_of_row (record { kind = kind; parts = ps })
+
+same_parts : (kind kind' : Kind) (ps qs : List Part) → node kind ps ≡ node kind' qs → ps ≡ qs
+same_parts kind kind' ps qs h = sym (back_is kind ps) ∙ ap back h ∙ back_is kind' qs
+
+framed_some : (kind kind' : Kind) (o : Option (List Part × List Leaf)) (ps : List Part) (rest : List Leaf) → wrap_found (with_found [] (as_kind kind o)) ≡ Some (node kind' ps, rest) → o ≡ Some (ps, rest)
+framed_some kind kind' None ps rest e = absurd cc
+framed_some kind kind' (Some y) ps rest e =
+    let w = same_Some (node kind y.0, y.1) (node kind' ps, rest) e in
+    ap (λ (z : List Part). Some (z, y.1)) (same_parts kind kind' y.0 ps (ap (λ (z : Part × List Leaf). z.0) w)) ∙ ap (λ (z : List Leaf). Some (ps, z)) (ap (λ (z : Part × List Leaf). z.1) w)
+
+framed_none : (kind : Kind) (o : Option (List Part × List Leaf)) → wrap_found (with_found [] (as_kind kind o)) ≡ None → o ≡ None
+framed_none kind None e = refl
+framed_none kind (Some y) e = absurd cc
+
+module _ (d : ℕ) (header : Header) (ts : List Leaf) where
+  pub header_some : (kind : Kind) (ps : List Part) (rest : List Leaf) → found_by d [] (plan_of_header header) ts ≡ Some (node kind ps, rest) → header_at d header ts ≡ Some (ps, rest)
+  unfolding found_by header_at
+  header_some kind ps rest e = framed_some k.Suite kind (run (reading d) (shape_of_header header) ts) ps rest e
+
+  pub header_none : found_by d [] (plan_of_header header) ts ≡ None → header_at d header ts ≡ None
+  unfolding found_by header_at
+  header_none e = framed_none k.Suite (run (reading d) (shape_of_header header) ts) e

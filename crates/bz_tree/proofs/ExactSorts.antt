@@ -8,12 +8,12 @@ use Rattle.bz_tree.specs.declared.tree.Node.{Node}
 use Rattle.bz_tree.specs.declared.tree.Part.{Part}
 use Rattle.bz_tree.specs.declared.tree.Part.TheVariants as v
 use Rattle.bz_tree.specs.Spell.{leaves_part}
-use Rattle.bz_tree.specs.Shapes.{is_one_of, has_token, Sort, level, argument, entry, clause, first_clause, loaded, small, line, test, simple, string, name, leaves_at, has_kind, Fits, shape}
-use Rattle.bz_tree.specs.Reading.{Read, starts_with, starts_level, first, run, node, wrap, wrap_found, follow, token_of, infix_at, prefix_at, climb, shape_at, named_tail, read_argument, reading, clause_plan, small_plan}
+use Rattle.bz_tree.specs.Shapes.{is_one_of, has_token, Sort, level, argument, entry, clause, first_clause, loaded, small, line, param, stmt, suite, test, starred, simple, string, name, leaves_at, has_kind, Fits, bzl_shape}
+use Rattle.bz_tree.specs.Reading.{Read, starts_with, starts_level, first, run, node, wrap, wrap_found, follow, token_of, infix_at, prefix_at, climb, shape_at, named_tail, param_tail, read_argument, read_param, reading, clause_plan, small_plan}
 use Rattle.bz_tree.proofs.Nested.{leaf_or_node}
 use Rattle.bz_tree.proofs.Terminals.{disjoint_at, subset, subset-one_of}
-use Rattle.bz_tree.proofs.Exact.{all_leaves, Exact}
-use Rattle.bz_tree.proofs.Shapes.{go, tells, not_empty, run_exact}
+use Rattle.bz_tree.proofs.Exact.{all_leaves, token_leaf, Exact}
+use Rattle.bz_tree.proofs.Shapes.{go, by_table, tells, not_empty, run_exact}
 use Rattle.bz_tree.proofs.Plans.{Finds, plan_exact, go_on}
 use Rattle.bz_tree.proofs.Nodes.{node_leaves, exact_like, exact_within, Begun, Wrapped, IsLeaf, token_exact, leaf_starts, infix_exact, prefix_exact, wrapped_exact}
 use Rattle.bz_tree.proofs.Trees.{At, node_fits}
@@ -41,7 +41,7 @@ abbrev IsNamed : ℕ → Part → Type 0
 IsNamed d x = Begun k.Named (has_token name) (At (suc d) test) (Fits (At d) named_tail) x
 
 abbrev Argument : ℕ → Part → Type 0
-Argument d x = (IsTest d x ⊎ IsNamed d x) ⊎ Wrapped k.Star (Fits (At d) (shape k.Star)) x
+Argument d x = (IsTest d x ⊎ IsNamed d x) ⊎ Wrapped k.Star (Fits (At d) (bzl_shape k.Star)) x
 
 test_kind : (kind : Kind) → has_kind test kind ≡ true → has_kind argument kind ≡ true
 test_kind k.File e = no e
@@ -56,6 +56,13 @@ test_kind k.Entry e = no e
 test_kind k.For e = no e
 test_kind k.If e = no e
 test_kind k.Row e = no e
+test_kind k.Def e = no e
+test_kind k.Param e = no e
+test_kind k.IfStmt e = no e
+test_kind k.ForStmt e = no e
+test_kind k.Suite e = no e
+test_kind k.Return e = no e
+test_kind k.Flow e = no e
 test_kind kind e = refl
 
 test_argument : (d : ℕ) (x : Part) → At d test x → At d argument x
@@ -65,7 +72,7 @@ test_argument d x h =
       | inr (n, is, g) ↦ rw is (test_kind n.kind g.0, g.1, g.2)
     ]
 
-named_row : (d : ℕ) (a : Part) (ps : List Part) → has_token name a ≡ true → Fits (At d) named_tail ps → Fits (At d) (shape k.Named) (a ∷ ps)
+named_row : (d : ℕ) (a : Part) (ps : List Part) → has_token name a ≡ true → Fits (At d) named_tail ps → Fits (At d) (bzl_shape k.Named) (a ∷ ps)
 named_row d a ps m t = (m, t)
 
 argument_is : (d : ℕ) (x : Part) → Argument d x → At (suc d) argument x
@@ -80,7 +87,7 @@ name_test d a h =
       | inr (n, is) ↦ let g : false ≡ true = rw is at h in no g
     ]
 
-named_begun : (d : ℕ) (ps : List Part) → Fits (At d) (shape k.Named) ps → IsNamed d (node k.Named ps)
+named_begun : (d : ℕ) (ps : List Part) → Fits (At d) (bzl_shape k.Named) ps → IsNamed d (node k.Named ps)
 named_begun d [] h = absurd h
 named_begun d (a ∷ ps) h = (a, ps, refl, name_test (suc d) a h.0, h.0, h.1)
 
@@ -97,6 +104,13 @@ argument_node d k.Entry ps h = no h.0
 argument_node d k.For ps h = no h.0
 argument_node d k.If ps h = no h.0
 argument_node d k.Row ps h = no h.0
+argument_node d k.Def ps h = no h.0
+argument_node d k.Param ps h = no h.0
+argument_node d k.IfStmt ps h = no h.0
+argument_node d k.ForStmt ps h = no h.0
+argument_node d k.Suite ps h = no h.0
+argument_node d k.Return ps h = no h.0
+argument_node d k.Flow ps h = no h.0
 argument_node d kind ps h = inl (inl (refl, h.1, h.2))
 
 argument_from : (d : ℕ) (x : Part) → At (suc d) argument x → Argument d x
@@ -106,15 +120,15 @@ argument_from d x h =
       | inr (n, is, g) ↦ rw is (argument_node d n.kind n.parts g)
     ]
 
-no_star : (d : ℕ) (x : Part) (rest : List Leaf) → (IsTest d x ⊎ IsNamed d x) → starts_with (starts_level 12) (leaves_part x ++ rest) ≡ true
+no_star : (d : ℕ) (x : Part) (rest : List Leaf) → (IsTest d x ⊎ IsNamed d x) → starts_with (starts_level 13) (leaves_part x ++ rest) ≡ true
 no_star d x rest (inl h) = begins (suc d) test x rest h
 no_star d x rest (inr (a, ps, e, h, m, t)) =
-    rw e (ap (λ (u : List Leaf). starts_with (starts_level 12) (u ++ rest)) (node_leaves k.Named (a ∷ ps)) ∙ ap (starts_with (starts_level 12)) (append_assoc (leaves_part a) (all_leaves ps) rest) ∙ begins (suc d) test a (all_leaves ps ++ rest) h)
+    rw e (ap (λ (u : List Leaf). starts_with (starts_level 13) (u ++ rest)) (node_leaves k.Named (a ∷ ps)) ∙ ap (starts_with (starts_level 13)) (append_assoc (leaves_part a) (all_leaves ps) rest) ∙ begins (suc d) test a (all_leaves ps ++ rest) h)
 
 -- ---- nodes of one kind
 
 -- a sort that one kind has, and no leaf
-one_kind : (d : ℕ) (q : Sort) (kind : Kind) (x : Part) → ((l : Leaf) → is_one_of (leaves_at q) l ≡ false) → ((other : Kind) → has_kind q other ≡ true → other ≡ kind) → At (suc d) q x → Wrapped kind (Fits (At d) (shape kind)) x
+one_kind : (d : ℕ) (q : Sort) (kind : Kind) (x : Part) → ((l : Leaf) → is_one_of (leaves_at q) l ≡ false) → ((other : Kind) → has_kind q other ≡ true → other ≡ kind) → At (suc d) q x → Wrapped kind (Fits (At d) (bzl_shape kind)) x
 one_kind d q kind x no_leaf only h =
     elim (by_part (suc d) q x h) [
       | inl l ↦ absurd (both_ways (is_one_of (leaves_at q) l.0) (no_leaf l.0) l.2)
@@ -123,7 +137,7 @@ one_kind d q kind x no_leaf only h =
           (n.parts, is ∙ ap (λ (other : Kind). node other n.parts) e, rw e at (node_fits d q n g))
     ]
 
-wrapped_at : (d : ℕ) (q : Sort) (kind : Kind) (x : Part) → has_kind q kind ≡ true → Wrapped kind (Fits (At d) (shape kind)) x → At (suc d) q x
+wrapped_at : (d : ℕ) (q : Sort) (kind : Kind) (x : Part) → has_kind q kind ≡ true → Wrapped kind (Fits (At d) (bzl_shape kind)) x → At (suc d) q x
 wrapped_at d q kind x e h = rw h.1 (made_node d q kind h.0 e h.2)
 
 only_entry : (other : Kind) → has_kind entry other ≡ true → other ≡ k.Entry
@@ -138,33 +152,37 @@ only_alias : (other : Kind) → has_kind loaded other ≡ true → other ≡ k.A
 only_alias k.Alias e = refl
 only_alias other e = no e
 
+only_param : (other : Kind) → has_kind param other ≡ true → other ≡ k.Param
+only_param k.Param e = refl
+only_param other e = no e
+
 only_line : (other : Kind) → has_kind line other ≡ true → other ≡ k.Line
 only_line k.Line e = refl
 only_line other e = no e
 
-module _ (d : ℕ) (inner : Sort → Read Part) (exact : (q : Sort) → Exact Part leaves_part (At d q) (goes q) (inner q)) where
+module _ (d : ℕ) (inner : Sort → Read Part) (exact : (q : Sort) → by_table q ≡ true → Exact Part leaves_part (At d q) (goes q) (inner q)) where
   climb_exact : (n : ℕ) → Exact Part leaves_part (At (suc d) (level n)) (goes_level n) (climb d inner n)
   climb_exact zero = primary_exact d inner exact
   climb_exact (suc n) = level_by d inner exact n (shape_at n) (climb d inner n) refl (levels_fine n) (climb_exact n)
 
-  argument_exact : Exact Part leaves_part (At (suc d) argument) (goes argument) (read_argument (climb d inner 12) inner)
+  argument_exact : Exact Part leaves_part (At (suc d) argument) (goes argument) (read_argument (climb d inner 13) inner)
   argument_exact =
       let tail = run_exact (At d) (begins d) goes inner exact named_tail refl in
-      let star = run_exact (At d) (begins d) goes inner exact (shape k.Star) refl in
-      let named = infix_exact k.Named (has_token name) named_tail inner (climb d inner 12) (At (suc d) test) (Fits (At d) named_tail) (goes_level 12) (go goes named_tail) (goes argument) (climb_exact 12)
+      let star = run_exact (At d) (begins d) goes inner exact (bzl_shape k.Star) refl in
+      let named = infix_exact k.Named (has_token name) named_tail inner (climb d inner 13) (At (suc d) test) (Fits (At d) named_tail) (goes_level 13) (go goes named_tail) (goes argument) (climb_exact 13)
       tail (λ ps rest h. not_empty (At d) (begins d) named_tail ps rest h refl) refl refl refl refl in
-      exact_like leaves_part (Argument d) (At (suc d) argument) (goes argument) (read_argument (climb d inner 12) inner) (argument_is d) (argument_from d)
-      (prefix_exact k.Star (shape k.Star) inner (infix_at k.Named (has_token name) named_tail inner (climb d inner 12)) (λ x. IsTest d x ⊎ IsNamed d x) (Fits (At d) (shape k.Star)) (goes argument) (go goes (shape k.Star)) (goes argument) named
-      star (λ ps rest h. not_empty (At d) (begins d) (shape k.Star) ps rest h refl)
-      (λ x rest h. disjoint_at (starts_level 12) (first (shape k.Star)) (leaves_part x ++ rest) refl (no_star d x rest h)) refl refl)
+      exact_like leaves_part (Argument d) (At (suc d) argument) (goes argument) (read_argument (climb d inner 13) inner) (argument_is d) (argument_from d)
+      (prefix_exact k.Star (bzl_shape k.Star) inner (infix_at k.Named (has_token name) named_tail inner (climb d inner 13)) (λ x. IsTest d x ⊎ IsNamed d x) (Fits (At d) (bzl_shape k.Star)) (goes argument) (go goes (bzl_shape k.Star)) (goes argument) named
+      star (λ ps rest h. not_empty (At d) (begins d) (bzl_shape k.Star) ps rest h refl)
+      (λ x rest h. disjoint_at (starts_level 13) (first (bzl_shape k.Star)) (leaves_part x ++ rest) refl (no_star d x rest h)) refl refl)
 
   -- a sort that one kind has is read by the kind's shape
-  kind_exact : (q : Sort) (kind : Kind) → tells goes (shape kind) ≡ true → subset (go goes (shape kind)) (goes q) ≡ true → has_kind q kind ≡ true → ((l : Leaf) → is_one_of (leaves_at q) l ≡ false) → ((other : Kind) → has_kind q other ≡ true → other ≡ kind)
-      → Exact Part leaves_part (At (suc d) q) (goes q) (λ ts. wrap kind (run inner (shape kind) ts))
+  kind_exact : (q : Sort) (kind : Kind) → tells goes (bzl_shape kind) ≡ true → subset (go goes (bzl_shape kind)) (goes q) ≡ true → has_kind q kind ≡ true → ((l : Leaf) → is_one_of (leaves_at q) l ≡ false) → ((other : Kind) → has_kind q other ≡ true → other ≡ kind)
+      → Exact Part leaves_part (At (suc d) q) (goes q) (λ ts. wrap kind (run inner (bzl_shape kind) ts))
   kind_exact q kind ok within e no_leaf only =
-      exact_like leaves_part (Wrapped kind (Fits (At d) (shape kind))) (At (suc d) q) (goes q) (λ ts. wrap kind (run inner (shape kind) ts)) (λ x h. wrapped_at d q kind x e h) (λ x h. one_kind d q kind x no_leaf only h)
-      (exact_within leaves_part (Wrapped kind (Fits (At d) (shape kind))) (go goes (shape kind)) (goes q) (λ ts. wrap kind (run inner (shape kind) ts)) within
-      (wrapped_exact kind (shape kind) inner (Fits (At d) (shape kind)) (go goes (shape kind)) (run_exact (At d) (begins d) goes inner exact (shape kind) ok)))
+      exact_like leaves_part (Wrapped kind (Fits (At d) (bzl_shape kind))) (At (suc d) q) (goes q) (λ ts. wrap kind (run inner (bzl_shape kind) ts)) (λ x h. wrapped_at d q kind x e h) (λ x h. one_kind d q kind x no_leaf only h)
+      (exact_within leaves_part (Wrapped kind (Fits (At d) (bzl_shape kind))) (go goes (bzl_shape kind)) (goes q) (λ ts. wrap kind (run inner (bzl_shape kind) ts)) within
+      (wrapped_exact kind (bzl_shape kind) inner (Fits (At d) (bzl_shape kind)) (go goes (bzl_shape kind)) (run_exact (At d) (begins d) goes inner exact (bzl_shape kind) ok)))
 
   clause_from : (x : Part) → At (suc d) clause x → (f : Kind × List Part) × (x ≡ node f.0 f.1) × Finds (At d) clause_plan f.0 f.1
   clause_from x h =
@@ -194,11 +212,11 @@ module _ (d : ℕ) (inner : Sort → Read Part) (exact : (q : Sort) → Exact Pa
       (exact_like leaves_part (λ x. (f : Kind × List Part) × (x ≡ node f.0 f.1) × Finds (At d) small_plan f.0 f.1) (At (suc d) small) (go_on goes small_plan) (λ ts. wrap_found (follow inner small_plan ts))
       (λ x h. rw h.1 (made_at d small small_plan (small_agrees (At d)) h.0.0 h.0.1 h.2)) small_from found)
 
-  loaded_is : (x : Part) → (IsLeaf string x ⊎ Wrapped k.Alias (Fits (At d) (shape k.Alias)) x) → At (suc d) loaded x
+  loaded_is : (x : Part) → (IsLeaf string x ⊎ Wrapped k.Alias (Fits (At d) (bzl_shape k.Alias)) x) → At (suc d) loaded x
   loaded_is x (inl l) = leaf_part (suc d) loaded x l
   loaded_is x (inr w) = wrapped_at d loaded k.Alias x refl w
 
-  loaded_from : (x : Part) → At (suc d) loaded x → IsLeaf string x ⊎ Wrapped k.Alias (Fits (At d) (shape k.Alias)) x
+  loaded_from : (x : Part) → At (suc d) loaded x → IsLeaf string x ⊎ Wrapped k.Alias (Fits (At d) (bzl_shape k.Alias)) x
   loaded_from x h =
       elim (by_part (suc d) loaded x h) [
         | inl l ↦ inl l
@@ -207,12 +225,55 @@ module _ (d : ℕ) (inner : Sort → Read Part) (exact : (q : Sort) → Exact Pa
             inr (n.parts, is ∙ ap (λ (other : Kind). node other n.parts) e, rw e at (node_fits d loaded n g))
       ]
 
-  loaded_exact : Exact Part leaves_part (At (suc d) loaded) (goes loaded) (prefix_at k.Alias (shape k.Alias) inner (token_of string))
+  loaded_exact : Exact Part leaves_part (At (suc d) loaded) (goes loaded) (prefix_at k.Alias (bzl_shape k.Alias) inner (token_of string))
   loaded_exact =
-      exact_like leaves_part (λ x. IsLeaf string x ⊎ Wrapped k.Alias (Fits (At d) (shape k.Alias)) x) (At (suc d) loaded) (goes loaded) (prefix_at k.Alias (shape k.Alias) inner (token_of string)) loaded_is loaded_from
-      (prefix_exact k.Alias (shape k.Alias) inner (token_of string) (IsLeaf string) (Fits (At d) (shape k.Alias)) [] (go goes (shape k.Alias)) (goes loaded) (token_exact string)
-      (run_exact (At d) (begins d) goes inner exact (shape k.Alias) refl) (λ ps rest h. not_empty (At d) (begins d) (shape k.Alias) ps rest h refl)
-      (λ x rest h. disjoint_at string (first (shape k.Alias)) (leaves_part x ++ rest) refl (leaf_starts string x rest h)) refl refl)
+      exact_like leaves_part (λ x. IsLeaf string x ⊎ Wrapped k.Alias (Fits (At d) (bzl_shape k.Alias)) x) (At (suc d) loaded) (goes loaded) (prefix_at k.Alias (bzl_shape k.Alias) inner (token_of string)) loaded_is loaded_from
+      (prefix_exact k.Alias (bzl_shape k.Alias) inner (token_of string) (IsLeaf string) (Fits (At d) (bzl_shape k.Alias)) [] (go goes (bzl_shape k.Alias)) (goes loaded) (token_exact string)
+      (run_exact (At d) (begins d) goes inner exact (bzl_shape k.Alias) refl) (λ ps rest h. not_empty (At d) (begins d) (bzl_shape k.Alias) ps rest h refl)
+      (λ x rest h. disjoint_at string (first (bzl_shape k.Alias)) (leaves_part x ++ rest) refl (leaf_starts string x rest h)) refl refl)
+
+  -- ---- parameters
+
+  abbrev IsValued : Part → Type 0
+  IsValued x = Begun k.Param (has_token name) (IsLeaf name) (Fits (At d) param_tail) x
+
+  abbrev IsParam : Part → Type 0
+  IsParam x = (IsLeaf name x ⊎ IsValued x) ⊎ Wrapped k.Param (Fits (At d) starred) x
+
+  param_is : (x : Part) → IsParam x → At (suc d) param x
+  param_is x (inl (inl l)) = leaf_part (suc d) param x l
+  param_is x (inl (inr (a, ps, e, h, m, t))) = rw e (made_node d param k.Param (a ∷ ps) refl (inl (m, t)))
+  param_is x (inr (ps, e, t)) = rw e (made_node d param k.Param ps refl (inr t))
+
+  param_node : (ps : List Part) → Fits (At d) (bzl_shape k.Param) ps → IsParam (node k.Param ps)
+  param_node [] (inl h) = absurd h
+  param_node (a ∷ ps) (inl h) = inl (inr (a, ps, refl, token_leaf name a h.0, h.0, h.1))
+  param_node ps (inr h) = inr (ps, refl, h)
+
+  param_from : (x : Part) → At (suc d) param x → IsParam x
+  param_from x h =
+      elim (by_part (suc d) param x h) [
+        | inl l ↦ inl (inl l)
+        | inr (n, is, g) ↦
+            let e = only_param n.kind g.0 in
+            rw (is, ap (λ (other : Kind). node other n.parts) e) (param_node n.parts (rw e at (node_fits d param n g)))
+      ]
+
+  no_stars : (x : Part) (rest : List Leaf) → (IsLeaf name x ⊎ IsValued x) → starts_with name (leaves_part x ++ rest) ≡ true
+  no_stars x rest (inl l) = leaf_starts name x rest l
+  no_stars x rest (inr (a, ps, e, h, m, t)) =
+      rw e (ap (λ (u : List Leaf). starts_with name (u ++ rest)) (node_leaves k.Param (a ∷ ps)) ∙ ap (starts_with name) (append_assoc (leaves_part a) (all_leaves ps) rest) ∙ leaf_starts name a (all_leaves ps ++ rest) h)
+
+  param_exact : Exact Part leaves_part (At (suc d) param) (goes param) (read_param inner)
+  param_exact =
+      let tail = run_exact (At d) (begins d) goes inner exact param_tail refl in
+      let stars_read = run_exact (At d) (begins d) goes inner exact starred refl in
+      let valued = infix_exact k.Param (has_token name) param_tail inner (token_of name) (IsLeaf name) (Fits (At d) param_tail) [] (go goes param_tail) (goes param) (token_exact name)
+      tail (λ ps rest h. not_empty (At d) (begins d) param_tail ps rest h refl) refl refl refl refl in
+      exact_like leaves_part IsParam (At (suc d) param) (goes param) (read_param inner) param_is param_from
+      (prefix_exact k.Param starred inner (infix_at k.Param (has_token name) param_tail inner (token_of name)) (λ x. IsLeaf name x ⊎ IsValued x) (Fits (At d) starred) (goes param) (go goes starred) (goes param) valued
+      stars_read (λ ps rest h. not_empty (At d) (begins d) starred ps rest h refl)
+      (λ x rest h. disjoint_at name (first starred) (leaves_part x ++ rest) refl (no_stars x rest h)) refl refl)
 
 -- ---- parts of each sort, of at most that depth
 
@@ -226,13 +287,16 @@ leaf_complete q x rest h =
       | inr (n, is, g) ↦ absurd (no_node q n g)
     ]
 
-pub reading_exact : (d : ℕ) (q : Sort) → Exact Part leaves_part (At d q) (goes q) (reading d q)
-reading_exact zero q = record { sound = leaf_sound q; complete = λ x rest h st. leaf_complete q x rest h }
-reading_exact (suc d) (level n) = climb_exact d (reading d) (reading_exact d) n
-reading_exact (suc d) argument = argument_exact d (reading d) (reading_exact d)
-reading_exact (suc d) entry = kind_exact d (reading d) (reading_exact d) entry k.Entry refl refl refl (λ l. refl) only_entry
-reading_exact (suc d) clause = clause_exact d (reading d) (reading_exact d)
-reading_exact (suc d) first_clause = kind_exact d (reading d) (reading_exact d) first_clause k.For refl refl refl (λ l. refl) only_for
-reading_exact (suc d) loaded = loaded_exact d (reading d) (reading_exact d)
-reading_exact (suc d) small = small_exact d (reading d) (reading_exact d)
-reading_exact (suc d) line = kind_exact d (reading d) (reading_exact d) line k.Line refl refl refl (λ l. refl) only_line
+pub reading_exact : (d : ℕ) (q : Sort) → by_table q ≡ true → Exact Part leaves_part (At d q) (goes q) (reading d q)
+reading_exact zero q b = record { sound = leaf_sound q; complete = λ x rest h st. leaf_complete q x rest h }
+reading_exact (suc d) (level n) b = climb_exact d (reading d) (reading_exact d) n
+reading_exact (suc d) argument b = argument_exact d (reading d) (reading_exact d)
+reading_exact (suc d) entry b = kind_exact d (reading d) (reading_exact d) entry k.Entry refl refl refl (λ l. refl) only_entry
+reading_exact (suc d) clause b = clause_exact d (reading d) (reading_exact d)
+reading_exact (suc d) first_clause b = kind_exact d (reading d) (reading_exact d) first_clause k.For refl refl refl (λ l. refl) only_for
+reading_exact (suc d) loaded b = loaded_exact d (reading d) (reading_exact d)
+reading_exact (suc d) small b = small_exact d (reading d) (reading_exact d)
+reading_exact (suc d) line b = kind_exact d (reading d) (reading_exact d) line k.Line refl refl refl (λ l. refl) only_line
+reading_exact (suc d) param b = param_exact d (reading d) (reading_exact d)
+reading_exact (suc d) stmt b = no b
+reading_exact (suc d) suite b = no b

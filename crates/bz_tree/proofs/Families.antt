@@ -6,7 +6,7 @@ use Rattle.bz_tree.specs.declared.kind.Kind.{Kind}
 use Rattle.bz_tree.specs.declared.kind.Kind.TheVariants as k
 use Rattle.bz_tree.specs.declared.tree.Part.{Part}
 use Rattle.bz_tree.specs.Spell.{leaves_part}
-use Rattle.bz_tree.specs.Shapes.{Terminal, Sort, clause, small, entry, primary, test, has_kind, Shape, done, tok, sub, alt, items, Fits, shape, open_square, close_square, open_curly, close_curly}
+use Rattle.bz_tree.specs.Shapes.{Terminal, Sort, clause, small, entry, primary, test, has_kind, Shape, done, tok, sub, alt, items, Fits, bzl_shape, open_square, close_square, open_curly, close_curly}
 use Rattle.bz_tree.specs.Reading.{Read, Plan, finish, one, piece, choose, Found, follow, node, wrap_found, round, square, curly, suffix, clause_plan, small_plan, more_items}
 use Rattle.bz_tree.proofs.Exact.{Exact}
 use Rattle.bz_tree.proofs.Nodes.{node_leaves, wrap_found_some}
@@ -64,7 +64,7 @@ module _ (P : Sort → Part → Type 0) (sort : Sort) (opening closing : List Te
 module _ (P : Sort → Part → Type 0) where
   -- the kind has this sort, and what the plan asks for on the way to it is its shape, both ways
   abbrev pub Agrees : Sort → Plan → Kind → Type 0
-  Agrees sort plan kind = (has_kind sort kind ≡ true) × ((ps : List Part) → Fits P (shape_in kind plan) ps → Fits P (shape kind) ps)
+  Agrees sort plan kind = (has_kind sort kind ≡ true) × ((ps : List Part) → Fits P (shape_in kind plan) ps → Fits P (bzl_shape kind) ps)
 
   pub round_agrees : Each (Agrees primary round) round
   round_agrees = ((refl, λ ps h. h), ((refl, λ ps h. h), (refl, λ ps h. h)))
@@ -82,51 +82,53 @@ module _ (P : Sort → Part → Type 0) where
   clause_agrees = ((refl, λ ps h. h), (refl, λ ps h. h))
 
   pub small_agrees : Each (Agrees small small_plan) small_plan
-  small_agrees = ((refl, λ ps h. h), ((refl, λ ps h. h), (refl, λ ps h. h)))
+  small_agrees = ((refl, λ ps h. h), ((refl, λ ps h. h), ((refl, λ ps h. h), ((refl, λ ps h. h), (refl, λ ps h. h)))))
 
   -- a node of these kinds is what its plan finds
-  pub finds_atom : (kind : Kind) (ps : List Part) → Fits P (shape kind) ps → (plan : Plan) → ((qs : List Part) → Fits P (shape kind) qs → Fits P (shape_in kind plan) qs) → Finds P plan kind ps
+  pub finds_atom : (kind : Kind) (ps : List Part) → Fits P (bzl_shape kind) ps → (plan : Plan) → ((qs : List Part) → Fits P (bzl_shape kind) qs → Fits P (shape_in kind plan) qs) → Finds P plan kind ps
   finds_atom kind ps h plan f = plan_of_shape P plan kind ps (f ps h)
 
-  pub finds_list : (ps : List Part) → Fits P (shape k.List) ps → Finds P square k.List ps
+  pub finds_list : (ps : List Part) → Fits P (bzl_shape k.List) ps → Finds P square k.List ps
   finds_list ps h = plan_of_shape P square k.List ps (unroll P test open_square close_square ps h)
 
-  pub finds_dict : (ps : List Part) → Fits P (shape k.Dict) ps → Finds P curly k.Dict ps
+  pub finds_dict : (ps : List Part) → Fits P (bzl_shape k.Dict) ps → Finds P curly k.Dict ps
   finds_dict ps h = plan_of_shape P curly k.Dict ps (unroll P entry open_curly close_curly ps h)
 
-  pub finds_comprehension : (ps : List Part) → Fits P (shape k.ListComp) ps → Finds P square k.ListComp ps
+  pub finds_comprehension : (ps : List Part) → Fits P (bzl_shape k.ListComp) ps → Finds P square k.ListComp ps
   finds_comprehension ps h = plan_of_shape P square k.ListComp ps h
 
-  pub finds_dict_comprehension : (ps : List Part) → Fits P (shape k.DictComp) ps → Finds P curly k.DictComp ps
+  pub finds_dict_comprehension : (ps : List Part) → Fits P (bzl_shape k.DictComp) ps → Finds P curly k.DictComp ps
   finds_dict_comprehension ps h = plan_of_shape P curly k.DictComp ps h
 
-  pub finds_paren : (ps : List Part) → Fits P (shape k.Paren) ps → Finds P round k.Paren ps
+  pub finds_paren : (ps : List Part) → Fits P (bzl_shape k.Paren) ps → Finds P round k.Paren ps
   finds_paren ps h = plan_of_shape P round k.Paren ps h
 
-  pub finds_tuple : (ps : List Part) → Fits P (shape k.Tuple) ps → Finds P round k.Tuple ps
+  pub finds_tuple : (ps : List Part) → Fits P (bzl_shape k.Tuple) ps → Finds P round k.Tuple ps
   finds_tuple ps h = plan_of_shape P round k.Tuple ps h
 
-  pub finds_dot : (ps : List Part) → Fits P (shape k.Dot) ps → Finds P (piece primary suffix) k.Dot ps
+  pub finds_dot : (ps : List Part) → Fits P (bzl_shape k.Dot) ps → Finds P (piece primary suffix) k.Dot ps
   finds_dot ps h = plan_of_shape P (piece primary suffix) k.Dot ps h
 
-  pub finds_call : (ps : List Part) → Fits P (shape k.Call) ps → Finds P (piece primary suffix) k.Call ps
+  pub finds_call : (ps : List Part) → Fits P (bzl_shape k.Call) ps → Finds P (piece primary suffix) k.Call ps
   finds_call ps h = plan_of_shape P (piece primary suffix) k.Call ps h
 
-  pub finds_index : (ps : List Part) → Fits P (shape k.Index) ps → Finds P (piece primary suffix) k.Index ps
+  pub finds_index : (ps : List Part) → Fits P (bzl_shape k.Index) ps → Finds P (piece primary suffix) k.Index ps
   finds_index ps h = plan_of_shape P (piece primary suffix) k.Index ps h
 
-  pub finds_slice : (ps : List Part) → Fits P (shape k.Slice) ps → Finds P (piece primary suffix) k.Slice ps
+  pub finds_slice : (ps : List Part) → Fits P (bzl_shape k.Slice) ps → Finds P (piece primary suffix) k.Slice ps
   finds_slice ps h = plan_of_shape P (piece primary suffix) k.Slice ps h
 
-  pub finds_clause : (kind : Kind) (ps : List Part) → has_kind clause kind ≡ true → Fits P (shape kind) ps → Finds P clause_plan kind ps
+  pub finds_clause : (kind : Kind) (ps : List Part) → has_kind clause kind ≡ true → Fits P (bzl_shape kind) ps → Finds P clause_plan kind ps
   finds_clause k.For ps e h = plan_of_shape P clause_plan k.For ps h
   finds_clause k.If ps e h = plan_of_shape P clause_plan k.If ps h
   finds_clause kind ps e h = absurd (both_ways false refl e)
 
-  pub finds_small : (kind : Kind) (ps : List Part) → has_kind small kind ≡ true → Fits P (shape kind) ps → Finds P small_plan kind ps
+  pub finds_small : (kind : Kind) (ps : List Part) → has_kind small kind ≡ true → Fits P (bzl_shape kind) ps → Finds P small_plan kind ps
   finds_small k.Bare ps e h = plan_of_shape P small_plan k.Bare ps h
   finds_small k.Assign ps e h = plan_of_shape P small_plan k.Assign ps h
   finds_small k.Load ps e h = plan_of_shape P small_plan k.Load ps h
+  finds_small k.Return ps e h = plan_of_shape P small_plan k.Return ps h
+  finds_small k.Flow ps e h = plan_of_shape P small_plan k.Flow ps h
   finds_small kind ps e h = absurd (both_ways false refl e)
 
 -- ---- reading a node by a plan

@@ -8,13 +8,13 @@ use Rattle.bz_tree.specs.declared.tree.Node.{Node}
 use Rattle.bz_tree.specs.declared.tree.Part.{Part}
 use Rattle.bz_tree.specs.declared.tree.Part.TheVariants as v
 use Rattle.bz_tree.specs.Spell.{leaves_part, depth_part}
-use Rattle.bz_tree.specs.Shapes.{Terminal, Sort, level, argument, entry, clause, first_clause, loaded, small, line, has_kind, rank, is_expression, leaves_at, Shape, none, done, tok, sub, alt, list, each, Fits, shape, simple, string, equals, assigns, open_round, open_square, open_curly}
+use Rattle.bz_tree.specs.Shapes.{Terminal, Sort, level, argument, entry, clause, first_clause, loaded, small, line, param, stmt, suite, has_kind, rank, is_expression, leaves_at, Shape, none, done, tok, sub, alt, list, each, times, Fits, bzl_shape, simple, name, string, equals, assigns, open_round, open_square, open_curly}
 use Rattle.bz_tree.specs.Reading.{Read, starts_with, starts, starts_level, own_token, first, kind_at, shape_at, suffix, first_of, node, by_shape, infix_at, prefix_at, fits_in}
 use Rattle.bz_tree.proofs.Nested.{leaf_or_node}
 use Rattle.bz_tree.proofs.Spells.{leaves_Node, depth_Node}
 use Rattle.bz_tree.proofs.Terminals.{disjoint, disjoint_at, subset, subset_at, starts-append_left, starts-append_right, stops_right}
 use Rattle.bz_tree.proofs.Exact.{Exact}
-use Rattle.bz_tree.proofs.Shapes.{nullable, go, tells, not_empty, run_exact}
+use Rattle.bz_tree.proofs.Shapes.{nullable, go, by_table, tells, not_empty, run_exact}
 use Rattle.bz_tree.proofs.Trees.{At, legal_node, node_fits}
 use Rattle.bz_tree.proofs.Nodes.{exact_like, Begun, Wrapped, infix_exact, prefix_exact}
 
@@ -31,7 +31,7 @@ up_to m n ts le h = let e : n ≡ (n - m) + m = omega arith in rw e (up_by m (n 
 abbrev pub no : {A : Type 0} → false ≡ true → A
 no e = absurd (both_ways false refl e)
 
-own_first : (kind : Kind) → is_expression kind ≡ true → subset (first (shape kind)) (starts_level (rank kind)) ≡ true
+own_first : (kind : Kind) → is_expression kind ≡ true → subset (first (bzl_shape kind)) (starts_level (rank kind)) ≡ true
 own_first k.File e = no e
 own_first k.Line e = no e
 own_first k.Bare e = no e
@@ -43,20 +43,27 @@ own_first k.Star e = no e
 own_first k.Entry e = no e
 own_first k.For e = no e
 own_first k.If e = no e
+own_first k.Def e = no e
+own_first k.Param e = no e
+own_first k.IfStmt e = no e
+own_first k.ForStmt e = no e
+own_first k.Suite e = no e
+own_first k.Return e = no e
+own_first k.Flow e = no e
 own_first _ e = refl
 
-full_expression : (kind : Kind) → is_expression kind ≡ true → nullable (shape kind) ≡ false
+full_expression : (kind : Kind) → is_expression kind ≡ true → nullable (bzl_shape kind) ≡ false
 full_expression k.File e = no e
 full_expression k.Bare e = refl
 full_expression _ e = refl
 
 -- what stands in a node of a kind that a sort has begins as the sort does
-sort_first : (q : Sort) (kind : Kind) (ts : List Leaf) → has_kind q kind ≡ true → starts_with (first (shape kind)) ts ≡ true → starts_with (starts q) ts ≡ true
+sort_first : (q : Sort) (kind : Kind) (ts : List Leaf) → has_kind q kind ≡ true → starts_with (first (bzl_shape kind)) ts ≡ true → starts_with (starts q) ts ≡ true
 sort_first (level n) kind ts e h =
     let w = and_parts (is_expression kind) (leb (rank kind) n) e in
-    up_to (rank kind) n ts (leb-true (rank kind) n w.1) (subset_at (first (shape kind)) (starts_level (rank kind)) ts (own_first kind w.0) h)
-sort_first argument k.Named ts e h = subset_at (first (shape k.Named)) (starts argument) ts refl h
-sort_first argument k.Star ts e h = subset_at (first (shape k.Star)) (starts argument) ts refl h
+    up_to (rank kind) n ts (leb-true (rank kind) n w.1) (subset_at (first (bzl_shape kind)) (starts_level (rank kind)) ts (own_first kind w.0) h)
+sort_first argument k.Named ts e h = subset_at (first (bzl_shape k.Named)) (starts argument) ts refl h
+sort_first argument k.Star ts e h = subset_at (first (bzl_shape k.Star)) (starts argument) ts refl h
 sort_first argument k.File ts e h = no e
 sort_first argument k.Line ts e h = no e
 sort_first argument k.Bare ts e h = no e
@@ -67,25 +74,44 @@ sort_first argument k.Entry ts e h = no e
 sort_first argument k.For ts e h = no e
 sort_first argument k.If ts e h = no e
 sort_first argument k.Row ts e h = no e
-sort_first argument kind ts e h = subset_at (first (shape kind)) (starts argument) ts refl h
+sort_first argument k.Def ts e h = no e
+sort_first argument k.Param ts e h = no e
+sort_first argument k.IfStmt ts e h = no e
+sort_first argument k.ForStmt ts e h = no e
+sort_first argument k.Suite ts e h = no e
+sort_first argument k.Return ts e h = no e
+sort_first argument k.Flow ts e h = no e
+sort_first argument kind ts e h = subset_at (first (bzl_shape kind)) (starts argument) ts refl h
 sort_first entry k.Entry ts e h = h
 sort_first entry kind ts e h = no e
-sort_first clause k.For ts e h = subset_at (first (shape k.For)) (starts clause) ts refl h
-sort_first clause k.If ts e h = subset_at (first (shape k.If)) (starts clause) ts refl h
+sort_first clause k.For ts e h = subset_at (first (bzl_shape k.For)) (starts clause) ts refl h
+sort_first clause k.If ts e h = subset_at (first (bzl_shape k.If)) (starts clause) ts refl h
 sort_first clause kind ts e h = no e
 sort_first first_clause k.For ts e h = h
 sort_first first_clause kind ts e h = no e
-sort_first loaded k.Alias ts e h = subset_at (first (shape k.Alias)) (starts loaded) ts refl h
+sort_first loaded k.Alias ts e h = subset_at (first (bzl_shape k.Alias)) (starts loaded) ts refl h
 sort_first loaded kind ts e h = no e
-sort_first small k.Bare ts e h = subset_at (first (shape k.Bare)) (starts small) ts refl h
-sort_first small k.Assign ts e h = subset_at (first (shape k.Assign)) (starts small) ts refl h
-sort_first small k.Load ts e h = subset_at (first (shape k.Load)) (starts small) ts refl h
+sort_first small k.Bare ts e h = subset_at (first (bzl_shape k.Bare)) (starts small) ts refl h
+sort_first small k.Assign ts e h = subset_at (first (bzl_shape k.Assign)) (starts small) ts refl h
+sort_first small k.Load ts e h = subset_at (first (bzl_shape k.Load)) (starts small) ts refl h
+sort_first small k.Return ts e h = subset_at (first (bzl_shape k.Return)) (starts small) ts refl h
+sort_first small k.Flow ts e h = subset_at (first (bzl_shape k.Flow)) (starts small) ts refl h
 sort_first small kind ts e h = no e
 sort_first line k.Line ts e h = h
 sort_first line kind ts e h = no e
+sort_first param k.Param ts e h = subset_at (first (bzl_shape k.Param)) (starts param) ts refl h
+sort_first param kind ts e h = no e
+sort_first stmt k.Line ts e h = subset_at (first (bzl_shape k.Line)) (starts stmt) ts refl h
+sort_first stmt k.Def ts e h = subset_at (first (bzl_shape k.Def)) (starts stmt) ts refl h
+sort_first stmt k.IfStmt ts e h = subset_at (first (bzl_shape k.IfStmt)) (starts stmt) ts refl h
+sort_first stmt k.ForStmt ts e h = subset_at (first (bzl_shape k.ForStmt)) (starts stmt) ts refl h
+sort_first stmt kind ts e h = no e
+sort_first suite k.Suite ts e h = subset_at (first (bzl_shape k.Suite)) (starts suite) ts refl h
+sort_first suite k.Line ts e h = subset_at (first (bzl_shape k.Line)) (starts suite) ts refl h
+sort_first suite kind ts e h = no e
 
 -- only a File may be empty, which no sort has
-full_kind : (q : Sort) (kind : Kind) → has_kind q kind ≡ true → nullable (shape kind) ≡ false
+full_kind : (q : Sort) (kind : Kind) → has_kind q kind ≡ true → nullable (bzl_shape kind) ≡ false
 full_kind (level n) k.File e = no e
 full_kind argument k.File e = no e
 full_kind entry k.File e = no e
@@ -94,6 +120,9 @@ full_kind first_clause k.File e = no e
 full_kind loaded k.File e = no e
 full_kind small k.File e = no e
 full_kind line k.File e = no e
+full_kind param k.File e = no e
+full_kind stmt k.File e = no e
+full_kind suite k.File e = no e
 full_kind q kind e = refl
 
 leaf_first : (q : Sort) (l : Leaf) (rest : List Leaf) → starts_with (leaves_at q) (l ∷ rest) ≡ true → starts_with (starts q) (l ∷ rest) ≡ true
@@ -105,6 +134,9 @@ leaf_first clause l rest h = no h
 leaf_first first_clause l rest h = no h
 leaf_first small l rest h = no h
 leaf_first line l rest h = no h
+leaf_first param l rest h = subset_at name (starts param) (l ∷ rest) refl h
+leaf_first stmt l rest h = no h
+leaf_first suite l rest h = no h
 
 pub no_node : (q : Sort) (n : Node) → At 0 q (v.Node n) → ⊥
 no_node q n h = omega (arith, h.2, depth_Node n)
@@ -121,7 +153,7 @@ begins (suc d) q x rest h =
       | inr (n, is) ↦
           let h' : At (suc d) q (v.Node n) = rw is at h in
           let f = node_fits d q n h' in
-          rw is (sort_first q n.kind (leaves_part (v.Node n) ++ rest) h'.0 (rw leaves_Node (not_empty (At d) (begins d) (shape n.kind) n.parts rest f (full_kind q n.kind h'.0))))
+          rw is (sort_first q n.kind (leaves_part (v.Node n) ++ rest) h'.0 (rw leaves_Node (not_empty (At d) (begins d) (bzl_shape n.kind) n.parts rest f (full_kind q n.kind h'.0))))
     ]
 
 -- ---- what may continue a part
@@ -136,13 +168,16 @@ goes_level (suc n) = first (tail_of (shape_at n)) ++ goes_level n
 
 abbrev pub goes : Sort → List Terminal
 goes (level n) = goes_level n
-goes argument = equals ++ goes_level 12
-goes entry = goes_level 12
+goes argument = equals ++ goes_level 13
+goes entry = goes_level 13
 goes clause = goes_level 11
 goes first_clause = goes_level 11
 goes loaded = []
-goes small = assigns ++ goes_level 13
+goes small = assigns ++ (starts_level 14 ++ goes_level 14)
 goes line = []
+goes param = equals ++ (name ++ goes_level 13)
+goes stmt = []
+goes suite = []
 
 -- the conditions on a level's shape
 abbrev pub fine : ℕ → Shape → Bool
@@ -166,7 +201,8 @@ levels_fine (suc (suc (suc (suc (suc (suc (suc (suc (suc zero))))))))) = refl
 levels_fine (suc (suc (suc (suc (suc (suc (suc (suc (suc (suc zero)))))))))) = refl
 levels_fine (suc (suc (suc (suc (suc (suc (suc (suc (suc (suc (suc zero))))))))))) = refl
 levels_fine (suc (suc (suc (suc (suc (suc (suc (suc (suc (suc (suc (suc zero)))))))))))) = refl
-levels_fine (suc (suc (suc (suc (suc (suc (suc (suc (suc (suc (suc (suc (suc n))))))))))))) = refl
+levels_fine (suc (suc (suc (suc (suc (suc (suc (suc (suc (suc (suc (suc (suc zero))))))))))))) = refl
+levels_fine (suc (suc (suc (suc (suc (suc (suc (suc (suc (suc (suc (suc (suc (suc n)))))))))))))) = refl
 
 -- ---- one level above another
 
@@ -182,7 +218,7 @@ level_up d n x h =
         let s = and_parts (is_expression m.kind) (leb (rank m.kind) n) h.0 in
         (and_from (is_expression m.kind) (leb (rank m.kind) (suc n)) s.0 (le-leb (rank m.kind) (suc n) (omega (arith, leb-true (rank m.kind) n s.1))), h.1, h.2)
 
-kind_of_rank : (kind : Kind) (n : ℕ) → is_expression kind ≡ true → rank kind ≡ suc n → (kind ≡ kind_at n) × (shape_at n ≡ shape kind)
+kind_of_rank : (kind : Kind) (n : ℕ) → is_expression kind ≡ true → rank kind ≡ suc n → (kind ≡ kind_at n) × (shape_at n ≡ bzl_shape kind)
 kind_of_rank k.Unary n x e = let z : n ≡ 0 = omega arith in rw z (refl, refl)
 kind_of_rank k.Product n x e = let z : n ≡ 1 = omega arith in rw z (refl, refl)
 kind_of_rank k.Sum n x e = let z : n ≡ 2 = omega arith in rw z (refl, refl)
@@ -195,7 +231,8 @@ kind_of_rank k.Not n x e = let z : n ≡ 8 = omega arith in rw z (refl, refl)
 kind_of_rank k.And n x e = let z : n ≡ 9 = omega arith in rw z (refl, refl)
 kind_of_rank k.Or n x e = let z : n ≡ 10 = omega arith in rw z (refl, refl)
 kind_of_rank k.Cond n x e = let z : n ≡ 11 = omega arith in rw z (refl, refl)
-kind_of_rank k.Row n x e = let z : n ≡ 12 = omega arith in rw z (refl, refl)
+kind_of_rank k.Lambda n x e = let z : n ≡ 12 = omega arith in rw z (refl, refl)
+kind_of_rank k.Row n x e = let z : n ≡ 13 = omega arith in rw z (refl, refl)
 kind_of_rank _ n x e = absurd (omega arith)
 
 abbrev AtNode : ℕ → ℕ → Part → Type 0
@@ -219,7 +256,7 @@ level_split d n x h =
       | inr (m, is) ↦ rw is (node_split d n m (rw is at h))
     ]
 
-rank_of_kind : (n : ℕ) → nullable (shape_at n) ≡ false → (is_expression (kind_at n) ≡ true) × (rank (kind_at n) ≡ suc n) × (shape_at n ≡ shape (kind_at n))
+rank_of_kind : (n : ℕ) → nullable (shape_at n) ≡ false → (is_expression (kind_at n) ≡ true) × (rank (kind_at n) ≡ suc n) × (shape_at n ≡ bzl_shape (kind_at n))
 rank_of_kind zero h = (refl, refl, refl)
 rank_of_kind (suc zero) h = (refl, refl, refl)
 rank_of_kind (suc (suc zero)) h = (refl, refl, refl)
@@ -233,9 +270,10 @@ rank_of_kind (suc (suc (suc (suc (suc (suc (suc (suc (suc zero))))))))) h = (ref
 rank_of_kind (suc (suc (suc (suc (suc (suc (suc (suc (suc (suc zero)))))))))) h = (refl, refl, refl)
 rank_of_kind (suc (suc (suc (suc (suc (suc (suc (suc (suc (suc (suc zero))))))))))) h = (refl, refl, refl)
 rank_of_kind (suc (suc (suc (suc (suc (suc (suc (suc (suc (suc (suc (suc zero)))))))))))) h = (refl, refl, refl)
-rank_of_kind (suc (suc (suc (suc (suc (suc (suc (suc (suc (suc (suc (suc (suc n))))))))))))) h = absurd (both_ways true h refl)
+rank_of_kind (suc (suc (suc (suc (suc (suc (suc (suc (suc (suc (suc (suc (suc zero))))))))))))) h = (refl, refl, refl)
+rank_of_kind (suc (suc (suc (suc (suc (suc (suc (suc (suc (suc (suc (suc (suc (suc n)))))))))))))) h = absurd (both_ways true h refl)
 
-pub made_node : (d : ℕ) (q : Sort) (kind : Kind) (ps : List Part) → has_kind q kind ≡ true → Fits (At d) (shape kind) ps → At (suc d) q (node kind ps)
+pub made_node : (d : ℕ) (q : Sort) (kind : Kind) (ps : List Part) → has_kind q kind ≡ true → Fits (At d) (bzl_shape kind) ps → At (suc d) q (node kind ps)
 made_node d q kind ps s h = let n : Node = record { kind = kind; parts = ps } in legal_node d q n s h
 
 pub level_node : (d n : ℕ) (ps : List Part) → nullable (shape_at n) ≡ false → Fits (At d) (shape_at n) ps → At (suc d) (level (suc n)) (node (kind_at n) ps)
@@ -254,7 +292,7 @@ level_begun : (d n : ℕ) (r : Shape) (x : Part) (ps : List Part) → x ≡ node
 level_begun d n r x [] is h = absurd h
 level_begun d n r x (a ∷ ps) is h = (a, ps, is, (h.0.0, h.0.1, omega (arith, h.0.2)), le-leb (depth_part a) d h.0.2, h.1)
 
-module _ (d : ℕ) (inner : Sort → Read Part) (exact : (q : Sort) → Exact Part leaves_part (At d q) (goes q) (inner q)) where
+module _ (d : ℕ) (inner : Sort → Read Part) (exact : (q : Sort) → by_table q ≡ true → Exact Part leaves_part (At d q) (goes q) (inner q)) where
   abbrev Level : ℕ → Read Part → Type 0
   Level n next = Exact Part leaves_part (At (suc d) (level n)) (goes_level n) next
 
@@ -308,6 +346,10 @@ module _ (d : ℕ) (inner : Sort → Read Part) (exact : (q : Sort) → Exact Pa
   level_by n (sub loaded r) next e f x = no f
   level_by n (sub small r) next e f x = no f
   level_by n (sub line r) next e f x = no f
+  level_by n (sub param r) next e f x = no f
+  level_by n (sub stmt r) next e f x = no f
+  level_by n (sub suite r) next e f x = no f
   level_by n (alt l r) next e f x = no f
   level_by n (list q sep last r) next e f x = no f
   level_by n (each q r) next e f x = no f
+  level_by n (times group r) next e f x = no f

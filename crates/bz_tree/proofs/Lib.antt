@@ -11,6 +11,8 @@ pub mod Levels
 pub mod Families
 pub mod Primary
 pub mod ExactSorts
+pub mod Ended
+pub mod Suites
 pub mod Files
 pub mod Steps
 pub mod Moves
@@ -26,3 +28,7 @@ pub mod Rises
 pub mod Pushed
 mod Told
 pub mod Cutting
+pub mod Blocks
+pub mod Blanks
+pub mod Build
+pub mod Newer

@@ -4,11 +4,10 @@ use Rattle.std.specs.Prelude.{ℕ, zero, suc, Bool, false, List, [], ◌∷◌, 
 use Rattle.bz_lex.specs.declared.leaf.Leaf.{Leaf}
 use Rattle.bz_tree.specs.declared.kind.Kind.{Kind}
 use Rattle.bz_tree.specs.declared.kind.Kind.TheVariants as k
-use Rattle.bz_tree.specs.declared.tree.Node.{Node}
 use Rattle.bz_tree.specs.declared.tree.Part.{Part}
 use Rattle.bz_tree.specs.declared.tree.Part.TheVariants as p
 use Rattle.bz_tree.specs.Spell.{depth_part}
-use Rattle.bz_tree.specs.Shapes.{Terminal, is_one_of, has_token, Sort, rank, level, argument, entry, clause, first_clause, loaded, small, line, test, expr, leaves_at, Shape, none, done, tok, sub, alt, list, each, items, slice_end, shape, name, simple, string, equals, stars, assigns, dot, comma, colon, keyword, open_round, close_round, open_square, close_square, open_curly, close_curly}
+use Rattle.bz_tree.specs.Shapes.{Terminal, is_one_of, has_token, Sort, rank, level, argument, entry, clause, first_clause, loaded, small, line, param, stmt, suite, test, expr, leaves_at, Shape, none, done, tok, sub, alt, list, each, times, items, newline, flows, starred, slice_end, bzl_shape, name, simple, string, equals, stars, assigns, dot, comma, colon, keyword, open_round, close_round, open_square, close_square, open_curly, close_curly}
 
 infixl 10 ◌>>=◌
 abbrev pub ◌>>=◌ : {A B : Type 0} → Option A → (A → Option B) → Option B
@@ -37,11 +36,12 @@ kind_at (suc (suc (suc (suc (suc (suc (suc (suc zero)))))))) = k.Not
 kind_at (suc (suc (suc (suc (suc (suc (suc (suc (suc zero))))))))) = k.And
 kind_at (suc (suc (suc (suc (suc (suc (suc (suc (suc (suc zero)))))))))) = k.Or
 kind_at (suc (suc (suc (suc (suc (suc (suc (suc (suc (suc (suc zero))))))))))) = k.Cond
+kind_at (suc (suc (suc (suc (suc (suc (suc (suc (suc (suc (suc (suc zero)))))))))))) = k.Lambda
 kind_at _ = k.Row
 
 abbrev pub shape_at : ℕ → Shape
-shape_at (suc (suc (suc (suc (suc (suc (suc (suc (suc (suc (suc (suc (suc n))))))))))))) = done
-shape_at n = shape (kind_at n)
+shape_at (suc (suc (suc (suc (suc (suc (suc (suc (suc (suc (suc (suc (suc (suc n)))))))))))))) = done
+shape_at n = bzl_shape (kind_at n)
 
 abbrev pub own_token : Shape → List Terminal
 own_token (tok terminals r) = terminals
@@ -52,15 +52,25 @@ abbrev pub starts_level : ℕ → List Terminal
 starts_level zero = simple ++ (open_round ++ (open_square ++ open_curly))
 starts_level (suc n) = own_token (shape_at n) ++ starts_level n
 
+abbrev starts_small : List Terminal
+starts_small = keyword (codes "load") ++ (keyword (codes "return") ++ (flows ++ starts_level (rank k.Row)))
+
+-- the tokens with which a statement begins that has a suite
+abbrev pub headed : List Terminal
+headed = keyword (codes "def") ++ (keyword (codes "if") ++ keyword (codes "for"))
+
 abbrev pub starts : Sort → List Terminal
 starts (level n) = starts_level n
-starts argument = stars ++ starts_level (rank k.Cond)
-starts entry = starts_level (rank k.Cond)
+starts argument = stars ++ starts_level (rank k.Lambda)
+starts entry = starts_level (rank k.Lambda)
 starts clause = keyword (codes "for") ++ keyword (codes "if")
 starts first_clause = keyword (codes "for")
 starts loaded = string ++ name
-starts small = keyword (codes "load") ++ starts_level (rank k.Row)
-starts line = keyword (codes "load") ++ starts_level (rank k.Row)
+starts small = starts_small
+starts line = starts_small
+starts param = name ++ stars
+starts stmt = headed ++ starts_small
+starts suite = newline ++ starts_small
 
 -- the tokens with which a shape begins
 abbrev pub first : Shape → List Terminal
@@ -71,6 +81,7 @@ first (sub q r) = starts q
 first (alt r r') = first r ++ first r'
 first (list q separators last r) = starts q
 first (each q r) = starts q ++ first r
+first (times group r) = first group ++ first r
 
 -- a part in front of what was read
 abbrev pub put : Part → Option (List Part × List Leaf) → Option (List Part × List Leaf)
@@ -100,6 +111,7 @@ run inner (sub q r) ts = inner q ts >>= λ x. put x.0 (run inner r x.1)
 run inner (alt r r') ts = if starts_with (first r) ts then run inner r ts else run inner r' ts
 run inner (list q separators last r) ts = listed (length ts) (inner q) separators last (first r) (run inner r) ts
 run inner (each q r) ts = several (length ts) (inner q) (starts q) (run inner r) ts
+run inner (times group r) ts = None
 
 -- ---- kinds that begin alike
 
@@ -169,10 +181,10 @@ suffix =
     (one open_square (choose (finish k.Slice (tok colon slice_end)) (piece expr (choose (finish k.Index (tok close_square done)) (finish k.Slice (tok colon slice_end)))))))
 
 abbrev pub clause_plan : Plan
-clause_plan = choose (finish k.For (shape k.For)) (finish k.If (shape k.If))
+clause_plan = choose (finish k.For (bzl_shape k.For)) (finish k.If (bzl_shape k.If))
 
 abbrev pub small_plan : Plan
-small_plan = choose (finish k.Load (shape k.Load)) (piece expr (choose (finish k.Assign (tok assigns (sub expr done))) (finish k.Bare done)))
+small_plan = choose (finish k.Load (bzl_shape k.Load)) (choose (finish k.Return (bzl_shape k.Return)) (choose (finish k.Flow (bzl_shape k.Flow)) (piece expr (choose (finish k.Assign (tok assigns (sub expr done))) (finish k.Bare done)))))
 
 -- ---- parts
 
@@ -233,24 +245,26 @@ abbrev pub named_tail : Shape
 named_tail = tok equals (sub test done)
 
 abbrev pub read_argument : Read Part → (Sort → Read Part) → Read Part
-read_argument next inner = prefix_at k.Star (shape k.Star) inner (infix_at k.Named (has_token name) named_tail inner next)
+read_argument next inner = prefix_at k.Star (bzl_shape k.Star) inner (infix_at k.Named (has_token name) named_tail inner next)
 
--- parts of at most that depth
+-- a parameter: a name, perhaps with a value, or one with stars
+abbrev pub param_tail : Shape
+param_tail = tok equals (sub test done)
+
+abbrev pub read_param : (Sort → Read Part) → Read Part
+read_param inner = prefix_at k.Param starred inner (infix_at k.Param (has_token name) param_tail inner (token_of name))
+
+-- parts of at most that depth; statements and suites are read by their indents
 abbrev pub reading : ℕ → Sort → Read Part
 reading zero q ts = token_of (leaves_at q) ts
 reading (suc d) (level n) ts = climb d (reading d) n ts
-reading (suc d) argument ts = read_argument (climb d (reading d) (rank k.Cond)) (reading d) ts
-reading (suc d) entry ts = wrap k.Entry (run (reading d) (shape k.Entry) ts)
+reading (suc d) argument ts = read_argument (climb d (reading d) (rank k.Lambda)) (reading d) ts
+reading (suc d) entry ts = wrap k.Entry (run (reading d) (bzl_shape k.Entry) ts)
 reading (suc d) clause ts = wrap_found (follow (reading d) clause_plan ts)
-reading (suc d) first_clause ts = wrap k.For (run (reading d) (shape k.For) ts)
-reading (suc d) loaded ts = prefix_at k.Alias (shape k.Alias) (reading d) (token_of string) ts
+reading (suc d) first_clause ts = wrap k.For (run (reading d) (bzl_shape k.For) ts)
+reading (suc d) loaded ts = prefix_at k.Alias (bzl_shape k.Alias) (reading d) (token_of string) ts
 reading (suc d) small ts = wrap_found (follow (reading d) small_plan ts)
-reading (suc d) line ts = wrap k.Line (run (reading d) (shape k.Line) ts)
-
--- all leaves, as a file
-abbrev pub if_all : List Part × List Leaf → Option Node
-if_all x = elim (x.1) [ [] ↦ Some (record { kind = k.File; parts = x.0 }) | t ∷ ts ↦ None ]
-
--- a file of a depth of at most suc depth
-abbrev pub read_file : ℕ → List Leaf → Option Node
-read_file depth ts = run (reading depth) (shape k.File) ts >>= if_all
+reading (suc d) line ts = wrap k.Line (run (reading d) (bzl_shape k.Line) ts)
+reading (suc d) param ts = read_param (reading d) ts
+reading (suc d) stmt ts = None
+reading (suc d) suite ts = None

@@ -113,17 +113,21 @@ sums = marks (codes "+" ∷ codes "-" ∷ [])
 abbrev pub products : List Terminal
 products = marks (codes "*" ∷ codes "/" ∷ codes "//" ∷ codes "%" ∷ [])
 
+abbrev pub flows : List Terminal
+flows = keywords (codes "break" ∷ codes "continue" ∷ codes "pass" ∷ [])
+
 -- ---- what may stand at a place
 
 -- A sort names the alternatives of the grammar that make no node.
 -- level n: an expression of that rank or a lower one; argument = test | Named | Star; entry = Entry; clause = For | If;
--- first_clause = For; loaded = String | Alias; small = Bare | Assign | Load; line = Line.
+-- first_clause = For; loaded = String | Alias; small = Bare | Assign | Load | Return | Flow; line = Line;
+-- param = Name | Param; stmt = Line | Def | IfStmt | ForStmt; suite = Suite | Line.
 pub data Sort : Type 0 where
   level : ℕ → Sort
-  argument entry clause first_clause loaded small line : Sort
+  argument entry clause first_clause loaded small line param stmt suite : Sort
 
 -- Operators bind the tighter the lower their rank: 0 primary, 1 unary, then the binary operators from products on,
--- 8 compare, 9 not, 10 and, 11 or, 12 test, 13 expr.
+-- 8 compare, 9 not, 10 and, 11 or, 12 conditions, 13 test (lambdas), 14 expr.
 abbrev pub rank : Kind → ℕ
 rank k.Unary = 1
 rank k.Product = 2
@@ -137,7 +141,8 @@ rank k.Not = 9
 rank k.And = 10
 rank k.Or = 11
 rank k.Cond = 12
-rank k.Row = 13
+rank k.Lambda = 13
+rank k.Row = 14
 rank _ = 0
 
 abbrev pub primary : Sort
@@ -156,7 +161,7 @@ abbrev pub or_level : Sort
 or_level = level (rank k.Or)
 
 abbrev pub test : Sort
-test = level (rank k.Cond)
+test = level (rank k.Lambda)
 
 abbrev pub expr : Sort
 expr = level (rank k.Row)
@@ -173,6 +178,13 @@ is_expression k.Star = false
 is_expression k.Entry = false
 is_expression k.For = false
 is_expression k.If = false
+is_expression k.Def = false
+is_expression k.Param = false
+is_expression k.IfStmt = false
+is_expression k.ForStmt = false
+is_expression k.Suite = false
+is_expression k.Return = false
+is_expression k.Flow = false
 is_expression _ = true
 
 abbrev pub is_kind : Kind → Kind → Bool
@@ -183,18 +195,22 @@ abbrev pub leaves_at : Sort → List Terminal
 leaves_at (level n) = simple
 leaves_at argument = simple
 leaves_at loaded = string
+leaves_at param = name
 leaves_at _ = []
 
 -- whether nodes of a kind have a sort
 abbrev pub has_kind : Sort → Kind → Bool
 has_kind (level n) kind = is_expression kind && nat_le (rank kind) n
-has_kind argument kind = (is_expression kind && nat_le (rank kind) (rank k.Cond)) || (is_kind kind k.Named || is_kind kind k.Star)
+has_kind argument kind = (is_expression kind && nat_le (rank kind) (rank k.Lambda)) || (is_kind kind k.Named || is_kind kind k.Star)
 has_kind entry kind = is_kind kind k.Entry
 has_kind clause kind = is_kind kind k.For || is_kind kind k.If
 has_kind first_clause kind = is_kind kind k.For
 has_kind loaded kind = is_kind kind k.Alias
-has_kind small kind = is_kind kind k.Bare || (is_kind kind k.Assign || is_kind kind k.Load)
+has_kind small kind = is_kind kind k.Bare || (is_kind kind k.Assign || (is_kind kind k.Load || (is_kind kind k.Return || is_kind kind k.Flow)))
 has_kind line kind = is_kind kind k.Line
+has_kind param kind = is_kind kind k.Param
+has_kind stmt kind = is_kind kind k.Line || (is_kind kind k.Def || (is_kind kind k.IfStmt || is_kind kind k.ForStmt))
+has_kind suite kind = is_kind kind k.Suite || is_kind kind k.Line
 
 abbrev pub has_sort : Sort → Part → Bool
 has_sort sort (p.Leaf leaf) = is_one_of (leaves_at sort) leaf
@@ -223,6 +239,8 @@ pub data Shape : Type 0 where
   list : Sort → List Terminal → Bool → Shape → Shape
   -- parts of this sort, none or more, and then
   each : Sort → Shape → Shape
+  -- what has the first shape, none or more times, and then
+  times : Shape → Shape → Shape
 
 -- Parts of which P holds, with a separator between two of them, and then what K says.
 abbrev mutual
@@ -239,6 +257,11 @@ abbrev pub Several : (Part → Type 0) → (List Part → Type 0) → List Part 
 Several P K [] = K []
 Several P K (x ∷ xs) = K (x ∷ xs) ⊎ (P x × Several P K xs)
 
+-- none or more rows of parts of which F holds, and then what K says
+pub data Times (F K : List Part → Type 0) : List Part → Type 0 where
+  no_more : {xs : List Part} → K xs → Times F K xs
+  once_more : {xs : List Part} (front back : List Part) → xs ≡ front ++ back → F front → Times F K back → Times F K xs
+
 -- The parts have the shape, where P says what a part of a sort is.
 abbrev pub Fits : (Sort → Part → Type 0) → Shape → List Part → Type 0
 Fits P none xs = ⊥
@@ -251,6 +274,7 @@ Fits P (sub sort then_) (x ∷ xs) = P sort x × Fits P then_ xs
 Fits P (alt left right) xs = Fits P left xs ⊎ Fits P right xs
 Fits P (list sort separators last then_) xs = Listed (P sort) separators last (Fits P then_) xs
 Fits P (each sort then_) xs = Several (P sort) (Fits P then_) xs
+Fits P (times group then_) xs = Times (Fits P group) (Fits P then_) xs
 
 -- ---- the table
 
@@ -258,9 +282,12 @@ Fits P (each sort then_) xs = Several (P sort) (Fits P then_) xs
 abbrev pub opt : Sort → Shape → Shape
 opt sort then_ = alt then_ (sub sort then_)
 
--- what stands in brackets, behind the opening one: [x {"," x} [","]] and the closing one
+-- what stands in brackets, behind the opening one: [x {"," x} [","]] and the closing one, and then
+abbrev pub enclosed : Sort → List Terminal → Shape → Shape
+enclosed sort close then_ = alt (tok close then_) (list sort comma true (tok close then_))
+
 abbrev pub items : Sort → List Terminal → Shape
-items sort close = alt (tok close done) (list sort comma true (tok close done))
+items sort close = enclosed sort close done
 
 -- next op next {op next}, where next is of a sort
 abbrev pub flat : Sort → List Terminal → Shape
@@ -270,68 +297,109 @@ flat sort operators = sub sort (tok operators (list sort operators false done))
 abbrev pub slice_end : Shape
 slice_end = opt test (alt (tok close_square done) (tok colon (opt test (tok close_square done))))
 
--- Starlark's grammar of BUILD files, a line for each kind.
-abbrev pub shape : Kind → Shape
--- File = {Line} End
-shape k.File = each line (tok end done)
+-- a parameter with stars: "*" [Name] | "**" Name
+abbrev pub starred : Shape
+starred = alt (tok (mark (codes "*")) (alt (tok name done) done)) (tok (mark (codes "**")) (tok name done))
+
+-- behind a test: ":" suite
+abbrev pub owned : Shape
+owned = tok colon (sub suite done)
+
+-- {"elif" test ":" suite} ["else" ":" suite]
+abbrev pub branches : Shape
+branches = times (tok (keyword (codes "elif")) (sub test owned)) (alt (tok (keyword (codes "else")) owned) done)
+
+-- Starlark's grammar, a line for each kind.
+abbrev pub bzl_shape : Kind → Shape
+-- File = {stmt} End
+bzl_shape k.File = each stmt (tok end done)
 -- Line = small {";" small} [";"] Newline
-shape k.Line = list small semicolon true (tok newline done)
+bzl_shape k.Line = list small semicolon true (tok newline done)
 -- Bare = expr
-shape k.Bare = sub expr done
+bzl_shape k.Bare = sub expr done
 -- Assign = expr ("=" or an augmented form) expr
-shape k.Assign = sub expr (tok assigns (sub expr done))
+bzl_shape k.Assign = sub expr (tok assigns (sub expr done))
 -- Load = "load" "(" String {"," (String | Alias)} [","] ")"
-shape k.Load = tok (keyword (codes "load")) (tok open_round (tok string (alt (tok close_round done) (tok comma (items loaded close_round)))))
+bzl_shape k.Load = tok (keyword (codes "load")) (tok open_round (tok string (alt (tok close_round done) (tok comma (items loaded close_round)))))
 -- Alias = Name "=" String
-shape k.Alias = tok name (tok equals (tok string done))
+bzl_shape k.Alias = tok name (tok equals (tok string done))
 -- Row = test "," test {"," test}
-shape k.Row = flat test comma
+bzl_shape k.Row = flat test comma
 -- Cond = or "if" or "else" test
-shape k.Cond = sub or_level (tok (keyword (codes "if")) (sub or_level (tok (keyword (codes "else")) (sub test done))))
+bzl_shape k.Cond = sub or_level (tok (keyword (codes "if")) (sub or_level (tok (keyword (codes "else")) (sub test done))))
 -- Or = and "or" and {"or" and}
-shape k.Or = flat and_level (keyword (codes "or"))
+bzl_shape k.Or = flat and_level (keyword (codes "or"))
 -- And = not "and" not {"and" not}
-shape k.And = flat not_level (keyword (codes "and"))
+bzl_shape k.And = flat not_level (keyword (codes "and"))
 -- Not = "not" not
-shape k.Not = tok (keyword (codes "not")) (sub not_level done)
+bzl_shape k.Not = tok (keyword (codes "not")) (sub not_level done)
 -- Compare = bitor op bitor; op: == != < > <= >= in, or "not" "in"
-shape k.Compare = sub bitor (alt (tok orders (sub bitor done)) (tok (keyword (codes "not")) (tok (keyword (codes "in")) (sub bitor done))))
+bzl_shape k.Compare = sub bitor (alt (tok orders (sub bitor done)) (tok (keyword (codes "not")) (tok (keyword (codes "in")) (sub bitor done))))
 -- BitOr | Xor ^ BitAnd & Shift << >> Sum + - Product * / // %: next op next {op next}, loosest first
-shape k.BitOr = flat (level (rank k.Xor)) (mark (codes "|"))
-shape k.Xor = flat (level (rank k.BitAnd)) (mark (codes "^"))
-shape k.BitAnd = flat (level (rank k.Shift)) (mark (codes "&"))
-shape k.Shift = flat (level (rank k.Sum)) shifts
-shape k.Sum = flat (level (rank k.Product)) sums
-shape k.Product = flat (level (rank k.Unary)) products
+bzl_shape k.BitOr = flat (level (rank k.Xor)) (mark (codes "|"))
+bzl_shape k.Xor = flat (level (rank k.BitAnd)) (mark (codes "^"))
+bzl_shape k.BitAnd = flat (level (rank k.Shift)) (mark (codes "&"))
+bzl_shape k.Shift = flat (level (rank k.Sum)) shifts
+bzl_shape k.Sum = flat (level (rank k.Product)) sums
+bzl_shape k.Product = flat (level (rank k.Unary)) products
 -- Unary = ("+" | "-" | "~") unary
-shape k.Unary = tok signs (sub (level (rank k.Unary)) done)
+bzl_shape k.Unary = tok signs (sub (level (rank k.Unary)) done)
 -- Dot = primary "." Name
-shape k.Dot = sub primary (tok dot (tok name done))
+bzl_shape k.Dot = sub primary (tok dot (tok name done))
 -- Call = primary "(" [arg {"," arg} [","]] ")"
-shape k.Call = sub primary (tok open_round (items argument close_round))
+bzl_shape k.Call = sub primary (tok open_round (items argument close_round))
 -- Named = Name "=" test
-shape k.Named = tok name (tok equals (sub test done))
+bzl_shape k.Named = tok name (tok equals (sub test done))
 -- Star = ("*" | "**") test
-shape k.Star = tok stars (sub test done)
+bzl_shape k.Star = tok stars (sub test done)
 -- Index = primary "[" expr "]"
-shape k.Index = sub primary (tok open_square (sub expr (tok close_square done)))
+bzl_shape k.Index = sub primary (tok open_square (sub expr (tok close_square done)))
 -- Slice = primary "[" [expr] ":" [test] [":" [test]] "]"
-shape k.Slice = sub primary (tok open_square (opt expr (tok colon slice_end)))
+bzl_shape k.Slice = sub primary (tok open_square (opt expr (tok colon slice_end)))
 -- List = "[" [test {"," test} [","]] "]"
-shape k.List = tok open_square (items test close_square)
+bzl_shape k.List = tok open_square (items test close_square)
 -- Dict = "{" [Entry {"," Entry} [","]] "}"
-shape k.Dict = tok open_curly (items entry close_curly)
+bzl_shape k.Dict = tok open_curly (items entry close_curly)
 -- Entry = test ":" test
-shape k.Entry = sub test (tok colon (sub test done))
+bzl_shape k.Entry = sub test (tok colon (sub test done))
 -- Paren = "(" test ")"
-shape k.Paren = tok open_round (sub test (tok close_round done))
+bzl_shape k.Paren = tok open_round (sub test (tok close_round done))
 -- Tuple = "(" ")" | "(" test "," ")" | "(" test "," test {"," test} [","] ")"
-shape k.Tuple = tok open_round (alt (tok close_round done) (sub test (tok comma (items test close_round))))
+bzl_shape k.Tuple = tok open_round (alt (tok close_round done) (sub test (tok comma (items test close_round))))
 -- ListComp = "[" test For {For | If} "]"
-shape k.ListComp = tok open_square (sub test (sub first_clause (each clause (tok close_square done))))
+bzl_shape k.ListComp = tok open_square (sub test (sub first_clause (each clause (tok close_square done))))
 -- DictComp = "{" Entry For {For | If} "}"
-shape k.DictComp = tok open_curly (sub entry (sub first_clause (each clause (tok close_curly done))))
+bzl_shape k.DictComp = tok open_curly (sub entry (sub first_clause (each clause (tok close_curly done))))
 -- For = "for" primary {"," primary} "in" or
-shape k.For = tok (keyword (codes "for")) (list primary comma false (tok (keyword (codes "in")) (sub or_level done)))
+bzl_shape k.For = tok (keyword (codes "for")) (list primary comma false (tok (keyword (codes "in")) (sub or_level done)))
 -- If = "if" or
-shape k.If = tok (keyword (codes "if")) (sub or_level done)
+bzl_shape k.If = tok (keyword (codes "if")) (sub or_level done)
+-- Def = "def" Name "(" [param {"," param} [","]] ")" ":" suite
+bzl_shape k.Def = tok (keyword (codes "def")) (tok name (tok open_round (enclosed param close_round owned)))
+-- Param = Name "=" test | "*" [Name] | "**" Name
+bzl_shape k.Param = alt (tok name (tok equals (sub test done))) starred
+-- IfStmt = "if" test ":" suite {"elif" test ":" suite} ["else" ":" suite]
+bzl_shape k.IfStmt = tok (keyword (codes "if")) (sub test (tok colon (sub suite branches)))
+-- ForStmt = "for" primary {"," primary} "in" expr ":" suite
+bzl_shape k.ForStmt = tok (keyword (codes "for")) (list primary comma false (tok (keyword (codes "in")) (sub expr owned)))
+-- Suite = Newline stmt {stmt}
+bzl_shape k.Suite = tok newline (sub stmt (each stmt done))
+-- Return = "return" [expr]
+bzl_shape k.Return = tok (keyword (codes "return")) (alt (sub expr done) done)
+-- Flow = "break" | "continue" | "pass"
+bzl_shape k.Flow = tok flows done
+-- Lambda = "lambda" [param {"," param}] ":" test
+bzl_shape k.Lambda = tok (keyword (codes "lambda")) (alt (tok colon (sub test done)) (list param comma false (tok colon (sub test done))))
+
+-- The grammar of BUILD files: the same, but that File = {Line} End, and nothing has the shape of a kind from Def on.
+abbrev pub shape : Kind → Shape
+shape k.File = each line (tok end done)
+shape k.Def = none
+shape k.Param = none
+shape k.IfStmt = none
+shape k.ForStmt = none
+shape k.Suite = none
+shape k.Return = none
+shape k.Flow = none
+shape k.Lambda = none
+shape kind = bzl_shape kind

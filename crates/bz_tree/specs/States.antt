@@ -20,8 +20,12 @@ use Rattle.bz_tree.specs.declared.state.ClausesAt.{ClausesAt}
 use Rattle.bz_tree.specs.declared.state.ClausesAt.TheVariants as clauses_at
 use Rattle.bz_tree.specs.declared.state.NamesAt.{NamesAt}
 use Rattle.bz_tree.specs.declared.state.NamesAt.TheVariants as names_at
-use Rattle.bz_tree.specs.declared.state.FileAt.{FileAt}
-use Rattle.bz_tree.specs.declared.state.FileAt.TheVariants as file_at
+use Rattle.bz_tree.specs.declared.state.LambdaAt.{LambdaAt}
+use Rattle.bz_tree.specs.declared.state.LambdaAt.TheVariants as lambda_at
+use Rattle.bz_tree.specs.declared.state.StarredAt.{StarredAt}
+use Rattle.bz_tree.specs.declared.state.StarredAt.TheVariants as starred_at
+use Rattle.bz_tree.specs.declared.state.HeaderAt.{HeaderAt}
+use Rattle.bz_tree.specs.declared.state.HeaderAt.TheVariants as header_at
 use Rattle.bz_tree.specs.declared.state.SliceAt.{SliceAt}
 use Rattle.bz_tree.specs.declared.state.SliceAt.TheVariants as slice_at
 use Rattle.bz_tree.specs.declared.state.RoundAt.{RoundAt}
@@ -46,8 +50,9 @@ use Rattle.bz_tree.specs.declared.state.Move.TheVariants as m
 use Rattle.bz_tree.specs.declared.state.Rung.{Rung}
 use Rattle.bz_tree.specs.declared.state.Rung.TheVariants as g
 use Rattle.bz_tree.specs.Spell.{depth_part}
-use Rattle.bz_tree.specs.Shapes.{Terminal, Sort, rank, level, argument, entry, clause, first_clause, loaded, small, line, or_level, test, expr, Shape, none, done, tok, sub, alt, list, each, items, slice_end, shape, assigns, comma, colon, keyword, open_round, close_round, open_square, close_square}
-use Rattle.bz_tree.specs.Reading.{◌>>=◌, Read, starts, starts_with, first, first_of, Plan, finish, one, piece, choose, round, square, curly, suffix, clause_plan, small_plan, more_items, clauses, node, fits_in, atom, suffixes, climb, read_argument, reading}
+use Rattle.bz_tree.specs.Shapes.{Terminal, Sort, rank, level, argument, entry, clause, first_clause, loaded, small, line, param, or_level, test, expr, Shape, none, done, tok, sub, alt, list, each, times, items, slice_end, starred, bzl_shape, assigns, comma, colon, keyword, open_round, close_round, open_square, close_square}
+use Rattle.bz_tree.specs.Reading.{◌>>=◌, Read, starts, starts_with, first, first_of, Plan, finish, one, piece, choose, round, square, curly, suffix, clause_plan, small_plan, more_items, clauses, node, fits_in, atom, suffixes, climb, read_argument, read_param, reading}
+use Rattle.bz_tree.specs.Suites.{def_header, for_header, test_header, else_header}
 use Rattle.bz_tree.specs.Words.{terminals_of, token_at, part_at, found_by}
 
 abbrev pub sort_of : Place → Sort
@@ -59,6 +64,7 @@ sort_of q.FirstClause = first_clause
 sort_of q.Loaded = loaded
 sort_of q.Small = small
 sort_of q.Line = line
+sort_of q.Param = param
 
 -- ---- what is left of the shapes of the table, further in
 
@@ -77,7 +83,7 @@ right (alt r r') = r'
 right r = r
 
 abbrev pub names : Shape
-names = onward (shape k.For)
+names = onward (bzl_shape k.For)
 
 -- behind the names of a `for`
 abbrev pub in_or : Shape
@@ -88,10 +94,10 @@ abbrev pub slice_stop : Shape
 slice_stop = left slice_end
 
 abbrev pub compare_tail : Shape
-compare_tail = onward (shape k.Compare)
+compare_tail = onward (bzl_shape k.Compare)
 
 abbrev pub cond_tail : Shape
-cond_tail = onward (onward (shape k.Cond))
+cond_tail = onward (onward (bzl_shape k.Cond))
 
 abbrev pub round_end : Plan
 round_end = choose (finish k.Paren (tok close_round done)) (finish k.Tuple (tok comma (items test close_round)))
@@ -107,6 +113,13 @@ index_item = choose (finish k.Slice (tok colon slice_end)) (piece expr index_end
 
 abbrev pub call_or_index : Plan
 call_or_index = choose (finish k.Call (tok open_round (items argument close_round))) (one open_square index_item)
+
+-- behind what is no load, and behind what is no return
+abbrev pub no_load : Plan
+no_load = choose (finish k.Return (bzl_shape k.Return)) (choose (finish k.Flow (bzl_shape k.Flow)) (piece expr (choose (finish k.Assign (tok assigns (sub expr done))) (finish k.Bare done))))
+
+abbrev pub no_return : Plan
+no_return = choose (finish k.Flow (bzl_shape k.Flow)) (piece expr (choose (finish k.Assign (tok assigns (sub expr done))) (finish k.Bare done)))
 
 abbrev pub small_end : Plan
 small_end = choose (finish k.Assign (tok assigns (sub expr done))) (finish k.Bare done)
@@ -124,8 +137,8 @@ abbrev pub row_of_items : Items → ItemRow
 row_of_items items_row.Statements = record { kind = k.Line; sort = q.Small; separator = t.Semicolon; close = t.Newline }
 row_of_items items_row.Arguments = record { kind = k.Call; sort = q.Argument; separator = t.Comma; close = t.CloseRound }
 row_of_items items_row.Loaded = record { kind = k.Load; sort = q.Loaded; separator = t.Comma; close = t.CloseRound }
-row_of_items items_row.Tuple = record { kind = k.Tuple; sort = q.Level (rank k.Cond); separator = t.Comma; close = t.CloseRound }
-row_of_items items_row.List = record { kind = k.List; sort = q.Level (rank k.Cond); separator = t.Comma; close = t.CloseSquare }
+row_of_items items_row.Tuple = record { kind = k.Tuple; sort = q.Level (rank k.Lambda); separator = t.Comma; close = t.CloseRound }
+row_of_items items_row.List = record { kind = k.List; sort = q.Level (rank k.Lambda); separator = t.Comma; close = t.CloseSquare }
 row_of_items items_row.Dict = record { kind = k.Dict; sort = q.Entry; separator = t.Comma; close = t.CloseCurly }
 
 -- the closing token; parts, at least one, and it; none or more of them
@@ -154,7 +167,7 @@ row_of_operands operands_row.Xor = record { kind = k.Xor; sort = q.Level (rank k
 row_of_operands operands_row.BitOr = record { kind = k.BitOr; sort = q.Level (rank k.Xor); operator = t.Bar }
 row_of_operands operands_row.And = record { kind = k.And; sort = q.Level (rank k.Not); operator = t.And }
 row_of_operands operands_row.Or = record { kind = k.Or; sort = q.Level (rank k.And); operator = t.Or }
-row_of_operands operands_row.Row = record { kind = k.Row; sort = q.Level (rank k.Cond); operator = t.Comma }
+row_of_operands operands_row.Row = record { kind = k.Row; sort = q.Level (rank k.Lambda); operator = t.Comma }
 
 abbrev pub parts_of_operands : OperandRow → Shape
 parts_of_operands row = list (sort_of row.sort) (terminals_of row.operator) false done
@@ -177,9 +190,50 @@ left_of_names names_at.Name = names
 left_of_names names_at.Behind = alt (tok comma names) in_or
 left_of_names names_at.Comma = tok comma names
 
-abbrev pub left_of_file : FileAt → Shape
-left_of_file file_at.Lines = shape k.File
-left_of_file file_at.Line = sub line (shape k.File)
+-- behind the keyword of a lambda
+abbrev pub lambda_tail : Shape
+lambda_tail = onward (bzl_shape k.Lambda)
+
+abbrev pub left_of_lambda : LambdaAt → Shape
+left_of_lambda lambda_at.Begin = bzl_shape k.Lambda
+left_of_lambda lambda_at.Params = lambda_tail
+left_of_lambda lambda_at.Param = right lambda_tail
+left_of_lambda lambda_at.Behind = alt (tok comma (right lambda_tail)) (left lambda_tail)
+left_of_lambda lambda_at.Comma = tok comma (right lambda_tail)
+
+abbrev pub left_of_starred : StarredAt → Shape
+left_of_starred starred_at.Begin = starred
+left_of_starred starred_at.Star = left starred
+left_of_starred starred_at.Name = onward (left starred)
+
+-- behind the opening bracket of a definition, and what closes it
+abbrev pub params : Shape
+params = onward (onward (onward def_header))
+
+abbrev pub for_names : Shape
+for_names = onward for_header
+
+-- behind the names of a `for`
+abbrev pub in_expression : Shape
+in_expression = tok (keyword (codes "in")) (sub expr (tok colon done))
+
+abbrev pub left_of_header : HeaderAt → Shape
+left_of_header header_at.Def = def_header
+left_of_header header_at.DefName = onward def_header
+left_of_header header_at.DefOpen = onward (onward def_header)
+left_of_header header_at.Params = params
+left_of_header header_at.Param = right params
+left_of_header header_at.BehindParam = alt (tok comma params) (left params)
+left_of_header header_at.Comma = tok comma params
+left_of_header header_at.For = for_header
+left_of_header header_at.Name = for_names
+left_of_header header_at.BehindName = alt (tok comma for_names) in_expression
+left_of_header header_at.NameComma = tok comma for_names
+left_of_header header_at.In = in_expression
+left_of_header header_at.InExpression = onward in_expression
+left_of_header (header_at.Test token) = test_header (terminals_of token)
+left_of_header header_at.TestColon = sub test (tok colon done)
+left_of_header header_at.Else = else_header
 
 abbrev pub left_of_slice : SliceAt → Shape
 left_of_slice slice_at.Colon = tok colon slice_end
@@ -197,7 +251,7 @@ left_in_round round_at.Test = piece test round_end
 left_in_round round_at.Behind = round_end
 
 abbrev pub row_of_brackets : Brackets → BracketRow
-row_of_brackets brackets_row.Square = record { items = items_row.List; kind = k.List; sort = q.Level (rank k.Cond); close = t.CloseSquare; comprehension = k.ListComp }
+row_of_brackets brackets_row.Square = record { items = items_row.List; kind = k.List; sort = q.Level (rank k.Lambda); close = t.CloseSquare; comprehension = k.ListComp }
 row_of_brackets brackets_row.Curly = record { items = items_row.Dict; kind = k.Dict; sort = q.Entry; close = t.CloseCurly; comprehension = k.DictComp }
 
 abbrev pub behind_element : BracketRow → Plan
@@ -222,9 +276,13 @@ left_of_suffix suffix_at.IndexEnd = index_end
 
 abbrev pub left_of_statement : StatementAt → Plan
 left_of_statement statement_at.Begin = small_plan
-left_of_statement statement_at.Load = finish k.Load (shape k.Load)
-left_of_statement statement_at.LoadOpen = finish k.Load (onward (shape k.Load))
-left_of_statement statement_at.LoadString = finish k.Load (onward (onward (shape k.Load)))
+left_of_statement statement_at.Load = finish k.Load (bzl_shape k.Load)
+left_of_statement statement_at.LoadOpen = finish k.Load (onward (bzl_shape k.Load))
+left_of_statement statement_at.LoadString = finish k.Load (onward (onward (bzl_shape k.Load)))
+left_of_statement statement_at.NoLoad = no_load
+left_of_statement statement_at.Return = finish k.Return (bzl_shape k.Return)
+left_of_statement statement_at.Returned = finish k.Return (onward (bzl_shape k.Return))
+left_of_statement statement_at.NoReturn = no_return
 left_of_statement statement_at.Expression = piece expr small_end
 left_of_statement statement_at.BehindExpression = small_end
 
@@ -234,7 +292,9 @@ plan_at (s.Items all here) = left_in_items all here
 plan_at (s.Operands all here) = left_in_operands all here
 plan_at (s.Clauses kind close here) = finish kind (left_of_clauses close here)
 plan_at (s.Names here) = finish k.For (left_of_names here)
-plan_at (s.File here) = finish k.File (left_of_file here)
+plan_at (s.Lambda here) = finish k.Lambda (left_of_lambda here)
+plan_at (s.Starred here) = finish k.Param (left_of_starred here)
+plan_at (s.Header here) = finish k.Suite (left_of_header here)
 plan_at (s.Slice here) = finish k.Slice (left_of_slice here)
 plan_at (s.Round here) = left_in_round here
 plan_at (s.Brackets all here) = left_in_brackets all here
@@ -243,12 +303,12 @@ plan_at (s.Statement here) = left_of_statement here
 plan_at s.Square = square
 plan_at s.Curly = curly
 plan_at s.Clause = clause_plan
-plan_at s.For = finish k.For (shape k.For)
-plan_at s.Entry = finish k.Entry (shape k.Entry)
-plan_at s.Alias = finish k.Alias (shape k.Alias)
+plan_at s.For = finish k.For (bzl_shape k.For)
+plan_at s.Entry = finish k.Entry (bzl_shape k.Entry)
+plan_at s.Alias = finish k.Alias (bzl_shape k.Alias)
 plan_at s.Compare = finish k.Compare compare_tail
 plan_at s.NotIn = finish k.Compare (right compare_tail)
-plan_at s.Condition = finish k.Cond (onward (shape k.Cond))
+plan_at s.Condition = finish k.Cond (onward (bzl_shape k.Cond))
 plan_at s.BehindIf = finish k.Cond cond_tail
 
 -- ---- the move that a plan asks for
@@ -278,6 +338,7 @@ asked (finish kind (tok terminals r)) = one_token terminals (finish kind r)
 asked (finish kind (sub q r)) = one_part q (finish kind r)
 asked (finish kind (alt r r')) = either (first r) (finish kind r) (finish kind r')
 asked (finish kind (list q separators last r)) = one_part q (finish kind (again q separators last r))
+asked (finish kind (times group r)) = never
 asked (finish kind (each q r)) = either (starts q) (finish kind (sub q (each q r))) (finish kind r)
 asked (one terminals plan) = one_token terminals plan
 asked (piece q plan) = one_part q plan
@@ -340,7 +401,8 @@ rung_of (suc (suc (suc (suc (suc (suc (suc (suc zero)))))))) = g.Prefix t.Not (s
 rung_of (suc (suc (suc (suc (suc (suc (suc (suc (suc zero))))))))) = operator_of operands_row.And
 rung_of (suc (suc (suc (suc (suc (suc (suc (suc (suc (suc zero)))))))))) = operator_of operands_row.Or
 rung_of (suc (suc (suc (suc (suc (suc (suc (suc (suc (suc (suc zero))))))))))) = g.Infix t.If s.Condition
-rung_of (suc (suc (suc (suc (suc (suc (suc (suc (suc (suc (suc (suc zero)))))))))))) = operator_of operands_row.Row
+rung_of (suc (suc (suc (suc (suc (suc (suc (suc (suc (suc (suc (suc zero)))))))))))) = g.Prefix t.Lambda (s.Lambda lambda_at.Begin)
+rung_of (suc (suc (suc (suc (suc (suc (suc (suc (suc (suc (suc (suc (suc zero))))))))))))) = operator_of operands_row.Row
 rung_of _ = g.Same
 
 -- a part, or a node that it begins where this token stands behind it
@@ -399,4 +461,8 @@ atom_at d ts = atom (reading d) ts
 
 -- an argument of a call
 unfoldable pub argument_at : ℕ → Read Part
-argument_at d ts = read_argument (climb d (reading d) (rank k.Cond)) (reading d) ts
+argument_at d ts = read_argument (climb d (reading d) (rank k.Lambda)) (reading d) ts
+
+-- a parameter
+unfoldable pub param_at : ℕ → Read Part
+param_at d ts = read_param (reading d) ts

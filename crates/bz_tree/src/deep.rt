@@ -1,8 +1,7 @@
 //! Where a text nests too deep. It is told with the fault; no clause speaks of the place.
 ghost use Rattle.std.specs.Prelude.{◌≡◌};
 
-use crate::kind::Kind;
-use crate::state::{CONDITION, NOT, Rung, Sort, UNARY, rung_at};
+use crate::state::{LAMBDA, NOT, Rung, Sort, UNARY, rung_at};
 use crate::statement::first_of;
 use crate::token::{Leaves, Token};
 use crate::tree::Part;
@@ -19,17 +18,15 @@ pub(crate) fn mark_part(part: &Part, depth: u32, leaves: &mut Leaves)
     leaves.mark_too_deep(at);
 }
 
-/// The byte at which the first token of the first node begins that is inside more than so many nodes, itself counted, if
-/// there is one: in a file, or in the lines with which it begins, where it isn't read to its end.
+/// The byte at which the first token of the first node begins that is inside more than so many nodes, itself and the file
+/// counted, if there is one: in the statements with which a file begins, where it isn't read to its end.
 pub(crate) fn deeper_at(parts: &[Part], limit: u32) -> Option<usize> {
     let mut at = 0;
-    let levels = limit as u64;
+    let room = (limit as u64).saturating_sub(1);
     for part in parts {
-        let room = match part {
-            Part::Node(node) if node.kind == Kind::File => levels,
-            Part::Node(node) if node.kind == Kind::Line => levels.saturating_sub(1),
-            _ => return None,
-        };
+        if matches!(part, Part::Leaf(_)) {
+            return None;
+        }
         if finds_deeper(part, room, &mut at) {
             return Some(at);
         }
@@ -88,12 +85,13 @@ fn first_gap(parts: &[Part]) -> usize {
 fn begins_node(sort: Sort, leaves: &Leaves) -> bool {
     match sort {
         Sort::Level(n) => begins_level(n, leaves),
-        Sort::Argument => leaves.starts(Token::Stars) || begins_level(CONDITION, leaves),
+        Sort::Argument => leaves.starts(Token::Stars) || begins_level(LAMBDA, leaves),
         Sort::Loaded => leaves.starts(Token::Name),
-        Sort::Entry => leaves.starts(Token::Simple) || begins_level(CONDITION, leaves),
+        Sort::Entry => leaves.starts(Token::Simple) || begins_level(LAMBDA, leaves),
         Sort::Clause => leaves.starts(Token::Clauses),
         Sort::FirstClause => leaves.starts(Token::For),
-        Sort::Small | Sort::Line => leaves.starts(Token::Lines),
+        Sort::Small | Sort::Line => leaves.starts(Token::Statements),
+        Sort::Param => leaves.starts(Token::Stars),
     }
 }
 
@@ -103,13 +101,15 @@ fn begins_level(n: u8, leaves: &Leaves) -> bool {
         || leaves.starts(Token::OpenCurly)
         || (n >= UNARY && leaves.starts(Token::Signs))
         || (n >= NOT && leaves.starts(Token::Not))
+        || (n >= LAMBDA && leaves.starts(Token::Lambda))
 }
 
 /// Whether a node of this sort goes on with the next leaf behind a leaf of it.
 pub(crate) fn goes_on(sort: Sort, leaves: &Leaves) -> bool {
     match sort {
         Sort::Level(n) => level_goes_on(n, leaves),
-        Sort::Argument => leaves.starts(Token::Equals) || level_goes_on(CONDITION, leaves),
+        Sort::Argument => leaves.starts(Token::Equals) || level_goes_on(LAMBDA, leaves),
+        Sort::Param => leaves.starts(Token::Equals),
         _ => false,
     }
 }

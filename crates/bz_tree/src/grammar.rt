@@ -1,68 +1,18 @@
 //! The parser: nodes by the table of states, expressions by their ranks.
-ghost use Rattle.std.specs.Prelude.{◌≡◌, ◌∷◌, ◌≤◌, ◌*◌, [], ℕ, Some, None, Err, IfOk, length, take, drop};
-ghost use Rattle.bz_tree.specs.declared.tree.Node.{Node};
-ghost use Rattle.bz_tree.specs.declared.token.Halt.TheVariants as h;
+ghost use Rattle.std.specs.Prelude.{◌≡◌, ◌∷◌, ◌≤◌, ◌*◌, [], ℕ, IfOk, length, take, drop};
 ghost use Rattle.bz_tree.specs.Spell.{deepest, depth_limit};
-ghost use Rattle.bz_tree.specs.Legal.{IsFileOf};
-ghost use Rattle.bz_tree.specs.Reading.{read_file};
 ghost use Rattle.bz_tree.specs.Words.{terminals_of, part_at, Pushes, Fails};
-ghost use Rattle.bz_tree.specs.States.{sort_of, found_at, fitted_at, bound_at, level_at, Rises, atom_at, argument_at};
+ghost use Rattle.bz_tree.specs.States.{sort_of, found_at, fitted_at, bound_at, level_at, Rises, atom_at, argument_at, param_at};
 ghost use Rattle.bz_tree.specs.declared.tree.Part.{Part};
 
 use crate::deep::{goes_on, mark_next, mark_part};
 use crate::kind::Kind;
 use crate::row::{Stack, deeper};
 use crate::state::{
-    CONDITION, FileAt, Items, ItemsAt, Move, NOT, PRIMARY, Rest, RoundAt, Rung, Sort, State,
-    StatementAt, SuffixAt, TEST, UNARY, rung_at,
+    Items, ItemsAt, LAMBDA, LambdaAt, Move, NOT, PRIMARY, Rest, RoundAt, Rung, Sort, StarredAt,
+    State, StatementAt, SuffixAt, TEST, UNARY, rung_at,
 };
 use crate::token::{Halt, Leaves, Token};
-use crate::tree::{Node, Part};
-use bz_lex::DEPTH_LIMIT;
-use std::alloc::Global;
-
-/// The leaves as a file within the limit of depth.
-///
-/// Errors: `Unexpected` where no such file has these leaves; `Memory` where a growth was refused.
-pub fn file(alloc: Global, leaves: &mut Leaves) -> Result<Node, Halt>
-    ensures ok { IfOk result (λ file. IsFileOf leaves.old file) }
-    ensures err { (result ≡ Err h.Unexpected) → (file : Node) → IsFileOf leaves.old file → ⊥ }
-{
-    whole(alloc, DEPTH_LIMIT - 1, leaves)
-}
-
-/// All leaves as a file of which the parts are at most so deep.
-pub fn whole(alloc: Global, depth: u32, leaves: &mut Leaves) -> Result<Node, Halt>
-    requires { depth ≤ 2 * depth_limit }
-    ensures ok { IfOk result (λ file. read_file depth leaves.old ≡ Some file) }
-    ensures err { Fails result (read_file depth leaves.old) }
-{
-    let mut stack = Stack::new(alloc);
-    let _deep = begin(State::File(FileAt::Lines), depth, &mut stack, leaves)?;
-    let part = stack.into_only()?;
-    match part {
-        Part::Leaf(_) => Err(Halt::Unexpected),
-        Part::Node(file) => {
-            if leaves.is_empty() {
-                Ok(file)
-            } else {
-                Err(Halt::Unexpected)
-            }
-        }
-    }
-}
-
-/// What is read of a file of which the parts are at most so deep: the file, or where no file goes on with some leaf its lines
-/// in front of that one and then parts of the line there. The error, `Memory` alone: a growth was refused.
-pub fn read_so_far(alloc: Global, depth: u32, leaves: &mut Leaves) -> Result<Stack, Halt>
-    requires { depth ≤ 2 * depth_limit }
-{
-    let mut stack = Stack::new(alloc);
-    match begin(State::File(FileAt::Lines), depth, &mut stack, leaves) {
-        Err(Halt::Memory) => Err(Halt::Memory),
-        _ => Ok(stack),
-    }
-}
 
 /// What is left to read in a state of a node whose parts stand on the stack from a place on. Tells how deep the node is.
 #[cycle(parser)]
@@ -142,7 +92,12 @@ fn go_on(
 
 /// A part of this sort that is at most so deep. Tells how deep it is.
 #[cycle(parser)]
-fn part(sort: Sort, depth: u32, stack: &mut Stack, leaves: &mut Leaves) -> Result<u32, Halt>
+pub(crate) fn part(
+    sort: Sort,
+    depth: u32,
+    stack: &mut Stack,
+    leaves: &mut Leaves,
+) -> Result<u32, Halt>
     requires small { depth ≤ 2 * depth_limit }
     ensures ok { IfOk result (λ deep. Pushes (part_at depth (sort_of sort) leaves.old) stack.old stack.new leaves.new deep) }
     ensures err { Fails result (part_at depth (sort_of sort) leaves.old) }
@@ -169,6 +124,7 @@ fn part(sort: Sort, depth: u32, stack: &mut Stack, leaves: &mut Leaves) -> Resul
             let statements = State::Items(Items::Statements, ItemsAt::Part);
             begin(statements, inner, stack, leaves)
         }
+        Sort::Param => param(inner, stack, leaves),
     }
 }
 
@@ -183,6 +139,7 @@ fn leaf_of(sort: Sort, stack: &mut Stack, leaves: &mut Leaves) -> Result<u32, Ha
     let deep = match sort {
         Sort::Level(_) | Sort::Argument => stack.take(Token::Simple, leaves)?,
         Sort::Loaded => stack.take(Token::String, leaves)?,
+        Sort::Param => stack.take(Token::Name, leaves)?,
         _ => return Err(Halt::Unexpected),
     };
     if let Some(at) = at
@@ -219,13 +176,17 @@ struct Begun {
     deep: u32,
 }
 
-/// What an expression of this rank begins with: the node of `not` or of a sign, or a primary.
+/// What an expression of this rank begins with: a lambda, the node of `not` or of a sign, or a primary.
 #[cycle(parser)]
 fn operand(n: u8, depth: u32, stack: &mut Stack, leaves: &mut Leaves) -> Result<Begun, Halt>
     requires small { depth ≤ 2 * depth_limit }
     ensures ok { IfOk result (λ first. Rises depth first.rank n leaves.old leaves.new stack.old stack.new first.deep) }
     ensures err { Fails result (level_at depth n leaves.old) }
 {
+    if leaves.starts_from(LAMBDA, n, Token::Lambda) {
+        let deep = begin(State::Lambda(LambdaAt::Begin), depth, stack, leaves)?;
+        return Ok(Begun { rank: LAMBDA, deep });
+    }
     if leaves.starts_from(NOT, n, Token::Not) {
         let state = State::Rest(Kind::Not, Rest::TokenPart(Token::Not, Sort::Level(NOT)));
         let deep = begin(state, depth, stack, leaves)?;
@@ -327,7 +288,7 @@ fn argument(depth: u32, stack: &mut Stack, leaves: &mut Leaves) -> Result<u32, H
         return begin(star, depth, stack, leaves);
     }
     let from = stack.len();
-    let deep = expression(CONDITION, depth, stack, leaves)?;
+    let deep = expression(LAMBDA, depth, stack, leaves)?;
     if !leaves.starts(Token::Equals) {
         return Ok(deep);
     }
@@ -336,4 +297,23 @@ fn argument(depth: u32, stack: &mut Stack, leaves: &mut Leaves) -> Result<u32, H
     }
     let named = State::Rest(Kind::Named, Rest::TokenPart(Token::Equals, TEST));
     go_on(from, deep, named, depth, stack, leaves)
+}
+
+/// A parameter.
+#[cycle(parser)]
+fn param(depth: u32, stack: &mut Stack, leaves: &mut Leaves) -> Result<u32, Halt>
+    requires small { depth ≤ 2 * depth_limit }
+    ensures ok { IfOk result (λ deep. Pushes (param_at depth leaves.old) stack.old stack.new leaves.new deep) }
+    ensures err { Fails result (param_at depth leaves.old) }
+{
+    if leaves.starts(Token::Stars) {
+        return begin(State::Starred(StarredAt::Begin), depth, stack, leaves);
+    }
+    let from = stack.len();
+    let deep = stack.take(Token::Name, leaves)?;
+    if !leaves.starts(Token::Equals) {
+        return Ok(deep);
+    }
+    let valued = State::Rest(Kind::Param, Rest::TokenPart(Token::Equals, TEST));
+    go_on(from, deep, valued, depth, stack, leaves)
 }

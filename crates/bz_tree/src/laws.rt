@@ -1,5 +1,5 @@
 //! Laws of legal trees: the contract of each function is a law, and there is nothing to run.
-ghost use Rattle.bz_tree.specs.Laws.{GapsByNodes, LegalByNodes, OneFile, OneReading, OneTree};
+ghost use Rattle.bz_tree.specs.Laws.{GapsByNodes, LegalByLines, LegalByNodes, OneFile, OneReading, OneBzlReading, OneTree};
 ghost use Rattle.bz_tree.specs.Worked.{WorkedLines};
 
 use crate::tree::Tree;
@@ -12,12 +12,17 @@ pub fn one_tree(tree: &Tree, other: &Tree)
     let _other = &other.root;
 }
 
-/// No text reads as two trees.
+/// No text reads as two trees of BUILD files.
 pub fn one_reading()
     ensures { OneReading }
 {}
 
-/// No leaves are those of two files.
+/// No .bzl text reads as two trees.
+pub fn one_bzl_reading()
+    ensures { OneBzlReading }
+{}
+
+/// No leaves are those of two files whose statements have their indents.
 pub fn one_file()
     ensures { OneFile }
 {}
@@ -26,6 +31,12 @@ pub fn one_file()
 pub fn legal_by_nodes()
     ensures gaps { GapsByNodes }
     ensures legal { LegalByNodes }
+{}
+
+/// The legal trees of BUILD files are those of `.bzl` files that have none of the newer kinds: of them the indents say that no
+/// line begins behind a space or a tab.
+pub fn legal_by_lines()
+    ensures { LegalByLines }
 {}
 
 /// The lines of the statements of one small text.

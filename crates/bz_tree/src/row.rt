@@ -1,16 +1,20 @@
 //! The parts that stand in no node yet.
-ghost use Rattle.std.specs.Prelude.{◌≡◌, ◌∷◌, ◌++◌, ◌≤◌, ◌<◌, [], length, take, drop, max, Ok, Some, OnOk, IfOk, slice_get};
+ghost use Rattle.std.specs.Prelude.{◌≡◌, ◌∷◌, ◌++◌, ◌≤◌, ◌<◌, [], false, length, take, drop, max, Ok, Some, OnOk, IfOk, IsTrue, slice_get};
+ghost use Rattle.std.specs.List.{AllByRecursion};
 ghost use Rattle.std.specs.Option.{option_copied};
 ghost use Rattle.bz_tree.specs.declared.tree.Part.{Part};
+ghost use Rattle.bz_tree.specs.declared.tree.Part.TheVariants as p;
+ghost use Rattle.bz_tree.specs.Legal.{IsBuildPart};
 ghost use Rattle.bz_tree.specs.Shapes.{name, has_token};
 ghost use Rattle.bz_tree.specs.Reading.{node};
 ghost use Rattle.bz_tree.specs.Words.{terminals_of, token_at, Pushes, Fails};
 
 use crate::kind::Kind;
+use crate::older::have_newer;
 use crate::token::{Halt, Leaves, Token};
 use crate::tree::{Node, Part};
 use bz_items::{Items, Memory};
-use bz_lex::Class;
+use bz_lex::{Class, Leaf};
 use std::alloc::Global;
 use std::marker::Model;
 
@@ -19,19 +23,25 @@ use std::marker::Model;
 #[derive(Drop)]
 pub(crate) struct Stack {
     parts: Vec<Part>,
+    /// Whether a node was made of a kind that no BUILD file has.
+    newer: bool,
 }
 
 impl Model for Stack {
-    ghost use Rattle.std.specs.Prelude.{List};
+    ghost use Rattle.std.specs.Prelude.{◌≡◌, List, false};
+    ghost use Rattle.std.specs.List.{AllByRecursion};
     ghost use Rattle.std.specs.Coded.{coded_list};
     ghost use Rattle.bz_tree.specs.declared.tree.Part.{Part};
     ghost use Rattle.bz_tree.specs.contracts.tree.Part as e;
+    ghost use Rattle.bz_tree.specs.Legal.{IsBuildPart};
 
     ghost Value = { List Part };
 
     ghost coded = { coded_list e.the_row.coded };
 
     ghost view = { λ stack. stack.parts.items };
+
+    ghost invariant = { λ stack. stack.newer ≡ false → AllByRecursion IsBuildPart stack.parts.items };
 }
 
 impl Stack {
@@ -41,6 +51,7 @@ impl Stack {
     {
         Stack {
             parts: Vec::new(alloc),
+            newer: false,
         }
     }
 
@@ -75,22 +86,30 @@ impl Stack {
         }
     }
 
-    /// One more part. The error: a growth was refused.
-    pub fn push(&mut self, part: Part) -> Result<(), Memory>
-        ensures { OnOk result (self.new ≡ self.old ++ part ∷ []) }
+    /// Whether a node is of a kind that no BUILD file has, among the parts or inside them.
+    pub fn is_newer(&self) -> bool
+        ensures found { IsTrue result → AllByRecursion IsBuildPart self.now → ⊥ }
+        ensures none { (result ≡ false) → AllByRecursion IsBuildPart self.now }
     {
-        self.parts.push(part)?;
+        self.newer && have_newer(self.parts.as_slice())
+    }
+
+    /// One more leaf. The error: a growth was refused.
+    fn push(&mut self, leaf: Leaf) -> Result<(), Memory>
+        ensures { OnOk result (self.new ≡ self.old ++ p.Leaf leaf ∷ []) }
+    {
+        self.parts.push(Part::Leaf(leaf))?;
         Ok(())
     }
 
-    /// The part of a stack of one.
-    pub fn into_only(self) -> Result<Part, Halt>
-        ensures { (x : Part) → self ≡ x ∷ [] → result ≡ Ok x }
+    /// All parts in a node of this kind.
+    pub fn into_node(self, kind: Kind) -> Node
+        ensures { result ≡ record { kind = kind; parts = self } }
     {
-        let Stack { mut parts } = self;
-        match parts.pop() {
-            Some(part) => Ok(part),
-            None => Err(Halt::Unexpected),
+        let Stack { parts, .. } = self;
+        Node {
+            kind,
+            parts: Items::from_vec(parts),
         }
     }
 
@@ -101,6 +120,7 @@ impl Stack {
     {
         let _whole = self.parts.len();
         let parts = Items::from_vec(self.parts.split_off(from)?);
+        self.newer = self.newer || kind.is_newer();
         self.parts.push(Part::Node(Node { kind, parts }))?;
         Ok(())
     }
@@ -110,8 +130,8 @@ impl Stack {
         ensures ok { IfOk result (λ deep. Pushes (token_at (terminals_of token) leaves.old) self.old self.new leaves.new deep) }
         ensures err { Fails result (token_at (terminals_of token) leaves.old) }
     {
-        let part = leaves.take(token)?;
-        self.push(part)?;
+        let leaf = leaves.take(token)?;
+        self.push(leaf)?;
         Ok(0)
     }
 }

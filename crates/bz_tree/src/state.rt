@@ -1,7 +1,7 @@
 //! The table of the grammar: what comes next inside a node.
 ghost use Rattle.std.specs.Prelude.{◌≡◌};
 ghost use Rattle.bz_tree.specs.Reading.{finish};
-ghost use Rattle.bz_tree.specs.States.{rung_of, operator_of, plan_at, left_in_rest, row_of_items, row_of_operands, row_of_brackets, left_in_items, left_in_operands, left_of_clauses, left_of_names, left_of_file, left_of_slice, left_in_round, left_in_brackets, left_of_suffix, left_of_statement, Asks, Few};
+ghost use Rattle.bz_tree.specs.States.{rung_of, operator_of, plan_at, left_in_rest, row_of_items, row_of_operands, row_of_brackets, left_in_items, left_in_operands, left_of_clauses, left_of_names, left_of_slice, left_of_lambda, left_of_starred, left_of_header, left_in_round, left_in_brackets, left_of_suffix, left_of_statement, Asks, Few};
 
 use crate::kind::Kind;
 use crate::token::Token;
@@ -18,6 +18,7 @@ pub(crate) enum Sort {
     Loaded,
     Small,
     Line,
+    Param,
 }
 
 /// The ranks of expressions: operators bind the tighter the lower their rank. A primary is no operator's node.
@@ -45,13 +46,15 @@ const AND: u8 = 10;
 
 const OR: u8 = 11;
 
-/// A condition: the highest rank in which no comma binds. Commas make an expression of the next one.
-pub(crate) const CONDITION: u8 = 12;
+const CONDITION: u8 = 12;
 
-const ROW: u8 = 13;
+/// A lambda: the highest rank in which no comma binds. Commas make an expression of the next one.
+pub(crate) const LAMBDA: u8 = 13;
+
+const ROW: u8 = 14;
 
 /// What no comma joins outside brackets, and any expression.
-pub(crate) const TEST: Sort = Sort::Level(CONDITION);
+pub(crate) const TEST: Sort = Sort::Level(LAMBDA);
 
 const EXPRESSION: Sort = Sort::Level(ROW);
 
@@ -65,7 +68,11 @@ pub(crate) enum State {
     /// The clauses of a comprehension of this kind, and its closing bracket.
     Clauses(Kind, Token, ClausesAt),
     Names(NamesAt),
-    File(FileAt),
+    Lambda(LambdaAt),
+    /// A parameter with stars.
+    Starred(StarredAt),
+    /// What stands before a suite.
+    Header(HeaderAt),
     Slice(SliceAt),
     Round(RoundAt),
     Brackets(Brackets, BracketsAt),
@@ -175,10 +182,43 @@ pub(crate) enum NamesAt {
     Comma,
 }
 
+/// A lambda from its keyword on.
 #[derive(Clone, Copy)]
-pub(crate) enum FileAt {
-    Lines,
-    Line,
+pub(crate) enum LambdaAt {
+    Begin,
+    Params,
+    Param,
+    Behind,
+    Comma,
+}
+
+#[derive(Clone, Copy)]
+pub(crate) enum StarredAt {
+    Begin,
+    Star,
+    Name,
+}
+
+/// A header up to its colon.
+#[derive(Clone, Copy)]
+pub(crate) enum HeaderAt {
+    Def,
+    DefName,
+    DefOpen,
+    Params,
+    Param,
+    BehindParam,
+    Comma,
+    For,
+    Name,
+    BehindName,
+    NameComma,
+    In,
+    InExpression,
+    /// `if` or `elif`.
+    Test(Token),
+    TestColon,
+    Else,
 }
 
 /// A slice from its first colon on.
@@ -244,6 +284,10 @@ pub(crate) enum StatementAt {
     Load,
     LoadOpen,
     LoadString,
+    NoLoad,
+    Return,
+    Returned,
+    NoReturn,
     Expression,
     BehindExpression,
 }
@@ -274,7 +318,9 @@ impl State {
             State::Operands(operands, at) => at.next(operands),
             State::Clauses(kind, close, at) => at.next(kind, close),
             State::Names(at) => at.next(),
-            State::File(at) => at.next(),
+            State::Lambda(at) => at.next(),
+            State::Starred(at) => at.next(),
+            State::Header(at) => at.next(),
             State::Slice(at) => at.next(),
             State::Round(at) => at.next(),
             State::Brackets(brackets, at) => at.next(brackets),
@@ -466,18 +512,87 @@ impl NamesAt {
     }
 }
 
-impl FileAt {
+impl LambdaAt {
     fn next(self) -> Move
-        ensures asks { Asks (finish Kind.File (left_of_file self)) result }
+        ensures asks { Asks (finish Kind.Lambda (left_of_lambda self)) result }
+        ensures few { Few result }
+    {
+        let body = State::Rest(Kind::Lambda, Rest::TokenPart(Token::Colon, TEST));
+        match self {
+            LambdaAt::Begin => Move::Take(Token::Lambda, State::Lambda(LambdaAt::Params)),
+            LambdaAt::Params => Move::Choose(Token::Colon, body, State::Lambda(LambdaAt::Param)),
+            LambdaAt::Param => Move::Read(Sort::Param, State::Lambda(LambdaAt::Behind)),
+            LambdaAt::Behind => Move::Choose(Token::Comma, State::Lambda(LambdaAt::Comma), body),
+            LambdaAt::Comma => Move::Take(Token::Comma, State::Lambda(LambdaAt::Param)),
+        }
+    }
+}
+
+impl StarredAt {
+    fn next(self) -> Move
+        ensures asks { Asks (finish Kind.Param (left_of_starred self)) result }
         ensures few { Few result }
     {
         match self {
-            FileAt::Lines => Move::Choose(
-                Token::Lines,
-                State::File(FileAt::Line),
-                State::Rest(Kind::File, Rest::Token(Token::End)),
+            StarredAt::Begin => Move::Choose(
+                Token::Star,
+                State::Starred(StarredAt::Star),
+                State::Rest(Kind::Param, Rest::Tokens(Token::DoubleStar, Token::Name)),
             ),
-            FileAt::Line => Move::Read(Sort::Line, State::File(FileAt::Lines)),
+            StarredAt::Star => Move::Take(Token::Star, State::Starred(StarredAt::Name)),
+            StarredAt::Name => Move::Choose(
+                Token::Name,
+                State::Rest(Kind::Param, Rest::Token(Token::Name)),
+                State::Rest(Kind::Param, Rest::Nothing),
+            ),
+        }
+    }
+}
+
+impl HeaderAt {
+    fn next(self) -> Move
+        ensures asks { Asks (finish Kind.Suite (left_of_header self)) result }
+        ensures few { Few result }
+    {
+        let close = State::Rest(Kind::Suite, Rest::Tokens(Token::CloseRound, Token::Colon));
+        match self {
+            HeaderAt::Def => Move::Take(Token::Def, State::Header(HeaderAt::DefName)),
+            HeaderAt::DefName => Move::Take(Token::Name, State::Header(HeaderAt::DefOpen)),
+            HeaderAt::DefOpen => Move::Take(Token::OpenRound, State::Header(HeaderAt::Params)),
+            HeaderAt::Params => Move::Choose(
+                Token::CloseRound,
+                close,
+                State::Header(HeaderAt::Param),
+            ),
+            HeaderAt::Param => Move::Read(Sort::Param, State::Header(HeaderAt::BehindParam)),
+            HeaderAt::BehindParam => Move::Choose(
+                Token::Comma,
+                State::Header(HeaderAt::Comma),
+                close,
+            ),
+            HeaderAt::Comma => Move::Take(Token::Comma, State::Header(HeaderAt::Params)),
+            HeaderAt::For => Move::Take(Token::For, State::Header(HeaderAt::Name)),
+            HeaderAt::Name => Move::Read(Sort::Level(PRIMARY), State::Header(HeaderAt::BehindName)),
+            HeaderAt::BehindName => Move::Choose(
+                Token::Comma,
+                State::Header(HeaderAt::NameComma),
+                State::Header(HeaderAt::In),
+            ),
+            HeaderAt::NameComma => Move::Take(Token::Comma, State::Header(HeaderAt::Name)),
+            HeaderAt::In => Move::Take(Token::In, State::Header(HeaderAt::InExpression)),
+            HeaderAt::InExpression => Move::Read(
+                EXPRESSION,
+                State::Rest(Kind::Suite, Rest::Token(Token::Colon)),
+            ),
+            HeaderAt::Test(token) => Move::Take(token, State::Header(HeaderAt::TestColon)),
+            HeaderAt::TestColon => Move::Read(
+                TEST,
+                State::Rest(Kind::Suite, Rest::Token(Token::Colon)),
+            ),
+            HeaderAt::Else => Move::Take(
+                Token::Else,
+                State::Rest(Kind::Suite, Rest::Token(Token::Colon)),
+            ),
         }
     }
 }
@@ -627,7 +742,7 @@ impl StatementAt {
             StatementAt::Begin => Move::Choose(
                 Token::Load,
                 State::Statement(StatementAt::Load),
-                State::Statement(StatementAt::Expression),
+                State::Statement(StatementAt::NoLoad),
             ),
             StatementAt::Load => Move::Take(Token::Load, State::Statement(StatementAt::LoadOpen)),
             StatementAt::LoadOpen => Move::Take(
@@ -637,6 +752,25 @@ impl StatementAt {
             StatementAt::LoadString => Move::Take(
                 Token::String,
                 State::Items(Items::Loaded, ItemsAt::More),
+            ),
+            StatementAt::NoLoad => Move::Choose(
+                Token::Return,
+                State::Statement(StatementAt::Return),
+                State::Statement(StatementAt::NoReturn),
+            ),
+            StatementAt::Return => Move::Take(
+                Token::Return,
+                State::Statement(StatementAt::Returned),
+            ),
+            StatementAt::Returned => Move::Choose(
+                Token::Expressions,
+                State::Rest(Kind::Return, Rest::Part(EXPRESSION)),
+                State::Rest(Kind::Return, Rest::Nothing),
+            ),
+            StatementAt::NoReturn => Move::Choose(
+                Token::Flow,
+                State::Rest(Kind::Flow, Rest::Token(Token::Flow)),
+                State::Statement(StatementAt::Expression),
             ),
             StatementAt::Expression => Move::Read(
                 EXPRESSION,
@@ -688,7 +822,8 @@ pub(crate) fn rung_at(rank: u8) -> Rung
         NOT => operator(Operands::And),
         AND => operator(Operands::Or),
         OR => Rung::Infix(Token::If, State::Condition),
-        CONDITION => operator(Operands::Row),
+        CONDITION => Rung::Prefix(Token::Lambda, State::Lambda(LambdaAt::Begin)),
+        LAMBDA => operator(Operands::Row),
         _ => Rung::Same,
     }
 }

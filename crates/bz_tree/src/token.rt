@@ -1,7 +1,11 @@
 ghost use Rattle.std.specs.Prelude.{◌≡◌, ◌↔◌, ◌≤◌, ◌<◌, ◌&&◌, ◌∷◌, [], ℕ, nat_le, false, Some, None, length, MatchOption, IfOk, IsTrue};
 ghost use Rattle.bz_tree.specs.Shapes.{is_one_of};
 ghost use Rattle.bz_tree.specs.Reading.{starts_with};
+ghost use Rattle.bz_tree.specs.Indents.{first_indent};
+ghost use Rattle.bz_tree.specs.Suites.{stands_at};
+ghost use Rattle.bz_lex.specs.Gaps.{indent};
 ghost use Rattle.bz_tree.specs.declared.token.Token.TheVariants as t;
+ghost use Rattle.bz_tree.specs.declared.tree.Part.TheVariants as p;
 ghost use Rattle.bz_tree.specs.Spell.{limit};
 ghost use Rattle.bz_lex.proofs.Coming.{to_come};
 ghost use Rattle.bz_lex.specs.Fronts.{TellsFront};
@@ -9,9 +13,8 @@ ghost use Rattle.bz_tree.specs.Symbols.{example, Tells};
 ghost use Rattle.bz_tree.specs.Words.{terminals_of, token_at, Fails};
 ghost use Rattle.bz_tree.specs.States.{binds_at};
 
-use crate::state::CONDITION;
+use crate::state::LAMBDA;
 use crate::symbol::Symbol;
-use crate::tree::Part;
 use bz_lex::{Class, Front, Leaf, Place, Reason, Stop, leaf_front};
 use bz_token::opens_string;
 use std::alloc::{AllocError, AllocFailed, Global};
@@ -82,8 +85,10 @@ pub(crate) enum Token {
     Suffixes,
     /// `for` or `if`.
     Clauses,
-    /// What a line begins with.
-    Lines,
+    /// What a statement begins with.
+    Statements,
+    /// What an expression begins with.
+    Expressions,
     /// `]` or `:`.
     SliceStops,
     /// What an expression ends before, where no comma binds in it: a comma, a closing bracket, `:`, `=`, `;` or a newline.
@@ -97,6 +102,14 @@ pub(crate) enum Token {
     Sums,
     /// `*`, `/`, `//` or `%`.
     Products,
+    Star,
+    DoubleStar,
+    /// `break`, `continue` or `pass`.
+    Flow,
+    Def,
+    Elif,
+    Lambda,
+    Return,
     Load,
     If,
     Else,
@@ -140,7 +153,8 @@ impl Token {
                 Symbol::Dot | Symbol::OpenRound | Symbol::OpenSquare
             ),
             Token::Clauses => matches!(symbol, Symbol::For | Symbol::If),
-            Token::Lines => symbol.begins_line(),
+            Token::Statements => symbol.begins_statement(),
+            Token::Expressions => symbol.begins_expression(),
             Token::SliceStops => matches!(symbol, Symbol::CloseSquare | Symbol::Colon),
             Token::Ends => symbol.ends_expression(),
             Token::Bar => matches!(symbol, Symbol::Bar),
@@ -149,6 +163,13 @@ impl Token {
             Token::Shifts => matches!(symbol, Symbol::Shift),
             Token::Sums => matches!(symbol, Symbol::Plus | Symbol::Minus),
             Token::Products => matches!(symbol, Symbol::Star | Symbol::Slash | Symbol::Percent),
+            Token::Star => matches!(symbol, Symbol::Star),
+            Token::DoubleStar => matches!(symbol, Symbol::DoubleStar),
+            Token::Flow => matches!(symbol, Symbol::Flow),
+            Token::Def => matches!(symbol, Symbol::Def),
+            Token::Elif => matches!(symbol, Symbol::Elif),
+            Token::Lambda => matches!(symbol, Symbol::Lambda),
+            Token::Return => matches!(symbol, Symbol::Return),
             Token::Load => matches!(symbol, Symbol::Load),
             Token::If => matches!(symbol, Symbol::If),
             Token::Else => matches!(symbol, Symbol::Else),
@@ -162,12 +183,21 @@ impl Token {
 }
 
 impl Symbol {
-    fn begins_line(self) -> bool
-        ensures { result ≡ is_one_of (terminals_of t.Lines) (example self) }
+    fn begins_statement(self) -> bool
+        ensures { result ≡ is_one_of (terminals_of t.Statements) (example self) }
     {
         matches!(
             self,
-            Symbol::Load
+            Symbol::Load | Symbol::Return | Symbol::Flow | Symbol::Def | Symbol::If | Symbol::For
+        ) || self.begins_expression()
+    }
+
+    fn begins_expression(self) -> bool
+        ensures { result ≡ is_one_of (terminals_of t.Expressions) (example self) }
+    {
+        matches!(
+            self,
+            Symbol::Lambda
                 | Symbol::Not
                 | Symbol::Plus
                 | Symbol::Minus
@@ -276,6 +306,20 @@ impl<'a> Leaves<'a> {
         token.is(self.symbol)
     }
 
+    /// The spaces and tabs right before the token of the next leaf.
+    pub(crate) fn indent(&self) -> &'a [u8]
+        ensures { result.now ≡ first_indent self.now }
+    {
+        indent_at(self.next, self.rest, self.place)
+    }
+
+    /// Whether the next leaf is this token, at this indent.
+    pub(crate) fn stands_at(&self, token: Token, indent: &[u8]) -> bool
+        ensures { result ≡ stands_at (terminals_of token) indent.now self.now }
+    {
+        self.starts(token) && self.indent() == indent
+    }
+
     /// Whether the next leaf is this token, and a rank is no lower than the least.
     pub(crate) fn starts_from(&self, least: u8, rank: u8, token: Token) -> bool
         ensures { result ≡ (nat_le least rank && starts_with (terminals_of token) self.now) }
@@ -288,8 +332,8 @@ impl<'a> Leaves<'a> {
         ensures above { rank ≤ result }
         ensures passes { (j : ℕ) → rank ≤ j → j < result → binds_at j self.now ≡ false }
     {
-        if rank < CONDITION && self.starts(Token::Ends) {
-            CONDITION
+        if rank < LAMBDA && self.starts(Token::Ends) {
+            LAMBDA
         } else {
             rank
         }
@@ -303,6 +347,15 @@ impl<'a> Leaves<'a> {
             at,
             until: self.offset,
         });
+    }
+
+    /// Keeps that the next leaf begins a node which would be nested too deep.
+    pub(crate) fn mark_next_too_deep(&mut self)
+        ensures { self.new ≡ self.old }
+    {
+        if let Some(at) = self.next_at() {
+            self.mark_too_deep(at);
+        }
     }
 
     /// The byte at which the node begins that keeps the next leaf from being read, since it is nested too deep.
@@ -330,7 +383,7 @@ impl<'a> Leaves<'a> {
     /// it is a string that is not closed, from its prefix on, or it stands where no file goes on with it.
     pub fn stopped_at(&self, text: &[u8]) -> Stop {
         let (reason, at) = match self.next {
-            Ok(front) => (Reason::Unexpected, self.offset.saturating_add(front.gap)),
+            Ok(front) => (self.reason(), self.offset.saturating_add(front.gap)),
             Err(stop) => (stop.reason, self.offset.saturating_add(stop.at)),
         };
         let begins_here = matches!(reason, Reason::OpenString) && at == self.offset;
@@ -340,13 +393,51 @@ impl<'a> Leaves<'a> {
                 at: self.last,
             };
         }
-        if matches!(reason, Reason::Unexpected) && opens_string(from(text, at)) {
+        if matches!(reason, Reason::Unexpected | Reason::Indented) && opens_string(from(text, at)) {
             return Stop {
                 reason: Reason::OpenString,
                 at,
             };
         }
         Stop { reason, at }
+    }
+
+    /// Why no file goes on with the next leaf: the first token of a line stands at a wrong indent, where it has one, and also
+    /// where it begins a statement, since one without an indent may stand in a file but not in a suite.
+    fn reason(&self) -> Reason {
+        let is_first = matches!(self.place, Place::Fresh) && !self.starts(Token::End);
+        if is_first && (!self.indent().is_empty() || self.starts(Token::Statements)) {
+            Reason::Indented
+        } else {
+            Reason::Unexpected
+        }
+    }
+
+    /// The byte at which the first token begins that no BUILD file has, among those that begin in so many bytes of the text
+    /// of these leaves. The error: a growth was refused.
+    pub fn newer_within(&mut self, until: usize) -> Result<Option<usize>, AllocError> {
+        for _ in 0..until {
+            if self.offset >= until {
+                return Ok(None);
+            }
+            if self.starts_newer() {
+                return Ok(self.next_at());
+            }
+            if self.cut()?.is_none() {
+                return Ok(None);
+            }
+        }
+        Ok(None)
+    }
+
+    /// Whether no BUILD file has the next leaf here: a keyword of the newer kinds, or one that begins a line for which it has
+    /// no statement.
+    fn starts_newer(&self) -> bool {
+        match self.symbol {
+            Symbol::Def | Symbol::Elif | Symbol::Lambda | Symbol::Return | Symbol::Flow => true,
+            Symbol::If | Symbol::For | Symbol::Else => matches!(self.place, Place::Fresh),
+            _ => false,
+        }
     }
 
     /// Cuts off the next leaf, if there is one. The error: a growth was refused; the leaves are then as before.
@@ -371,15 +462,15 @@ impl<'a> Leaves<'a> {
 
     /// The next leaf, where it is this token.
     #[tactic(auto, unfolding(crate::specs::Words::token_at))]
-    pub(crate) fn take(&mut self, token: Token) -> Result<Part, Halt>
-        ensures ok { IfOk result (λ part. token_at (terminals_of token) self.old ≡ Some (part, self.new)) }
+    pub(crate) fn take(&mut self, token: Token) -> Result<Leaf, Halt>
+        ensures ok { IfOk result (λ leaf. token_at (terminals_of token) self.old ≡ Some (p.Leaf leaf, self.new)) }
         ensures err { Fails result (token_at (terminals_of token) self.old) }
     {
         if !self.starts(token) {
             return Err(Halt::Unexpected);
         }
         match self.cut()? {
-            Some(leaf) => Ok(Part::Leaf(leaf)),
+            Some(leaf) => Ok(leaf),
             None => Err(Halt::Unexpected),
         }
     }
@@ -394,6 +485,32 @@ fn symbol_at(next: Result<Front, Stop>, rest: &[u8], place: Place) -> Symbol
         Ok(front) => Symbol::of(front.class, front.token_of(rest)),
         Err(_) => Symbol::Nothing,
     }
+}
+
+/// The indent of the next leaf, where a text goes on so at a place.
+fn indent_at(next: Result<Front, Stop>, rest: &[u8], place: Place) -> &[u8]
+    requires { TellsFront place rest.now next }
+    ensures { result.now ≡ first_indent (to_come place rest.now) }
+{
+    match next {
+        Ok(front) => indent_of(rest.split_at(front.gap).0),
+        Err(_) => rest.split_at(0).0,
+    }
+}
+
+/// The spaces and tabs at the end of a gap.
+fn indent_of(gap: &[u8]) -> &[u8]
+    ensures { result.now ≡ indent gap.now }
+{
+    let mut at = gap.len();
+    'blanks: while at > 0 {
+        let byte = gap[at - 1];
+        if byte != b' ' && byte != b'\t' {
+            return gap.split_at(at).1;
+        }
+        at -= 1;
+    }
+    gap
 }
 
 /// What stands from a byte of a text on.
