@@ -16,6 +16,10 @@ token_same plain outer outer' here here' e f = f
 
 node_same : (kind : Kind) (here here' : Spot) → onward here ≡ onward here' → behind_node kind here ≡ behind_node kind here'
 node_same k.Line here here' f = refl
+node_same k.Def here here' f = refl
+node_same k.IfStmt here here' f = refl
+node_same k.ForStmt here here' f = refl
+node_same k.Suite here here' f = refl
 node_same _ here here' f = f
 
 behind_same : (x : Expr) (outer outer' here here' : Spot) → onward outer ≡ onward outer' → onward here ≡ onward here' → behind_expr outer here x ≡ behind_expr outer' here' x

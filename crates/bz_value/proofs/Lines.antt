@@ -5,6 +5,7 @@ use Rattle.std.proofs.lemmas.List.{take_more, drop_all}
 use Rattle.bz_token.specs.Bytes.{is_blank}
 use Rattle.bz_value.specs.Characters.{line_feed}
 use Rattle.bz_value.specs.Gaps.{Bytes, with_first, trimmed, in_comment, behind_backslash, lines_of}
+use Rattle.bz_value.specs.Indented.{indented, indented_behind}
 
 abbrev pub NoneBefore : ℕ → Bytes → Type 0
 NoneBefore n text = (k : ℕ) → k < n → get_or text k 0 ≢ line_feed
@@ -24,6 +25,11 @@ escape_breaks [] n h l e = absurd (omega arith)
 escape_breaks (c ∷ g) zero h l e = rw e refl
 escape_breaks (c ∷ g) (suc n) h l e = rw (not_first c n g h) (escape_breaks g n (λ k i. h (suc k) (omega arith)) (omega arith) e)
 
+pub indented_breaks : (text : Bytes) (n : ℕ) → NoneBefore n text → n < length text → get_or text n 0 ≡ line_feed → indented_behind text ≡ indented (drop (suc n) text)
+indented_breaks [] n h l e = absurd (omega arith)
+indented_breaks (c ∷ g) zero h l e = rw e refl
+indented_breaks (c ∷ g) (suc n) h l e = rw (not_first c n g h) (indented_breaks g n (λ k i. h (suc k) (omega arith)) (omega arith) e)
+
 -- or at the end
 pub comment_stops : (text : Bytes) → NoneBefore (length text) text → in_comment text ≡ record { words = text; newline = false; lines = [] }
 comment_stops [] h = refl
@@ -33,6 +39,13 @@ comment_stops (c ∷ g) h =
 pub escape_stops : (text : Bytes) → NoneBefore (length text) text → behind_backslash text ≡ []
 escape_stops [] h = refl
 escape_stops (c ∷ g) h = rw (not_first c (length g) g h) (escape_stops g (λ k i. h (suc k) (omega arith)))
+
+pub indented_stops : (text : Bytes) → NoneBefore (length text) text → indented_behind text ≡ []
+indented_stops [] h = refl
+indented_stops (c ∷ g) h = rw (not_first c (length g) g h) (indented_stops g (λ k i. h (suc k) (omega arith)))
+
+pub no_indented_left : (text : Bytes) → [] ≡ indented (drop (length text + 1) text)
+no_indented_left text = ap indented (sym (drop_all (length text + 1) text (omega arith)))
 
 pub none_left : (text : Bytes) → [] ≡ lines_of (drop (length text + 1) text)
 none_left text = ap lines_of (sym (drop_all (length text + 1) text (omega arith)))

@@ -1,11 +1,11 @@
 -- All that the table of shapes sees of a part is its root: parts of equal roots fit equal shapes.
-use Rattle.std.proofs.Common.{Bool, true, ◌≡◌, suc, List, [], ◌∷◌, ◌++◌, inl, inr, refl, sym, ◌∙◌, take, drop}
+use Rattle.std.proofs.Common.{Bool, true, ◌≡◌, suc, List, [], ◌∷◌, ◌++◌, inl, inr, refl, sym, ap, ◌∙◌, subst, take, drop}
 use Rattle.bz_lex.specs.declared.leaf.Leaf.{Leaf}
 use Rattle.bz_tree.specs.declared.kind.Kind.{Kind}
 use Rattle.bz_tree.specs.declared.kind.Kind.TheVariants as k
 use Rattle.bz_tree.specs.declared.tree.Part.{Part}
 use Rattle.bz_tree.specs.Shapes as s
-use Rattle.bz_tree.specs.Shapes.{Sort, Terminal, Shape, Fits, Listed, Behind, Several, shape, items, has_token, has_sort, is_one_of, is_terminal, tok, done}
+use Rattle.bz_tree.specs.Shapes.{Sort, Terminal, Shape, Fits, Listed, Behind, Several, Times, no_more, once_more, shape, items, has_token, has_sort, is_one_of, is_terminal, tok, done}
 use Rattle.bz_tree.specs.Legal.{IsSort}
 use Rattle.bz_value.specs.Characters.{comma}
 use Rattle.bz_value.specs.Frames.{Frame, row, sequence, frame, lead}
@@ -39,6 +39,22 @@ module _ (q : Sort) (K : List Part → Type 0) (carries : Carries K) where
   several_same xs ys (more x y xs' ys' r w) (inl h) = inl (carries (x ∷ xs') (y ∷ ys') (more x y xs' ys' r w) h)
   several_same xs ys (more x y xs' ys' r w) (inr h) = inr (sym (r.sort q) ∙ h.0, several_same xs' ys' w h.1)
 
+-- the same row, cut where the other is
+cut_same : (zs ys : List Part) → Same zs ys → (front back : List Part) → zs ≡ front ++ back → (f : List Part) × (b : List Part) × (ys ≡ f ++ b) × Same front f × Same back b
+cut_same zs ys w [] back e = ([], ys, refl, over, subst (λ us. Same us ys) e w)
+cut_same zs ys over (x ∷ front) back e = absurd (cc)
+cut_same zs ys (more x y xs ys' r w) (z ∷ front) back e =
+    let first : x ≡ z = cc in
+    let behind : xs ≡ front ++ back = cc in
+    let c = cut_same xs ys' w front back behind in
+    (y ∷ c.0, c.1, ap (λ us. y ∷ us) c.2, more z y front c.0 (subst (λ u. SameRoot u y) first r) c.3, c.4)
+
+times_same : (F K : List Part → Type 0) → Carries F → Carries K → Carries (Times F K)
+times_same F K f k xs ys w (no_more h) = no_more (k xs ys w h)
+times_same F K f k xs ys w (once_more front back e h m) =
+    let c = cut_same xs ys w front back e in
+    once_more c.0 c.1 c.2 (f front c.0 c.3 h) (times_same F K f k back c.1 c.4 m)
+
 pub fits_same : (r : Shape) → Carries (Fits IsSort r)
 fits_same s.none xs ys w h = absurd h
 fits_same s.done xs ys over h = h
@@ -51,6 +67,7 @@ fits_same (s.alt left right) xs ys w (inl h) = inl (fits_same left xs ys w h)
 fits_same (s.alt left right) xs ys w (inr h) = inr (fits_same right xs ys w h)
 fits_same (s.list q ts last then_) xs ys w h = listed_same q (Fits IsSort then_) (fits_same then_) ts last xs ys w h
 fits_same (s.each q then_) xs ys w h = several_same q (Fits IsSort then_) (fits_same then_) xs ys w h
+fits_same (s.times group then_) xs ys w h = times_same (Fits IsSort group) (Fits IsSort then_) (fits_same group) (fits_same then_) xs ys w h
 
 one_terminal : (t : Terminal) (l : Leaf) → is_terminal t l ≡ is_terminal t (record { class = l.class; gap = []; token = l.token })
 one_terminal (s.any class) l = refl

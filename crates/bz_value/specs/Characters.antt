@@ -1,6 +1,9 @@
 -- Characters by their names.
 use Rattle.std.specs.Prelude.{ℕ}
 
+abbrev pub tab : ℕ
+tab = 9
+
 abbrev pub line_feed : ℕ
 line_feed = 10
 

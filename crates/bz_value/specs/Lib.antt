@@ -5,6 +5,7 @@ pub mod Counted
 pub mod Empty
 pub mod Frames
 pub mod Gaps
+pub mod Indented
 pub mod Proper
 pub mod Roots
 pub mod Worked

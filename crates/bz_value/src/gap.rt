@@ -1,8 +1,10 @@
 //! What a gap says, line by line. All that reads a gap stands on `first_line`.
-ghost use Rattle.std.specs.Prelude.{◌≡◌, ◌+◌, [], ◌∷◌, ◌++◌, ◌<◌, ◌≤◌, nat_lt, take, drop, length, IfSome, MatchOption, OnOk, IfOk};
+ghost use Rattle.std.specs.Prelude.{◌≡◌, ◌+◌, ◌-◌, ◌^◌, ◌||◌, [], ◌∷◌, ◌++◌, ◌<◌, ◌≤◌, suc, nat_eq, nat_lt, if◌then◌else◌, take, drop, length, IfSome, MatchOption, OnOk, IfOk};
 ghost use Rattle.std.specs.Option.{option_copied};
 ghost use Rattle.bz_token.specs.Bytes.{is_blank};
+ghost use Rattle.bz_value.specs.Characters.{space, tab};
 ghost use Rattle.bz_value.specs.Gaps.{all_in, behind_backslash, behind_first, has_newline, in_comment, lines_of, others_in, suffix_in, trimmed};
+ghost use Rattle.bz_value.specs.Indented.{indented, indented_behind};
 
 use bz_items::{Items, Memory, Text};
 use std::alloc::Global;
@@ -16,6 +18,26 @@ pub struct Line<'a> {
     pub rest: &'a [u8],
 }
 
+/// A line of a gap, and how many spaces and tabs stand right before its comment.
+#[derive(Clone, Copy)]
+pub struct IndentedLine<'a> {
+    pub indent: usize,
+    pub line: Line<'a>,
+}
+
+/// How many spaces and tabs stand behind a byte with which no line of a gap begins or ends, where this many stood before it.
+fn indent_behind(indent: usize, byte: u8) -> usize
+    requires { indent < 2 ^ 64 - 1 }
+    ensures value { result ≡ (if nat_eq byte space || nat_eq byte tab then suc indent else 0) }
+    ensures most { result ≤ indent + 1 }
+{
+    if byte == b' ' || byte == b'\t' {
+        indent + 1
+    } else {
+        0
+    }
+}
+
 /// How many bytes stand before the first newline: all of them, where there is none.
 fn line_len(text: &[u8]) -> usize
     ensures within { result ≤ length text.now }
@@ -23,6 +45,7 @@ fn line_len(text: &[u8]) -> usize
     ensures newline { (in_comment text.now).newline ≡ nat_lt result (length text.now) }
     ensures lines { (in_comment text.now).lines ≡ lines_of (drop (result + 1) text.now) }
     ensures escaped { behind_backslash text.now ≡ lines_of (drop (result + 1) text.now) }
+    ensures indented { indented_behind text.now ≡ indented (drop (result + 1) text.now) }
 {
     for (at, byte) in text.iter().enumerate() {
         if *byte == b'\n' {
@@ -93,6 +116,55 @@ pub fn first_line(gap: &[u8]) -> Option<Line<'_>>
                 });
             }
             _ => rest = tail,
+        }
+    }
+    None
+}
+
+/// The first line of a gap, with how many spaces and tabs stand right before its comment; `None` of a gap that says nothing.
+pub fn first_indented_line(gap: &[u8]) -> Option<IndentedLine<'_>>
+    ensures line { MatchOption result (indented gap.now ≡ []) (λ first. indented gap.now ≡ record { indent = first.indent; line = record { comment = option_copied first.line.comment; newline = first.line.newline } } ∷ indented first.line.rest.now) }
+    ensures shorter { IfSome result (λ first. length first.line.rest.now < length gap.now) }
+{
+    let mut indent = 0;
+    let mut rest = gap;
+    while let [first, tail @ ..] = rest {
+        match *first {
+            b'#' => {
+                let len = line_len(tail);
+                return Some(IndentedLine {
+                    indent,
+                    line: Line {
+                        comment: Some(trim_end(&rest[..len + 1])),
+                        newline: len < tail.len(),
+                        rest: behind_line(tail, len),
+                    },
+                });
+            }
+            b'\n' => {
+                return Some(IndentedLine {
+                    indent: 0,
+                    line: Line {
+                        comment: None,
+                        newline: true,
+                        rest: tail,
+                    },
+                });
+            }
+            b'\\' => {
+                return Some(IndentedLine {
+                    indent: 0,
+                    line: Line {
+                        comment: None,
+                        newline: false,
+                        rest: behind_line(tail, line_len(tail)),
+                    },
+                });
+            }
+            byte => {
+                indent = indent_behind(indent, byte);
+                rest = tail;
+            }
         }
     }
     None

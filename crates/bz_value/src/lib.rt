@@ -12,6 +12,9 @@ mod value;
 
 pub use comments::Comments;
 pub use frame::{is_binary, is_comprehension, is_sequence, is_sign, is_statement, lead_of};
-pub use gap::{Line, behind_first_line, first_line, has_newline, push_all, push_others, suffix_in};
+pub use gap::{
+    IndentedLine, Line, behind_first_line, first_indented_line, first_line, has_newline, push_all,
+    push_others, suffix_in,
+};
 pub use laws::worked_gaps;
 pub use value::{Expr, File, Form, Item, Seq, Token};

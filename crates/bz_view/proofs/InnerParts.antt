@@ -15,7 +15,7 @@ use Rattle.bz_tree.specs.Shapes as s
 use Rattle.bz_tree.specs.Shapes.{Sort, Terminal, Shape, Fits, Listed, Behind, Several, shape, has_token, is_one_of, is_terminal, has_kind, leaves_at}
 use Rattle.bz_tree.specs.Legal.{IsSort}
 use Rattle.bz_tree.specs.Spots.{Spot, Within, onward, Role, opens, closes, ends, plain, role, behind_token, behind_node, behind_part}
-use Rattle.bz_tree.proofs.Balance.{no_such, same_class}
+use Rattle.bz_tree.proofs.Balance.{no_such, same_class, inner_sort, not_file, not_lines}
 use Rattle.bz_value.specs.Frames.{is_binary, is_statement}
 use Rattle.bz_value.specs.Proper.{is_sign}
 
@@ -30,6 +30,7 @@ every t q (s.sub a r) = q a && every t q r
 every t q (s.alt r r') = every t q r && every t q r'
 every t q (s.list a ts last r) = q a && (t ts && every t q r)
 every t q (s.each a r) = q a && every t q r
+every t q (s.times group r) = false
 
 module _ (P : Part → Type 0) (t : List Terminal → Bool) (q : Sort → Bool) (of_token : (ts : List Terminal) (x : Part) → t ts ≡ true → has_token ts x ≡ true → P x) (of_sort : (a : Sort) (x : Part) → q a ≡ true → IsSort a x → P x) where
   module _ (a : Sort) (passes : q a ≡ true) (K : List Part → Type 0) (rest : (xs : List Part) → K xs → AllByRecursion P xs) where
@@ -64,6 +65,7 @@ module _ (P : Part → Type 0) (t : List Terminal → Bool) (q : Sort → Bool) 
       let u = and_parts (t ts) _ v.1 in
       listed_all a v.0 (Fits IsSort r) (every_part r u.1) ts last u.0 xs h
   every_part (s.each a r) b xs h = let v = and_parts (q a) _ b in several_all a v.0 (Fits IsSort r) (every_part r v.1) xs h
+  every_part (s.times group r) b xs h = no_such b
 
 -- ---- parts inside a line
 
@@ -75,6 +77,10 @@ ends_line _ = false
 abbrev pub inner_kind : Kind → Bool
 inner_kind k.File = false
 inner_kind k.Line = false
+inner_kind k.Def = false
+inner_kind k.IfStmt = false
+inner_kind k.ForStmt = false
+inner_kind k.Suite = false
 inner_kind _ = true
 
 -- neither a line's newline nor the end, and no line
@@ -90,10 +96,6 @@ abbrev pub inner_tokens : List Terminal → Bool
 inner_tokens [] = true
 inner_tokens (x ∷ xs) = inner_terminal x && inner_tokens xs
 
-abbrev pub inner_sort : Sort → Bool
-inner_sort s.line = false
-inner_sort _ = true
-
 terminal_inner : (x : Terminal) (l : Leaf) → inner_terminal x ≡ true → is_terminal x l ≡ true → not (ends_line l.class) ≡ true
 terminal_inner (s.any class) l h i = ap (λ z. not (ends_line z)) (same_class l.class class i) ∙ h
 terminal_inner (s.this class token) l h i = ap (λ z. not (ends_line z)) (same_class l.class class (and_parts _ _ i).0) ∙ h
@@ -108,22 +110,19 @@ pub token_inner : (ts : List Terminal) (x : Part) → inner_tokens ts ≡ true �
 token_inner ts (p.Leaf l) h i = tokens_inner ts l h i
 token_inner ts (Node' kind z r) h i = no_such i
 
-not_file : (a : Sort) → has_kind a k.File ≡ false
-not_file (s.level n) = refl
-not_file _ = refl
-
-not_line : (a : Sort) → inner_sort a ≡ true → has_kind a k.Line ≡ false
-not_line s.line h = no_such h
-not_line (s.level n) h = refl
-not_line _ h = refl
-
 sort_kind : (a : Sort) (kind : Kind) → inner_sort a ≡ true → has_kind a kind ≡ true → inner_kind kind ≡ true
 sort_kind a k.File h i = no_such (sym (not_file a) ∙ i)
-sort_kind a k.Line h i = no_such (sym (not_line a h) ∙ i)
+sort_kind a k.Line h i = no_such (sym (not_lines a k.Line refl h) ∙ i)
+sort_kind a k.Def h i = no_such (sym (not_lines a k.Def refl h) ∙ i)
+sort_kind a k.IfStmt h i = no_such (sym (not_lines a k.IfStmt refl h) ∙ i)
+sort_kind a k.ForStmt h i = no_such (sym (not_lines a k.ForStmt refl h) ∙ i)
+sort_kind a k.Suite h i = no_such (sym (not_lines a k.Suite refl h) ∙ i)
 sort_kind a _ h i = refl
 
 leaves_inner : (a : Sort) → inner_sort a ≡ true → inner_tokens (leaves_at a) ≡ true
 leaves_inner s.line h = no_such h
+leaves_inner s.stmt h = no_such h
+leaves_inner s.suite h = no_such h
 leaves_inner _ h = refl
 
 pub sort_inner : (a : Sort) (x : Part) → inner_sort a ≡ true → IsSort a x → is_inner x ≡ true
@@ -133,6 +132,10 @@ sort_inner a (Node' kind z r) h i = sort_kind a kind h i
 kind_inner : (kind : Kind) → inner_kind kind ≡ true → every inner_tokens inner_sort (shape kind) ≡ true
 kind_inner k.File h = no_such h
 kind_inner k.Line h = no_such h
+kind_inner k.Def h = no_such h
+kind_inner k.IfStmt h = no_such h
+kind_inner k.ForStmt h = no_such h
+kind_inner k.Suite h = no_such h
 kind_inner _ h = refl
 
 -- so are all parts of a node inside a line
@@ -207,6 +210,10 @@ token_goes ts (Node' kind z r) h i = no_such i
 
 kind_goes : (kind : Kind) (here : Spot) → inner_kind kind ≡ true → behind_node kind here ≡ onward here
 kind_goes k.Line here h = no_such h
+kind_goes k.Def here h = no_such h
+kind_goes k.IfStmt here h = no_such h
+kind_goes k.ForStmt here h = no_such h
+kind_goes k.Suite here h = no_such h
 kind_goes _ here h = refl
 
 leaves_plain : (a : Sort) → plain_tokens (leaves_at a) ≡ true
@@ -271,8 +278,11 @@ sort_unsigned a l i = leaf_unsigned (leaves_at a) l (leaves_unsigned a) i
 
 -- ---- statements
 
-pub small_statement : (kind : Kind) → has_kind s.small kind ≡ true → is_statement kind ≡ true
-small_statement k.Bare h = refl
-small_statement k.Assign h = refl
-small_statement k.Load h = refl
-small_statement _ h = no_such h
+-- (the other kinds of such a sort are none of BUILD files)
+pub small_statement : (kind : Kind) (xs : List Part) → Fits IsSort (shape kind) xs → has_kind s.small kind ≡ true → is_statement kind ≡ true
+small_statement k.Bare xs f h = refl
+small_statement k.Assign xs f h = refl
+small_statement k.Load xs f h = refl
+small_statement k.Return xs f h = absurd f
+small_statement k.Flow xs f h = absurd f
+small_statement _ xs f h = no_such h

@@ -22,6 +22,7 @@ use Rattle.bz_tree.specs.Legal.{IsSort, LegalPart, Legal}
 use Rattle.bz_tree.specs.Spots.{Spot, Begins, onward, behind_part, behind_node, Stands, AtLeaves, AtParts, TokenStands, AreTokens}
 use Rattle.bz_tree.proofs.Balance.{no_such, parts_of_row}
 use Rattle.bz_tree.proofs.Numbers.{same_kind}
+use Rattle.bz_tree.proofs.Trees.{parts_legal}
 use Rattle.bz_value.specs.declared.value.Item.{Item}
 use Rattle.bz_value.specs.Comments.{HostComments}
 use Rattle.bz_value.specs.Frames.{Frame, row, sequence, frame, is_statement}
@@ -51,15 +52,15 @@ node_statement : (kind : Kind) (ss : List Seen) (cs : HostComments) (f : Frame) 
 node_statement kind ss cs row = refl
 node_statement kind ss cs (sequence opener closer) = refl
 
-statement_made : (x : Part) (cs : HostComments) → IsSort s.small x → has_statement_kind ((seen x).make cs false) ≡ true
-statement_made (p.Leaf l) cs h = no_such h
-statement_made (Node' kind n r) cs h = node_statement kind (seen_row r) cs (frame kind) ∙ small_statement kind h
+statement_made : (x : Part) (cs : HostComments) → IsSort s.small x → LegalPart x → has_statement_kind ((seen x).make cs false) ≡ true
+statement_made (p.Leaf l) cs h legal = no_such h
+statement_made (Node' kind n r) cs h legal = node_statement kind (seen_row r) cs (frame kind) ∙ small_statement kind (items-the_row-Part _ r) legal.0 h
 
-statement_proper : (here : Spot) (x : Part) (above : List Bytes) (suffix : Option Bytes) → onward here ≡ onward Begins → IsSort s.small x → Ready x → Told (seen x) → AtLeaves Stands here x → Group above → MaybeComment suffix →
+statement_proper : (here : Spot) (x : Part) (above : List Bytes) (suffix : Option Bytes) → onward here ≡ onward Begins → IsSort s.small x → LegalPart x → Ready x → Told (seen x) → AtLeaves Stands here x → Group above → MaybeComment suffix →
     IsProperItem (statement above suffix (seen x))
-statement_proper here x above suffix e h g t at_ a m =
+statement_proper here x above suffix e h legal g t at_ a m =
     let cs : HostComments = record { before = above ++ (seen x).loose; suffix = suffix } in (
-      statement_made x cs h,
+      statement_made x cs h legal,
       moved_expr ((seen x).make cs false) here Begins e (g (sort_inner s.small x refl h) here at_ cs false),
       subst AreComments (sym (comments_made x cs false)) (All-from_recursion IsComment (above ++ (seen x).loose) (all_joined IsComment above (seen x).loose a t.loose), m),
     )
@@ -68,18 +69,18 @@ abbrev EndsLine : List Part → Type 0
 EndsLine xs = Fits IsSort (tok s.newline done) xs
 
 -- the statements of a line, from one on that stands here
-statements_proper : (outer here : Spot) (above : List Bytes) (xs : List Part) → onward here ≡ onward Begins → Listed (IsSort s.small) s.semicolon true EndsLine xs → AllByRecursion Ready xs → AllTold (map seen xs) → AtParts Stands outer here xs → Group above →
+statements_proper : (outer here : Spot) (above : List Bytes) (xs : List Part) → onward here ≡ onward Begins → Listed (IsSort s.small) s.semicolon true EndsLine xs → AllByRecursion LegalPart xs → AllByRecursion Ready xs → AllTold (map seen xs) → AtParts Stands outer here xs → Group above →
     AreProper (statements_in above (map seen xs))
-statements_proper outer here above [] e h g t at_ a = tt
-statements_proper outer here above (x ∷ []) e h g t at_ a = tt
-statements_proper outer here above (x ∷ y ∷ []) e h g t at_ a = (statement_proper here x above (suffix_in (seen y).gap) e h.0 g.0 t.0 at_.0 a (suffix_fine (seen y).gap t.1.0.coded), tt)
-statements_proper outer here above (x ∷ y ∷ z ∷ []) e h g t at_ a = (statement_proper here x above (suffix_in (seen z).gap) e h.0 g.0 t.0 at_.0 a (suffix_fine (seen z).gap t.1.1.0.coded), tt)
-statements_proper outer here above (x ∷ y ∷ z ∷ u ∷ xs) e (h, inl j) g t at_ a = absurd j.1
-statements_proper outer here above (x ∷ y ∷ z ∷ u ∷ xs) e (h, inr (m, inr j)) g t at_ a = absurd j.1.1
-statements_proper outer here above (x ∷ y ∷ z ∷ u ∷ xs) e (h, inr (m, inl j)) g t at_ a =
+statements_proper outer here above [] e h legal g t at_ a = tt
+statements_proper outer here above (x ∷ []) e h legal g t at_ a = tt
+statements_proper outer here above (x ∷ y ∷ []) e h legal g t at_ a = (statement_proper here x above (suffix_in (seen y).gap) e h.0 legal.0 g.0 t.0 at_.0 a (suffix_fine (seen y).gap t.1.0.coded), tt)
+statements_proper outer here above (x ∷ y ∷ z ∷ []) e h legal g t at_ a = (statement_proper here x above (suffix_in (seen z).gap) e h.0 legal.0 g.0 t.0 at_.0 a (suffix_fine (seen z).gap t.1.1.0.coded), tt)
+statements_proper outer here above (x ∷ y ∷ z ∷ u ∷ xs) e (h, inl j) legal g t at_ a = absurd j.1
+statements_proper outer here above (x ∷ y ∷ z ∷ u ∷ xs) e (h, inr (m, inr j)) legal g t at_ a = absurd j.1.1
+statements_proper outer here above (x ∷ y ∷ z ∷ u ∷ xs) e (h, inr (m, inl j)) legal g t at_ a =
     let there : behind_part outer (behind_part outer here x) y ≡ onward here = token_goes s.semicolon y refl m outer (behind_part outer here x) ∙ (ap onward (sort_goes s.small x refl h outer here) ∙ on_twice here) in (
-      statement_proper here x above None e h g.0 t.0 at_.0 a tt,
-      statements_proper outer (onward here) [] (z ∷ u ∷ xs) (on_twice here ∙ e) j g.1.1 t.1.1 (subst (λ q. AtParts Stands outer q (z ∷ u ∷ xs)) there at_.1.1) tt,
+      statement_proper here x above None e h legal.0 g.0 t.0 at_.0 a tt,
+      statements_proper outer (onward here) [] (z ∷ u ∷ xs) (on_twice here ∙ e) j legal.1.1 g.1.1 t.1.1 (subst (λ q. AtParts Stands outer q (z ∷ u ∷ xs)) there at_.1.1) tt,
     )
 
 -- ---- lines
@@ -89,12 +90,12 @@ last_told [] h = IsUtf8-nil
 last_told (x ∷ []) h = h.0.coded
 last_told (x ∷ y ∷ ss) h = last_told (y ∷ ss) h.1
 
-line_proper : (lines : List GapLine) (xs : List Part) → AreFine lines → Fits IsSort (shape k.Line) xs → AllByRecursion Ready xs → AllTold (map seen xs) → AtParts Stands Begins Begins xs → AreProper (line_items lines (map seen xs))
-line_proper lines xs f h g t at_ =
+line_proper : (lines : List GapLine) (xs : List Part) → AreFine lines → Fits IsSort (shape k.Line) xs → AllByRecursion LegalPart xs → AllByRecursion Ready xs → AllTold (map seen xs) → AtParts Stands Begins Begins xs → AreProper (line_items lines (map seen xs))
+line_proper lines xs f h legal g t at_ =
     let groups : Groups (groups_of lines) = groups_fine lines f in
     all_joined IsProperItem (blocks (all_but_last (groups_of lines))) (statements_in (last_group (groups_of lines)) (map seen xs))
     (blocks_proper (all_but_last (groups_of lines)) (groups_front (groups_of lines) groups))
-    (statements_proper Begins Begins (last_group (groups_of lines)) xs refl h g t at_ (groups_last (groups_of lines) groups))
+    (statements_proper Begins Begins (last_group (groups_of lines)) xs refl h legal g t at_ (groups_last (groups_of lines) groups))
 
 -- ---- the file
 
@@ -127,7 +128,7 @@ lines_proper left (Node' kind n r ∷ xs) f (inr h) g l c at_ =
     let last : AreFine (behind_first (lines_of (last_gap (seen_row r)))) = fine_behind (lines_of (last_gap (seen_row r))) (fine_lines (last_gap (seen_row r)) (last_told (seen_row r) row)) in
     let there : AtParts Stands Begins Begins xs = subst (λ kd. AtParts Stands Begins (behind_node kd Begins) xs) e at_.1 in
     all_joined IsProperItem (line_items lines (seen_row r)) (file_items (behind_first (lines_of (last_gap (seen_row r)))) xs)
-    (subst (λ ss. AreProper (line_items lines ss)) (sym rows) (line_proper lines ys fine fits (row_ready _ r g.0.1 v.0 w.0) told (parts_of_row Stands Begins Begins _ r at_.0)))
+    (subst (λ ss. AreProper (line_items lines ss)) (sym rows) (line_proper lines ys fine fits (parts_legal _ r g.0.1) (row_ready _ r g.0.1 v.0 w.0) told (parts_of_row Stands Begins Begins _ r at_.0)))
     (lines_proper (behind_first (lines_of (last_gap (seen_row r)))) xs last h.1 g.1 v.1 w.1 there)
 
 -- ---- the leaves

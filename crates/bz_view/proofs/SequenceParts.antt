@@ -19,7 +19,8 @@ use Rattle.bz_value.proofs.FormParts.{AreHead, AreItems}
 use Rattle.bz_value.proofs.GapComments.{Group, all_joined, suffix_fine, others_fine, all_fine}
 use Rattle.bz_value.proofs.Rooted.{Same, over, more, places}
 use Rattle.bz_view.specs.View.{Seen, seen, plain, items_in}
-use Rattle.bz_view.proofs.InnerParts.{inner_sort, GoesOn, token_goes, sort_goes, token_opens}
+use Rattle.bz_tree.proofs.Balance.{inner_sort}
+use Rattle.bz_view.proofs.InnerParts.{GoesOn, token_goes, sort_goes, token_opens}
 use Rattle.bz_view.proofs.SeenParts.{Told, AllTold, comments_made, no_break_made, root_made}
 use Rattle.bz_view.proofs.RowParts.{AllFit}
 

@@ -69,7 +69,7 @@ fn form_of(alloc: Global, node: &Node, loose: &mut Items<Text>) -> Result<Form, 
 
 /// All parts of a row, with the breaks of its operators where it has some.
 #[cycle(seen)]
-fn row_of(
+pub fn row_of(
     alloc: Global,
     parts: &[Part],
     binary: bool,
@@ -96,7 +96,7 @@ fn row_of(
 
 /// The parts before the opening bracket of a sequence. What is loose in them and in the bracket is appended to `loose`.
 #[cycle(seen)]
-fn head_of(
+pub fn head_of(
     alloc: Global,
     parts: &[Part],
     lead: usize,
@@ -136,7 +136,7 @@ fn push_loose(alloc: Global, part: &Part, loose: &mut Items<Text>) -> Result<(),
 
 /// The sequence whose items stand from this index on, behind the opening bracket.
 #[cycle(seen)]
-fn seq_of(alloc: Global, parts: &[Part], from: usize) -> Result<Seq, Memory>
+pub fn seq_of(alloc: Global, parts: &[Part], from: usize) -> Result<Seq, Memory>
     requires { from ≤ 2 }
     ensures { IfOk result (λ seq. seq ≡ seq_in (map seen (drop from parts.now))) }
 {

@@ -6,7 +6,12 @@ mod expr;
 mod groups;
 mod laws;
 mod marks;
+mod taken;
 mod viewing;
 
+pub use before::{gap_at, gap_before, gap_of_last};
+pub use expr::{head_of, row_of, seq_of};
+pub use groups::push_groups;
 pub use laws::{comments_kept, views_are_proper, worked_views};
-pub use viewing::view;
+pub use taken::into_view;
+pub use viewing::{push_statements, view};

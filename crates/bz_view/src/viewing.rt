@@ -40,7 +40,7 @@ fn items_of(alloc: Global, lines: &[Part]) -> Result<Items<Item>, Memory>
 
 /// Appends the items of a line, or those of the end, where `left` is what the gap of the Newline before says behind its
 /// first line. Returns the same of the line's own Newline.
-fn push_line<'a>(
+pub fn push_line<'a>(
     alloc: Global,
     left: &[u8],
     line: &'a Part,
@@ -63,7 +63,7 @@ fn push_line<'a>(
 }
 
 /// Appends the statements of a line, the first with these comments above it.
-fn push_statements(
+pub fn push_statements(
     alloc: Global,
     parts: &[Part],
     above: Items<Text>,

@@ -194,4 +194,8 @@ no_line r t e (x ∷ xs) h i = last_ends x xs (links any_two line_last r None x 
 pub within_line : (kind : Kind) (xs : List Part) → Fits IsSort (shape kind) xs → InLine xs → in_a_line kind ≡ true
 within_line k.File xs h i = absurd (no_line (shape k.File) refl (some_part k.File) xs h i)
 within_line k.Line xs h i = absurd (no_line (shape k.Line) refl (some_part k.Line) xs h i)
+within_line k.Def xs h i = absurd h
+within_line k.IfStmt xs h i = absurd h
+within_line k.ForStmt xs h i = absurd h
+within_line k.Suite xs h i = absurd h
 within_line _ xs h i = refl

@@ -8,7 +8,7 @@ use Rattle.bz_tree.specs.declared.kind.Kind.{Kind}
 use Rattle.bz_tree.specs.declared.tree.Part.{Part}
 use Rattle.bz_tree.specs.declared.tree.Part.TheVariants as p
 use Rattle.bz_tree.specs.Shapes as s
-use Rattle.bz_tree.specs.Shapes.{Sort, Terminal, Shape, Fits, Listed, Several, has_sort, has_token, is_one_of, is_terminal, leaves_at, shape}
+use Rattle.bz_tree.specs.Shapes.{Sort, Terminal, Shape, Fits, Listed, Several, Times, no_more, once_more, has_sort, has_token, is_one_of, is_terminal, leaves_at, shape}
 use Rattle.bz_tree.specs.Legal.{IsSort}
 use Rattle.bz_value.specs.declared.value.Expr.{Expr, Token, Form', Row_of-Expr, end_of-Expr, more_of-Expr}
 use Rattle.bz_value.specs.Characters.{comma}
@@ -58,6 +58,20 @@ module _ (a : Sort) (K : List Part → Type 0) (keep : Kept K) where
   same_several (x ∷ xs) (y ∷ ys) e (inl h) = inl (keep (x ∷ xs) (y ∷ ys) e h)
   same_several (x ∷ xs) (y ∷ ys) e (inr h) = inr (sym (e.0.sort a) ∙ h.0, same_several xs ys e.1 h.1)
 
+-- the same row, cut where the other is
+cut_same : (front back ys : List Part) → AllSame (front ++ back) ys → (f : List Part) × (b : List Part) × (ys ≡ f ++ b) × AllSame front f × AllSame back b
+cut_same [] back ys e = ([], ys, refl, tt, e)
+cut_same (x ∷ front) back [] e = absurd e
+cut_same (x ∷ front) back (y ∷ ys) e =
+    let c = cut_same front back ys e.1 in
+    (y ∷ c.0, c.1, ap (λ us. y ∷ us) c.2, (e.0, c.3), c.4)
+
+same_times : (F K : List Part → Type 0) → Kept F → Kept K → Kept (Times F K)
+same_times F K f k xs ys e (no_more h) = no_more (k xs ys e h)
+same_times F K f k xs ys e (once_more front back i h m) =
+    let c = cut_same front back ys (subst (λ us. AllSame us ys) i e) in
+    once_more c.0 c.1 c.2 (f front c.0 c.3 h) (same_times F K f k back c.1 c.4 m)
+
 pub same_fits : (r : Shape) → Kept (Fits IsSort r)
 same_fits s.none xs ys e h = absurd h
 same_fits s.done [] [] e h = tt
@@ -73,6 +87,7 @@ same_fits (s.alt r r') xs ys e (inl h) = inl (same_fits r xs ys e h)
 same_fits (s.alt r r') xs ys e (inr h) = inr (same_fits r' xs ys e h)
 same_fits (s.list a ts last r) xs ys e h = same_listed a (Fits IsSort r) (λ us vs i g. same_fits r us vs i g) ts last xs ys e h
 same_fits (s.each a r) xs ys e h = same_several a (Fits IsSort r) (λ us vs i g. same_fits r us vs i g) xs ys e h
+same_fits (s.times group r) xs ys e h = same_times (Fits IsSort group) (Fits IsSort r) (λ us vs i g. same_fits group us vs i g) (λ us vs i g. same_fits r us vs i g) xs ys e h
 
 terminal_sees : (t : Terminal) (class : Class) (gap gap' text : Bytes) → is_terminal t (record { class = class; gap = gap; token = text }) ≡ is_terminal t (record { class = class; gap = gap'; token = text })
 terminal_sees (s.any d) class gap gap' text = refl

@@ -49,6 +49,7 @@ needs_part (s.sub sort then_) = true
 needs_part (s.alt left right) = needs_part left && needs_part right
 needs_part (s.list sort separators last then_) = true
 needs_part (s.each sort then_) = needs_part then_
+needs_part (s.times group then_) = false
 
 both_true : (a b : Bool) → (a && b) ≡ true → (a ≡ true) × (b ≡ true)
 both_true true true e = (refl, refl)
@@ -65,6 +66,7 @@ has_part (s.alt left right) [] n (inl h) = has_part left [] (both_true _ _ n).0 
 has_part (s.alt left right) [] n (inr h) = has_part right [] (both_true _ _ n).1 h
 has_part (s.list sort separators last then_) [] n h = absurd h
 has_part (s.each sort then_) [] n h = has_part then_ [] n h
+has_part (s.times group then_) [] n h = absurd (true≢false (sym n))
 
 each_needs_part : (kind : Kind) → needs_part (shape kind) ≡ true
 each_needs_part k.File = refl
@@ -167,6 +169,7 @@ lacks o (s.sub sort then_) = lacks o then_
 lacks o (s.alt left right) = lacks o left && lacks o right
 lacks o (s.list sort separators last then_) = lacks_mark o separators && lacks o then_
 lacks o (s.each sort then_) = lacks o then_
+lacks o (s.times group then_) = false
 
 no_token : (b : Bool) → not b ≡ true → b ≡ true → ⊥
 no_token true e h = true≢false (sym e)
@@ -215,6 +218,7 @@ module _ (o : ℕ) (ys : List Part) where
   fits_free (s.alt left right) n xs (inr h) = fits_free right (both_true _ _ n).1 xs h
   fits_free (s.list sort separators last then_) n xs h = listed_free sort separators last (Fits IsSort then_) (both_true _ _ n).0 (fits_free then_ (both_true _ _ n).1) xs h
   fits_free (s.each sort then_) n xs h = several_free sort (Fits IsSort then_) (fits_free then_ n) xs h
+  fits_free (s.times group then_) n xs h = true≢false (sym n)
 
   -- the bracket comes first
   none_before : (terminals : List Terminal) (then_ : Shape) → lacks o then_ ≡ true → (xs : List Part) → Fits IsSort (s.tok terminals then_) (xs ++ (mark o ∷ ys)) → length xs ≡ 0

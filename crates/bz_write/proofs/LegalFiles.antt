@@ -102,6 +102,10 @@ statement_sort _ h = no_such h
 
 statement_behind : (kind : Kind) → is_statement kind ≡ true → behind_node kind Begins ≡ Along
 statement_behind k.Line h = no_such h
+statement_behind k.Def h = no_such h
+statement_behind k.IfStmt h = no_such h
+statement_behind k.ForStmt h = no_such h
+statement_behind k.Suite h = no_such h
 statement_behind _ h = refl
 
 is_small : (x : Expr) → has_statement_kind x ≡ true → (gap : Bytes) → IsSort s.small (part_of x gap 0)

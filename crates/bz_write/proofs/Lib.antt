@@ -27,6 +27,7 @@ pub mod Made
 pub mod ReadBack
 pub mod Readable
 pub mod Spelled
+pub mod TakenItems
 pub mod Viewed
 pub mod ViewedItems
 pub mod Waiting

@@ -135,7 +135,7 @@ sequence_parts f b gap m h =
 
 -- ---- lines
 
-lines_first : (gap : Bytes) (x : Item) (xs : List Item) → lines_from gap (x ∷ xs) ≡ own_lines gap x ++ lines_from (left_gap gap x ++ before_next x xs) xs
+pub lines_first : (gap : Bytes) (x : Item) (xs : List Item) → lines_from gap (x ∷ xs) ≡ own_lines gap x ++ lines_from (left_gap gap x ++ before_next x xs) xs
 lines_first gap (i.Block texts) xs = refl
 lines_first gap (i.Stmt x) xs = refl
 

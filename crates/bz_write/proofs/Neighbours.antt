@@ -39,6 +39,7 @@ module _ (ok : Element → Element → Bool) (last_ok : Element → Bool) where
   passes before (s.alt r r') = passes before r && passes before r'
   passes before (s.list a ts last r) = after_ok before (S a) && (ok (S a) (T ts) && (ok (T ts) (S a) && (passes (Some (S a)) r && (not last || passes (Some (T ts)) r))))
   passes before (s.each a r) = passes before r && (after_ok before (S a) && (ok (S a) (S a) && passes (Some (S a)) r))
+  passes before (s.times group r) = false
 
   abbrev pub Pair : Part → Part → Type 0
   Pair x y = (a b : Element) × Is a x × Is b y × (ok a b ≡ true)
@@ -112,6 +113,7 @@ module _ (ok : Element → Element → Bool) (last_ok : Element → Bool) where
       let w1 = and_parts (after_ok before (S a)) _ w.1 in
       let w2 = and_parts (ok (S a) (S a)) _ w1.1 in
       several_links a (Fits IsSort r) (λ y ys i k. links r (Some (S a)) y i w2.1 ys k) w2.0 before x g w1.0 (λ ys k. links r before x g w.0 ys k) xs h
+  links (s.times group r) before x g p xs h = absurd (both_ways false refl p)
 
 abbrev pub all_in : (Terminal → Bool) → List Terminal → Bool
 all_in p [] = true
@@ -185,6 +187,10 @@ finals kind (S a) = not (is_primary_kind kind)
 abbrev pub in_a_line : Kind → Bool
 in_a_line k.File = false
 in_a_line k.Line = false
+in_a_line k.Def = false
+in_a_line k.IfStmt = false
+in_a_line k.ForStmt = false
+in_a_line k.Suite = false
 in_a_line _ = true
 
 -- So it is in each row of the table.

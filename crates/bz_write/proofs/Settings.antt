@@ -30,12 +30,14 @@ past_depth xs short deep =
     let depth : depth_of (drawn xs) ≡ suc (depth_items xs) = drawn_depth xs in
     (short, omega (arith, depth, deeper))
 
-pub legal_file : (xs : List Item) (parts : List Part) → IsProper xs → parts ≡ lines_from [] xs → length (layout xs) ≤ limit → depth_items xs ≤ depth_limit - 1 →
+pub within_depth : (xs : List Item) → depth_items xs ≤ depth_limit - 1 → depth_of (drawn xs) ≤ depth_limit
+within_depth xs shallow = let depth : depth_of (drawn xs) ≡ suc (depth_items xs) = drawn_depth xs in omega (arith, depth, shallow)
+
+pub legal_file : (xs : List Item) (parts : List Part) → IsProper xs → parts ≡ lines_from [] xs → length (layout xs) ≤ limit → depth_of (drawn xs) ≤ depth_limit →
     Legal (file_of parts) × (length (spell_node (file_of parts)) ≤ limit)
 legal_file xs parts h e short shallow =
-    let depth : depth_of (drawn xs) ≡ suc (depth_items xs) = drawn_depth xs in
     let there : Legal (drawn xs) × (length (spell_node (drawn xs)) ≤ limit) =
-    (drawn_legal xs h (omega (arith, depth, shallow)), subst (λ (t : List _). length t ≤ limit) (sym (drawn_spelled xs h)) short) in
+    (drawn_legal xs h shallow, subst (λ (t : List _). length t ≤ limit) (sym (drawn_spelled xs h)) short) in
     subst (λ (ps : List Part). Legal (file_of ps) × (length (spell_node (file_of ps)) ≤ limit)) (sym e) there
 
 pub text_of_file : (xs : List Item) (parts : List Part) → IsProper xs → parts ≡ lines_from [] xs → spell_node (file_of parts) ≡ layout xs

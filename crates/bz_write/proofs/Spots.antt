@@ -42,6 +42,10 @@ row_in_line binary outer here m (more_of-Expr x rest) h = (root_in_line here x h
 brackets_in_line : (kind : Kind) → has_brackets (frame kind) ≡ true → in_a_line kind ≡ true
 brackets_in_line k.File h = no_such h
 brackets_in_line k.Line h = no_such h
+brackets_in_line k.Def h = no_such h
+brackets_in_line k.IfStmt h = no_such h
+brackets_in_line k.ForStmt h = no_such h
+brackets_in_line k.Suite h = no_such h
 brackets_in_line _ h = refl
 
 -- what a proper form says of its row; of its head, its items and its end comments
@@ -86,6 +90,10 @@ token_goes_on _ text outer Along h = refl
 
 node_goes_on : (kind : Kind) (here : Spot) → in_a_line kind ≡ true → is_begins (behind_node kind here) ≡ false
 node_goes_on k.Line here h = no_such h
+node_goes_on k.Def here h = no_such h
+node_goes_on k.IfStmt here h = no_such h
+node_goes_on k.ForStmt here h = no_such h
+node_goes_on k.Suite here h = no_such h
 node_goes_on _ Within h = refl
 node_goes_on _ Begins h = refl
 node_goes_on _ Along h = refl
@@ -106,6 +114,10 @@ word_within _ text outer h = no_such h
 
 node_within : (kind : Kind) → in_a_line kind ≡ true → behind_node kind Within ≡ Within
 node_within k.Line h = no_such h
+node_within k.Def h = no_such h
+node_within k.IfStmt h = no_such h
+node_within k.ForStmt h = no_such h
+node_within k.Suite h = no_such h
 node_within _ h = refl
 
 within_by : (outer : Spot) (x : Expr) → NoLine x → is_value (root x) ≡ true → behind_expr outer Within x ≡ Within

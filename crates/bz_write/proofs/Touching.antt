@@ -21,6 +21,7 @@ use Rattle.bz_tree.specs.Shapes.{Sort, Terminal, Shape, Fits, shape, has_token, 
 use Rattle.bz_tree.specs.Legal.{IsSort, LegalPart, LegalRow}
 use Rattle.bz_tree.specs.Reading.{starts, starts_with}
 use Rattle.bz_tree.proofs.Levels.{begins}
+use Rattle.bz_tree.proofs.Build.{wide_part}
 use Rattle.bz_tree.proofs.Balance.{same_class, no_such}
 use Rattle.bz_write.specs.Spaces.{from_table, brackets_and_separators, lone, dotted, apart, is_number, is_number_leaf}
 use Rattle.bz_write.proofs.Neighbours.{Element, T, S, Is, Pair, Final, Links, links, all_in, fronts, prefixed, well, well_text, named, spaced, is_primary, safe, neighbours, is_primary_kind, no_number, finals, in_a_line, all_pass}
@@ -206,7 +207,7 @@ primary_plain _ x h i o = no_such h
 
 -- the first leaf of a part is one with which its sort begins
 first_leaf : (a : Sort) (y : Part) (l : Leaf) (ls : List Leaf) → leaves_part y ≡ l ∷ ls → IsSort a y → LegalPart y → is_one_of (starts a) l ≡ true
-first_leaf a y l ls e i g = subst (λ z. starts_with (starts a) (z ++ []) ≡ true) e (begins (depth_part y) a y [] (i, g, omega arith))
+first_leaf a y l ls e i g = subst (λ z. starts_with (starts a) (z ++ []) ≡ true) e (begins (depth_part y) a y [] (i, (wide_part y g).0, omega arith))
 
 well_front : (t l more rest : List ℕ) → in_table t fronts ≡ true → well_text l ≡ true → IsToken c.Mark t ((l ++ more) ++ rest)
 well_front t [] more rest h i = no_such i

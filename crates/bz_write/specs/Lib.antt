@@ -11,3 +11,4 @@ pub mod Sizes
 pub mod Pending
 pub mod Depths
 pub mod Writings
+pub mod Taken

@@ -7,6 +7,7 @@ ghost use Rattle.bz_write.specs.Drawn.{piece_part, part_of, parts_in, drawings, 
 use crate::brackets::brackets_of_kind;
 use crate::breaks::is_broken;
 use crate::gaps::{deeper, push_above, push_behind, push_ended, push_line};
+use crate::parts::room_for;
 use crate::row_gaps::{margin_behind, others, text_behind};
 use bz_items::{Items, Memory, Text};
 use bz_tree::{Class, Kind, Leaf, Node, Part};
@@ -55,7 +56,7 @@ pub fn draw(alloc: Global, expr: &Expr, gap: Text, margin: usize) -> Result<Part
 fn draw_form(alloc: Global, form: &Form, gap: Text, margin: usize) -> Result<Items<Part>, Memory>
     ensures { IfOk result (λ parts. parts ≡ parts_in form.now gap margin) }
 {
-    let mut parts = Items::new(alloc);
+    let mut parts = room_for(alloc, form)?;
     let Some(brackets) = brackets_of_kind(form.kind) else {
         draw_row(alloc, form, gap, margin, &mut parts)?;
         return Ok(parts);

@@ -50,7 +50,7 @@ pub fn is_apart(item: &Item, others: &[Item]) -> bool
 }
 
 /// Appends what stands between an item and those that follow.
-fn push_between(gap: &mut Vec<u8>, item: &Item, others: &[Item]) -> Result<(), Memory>
+pub fn push_between(gap: &mut Vec<u8>, item: &Item, others: &[Item]) -> Result<(), Memory>
     ensures { OnOk result (gap.new.items ≡ gap.old.items ++ before_next item.now others.now) }
 {
     if is_apart(item, others) {
@@ -69,21 +69,19 @@ fn draw_line(alloc: Global, expr: &Expr, gap: Vec<u8>) -> Result<Part, Memory>
     let statement = draw(alloc, expr, Text::from_vec(gap), 0)?;
     let mut behind = Vec::new(alloc);
     push_behind(&mut behind, comments.suffix())?;
-    let mut parts = Items::new(alloc);
-    parts.push(statement)?;
-    parts.push(Part::Leaf(Leaf {
+    let newline = Part::Leaf(Leaf {
         class: Class::Newline,
         gap: Text::from_vec(behind),
         token: Text::from_slice(alloc, b"\n")?,
-    }))?;
+    });
     Ok(Part::Node(Node {
         kind: Kind::Line,
-        parts,
+        parts: Items::from_vec(Vec::from_array(alloc, [statement, newline])?),
     }))
 }
 
 /// Appends the line of an item, and gives the gap that it leaves to what follows.
-fn draw_item(
+pub fn draw_item(
     alloc: Global,
     item: &Item,
     gap: Vec<u8>,
@@ -105,6 +103,17 @@ fn draw_item(
     }
 }
 
+/// The end of a file behind a gap.
+pub fn end_behind(alloc: Global, gap: Vec<u8>) -> Part
+    ensures { result ∷ [] ≡ lines_from gap.items [] }
+{
+    Part::Leaf(Leaf {
+        class: Class::End,
+        gap: Text::from_vec(gap),
+        token: nothing(alloc),
+    })
+}
+
 /// The lines of a file's items, and its end. The error: a growth was refused.
 #[tactic(auto, using(crate::proofs::Loops::lines_next))]
 pub fn draw_lines(alloc: Global, items: &[Item]) -> Result<Items<Part>, Memory>
@@ -116,10 +125,6 @@ pub fn draw_lines(alloc: Global, items: &[Item]) -> Result<Items<Part>, Memory>
         gap = draw_item(alloc, item, gap, &mut parts)?;
         push_between(&mut gap, item, &items[i + 1..])?;
     }
-    parts.push(Part::Leaf(Leaf {
-        class: Class::End,
-        gap: Text::from_vec(gap),
-        token: nothing(alloc),
-    }))?;
+    parts.push(end_behind(alloc, gap))?;
     Ok(parts)
 }

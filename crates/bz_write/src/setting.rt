@@ -8,7 +8,7 @@ ghost use Rattle.bz_write.specs.Flags.{flags};
 use crate::limits::{are_items_within, is_layout_within};
 use crate::lines::draw_lines;
 use bz_tree::{DEPTH_LIMIT, Kind, LENGTH_LIMIT, Node, Tree};
-use bz_value::File;
+use bz_value::{File, Item};
 use std::alloc::{AllocError, Global};
 use thiserror::Error;
 
@@ -37,6 +37,24 @@ impl From<AllocError> for SetFault {
     }
 }
 
+/// Whether the layout of the items and its tree are within the limits; neither is made for it. Errors: `TooLarge` and `TooDeep`
+/// as of `set`; `Memory`: a growth was refused.
+pub fn fits(alloc: Global, items: &[Item]) -> Result<(), SetFault>
+    ensures short { IfOk result (λ _. length (layout items.now) ≤ limit) }
+    ensures shallow { IfOk result (λ _. depth_of (drawn items.now) ≤ depth_limit) }
+    ensures too_large { result ≡ Err SetFault.TooLarge → limit < length (layout items.now) }
+    ensures too_deep { result ≡ Err SetFault.TooDeep → (length (layout items.now) ≤ limit) × (depth_limit < depth_of (drawn items.now)) }
+{
+    let short = is_layout_within(alloc, items, LENGTH_LIMIT)?;
+    if !short {
+        return Err(SetFault::TooLarge);
+    }
+    if !are_items_within(items, DEPTH_LIMIT as usize - 1) {
+        return Err(SetFault::TooDeep);
+    }
+    Ok(())
+}
+
 /// The tree whose spelling is the layout of the file value, and whose view is the value with its flags settled. Both limits
 /// are looked at on the value, before the tree is made. Errors: `TooLarge` exactly where the layout is past the limit of a
 /// text, else `TooDeep` exactly where the tree is past the limit of depth; `Memory`: a growth was refused.
@@ -48,13 +66,7 @@ pub fn set(alloc: Global, file: &File) -> Result<Tree, SetFault>
     ensures too_deep { result ≡ Err SetFault.TooDeep → (length (layout file.now) ≤ limit) × (depth_limit < depth_of (drawn file.now)) }
 {
     let items = file.items.as_slice();
-    let short = is_layout_within(alloc, items, LENGTH_LIMIT)?;
-    if !short {
-        return Err(SetFault::TooLarge);
-    }
-    if !are_items_within(items, DEPTH_LIMIT as usize - 1) {
-        return Err(SetFault::TooDeep);
-    }
+    fits(alloc, items)?;
     Ok(Tree {
         root: Node {
             kind: Kind::File,

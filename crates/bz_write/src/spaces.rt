@@ -14,11 +14,31 @@ fn is_lone_mark(mark: &[u8]) -> bool
     matches!(mark, b"(" | b")" | b"[" | b"]" | b"{" | b"}" | b"," | b":")
 }
 
+fn is_dot_mark(mark: &[u8]) -> bool
+    ensures { result ≡ spaces.dotted (shapes.this Class.Mark mark.now) }
+{
+    matches!(mark, b".")
+}
+
+/// Whether the mark of a row of the kind stands right before its operand.
+fn is_prefix_kind(kind: Kind) -> bool
+    ensures { result ≡ spaces.is_prefix_kind kind }
+{
+    matches!(kind, Kind::Unary | Kind::Star)
+}
+
+/// Whether one of three tests passes.
+fn is_any(first: bool, second: bool, third: bool) -> bool
+    ensures { result ≡ (first || (second || third)) }
+{
+    first || second || third
+}
+
 /// Whether the mark of a row of the kind has no space at either side.
 fn is_tight(kind: Kind, mark: &[u8]) -> bool
     ensures { result ≡ (spaces.lone (shapes.this Class.Mark mark.now) || (spaces.dotted (shapes.this Class.Mark mark.now) || spaces.is_prefix_kind kind)) }
 {
-    is_lone_mark(mark) || matches!(mark, b".") || matches!(kind, Kind::Unary | Kind::Star)
+    is_any(is_lone_mark(mark), is_dot_mark(mark), is_prefix_kind(kind))
 }
 
 /// Whether a space stands behind the expression.

@@ -1,0 +1,37 @@
+//! The view of a tree that is given up.
+ghost use Rattle.std.specs.Prelude.{◌≡◌, [], IfOk};
+ghost use Rattle.bz_value.specs.Counted.{times};
+ghost use Rattle.bz_value.specs.Gaps.{Bytes};
+ghost use Rattle.bz_view.specs.Kept.{occurrences};
+ghost use Rattle.bz_view.specs.View.{file_items, view_of};
+
+use crate::viewing::push_line;
+use bz_items::{Items, Memory, Text};
+use bz_tree::{Part, Tree};
+use bz_value::{File, Item};
+use std::alloc::Global;
+
+/// The file value that `view` makes, of a tree that is given up: each line of it is let go as soon as its items are made, so
+/// that the whole tree does not stand beside the whole value. The error: memory was refused.
+pub fn into_view(alloc: Global, tree: Tree) -> Result<File, Memory>
+    ensures value { IfOk result (λ file. file ≡ view_of tree) }
+    ensures comments { IfOk result (λ file. (text : Bytes) → times text file ≡ occurrences text tree) }
+{
+    let Tree { root } = tree;
+    Ok(File {
+        items: into_items(alloc, root.parts)?,
+    })
+}
+
+/// The items of the lines of a file and of its end, each of which is let go before the next one is looked at.
+fn into_items(alloc: Global, lines: Items<Part>) -> Result<Items<Item>, Memory>
+    ensures { IfOk result (λ items. items ≡ file_items [] lines) }
+{
+    let mut items = Items::new(alloc);
+    let mut left = Text::from_vec(Vec::new(alloc));
+    for line in lines.into_vec() {
+        let rest = push_line(alloc, left.as_slice(), &line, &mut items)?;
+        left = Text::from_slice(alloc, rest)?;
+    }
+    Ok(items)
+}

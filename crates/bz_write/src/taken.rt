@@ -1,0 +1,68 @@
+//! The tree of the layout of a value that is used up.
+ghost use Rattle.std.specs.Prelude.{◌≡◌, ◌≢◌, ◌<◌, ◌≤◌, ◌++◌, ◌∷◌, [], length, IfErr, IfOk, OnOk};
+ghost use Rattle.std.specs.Option.{option_copied};
+ghost use Rattle.bz_tree.specs.Spell.{spell_node, depth_of, limit, depth_limit};
+ghost use Rattle.bz_view.specs.View.{view_of};
+ghost use Rattle.bz_write.specs.Drawn.{drawn, lines_from};
+ghost use Rattle.bz_write.specs.Flags.{flags};
+ghost use Rattle.bz_write.specs.Taken.{before_item};
+ghost use Rattle.bz_write.specs.Written.{layout};
+
+use crate::lines::{draw_item, end_behind, push_between};
+use crate::setting::{SetFault, fits};
+use bz_items::{Items, Memory};
+use bz_tree::{Kind, Node, Part, Tree};
+use bz_value::{File, Item};
+use std::alloc::Global;
+use std::{mem, slice};
+
+/// The tree that `set` makes, of a file value that is used up: each item is let go when the next one is drawn, so that the
+/// whole value does not stand beside the whole tree. The value that is left is empty, but for an error that is told before
+/// anything is drawn: then it is what it was. Errors: `TooLarge` exactly where the layout is past the limit of a text, else
+/// `TooDeep` exactly where the tree is past the limit of depth; `Memory`: a growth was refused.
+pub fn set_from(alloc: Global, file: &mut File) -> Result<Tree, SetFault>
+    ensures drawn { IfOk result (λ tree. tree ≡ drawn file.old) }
+    ensures text { IfOk result (λ tree. spell_node tree ≡ layout file.old) }
+    ensures view { IfOk result (λ tree. view_of tree ≡ flags file.old) }
+    ensures too_large { result ≡ Err SetFault.TooLarge → limit < length (layout file.old) }
+    ensures too_deep { result ≡ Err SetFault.TooDeep → (length (layout file.old) ≤ limit) × (depth_limit < depth_of (drawn file.old)) }
+    ensures kept { IfErr result (λ fault. fault ≢ SetFault.Memory → file.new ≡ file.old) }
+    ensures left { IfOk result (λ _. file.new ≡ []) }
+{
+    fits(alloc, file.items.as_slice())?;
+    let items = mem::replace(&mut file.items, Items::new(alloc));
+    Ok(Tree {
+        root: Node {
+            kind: Kind::File,
+            parts: draw_each(alloc, items)?,
+        },
+    })
+}
+
+/// The lines of a file's items, and its end, as `draw_lines` draws them; each item is let go when the next one is drawn. The
+/// error: a growth was refused.
+#[tactic(auto, using(crate::proofs::TakenItems::lines_turn, crate::proofs::TakenItems::lines_end))]
+fn draw_each(alloc: Global, items: Items<Item>) -> Result<Items<Part>, Memory>
+    ensures { IfOk result (λ parts. parts ≡ lines_from [] items) }
+{
+    let mut parts = Items::new(alloc);
+    let mut gap = Vec::new(alloc);
+    let mut above = None;
+    for item in items.into_vec() {
+        push_before(&mut gap, above.as_ref(), &item)?;
+        gap = draw_item(alloc, &item, gap, &mut parts)?;
+        above = Some(item);
+    }
+    parts.push(end_behind(alloc, gap))?;
+    Ok(parts)
+}
+
+/// Appends what stands between an item and the one above it, if there is one.
+fn push_before(gap: &mut Vec<u8>, above: Option<&Item>, item: &Item) -> Result<(), Memory>
+    ensures { OnOk result (gap.new.items ≡ gap.old.items ++ before_item (option_copied above.entry) (item.now ∷ [])) }
+{
+    match above {
+        None => Ok(()),
+        Some(above) => push_between(gap, above, slice::from_ref(item)),
+    }
+}
