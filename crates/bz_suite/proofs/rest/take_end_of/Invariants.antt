@@ -1,0 +1,13 @@
+use Rattle.std.proofs.Common.{◌≡◌, ◌++◌, length}
+use Rattle.bz_value.specs.Indented.{indented}
+use Rattle.bz_suite.specs.View.{behind_end, end_comments}
+use Rattle.bz_suite.proofs.rest.take_end_of.Given as goal
+
+abbrev pub invariant-loop-first : goal.invariant-loop-first
+invariant-loop-first l = record {
+  end_ : l.end_ ++ end_comments l.margin (indented l.rest) ≡ l.fn.end_ ++ end_comments l.margin (indented l.gap);
+  rest : behind_end l.margin (indented l.rest) ≡ behind_end l.margin (indented l.gap);
+}
+
+abbrev pub decreases-loop-first : goal.decreases-loop-first
+decreases-loop-first l = length l.rest

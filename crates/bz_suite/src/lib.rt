@@ -1,0 +1,10 @@
+//! What a .bzl file says: its statements with their suites, without gaps, each comment at its host.
+#![tactic(auto)]
+
+mod headers;
+mod rest;
+mod value;
+mod viewing;
+
+pub use value::{Branch, BzlFile, BzlItem, Statement};
+pub use viewing::view_bzl;
