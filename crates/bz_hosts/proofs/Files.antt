@@ -22,7 +22,7 @@ use Rattle.bz_view.specs.View as v
 use Rattle.bz_view.specs.View.{Seen, seen, seen_row, first_gap, blocks, statement, statements_in, file_items, view_of}
 use Rattle.bz_view.proofs.SeenParts.{seen_rows, node_gap, comments_made}
 use Rattle.bz_view.proofs.QuietGaps.{Quiet, Statements, statements_quiet, row_legal}
-use Rattle.bz_hosts.specs.Hosts.{Region, Comment, comments_at, comments_from, Measured, sizes, measured, measured_row, hosts_from, in_line, regions_from, Place, outside, texts_at, Hosted, block, hosted_at, hosted_by, alone, with_group, gap_of, last_gap, hosted_from, inside_expr, inside_item}
+use Rattle.bz_hosts.specs.Hosts.{Region, Comment, comments_at, comments_from, Measured, sizes, measured, measured_row, hosts_from, in_line, regions_from, Place, outside, texts_at, Hosted, block, hosted_at, hosted_by, alone, with_group, hosted_in, inside_expr, inside_item}
 use Rattle.bz_hosts.specs.Laws.{HostsByPlace}
 use Rattle.bz_hosts.proofs.Around.{AllInside, all_wider, Sees, SeesAt, sees_behind, sees_before}
 use Rattle.bz_hosts.proofs.Gathered.{key, pick_other, GapPlaces, texts_joined, gap_all}
@@ -34,6 +34,7 @@ use Rattle.bz_hosts.proofs.Nodes.{row_regions, row_solid}
 use Rattle.bz_hosts.proofs.Claim.{row_in_host}
 use Rattle.bz_hosts.proofs.Sequences.{From}
 use Rattle.bz_hosts.proofs.Statements.{LineTexts, line_texts}
+use Rattle.bz_hosts.proofs.Walked.{gap_of, last_gap, walked, last_behind, LeafLast, by_number}
 
 -- ---- comment lines
 
@@ -59,11 +60,6 @@ group_above group (x ∷ y ∷ z ∷ []) = statement_group group _ x []
 group_above group (x ∷ y ∷ z ∷ u ∷ xs) = statement_group group None x (flat_map inside_item (statements_in [] (map seen (z ∷ u ∷ xs))))
 
 -- ---- the last gap of a line
-
-last_behind : (ls : List Leaf) (m : Leaf) (ms : List Leaf) → last_gap (ls ++ m ∷ ms) ≡ last_gap (m ∷ ms)
-last_behind [] m ms = refl
-last_behind (l ∷ []) m ms = refl
-last_behind (l ∷ l' ∷ ls) m ms = last_behind (l' ∷ ls) m ms
 
 last_further : (ks ls ms : List Leaf) (m : Leaf) → ms ≡ m ∷ ls → last_gap (ks ++ ms) ≡ last_gap ms
 last_further ks ls ms m e = rw e (last_behind ks m ls)
@@ -98,7 +94,7 @@ outside_none all m gap h q d = gap_all all q outside m gap h ∙ pick_other outs
 -- The comments of lines from the leaf n on.
 record FileTexts (all : List Region) (n up : ℕ) (xs : List Part) : Type 0 where
   outer : (q : Place) → 0 < key q → (From n up q → ⊥) → texts_at all q (in_parts n xs) ≡ []
-  found : (cs : List Comment) (left : List GapLine) → ((q : Place) → From n up q → texts_at all q cs ≡ texts_at all q (in_parts n xs)) → hosted_from all cs left n xs ≡ flat_map inside_item (file_items left xs)
+  found : (cs : List Comment) (left : List GapLine) → ((q : Place) → From n up q → texts_at all q cs ≡ texts_at all q (in_parts n xs)) → walked all cs left n xs ≡ flat_map inside_item (file_items left xs)
 
 -- the hosts of a line stand inside it
 record LineIn (x : Part) : Type 0 where
@@ -188,17 +184,17 @@ line_step all n up (Node' kind size_ r) xs is some u gap there rest e e' above_i
           let j0 = j.0 in
           let d : 0 < key q = omega arith in
           f q (j.0, omega (arith, j.1)) ∙ (told q d ∙ (ap (λ (z : List Bytes). texts_at all q mine ++ z) (rest.outer q d (λ i. omega (arith, i.0, j.1))) ∙ append-nil (texts_at all q mine)))) in
-          let after : hosted_from all cs next behind_it xs ≡ flat_map inside_item (file_items next xs) = rest.found cs next (λ q j.
+          let after : walked all cs next behind_it xs ≡ flat_map inside_item (file_items next xs) = rest.found cs next (λ q j.
           let j0 = j.0 in
           let d : 0 < key q = omega arith in
           f q (omega arith, j.1) ∙ (told q d ∙ ap (λ (z : List Bytes). z ++ texts_at all q behind) (there.outer q d (λ i. omega (arith, i.1, j.0))))) in
           let joined : (gap last : Bytes) (place : ℕ) → List Hosted = λ gap last place.
-          (alone (all_but_last (groups_of (left ++ lines_of gap))) ++ with_group (last_group (groups_of (left ++ lines_of gap))) (map (hosted_at all cs) (in_line n line))) ++ hosted_from all cs (behind_first (lines_of last)) place xs in
+          (alone (all_but_last (groups_of (left ++ lines_of gap))) ++ with_group (last_group (groups_of (left ++ lines_of gap))) (map (hosted_at all cs) (in_line n line))) ++ walked all cs (behind_first (lines_of last)) place xs in
           ap (λ (z : Bytes). joined z (last_gap (leaves_row r)) (n + length (leaves_row r))) e
           ∙ (ap (λ (z : Bytes). joined (first_gap seen_there) z (n + length (leaves_row r))) e'
           ∙ (ap (λ (z : ℕ). joined (first_gap seen_there) (v.last_gap seen_there) z) len
-          ∙ (ap (λ (z : List Hosted). (before ++ with_group group z) ++ hosted_from all cs next behind_it xs) hosts_there
-          ∙ (ap (λ (z : List Hosted). (before ++ z) ++ hosted_from all cs next behind_it xs) (above_it group)
+          ∙ (ap (λ (z : List Hosted). (before ++ with_group group z) ++ walked all cs next behind_it xs) hosts_there
+          ∙ (ap (λ (z : List Hosted). (before ++ z) ++ walked all cs next behind_it xs) (above_it group)
           ∙ (ap (λ (z : List Hosted). (before ++ flat_map inside_item (statements_in group seen_there)) ++ z) after
           ∙ (ap (λ (z : List Hosted). (z ++ flat_map inside_item (statements_in group seen_there)) ++ flat_map inside_item (file_items next xs)) (sym (blocks_alone (all_but_last (groups_of lines))))
           ∙ (ap (λ (z : List Hosted). z ++ flat_map inside_item (file_items next xs)) (sym (flat_map-append inside_item (blocks (all_but_last (groups_of lines))) (statements_in group seen_there)))
@@ -245,9 +241,21 @@ all_solid : (xs : List Part) → AllByRecursion LegalPart xs → AllByRecursion 
 all_solid [] g = tt
 all_solid (x ∷ xs) g = (part_solid x g.0, all_solid xs g.1)
 
+leaf_last : (xs : List Part) → LinesOf xs → LeafLast xs
+leaf_last [] h = tt
+leaf_last (p.Leaf l ∷ []) h = tt
+leaf_last (p.Leaf l ∷ y ∷ xs) (inl h) = absurd h.1
+leaf_last (p.Leaf l ∷ y ∷ xs) (inr h) = no_such h.0
+leaf_last (Node' kind z r ∷ xs) (inl h) = no_such h.0
+leaf_last (Node' kind z r ∷ xs) (inr h) = leaf_last xs h.1
+
 pub hosts_by_place : HostsByPlace
 hosts_by_place n h =
     let fits : Fits IsSort (shape k.File) n.parts = subst (λ kd. Fits IsSort (shape kd) n.parts) h.file.root h.file.shapes.0 in
     let all : List Region = regions_from 0 n.parts in
+    let cs : List Comment = comments_from 0 (leaves_of n) in
+    let solid : AllByRecursion Solid n.parts = all_solid n.parts h.file.shapes.1 in
     let texts : FileTexts all 0 (0 + sizes (map measured n.parts)) n.parts = lines_texts all 0 (0 + sizes (map measured n.parts)) n.parts refl fits h.file.shapes.1 h.gaps (λ q a b. record { inner = refl; ends = refl; begins = λ z d. refl }) in
-    sym (texts.found (comments_from 0 (leaves_of n)) [] (λ q j. ap (texts_at all q) (parts_from 0 n.parts (all_solid n.parts h.file.shapes.1))))
+    let there : walked all cs [] 0 n.parts ≡ flat_map inside_item (view_of n) = texts.found cs [] (λ q j. ap (texts_at all q) (parts_from 0 n.parts solid)) in
+    let numbered : hosted_in n ≡ walked all cs [] 0 n.parts = by_number all cs [] 0 n.parts solid (leaf_last n.parts fits) refl in
+    sym (numbered ∙ there)

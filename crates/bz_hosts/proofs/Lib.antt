@@ -7,7 +7,9 @@ pub mod Gathered
 pub mod Insides
 pub mod Joined
 pub mod Nodes
+pub mod Numbered
 pub mod Parts
 pub mod Sequences
 pub mod Statements
 pub mod Texts
+pub mod Walked

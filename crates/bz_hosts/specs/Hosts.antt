@@ -1,7 +1,7 @@
 -- Hosts of comments by their places in the whole text. The leaves of a tree are numbered from 0, in the order of the text.
 -- A host is a statement or an item of a sequence; a sequence is what stands between the brackets of a Call, List, Dict,
 -- Tuple or Load. Both are told by the numbers of their leaves alone.
-use Rattle.std.specs.Prelude.{ℕ, suc, ◌+◌, Bool, true, false, ◌&&◌, List, [], ◌∷◌, ◌++◌, Option, Some, None, length, map, take, drop, nat_eq, nat_lt, nat_le, if◌then◌else◌}
+use Rattle.std.specs.Prelude.{ℕ, zero, suc, ◌+◌, Bool, true, false, ◌&&◌, List, [], ◌∷◌, ◌++◌, Option, Some, None, length, map, take, drop, nat_eq, nat_lt, nat_le, if◌then◌else◌}
 use Rattle.bz_token.specs.declared.class.Class.{Class}
 use Rattle.bz_token.specs.declared.class.Class.TheVariants as c
 use Rattle.bz_lex.specs.declared.leaf.Leaf.{Leaf}
@@ -9,7 +9,7 @@ use Rattle.bz_tree.specs.declared.kind.Kind.{Kind}
 use Rattle.bz_tree.specs.declared.tree.Node.{Node}
 use Rattle.bz_tree.specs.declared.tree.Part.{Part, Row_of-Part, end_of-Part, more_of-Part, Node'}
 use Rattle.bz_tree.specs.declared.tree.Part.TheVariants as p
-use Rattle.bz_tree.specs.Spell.{leaves_part, leaves_of}
+use Rattle.bz_tree.specs.Spell.{leaves_of}
 use Rattle.bz_tree.specs.Shapes as s
 use Rattle.bz_tree.specs.Shapes.{Terminal, has_token}
 use Rattle.bz_value.specs.declared.value.Expr.{Expr, Token, Form', Row_of-Expr, end_of-Expr, more_of-Expr}
@@ -17,7 +17,7 @@ use Rattle.bz_value.specs.declared.value.Item.{Item}
 use Rattle.bz_value.specs.declared.value.Item.TheVariants as i
 use Rattle.bz_value.specs.Comments.{HostComments}
 use Rattle.bz_value.specs.Frames.{Frame, row, sequence, frame, lead}
-use Rattle.bz_value.specs.Gaps.{Bytes, GapLine, lines_of, listed, behind_first, comments_in, first_comment, groups_of, all_but_last, last_group}
+use Rattle.bz_value.specs.Gaps.{Bytes, GapLine, lines_of, listed, behind_first, comments_in, first_comment}
 use Rattle.bz_value.specs.Proper.{comments_of}
 
 -- ---- comments
@@ -195,31 +195,61 @@ abbrev pub with_group : List Bytes → List Hosted → List Hosted
 with_group group (hosted before suffix ∷ hs) = hosted (group ++ before) suffix ∷ hs
 with_group group hs = hs
 
-abbrev pub gap_of : List Leaf → Bytes
-gap_of [] = []
-gap_of (l ∷ ls) = l.gap
+-- ---- comments between the lines of a file, by the numbers of leaves and lines
 
-abbrev pub last_gap : List Leaf → Bytes
-last_gap [] = []
-last_gap (l ∷ []) = l.gap
-last_gap (l ∷ m ∷ ls) = last_gap (m ∷ ls)
+abbrev pub gap_at : List Leaf → ℕ → Bytes
+gap_at [] n = []
+gap_at (l ∷ ls) zero = l.gap
+gap_at (l ∷ ls) (suc n) = gap_at ls n
 
--- At file level comment lines that follow each other form a group. A group whose last line is followed by a line without
--- token and comment, or by no token at all, stands by itself; otherwise it stands above the next statement. left: the lines
--- in the gap of the Newline before, behind its first.
-abbrev pub hosted_from : List Region → List Comment → List GapLine → ℕ → List Part → List Hosted
-hosted_from rs cs left n [] = []
-hosted_from rs cs left n (p.Leaf l ∷ xs) = alone (groups_of (left ++ lines_of l.gap)) ++ hosted_from rs cs [] (suc n) xs
-hosted_from rs cs left n (Node' kind z r ∷ xs) =
-    let ls : List Leaf = leaves_part (Node' kind z r) in
-    let groups : List (List Bytes) = groups_of (left ++ lines_of (gap_of ls)) in
-    alone (all_but_last groups)
-    ++ with_group (last_group groups) (map (hosted_at rs cs) (in_line n (Node' kind z r)))
-    ++ hosted_from rs cs (behind_first (lines_of (last_gap ls))) (n + length ls) xs
+-- The lines before the leaf of this number, which begins a line of statements or is the end: those of its gap, and before
+-- them those in the gap of the leaf before it, a Newline, but for that gap's first, on which the statements before end. They
+-- are numbered from 0, and the line of the leaf's token is the next.
+abbrev pub lines_before : List Leaf → ℕ → List GapLine
+lines_before leaves zero = lines_of (gap_at leaves zero)
+lines_before leaves (suc n) = behind_first (lines_of (gap_at leaves n)) ++ lines_of (gap_at leaves (suc n))
+
+abbrev pub comment_on : List GapLine → ℕ → Option Bytes
+comment_on [] n = None
+comment_on (line ∷ lines) zero = line.comment
+comment_on (line ∷ lines) (suc n) = comment_on lines n
+
+abbrev pub with_last : List Bytes → Option Bytes → List Bytes
+with_last texts None = []
+with_last texts (Some text) = texts ++ text ∷ []
+
+-- The comment lines that follow each other right above the line of this number: the line before it, if it has a comment, and
+-- those right above that one.
+abbrev pub right_above : List GapLine → ℕ → List Bytes
+right_above lines zero = []
+right_above lines (suc n) = with_last (right_above lines n) (comment_on lines n)
+
+abbrev pub unless_comment : Option Bytes → ℕ → List ℕ
+unless_comment None n = n ∷ []
+unless_comment (Some text) n = []
+
+-- the numbers of the lines without token and comment; the first line has this number
+abbrev pub bare_lines : ℕ → List GapLine → List ℕ
+bare_lines n [] = []
+bare_lines n (line ∷ lines) = unless_comment line.comment n ++ bare_lines (suc n) lines
+
+-- Comment lines that follow each other form a group. A group whose last line is followed by a line without token and
+-- comment, or by no token at all, stands by itself; otherwise it stands above the next statement.
+abbrev pub hosted_from : List Region → List Comment → List Leaf → ℕ → List Part → List Hosted
+hosted_from rs cs leaves n [] = []
+hosted_from rs cs leaves n (p.Leaf l ∷ xs) =
+    let lines : List GapLine = lines_before leaves n in
+    alone (map (right_above lines) (bare_lines 0 lines ++ length lines ∷ [])) ++ hosted_from rs cs leaves (suc n) xs
+hosted_from rs cs leaves n (Node' kind z r ∷ xs) =
+    let lines : List GapLine = lines_before leaves n in
+    let line : Part = Node' kind z r in
+    alone (map (right_above lines) (bare_lines 0 lines))
+    ++ with_group (right_above lines (length lines)) (map (hosted_at rs cs) (in_line n line))
+    ++ hosted_from rs cs leaves (n + (measured line).size) xs
 
 -- the comments of a tree with their hosts, in the order in which the hosts begin
 abbrev pub hosted_in : Node → List Hosted
-hosted_in n = hosted_from (regions_from 0 n.parts) (comments_from 0 (leaves_of n)) [] 0 n.parts
+hosted_in n = hosted_from (regions_from 0 n.parts) (comments_from 0 (leaves_of n)) (leaves_of n) 0 n.parts
 
 -- ---- the comments in a file value, in the same order
 

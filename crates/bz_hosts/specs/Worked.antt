@@ -90,5 +90,23 @@ Statements =
     text (two_statements (codes " # k")) (codes "x;y # k\n") (hosted [] [] ∷ hosted [] (codes "# k" ∷ []) ∷ [])
     × text (two_statements (codes " \\\n# k")) (codes "x;y \\\n# k\n") (hosted [] [] ∷ hosted [] [] ∷ block (codes "# k" ∷ []) ∷ [])
 
+-- Comment lines that follow each other form a group, wherever the newline that ends the line before them stands: right above
+-- a statement they stand above it, and above a line without comment they are a Block.
+abbrev two_lines : Bytes → Bytes → Node
+two_lines gap next = record {
+  kind = k.File;
+  parts = node k.Line (node k.Bare (name [] (codes "x") ∷ []) ∷ leaf c.Newline gap (codes "\n") ∷ [])
+      ∷ node k.Line (node k.Bare (name next (codes "y") ∷ []) ∷ leaf c.Newline [] (codes "\n") ∷ [])
+      ∷ leaf c.End [] []
+      ∷ [];
+}
+
+abbrev pub Lines : Type 0
+Lines =
+    text (two_lines (codes " \\\n# k") (codes "# l\n")) (codes "x \\\n# k\n# l\ny\n") (hosted [] [] ∷ hosted (codes "# k" ∷ codes "# l" ∷ []) [] ∷ [])
+    × text (two_lines (codes " \\\n# k") (codes "# l\n\n# m\n\\\n")) (codes "x \\\n# k\n# l\n\n# m\n\\\ny\n") (
+    hosted [] [] ∷ block (codes "# k" ∷ codes "# l" ∷ []) ∷ block (codes "# m" ∷ []) ∷ hosted [] [] ∷ []
+    )
+
 abbrev pub WorkedHosts : Type 0
-WorkedHosts = Call × Comma × Paren × Statements
+WorkedHosts = Call × Comma × Paren × Statements × Lines

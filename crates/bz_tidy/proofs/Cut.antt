@@ -28,14 +28,14 @@ module _ {X : Type 0} (lt : X → X → Bool) (bar : X) (before : (x : X) → lt
     | inr f ↦ rw f refl
   ]
 
-  sort_cut : (xs ys : List X) → sort_by lt (xs ++ bar ∷ ys) ≡ sort_by lt xs ++ bar ∷ sort_by lt ys
+  pub sort_cut : (xs ys : List X) → sort_by lt (xs ++ bar ∷ ys) ≡ sort_by lt xs ++ bar ∷ sort_by lt ys
   sort_cut [] ys = insert_bar (sort_by lt ys)
   sort_cut (x ∷ xs) ys = ap (insert_by lt x) (sort_cut xs ys) ∙ insert_front x (sort_by lt xs) (sort_by lt ys)
 
 -- ---- items of which only those that pass a test are compared
 
 module _ {X : Type 0} (p : X → Bool) (lt : X → X → Bool) where
-  abbrev compared : X → X → Bool
+  abbrev pub compared : X → X → Bool
   compared x y = p x && p y && lt x y
 
   inserted : (x : X) (ys : List X) → p x ≡ true → AllByRecursion (λ y. p y ≡ true) ys → insert_by compared x ys ≡ insert_by lt x ys

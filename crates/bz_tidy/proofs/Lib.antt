@@ -15,6 +15,7 @@ pub mod Settling
 pub mod Dropping
 pub mod Cut
 pub mod Stable
+pub mod TheOne
 pub mod MovedMarks
 pub mod ProperPasses
 pub mod ProperSorted

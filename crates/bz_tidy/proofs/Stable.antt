@@ -57,7 +57,7 @@ module _ {X : Type 0} (lt : X → X → Bool) (o : IsStrictWeakOrder lt) where
   tied x y a b = rw (a, b) refl
 
   -- two lists in order with the same ties are one
-  one_order : (xs ys : List X) → Rises lt xs → Rises lt ys → ((x : X) → filter (ties lt x) xs ≡ filter (ties lt x) ys) → xs ≡ ys
+  pub one_order : (xs ys : List X) → Rises lt xs → Rises lt ys → ((x : X) → filter (ties lt x) xs ≡ filter (ties lt x) ys) → xs ≡ ys
   one_order [] [] a b h = refl
   one_order [] (y ∷ ys) a b h = let e : [] ≡ y ∷ filter (ties lt y) ys = h y ∙ at_first (ties lt y) y ys (own_ties y) in cc
   one_order (x ∷ xs) [] a b h = let e : x ∷ filter (ties lt x) xs ≡ [] = sym (at_first (ties lt x) x xs (own_ties x)) ∙ h x in cc
@@ -129,7 +129,7 @@ module _ {X : Type 0} (lt : X → X → Bool) (o : IsStrictWeakOrder lt) where
     | inr f ↦ rw f refl
   ]
 
-  sort_stable : (xs : List X) (x : X) → filter (ties lt x) (sort_by lt xs) ≡ filter (ties lt x) xs
+  pub sort_stable : (xs : List X) (x : X) → filter (ties lt x) (sort_by lt xs) ≡ filter (ties lt x) xs
   sort_stable [] x = refl
   sort_stable (w ∷ ws) x = insert_stable x w (sort_by lt ws) ∙ again (ties lt x) w (sort_by lt ws) ws (sort_stable ws x)
 

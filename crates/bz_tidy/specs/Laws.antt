@@ -1,11 +1,16 @@
 -- Laws of tidying.
 use Rattle.std.specs.Prelude.{◌≡◌, List}
+use Rattle.bz_tree.specs.declared.kind.Kind.TheVariants as k
 use Rattle.bz_value.specs.declared.value.Item.{Item}
 use Rattle.bz_value.specs.Gaps.{Bytes}
 use Rattle.bz_value.specs.Counted.{times}
 use Rattle.bz_value.specs.Proper.{IsProper}
+use Rattle.bz_rule.specs.Values.{has_kind}
 use Rattle.bz_write.specs.Flags.{IsSettled}
-use Rattle.bz_tidy.specs.Passes.{tidied}
+use Rattle.bz_tidy.specs.Lists.{precedes}
+use Rattle.bz_tidy.specs.Orders.{sort_by}
+use Rattle.bz_tidy.specs.Passes.{argument_precedes, is_run_load, loads, name_precedes, path_precedes, symbol_precedes, tidied}
+use Rattle.bz_tidy.specs.Sorting.{GivesTheOne, IsSorting, IsSortingByRuns}
 
 -- What is tidy stays as it is.
 abbrev pub TidyStays : Type 0
@@ -22,3 +27,14 @@ CommentsStay = (text : Bytes) (items : List Item) → times text (tidied items) 
 -- A proper file value stays proper.
 abbrev pub ProperStays : Type 0
 ProperStays = (items : List Item) → IsProper items → IsProper (tidied items)
+
+-- What is sorted is the one list in order, those that tie as they stood: the items of a list by the texts between their quote
+-- marks, and the symbols of a load by their local names. Of the arguments of a rule each longest run of named ones is, by
+-- priority and then name, and of the items of a file each longest run of loads without comments above, by path; all that
+-- stands between the runs stays.
+abbrev pub SortingIsTheOne : Type 0
+SortingIsTheOne =
+    GivesTheOne (IsSorting precedes) (sort_by precedes)
+    × GivesTheOne (IsSorting symbol_precedes) (sort_by symbol_precedes)
+    × GivesTheOne (IsSortingByRuns (has_kind k.Named) name_precedes) (sort_by argument_precedes)
+    × GivesTheOne (IsSortingByRuns is_run_load path_precedes) loads

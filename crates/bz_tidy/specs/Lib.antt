@@ -10,4 +10,5 @@ pub mod Repeats
 pub mod Rising
 pub mod Rows
 pub mod Sorted
+pub mod Sorting
 pub mod Strings

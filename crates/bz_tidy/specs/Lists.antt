@@ -43,6 +43,7 @@ unrepeated earlier (x ∷ xs) =
     if has_no_comment x && list_any (bytes_eq (text_of x)) earlier then unrepeated earlier xs
     else (x ∷ unrepeated (text_of x ∷ earlier) xs)
 
+-- In order, those that tie as they stood (the one such list: law `sorting_is_the_one`), and then without repeats.
 abbrev pub in_order : List Expr → List Expr
 in_order xs = unrepeated [] (sort_by precedes xs)
 

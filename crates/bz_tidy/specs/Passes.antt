@@ -101,7 +101,8 @@ lists_in x = if has_kind k.Assign x then in_assign x else on_rule (λ kind. map 
 abbrev pub lists : List Item → List Item
 lists = on_taken lists_in
 
--- ---- arguments: each unbroken run of named arguments of a rule by priority, then name, then old order
+-- ---- arguments: each unbroken run of named arguments of a rule by priority, then name, then old order (law
+-- `sorting_is_the_one`)
 
 abbrev pub argument_order : Bytes → Bytes → Ordering
 argument_order x y = ordering_then (nat_cmp (priority_of x) (priority_of y)) (bytes_order x y)
@@ -109,9 +110,12 @@ argument_order x y = ordering_then (nat_cmp (priority_of x) (priority_of y)) (by
 abbrev pub argument_name : Expr → Bytes
 argument_name x = first_text (parts_of x)
 
+abbrev pub name_precedes : Expr → Expr → Bool
+name_precedes x y = is_lt (argument_order (argument_name x) (argument_name y))
+
 -- only named arguments are compared
 abbrev pub argument_precedes : Expr → Expr → Bool
-argument_precedes x y = has_kind k.Named x && has_kind k.Named y && is_lt (argument_order (argument_name x) (argument_name y))
+argument_precedes x y = has_kind k.Named x && has_kind k.Named y && name_precedes x y
 
 abbrev pub arguments_in : Expr → Expr
 arguments_in = on_rule (λ kind. sort_by argument_precedes)
@@ -119,7 +123,7 @@ arguments_in = on_rule (λ kind. sort_by argument_precedes)
 abbrev pub arguments : List Item → List Item
 arguments = on_taken arguments_in
 
--- ---- symbols: those of a load by local name, then old order
+-- ---- symbols: those of a load by local name, then old order (law `sorting_is_the_one`)
 
 abbrev pub symbol_precedes : Expr → Expr → Bool
 symbol_precedes x y = is_lt (bytes_order (local_name x) (local_name y))
@@ -130,7 +134,7 @@ symbols_in = on_items k.Load (behind_first (sort_by symbol_precedes))
 abbrev pub symbols : List Item → List Item
 symbols = on_taken symbols_in
 
--- ---- loads: each longest run of adjacent loads without comments above by path
+-- ---- loads: each longest run of adjacent loads without comments above by path, then old order (law `sorting_is_the_one`)
 
 -- by what a path begins with: @ 0, // 1, : 2, others 3
 abbrev pub path_group_from_slash : Bytes → ℕ
@@ -153,6 +157,18 @@ is_loose_load x = has_kind k.Load x && is_empty (above x)
 abbrev pub load_precedes : Item → Item → Bool
 load_precedes (i.Stmt x) (i.Stmt y) = is_loose_load x && is_loose_load y && is_lt (path_order (path_of x) (path_of y))
 load_precedes _ _ = false
+
+-- the same by two words of an item: whether it is a load without comments above, and its path
+abbrev pub is_run_load : Item → Bool
+is_run_load (i.Block lines) = false
+is_run_load (i.Stmt x) = is_loose_load x
+
+abbrev pub load_path : Item → Bytes
+load_path (i.Block lines) = []
+load_path (i.Stmt x) = path_of x
+
+abbrev pub path_precedes : Item → Item → Bool
+path_precedes x y = is_lt (path_order (load_path x) (load_path y))
 
 abbrev pub loads : List Item → List Item
 loads = sort_by load_precedes

@@ -1,5 +1,5 @@
 //! Facts about the definitions, for readers: the functions do nothing.
-ghost use Rattle.bz_tidy.specs.Laws.{CommentsStay, TidySettles, TidyStays};
+ghost use Rattle.bz_tidy.specs.Laws.{CommentsStay, SortingIsTheOne, TidySettles, TidyStays};
 ghost use Rattle.bz_tidy.specs.MovedMarks.{MarksMove};
 ghost use Rattle.bz_tidy.specs.Rows.{WorkedPasses};
 
@@ -21,6 +21,12 @@ pub fn tidy_settles()
 /// Each comment stands in the tidy file value as often as before.
 pub fn comments_stay()
     ensures { CommentsStay }
+{}
+
+/// What is sorted is the one list in order that has the same items, those that tie as they stood; where only some items are
+/// compared, each longest run of them is.
+pub fn sorting_is_the_one()
+    ensures { SortingIsTheOne }
 {}
 
 /// A list is sorted as if its items were put in order, repeats dropped, and the `keep sorted` comments moved then: from

@@ -19,6 +19,8 @@ mod symbols;
 mod tidying;
 mod walk;
 
-pub use laws::{comments_stay, marks_move, tidy_settles, tidy_stays, worked_passes};
+pub use laws::{
+    comments_stay, marks_move, sorting_is_the_one, tidy_settles, tidy_stays, worked_passes,
+};
 pub use proper_laws::proper_stays;
 pub use tidying::tidy;

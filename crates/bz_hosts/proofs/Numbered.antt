@@ -1,0 +1,163 @@
+-- Groups of comment lines, told by the numbers of the lines.
+use Rattle.std.proofs.Common.{◌≡◌, ℕ, zero, suc, Bool, true, false, ◌&&◌, List, [], ◌∷◌, ◌++◌, Option, None, Some, length, refl, sym, ap, ◌∙◌, map, append_assoc, if◌then◌else◌}
+use Rattle.std.proofs.lemmas.List.{map-append}
+use Rattle.bz_value.specs.Gaps.{Bytes, GapLine, listed, before_groups, groups_of, all_but_last, last_group}
+use Rattle.bz_hosts.specs.Hosts.{comment_on, with_last, right_above, unless_comment, bare_lines}
+
+-- ---- what one line more on top adds
+
+abbrev has : Option Bytes → Bool
+has None = false
+has (Some text) = true
+
+-- every line before this one has a comment
+abbrev reaches : List GapLine → ℕ → Bool
+reaches ls zero = true
+reaches ls (suc n) = has (comment_on ls n) && reaches ls n
+
+swap : (a b c : Bool) → (a && (b && c)) ≡ (b && (a && c))
+swap true b c = refl
+swap false true c = refl
+swap false false c = refl
+
+reaches_behind : (x : GapLine) (ls : List GapLine) (n : ℕ) → reaches (x ∷ ls) (suc n) ≡ (has x.comment && reaches ls n)
+reaches_behind x ls zero = refl
+reaches_behind x ls (suc n) = ap (λ b. has (comment_on ls n) && b) (reaches_behind x ls n) ∙ swap (has (comment_on ls n)) (has x.comment) (reaches ls n)
+
+first_above : (c : Option Bytes) → with_last [] c ≡ listed c ++ []
+first_above None = refl
+first_above (Some text) = refl
+
+next_above : (c : Option Bytes) (r : Bool) (top a b : List Bytes) → a ≡ (if r then top else []) ++ b → with_last a c ≡ (if has c && r then top else []) ++ with_last b c
+next_above None r top a b e = refl
+next_above (Some text) r top a b e = ap (λ (z : List Bytes). z ++ text ∷ []) e ∙ append_assoc (if r then top else []) b (text ∷ [])
+
+above_behind : (x : GapLine) (ls : List GapLine) (n : ℕ) → right_above (x ∷ ls) (suc n) ≡ (if reaches ls n then listed x.comment else []) ++ right_above ls n
+above_behind x ls zero = first_above x.comment
+above_behind x ls (suc n) = next_above (comment_on ls n) (reaches ls n) (listed x.comment) (right_above (x ∷ ls) (suc n)) (right_above ls n) (above_behind x ls n)
+
+-- ---- the groups, and whether each reaches up to the first line
+
+abbrev Told : Type 0
+Told = Bool × List Bytes
+
+abbrev told : List GapLine → ℕ → Told
+told ls n = (reaches ls n, right_above ls n)
+
+abbrev more : Option Bytes → Told → Told
+more c t = (has c && t.0, (if t.0 then listed c else []) ++ t.1)
+
+told_behind : (x : GapLine) (ls : List GapLine) (n : ℕ) → told (x ∷ ls) (suc n) ≡ more x.comment (told ls n)
+told_behind x ls n = ap (λ (b : Bool). let t : Told = (b, right_above (x ∷ ls) (suc n)) in t) (reaches_behind x ls n) ∙ ap (λ (z : List Bytes). let t : Told = (has x.comment && reaches ls n, z) in t) (above_behind x ls n)
+
+-- the line behind each group
+abbrev stops : List GapLine → List ℕ
+stops ls = bare_lines 0 ls ++ length ls ∷ []
+
+all_told : (x : GapLine) (ls : List GapLine) (ns : List ℕ) → map (told (x ∷ ls)) (map (λ n. suc n) ns) ≡ map (more x.comment) (map (told ls) ns)
+all_told x ls [] = refl
+all_told x ls (n ∷ ns) = ap (λ (z : Told). z ∷ map (told (x ∷ ls)) (map (λ n. suc n) ns)) (told_behind x ls n) ∙ ap (λ (z : List Told). more x.comment (told ls n) ∷ z) (all_told x ls ns)
+
+unless_shift : (c : Option Bytes) (n : ℕ) → unless_comment c (suc n) ≡ map (λ n. suc n) (unless_comment c n)
+unless_shift None n = refl
+unless_shift (Some text) n = refl
+
+bare_shift : (n : ℕ) (ls : List GapLine) → bare_lines (suc n) ls ≡ map (λ n. suc n) (bare_lines n ls)
+bare_shift n [] = refl
+bare_shift n (x ∷ ls) =
+    ap (λ z. z ++ bare_lines (suc (suc n)) ls) (unless_shift x.comment n)
+    ∙ (ap (λ z. map (λ n. suc n) (unless_comment x.comment n) ++ z) (bare_shift (suc n) ls) ∙ sym (map-append (λ n. suc n) (unless_comment x.comment n) (bare_lines (suc n) ls)))
+
+stops_behind : (x : GapLine) (ls : List GapLine) → stops (x ∷ ls) ≡ unless_comment x.comment 0 ++ map (λ n. suc n) (stops ls)
+stops_behind x ls =
+    append_assoc (unless_comment x.comment 0) (bare_lines 1 ls) (suc (length ls) ∷ [])
+    ∙ ap (λ z. unless_comment x.comment 0 ++ z) (ap (λ z. z ++ suc (length ls) ∷ []) (bare_shift 0 ls) ∙ sym (map-append (λ n. suc n) (bare_lines 0 ls) (length ls ∷ [])))
+
+abbrev unmarked : List Bytes → Told
+unmarked group = (false, group)
+
+abbrev marked : List (List Bytes) → List Told
+marked [] = []
+marked (group ∷ groups) = let t : Told = (true, group) in t ∷ map unmarked groups
+
+none_more : (groups : List (List Bytes)) → map (more None) (map unmarked groups) ≡ map unmarked groups
+none_more [] = refl
+none_more (group ∷ groups) = ap (λ (z : List Told). unmarked group ∷ z) (none_more groups)
+
+some_more : (text : Bytes) (groups : List (List Bytes)) → map (more (Some text)) (map unmarked groups) ≡ map unmarked groups
+some_more text [] = refl
+some_more text (group ∷ groups) = ap (λ (z : List Told). unmarked group ∷ z) (some_more text groups)
+
+-- there is a group, if an empty one
+record HasGroup (groups : List (List Bytes)) : Type 0 where
+  group : List Bytes
+  others : List (List Bytes)
+  is : groups ≡ group ∷ others
+
+before_has : (c : Option Bytes) (groups : List (List Bytes)) → HasGroup (before_groups c groups)
+before_has None groups = record { group = []; others = groups; is = refl }
+before_has (Some text) [] = record { group = text ∷ []; others = []; is = refl }
+before_has (Some text) (group ∷ groups) = record { group = text ∷ group; others = groups; is = refl }
+
+has_group : (ls : List GapLine) → HasGroup (groups_of ls)
+has_group [] = record { group = []; others = []; is = refl }
+has_group (x ∷ ls) = before_has x.comment (groups_of ls)
+
+marked_before : (x : GapLine) (ls : List GapLine) (c : Option Bytes) (group : List Bytes) (groups : List (List Bytes)) →
+    map (told (x ∷ ls)) (unless_comment c 0) ++ map (more c) (marked (group ∷ groups)) ≡ marked (before_groups c (group ∷ groups))
+marked_before x ls None group groups = ap (λ (z : List Told). told (x ∷ ls) 0 ∷ unmarked group ∷ z) (none_more groups)
+marked_before x ls (Some text) group groups = ap (λ (z : List Told). let t : Told = (true, text ∷ group) in t ∷ z) (some_more text groups)
+
+groups_told : (ls : List GapLine) → map (told ls) (stops ls) ≡ marked (groups_of ls)
+groups_told [] = refl
+groups_told (x ∷ ls) =
+    let g : HasGroup (groups_of ls) = has_group ls in
+    ap (map (told (x ∷ ls))) (stops_behind x ls)
+    ∙ (map-append (told (x ∷ ls)) (unless_comment x.comment 0) (map (λ n. suc n) (stops ls))
+    ∙ (ap (λ (z : List Told). map (told (x ∷ ls)) (unless_comment x.comment 0) ++ z) (all_told x ls (stops ls) ∙ ap (map (more x.comment)) (groups_told ls ∙ ap marked g.is))
+    ∙ (marked_before x ls x.comment g.group g.others ∙ ap (λ (z : List (List Bytes)). marked (before_groups x.comment z)) (sym g.is))))
+
+-- ---- the groups alone
+
+texts : List Told → List (List Bytes)
+texts [] = []
+texts (t ∷ ts) = t.1 ∷ texts ts
+
+texts_told : (ls : List GapLine) (ns : List ℕ) → texts (map (told ls) ns) ≡ map (right_above ls) ns
+unfolding texts
+texts_told ls [] = refl
+texts_told ls (n ∷ ns) = ap (λ (z : List (List Bytes)). right_above ls n ∷ z) (texts_told ls ns)
+
+texts_unmarked : (groups : List (List Bytes)) → texts (map unmarked groups) ≡ groups
+unfolding texts
+texts_unmarked [] = refl
+texts_unmarked (group ∷ groups) = ap (λ (z : List (List Bytes)). group ∷ z) (texts_unmarked groups)
+
+texts_marked : (groups : List (List Bytes)) → texts (marked groups) ≡ groups
+unfolding texts
+texts_marked [] = refl
+texts_marked (group ∷ groups) = ap (λ (z : List (List Bytes)). group ∷ z) (texts_unmarked groups)
+
+pub all_numbered : (ls : List GapLine) → groups_of ls ≡ map (right_above ls) (bare_lines 0 ls ++ length ls ∷ [])
+all_numbered ls = sym (texts_marked (groups_of ls)) ∙ (ap texts (sym (groups_told ls)) ∙ texts_told ls (stops ls))
+
+-- ---- the last, and the others
+
+front_of : (groups : List (List Bytes)) (last : List Bytes) → all_but_last (groups ++ last ∷ []) ≡ groups
+front_of [] last = refl
+front_of (group ∷ []) last = refl
+front_of (group ∷ next ∷ groups) last = ap (λ (z : List (List Bytes)). group ∷ z) (front_of (next ∷ groups) last)
+
+last_of : (groups : List (List Bytes)) (last : List Bytes) → last_group (groups ++ last ∷ []) ≡ last
+last_of [] last = refl
+last_of (group ∷ []) last = refl
+last_of (group ∷ next ∷ groups) last = last_of (next ∷ groups) last
+
+split : (ls : List GapLine) → groups_of ls ≡ map (right_above ls) (bare_lines 0 ls) ++ right_above ls (length ls) ∷ []
+split ls = all_numbered ls ∙ map-append (right_above ls) (bare_lines 0 ls) (length ls ∷ [])
+
+pub alone_numbered : (ls : List GapLine) → all_but_last (groups_of ls) ≡ map (right_above ls) (bare_lines 0 ls)
+alone_numbered ls = ap all_but_last (split ls) ∙ front_of (map (right_above ls) (bare_lines 0 ls)) (right_above ls (length ls))
+
+pub last_numbered : (ls : List GapLine) → last_group (groups_of ls) ≡ right_above ls (length ls)
+last_numbered ls = ap last_group (split ls) ∙ last_of (map (right_above ls) (bare_lines 0 ls)) (right_above ls (length ls))
