@@ -13,4 +13,4 @@ mod targets;
 pub use laws::{comments_stay, worked_effects};
 pub use outcome::Outcome;
 pub use proper_laws::effects_stay_proper;
-pub use running::run;
+pub use running::{run, run_on};

@@ -1,10 +1,11 @@
-//! What a command makes of the items of a file: of the rules that are marked, and with a new rule.
-ghost use Rattle.std.specs.Prelude.{◌≡◌, ◌⊎◌, ◌≤◌, ◌<◌, ◌∷◌, ◌++◌, ◌+◌, List, true, false, not, length, take, drop, MatchOption, Ok, Err, OnOk, IfOk, IfErr, if◌then◌else◌};
+//! What a command makes of the items of a file: of the rules that are marked, and with a new rule. Items that stay are moved.
+ghost use Rattle.std.specs.Prelude.{◌≡◌, ◌≢◌, ◌⊎◌, ◌↔◌, ◌≤◌, ◌<◌, ◌∷◌, ◌++◌, ◌+◌, List, true, false, not, length, take, drop, vec_len, MatchOption, Ok, Err, OnOk, IsTrue, IfOk, IfErr, if◌then◌else◌};
 ghost use Rattle.std.specs.List.{list_any};
 ghost use Rattle.std.specs.Option.{option_copied};
 ghost use Rattle.bz_value.specs.declared.value.Item.{Item};
 ghost use Rattle.bz_rule.specs.Rules.{has_name};
 ghost use Rattle.bz_command.specs.Effect.{before_first, behind_first, copied_from, has_place, loads_changed, on_each, on_meant, on_one, on_rules, placed, source_of, unmarked, with_rule};
+ghost use Rattle.bz_command.specs.Looks.{one_made};
 
 use crate::statements::{on_one, source};
 use bz_attribute::{Refusal, rule_made};
@@ -15,58 +16,97 @@ use bz_value::{Expr, Item};
 use bz_words::{AttributeOperation, LoadOperation, Operation, Place, RuleOperation};
 use std::alloc::Global;
 
-/// What an operation makes of an item: where it isn't marked, a copy.
-fn made_of(
+/// The items that a command makes of those of a file, and whether they are the same.
+#[derive(Drop)]
+pub(crate) struct Changed {
+    pub(crate) items: Items<Item>,
+    pub(crate) same: bool,
+}
+
+/// What an operation makes of an item where it is marked. Whether the item is the same then.
+#[tactic(auto, unfolding(crate::specs::Looks::one_made))]
+fn change_item(
     alloc: Global,
     operation: &Operation,
     current: &[u8],
     found: Option<&Expr>,
     mark: bool,
-    item: &Item,
-) -> Result<Item, Refusal>
-    ensures ok { IfOk result (λ new. (if mark then on_one operation.now current.now (option_copied found.entry) item.now else Ok item.now) ≡ Ok new) }
-    ensures err { IfErr result (λ refusal. ((if mark then on_one operation.now current.now (option_copied found.entry) item.now else Ok item.now) ≡ Err refusal) ⊎ (refusal ≡ Refusal.Memory)) }
+    item: &mut Item,
+) -> Result<bool, Refusal>
+    ensures ok { OnOk result ((if mark then one_made operation.now current.now (option_copied found.entry) item.old else Ok item.old) ≡ Ok item.new) }
+    ensures same { IfOk result (λ same. IsTrue same ↔ (item.new ≡ item.old)) }
+    ensures err { IfErr result (λ refusal. ((if mark then one_made operation.now current.now (option_copied found.entry) item.old else Ok item.old) ≡ Err refusal) ⊎ (refusal ≡ Refusal.Memory)) }
 {
-    let mut new = item.copy()?;
     if !mark {
-        return Ok(new);
+        return Ok(true);
     }
-    on_one(alloc, operation, current, found, &mut new)?;
-    Ok(new)
+    let before = item.copy()?;
+    on_one(alloc, operation, current, found, item)?;
+    Ok(item.equals(&before))
 }
 
-/// What an operation makes of the items that are marked; the others are copied. The first that refuses decides.
+/// What an operation makes of the items that are marked. Whether all are the same then. The first that refuses decides.
 fn on_meant(
     alloc: Global,
     operation: &Operation,
     current: &[u8],
     found: Option<&Expr>,
     marks: &[bool],
-    items: &[Item],
-) -> Result<Items<Item>, Refusal>
-    requires { length marks.now ≡ length items.now }
-    ensures ok { IfOk result (λ new. on_meant (on_one operation.now current.now (option_copied found.entry)) marks.now items.now ≡ Ok new) }
-    ensures err { IfErr result (λ refusal. (on_meant (on_one operation.now current.now (option_copied found.entry)) marks.now items.now ≡ Err refusal) ⊎ (refusal ≡ Refusal.Memory)) }
+    items: &mut [Item],
+) -> Result<bool, Refusal>
+    requires { length marks.now ≡ length items.old }
+    ensures ok { OnOk result (on_meant (one_made operation.now current.now (option_copied found.entry)) marks.now items.old ≡ Ok items.new) }
+    ensures same { IfOk result (λ same. IsTrue same ↔ (items.new ≡ items.old)) }
+    ensures err { IfErr result (λ refusal. (on_meant (one_made operation.now current.now (option_copied found.entry)) marks.now items.old ≡ Err refusal) ⊎ (refusal ≡ Refusal.Memory)) }
 {
-    let mut new = Items::new(alloc);
-    for (mark, item) in marks.iter().zip(items) {
-        let made = made_of(alloc, operation, current, found, *mark, item)?;
-        new.push(made)?;
+    let mut same = true;
+    for at in 0..items.len() {
+        let stays = change_item(alloc, operation, current, found, marks[at], &mut items[at])?;
+        same = same && stays;
     }
-    Ok(new)
+    Ok(same)
 }
 
-/// Copies of the items without a mark.
-fn unmarked(alloc: Global, marks: &[bool], items: &[Item]) -> Result<Items<Item>, Memory>
-    ensures { IfOk result (λ kept. kept ≡ unmarked marks.now items.now) }
+/// Takes up an item unless the first of the marks is set. The marks behind that one.
+fn keep_unmarked<'a>(
+    marks: &'a [bool],
+    item: Item,
+    kept: &mut Items<Item>,
+) -> Result<&'a [bool], Memory>
+    ensures { (items : List Item) → IfOk result (λ rest. kept.new ++ unmarked rest.now items ≡ kept.old ++ unmarked marks.entry.now (item ∷ items)) }
 {
-    let mut kept = Items::new(alloc);
-    for (mark, item) in marks.iter().zip(items) {
-        if !*mark {
-            kept.push(item.copy()?)?;
-        }
+    let Some((mark, rest)) = marks.split_first() else {
+        return Ok(marks);
+    };
+    if !*mark {
+        kept.push(item)?;
+    }
+    Ok(rest)
+}
+
+/// The items without a mark.
+fn unmarked(alloc: Global, marks: &[bool], items: Items<Item>) -> Result<Items<Item>, Memory>
+    ensures { IfOk result (λ kept. kept ≡ unmarked marks.now items) }
+{
+    let mut kept = Items::from_vec(Vec::with_capacity(alloc, marks.len())?);
+    let mut left = marks;
+    for item in items.into_vec() {
+        left = keep_unmarked(left, item, &mut kept)?;
     }
     Ok(kept)
+}
+
+/// The items without a mark; they are the same where as many are left.
+#[tactic(auto, using(crate::proofs::RunningItems::all_kept))]
+fn delete(alloc: Global, marks: &[bool], items: Items<Item>) -> Result<Changed, Memory>
+    requires { length marks.now ≡ length items }
+    ensures items { IfOk result (λ changed. changed.items ≡ unmarked marks.now items) }
+    ensures same { IfOk result (λ changed. IsTrue changed.same ↔ (changed.items ≡ items)) }
+{
+    let count = items.len();
+    let items = unmarked(alloc, marks, items)?;
+    let same = items.len() == count;
+    Ok(Changed { items, same })
 }
 
 /// The place of the first rule of this name.
@@ -108,48 +148,63 @@ fn is_taken(name: &[u8], items: &[Item]) -> bool
     items.iter().any(|item| has_name(name, item))
 }
 
-/// Appends copies of the items.
-fn push_copies(items: &[Item], all: &mut Items<Item>) -> Result<(), Memory>
-    ensures { OnOk result (all.new ≡ all.old ++ items.now) }
+/// Puts an item in front of the one at this place.
+fn put_at<T: Drop>(items: &mut Vec<T>, at: usize, item: T) -> Result<(), Memory>
+    requires { at ≤ vec_len items.old }
+    ensures { OnOk result (items.new.items ≡ take at items.old.items ++ item ∷ drop at items.old.items) }
 {
-    for item in items {
-        all.push(item.copy()?)?;
-    }
+    items.insert(at, item)?;
     Ok(())
 }
 
-/// Copies of the items, with a new one at this place.
-fn with_item(alloc: Global, at: usize, new: Item, items: &[Item]) -> Result<Items<Item>, Memory>
-    requires { at ≤ length items.now }
-    ensures { IfOk result (λ all. all ≡ take at items.now ++ new ∷ drop at items.now) }
+/// The items with a new one at this place, so others than they were.
+#[tactic(auto, using(crate::proofs::RunningItems::another))]
+fn with_item(at: usize, new: Item, items: Items<Item>) -> Result<Items<Item>, Memory>
+    requires { at ≤ length items }
+    ensures items { IfOk result (λ all. all ≡ take at items ++ new ∷ drop at items) }
+    ensures other { IfOk result (λ all. all ≢ items) }
 {
-    let (front, back) = items.split_at(at);
-    let mut all = Items::new(alloc);
-    push_copies(front, &mut all)?;
-    all.push(new)?;
-    push_copies(back, &mut all)?;
-    Ok(all)
+    let mut all = items.into_vec();
+    put_at(&mut all, at, new)?;
+    Ok(Items::from_vec(all))
 }
 
-/// Copies of the items, with a new rule at its place.
+/// The items with a new rule at its place.
 fn with_rule(
     alloc: Global,
     kind: &[u8],
     name: &[u8],
     place: &Place,
-    items: &[Item],
+    items: Items<Item>,
 ) -> Result<Items<Item>, Refusal>
-    ensures ok { IfOk result (λ new. with_rule kind.now name.now place.now items.now ≡ Ok new) }
-    ensures err { IfErr result (λ refusal. (with_rule kind.now name.now place.now items.now ≡ Err refusal) ⊎ (refusal ≡ Refusal.Memory)) }
+    ensures ok { IfOk result (λ new. with_rule kind.now name.now place.now items ≡ Ok new) }
+    ensures other { IfOk result (λ new. new ≢ items) }
+    ensures err { IfErr result (λ refusal. (with_rule kind.now name.now place.now items ≡ Err refusal) ⊎ (refusal ≡ Refusal.Memory)) }
 {
-    let Some(at) = place_of_new(place, items) else {
+    let Some(at) = place_of_new(place, items.as_slice()) else {
         return Err(Refusal::NoTarget);
     };
-    if is_taken(name, items) {
+    if is_taken(name, items.as_slice()) {
         return Err(Refusal::NameTaken);
     }
     let rule = rule_made(alloc, kind, name)?;
-    Ok(with_item(alloc, at, rule, items)?)
+    Ok(with_item(at, rule, items)?)
+}
+
+/// The same, told as a change.
+fn add_rule(
+    alloc: Global,
+    kind: &[u8],
+    name: &[u8],
+    place: &Place,
+    items: Items<Item>,
+) -> Result<Changed, Refusal>
+    ensures ok { IfOk result (λ changed. with_rule kind.now name.now place.now items ≡ Ok changed.items) }
+    ensures same { IfOk result (λ changed. IsTrue changed.same ↔ (changed.items ≡ items)) }
+    ensures err { IfErr result (λ refusal. (with_rule kind.now name.now place.now items ≡ Err refusal) ⊎ (refusal ≡ Refusal.Memory)) }
+{
+    let items = with_rule(alloc, kind, name, place, items)?;
+    Ok(Changed { items, same: false })
 }
 
 /// The value that an operation on attributes copies.
@@ -185,24 +240,58 @@ fn source_of<'a>(operation: &Operation, items: &'a [Item]) -> Option<&'a Expr>
     }
 }
 
-/// What an operation makes of each of the items that are marked; the others are copied.
+/// A copy of the value that is copied, as it is before anything changes.
+fn copied_source(operation: &Operation, items: &[Item]) -> Result<Option<Expr>, Memory>
+    ensures { IfOk result (λ found. found ≡ source_of operation.now items.now) }
+{
+    match source_of(operation, items) {
+        Some(value) => Ok(Some(value.copy()?)),
+        None => Ok(None),
+    }
+}
+
+/// What an operation makes of each of the items that are marked. `found` is the value that is copied.
+#[tactic(auto, unfolding(crate::specs::Looks::one_made))]
+fn on_found(
+    alloc: Global,
+    operation: &Operation,
+    current: &[u8],
+    found: Option<&Expr>,
+    marks: &[bool],
+    items: Items<Item>,
+) -> Result<Changed, Refusal>
+    requires { length marks.now ≡ length items }
+    ensures ok { IfOk result (λ changed. on_meant (on_one operation.now current.now (option_copied found.entry)) marks.now items ≡ Ok changed.items) }
+    ensures same { IfOk result (λ changed. IsTrue changed.same ↔ (changed.items ≡ items)) }
+    ensures err { IfErr result (λ refusal. (on_meant (on_one operation.now current.now (option_copied found.entry)) marks.now items ≡ Err refusal) ⊎ (refusal ≡ Refusal.Memory)) }
+{
+    let mut all = items.into_vec();
+    let same = on_meant(alloc, operation, current, found, marks, all.as_mut_slice())?;
+    Ok(Changed {
+        items: Items::from_vec(all),
+        same,
+    })
+}
+
+/// What an operation makes of each of the items that are marked.
 fn on_each(
     alloc: Global,
     operation: &Operation,
     current: &[u8],
     marks: &[bool],
-    items: &[Item],
-) -> Result<Items<Item>, Refusal>
-    requires { length marks.now ≡ length items.now }
-    ensures ok { IfOk result (λ new. on_each operation.now current.now marks.now items.now ≡ Ok new) }
-    ensures err { IfErr result (λ refusal. (on_each operation.now current.now marks.now items.now ≡ Err refusal) ⊎ (refusal ≡ Refusal.Memory)) }
+    items: Items<Item>,
+) -> Result<Changed, Refusal>
+    requires { length marks.now ≡ length items }
+    ensures ok { IfOk result (λ changed. on_each operation.now current.now marks.now items ≡ Ok changed.items) }
+    ensures same { IfOk result (λ changed. IsTrue changed.same ↔ (changed.items ≡ items)) }
+    ensures err { IfErr result (λ refusal. (on_each operation.now current.now marks.now items ≡ Err refusal) ⊎ (refusal ≡ Refusal.Memory)) }
 {
-    let found = source_of(operation, items);
-    on_meant(alloc, operation, current, found, marks, items)
+    let found = copied_source(operation, items.as_slice())?;
+    on_found(alloc, operation, current, found.as_ref(), marks, items)
 }
 
 /// What an operation on the symbols that the file loads makes of its items.
-fn change_loads(
+fn with_loads(
     alloc: Global,
     operation: &LoadOperation,
     items: &[Item],
@@ -217,13 +306,33 @@ fn change_loads(
     }
 }
 
-/// Copies of the items.
-fn copied(alloc: Global, items: &[Item]) -> Result<Items<Item>, Memory>
-    ensures { IfOk result (λ new. new ≡ items.now) }
+/// Whether both lists have the same items in the same places.
+fn are_same(a: &[Item], b: &[Item]) -> bool
+    ensures { IsTrue result ↔ (a.now ≡ b.now) }
 {
-    let mut all = Items::new(alloc);
-    push_copies(items, &mut all)?;
-    Ok(all)
+    if a.len() != b.len() {
+        return false;
+    }
+    for at in 0..a.len() {
+        if !a[at].equals(&b[at]) {
+            return false;
+        }
+    }
+    true
+}
+
+/// What an operation on the symbols that the file loads makes of its items, which are let go.
+fn change_loads(
+    alloc: Global,
+    operation: &LoadOperation,
+    items: Items<Item>,
+) -> Result<Changed, Memory>
+    ensures items { IfOk result (λ changed. changed.items ≡ loads_changed operation.now items) }
+    ensures same { IfOk result (λ changed. IsTrue changed.same ↔ (changed.items ≡ items)) }
+{
+    let new = with_loads(alloc, operation, items.as_slice())?;
+    let same = are_same(new.as_slice(), items.as_slice());
+    Ok(Changed { items: new, same })
 }
 
 /// What an operation makes of the items, of which those that it is meant for are marked.
@@ -232,18 +341,19 @@ pub(crate) fn on_rules(
     operation: &Operation,
     current: &[u8],
     marks: &[bool],
-    items: &[Item],
-) -> Result<Items<Item>, Refusal>
-    requires { length marks.now ≡ length items.now }
-    ensures ok { IfOk result (λ new. on_rules operation.now current.now marks.now items.now ≡ Ok new) }
-    ensures err { IfErr result (λ refusal. (on_rules operation.now current.now marks.now items.now ≡ Err refusal) ⊎ (refusal ≡ Refusal.Memory)) }
+    items: Items<Item>,
+) -> Result<Changed, Refusal>
+    requires { length marks.now ≡ length items }
+    ensures ok { IfOk result (λ changed. on_rules operation.now current.now marks.now items ≡ Ok changed.items) }
+    ensures same { IfOk result (λ changed. IsTrue changed.same ↔ (changed.items ≡ items)) }
+    ensures err { IfErr result (λ refusal. (on_rules operation.now current.now marks.now items ≡ Err refusal) ⊎ (refusal ≡ Refusal.Memory)) }
 {
     match operation {
         Operation::Rule(rule) => match rule {
             RuleOperation::New { kind, name, place } => {
-                with_rule(alloc, kind.as_slice(), name.as_slice(), place, items)
+                add_rule(alloc, kind.as_slice(), name.as_slice(), place, items)
             }
-            RuleOperation::Delete => Ok(unmarked(alloc, marks, items)?),
+            RuleOperation::Delete => Ok(delete(alloc, marks, items)?),
             RuleOperation::SetKind { .. } => on_each(alloc, operation, current, marks, items),
         },
         Operation::Attribute(_)
@@ -251,6 +361,6 @@ pub(crate) fn on_rules(
         | Operation::Dict(_)
         | Operation::Comment(_) => on_each(alloc, operation, current, marks, items),
         Operation::Load(load) => Ok(change_loads(alloc, load, items)?),
-        Operation::Print { .. } => Ok(copied(alloc, items)?),
+        Operation::Print { .. } => Ok(Changed { items, same: true }),
     }
 }

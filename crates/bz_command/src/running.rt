@@ -1,18 +1,20 @@
 //! The effect of a command on a file value.
-ghost use Rattle.std.specs.Prelude.{◌≡◌, ◌≢◌, ◌⊎◌, ◌↔◌, true, false, None, Ok, Err, IsOk, IfOk, IfErr, MatchOption};
+ghost use Rattle.std.specs.Prelude.{◌≡◌, ◌⊎◌, ◌↔◌, true, false, None, Ok, Err, IsOk, IfOk, IfErr};
 ghost use Rattle.std.specs.List.{list_any};
 ghost use Rattle.std.specs.Option.{unwrap_or};
 ghost use Rattle.bz_command.specs.Targets.{may_mean_none};
 ghost use Rattle.bz_command.specs.Effect.{effect, lacks_rules, looks_at_rules, printed};
+ghost use Rattle.bz_command.specs.Looks.{IsLook, IsMarked};
 
 use crate::outcome::Outcome;
 use crate::printing::print_rules;
 use crate::proper_laws::effects_stay_proper;
-use crate::ruling::on_rules;
+use crate::ruling::{Changed, on_rules};
 use crate::targets::{may_mean_none, meant};
 use bz_attribute::Refusal;
-use bz_items::{Items, Text};
+use bz_items::Text;
 use bz_label::{Target, Which};
+use bz_rule::take_apart;
 use bz_value::{File, Item};
 use bz_words::{Command, Operation, RuleOperation};
 use std::alloc::Global;
@@ -58,61 +60,70 @@ fn on_none(which: &Which) -> Result<(), Refusal>
     }
 }
 
-/// What a command makes of the items of a file, `None` where they are as they were; and what it prints.
+/// What is known of a command before anything changes.
 #[derive(Drop)]
-struct Made {
-    items: Option<Items<Item>>,
-    printed: Text,
+enum Look {
+    /// The items stay, and this is printed.
+    Stays(Text),
+    /// The items may change: those that it is meant for are marked.
+    Changes(Vec<bool>),
 }
 
-/// What a command makes of the items of a file.
-fn made_of(
+/// Looks at the items of a file for what a command is meant for, and prints it where the command prints.
+fn look_at(
     alloc: Global,
     command: &Command,
     target: &Target,
     current: &[u8],
     lines: &[u32],
     items: &[Item],
-) -> Result<Made, Refusal>
-    ensures ok { IfOk result (λ made. effect command.now target.now current.now lines.now items.now ≡ Ok (unwrap_or made.items items.now)) }
-    ensures printed { IfOk result (λ made. printed command.now target.now current.now lines.now items.now ≡ Ok made.printed) }
+) -> Result<Look, Refusal>
+    ensures ok { IfOk result (IsLook command.now target.now current.now lines.now items.now) }
     ensures err { IfErr result (λ refusal. (effect command.now target.now current.now lines.now items.now ≡ Err refusal) ⊎ (refusal ≡ Refusal.Memory)) }
 {
     let operation = &command.operation;
     let marks = meant(alloc, &target.which, lines, items)?;
-    let marks = marks.as_slice();
-    let nothing = Text::from_vec(Vec::new(alloc));
-    if lacks_rules(operation, marks) {
+    let marked = marks.as_slice();
+    if lacks_rules(operation, marked) {
         on_none(&target.which)?;
-        return Ok(Made {
-            items: None,
-            printed: nothing,
-        });
+        return Ok(Look::Stays(Text::from_vec(Vec::new(alloc))));
     }
     if command.prints() {
-        let printed = print_rules(alloc, operation, current, lines, marks, items)?;
-        return Ok(Made {
-            items: None,
-            printed,
-        });
+        let printed = print_rules(alloc, operation, current, lines, marked, items)?;
+        return Ok(Look::Stays(printed));
     }
-    let new = on_rules(alloc, operation, current, marks, items)?;
-    Ok(Made {
-        items: Some(new),
-        printed: nothing,
-    })
+    Ok(Look::Changes(marks))
 }
 
-/// The new value, where it differs from the old one.
-fn differing(new: File, old: &File) -> Option<File>
-    ensures { MatchOption result (new ≡ old.now) (λ file. (file ≡ new) × (new ≢ old.now)) }
+/// What a command makes of a file of which the items that it is meant for are marked; `None` where that is the same value.
+fn changed(
+    alloc: Global,
+    command: &Command,
+    target: &Target,
+    current: &[u8],
+    lines: &[u32],
+    marks: &[bool],
+    file: File,
+) -> Result<Option<File>, Refusal>
+    requires marked { IsMarked command.now target.now current.now lines.now file marks.now }
+    ensures ok { IfOk result (λ new. effect command.now target.now current.now lines.now file ≡ Ok (unwrap_or new file)) }
+    ensures unchanged { IfOk result (λ new. (new ≡ None) ↔ (effect command.now target.now current.now lines.now file ≡ Ok file)) }
+    ensures err { IfErr result (λ refusal. (effect command.now target.now current.now lines.now file ≡ Err refusal) ⊎ (refusal ≡ Refusal.Memory)) }
 {
-    if new.equals(old) { None } else { Some(new) }
+    effects_stay_proper();
+    // What is read of the command, so that its words are known to be proper.
+    let operation = &command.operation;
+    let File { items } = file;
+    let Changed { items, same } = on_rules(alloc, operation, current, marks, items)?;
+    let new = File { items };
+    if same {
+        take_apart(new);
+        return Ok(None);
+    }
+    Ok(Some(new))
 }
 
-/// The effect of a command on the rules that the target means. `current` is the path of the file's package, `lines` the
-/// lines on which its statements begin, from 1. The outcome holds no file exactly where the effect is the same value, and
-/// what is printed of the rules where the command prints.
+/// The effect of a command on the rules that the target means, as `run_on` tells it, on a copy of the file where it may change.
 /// Errors: the effect's refusal; `Memory`: a growth was refused.
 pub fn run(
     alloc: Global,
@@ -127,20 +138,89 @@ pub fn run(
     ensures printed { IfOk result (λ outcome. printed command.now target.now current.now lines.now file.now ≡ Ok outcome.printed) }
     ensures err { IfErr result (λ refusal. (effect command.now target.now current.now lines.now file.now ≡ Err refusal) ⊎ (refusal ≡ Refusal.Memory)) }
 {
-    effects_stay_proper();
-    // What is read of the command, so that its words are known to be proper.
-    let _operation = &command.operation;
-    let Made { items, printed } = made_of(
+    match look_at(
         alloc,
         command,
         target,
         current,
         lines,
         file.items.as_slice(),
-    )?;
-    let file = match items {
-        Some(items) => differing(File { items }, file),
-        None => None,
-    };
-    Ok(Outcome { file, printed })
+    )? {
+        Look::Stays(printed) => Ok(Outcome {
+            file: None,
+            printed,
+        }),
+        Look::Changes(marks) => {
+            let copy = file.copy()?;
+            let new = changed(
+                alloc,
+                command,
+                target,
+                current,
+                lines,
+                marks.as_slice(),
+                copy,
+            )?;
+            Ok(Outcome {
+                file: new,
+                printed: Text::from_vec(Vec::new(alloc)),
+            })
+        }
+    }
+}
+
+/// The effect of a command on the rules that the target means, on a file that is given up: what stays of it is moved.
+/// `current` is the path of the file's package, `lines` the lines on which its statements begin, from 1. The outcome holds no
+/// file exactly where the effect is the same value, and what is printed of the rules where the command prints.
+/// Errors: the effect's refusal; `Memory`: a growth was refused.
+pub fn run_on(
+    alloc: Global,
+    command: &Command,
+    target: &Target,
+    current: &[u8],
+    lines: &[u32],
+    file: File,
+) -> Result<Outcome, Refusal>
+    ensures ok { IfOk result (λ outcome. effect command.now target.now current.now lines.now file ≡ Ok (unwrap_or outcome.file file)) }
+    ensures unchanged { IfOk result (λ outcome. (outcome.file ≡ None) ↔ (effect command.now target.now current.now lines.now file ≡ Ok file)) }
+    ensures printed { IfOk result (λ outcome. printed command.now target.now current.now lines.now file ≡ Ok outcome.printed) }
+    ensures err { IfErr result (λ refusal. (effect command.now target.now current.now lines.now file ≡ Err refusal) ⊎ (refusal ≡ Refusal.Memory)) }
+{
+    match look_at(
+        alloc,
+        command,
+        target,
+        current,
+        lines,
+        file.items.as_slice(),
+    ) {
+        Ok(look) => match look {
+            Look::Stays(printed) => {
+                take_apart(file);
+                Ok(Outcome {
+                    file: None,
+                    printed,
+                })
+            }
+            Look::Changes(marks) => {
+                let new = changed(
+                    alloc,
+                    command,
+                    target,
+                    current,
+                    lines,
+                    marks.as_slice(),
+                    file,
+                )?;
+                Ok(Outcome {
+                    file: new,
+                    printed: Text::from_vec(Vec::new(alloc)),
+                })
+            }
+        },
+        Err(refusal) => {
+            take_apart(file);
+            Err(refusal)
+        }
+    }
 }

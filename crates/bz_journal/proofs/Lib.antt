@@ -2,6 +2,7 @@ pub mod Acting
 pub mod Alike
 pub mod Following
 pub mod Formatting
+pub mod Hashing
 pub mod Kept
 pub mod Resuming
 pub mod Opening

@@ -4,11 +4,10 @@ ghost use Rattle.bz_journal.specs.Faults.{FormatsTo};
 ghost use Rattle.bz_journal.specs.Fixed.{IsFormatted};
 
 use crate::laws::formatted_once;
-use crate::meaning::{spelled, written};
+use crate::meaning::{spelled, value_of, written};
 use bz_attribute::Refusal;
 use bz_items::Text;
 use bz_tree::{ReadFault, parse};
-use bz_view::view;
 use std::alloc::Global;
 use thiserror::Error;
 
@@ -49,7 +48,7 @@ pub fn format(alloc: Global, text: &[u8]) -> Result<Text, FormatFault>
         Ok(tree) => tree,
         Err(fault) => return Err(unread(fault)),
     };
-    let Ok(value) = view(alloc, &tree) else {
+    let Ok(value) = value_of(alloc, tree) else {
         return Err(FormatFault::Memory);
     };
     formatted_once();

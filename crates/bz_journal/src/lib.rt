@@ -2,6 +2,7 @@
 #![tactic(auto)]
 
 mod action;
+mod digest;
 mod formatter;
 mod keeping;
 mod lasting;

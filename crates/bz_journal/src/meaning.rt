@@ -4,19 +4,20 @@ ghost use Rattle.bz_value.specs.Gaps.{Bytes};
 ghost use Rattle.std.specs.Option.{unwrap_or};
 ghost use Rattle.bz_tree.specs.Legal.{Reads, Accepted};
 ghost use Rattle.bz_tree.specs.Spell.{spell_node};
+ghost use Rattle.bz_view.specs.View.{view_of};
 ghost use Rattle.bz_journal.specs.Meaning.{gives, refuses, told, written, Means, Formats};
 
 use bz_attribute::Refusal;
-use bz_command::{Outcome, run};
+use bz_command::{Outcome, run_on};
 use bz_items::{Memory, Text};
 use bz_label::Target;
 use bz_rule::take_apart;
 use bz_tidy::tidy;
 use bz_tree::Tree;
 use bz_value::File;
-use bz_view::view;
+use bz_view::{into_view, view};
 use bz_words::Command;
-use bz_write::{SetFault, set};
+use bz_write::{SetFault, set_from};
 use std::alloc::Global;
 
 /// What a command makes of a text: the tree of a new one, or none where the file is unchanged; and what it prints, where it
@@ -45,14 +46,21 @@ pub(crate) fn spelled(alloc: Global, tree: &Tree) -> Result<Text, Memory>
     Ok(Text::from_vec(text))
 }
 
+/// The value of a tree that is let go.
+pub(crate) fn value_of(alloc: Global, tree: Tree) -> Result<File, Memory>
+    ensures { IfOk result (λ file. file ≡ view_of tree) }
+{
+    into_view(alloc, tree)
+}
+
 /// The tree of a new value: it spells the layout of the value tidied.
 #[tactic(auto, using(crate::proofs::Writes::written_too_large, crate::proofs::Writes::written_too_deep, crate::proofs::Writes::written_spelled))]
 pub(crate) fn written(alloc: Global, file: File) -> Result<Tree, Refusal>
     ensures ok { IfOk result (λ tree. (printed : Option Bytes) → written file printed ≡ gives (spell_node tree) printed) }
     ensures err { IfErr result (λ refusal. ((printed : Option Bytes) → written file printed ≡ refuses refusal) ⊎ (refusal ≡ Refusal.Memory)) }
 {
-    let tidied = tidy(alloc, file)?;
-    let drawn = set(alloc, &tidied);
+    let mut tidied = tidy(alloc, file)?;
+    let drawn = set_from(alloc, &mut tidied);
     take_apart(tidied);
     match drawn {
         Ok(tree) => {
@@ -91,7 +99,15 @@ pub(crate) fn meaning(
     reads_back(tree);
     let value = view(alloc, tree)?;
     let lines = tree.lines(alloc)?;
-    let Outcome { file, printed } = run(alloc, command, target, current, lines.as_slice(), &value)?;
+    let Outcome { file, printed } = run_on(
+        alloc,
+        command,
+        target,
+        current,
+        lines.as_slice(),
+        value,
+    )?;
+    drop(lines);
     let printed = told(command, printed);
     match file {
         None => Ok(Meant {

@@ -16,8 +16,9 @@ ghost use Rattle.bz_journal.specs.State.{trail_of};
 ghost use Rattle.bz_journal.specs.Shown.{history_of, IsOverEven};
 
 use crate::action::{Action, Reply};
+use crate::digest::digest_of;
 use crate::laws::formatted_once;
-use crate::meaning::{Meant, formatted, meaning, spelled};
+use crate::meaning::{Meant, formatted, meaning};
 use bz_attribute::Refusal;
 use bz_edit::{Step, weight};
 use bz_items::{Memory, Text};
@@ -279,7 +280,7 @@ impl Session {
     {
         texts_kept();
         let alloc = self.alloc();
-        let digest = digest_of(alloc, &next)?;
+        let digest = digest_of(&next);
         let note = Text::from_slice(alloc, note.as_bytes())?;
         self.digests.reserve(1)?;
         self.notes.reserve(1)?;
@@ -442,14 +443,6 @@ fn unchanged(printed: Option<Text>) -> Reply
         None => Reply::Same,
         Some(text) => Reply::Printed(text),
     }
-}
-
-/// The SHA-256 of the text of a tree.
-fn digest_of(alloc: Global, tree: &Tree) -> Result<[u8; 32], Memory>
-    ensures { IfOk result (λ digest. digest ≡ sha256 (spell_node tree.now)) }
-{
-    let text = spelled(alloc, tree)?;
-    Ok(Sha256::digest(text.as_slice()))
 }
 
 /// A list of one digest.

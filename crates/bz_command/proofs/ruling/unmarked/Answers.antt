@@ -1,10 +1,10 @@
-use Rattle.std.proofs.Common.{◌≡◌, ◌⊎◌, length, inl, inr, append-nil}
+use Rattle.std.proofs.Common.{◌≡◌, ◌∙◌, sym, length, append-nil}
+use Rattle.std.specs.Vec.Iter.{into_iter_items}
 use Rattle.bz_command.proofs.RunningItems.{none_left}
 use Rattle.bz_command.proofs.ruling.unmarked.Goals as goal
 
 pub returns : goal.returns
 returns c =
-    let marks = c.loop-mark.mark-iterator.a.rest.now in
-    let items = c.loop-mark.mark-iterator.b.rest.now in
-    let over : (length marks ≡ 0) ⊎ (length items ≡ 0) = elim c.in-None.ensures.steps [ inl (x, is) ↦ inl is.0 | inr (x, is) ↦ inr is.0 ] in
-    rw (c.loop-mark.invariant, none_left marks items over, append-nil)
+    let left = c.loop-item.item-iterator in
+    let over : length (into_iter_items left) ≡ 0 = sym left.rest.ok.0 ∙ c.in-None.ensures.steps.0 in
+    rw (none_left c.loop-item.left.now (into_iter_items left) over, append-nil) at c.loop-item.invariant

@@ -17,5 +17,5 @@ returns-in-Ok-spelled-clause-fixed c = c.formatted_once.ensures c.args.text.now 
   c.in-Ok.tree,
   c.in-Ok.ensures.ok,
   ap (λ (text : Bytes). gives text None) c.in-Ok-spelled.ensures.text ∙ sym (c.in-Ok-written.ensures.ok None)
-      ∙ ap (λ (items : List Item). written items None) c.in-Ok-view.ensures.value,
+      ∙ ap (λ (items : List Item). written items None) c.in-Ok-value_of.ensures,
 )

@@ -19,8 +19,8 @@ invariant_of-self-2 c =
     let next : Node = c.args.next in
     let room : c.self.inside.cursor < most_steps = subst (λ (t : State). t.cursor < most_steps) (sym c.self.view_is) c.requires.room in
     let digests : c.put_after.new.items.items ≡ take (c.self.inside.cursor + 1) c.self.inside.digests.items ++ sha256 (spell_node next) ∷ [] =
-    c.put_after.ensures ∙ ap (λ (l : List Bytes). take (c.self.inside.cursor + 1) l ++ c.in_ok-digest.digest ∷ []) c.reserve.ensures.items
-    ∙ ap (λ (d : Bytes). take (c.self.inside.cursor + 1) c.self.inside.digests.items ++ d ∷ []) c.in_ok-digest.ensures in
+    c.put_after.ensures ∙ ap (λ (l : List Bytes). take (c.self.inside.cursor + 1) l ++ c.digest_of-digest.result ∷ []) c.reserve.ensures.items
+    ∙ ap (λ (d : Bytes). take (c.self.inside.cursor + 1) c.self.inside.digests.items ++ d ∷ []) c.digest_of-digest.ensures in
     let notes : c.put_after-2.new.items.items ≡ take c.self.inside.cursor c.self.inside.notes.items ++ c.args.note.now ∷ [] =
     c.put_after-2.ensures ∙ ap (λ (l : List Bytes). take c.self.inside.cursor l ++ c.in_ok-note.note ∷ []) c.reserve-2.ensures.items
     ∙ ap (λ (d : Bytes). take c.self.inside.cursor c.self.inside.notes.items ++ d ∷ []) (c.in_ok-note.ensures ∙ c.as_bytes.ensures.value) in
