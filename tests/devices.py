@@ -1,10 +1,10 @@
 #!/usr/bin/env python3
 """Runs the built programs where the system refuses them something, and looks at what they leave.
 
-Outputs that are full, closed, or no longer read; inputs that are closed, or a folder; a disk that is full; folders in which nobody
-may write; names that are no file's; links that go round, lead nowhere or elsewhere; and what stands in the way of the new file. Each
-run is compared with what README says must come: its status, its lines, and the bytes of all files after it. Where the script runs as
-root the programs run as nobody, since rights are nothing to root.
+Outputs that are full, closed, or no longer read; inputs that are closed, or a folder; packages without an end; a disk that is full;
+folders in which nobody may write; names that are no file's; links that go round, lead nowhere or elsewhere; and what stands in the
+way of the new file. Each run is compared with what README says must come: its status, its lines, and the bytes of all files after it.
+Where the script runs as root the programs run as nobody, since rights are nothing to root.
 
 Both programs pass over the signal of a pipe that nobody reads, and tell it as an output that cannot be written. That of a file past
 the limit of its size they leave to the system, which ends them by it: then the file stands as it was. Where it is passed over, by
@@ -36,10 +36,14 @@ EDIT = ["set k 1", "//:x"]
 FIXED = b"fixed BUILD\n"
 UNREAD = b"<stdin>: cannot open\n"
 UNSHOWN = b"<stdout>: cannot write\n"
+# the addresses that are enough to tell of any input that it is too long
+ENOUGH = 256 << 20
 # the file that each program rewrites, and what it is told where that can't be
 FORMAT = ("buildifier", ["f"], {"f": ODD}, {"f": EVEN})
 CHANGE = ("buildozer", EDIT, {"BUILD": RULE}, {"BUILD": SET})
 FAILED = {"buildifier": 3, "buildozer": 2}
+# addresses enough for a text at the limit and one byte, also while it grows, and too few for much more of a file without an end
+ADDRESSES = 500_000_000
 
 
 class Place:
@@ -145,6 +149,16 @@ def a_reader_that_goes(p):
         p.expect(f"{program} without a reader", (run.returncode, told_lines), (FAILED[program], UNSHOWN))
 
 
+def packages_without_an_end(p):
+    """No more is read of one than one byte past the limit of a text: it is told as too large, and memory is not refused."""
+    (p.folder / "BUILD").symlink_to("/dev/zero")
+    few = lambda: resource.setrlimit(resource.RLIMIT_AS, (ADDRESSES, ADDRESSES))
+    for words in (EDIT, ["--stdout", *EDIT], ["--journal", *EDIT]):
+        p.leaves("buildozer", words, (2, b"", b"BUILD: TooLarge\n"), preexec_fn=few)
+    (p.folder / "BUILD.bazel").symlink_to("BUILD")
+    p.leaves("buildozer", EDIT, (2, b"", b"BUILD.bazel: TooLarge\n"), preexec_fn=few)
+
+
 # ---- limits of the size of files, and a disk that is full
 
 
@@ -220,6 +234,23 @@ def names_that_are_no_files(p):
     p.leaves("buildozer", ["-f", "/dev/null"], (1, b"", b"/dev/null: no operands\n"))
 
 
+def held_to(count):
+    """Gives a program no more addresses than these."""
+    return lambda: resource.setrlimit(resource.RLIMIT_AS, (count, count))
+
+
+def a_file_without_an_end(p):
+    """No more of it is read than a text may have and one byte by which that is told, and the file beside it is written."""
+    (p.folder / "endless").symlink_to("/dev/zero")
+    put(p.folder, {"f": ODD})
+    lines = b"endless: TooLarge\n/dev/zero: TooLarge\n"
+    for mode in ("check", "print_if_changed", "fix"):
+        shown = {"check": b"f # reformat\n", "print_if_changed": EVEN, "fix": b""}[mode]
+        after = {"f": EVEN} if mode == "fix" else {}
+        p.leaves("buildifier", [f"--mode={mode}", "endless", "/dev/zero", "f"], (1, shown, lines), after, preexec_fn=held_to(ENOUGH))
+    p.leaves("buildifier", [], (1, b"", b"<stdin>: TooLarge\n"), redirect="</dev/zero", preexec_fn=held_to(ENOUGH))
+
+
 def packages_that_are_no_files(p):
     put(p.folder, {"BUILD": RULE, "f": ODD, "d/BUILD.bazel/g": ODD, "d/BUILD": RULE, "e/BUILD/g": ODD})
     (p.folder / "l").mkdir()
@@ -281,8 +312,8 @@ def files_of_odd_rights(p):
 
 
 FUNCTIONS = [
-    a_full_output, an_input_that_cannot_be_read, closed_errors, a_reader_that_goes, a_limit_of_files, a_full_disk,
-    a_folder_that_nobody_may_write, names_that_are_no_files, packages_that_are_no_files, what_stands_in_the_way, links_to_files, files_of_odd_rights,
+    a_full_output, an_input_that_cannot_be_read, closed_errors, a_reader_that_goes, packages_without_an_end, a_limit_of_files, a_full_disk,
+    a_folder_that_nobody_may_write, names_that_are_no_files, a_file_without_an_end, packages_that_are_no_files, what_stands_in_the_way, links_to_files, files_of_odd_rights,
 ]  # fmt: skip
 
 # Each scene by its name; each gives what is wrong.

@@ -1,21 +1,16 @@
 -- How a run uses a package: standard input, and the packages that were used before.
-use Rattle.std.proofs.Common.{◌≡◌, ◌⊎◌, ◌≤◌, ◌<◌, ◌∙◌, ◌++◌, ◌+◌, inl, inr, ℕ, zero, suc, List, [], ◌∷◌, length, take, Option, Some, None, Bool, true, false, true≢false, refl, sym, ap, subst, arith, length-take}
+use Rattle.std.proofs.Common.{◌≡◌, ◌⊎◌, ◌∙◌, ◌++◌, ◌+◌, inl, inr, ℕ, zero, suc, List, [], ◌∷◌, length, take, Option, Some, None, Bool, true, false, true≢false, refl, sym, ap, subst}
 use Rattle.std.specs.Prelude.{IfSome, bytes_eq, if◌then◌else◌}
 use Rattle.std.specs.Option.{option_map}
-use Rattle.std.proofs.lemmas.List.{take_all}
-use Rattle.std.proofs.lemmas.Bool.{cases_lt}
 use Rattle.std.proofs.lemmas.Slice.Eq.{bytes_eq-Decides}
-use Rattle.bz_lex.specs.declared.fault.ReadFault.{ReadFault}
-use Rattle.bz_lex.specs.declared.fault.ReadFault.TheVariants as f
 use Rattle.bz_tree.specs.Spell.{limit}
-use Rattle.bz_tree.specs.Legal.{Accepted}
 use Rattle.bz_value.specs.Gaps.{Bytes}
-use Rattle.bz_journal.specs.Faults.{IsFaultOf}
 use Rattle.bz_ports.specs.Told.{stdin}
 use Rattle.bz_workspace.specs.Found.{found_in}
 use Rattle.bz_workspace.specs.Opens.{Opens, Takes}
 use Rattle.bz_workspace.specs.Packages.{Opened, Used, file_at, place_of, with_file}
 use Rattle.bz_workspace.specs.declared.opening.Opening.{Opening}
+use Rattle.bz_workspace.proofs.FrontSteps.{front_takes}
 use Rattle.bz_ports.specs.declared.exit.Cut.{Cut}
 use Rattle.bz_engine.specs.Cuts.{IsLeft}
 use Rattle.bz_engine.specs.Run.{Answers, State, Uses, World}
@@ -24,44 +19,12 @@ use Rattle.bz_engine.specs.Steps.{Step, input_package}
 
 -- ---- the first bytes of standard input, one more than a text may have, tell what becomes of it
 
-fits_limit : (text : Bytes) → Accepted text → length text ≤ limit
-fits_limit text accepted = accepted.1.2
-
-same_fault : (all : Bytes) (fault : ReadFault) → limit < length all → IsFaultOf (take (limit + 1) all) fault → IsFaultOf all fault
-same_fault all fault long of_front =
-    let len = length-take (limit + 1) all in
-    let large : fault ≡ f.TooLarge = of_front.too_large.1 (omega arith) in
-    record {
-      too_large = (λ _. long, λ _. large);
-      not_utf8 = λ at. (λ is. absurd (cc), λ short. let fits = short.0 in absurd (omega arith));
-      other = of_front.other;
-    }
-
-long_takes : (current name all : Bytes) (file : Option Opened) (lines : List Bytes) → limit < length all → Takes current name (take (limit + 1) all) file lines
-    → Takes current name all file lines
-long_takes current name all file lines long (inl opened) =
-    let le = fits_limit (take (limit + 1) all) opened.0 in
-    let len = length-take (limit + 1) all in absurd (omega arith)
-long_takes current name all file lines long (inr refused) =
-    inr (
-      (λ accepted. let le = fits_limit all accepted in omega arith),
-      (refused.1.0, same_fault all refused.1.0 long refused.1.1, refused.1.2, refused.1.3),
-    )
-
-front_takes : (current name all : Bytes) (file : Option Opened) (lines : List Bytes) → Takes current name (take (limit + 1) all) file lines
-    → Takes current name all file lines
-front_takes current name all file lines takes = go (cases_lt limit (length all))
-  where
-    go : (limit < length all) ⊎ (length all ≤ limit) → Takes current name all file lines
-    go (inl long) = long_takes current name all file lines long takes
-    go (inr short) = subst (λ (text : Bytes). Takes current name text file lines) (take_all (limit + 1) all (omega arith)) takes
-
 pub input_takes : (known : Option Bytes) (current name front : Bytes) (file : Option Opened) (lines : List Bytes)
     → IfSome known (λ all. front ≡ take (limit + 1) all) → Takes current name front file lines
     → (text : Bytes) × IsInput known text × Takes current name text file lines
 input_takes None current name front file lines read takes = (front, tt, takes)
 input_takes (Some all) current name front file lines read takes =
-    (all, refl, front_takes current name all file lines (subst (λ (text : Bytes). Takes current name text file lines) read takes))
+    (all, refl, front_takes current name front all file lines read takes)
 
 -- ---- the package that was used last
 

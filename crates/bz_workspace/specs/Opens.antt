@@ -1,7 +1,8 @@
 -- How a package is opened, and what an action does in one.
-use Rattle.std.specs.Prelude.{◌≡◌, ◌⊎◌, ℕ, List, [], ◌∷◌, codes, Option, Some, None, Result}
+use Rattle.std.specs.Prelude.{◌≡◌, ◌⊎◌, ◌↔◌, ◌+◌, ℕ, List, [], ◌∷◌, take, codes, Option, Some, None, Result}
 use Rattle.bz_lex.specs.declared.fault.ReadFault.{ReadFault}
 use Rattle.bz_tree.specs.Legal.{Accepted}
+use Rattle.bz_tree.specs.Spell.{limit}
 use Rattle.bz_value.specs.Gaps.{Bytes}
 use Rattle.bz_journal.specs.declared.action.Action.{Action}
 use Rattle.bz_journal.specs.declared.action.Reply.{Reply}
@@ -22,6 +23,11 @@ abbrev pub Takes : Bytes → Bytes → Bytes → Option Opened → List Bytes �
 Takes current name text file lines =
     (Accepted text × (file ≡ Some (fresh current name text)) × (lines ≡ []))
     ⊎ ((Accepted text → ⊥) × ((fault : ReadFault) × IsFaultOf text fault × (file ≡ None) × (lines ≡ fault_line name fault ∷ [])))
+
+-- A text and its first bytes, one more than a text may have, are opened or told alike: both are too large, or they are the same.
+abbrev pub FrontsAreToldAlike : Type 0
+FrontsAreToldAlike = (current name text : Bytes) (file : Option Opened) (lines : List Bytes)
+    → (Takes current name (take (limit + 1) text) file lines ↔ Takes current name text file lines)
 
 -- The file that is found for a package is opened; where none is, that is told of `BUILD`.
 abbrev pub Opens : Bytes → Option Found → Option Opened → List Bytes → Type 0

@@ -1,10 +1,12 @@
 //! The files that a run has open: the packages that it has used, each read once, with its session.
 #![tactic(auto)]
 
+mod laws;
 mod opening;
 mod used;
 mod workspace;
 
+pub use laws::fronts_are_told_alike;
 pub use opening::Opening;
 pub use used::{Opened, Used};
 pub use workspace::Workspace;

@@ -1,7 +1,8 @@
 //! What opening a file takes: its name, its bytes and its session.
-ghost use Rattle.std.specs.Prelude.{◌≡◌, ◌≢◌, ◌⊎◌, ◌≤◌, length, true, Some, None, IfOk, IfErr, IsErrOf, string_bytes};
+ghost use Rattle.std.specs.Prelude.{◌≡◌, ◌≢◌, ◌⊎◌, ◌≤◌, length, take, true, Some, None, IfOk, IfErr, IsErrOf, string_bytes};
 ghost use Rattle.std.specs.FinMap.{get};
 ghost use Rattle.bz_tree.specs.Legal.{Accepted};
+ghost use Rattle.bz_value.specs.Gaps.{Bytes};
 ghost use Rattle.bz_journal.specs.Faults.{IsFaultOf};
 ghost use Rattle.bz_ports.specs.Faults.{Rises, AppendsUnlessFailed};
 ghost use Rattle.bz_ports.specs.Told.{named_line};
@@ -46,13 +47,15 @@ pub(crate) fn name_in(alloc: Global, package: &str, base: &str) -> Result<String
     Ok(name)
 }
 
-/// The bytes of a file. Errors: those of the read.
+/// The first bytes of a file: all, or `most` of them where it has more. Errors: those of the read.
 pub(crate) fn bytes_of<F: Files>(
     alloc: Global,
     files: &mut F,
     name: &str,
+    most: usize,
 ) -> Result<Vec<u8>, FileFault>
-    ensures found { F.honest files.old ≡ true → IfOk result (λ text. get (F.folder files.old) name.now ≡ Some text.items) }
+    ensures found { F.honest files.old ≡ true → IfOk result (λ text. (bytes : Bytes)
+        × (get (F.folder files.old) name.now ≡ Some bytes) × (text.items ≡ take most bytes)) }
     ensures absent { F.honest files.old ≡ true → IsErrOf result FileFault.Absent → get (F.folder files.old) name.now ≡ None }
     ensures folder { F.honest files.old ≡ true → F.folder files.new ≡ F.folder files.old }
     ensures kinds { IfErr result (λ fault. fault ≢ FileFault.Write) }
@@ -62,7 +65,7 @@ pub(crate) fn bytes_of<F: Files>(
     ensures honest { F.honest files.new ≡ F.honest files.old }
 {
     let mut text = Vec::new(alloc);
-    match files.read(name, &mut text) {
+    match files.read_most(name, most, &mut text) {
         Ok(()) => Ok(text),
         Err(fault) => Err(fault),
     }

@@ -23,7 +23,7 @@ use bz_files::{FileFault, Files};
 use bz_items::{Memory, Text, at};
 use bz_journal::{Action, KeepFault, Reply, ResumeFault};
 use bz_keep::journal_name;
-use bz_ports::{Cut, Sink, tell_fault, tell_named};
+use bz_ports::{Cut, MOST, Sink, tell_fault, tell_named};
 use indexmap::IndexSet;
 use std::alloc::Global;
 use std::marker::Model;
@@ -193,7 +193,8 @@ impl Workspace {
         }
     }
 
-    /// Opens the file of a used package with what was read of it: its journal is read, and resumed where it is there.
+    /// Opens the file of a used package with what was read of it: its journal is read, and resumed where it is there. A journal may be
+    /// of any length, so it is read whole.
     fn open_kept<F: Files, E: Sink>(
         &mut self,
         place: usize,
@@ -218,7 +219,7 @@ impl Workspace {
             return fail(err, name, "Memory", Cut::Memory);
         };
         let journal = journal.as_str();
-        match bytes_of(alloc, files, journal) {
+        match bytes_of(alloc, files, journal, usize::MAX) {
             Ok(bytes) => self.open_resumed(place, package, name, (journal, bytes), text, err),
             Err(FileFault::Absent) => self.open_text(place, package, name, text, err),
             Err(FileFault::Memory) => fail(err, journal, "Memory", Cut::Memory),
@@ -289,7 +290,7 @@ impl Workspace {
             return unnamed(err, package);
         };
         let name = name.as_str();
-        match bytes_of(alloc, files, name) {
+        match bytes_of(alloc, files, name, MOST) {
             Ok(text) => self.open_found(place, package, name, text, journals, files, err),
             Err(FileFault::Absent) => fail(err, name, "cannot open", Cut::Whole),
             Err(FileFault::Memory) => fail(err, name, "Memory", Cut::Memory),
@@ -327,7 +328,7 @@ impl Workspace {
             return unnamed(err, package);
         };
         let name = name.as_str();
-        match bytes_of(alloc, files, name) {
+        match bytes_of(alloc, files, name, MOST) {
             Ok(text) => self.open_found(place, package, name, text, journals, files, err),
             Err(FileFault::Absent) => self.open_second(place, package, journals, files, err),
             Err(FileFault::Memory) => fail(err, name, "Memory", Cut::Memory),
@@ -343,7 +344,7 @@ impl Workspace {
     }
 
     /// A package: one that was used is not read again; of a new one the file `BUILD.bazel` is read, else `BUILD`, and it is
-    /// a used one from then on, whatever comes. Where journals are kept, `FILE.journal` is read too, and resumed where it is
+    /// a used one from then on, whatever comes. Of a file no more is read than one byte past the limit of a text. Where journals are kept, `FILE.journal` is read too, and resumed where it is
     /// there. A fault is told by one line for each file: those of the text, `NAME: cannot
     /// open` where neither is there or one could not be read, and `NAME: Memory` where memory was refused; of
     /// a journal `NAME.journal: cannot open`, or `NAME.journal: FAULT (NUMBER)`. Cuts: `Memory` and `Files`, the first that
