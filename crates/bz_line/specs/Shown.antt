@@ -1,5 +1,6 @@
 -- What was read, as contracts see it.
-use Rattle.std.specs.Prelude.{map, Option, Some, None}
+use Rattle.std.specs.Prelude.{map, ◌++◌, Option, Some, None}
+use Rattle.bz_label.specs.Pieces.{Bytes}
 use Rattle.bz_line.specs.Asked as a
 use Rattle.bz_line.specs.Line as l
 use Rattle.bz_line.specs.declared.asked.Asked.{Asked}
@@ -7,6 +8,7 @@ use Rattle.bz_line.specs.declared.asked.Asking.{Asking}
 use Rattle.bz_line.specs.declared.asked.Refused.{Refused}
 use Rattle.bz_line.specs.declared.group.UsageFault.{UsageFault}
 use Rattle.bz_line.specs.declared.group.UsageFault.TheVariants as u
+use Rattle.bz_line.specs.declared.hint.Hint.{Hint}
 use Rattle.bz_line.specs.declared.line.Given.{Given}
 use Rattle.bz_line.specs.declared.line.Given.TheVariants as g
 use Rattle.bz_line.specs.declared.line.Line.{Line}
@@ -43,3 +45,7 @@ usage_in u.NoCommand = Some a.no_command
 usage_in u.NoTarget = Some a.no_target
 usage_in u.NoLine = Some a.no_line
 usage_in u.Memory = None
+
+-- the line that the pieces of a hint give, or nothing
+abbrev pub hint_text : Hint → Bytes
+hint_text hint = hint.front.now ++ hint.word.now ++ hint.back.now

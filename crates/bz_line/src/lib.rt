@@ -3,6 +3,7 @@
 
 mod asked;
 mod group;
+mod hint;
 mod laws;
 mod line;
 mod script;
@@ -11,6 +12,7 @@ mod verb;
 
 pub use asked::{Asked, Asking, Refused};
 pub use group::{UsageFault, read_group};
+pub use hint::{Hint, hint_for};
 pub use laws::worked_lines;
 pub use line::{Given, Line, LineFault, Options, read_line};
 pub use script::read_script;

@@ -1,3 +1,4 @@
 pub mod Written
 pub mod Outputs
 pub mod Lines
+pub mod Least

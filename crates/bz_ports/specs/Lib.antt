@@ -1,6 +1,7 @@
 pub mod Exits
 pub mod Faults
 pub mod Laws
+pub mod Near
 pub mod Outputs
 pub mod Ports
 pub mod Told

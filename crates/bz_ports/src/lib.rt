@@ -6,6 +6,7 @@ mod device;
 mod exit;
 mod laws;
 mod memory;
+mod near;
 mod sink;
 mod source;
 mod told;
@@ -13,8 +14,9 @@ mod words;
 
 pub use device::Device;
 pub use exit::{Cut, Exit, first_cut};
-pub use laws::lines_are_whole;
+pub use laws::{lines_are_whole, nearest_is_least};
 pub use memory::{MemorySink, MemorySource};
+pub use near::nearest;
 pub use sink::{Sink, write_whole};
 pub use source::{InputFault, MOST, PortFault, Source, read_most};
 pub use told::{STDIN, tell, tell_clap, tell_fault, tell_named};

@@ -45,12 +45,7 @@ pub rewrites_quiet : (name text new : List ℕ) (folder after : Folder) (effect 
 rewrites_quiet name text new folder after effect (inl done) = rw (done.0) (record { stays = refl; nothing = refl })
 rewrites_quiet name text new folder after effect (inr failed) = rw (failed.0) (record { stays = refl; nothing = refl })
 
--- what is read of a file behind nothing is the file
-pub held : (folder : Folder) (name bytes start items : List ℕ) → get folder name ≡ Some bytes → items ≡ start ++ bytes → start ≡ []
-    → get folder name ≡ Some items
-held folder name bytes start items at is empty = at ∙ ap Some (sym (is ∙ ap (λ s. s ++ bytes) empty))
-
--- ---- the front of standard input, one byte longer than a text may be, tells what becomes of it
+-- ---- the front of an input, one byte longer than a text may be, tells what becomes of it
 
 pub ok_of_front : (known : Option (List ℕ)) (front new : List ℕ) → IfSome known (λ all. front ≡ take (limit + 1) all) → FormatsTo front (Ok new)
     → (input : List ℕ) × IsInput known input × (input ≡ front)
@@ -76,3 +71,21 @@ err_of_front (Some all) front fault read formats = go (cut_at_limit all)
     go : (take (limit + 1) all ≡ all) ⊎ (limit < length all) → (input : List ℕ) × IsInput (Some all) input × FormatsTo input (Err fault)
     go (inl whole) = (all, refl, subst (λ (text : List ℕ). FormatsTo text (Err fault)) (read ∙ whole) formats)
     go (inr long) = (all, refl, longer long fault (subst (λ (text : List ℕ). FormatsTo text (Err fault)) read formats))
+
+-- ---- so does the front of a file, which is read behind nothing
+
+front_read : (bytes start items : List ℕ) → items ≡ start ++ take (limit + 1) bytes → start ≡ [] → items ≡ take (limit + 1) bytes
+front_read bytes start items is empty = is ∙ ap (λ s. s ++ take (limit + 1) bytes) empty
+
+-- of a text that is formatted it is the file
+pub whole_file : (folder : Folder) (name bytes start items new : List ℕ) → get folder name ≡ Some bytes → items ≡ start ++ take (limit + 1) bytes
+    → start ≡ [] → FormatsTo items (Ok new) → get folder name ≡ Some items
+whole_file folder name bytes start items new at is empty formats =
+    let all = ok_of_front (Some bytes) items new (front_read bytes start items is empty) formats in at ∙ ap Some (sym all.1 ∙ all.2)
+
+-- and what is told of it is told of the file
+pub refused_file : (bytes start items : List ℕ) (fault : FormatFault) → items ≡ start ++ take (limit + 1) bytes → start ≡ []
+    → FormatsTo items (Err fault) → FormatsTo bytes (Err fault)
+refused_file bytes start items fault is empty formats =
+    let all = err_of_front (Some bytes) items fault (front_read bytes start items is empty) formats in
+    subst (λ (text : List ℕ). FormatsTo text (Err fault)) all.1 all.2

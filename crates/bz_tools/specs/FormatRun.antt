@@ -12,11 +12,12 @@ use Rattle.bz_ports.specs.declared.exit.Cut.{Cut}
 use Rattle.bz_ports.specs.declared.exit.Cut.TheVariants as c
 use Rattle.bz_ports.specs.Exits.{first_cut}
 use Rattle.bz_ports.specs.Faults.{Rises}
+use Rattle.bz_ports.specs.Near.{nearest}
 use Rattle.bz_ports.specs.Ports.{IsInput}
 use Rattle.bz_ports.specs.Told.{stdin, named_line, fault_line}
 use Rattle.bz_tools.specs.declared.mode.Mode.{Mode}
 use Rattle.bz_tools.specs.declared.mode.Mode.TheVariants.{Fix, Check, PrintIfChanged}
-use Rattle.bz_tools.specs.Modes.{FormatLine, FormatUsage, clap_fault, no_mode, format_line}
+use Rattle.bz_tools.specs.Modes.{FormatLine, FormatUsage, clap_fault, no_mode, format_line, mode_names}
 
 -- ---- what one text does
 
@@ -162,10 +163,19 @@ abbrev pub RunOf : Mode → List Bytes → Option Bytes → Folder → Run → F
 RunOf mode [] known folder after folder' = (effect : Effect) × InputStep mode known effect × (after ≡ grown begun effect) × (folder' ≡ folder)
 RunOf mode (name ∷ names) known folder after folder' = Files mode (name ∷ names) begun folder after folder'
 
+-- a mode that may have been meant
+abbrev pub meant_mode : Option Bytes → Bytes
+meant_mode None = []
+meant_mode (Some mode) = codes "buildifier: did you mean '--mode=" ++ (mode ++ codes "'?\n")
+
+-- a text that is no mode; behind its line stands one of the mode that is near, if one is
+abbrev pub no_mode_line : Bytes → Option Bytes → Bytes
+no_mode_line name near = codes "buildifier: no mode: " ++ (name ++ (codes "\n" ++ meant_mode near))
+
 -- Of a fault that clap finds the text is clap's.
 abbrev pub IsFormatUsageLine : FormatUsage → Bytes → Type 0
 IsFormatUsageLine clap_fault line = Unit {0}
-IsFormatUsageLine (no_mode name) line = line ≡ codes "buildifier: no mode: " ++ name ++ codes "\n"
+IsFormatUsageLine (no_mode name) line = line ≡ no_mode_line name (nearest name mode_names)
 
 -- Words that are no line of buildifier's have status 2; nothing is then read.
 abbrev pub FormatOutcomeOf : Result FormatLine FormatUsage → Option Bytes → Folder → Run → Folder → Type 0

@@ -1,5 +1,5 @@
 -- The command line of buildifier: what its words say.
-use Rattle.std.specs.Prelude.{◌==◌, List, [], length, codes, bytes_eq, if◌then◌else◌, unwrap_or, Option, Some, None, Result, Ok, Err, true}
+use Rattle.std.specs.Prelude.{◌==◌, List, [], ◌∷◌, length, codes, bytes_eq, if◌then◌else◌, unwrap_or, Option, Some, None, Result, Ok, Err, true}
 use Rattle.clap.specs.Words.{App, Rule, Row, all_of, first_of, fault_of, matches_of, new_app, new_rule, with_rule}
 use Rattle.clap.specs.declared.builder.action.ArgAction.TheVariants.{Append}
 use Rattle.bz_value.specs.Gaps.{Bytes}
@@ -27,6 +27,10 @@ abbrev pub mode_called : Bytes → Option Mode
 mode_called name = if bytes_eq name (codes "fix") then Some Fix
     else (if bytes_eq name (codes "check") then Some Check
     else (if bytes_eq name (codes "print_if_changed") then Some PrintIfChanged else None))
+
+-- all names of modes
+abbrev pub mode_names : List Bytes
+mode_names = codes "fix" ∷ codes "check" ∷ codes "print_if_changed" ∷ []
 
 -- a mode, and files by their names
 pub record FormatLine : Type 0 where

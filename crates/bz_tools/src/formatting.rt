@@ -1,5 +1,5 @@
 //! The program buildifier over any reader, writers and files.
-ghost use Rattle.std.specs.Prelude.{◌≡◌, ◌≢◌, ◌⊎◌, ◌≤◌, [], ◌∷◌, List, ℕ, true, false, IfOk, OnOk, OnErr, IsErr, Some, codes, map};
+ghost use Rattle.std.specs.Prelude.{◌≡◌, ◌≢◌, ◌⊎◌, ◌≤◌, [], ◌∷◌, List, ℕ, true, false, IfOk, OnOk, OnErr, IsErr, Some, codes, map, option_map};
 ghost use Rattle.std.specs.FinMap.{get};
 ghost use Rattle.bz_ports.specs.Faults.{Rises, AppendsUnlessFailed};
 ghost use Rattle.bz_ports.specs.Outputs.{Tells, Counts, Writes, WritesUnlessClosed};
@@ -7,7 +7,7 @@ ghost use Rattle.bz_ports.specs.Told.{stdin, named_line};
 ghost use Rattle.bz_tools.specs.Modes as m;
 ghost use Rattle.bz_tools.specs.Modes.{format_line};
 ghost use Rattle.bz_tools.specs.FormatRun as r;
-ghost use Rattle.bz_tools.specs.FormatRun.{IsCutBy, Rewrites, FileStep, InputStep, FormatOutcome, IsFormatUsageLine, begun};
+ghost use Rattle.bz_tools.specs.FormatRun.{IsCutBy, Rewrites, FileStep, InputStep, FormatOutcome, IsFormatUsageLine, no_mode_line, begun};
 ghost use Rattle.bz_tools.specs.FormatShown.{effect_of, progress_of, usage_of};
 
 use crate::effect::{
@@ -54,7 +54,7 @@ fn rewrite<F: Files, E: Sink>(
     }
 }
 
-// Reads a file, formats it, and does what the mode wants.
+// Reads a file, formats it, and does what the mode wants. Of a text that is too long no more is read than the byte that tells.
 fn file_effect<F: Files, W: Sink, E: Sink>(
     alloc: Global,
     mode: Mode,
@@ -75,7 +75,7 @@ fn file_effect<F: Files, W: Sink, E: Sink>(
     ensures honest { F.honest files.new ≡ F.honest files.old }
 {
     let mut text = Vec::new(alloc);
-    match files.read(name, &mut text) {
+    match files.read_most(name, MOST, &mut text) {
         Ok(()) => {}
         Err(fault) => return unread_file(err, name, fault),
     }
@@ -154,8 +154,28 @@ fn run_files<F: Files, W: Sink, E: Sink>(
     progress
 }
 
-// Tells why the words are no line of the program's. The error: memory was refused, to the words or to the text of a fault
-// that clap finds; nothing is then told.
+// Tells that there is no mode of this name, and the one that is near, if one is.
+fn tell_no_mode<'a, E: Sink>(err: &mut E, name: &'a str, near: Option<&'a str>)
+    ensures { AppendsUnlessFailed (E.faults err.old) (E.faults err.new) (E.contents err.old) (E.contents err.new)
+        (no_mode_line name.entry.now (option_map (λ s. s.now) near.entry)) }
+{
+    match near {
+        Some(mode) => tell(
+            err,
+            &[
+                "buildifier: no mode: ",
+                name,
+                "\nbuildifier: did you mean '--mode=",
+                mode,
+                "'?\n",
+            ],
+        ),
+        None => tell(err, &["buildifier: no mode: ", name, "\n"]),
+    }
+}
+
+// Tells why the words are no line of the program's. The error: memory was refused, to the words, to the text of a fault
+// that clap finds or to the search for a mode that is near; nothing is then told.
 fn tell_unusable<E: Sink>(
     alloc: Global,
     err: &mut E,
@@ -168,7 +188,7 @@ fn tell_unusable<E: Sink>(
     match fault {
         FormatUsage::Line(error) => tell_clap(alloc, err, error),
         FormatUsage::NoMode(name) => {
-            tell(err, &["buildifier: no mode: ", name, "\n"]);
+            tell_no_mode(err, name, Mode::near(alloc, name)?);
             Ok(())
         }
         FormatUsage::Memory => Err(AllocError),
@@ -207,8 +227,8 @@ fn unusable<E: Sink>(alloc: Global, fault: &FormatUsage<'_>, err: &mut E) -> Exi
 /// text there. Statuses: 2 where the words are no line of the program's (nothing is then read); else 3 where a file could
 /// not be opened, read or written, memory was refused, or a formatted text would be past a limit; else 1 where a text is
 /// not accepted; else 4 where `check` found a difference; else 0. Each fault is told by one line on `err`, whose faults are
-/// passed over; where memory is refused to the words the line is `buildifier: Memory`. Behind a fault of `out` nothing more
-/// is written there; files still are.
+/// passed over, and that of an unknown mode by one more where a mode is near; where memory is refused to the words, or to that
+/// search, the line is `buildifier: Memory`. Behind a fault of `out` nothing more is written there; files still are.
 pub fn buildifier<S: AsStr, R: Source, W: Sink, E: Sink, F: Files>(
     alloc: Global,
     words: &[S],

@@ -1,6 +1,10 @@
 //! The modes of buildifier.
-ghost use Rattle.std.specs.Prelude.{◌≡◌};
-ghost use Rattle.bz_tools.specs.Modes.{mode_called};
+ghost use Rattle.std.specs.Prelude.{◌≡◌, IfOk, option_map};
+ghost use Rattle.bz_ports.specs.Near.{nearest};
+ghost use Rattle.bz_tools.specs.Modes.{mode_called, mode_names};
+
+use bz_ports::nearest;
+use std::alloc::{AllocError, Global};
 
 /// What buildifier does with a text that formatting changes.
 #[derive(Clone, Copy, Debug, PartialEq, Eq)]
@@ -24,5 +28,12 @@ impl Mode {
             "print_if_changed" => Some(Mode::PrintIfChanged),
             _ => None,
         }
+    }
+
+    /// The name of the mode that is nearest to this text, where one is near. The error: memory was refused.
+    pub(crate) fn near(alloc: Global, name: &str) -> Result<Option<&'static str>, AllocError>
+        ensures { IfOk result (λ near. option_map (λ s. s.now) near ≡ nearest name.now mode_names) }
+    {
+        nearest(alloc, name, &["fix", "check", "print_if_changed"])
     }
 }

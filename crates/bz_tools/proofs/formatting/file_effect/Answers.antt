@@ -4,7 +4,7 @@ use Rattle.bz_files.specs.Folder.{Folder}
 use Rattle.bz_journal.specs.Faults.{FormatsTo}
 use Rattle.bz_tools.specs.FormatRun as r
 use Rattle.bz_tools.specs.FormatRun.{unread, without_memory, unformatted, kept, rewritten, Rewrites, Prints, is_rewritten, file_out, text_status}
-use Rattle.bz_tools.proofs.FormatSteps.{quiet, unread_quiet, refused_quiet, rewrites_quiet, held}
+use Rattle.bz_tools.proofs.FormatSteps.{quiet, unread_quiet, refused_quiet, rewrites_quiet, whole_file, refused_file}
 use Rattle.bz_tools.proofs.formatting.file_effect.Goals as goal
 
 pub returns-in-Err-clause-step : goal.returns-in-Err-clause-step
@@ -21,14 +21,13 @@ pub returns-in-Err-format-clause-step : goal.returns-in-Err-format-clause-step
 returns-in-Err-format-clause-step g c = λ honest.
     let name = c.args.name.now in
     let fault = c.in-Err-format.fault in
-    let text = c.read.new.into.items in
+    let text = c.read_most.new.into.items in
     let found = c.in-Ok.ensures.found honest in
-    let there : get (g.F.Files.folder c.args.files.now) name ≡ Some text =
-    held (g.F.Files.folder c.args.files.now) name found.0 c.new-text.result.items text found.1 found.2 c.new-text.ensures.items in
     let formats : FormatsTo text (Err fault) = subst (λ (t : List ℕ). FormatsTo t (Err fault)) c.deref.ensures.value c.in-Err-format.ensures.formats in
+    let of_file : FormatsTo found.0 (Err fault) = refused_file found.0 c.new-text.result.items text fault found.2 c.new-text.ensures.items formats in
     let effect = r.refused name fault in (
       effect,
-      unformatted text fault there formats refl (c.in-Ok.ensures.same honest),
+      unformatted found.0 fault found.1 of_file refl (c.in-Ok.ensures.same honest),
       c.refused.ensures.effect,
       quiet c.args.closed effect (g.W.Sink.faults c.args.out.now) (g.W.Sink.contents c.args.out.now) (refused_quiet name fault),
       c.refused.ensures.told,
@@ -40,17 +39,18 @@ returns-then-is_rewritten-clause-step g c = λ honest.
     let before = g.F.Files.folder c.args.files.now in
     let after = g.F.Files.folder c.rewrite.new.files in
     let new = c.in-Ok-format.new in
-    let text = c.read.new.into.items in
+    let text = c.read_most.new.into.items in
     let found = c.in-Ok.ensures.found honest in
-    let there : get before name ≡ Some text = held before name found.0 c.new-text.result.items text found.1 found.2 c.new-text.ensures.items in
     let formats : FormatsTo text (Ok new) = subst (λ (t : List ℕ). FormatsTo t (Ok new)) c.deref.ensures.value c.in-Ok-format.ensures.formats in
+    let there : get before name ≡ Some text =
+    whole_file before name found.0 c.new-text.result.items text new found.1 found.2 c.new-text.ensures.items formats in
     let differs : is_rewritten c.args.mode text new ≡ true =
     rw (c.deref-2.ensures.value, c.as_slice.ensures) at (sym c.is_rewritten.ensures ∙ c.if-is_rewritten.true) in
     let step = c.rewrite.ensures.step (c.in-Ok.ensures.honest ∙ honest) in
     let rewrites : Rewrites name text new before step.0 after =
     subst (λ (folder : Folder). Rewrites name text new folder step.0 after) (c.in-Ok.ensures.same honest)
-    (subst (λ (slice : List ℕ). Rewrites name slice new (g.F.Files.folder c.read.new.self) step.0 after) c.deref-then-is_rewritten.ensures.value
-    (subst (λ (slice : List ℕ). Rewrites name c.deref-then-is_rewritten.result.now slice (g.F.Files.folder c.read.new.self) step.0 after)
+    (subst (λ (slice : List ℕ). Rewrites name slice new (g.F.Files.folder c.read_most.new.self) step.0 after) c.deref-then-is_rewritten.ensures.value
+    (subst (λ (slice : List ℕ). Rewrites name c.deref-then-is_rewritten.result.now slice (g.F.Files.folder c.read_most.new.self) step.0 after)
     c.as_slice-then-is_rewritten.ensures step.1)) in (
       step.0,
       rewritten text new there formats differs rewrites,
@@ -65,10 +65,11 @@ returns-in-Ok-file_out-clause-step g c = λ honest.
     let mode = c.args.mode in
     let before = g.F.Files.folder c.args.files.now in
     let new = c.in-Ok-format.new in
-    let text = c.read.new.into.items in
+    let text = c.read_most.new.into.items in
     let found = c.in-Ok.ensures.found honest in
-    let there : get before name ≡ Some text = held before name found.0 c.new-text.result.items text found.1 found.2 c.new-text.ensures.items in
     let formats : FormatsTo text (Ok new) = subst (λ (t : List ℕ). FormatsTo t (Ok new)) c.deref.ensures.value c.in-Ok-format.ensures.formats in
+    let there : get before name ≡ Some text =
+    whole_file before name found.0 c.new-text.result.items text new found.1 found.2 c.new-text.ensures.items formats in
     let stays : is_rewritten mode text new ≡ false =
     rw (c.deref-2.ensures.value, c.as_slice.ensures) at (sym c.is_rewritten.ensures ∙ c.if-is_rewritten.false) in
     let out : c.as_slice-in-Ok-file_out.result.now ≡ file_out mode name text new =
