@@ -37,6 +37,8 @@ fn call_tokens_and_trees() {
     bz_tree::laws::one_reading();
     bz_tree::laws::one_file();
     bz_tree::laws::legal_by_nodes();
+    bz_tree::laws::one_bzl_reading();
+    bz_tree::laws::legal_by_lines();
     bz_tree::laws::worked_lines();
 }
 
@@ -58,6 +60,7 @@ fn call_values() {
     bz_tidy::comments_stay();
     bz_tidy::proper_stays();
     bz_tidy::marks_move();
+    bz_tidy::sorting_is_the_one();
 }
 
 fn call_words() {

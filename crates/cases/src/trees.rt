@@ -1,6 +1,6 @@
 //! Trees: what a text is read as, and where it is refused.
 use bz_items::Memory;
-use bz_tree::{Class, Kind, Leaf, Node, Part, ReadFault, Tree, parse};
+use bz_tree::{BzlTree, Class, Kind, Leaf, Node, Part, ReadFault, Tree, parse, parse_bzl};
 use sheets::{Case, CaseFault, Page};
 use std::alloc::{AllocError, Global};
 
@@ -8,6 +8,7 @@ use std::alloc::{AllocError, Global};
 #[derive(Clone, Copy)]
 pub(crate) enum TreeQuery {
     Tree,
+    Bzl,
     Expression,
     Statement,
     Spelling,
@@ -21,6 +22,7 @@ impl TreeQuery {
     pub(crate) fn named(name: &str) -> Option<TreeQuery> {
         match name {
             "tree" => Some(TreeQuery::Tree),
+            "bzl" => Some(TreeQuery::Bzl),
             "expression" => Some(TreeQuery::Expression),
             "statement" => Some(TreeQuery::Statement),
             "spelling" => Some(TreeQuery::Spelling),
@@ -36,6 +38,7 @@ impl TreeQuery {
         let text = case.bytes(0)?;
         let answer = match self {
             TreeQuery::Tree => tree_of(case.alloc, text)?,
+            TreeQuery::Bzl => bzl_tree_of(case.alloc, text)?,
             TreeQuery::Expression => {
                 let tree = tree_of(case.alloc, text)?;
                 let inner = within(tree.as_str(), "File(Line(Bare(", ") no_nl) end)");
@@ -96,6 +99,28 @@ fn tree_of(alloc: Global, text: &[u8]) -> Result<String, Memory> {
     match read(alloc, text)? {
         Ok(tree) => {
             if !spells(alloc, &tree, text)? {
+                return String::from_str(alloc, OTHERWISE);
+            }
+            shown(alloc, &tree.root)
+        }
+        Err(fault) => told(alloc, &fault),
+    }
+}
+
+/// The same of the tree of a .bzl file.
+fn bzl_spells(alloc: Global, tree: &BzlTree, text: &[u8]) -> Result<bool, Memory> {
+    let mut spelled = Vec::new(alloc);
+    tree.spell_into(&mut spelled)?;
+    tree.copy()?.spell_into(&mut spelled)?;
+    let (first, second) = spelled.as_slice().split_at(tree.len().min(spelled.len()));
+    Ok(first == text && second == text)
+}
+
+/// The tree of the text of a .bzl file, or its fault.
+fn bzl_tree_of(alloc: Global, text: &[u8]) -> Result<String, Memory> {
+    match apart(parse_bzl(alloc, text))? {
+        Ok(tree) => {
+            if !bzl_spells(alloc, &tree, text)? {
                 return String::from_str(alloc, OTHERWISE);
             }
             shown(alloc, &tree.root)
