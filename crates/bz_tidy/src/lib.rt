@@ -19,6 +19,7 @@ mod symbols;
 mod tidying;
 mod walk;
 
+pub use flags::settle;
 pub use laws::{
     comments_stay, marks_move, sorting_is_the_one, tidy_settles, tidy_stays, worked_passes,
 };

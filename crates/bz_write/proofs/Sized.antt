@@ -14,7 +14,7 @@ use Rattle.bz_write.specs.Layout.{Piece, mark, line, above, ended, behind, stack
 use Rattle.bz_value.specs.Empty.{is_empty}
 use Rattle.bz_write.specs.Written.{piece_text, text_of}
 use Rattle.bz_write.specs.Sizes.{row_size, head_size, comma_size, joined_size, stacked_item_size, stacked_size, body_size, size_in, form_size}
-use Rattle.bz_write.specs.Writings.{writings}
+use Rattle.bz_write.specs.Writings.{writings, row_text, joined_text, stacked_text, body_text}
 use Rattle.bz_write.proofs.Loops.{stacked_behind, stacked_so}
 use Rattle.bz_write.proofs.Made.{text_Form}
 
@@ -97,6 +97,18 @@ body_length : (b one : Bool) (m : ℕ) (closer : ℕ) (end_ : List Bytes) (xs : 
     length (written (if b then stacked m None closer end_ (writings xs) else joined m [] closer one (writings xs))) ≡ (if b then stacked_size m end_ xs else joined_size m one xs)
 body_length true one m closer end_ xs = whole_stacked m closer end_ xs
 body_length false one m closer end_ xs = whole_joined m closer one xs
+
+pub row_is : (f : Form) (m : ℕ) → length (row_text f.kind f.open_ m m f.parts) ≡ row_size f.kind f.open_ m m f.parts
+row_is f m = whole_row f.kind f.open_ m m f.parts
+
+by_break : (b one : Bool) (m : ℕ) (closer : ℕ) (end_ : List Bytes) (xs : List Expr) →
+    length (if b then stacked_text m closer end_ xs else joined_text m closer one xs) ≡ (if b then stacked_size m end_ xs else joined_size m one xs)
+by_break true one m closer end_ xs = whole_stacked m closer end_ xs
+by_break false one m closer end_ xs = whole_joined m closer one xs
+
+pub body_is : (f : Form) (m closer : ℕ) → length (body_text f m closer) ≡ body_size f m
+body_is f m closer =
+    by_break (is_broken f.kind f.seq.split f.seq.items f.seq.end_) (is_tuple f.kind && nat_eq (length f.seq.items) 1) m closer f.seq.end_ f.seq.items
 
 -- ---- forms
 

@@ -1,3 +1,4 @@
+//! Gaps: lines at a margin, comments above, behind and below.
 ghost use Rattle.std.specs.Prelude.{◌≡◌, ◌++◌, ◌+◌, OnOk, IfOk};
 ghost use Rattle.std.specs.Option.{option_copied};
 ghost use Rattle.bz_write.specs.Layout.{line, above, behind, ended};
@@ -47,7 +48,7 @@ pub fn push_ended(out: &mut Vec<u8>, texts: &[Text], margin: usize) -> Result<()
     push_line(out, margin)
 }
 
-/// Appends a suffix after two spaces.
+/// Appends a suffix after two spaces. The error: a growth was refused.
 pub fn push_behind(out: &mut Vec<u8>, suffix: Option<&Text>) -> Result<(), Memory>
     ensures { OnOk result (out.new.items ≡ out.old.items ++ behind (option_copied suffix.entry)) }
 {
@@ -58,7 +59,7 @@ pub fn push_behind(out: &mut Vec<u8>, suffix: Option<&Text>) -> Result<(), Memor
     Ok(())
 }
 
-/// Appends comment lines, each with its newline.
+/// Appends comment lines, each with its newline. The error: a growth was refused.
 pub fn push_comments(out: &mut Vec<u8>, texts: &[Text]) -> Result<(), Memory>
     ensures { OnOk result (out.new.items ≡ out.old.items ++ comment_lines texts.now) }
 {

@@ -1,9 +1,10 @@
 //! The length of the layout of an expression. It is counted, not written; and forms wait in a list, so that no walk goes as
 //! deep as the expression.
-ghost use Rattle.std.specs.Prelude.{◌≡◌, ◌+◌, ◌<◌, length, IfOk, OnOk};
+ghost use Rattle.std.specs.Prelude.{◌≡◌, ◌+◌, ◌<◌, ℕ, length, IfOk, OnOk};
 ghost use Rattle.bz_value.specs.declared.value.Expr.TheVariants as e;
 ghost use Rattle.bz_write.specs.Written.{text_of};
 ghost use Rattle.bz_write.specs.Sizes.{row_size, head_size, comma_size, joined_size, stacked_item_size, stacked_size, body_size, form_size};
+ghost use Rattle.bz_write.specs.Writings.{row_text, body_text};
 ghost use Rattle.bz_write.specs.Pending.{pending_size, pending_forms, forms_in, forms_in_all};
 
 use crate::breaks::is_broken;
@@ -196,17 +197,58 @@ fn less_form<'a>(
     less_body(form, margin, left, pending)
 }
 
+/// What is left of the room behind the forms that wait.
+#[tactic(auto, using(crate::proofs::Sized::form_length, crate::proofs::PendingForms::size_pushed, crate::proofs::PendingForms::forms_pushed))]
+fn less_pending(room: usize, pending: &mut Vec<Pending<'_>>) -> Result<usize, NoRoom>
+    ensures ok { IfOk result (λ left. pending_size pending.old.items + left ≡ room) }
+    ensures longer { result ≡ Err NoRoom.Longer → room < pending_size pending.old.items }
+{
+    let mut left = room;
+    while let Some(next) = pending.pop() {
+        left = less_form(next.form, next.margin, left, pending)?;
+    }
+    Ok(left)
+}
+
 /// What is left of so much room behind the layout of an expression at a margin. Errors: `Longer`: the layout is longer;
 /// `Memory`: a growth was refused.
-#[tactic(auto, using(crate::proofs::Sized::form_length, crate::proofs::PendingForms::size_pushed, crate::proofs::PendingForms::forms_pushed))]
 pub fn left_behind(alloc: Global, expr: &Expr, margin: usize, room: usize) -> Result<usize, NoRoom>
     ensures ok { IfOk result (λ left. length (text_of expr.now margin) + left ≡ room) }
     ensures longer { result ≡ Err NoRoom.Longer → room < length (text_of expr.now margin) }
 {
     let mut pending = Vec::new(alloc);
-    let mut left = less_expr(expr, margin, room, &mut pending)?;
-    while let Some(next) = pending.pop() {
-        left = less_form(next.form, next.margin, left, &mut pending)?;
-    }
-    Ok(left)
+    let left = less_expr(expr, margin, room, &mut pending)?;
+    less_pending(left, &mut pending)
+}
+
+/// The same of the row of the parts of a form.
+#[tactic(auto, using(crate::proofs::Sized::row_is))]
+pub fn left_behind_row(
+    alloc: Global,
+    form: &Form,
+    margin: usize,
+    room: usize,
+) -> Result<usize, NoRoom>
+    ensures ok { IfOk result (λ left. length (row_text form.now.kind form.now.open_ margin margin form.now.parts) + left ≡ room) }
+    ensures longer { result ≡ Err NoRoom.Longer → room < length (row_text form.now.kind form.now.open_ margin margin form.now.parts) }
+{
+    let mut pending = Vec::new(alloc);
+    let left = less_row(form, margin, room, &mut pending)?;
+    less_pending(left, &mut pending)
+}
+
+/// The same of what stands in the sequence of a form, and its closing bracket.
+#[tactic(auto, using(crate::proofs::Sized::body_is))]
+pub fn left_behind_body(
+    alloc: Global,
+    form: &Form,
+    margin: usize,
+    room: usize,
+) -> Result<usize, NoRoom>
+    ensures ok { (closer : ℕ) → IfOk result (λ left. length (body_text form.now margin closer) + left ≡ room) }
+    ensures longer { (closer : ℕ) → result ≡ Err NoRoom.Longer → room < length (body_text form.now margin closer) }
+{
+    let mut pending = Vec::new(alloc);
+    let left = less_body(form, margin, room, &mut pending)?;
+    less_pending(left, &mut pending)
 }

@@ -14,9 +14,9 @@ use bz_tree::Kind;
 use bz_value::{Expr, Form, Item};
 use std::alloc::Global;
 
-/// Appends the layout of an expression at a margin.
+/// Appends the layout of an expression at a margin. The error: a growth was refused.
 #[cycle(push)]
-fn push_expr(out: &mut Vec<u8>, expr: &Expr, margin: usize) -> Result<(), Memory>
+pub fn push_expr(out: &mut Vec<u8>, expr: &Expr, margin: usize) -> Result<(), Memory>
     ensures { OnOk result (out.new.items ≡ out.old.items ++ written.text_of expr.now margin) }
 {
     match expr {
@@ -53,8 +53,9 @@ fn push_sequence(
     push_body(out, form, margin, brackets.closer)
 }
 
+/// Appends the row of the parts of a form at a margin. The error: a growth was refused.
 #[cycle(push)]
-fn push_row(out: &mut Vec<u8>, form: &Form, margin: usize) -> Result<(), Memory>
+pub fn push_row(out: &mut Vec<u8>, form: &Form, margin: usize) -> Result<(), Memory>
     ensures { OnOk result (out.new.items ≡ out.old.items ++ row_text form.now.kind form.now.open_ margin margin form.now.parts) }
 {
     let row = form.parts.as_slice();
@@ -78,9 +79,9 @@ fn push_head(out: &mut Vec<u8>, head: &[Expr], margin: usize) -> Result<(), Memo
     Ok(())
 }
 
-/// Appends what stands in a sequence, and its closing bracket.
+/// Appends what stands in the sequence of a form at a margin, and this closing bracket. The error: a growth was refused.
 #[cycle(push)]
-fn push_body(out: &mut Vec<u8>, form: &Form, margin: usize, closer: u8) -> Result<(), Memory>
+pub fn push_body(out: &mut Vec<u8>, form: &Form, margin: usize, closer: u8) -> Result<(), Memory>
     ensures { OnOk result (out.new.items ≡ out.old.items ++ body_text form.now margin closer) }
 {
     let items = form.seq.items.as_slice();
