@@ -26,24 +26,27 @@ lone t = from_table brackets_and_separators t
 abbrev pub dotted : Terminal → Bool
 dotted t = from_table (codes "." ∷ []) t
 
--- the kinds whose mark stands right before its operand: `-x`, `*x`
-abbrev pub is_prefix_kind : Kind → Bool
-is_prefix_kind k.Unary = true
-is_prefix_kind k.Star = true
-is_prefix_kind _ = false
+-- the marks that stand right before their operand: `-x`, `*x`; of a parameter `*x` and `**x`
+abbrev pub is_prefix : Kind → List ℕ → Bool
+is_prefix k.Unary t = true
+is_prefix k.Star t = true
+is_prefix k.Param t = in_table t (codes "*" ∷ codes "**" ∷ [])
+is_prefix _ t = false
 
-abbrev pub is_entry : Kind → Bool
-is_entry k.Entry = true
-is_entry _ = false
+-- the kinds whose colon has a space behind it
+abbrev pub is_colon_spaced : Kind → Bool
+is_colon_spaced k.Entry = true
+is_colon_spaced k.Lambda = true
+is_colon_spaced _ = false
 
--- One space stands around operators, `=`, augmented forms and keywords, behind a comma, and behind the colon of an Entry.
+-- One space stands around operators, `=`, augmented forms and keywords, behind a comma, and behind the colon of an Entry and of a Lambda.
 abbrev pub space_behind : Kind → Terminal → Bool
-space_behind kind (s.this c.Mark t) = bytes_eq t (codes ",") || ((bytes_eq t (codes ":") && is_entry kind) || not (lone (s.this c.Mark t) || (dotted (s.this c.Mark t) || is_prefix_kind kind)))
+space_behind kind (s.this c.Mark t) = bytes_eq t (codes ",") || ((bytes_eq t (codes ":") && is_colon_spaced kind) || not (lone (s.this c.Mark t) || (dotted (s.this c.Mark t) || is_prefix kind t)))
 space_behind kind (s.this c.Keyword t) = not (bytes_eq t (codes "load"))
 space_behind kind _ = false
 
 abbrev pub space_before : Kind → Terminal → Bool
-space_before kind (s.this c.Mark t) = not (lone (s.this c.Mark t) || (dotted (s.this c.Mark t) || is_prefix_kind kind))
+space_before kind (s.this c.Mark t) = not (lone (s.this c.Mark t) || (dotted (s.this c.Mark t) || is_prefix kind t))
 space_before kind (s.this c.Keyword t) = true
 space_before kind _ = false
 

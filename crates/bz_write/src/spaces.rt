@@ -20,11 +20,22 @@ fn is_dot_mark(mark: &[u8]) -> bool
     matches!(mark, b".")
 }
 
-/// Whether the mark of a row of the kind stands right before its operand.
-fn is_prefix_kind(kind: Kind) -> bool
-    ensures { result ≡ spaces.is_prefix_kind kind }
+/// Whether the mark in a row of the kind stands right before its operand.
+fn is_prefix(kind: Kind, mark: &[u8]) -> bool
+    ensures { result ≡ spaces.is_prefix kind mark.now }
 {
-    matches!(kind, Kind::Unary | Kind::Star)
+    match kind {
+        Kind::Unary | Kind::Star => true,
+        Kind::Param => matches!(mark, b"*" | b"**"),
+        _ => false,
+    }
+}
+
+/// Whether the colon in a row of the kind has a space behind it.
+fn is_colon_spaced(kind: Kind) -> bool
+    ensures { result ≡ spaces.is_colon_spaced kind }
+{
+    matches!(kind, Kind::Entry | Kind::Lambda)
 }
 
 /// Whether one of three tests passes.
@@ -36,9 +47,9 @@ fn is_any(first: bool, second: bool, third: bool) -> bool
 
 /// Whether the mark of a row of the kind has no space at either side.
 fn is_tight(kind: Kind, mark: &[u8]) -> bool
-    ensures { result ≡ (spaces.lone (shapes.this Class.Mark mark.now) || (spaces.dotted (shapes.this Class.Mark mark.now) || spaces.is_prefix_kind kind)) }
+    ensures { result ≡ (spaces.lone (shapes.this Class.Mark mark.now) || (spaces.dotted (shapes.this Class.Mark mark.now) || spaces.is_prefix kind mark.now)) }
 {
-    is_any(is_lone_mark(mark), is_dot_mark(mark), is_prefix_kind(kind))
+    is_any(is_lone_mark(mark), is_dot_mark(mark), is_prefix(kind, mark))
 }
 
 /// Whether a space stands behind the expression.
@@ -52,7 +63,7 @@ fn has_space_behind(kind: Kind, expr: &Expr) -> bool
     match token.class {
         Class::Mark => {
             matches!(text, b",")
-                || matches!(text, b":") && matches!(kind, Kind::Entry)
+                || matches!(text, b":") && is_colon_spaced(kind)
                 || !is_tight(kind, text)
         }
         Class::Keyword => !matches!(text, b"load"),

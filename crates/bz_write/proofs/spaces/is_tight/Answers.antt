@@ -7,6 +7,6 @@ use Rattle.bz_write.proofs.spaces.is_tight.Goals as goal
 pub returns : goal.returns
 returns c =
     c.is_any.ensures
-    ∙ (ap (λ a. a || (c.is_dot_mark.result || c.is_prefix_kind.result)) c.is_lone_mark.ensures
-    ∙ (ap (λ b. lone (s.this k.Mark c.args.mark.now) || (b || c.is_prefix_kind.result)) c.is_dot_mark.ensures
-    ∙ ap (λ d. lone (s.this k.Mark c.args.mark.now) || (dotted (s.this k.Mark c.args.mark.now) || d)) c.is_prefix_kind.ensures))
+    ∙ (ap (λ a. a || (c.is_dot_mark.result || c.is_prefix.result)) c.is_lone_mark.ensures
+    ∙ (ap (λ b. lone (s.this k.Mark c.args.mark.now) || (b || c.is_prefix.result)) c.is_dot_mark.ensures
+    ∙ ap (λ d. lone (s.this k.Mark c.args.mark.now) || (dotted (s.this k.Mark c.args.mark.now) || d)) c.is_prefix.ensures))
