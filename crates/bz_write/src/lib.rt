@@ -22,7 +22,7 @@ pub use breaks::is_broken;
 pub use gaps::{deeper, push_behind, push_comments};
 pub use laws::{flags_keep_layout, layout_is_accepted, layout_reads_back, worked_rows};
 pub use measure::{left_behind, left_behind_body, left_behind_row};
-pub use room::NoRoom;
+pub use room::{NoRoom, less, less_behind};
 pub use setting::{SetFault, set};
 pub use taken::set_from;
 pub use texts::{expr_text, item_text, push_body, push_expr, push_row};
