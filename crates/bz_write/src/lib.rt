@@ -21,6 +21,7 @@ mod texts;
 pub use breaks::is_broken;
 pub use gaps::{deeper, push_behind, push_comments};
 pub use laws::{flags_keep_layout, layout_is_accepted, layout_reads_back, worked_rows};
+pub use lines::is_close;
 pub use measure::{left_behind, left_behind_body, left_behind_row};
 pub use room::{NoRoom, less, less_behind};
 pub use setting::{SetFault, set};

@@ -1,3 +1,4 @@
+//! The lines of a file as parts of its tree.
 ghost use Rattle.std.specs.Prelude.{◌≡◌, ◌++◌, ◌∷◌, [], OnOk, IfOk, if◌then◌else◌};
 ghost use Rattle.bz_value.specs.Characters.{line_feed};
 ghost use Rattle.bz_write.specs.Written as written;
@@ -29,7 +30,7 @@ fn is_assign(expr: &Expr) -> bool
 }
 
 /// Whether a statement stands right below another, with no blank line between.
-fn is_close(above: &Expr, below: &Expr) -> bool
+pub fn is_close(above: &Expr, below: &Expr) -> bool
     ensures { (if result then [] else (line_feed ∷ [])) ≡ written.between (Item.Stmt above.now) (Item.Stmt below.now) }
 {
     if !below.comments().before().is_empty() {
