@@ -126,7 +126,7 @@ module _ (number : Bytes → ℕ) where
     quoted_row_amount s (more_of-Expr x rest) = both (λ a b. a + b) (quoted_amount x) (quoted_row_amount _ rest)
 
   mutual
-    flags_amount : Same whole with_flags
+    pub flags_amount : Same whole with_flags
     flags_amount (Token t) = refl
     flags_amount (Form' kind s parts s' items end_ split open_ comments) =
         amount_Form (made kind (each_with_flags parts) (each_with_flags items) end_ (settled_split (frame kind) kind split (items-the_row-Expr _ items) end_) open_ comments)

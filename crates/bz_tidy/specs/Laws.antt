@@ -1,12 +1,13 @@
 -- Laws of tidying.
-use Rattle.std.specs.Prelude.{◌≡◌, List}
+use Rattle.std.specs.Prelude.{◌≡◌, ℕ, List}
 use Rattle.bz_tree.specs.declared.kind.Kind.TheVariants as k
+use Rattle.bz_value.specs.declared.value.Expr.{Expr}
 use Rattle.bz_value.specs.declared.value.Item.{Item}
 use Rattle.bz_value.specs.Gaps.{Bytes}
-use Rattle.bz_value.specs.Counted.{times}
+use Rattle.bz_value.specs.Counted.{amount, times}
 use Rattle.bz_value.specs.Proper.{IsProper}
 use Rattle.bz_rule.specs.Values.{has_kind}
-use Rattle.bz_write.specs.Flags.{IsSettled}
+use Rattle.bz_write.specs.Flags.{IsSettled, with_flags}
 use Rattle.bz_tidy.specs.Lists.{precedes}
 use Rattle.bz_tidy.specs.Orders.{sort_by}
 use Rattle.bz_tidy.specs.Passes.{argument_precedes, is_run_load, loads, name_precedes, path_precedes, symbol_precedes, tidied}
@@ -19,6 +20,10 @@ TidyStays = (items : List Item) → tidied (tidied items) ≡ tidied items
 -- What is tidy is settled: its flags are what the layout makes of them.
 abbrev pub TidySettles : Type 0
 TidySettles = (items : List Item) → IsSettled (tidied items)
+
+-- The flags of an expression are settled once for all, and its comments stay as often as before.
+abbrev pub FlagsSettle : Type 0
+FlagsSettle = ((x : Expr) → with_flags (with_flags x) ≡ with_flags x) × ((number : Bytes → ℕ) (x : Expr) → amount number (with_flags x) ≡ amount number x)
 
 -- Each comment stands in the tidy file as often as before.
 abbrev pub CommentsStay : Type 0

@@ -1,5 +1,5 @@
 //! Facts about the definitions, for readers: the functions do nothing.
-ghost use Rattle.bz_tidy.specs.Laws.{CommentsStay, SortingIsTheOne, TidySettles, TidyStays};
+ghost use Rattle.bz_tidy.specs.Laws.{CommentsStay, FlagsSettle, SortingIsTheOne, TidySettles, TidyStays};
 ghost use Rattle.bz_tidy.specs.MovedMarks.{MarksMove};
 ghost use Rattle.bz_tidy.specs.Rows.{WorkedPasses};
 
@@ -16,6 +16,11 @@ pub fn tidy_stays()
 /// What is tidy is settled: its flags are what the layout makes of them.
 pub fn tidy_settles()
     ensures { TidySettles }
+{}
+
+/// The flags of an expression are settled once for all, and its comments stay as often as before.
+pub fn flags_settle()
+    ensures { FlagsSettle }
 {}
 
 /// Each comment stands in the tidy file value as often as before.

@@ -21,7 +21,8 @@ mod walk;
 
 pub use flags::settle;
 pub use laws::{
-    comments_stay, marks_move, sorting_is_the_one, tidy_settles, tidy_stays, worked_passes,
+    comments_stay, flags_settle, marks_move, sorting_is_the_one, tidy_settles, tidy_stays,
+    worked_passes,
 };
 pub use proper_laws::proper_stays;
 pub use tidying::tidy;
