@@ -97,7 +97,7 @@ settled false false false true true = refl
 settled false false false true false = refl
 settled false false false false n = refl
 
-same_split : (f : Frame) (kind : Kind) (split : Bool) (xs : List Expr) (end_ : List Bytes) → settled_split f kind (settled_split f kind split xs end_) (map with_flags xs) end_ ≡ settled_split f kind split xs end_
+pub same_split : (f : Frame) (kind : Kind) (split : Bool) (xs : List Expr) (end_ : List Bytes) → settled_split f kind (settled_split f kind split xs end_) (map with_flags xs) end_ ≡ settled_split f kind split xs end_
 same_split row kind split xs end_ = refl
 same_split (sequence opener closer) kind split xs end_ =
     rw (same_comments xs, same_length xs, same_has_named xs, same_empty xs)

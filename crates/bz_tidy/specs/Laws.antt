@@ -1,5 +1,6 @@
 -- Laws of tidying.
-use Rattle.std.specs.Prelude.{◌≡◌, ℕ, List}
+use Rattle.std.specs.Prelude.{◌≡◌, ℕ, Bool, List, map}
+use Rattle.bz_tree.specs.declared.kind.Kind.{Kind}
 use Rattle.bz_tree.specs.declared.kind.Kind.TheVariants as k
 use Rattle.bz_value.specs.declared.value.Expr.{Expr}
 use Rattle.bz_value.specs.declared.value.Item.{Item}
@@ -8,6 +9,7 @@ use Rattle.bz_value.specs.Counted.{amount, times}
 use Rattle.bz_value.specs.Proper.{IsProper}
 use Rattle.bz_rule.specs.Values.{has_kind}
 use Rattle.bz_write.specs.Flags.{IsSettled, with_flags}
+use Rattle.bz_write.specs.Layout.{is_broken}
 use Rattle.bz_tidy.specs.Lists.{precedes}
 use Rattle.bz_tidy.specs.Orders.{sort_by}
 use Rattle.bz_tidy.specs.Passes.{argument_precedes, is_run_load, loads, name_precedes, path_precedes, symbol_precedes, tidied}
@@ -21,9 +23,12 @@ TidyStays = (items : List Item) → tidied (tidied items) ≡ tidied items
 abbrev pub TidySettles : Type 0
 TidySettles = (items : List Item) → IsSettled (tidied items)
 
--- The flags of an expression are settled once for all, and its comments stay as often as before.
-abbrev pub FlagsSettle : Type 0
-FlagsSettle = ((x : Expr) → with_flags (with_flags x) ≡ with_flags x) × ((number : Bytes → ℕ) (x : Expr) → amount number (with_flags x) ≡ amount number x)
+-- The flags of an expression are settled once for all, what the layout breaks stays broken with them, and comments stay as often
+-- as before.
+pub record FlagsSettle : Type 0 where
+  pub once : (x : Expr) → with_flags (with_flags x) ≡ with_flags x
+  pub broken : (kind : Kind) (split : Bool) (xs : List Expr) (end_ : List Bytes) → is_broken kind (is_broken kind split xs end_) (map with_flags xs) end_ ≡ is_broken kind split xs end_
+  pub comments : (number : Bytes → ℕ) (x : Expr) → amount number (with_flags x) ≡ amount number x
 
 -- Each comment stands in the tidy file as often as before.
 abbrev pub CommentsStay : Type 0

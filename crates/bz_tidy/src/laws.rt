@@ -18,7 +18,8 @@ pub fn tidy_settles()
     ensures { TidySettles }
 {}
 
-/// The flags of an expression are settled once for all, and its comments stay as often as before.
+/// The flags of an expression are settled once for all, what the layout breaks stays broken with them, and comments stay as often
+/// as before.
 pub fn flags_settle()
     ensures { FlagsSettle }
 {}

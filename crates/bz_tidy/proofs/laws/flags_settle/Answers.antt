@@ -1,6 +1,11 @@
+use Rattle.bz_value.specs.Frames.{sequence}
 use Rattle.bz_tidy.proofs.Counts.{flags_amount}
-use Rattle.bz_tidy.proofs.Inner.{flags_settle}
+use Rattle.bz_tidy.proofs.Inner.{flags_settle, same_split}
 use Rattle.bz_tidy.proofs.laws.flags_settle.Goals as goal
 
 pub returns : goal.returns
-returns c = (flags_settle, λ number x. flags_amount number x)
+returns c = record {
+  once = flags_settle;
+  broken = λ kind split xs end_. same_split (sequence 0 0) kind split xs end_;
+  comments = λ number x. flags_amount number x;
+}
