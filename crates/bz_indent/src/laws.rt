@@ -1,0 +1,11 @@
+//! Facts about the definitions, for readers and for the proofs of other crates: the functions do nothing.
+ghost use Rattle.bz_indent.specs.Laws.{LevelStays};
+
+use bz_tidy::flags_settle;
+
+/// What is level stays as it is.
+pub fn level_stays()
+    ensures { LevelStays }
+{
+    flags_settle();
+}
