@@ -1,0 +1,32 @@
+-- A formatted text is formatted to itself, and says what the text says that it was made of.
+use Rattle.std.proofs.Common.{◌≡◌, sym, ap, ◌∙◌, subst}
+use Rattle.bz_tree.specs.declared.tree.Node.{Node}
+use Rattle.bz_tree.specs.Laws.{OneBzlReading}
+use Rattle.bz_tree.specs.Legal.{ReadsBzl}
+use Rattle.bz_value.specs.Gaps.{Bytes}
+use Rattle.bz_suite.specs.View.{bzl_view_of}
+use Rattle.bz_indent.specs.Laws.{LevelStays}
+use Rattle.bz_indent.specs.Layout.{bzl_layout}
+use Rattle.bz_indent.specs.Level.{level}
+use Rattle.bz_format.specs.Formatted.{BzlFixedPoint, bzl_formatted, Lasts}
+
+-- What the layers below promise: of reading, and of the pass.
+pub record LayersHold : Type 0 where
+  pub one : OneBzlReading
+  pub level_stays : LevelStays
+
+pub formatted_again : LayersHold → BzlFixedPoint
+formatted_again layers text formatted formats =
+    let tree : Node = formats.0 in
+    let lasts : Lasts tree = formats.4 in
+    let new : Node = lasts.0 in
+    let said : bzl_view_of new ≡ level (bzl_view_of tree) = lasts.2 in
+    let reads : ReadsBzl formatted new = subst (λ (t : Bytes). ReadsBzl t new) (sym formats.2) lasts.1 in
+    let stays : level (bzl_view_of new) ≡ bzl_view_of new = ap level said ∙ layers.level_stays (bzl_view_of tree) ∙ sym said in
+    let same : formatted ≡ bzl_formatted new = formats.2 ∙ sym (ap bzl_layout (stays ∙ said)) in
+    record {
+      given = formats;
+      again = (new, reads, same, formats.3, (new, subst (λ (t : Bytes). ReadsBzl t new) same reads, sym stays));
+      value = λ t u h i.
+          ap bzl_view_of (layers.one formatted u new i reads) ∙ said ∙ ap (λ (n : Node). level (bzl_view_of n)) (layers.one text tree t formats.1 h);
+    }

@@ -1,0 +1,30 @@
+-- The fault that is told where a text is no .bzl file.
+use Rattle.std.proofs.Common.{◌≡◌, ◌⊎◌, ◌↔◌, ◌≤◌, ◌<◌, inl, inr, ℕ, List, length, Result, Err, refl, sym, ap, subst}
+use Rattle.std.specs.Str.{IsValidUpTo}
+use Rattle.bz_lex.specs.declared.fault.ReadFault.{ReadFault}
+use Rattle.bz_lex.specs.declared.fault.ReadFault.TheVariants as f
+use Rattle.bz_tree.specs.Faults.{IsOfText}
+use Rattle.bz_tree.specs.Legal.{NoBzlTree}
+use Rattle.bz_tree.specs.Spell.{limit}
+use Rattle.bz_journal.specs.declared.formatter.FormatFault.{FormatFault}
+use Rattle.bz_journal.specs.declared.formatter.FormatFault.TheVariants.{Unread, Memory}
+use Rattle.bz_format.specs.Formatted.{Says}
+
+refused_text : (text : List ℕ) (fault : ReadFault) → (IsOfText fault → NoBzlTree text) → (fault ≡ f.Memory → ⊥) → NoBzlTree text
+refused_text text f.Memory none memory tree reads = memory refl
+refused_text text _ none memory tree reads = none tt tree reads
+
+pub unread_says : (A : Type 0) (text : List ℕ) (fault : ReadFault) (told : FormatFault) → ((told ≡ Unread fault) × (fault ≡ f.Memory → ⊥)) ⊎ (told ≡ Memory)
+    → (IsOfText fault → NoBzlTree text)
+    → (◌≡◌ {A = Result A ReadFault} (Err fault) (Err f.TooLarge) ↔ (limit < length text))
+    → ((at : ℕ) → (◌≡◌ {A = Result A ReadFault} (Err fault) (Err (f.NotUtf8 at)) ↔ ((length text ≤ limit) × IsValidUpTo text at)))
+    → Says text (Err told)
+unread_says A text fault told (inl of_text) none large coding = subst (λ (t : FormatFault). Says text (Err t)) (sym of_text.0) (
+  refused_text text fault none of_text.1,
+  record {
+    too_large = (λ is. large.0 (ap Err is), λ long. let e = large.1 long in cc);
+    not_utf8 = λ at. ((λ is. (coding at).0 (ap Err is)), λ short. let e = (coding at).1 short in cc);
+    other = of_text.1;
+  },
+)
+unread_says A text fault told (inr memory) none large coding = subst (λ (t : FormatFault). Says text (Err t)) (sym memory) tt

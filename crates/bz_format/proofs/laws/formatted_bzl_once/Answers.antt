@@ -1,0 +1,8 @@
+use Rattle.bz_format.proofs.Fixed.{formatted_again}
+use Rattle.bz_format.proofs.laws.formatted_bzl_once.Goals as goal
+
+pub returns : goal.returns
+returns c = formatted_again (record {
+  one = c.one_bzl_reading.ensures;
+  level_stays = c.level_stays.ensures;
+})

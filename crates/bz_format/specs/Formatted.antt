@@ -1,0 +1,50 @@
+-- The formatted text of a .bzl file.
+use Rattle.std.specs.Prelude.{◌≡◌, ◌≢◌, ◌≤◌, ◌<◌, List, length, Result, Ok, Err}
+use Rattle.bz_tree.specs.declared.tree.Node.{Node}
+use Rattle.bz_tree.specs.Legal.{ReadsBzl, NoBzlTree}
+use Rattle.bz_tree.specs.Spell.{limit}
+use Rattle.bz_value.specs.Gaps.{Bytes}
+use Rattle.bz_suite.specs.declared.value.BzlItem.{BzlItem}
+use Rattle.bz_suite.specs.View.{bzl_view_of}
+use Rattle.bz_indent.specs.Layout.{bzl_layout}
+use Rattle.bz_indent.specs.Level.{level}
+use Rattle.bz_journal.specs.Faults.{IsFaultOf}
+use Rattle.bz_journal.specs.declared.formatter.FormatFault.{FormatFault}
+use Rattle.bz_journal.specs.declared.formatter.FormatFault.TheVariants.{Unread, TooLarge, TooDeep, Unsettled, Memory}
+
+-- What a text says where it reads as the tree of a .bzl file; of every other text a fault is told. Memory may be refused at each.
+abbrev pub Says : Bytes → Result (List BzlItem) FormatFault → Type 0
+Says text (Ok items) = (tree : Node) × ReadsBzl text tree × (items ≡ bzl_view_of tree)
+Says text (Err (Unread fault)) = NoBzlTree text × IsFaultOf text fault
+Says text (Err TooLarge) = ⊥
+Says text (Err TooDeep) = ⊥
+Says text (Err Unsettled) = ⊥
+Says text (Err Memory) = Unit {0}
+
+-- the layout of what the tree of a .bzl file says, levelled
+abbrev pub bzl_formatted : Node → Bytes
+bzl_formatted tree = bzl_layout (level (bzl_view_of tree))
+
+-- It lasts where it reads as a tree that says the same.
+abbrev pub Lasts : Node → Type 0
+Lasts tree = (new : Node) × ReadsBzl (bzl_formatted tree) new × (bzl_view_of new ≡ level (bzl_view_of tree))
+
+-- A text that reads as the tree of a .bzl file is formatted to the layout of what it says, where that is within the limits of a
+-- text and lasts.
+abbrev pub FormatsBzlTo : Bytes → Result Bytes FormatFault → Type 0
+FormatsBzlTo text (Ok formatted) = (tree : Node) × ReadsBzl text tree × (formatted ≡ bzl_formatted tree) × (length formatted ≤ limit) × Lasts tree
+FormatsBzlTo text (Err (Unread fault)) = NoBzlTree text × IsFaultOf text fault
+FormatsBzlTo text (Err TooLarge) = (tree : Node) × ReadsBzl text tree × (limit < length (bzl_formatted tree))
+FormatsBzlTo text (Err TooDeep) = (tree : Node) × ReadsBzl text tree × (length (bzl_formatted tree) ≤ limit) × NoBzlTree (bzl_formatted tree)
+FormatsBzlTo text (Err Unsettled) = (tree : Node) × ReadsBzl text tree × (length (bzl_formatted tree) ≤ limit) × (Lasts tree → ⊥)
+FormatsBzlTo text (Err Memory) = Unit {0}
+
+-- The formatted text of a text: formatting gives it, formatting it gives it again, and it says what the text says, levelled.
+pub record IsFormattedBzl (text formatted : Bytes) : Type 0 where
+  pub given : FormatsBzlTo text (Ok formatted)
+  pub again : FormatsBzlTo formatted (Ok formatted)
+  pub value : (tree new : Node) → ReadsBzl text tree → ReadsBzl formatted new → bzl_view_of new ≡ level (bzl_view_of tree)
+
+-- Whatever text formatting gives is such.
+abbrev pub BzlFixedPoint : Type 0
+BzlFixedPoint = (text formatted : Bytes) → FormatsBzlTo text (Ok formatted) → IsFormattedBzl text formatted
