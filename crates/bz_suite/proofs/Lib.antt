@@ -2,5 +2,11 @@ pub mod Branches
 pub mod Colons
 pub mod Ends
 pub mod Groups
+pub mod KeptBzl
+pub mod KeptBranches
+pub mod KeptGaps
+pub mod KeptHeads
+pub mod KeptSuites
+pub mod KeptValues
 pub mod Lined
 pub mod Parts

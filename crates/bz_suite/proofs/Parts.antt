@@ -12,7 +12,7 @@ use Rattle.bz_value.specs.Indented.{IndentedGapLine, indented}
 use Rattle.bz_view.specs.View.{seen, first_gap}
 use Rattle.bz_suite.specs.View.{stated, stated_row, statement_read, suite_in, suffix_before, lines_before, line_read, compound_read, is_compound, SuiteRead}
 
-stated_rows : (m : _) (r : Row_of-Part m) → stated_row r ≡ map stated (items-the_row-Part m r)
+pub stated_rows : (m : _) (r : Row_of-Part m) → stated_row r ≡ map stated (items-the_row-Part m r)
 stated_rows m end_of-Part = refl
 stated_rows m (more_of-Part x rest) = ap (λ t. stated x ∷ t) (stated_rows _ rest)
 

@@ -2,9 +2,11 @@
 #![tactic(auto)]
 
 mod headers;
+mod laws;
 mod rest;
 mod value;
 mod viewing;
 
+pub use laws::bzl_comments_kept;
 pub use value::{Branch, BzlFile, BzlItem, Statement};
 pub use viewing::view_bzl;

@@ -197,6 +197,11 @@ pub token_opens : (ts : List Terminal) (x : Part) (outer here : Spot) → all_tu
 token_opens ts (p.Leaf l) outer here h i = ap (λ t. behind_token t outer here) (of_terminals opens ts l h i)
 token_opens ts (Node' kind z r) outer here h i = no_such i
 
+-- behind a closing one
+pub token_closes : (ts : List Terminal) (x : Part) (outer here : Spot) → all_turn closes ts ≡ true → has_token ts x ≡ true → behind_part outer here x ≡ onward outer
+token_closes ts (p.Leaf l) outer here h i = ap (λ t. behind_token t outer here) (of_terminals closes ts l h i)
+token_closes ts (Node' kind z r) outer here h i = no_such i
+
 -- what follows the part stands where the part does, but for the first place of a line
 abbrev pub GoesOn : Part → Type 0
 GoesOn x = (outer here : Spot) → behind_part outer here x ≡ onward here

@@ -61,7 +61,7 @@ module _ (number : Bytes → ℕ) where
       omega arith
 
   -- of a row, the gap before it stands outside
-  row_kept : (binary inside newline : Bool) (xs : List Part) → AllKept xs →
+  pub row_kept : (binary inside newline : Bool) (xs : List Part) → AllKept xs →
       gap_amount number (first_gap (map seen xs)) + (total number (loose_in (map seen xs)) + total (amount number) (row_exprs binary inside newline (map seen xs))) ≡ total (part_amount number) xs
   row_kept binary inside newline [] h = refl
   row_kept binary inside newline (x ∷ xs) h =
@@ -93,7 +93,7 @@ module _ (number : Bytes → ℕ) where
       let loose = loose_more (seen x) (take (suc n) (map seen xs)) in
       omega arith
 
-  head_kept : (n : ℕ) (xs : List Part) → AllKept xs → TokenAt n xs →
+  pub head_kept : (n : ℕ) (xs : List Part) → AllKept xs → TokenAt n xs →
       gap_amount number (first_gap (map seen xs)) + (total number (loose_in (take (suc n) (map seen xs))) + total (amount number) (map plain (take n (map seen xs)))) ≡ total (part_amount number) (take (suc n) xs)
   head_kept zero [] h t = refl
   head_kept (suc n) [] h t = refl
@@ -137,14 +137,14 @@ module _ (number : Bytes → ℕ) where
 
   -- ---- nodes
 
-  cut_total : (n : ℕ) (xs : List Part) → total (part_amount number) (take n xs) + total (part_amount number) (drop n xs) ≡ total (part_amount number) xs
+  pub cut_total : (n : ℕ) (xs : List Part) → total (part_amount number) (take n xs) + total (part_amount number) (drop n xs) ≡ total (part_amount number) xs
   cut_total zero [] = refl
   cut_total (suc n) [] = refl
   cut_total zero (x ∷ xs) = omega arith
   cut_total (suc n) (x ∷ xs) = let h = cut_total n xs in omega arith
 
   -- what is found behind the opening bracket
-  found_kept : (xs : List Part) → AllKept xs → Paired xs →
+  pub found_kept : (xs : List Part) → AllKept xs → Paired xs →
       total (amount number) (items_in (all_in (first_gap (map seen xs))) (map seen xs)).0 + total number (items_in (all_in (first_gap (map seen xs))) (map seen xs)).1 ≡ total (part_amount number) xs
   found_kept xs h t = let all = items_kept (all_in (first_gap (map seen xs))) xs h t in omega arith
 
@@ -162,7 +162,7 @@ module _ (number : Bytes → ℕ) where
       let cut = cut_total (suc n) xs in
       omega arith
 
-  node_kept : (f : Frame) (kind : Kind) (xs : List Part) → AllKept xs → BracketedIn f kind xs → gap_amount number (node_in f kind (map seen xs)).gap + held (node_in f kind (map seen xs)) ≡ total (part_amount number) xs
+  pub node_kept : (f : Frame) (kind : Kind) (xs : List Part) → AllKept xs → BracketedIn f kind xs → gap_amount number (node_in f kind (map seen xs)).gap + held (node_in f kind (map seen xs)) ≡ total (part_amount number) xs
   node_kept row kind xs h b =
       let made = node_amount number row kind (map seen xs) no_comments false in
       let all = form_kept row kind xs h b in

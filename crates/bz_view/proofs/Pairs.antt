@@ -16,7 +16,7 @@ abbrev pub is_token : Part → Bool
 is_token (p.Leaf l) = true
 is_token (Node' kind n r) = false
 
-token : (ts : List Terminal) (x : Part) → has_token ts x ≡ true → is_token x ≡ true
+pub token : (ts : List Terminal) (x : Part) → has_token ts x ≡ true → is_token x ≡ true
 token ts (p.Leaf l) h = refl
 token ts (Node' kind n r) h = no_such h
 

@@ -6,6 +6,7 @@ use Rattle.std.proofs.lemmas.Bool.Decides.{nat_tests}
 use Rattle.bz_token.specs.Bytes.{is_blank}
 use Rattle.bz_token.specs.declared.class.Class.{Class}
 use Rattle.bz_token.specs.declared.class.Class.TheVariants as c
+use Rattle.bz_lex.specs.declared.leaf.Leaf.{Leaf}
 use Rattle.bz_lex.specs.Gaps.{IsGap, nothing, blank, escaped, escaped_return, unescaped, comment, last_comment}
 use Rattle.bz_tree.specs.declared.tree.Part.{Part, Row_of-Part, end_of-Part, more_of-Part, Node', items-the_row-Part}
 use Rattle.bz_tree.specs.declared.tree.Part.TheVariants as p
@@ -22,14 +23,14 @@ use Rattle.bz_view.proofs.InnerParts.{ends_line, is_inner, token_inner, sort_inn
 use Rattle.bz_view.proofs.RowParts.{on_twice}
 use Rattle.bz_view.proofs.SeenParts.{node_gap}
 
-blank_silent : (byte : ℕ) (g : Bytes) → is_blank byte ≡ true → lines_of (byte ∷ g) ≡ lines_of g
+pub blank_silent : (byte : ℕ) (g : Bytes) → is_blank byte ≡ true → lines_of (byte ∷ g) ≡ lines_of g
 blank_silent byte g h =
     let m : eqb byte number_sign ≡ false = grind (arith, nat_tests) in
     let n : eqb byte line_feed ≡ false = grind (arith, nat_tests) in
     let b : eqb byte backslash ≡ false = grind (arith, nat_tests) in
     rw (m, n, b) refl
 
-along_silent : (gap : Bytes) → IsGap false false gap → all_in gap ≡ []
+pub along_silent : (gap : Bytes) → IsGap false false gap → all_in gap ≡ []
 along_silent gap (nothing e) = rw e refl
 along_silent gap (blank byte rest e b h) = rw e (rw (blank_silent byte rest b) (along_silent rest h))
 along_silent gap (escaped rest e h) = rw e (along_silent rest h)
@@ -67,20 +68,32 @@ Quiet (x ∷ y ∷ z ∷ u ∷ xs) = (all_in (seen y).gap ≡ []) × (all_in (se
 abbrev pub Statements : List Part → Type 0
 Statements xs = Listed (IsSort s.small) s.semicolon true (Fits IsSort (tok s.newline done)) xs
 
+-- where comments stand as S says, none stands before the part if it stands along a line
+module _ (S : Spot → Leaf → Type 0) where
+  abbrev pub Silent : Part → Type 0
+  Silent x = is_inner x ≡ true → AtLeaves S Along x → all_in (seen x).gap ≡ []
+
+  pub quiet_where : (outer here : Spot) (xs : List Part) → onward here ≡ onward Begins → Statements xs → AllByRecursion Silent xs → AtParts S outer here xs → Quiet xs
+  quiet_where outer here [] e h g at_ = tt
+  quiet_where outer here (x ∷ []) e h g at_ = tt
+  quiet_where outer here (x ∷ y ∷ []) e h g at_ = tt
+  quiet_where outer here (x ∷ y ∷ z ∷ []) e (h, inl j) g at_ = absurd j.1
+  quiet_where outer here (x ∷ y ∷ z ∷ []) e (h, inr w) g at_ =
+      let there : behind_part outer here x ≡ Along = sort_goes s.small x refl h outer here ∙ e in
+      g.1.0 (token_inner s.semicolon y refl w.0) (subst (λ q. AtLeaves S q y) there at_.1.0)
+  quiet_where outer here (x ∷ y ∷ z ∷ u ∷ xs) e (h, inl j) g at_ = absurd j.1
+  quiet_where outer here (x ∷ y ∷ z ∷ u ∷ xs) e (h, inr (m, inr j)) g at_ = absurd j.1.1
+  quiet_where outer here (x ∷ y ∷ z ∷ u ∷ xs) e (h, inr (m, inl j)) g at_ =
+      let first : behind_part outer here x ≡ onward here = sort_goes s.small x refl h outer here in
+      let there : behind_part outer (behind_part outer here x) y ≡ onward here = token_goes s.semicolon y refl m outer (behind_part outer here x) ∙ (ap onward first ∙ on_twice here) in (
+        g.1.0 (token_inner s.semicolon y refl m) (subst (λ q. AtLeaves S q y) (first ∙ e) at_.1.0),
+        g.1.1.0 (sort_inner s.small z refl j.0) (subst (λ q. AtLeaves S q z) (there ∙ e) at_.1.1.0),
+        quiet_where outer (onward here) (z ∷ u ∷ xs) (on_twice here ∙ e) j g.1.1 (subst (λ q. AtParts S outer q (z ∷ u ∷ xs)) there at_.1.1),
+      )
+
+all_silent : (xs : List Part) → AllByRecursion LegalPart xs → AllByRecursion (Silent Stands) xs
+all_silent [] g = tt
+all_silent (x ∷ xs) g = (part_silent x g.0, all_silent xs g.1)
+
 pub statements_quiet : (outer here : Spot) (xs : List Part) → onward here ≡ onward Begins → Statements xs → AllByRecursion LegalPart xs → AtParts Stands outer here xs → Quiet xs
-statements_quiet outer here [] e h g at_ = tt
-statements_quiet outer here (x ∷ []) e h g at_ = tt
-statements_quiet outer here (x ∷ y ∷ []) e h g at_ = tt
-statements_quiet outer here (x ∷ y ∷ z ∷ []) e (h, inl j) g at_ = absurd j.1
-statements_quiet outer here (x ∷ y ∷ z ∷ []) e (h, inr w) g at_ =
-    let there : behind_part outer here x ≡ Along = sort_goes s.small x refl h outer here ∙ e in
-    part_silent y g.1.0 (token_inner s.semicolon y refl w.0) (subst (λ q. AtLeaves Stands q y) there at_.1.0)
-statements_quiet outer here (x ∷ y ∷ z ∷ u ∷ xs) e (h, inl j) g at_ = absurd j.1
-statements_quiet outer here (x ∷ y ∷ z ∷ u ∷ xs) e (h, inr (m, inr j)) g at_ = absurd j.1.1
-statements_quiet outer here (x ∷ y ∷ z ∷ u ∷ xs) e (h, inr (m, inl j)) g at_ =
-    let first : behind_part outer here x ≡ onward here = sort_goes s.small x refl h outer here in
-    let there : behind_part outer (behind_part outer here x) y ≡ onward here = token_goes s.semicolon y refl m outer (behind_part outer here x) ∙ (ap onward first ∙ on_twice here) in (
-      part_silent y g.1.0 (token_inner s.semicolon y refl m) (subst (λ q. AtLeaves Stands q y) (first ∙ e) at_.1.0),
-      part_silent z g.1.1.0 (sort_inner s.small z refl j.0) (subst (λ q. AtLeaves Stands q z) (there ∙ e) at_.1.1.0),
-      statements_quiet outer (onward here) (z ∷ u ∷ xs) (on_twice here ∙ e) j g.1.1 (subst (λ q. AtParts Stands outer q (z ∷ u ∷ xs)) there at_.1.1),
-    )
+statements_quiet outer here xs e h g at_ = quiet_where Stands outer here xs e h (all_silent xs g) at_

@@ -21,7 +21,7 @@ module _ (number : Bytes → ℕ) where
   abbrev pub gap_amount : Bytes → ℕ
   gap_amount gap = total number (all_in gap)
 
-  suffix_total : (o : Option Bytes) → total number (listed o) ≡ suffix_amount number o
+  pub suffix_total : (o : Option Bytes) → total number (listed o) ≡ suffix_amount number o
   suffix_total None = refl
   suffix_total (Some text) = omega arith
 

@@ -1,0 +1,8 @@
+//! Facts about the definitions, for readers and for the proofs of other crates: the functions do nothing.
+
+ghost use Rattle.bz_suite.specs.Kept.{BzlCommentsKept};
+
+/// Each comment of the legal tree of a .bzl file stands in what the file says as often as in the tree's gaps: none is lost or doubled.
+pub fn bzl_comments_kept()
+    ensures { BzlCommentsKept }
+{}
