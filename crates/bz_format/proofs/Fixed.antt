@@ -4,16 +4,19 @@ use Rattle.bz_tree.specs.declared.tree.Node.{Node}
 use Rattle.bz_tree.specs.Laws.{OneBzlReading}
 use Rattle.bz_tree.specs.Legal.{ReadsBzl}
 use Rattle.bz_value.specs.Gaps.{Bytes}
+use Rattle.bz_suite.specs.Kept.{BzlCommentsKept, bzl_times}
 use Rattle.bz_suite.specs.View.{bzl_view_of}
-use Rattle.bz_indent.specs.Laws.{LevelStays}
+use Rattle.bz_indent.specs.Laws.{LevelKeepsComments, LevelStays}
 use Rattle.bz_indent.specs.Layout.{bzl_layout}
 use Rattle.bz_indent.specs.Level.{level}
 use Rattle.bz_format.specs.Formatted.{BzlFixedPoint, bzl_formatted, Lasts}
 
--- What the layers below promise: of reading, and of the pass.
+-- What the layers below promise: of reading, of what a tree says, and of the pass.
 pub record LayersHold : Type 0 where
   pub one : OneBzlReading
+  pub kept : BzlCommentsKept
   pub level_stays : LevelStays
+  pub level_keeps : LevelKeepsComments
 
 pub formatted_again : LayersHold → BzlFixedPoint
 formatted_again layers text formatted formats =
@@ -24,9 +27,12 @@ formatted_again layers text formatted formats =
     let reads : ReadsBzl formatted new = subst (λ (t : Bytes). ReadsBzl t new) (sym formats.2) lasts.1 in
     let stays : level (bzl_view_of new) ≡ bzl_view_of new = ap level said ∙ layers.level_stays (bzl_view_of tree) ∙ sym said in
     let same : formatted ≡ bzl_formatted new = formats.2 ∙ sym (ap bzl_layout (stays ∙ said)) in
+    let valued : (t u : Node) → ReadsBzl text t → ReadsBzl formatted u → bzl_view_of u ≡ level (bzl_view_of t) =
+    λ t u h i. ap bzl_view_of (layers.one formatted u new i reads) ∙ said ∙ ap (λ (n : Node). level (bzl_view_of n)) (layers.one text tree t formats.1 h) in
     record {
       given = formats;
       again = (new, reads, same, formats.3, (new, subst (λ (t : Bytes). ReadsBzl t new) same reads, sym stays));
-      value = λ t u h i.
-          ap bzl_view_of (layers.one formatted u new i reads) ∙ said ∙ ap (λ (n : Node). level (bzl_view_of n)) (layers.one text tree t formats.1 h);
+      value = valued;
+      comments = λ t u h i comment.
+          sym (layers.kept u i.0 comment) ∙ ap (bzl_times comment) (valued t u h i) ∙ layers.level_keeps comment (bzl_view_of t) ∙ layers.kept t h.0 comment;
     }

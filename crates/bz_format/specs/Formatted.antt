@@ -4,6 +4,7 @@ use Rattle.bz_tree.specs.declared.tree.Node.{Node}
 use Rattle.bz_tree.specs.Legal.{ReadsBzl, NoBzlTree}
 use Rattle.bz_tree.specs.Spell.{limit}
 use Rattle.bz_value.specs.Gaps.{Bytes}
+use Rattle.bz_view.specs.Kept.{occurrences}
 use Rattle.bz_suite.specs.declared.value.BzlItem.{BzlItem}
 use Rattle.bz_suite.specs.View.{bzl_view_of}
 use Rattle.bz_indent.specs.Layout.{bzl_layout}
@@ -39,11 +40,13 @@ FormatsBzlTo text (Err TooDeep) = (tree : Node) × ReadsBzl text tree × (length
 FormatsBzlTo text (Err Unsettled) = (tree : Node) × ReadsBzl text tree × (length (bzl_formatted tree) ≤ limit) × (Lasts tree → ⊥)
 FormatsBzlTo text (Err Memory) = Unit {0}
 
--- The formatted text of a text: formatting gives it, formatting it gives it again, and it says what the text says, levelled.
+-- The formatted text of a text: formatting gives it, formatting it gives it again, it says what the text says, levelled, and each
+-- comment stands in it as often as in the text.
 pub record IsFormattedBzl (text formatted : Bytes) : Type 0 where
   pub given : FormatsBzlTo text (Ok formatted)
   pub again : FormatsBzlTo formatted (Ok formatted)
   pub value : (tree new : Node) → ReadsBzl text tree → ReadsBzl formatted new → bzl_view_of new ≡ level (bzl_view_of tree)
+  pub comments : (tree new : Node) → ReadsBzl text tree → ReadsBzl formatted new → (comment : Bytes) → occurrences comment new ≡ occurrences comment tree
 
 -- Whatever text formatting gives is such.
 abbrev pub BzlFixedPoint : Type 0

@@ -1,3 +1,4 @@
+pub mod Keeping
 pub mod Lengths
 pub mod Rows
 pub mod Settling

@@ -7,7 +7,7 @@ mod measure;
 mod same;
 mod writing;
 
-pub use laws::level_stays;
+pub use laws::{level_keeps_comments, level_stays};
 pub use leveling::level;
 pub use measure::is_layout_within;
 pub use same::is_same;

@@ -1,20 +1,19 @@
 -- What one text of buildifier's does.
-use Rattle.std.proofs.Common.{◌≡◌, ◌⊎◌, ◌<◌, ◌∙◌, ◌++◌, ◌+◌, inl, inr, ℕ, List, [], take, length, Option, Some, None, Ok, Err, Bool, true, false, refl, sym, ap, subst, arith}
+use Rattle.std.proofs.Common.{◌≡◌, ◌⊎◌, ◌≤◌, ◌<◌, ◌∙◌, ◌++◌, ◌+◌, inl, inr, ℕ, List, [], take, length, Option, Some, None, Ok, Err, Bool, true, false, refl, sym, ap, subst, arith, length-take}
 use Rattle.std.specs.Prelude.{IfSome}
 use Rattle.std.specs.FinMap.{get}
 use Rattle.bz_tree.specs.Spell.{limit}
-use Rattle.bz_tree.specs.Legal.{Accepted}
 use Rattle.bz_files.specs.Folder.{Folder}
 use Rattle.bz_files.specs.declared.files.FileFault.{FileFault}
 use Rattle.bz_files.specs.declared.files.FileFault.TheVariants as file
-use Rattle.bz_journal.specs.Faults.{FormatsTo}
 use Rattle.bz_journal.specs.declared.formatter.FormatFault.{FormatFault}
 use Rattle.bz_journal.specs.declared.formatter.FormatFault.TheVariants as f
 use Rattle.bz_ports.specs.Outputs.{WritesUnlessClosed}
 use Rattle.bz_ports.specs.Ports.{IsInput}
 use Rattle.bz_ports.proofs.Outputs.{appends_nothing}
+use Rattle.bz_tools.specs.FileKinds.{FormatsAs}
 use Rattle.bz_tools.specs.FormatRun.{Effect, refused, unread_file, Rewrites}
-use Rattle.bz_tools.proofs.Fronts.{cut_at_limit, fault_of_front, long_front, within_limit}
+use Rattle.bz_tools.proofs.Fronts.{cut_at_limit, fault_of_front, within_limit}
 
 -- an effect that writes nothing on standard output
 pub record IsQuiet (effect : Effect) : Type 0 where
@@ -39,6 +38,7 @@ pub refused_quiet : (name : List ℕ) (fault : FormatFault) → IsQuiet (refused
 refused_quiet name (f.Unread fault) = record { stays = refl; nothing = refl }
 refused_quiet name f.TooLarge = record { stays = refl; nothing = refl }
 refused_quiet name f.TooDeep = record { stays = refl; nothing = refl }
+refused_quiet name f.Unsettled = record { stays = refl; nothing = refl }
 refused_quiet name f.Memory = record { stays = refl; nothing = refl }
 
 pub rewrites_quiet : (name text new : List ℕ) (folder after : Folder) (effect : Effect) → Rewrites name text new folder effect after → IsQuiet effect
@@ -47,30 +47,49 @@ rewrites_quiet name text new folder after effect (inr failed) = rw (failed.0) (r
 
 -- ---- the front of an input, one byte longer than a text may be, tells what becomes of it
 
-pub ok_of_front : (known : Option (List ℕ)) (front new : List ℕ) → IfSome known (λ all. front ≡ take (limit + 1) all) → FormatsTo front (Ok new)
+-- what is formatted, or isn't by its formatted text, is no longer than a text may be
+short_ok : (bzl : Bool) (text new : List ℕ) → FormatsAs bzl text (Ok new) → length text ≤ limit
+short_ok true text new formats = formats.1.2
+short_ok false text new formats = formats.1.2
+
+long_front : (all : List ℕ) → limit < length all → length (take (limit + 1) all) ≤ limit → ⊥
+long_front all long short = let len = length-take (limit + 1) all in omega arith
+
+pub ok_of_front : (bzl : Bool) (known : Option (List ℕ)) (front new : List ℕ) → IfSome known (λ all. front ≡ take (limit + 1) all) → FormatsAs bzl front (Ok new)
     → (input : List ℕ) × IsInput known input × (input ≡ front)
-ok_of_front None front new read formats = (front, tt, refl)
-ok_of_front (Some all) front new read formats = go (cut_at_limit all)
+ok_of_front bzl None front new read formats = (front, tt, refl)
+ok_of_front bzl (Some all) front new read formats = go (cut_at_limit all)
   where
     go : (take (limit + 1) all ≡ all) ⊎ (limit < length all) → (input : List ℕ) × IsInput (Some all) input × (input ≡ front)
     go (inl whole) = (all, refl, sym (read ∙ whole))
-    go (inr long) = absurd (long_front all long (subst Accepted read (formats.0, formats.1)))
+    go (inr long) = absurd (long_front all long (subst (λ (text : List ℕ). length text ≤ limit) read (short_ok bzl front new formats)))
 
-pub err_of_front : (known : Option (List ℕ)) (front : List ℕ) (fault : FormatFault) → IfSome known (λ all. front ≡ take (limit + 1) all)
-    → FormatsTo front (Err fault) → (input : List ℕ) × IsInput known input × FormatsTo input (Err fault)
-err_of_front None front fault read formats = (front, tt, formats)
-err_of_front (Some all) front fault read formats = go (cut_at_limit all)
+-- what is told of the front of a longer text is told of the text
+longer : (bzl : Bool) (all : List ℕ) → limit < length all → (told : FormatFault) → FormatsAs bzl (take (limit + 1) all) (Err told) → FormatsAs bzl all (Err told)
+longer false all long (f.Unread fault) of_front =
+    ((λ accepted. let le = within_limit all accepted in omega (arith, le, long)), fault_of_front all fault long of_front.1)
+longer false all long f.TooLarge of_front = absurd (long_front all long of_front.1.2)
+longer false all long f.TooDeep of_front = absurd (long_front all long of_front.1.2)
+longer false all long f.Unsettled of_front = absurd of_front
+longer false all long f.Memory of_front = tt
+longer true all long (f.Unread fault) of_front =
+    ((λ tree reads. let le : length all ≤ limit = reads.2 in omega (arith, le, long)), fault_of_front all fault long of_front.1)
+longer true all long f.TooLarge of_front = absurd (long_front all long of_front.1.2)
+longer true all long f.TooDeep of_front = absurd (long_front all long of_front.1.2)
+longer true all long f.Unsettled of_front = absurd (long_front all long of_front.1.2)
+longer true all long f.Memory of_front = tt
+
+pub err_of_front : (bzl : Bool) (known : Option (List ℕ)) (front : List ℕ) (fault : FormatFault) → IfSome known (λ all. front ≡ take (limit + 1) all) → FormatsAs bzl front (Err fault)
+    → (input : List ℕ) × IsInput known input × FormatsAs bzl input (Err fault)
+err_of_front bzl None front fault read formats = (front, tt, formats)
+err_of_front bzl (Some all) front fault read formats = go (cut_at_limit all)
   where
-    longer : limit < length all → (told : FormatFault) → FormatsTo (take (limit + 1) all) (Err told) → FormatsTo all (Err told)
-    longer long (f.Unread fault) of_front =
-        ((λ accepted. let le = within_limit all accepted in omega (arith, le, long)), fault_of_front all fault long of_front.1)
-    longer long f.TooLarge of_front = absurd (long_front all long (of_front.0, of_front.1))
-    longer long f.TooDeep of_front = absurd (long_front all long (of_front.0, of_front.1))
-    longer long f.Memory of_front = tt
+    of_all : FormatsAs bzl (take (limit + 1) all) (Err fault)
+    of_all = subst (λ (text : List ℕ). FormatsAs bzl text (Err fault)) read formats
 
-    go : (take (limit + 1) all ≡ all) ⊎ (limit < length all) → (input : List ℕ) × IsInput (Some all) input × FormatsTo input (Err fault)
-    go (inl whole) = (all, refl, subst (λ (text : List ℕ). FormatsTo text (Err fault)) (read ∙ whole) formats)
-    go (inr long) = (all, refl, longer long fault (subst (λ (text : List ℕ). FormatsTo text (Err fault)) read formats))
+    go : (take (limit + 1) all ≡ all) ⊎ (limit < length all) → (input : List ℕ) × IsInput (Some all) input × FormatsAs bzl input (Err fault)
+    go (inl whole) = (all, refl, subst (λ (text : List ℕ). FormatsAs bzl text (Err fault)) whole of_all)
+    go (inr long) = (all, refl, longer bzl all long fault of_all)
 
 -- ---- so does the front of a file, which is read behind nothing
 
@@ -78,14 +97,14 @@ front_read : (bytes start items : List ℕ) → items ≡ start ++ take (limit +
 front_read bytes start items is empty = is ∙ ap (λ s. s ++ take (limit + 1) bytes) empty
 
 -- of a text that is formatted it is the file
-pub whole_file : (folder : Folder) (name bytes start items new : List ℕ) → get folder name ≡ Some bytes → items ≡ start ++ take (limit + 1) bytes
-    → start ≡ [] → FormatsTo items (Ok new) → get folder name ≡ Some items
-whole_file folder name bytes start items new at is empty formats =
-    let all = ok_of_front (Some bytes) items new (front_read bytes start items is empty) formats in at ∙ ap Some (sym all.1 ∙ all.2)
+pub whole_file : (bzl : Bool) (folder : Folder) (name bytes start items new : List ℕ) → get folder name ≡ Some bytes → items ≡ start ++ take (limit + 1) bytes
+    → start ≡ [] → FormatsAs bzl items (Ok new) → get folder name ≡ Some items
+whole_file bzl folder name bytes start items new at is empty formats =
+    let all = ok_of_front bzl (Some bytes) items new (front_read bytes start items is empty) formats in at ∙ ap Some (sym all.1 ∙ all.2)
 
 -- and what is told of it is told of the file
-pub refused_file : (bytes start items : List ℕ) (fault : FormatFault) → items ≡ start ++ take (limit + 1) bytes → start ≡ []
-    → FormatsTo items (Err fault) → FormatsTo bytes (Err fault)
-refused_file bytes start items fault is empty formats =
-    let all = err_of_front (Some bytes) items fault (front_read bytes start items is empty) formats in
-    subst (λ (text : List ℕ). FormatsTo text (Err fault)) all.1 all.2
+pub refused_file : (bzl : Bool) (bytes start items : List ℕ) (fault : FormatFault) → items ≡ start ++ take (limit + 1) bytes → start ≡ []
+    → FormatsAs bzl items (Err fault) → FormatsAs bzl bytes (Err fault)
+refused_file bzl bytes start items fault is empty formats =
+    let all = err_of_front bzl (Some bytes) items fault (front_read bytes start items is empty) formats in
+    subst (λ (text : List ℕ). FormatsAs bzl text (Err fault)) all.1 all.2

@@ -28,8 +28,3 @@ cut_at_limit all = go (cases_lt limit (length all))
     go : (limit < length all) ⊎ (length all ≤ limit) → (take (limit + 1) all ≡ all) ⊎ (limit < length all)
     go (inr short) = inl (take_all (limit + 1) all (omega arith))
     go (inl long) = inr long
-
-pub long_front : (all : List ℕ) → limit < length all → Accepted (take (limit + 1) all) → ⊥
-long_front all long accepted =
-    let le = within_limit (take (limit + 1) all) accepted in
-    let len = length-take (limit + 1) all in omega arith

@@ -4,8 +4,8 @@ use Rattle.std.specs.List.{All}
 use Rattle.std.specs.FinMap.{get}
 use Rattle.bz_value.specs.Gaps.{Bytes}
 use Rattle.bz_files.specs.Folder.{Folder, IsAside, SameFolders, with_file}
-use Rattle.bz_journal.specs.Faults.{FormatsTo}
 use Rattle.bz_journal.specs.declared.formatter.FormatFault.{FormatFault}
+use Rattle.bz_tools.specs.FileKinds.{FormatsAs, is_bzl}
 use Rattle.bz_tools.specs.FormatRun.{Effect, Run, Files, begun, grown, printed, refused, unopened, file_out, text_status, is_rewritten}
 use Rattle.bz_ports.specs.declared.exit.Cut.TheVariants as c
 use Rattle.bz_tools.specs.declared.mode.Mode.{Mode}
@@ -14,9 +14,9 @@ use Rattle.bz_tools.specs.declared.mode.Mode.{Mode}
 -- mode rewrites it, and all else leaves the folder.
 pub data ExactStep (mode : Mode) (name : Bytes) (folder : Folder) (effect : Effect) (after : Folder) : Type 0 where
   exact_absent : get folder name ≡ None → effect ≡ unopened name c.Whole → after ≡ folder → ExactStep mode name folder effect after
-  exact_unformatted : (text : Bytes) (fault : FormatFault) → get folder name ≡ Some text → FormatsTo text (Err fault) → effect ≡ refused name fault
+  exact_unformatted : (text : Bytes) (fault : FormatFault) → get folder name ≡ Some text → FormatsAs (is_bzl name) text (Err fault) → effect ≡ refused name fault
       → effect.cut ≡ c.Whole → after ≡ folder → ExactStep mode name folder effect after
-  exact_formatted : (text new : Bytes) → get folder name ≡ Some text → FormatsTo text (Ok new)
+  exact_formatted : (text new : Bytes) → get folder name ≡ Some text → FormatsAs (is_bzl name) text (Ok new)
       → effect ≡ printed (file_out mode name text new) (text_status mode text new)
       → after ≡ (if is_rewritten mode text new then with_file folder name new else folder) → ExactStep mode name folder effect after
 

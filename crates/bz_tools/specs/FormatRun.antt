@@ -5,7 +5,6 @@ use Rattle.bz_value.specs.Gaps.{Bytes}
 use Rattle.bz_files.specs.Folder.{Folder, SameBut, new_name, with_file, IsReplacing}
 use Rattle.bz_files.specs.declared.files.FileFault.{FileFault}
 use Rattle.bz_files.specs.declared.files.FileFault.TheVariants as file
-use Rattle.bz_journal.specs.Faults.{FormatsTo}
 use Rattle.bz_journal.specs.declared.formatter.FormatFault.{FormatFault}
 use Rattle.bz_journal.specs.declared.formatter.FormatFault.TheVariants as f
 use Rattle.bz_ports.specs.declared.exit.Cut.{Cut}
@@ -17,6 +16,7 @@ use Rattle.bz_ports.specs.Ports.{IsInput}
 use Rattle.bz_ports.specs.Told.{stdin, named_line, fault_line}
 use Rattle.bz_tools.specs.declared.mode.Mode.{Mode}
 use Rattle.bz_tools.specs.declared.mode.Mode.TheVariants.{Fix, Check, PrintIfChanged}
+use Rattle.bz_tools.specs.FileKinds.{FormatsAs, is_bzl}
 use Rattle.bz_tools.specs.Modes.{FormatLine, FormatUsage, clap_fault, no_mode, format_line, mode_names}
 
 -- ---- what one text does
@@ -54,6 +54,7 @@ abbrev pub refused : Bytes → FormatFault → Effect
 refused name (f.Unread fault) = told (fault_line name fault) 1 c.Whole
 refused name f.TooLarge = told (named_line name (codes "TooLarge")) 3 c.Whole
 refused name f.TooDeep = told (named_line name (codes "TooDeep")) 3 c.Whole
+refused name f.Unsettled = told (named_line name (codes "Unsettled")) 3 c.Whole
 refused name f.Memory = wanting name
 
 -- ---- the modes
@@ -108,12 +109,12 @@ pub data FileStep (mode : Mode) (name : Bytes) (closed : Bool) (folder : Folder)
   unread : (fault : FileFault) → (fault ≡ file.Absent → get folder name ≡ None) → effect ≡ unread_file name fault → after ≡ folder
       → FileStep mode name closed folder effect after
   without_memory : effect ≡ wanting name → after ≡ folder → FileStep mode name closed folder effect after
-  unformatted : (text : Bytes) (fault : FormatFault) → get folder name ≡ Some text → FormatsTo text (Err fault) → effect ≡ refused name fault
+  unformatted : (text : Bytes) (fault : FormatFault) → get folder name ≡ Some text → FormatsAs (is_bzl name) text (Err fault) → effect ≡ refused name fault
       → after ≡ folder → FileStep mode name closed folder effect after
-  kept : (text new : Bytes) → get folder name ≡ Some text → FormatsTo text (Ok new) → is_rewritten mode text new ≡ false
+  kept : (text new : Bytes) → get folder name ≡ Some text → FormatsAs (is_bzl name) text (Ok new) → is_rewritten mode text new ≡ false
       → Prints closed (file_out mode name text new) (text_status mode text new) effect → after ≡ folder
       → FileStep mode name closed folder effect after
-  rewritten : (text new : Bytes) → get folder name ≡ Some text → FormatsTo text (Ok new) → is_rewritten mode text new ≡ true
+  rewritten : (text new : Bytes) → get folder name ≡ Some text → FormatsAs (is_bzl name) text (Ok new) → is_rewritten mode text new ≡ true
       → Rewrites name text new folder effect after → FileStep mode name closed folder effect after
 
 -- ---- standard input
@@ -121,9 +122,9 @@ pub data FileStep (mode : Mode) (name : Bytes) (closed : Bool) (folder : Folder)
 pub data InputStep (mode : Mode) (known : Option Bytes) (effect : Effect) : Type 0 where
   input_unread : effect ≡ unopened stdin c.Read → InputStep mode known effect
   input_without_memory : effect ≡ wanting stdin → InputStep mode known effect
-  input_unformatted : (text : Bytes) (fault : FormatFault) → IsInput known text → FormatsTo text (Err fault) → effect ≡ refused stdin fault
+  input_unformatted : (text : Bytes) (fault : FormatFault) → IsInput known text → FormatsAs false text (Err fault) → effect ≡ refused stdin fault
       → InputStep mode known effect
-  input_printed : (text new : Bytes) → IsInput known text → FormatsTo text (Ok new)
+  input_printed : (text new : Bytes) → IsInput known text → FormatsAs false text (Ok new)
       → Prints false (input_out mode text new) (text_status mode text new) effect → InputStep mode known effect
 
 -- ---- whole runs

@@ -1,3 +1,4 @@
+pub mod FileKinds
 pub mod FormatExact
 pub mod FormatRun
 pub mod FormatShown

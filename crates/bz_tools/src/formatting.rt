@@ -6,6 +6,7 @@ ghost use Rattle.bz_ports.specs.Outputs.{Tells, Counts, Writes, WritesUnlessClos
 ghost use Rattle.bz_ports.specs.Told.{stdin, named_line};
 ghost use Rattle.bz_tools.specs.Modes as m;
 ghost use Rattle.bz_tools.specs.Modes.{format_line};
+ghost use Rattle.bz_tools.specs.FileKinds.{FormatsAs, is_bzl};
 ghost use Rattle.bz_tools.specs.FormatRun as r;
 ghost use Rattle.bz_tools.specs.FormatRun.{IsCutBy, Rewrites, FileStep, InputStep, FormatOutcome, IsFormatUsageLine, no_mode_line, begun};
 ghost use Rattle.bz_tools.specs.FormatShown.{effect_of, progress_of, usage_of};
@@ -18,7 +19,9 @@ use crate::format_line::{FormatLine, FormatUsage, read_format_line};
 use crate::mode::Mode;
 use crate::{Cut, Exit, Sink, Source};
 use bz_files::Files;
-use bz_journal::format;
+use bz_format::format_bzl;
+use bz_items::Text;
+use bz_journal::{FormatFault, format};
 use bz_ports::{InputFault, MOST, STDIN, read_most, tell, tell_clap};
 use std::alloc::{AllocError, Global};
 use std::convert::AsStr;
@@ -54,6 +57,24 @@ fn rewrite<F: Files, E: Sink>(
     }
 }
 
+// Whether a file of this name is a .bzl file.
+fn is_bzl(name: &str) -> bool
+    ensures { result ≡ is_bzl name.now }
+{
+    name.ends_with(".bzl")
+}
+
+// The formatted text of the text of a file of this name.
+fn format_named(alloc: Global, name: &str, text: &[u8]) -> Result<Text, FormatFault>
+    ensures { FormatsAs (is_bzl name.now) text.now result }
+{
+    if is_bzl(name) {
+        format_bzl(alloc, text)
+    } else {
+        format(alloc, text)
+    }
+}
+
 // Reads a file, formats it, and does what the mode wants. Of a text that is too long no more is read than the byte that tells.
 fn file_effect<F: Files, W: Sink, E: Sink>(
     alloc: Global,
@@ -79,7 +100,7 @@ fn file_effect<F: Files, W: Sink, E: Sink>(
         Ok(()) => {}
         Err(fault) => return unread_file(err, name, fault),
     }
-    let new = match format(alloc, &text) {
+    let new = match format_named(alloc, name, &text) {
         Ok(new) => new,
         Err(fault) => return refused(err, name, &fault),
     };
@@ -221,11 +242,12 @@ fn unusable<E: Sink>(alloc: Global, fault: &FormatUsage<'_>, err: &mut E) -> Exi
     }
 }
 
-/// Reads the words of a line. Without files it formats standard input, else each file in order; all are tried. Mode `fix`
+/// Reads the words of a line. Without files it formats standard input, else each file in order; all are tried. A file whose name
+/// ends in `.bzl` is formatted as one, every other file and standard input as a BUILD file. Mode `fix`
 /// rewrites a file that differs, where it still holds the text that was formatted, and writes the formatted text of
 /// standard input to `out`; `check` writes a line there for a text that differs; `print_if_changed` writes its formatted
 /// text there. Statuses: 2 where the words are no line of the program's (nothing is then read); else 3 where a file could
-/// not be opened, read or written, memory was refused, or a formatted text would be past a limit; else 1 where a text is
+/// not be opened, read or written, memory was refused, or a formatted text would be past a limit or would not last; else 1 where a text is
 /// not accepted; else 4 where `check` found a difference; else 0. Each fault is told by one line on `err`, whose faults are
 /// passed over, and that of an unknown mode by one more where a mode is near; where memory is refused to the words, or to that
 /// search, the line is `buildifier: Memory`. Behind a fault of `out` nothing more is written there; files still are.

@@ -4,5 +4,7 @@ use Rattle.bz_format.proofs.laws.formatted_bzl_once.Goals as goal
 pub returns : goal.returns
 returns c = formatted_again (record {
   one = c.one_bzl_reading.ensures;
+  kept = c.bzl_comments_kept.ensures;
   level_stays = c.level_stays.ensures;
+  level_keeps = c.level_keeps_comments.ensures;
 })

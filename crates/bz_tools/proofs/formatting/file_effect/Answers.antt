@@ -1,7 +1,7 @@
 use Rattle.std.proofs.Common.{◌≡◌, ◌∙◌, refl, sym, subst, ap, List, ℕ, true, false, Some, Ok, Err}
 use Rattle.std.specs.FinMap.{get}
 use Rattle.bz_files.specs.Folder.{Folder}
-use Rattle.bz_journal.specs.Faults.{FormatsTo}
+use Rattle.bz_tools.specs.FileKinds.{FormatsAs, is_bzl}
 use Rattle.bz_tools.specs.FormatRun as r
 use Rattle.bz_tools.specs.FormatRun.{unread, without_memory, unformatted, kept, rewritten, Rewrites, Prints, is_rewritten, file_out, text_status}
 use Rattle.bz_tools.proofs.FormatSteps.{quiet, unread_quiet, refused_quiet, rewrites_quiet, whole_file, refused_file}
@@ -17,14 +17,14 @@ returns-in-Err-clause-step g c = λ honest.
       c.unread_file.ensures.told,
     )
 
-pub returns-in-Err-format-clause-step : goal.returns-in-Err-format-clause-step
-returns-in-Err-format-clause-step g c = λ honest.
+pub returns-in-Err-format_named-clause-step : goal.returns-in-Err-format_named-clause-step
+returns-in-Err-format_named-clause-step g c = λ honest.
     let name = c.args.name.now in
-    let fault = c.in-Err-format.fault in
+    let fault = c.in-Err-format_named.fault in
     let text = c.read_most.new.into.items in
     let found = c.in-Ok.ensures.found honest in
-    let formats : FormatsTo text (Err fault) = subst (λ (t : List ℕ). FormatsTo t (Err fault)) c.deref.ensures.value c.in-Err-format.ensures.formats in
-    let of_file : FormatsTo found.0 (Err fault) = refused_file found.0 c.new-text.result.items text fault found.2 c.new-text.ensures.items formats in
+    let formats : FormatsAs (is_bzl c.args.name.now) text (Err fault) = subst (λ (t : List ℕ). FormatsAs (is_bzl c.args.name.now) t (Err fault)) c.deref.ensures.value c.in-Err-format_named.ensures in
+    let of_file : FormatsAs (is_bzl c.args.name.now) found.0 (Err fault) = refused_file (is_bzl name) found.0 c.new-text.result.items text fault found.2 c.new-text.ensures.items formats in
     let effect = r.refused name fault in (
       effect,
       unformatted found.0 fault found.1 of_file refl (c.in-Ok.ensures.same honest),
@@ -38,12 +38,12 @@ returns-then-is_rewritten-clause-step g c = λ honest.
     let name = c.args.name.now in
     let before = g.F.Files.folder c.args.files.now in
     let after = g.F.Files.folder c.rewrite.new.files in
-    let new = c.in-Ok-format.new in
+    let new = c.in-Ok-format_named.new in
     let text = c.read_most.new.into.items in
     let found = c.in-Ok.ensures.found honest in
-    let formats : FormatsTo text (Ok new) = subst (λ (t : List ℕ). FormatsTo t (Ok new)) c.deref.ensures.value c.in-Ok-format.ensures.formats in
+    let formats : FormatsAs (is_bzl c.args.name.now) text (Ok new) = subst (λ (t : List ℕ). FormatsAs (is_bzl c.args.name.now) t (Ok new)) c.deref.ensures.value c.in-Ok-format_named.ensures in
     let there : get before name ≡ Some text =
-    whole_file before name found.0 c.new-text.result.items text new found.1 found.2 c.new-text.ensures.items formats in
+    whole_file (is_bzl name) before name found.0 c.new-text.result.items text new found.1 found.2 c.new-text.ensures.items formats in
     let differs : is_rewritten c.args.mode text new ≡ true =
     rw (c.deref-2.ensures.value, c.as_slice.ensures) at (sym c.is_rewritten.ensures ∙ c.if-is_rewritten.true) in
     let step = c.rewrite.ensures.step (c.in-Ok.ensures.honest ∙ honest) in
@@ -64,12 +64,12 @@ returns-in-Ok-file_out-clause-step g c = λ honest.
     let name = c.args.name.now in
     let mode = c.args.mode in
     let before = g.F.Files.folder c.args.files.now in
-    let new = c.in-Ok-format.new in
+    let new = c.in-Ok-format_named.new in
     let text = c.read_most.new.into.items in
     let found = c.in-Ok.ensures.found honest in
-    let formats : FormatsTo text (Ok new) = subst (λ (t : List ℕ). FormatsTo t (Ok new)) c.deref.ensures.value c.in-Ok-format.ensures.formats in
+    let formats : FormatsAs (is_bzl c.args.name.now) text (Ok new) = subst (λ (t : List ℕ). FormatsAs (is_bzl c.args.name.now) t (Ok new)) c.deref.ensures.value c.in-Ok-format_named.ensures in
     let there : get before name ≡ Some text =
-    whole_file before name found.0 c.new-text.result.items text new found.1 found.2 c.new-text.ensures.items formats in
+    whole_file (is_bzl name) before name found.0 c.new-text.result.items text new found.1 found.2 c.new-text.ensures.items formats in
     let stays : is_rewritten mode text new ≡ false =
     rw (c.deref-2.ensures.value, c.as_slice.ensures) at (sym c.is_rewritten.ensures ∙ c.if-is_rewritten.false) in
     let out : c.as_slice-in-Ok-file_out.result.now ≡ file_out mode name text new =
