@@ -14,6 +14,23 @@ import tempfile
 
 ODD = b"a = 1; b = 2; # c\n"
 EVEN = b"a = 1\nb = 2  # c\n"
+# the same of a .bzl file
+ODD_BZL = b"""def f(a,b=1, *c): # doc
+  if a: return b
+  # none
+  return lambda x:x+1
+  # end
+x=[f(i) for i in c]
+"""
+EVEN_BZL = b"""def f(a, b = 1, *c):  # doc
+    if a:
+        return b
+    # none
+    return lambda x: x + 1
+    # end
+
+x = [f(i) for i in c]
+"""
 
 
 class Folder:
@@ -85,6 +102,19 @@ def all_are_tried(folder):
     return folder.leaves(["none", "d", "g", "f"], 3, err=err) and file.read_bytes() == EVEN
 
 
+def by_its_name(folder):
+    """A file whose name ends in .bzl is formatted as one, and then left; every other one is a BUILD file."""
+    file = folder.file("p/f.bzl", ODD_BZL)
+    if not (folder.leaves(["p/f.bzl"], 0) and file.read_bytes() == EVEN_BZL):
+        return False
+    before = file.stat()
+    folder.file("g.bzl", b"if x:\ny = 1\n")
+    folder.file("bzl", EVEN_BZL)
+    err = b"g.bzl:2:1: Indented\nbzl:1:1: Unexpected\n"
+    after = folder.leaves(["p/f.bzl", "g.bzl", "bzl"], 1, err=err) and file.stat()
+    return after and (after.st_ino, after.st_mtime_ns) == (before.st_ino, before.st_mtime_ns)
+
+
 def link(folder):
     """A symbolic link becomes a file, since it is replaced by a rename; the file that it names stays."""
     file = folder.file("f", ODD)
@@ -104,7 +134,7 @@ def closed_folder(folder):
     return told and file.read_bytes() == ODD
 
 
-SCENES = [rewritten, permissions, formatted_is_left, left_file, checked, printed, all_are_tried, link, closed_folder]
+SCENES = [rewritten, permissions, formatted_is_left, left_file, checked, printed, all_are_tried, by_its_name, link, closed_folder]
 
 
 def failures(program):
