@@ -95,6 +95,7 @@ hostile: $(PROGRAMS) bin/cases
 	@HOSTILE=whole tests/journals.py bin/buildozer
 	@HOSTILE=whole tests/killed.py bin/buildozer
 	@HOSTILE=whole tests/memory.py bin/buildozer bin/cases bin/buildifier
+	@HOSTILE=whole tests/asked.py bin/cases
 	@HOSTILE=whole tests/failing.py $(PROGRAMS)
 	@HOSTILE=whole tests/devices.py $(PROGRAMS)
 

@@ -12,7 +12,7 @@ programs that it built then run over real files: buildifier over single ones (te
 for git, CI and editors (tests/contrib.py); the pages for man and the completions are compared with the code and tried in shells
 (tests/manual.py, tests/completions.py), and both programs installed and packed (tests/install.py); buildozer runs beside a plain list of texts
 (tests/sessions.py), keeps journals and reads torn and forged ones (tests/journals.py), and is killed while it keeps one (tests/killed.py); both
-programs and cases run with memory refused at each request in turn (tests/memory.py); both programs over torn, deep and made
+programs and cases run with memory refused at each request in turn (tests/memory.py, tests/asked.py); both programs over torn, deep and made
 texts (tests/torn.py), with calls of the system and devices that fail (tests/failing.py, tests/devices.py), over cases by chance (tests/fuzz.py), and
 beside Bazel where it is there (tests/bazel.py). The first crate that it reports as not proved ends it, as soon as the proofs that run at that moment have ended; then comes once more what was
 reported of it. The line before the last one says how long the whole took, on how many processors, and how much of their time
@@ -28,6 +28,7 @@ import sys
 import tempfile
 import time
 
+import asked
 import bazel
 import completions
 import contrib
@@ -70,6 +71,7 @@ SCRIPTS = [
     ("runs that keep journals", journals, ["buildozer"]),
     ("runs that are killed", killed, ["buildozer"]),
     ("runs with memory refused", memory, ["buildozer", "cases", "buildifier"]),
+    ("calls with memory refused", asked, ["cases"]),
     ("torn, deep and made texts", torn, ["buildozer", "buildifier"]),
     ("runs with failing calls", failing, ["buildozer", "buildifier"]),
     ("runs with failing devices", devices, ["buildozer", "buildifier"]),

@@ -1,0 +1,181 @@
+#!/usr/bin/env python3
+"""Asks each question of the sheet of cases while memory is refused, and looks at the answers.
+
+The program cases links the libraries and calls them itself: for each question a call, and for those about sessions, their weights
+and their journals a list of actions. Of each question's cases each one is asked by itself, and the k-th request for memory of
+that run is refused (refused.c): that one alone, or that one and each one after it. Whatever k is, the run may not end by a signal,
+and what it leaves must be one of these:
+
+- the answer that ample memory gives;
+- no answer at all, with status 1: the program was told that memory was refused, which a question passes on;
+- of a question about actions, replies of which some are `8 Memory`. Then all else that it shows (the other replies, the place in the
+  history, the present text, weights, the journal) must be what the same case shows without these actions, with ample memory: so
+  a call that answers Memory has changed nothing.
+
+    [HOSTILE=whole] tests/asked.py CASES
+
+With HOSTILE=whole in the environment each request of each case is refused, else some of some cases. Where there is no C compiler
+the script says so, and nothing is tried.
+"""
+import collections
+import itertools
+import pathlib
+import sys
+import tempfile
+
+from files import report
+from hostile import library_of, sample
+from memory import MOST, Left, Refusing
+
+SHEET = pathlib.Path(__file__).resolve().parent.parent / "crates" / "cases" / "stdin"
+# the questions about actions, and the reply to one that was refused memory
+OF_ACTIONS = (b"session", b"weights", b"journal")
+REFUSED = b"= 8 Memory\n"
+# an action that changes nothing, for a case in which all others were refused
+IDLE = b"undo 0\n"
+# no answer: the program ends with this status
+NONE = Left(1)
+# how many cases are asked where only some are, and how many requests of each are refused
+SOME_CASES, SOME_REQUESTS = 60, 8
+
+# What is asked at once: a question, the texts that stand below it for each of its cases, and the texts of the case. A text is its lines,
+# without the mark of the first one.
+Asked = collections.namedtuple("Asked", "question shared texts")
+# A run of the program, as memory.py has them.
+Run = collections.namedtuple("Run", "program words text files")
+
+
+def texts_of(lines):
+    """The texts that begin at these lines, each without its mark; `|` goes on with the one before."""
+    texts = []
+    for line in lines:
+        if line[:1] == b"|":
+            texts[-1] += line
+        else:
+            texts.append(line[2:] if line[1:2] == b" " else line[1:])
+    return texts
+
+
+def cases():
+    """What the sheet asks, case by case."""
+    found, question, lines = [], None, []
+
+    def close():
+        if question and lines:
+            begins = [place for place, line in enumerate(lines) if line[:1] == b">"] + [len(lines)]
+            shared = texts_of(lines[: begins[0]])
+            found.extend(Asked(question, shared, texts_of(lines[first:end])) for first, end in itertools.pairwise(begins))
+
+    for line in SHEET.read_bytes().splitlines(keepends=True):
+        if line[:1] in (b">", b"&", b"|"):
+            lines.append(line)
+        elif line.strip() and line[:1] != b"#":
+            close()
+            question, lines = line, []
+    close()
+    return found
+
+
+def line_of(mark, text):
+    return mark + (b"" if text.startswith(b"\n") else b" ") + text
+
+
+def sheet_of(asked):
+    """The sheet that asks this alone."""
+    marks = [b"&"] * len(asked.shared) + [b">"] + [b"&"] * len(asked.texts)
+    return asked.question + b"".join(map(line_of, marks, asked.shared + asked.texts))
+
+
+def run_of(asked):
+    return Run("cases", [], sheet_of(asked), {})
+
+
+def actions_of(asked):
+    """The actions of a case; its text stands behind them, or below the question."""
+    return asked.texts if asked.shared else asked.texts[:-1]
+
+
+def without(asked, places):
+    """The case without the actions of these places."""
+    actions = [action for place, action in enumerate(actions_of(asked)) if place not in places] or [IDLE]
+    return asked._replace(texts=actions + asked.texts[len(actions_of(asked)) :])
+
+
+def answer_of(refusing, asked):
+    """The answer that ample memory gives, and what it takes to be one."""
+    left, _, _ = refusing.over_files(run_of(asked), str(MOST))
+    return left
+
+
+def replies(asked, out):
+    """The lines of an answer, and at which of them each action is answered."""
+    lines = out[len(sheet_of(asked)) :].splitlines(keepends=True)
+    answered = [place for place, line in enumerate(lines) if line[:2] == b"= "]
+    return lines, answered[: len(actions_of(asked))]
+
+
+def shows_refusals(refusing, asked, out):
+    """Whether an answer is that of the case without the actions whose replies say that memory was refused."""
+    lines, answered = replies(asked, out)
+    refused = [number for number, place in enumerate(answered) if lines[place] == REFUSED]
+    if not refused:
+        return False
+    rest = without(asked, refused)
+    wanted, _ = replies(rest, answer_of(refusing, rest).out)
+    if len(refused) == len(answered):
+        wanted = wanted[1:]
+    return [line for place, line in enumerate(lines) if place not in [answered[number] for number in refused]] == wanted
+
+
+def lacks_some(refusing, asked, out):
+    """Whether an answer that shows no replies is that of the case without some of its actions."""
+    places = range(len(actions_of(asked)))
+    left_out = [chosen for count in range(1, len(places) + 1) for chosen in itertools.combinations(places, count)]
+    return any(replies(rest, answer_of(refusing, rest).out)[0] == replies(asked, out)[0] for rest in (without(asked, chosen) for chosen in left_out))
+
+
+def is_allowed(refusing, asked, ample, left):
+    if left in (ample, NONE._replace(err=left.err)):
+        return True
+    if left.status or not asked.question.startswith(OF_ACTIONS):
+        return False
+    if asked.question.startswith(b"weights"):
+        return lacks_some(refusing, asked, left.out)
+    return shows_refusals(refusing, asked, left.out)
+
+
+def faults(refusing, asked):
+    """What is wrong in the runs of a case."""
+    ample = answer_of(refusing, asked)
+    if ample.status or not ample.out.startswith(sheet_of(asked)):
+        return [f"with ample memory: {ample}"]
+    found, run = [], run_of(asked)
+    for mark in ("", "-"):
+        for number in sample(range(1, refusing.requests(run) + 1), SOME_REQUESTS):
+            left, _, _ = refusing.over_files(run, f"{number}{mark}")
+            if not is_allowed(refusing, asked, ample, left):
+                found.append(f"request {number}{mark} refused: {left}")
+    return found
+
+
+# Each case by its name: all of them, or some.
+SCENES = {f"case {number}, {sheet_of(asked)[:100]!r}": asked for number, asked in sample(list(enumerate(cases(), 1)), SOME_CASES)}
+
+
+def failures(program):
+    """The names of the cases that fail, each with a few of what was wrong."""
+    failed = []
+    with tempfile.TemporaryDirectory() as folder:
+        library = library_of("refused.c", folder)
+        if not library:
+            return []
+        refusing = Refusing({"cases": program}, library)
+        for name, asked in SCENES.items():
+            wrong = faults(refusing, asked)
+            if wrong:
+                failed.append("; ".join([name, *wrong[:3]]))
+    return failed
+
+
+if __name__ == "__main__":
+    sys.exit(report("asked", SCENES, failures(pathlib.Path(sys.argv[1]).resolve())))
