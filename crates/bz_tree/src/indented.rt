@@ -194,7 +194,11 @@ fn suite(indent: &[u8], depth: u32, stack: &mut Stack, leaves: &mut Leaves) -> R
     let from = stack.len();
     let _newline = stack.take(Token::Newline, leaves)?;
     let inner = leaves.indent();
-    if !is_deeper(indent, inner) || !leaves.starts(Token::Statements) {
+    if !is_deeper(indent, inner) {
+        return Err(Halt::Unexpected);
+    }
+    if !leaves.starts(Token::Statements) {
+        leaves.mark_indent(inner);
         return Err(Halt::Unexpected);
     }
     let deep = statements(inner, depth - 1, stack, leaves)?;
@@ -219,6 +223,7 @@ fn statements(
     'rows: while leaves.stands_at(Token::Statements, indent) {
         deep = deeper(deep, statement(indent, depth, stack, leaves)?);
     }
+    leaves.mark_indent(indent);
     Ok(deep)
 }
 

@@ -46,8 +46,8 @@ pub fn parse(alloc: Global, text: &[u8]) -> Result<Tree, ReadFault>
     build_tree_of(alloc, text)
 }
 
-/// Reads the text of a `.bzl` file as the legal tree that spells it. The errors are those of `parse`; `Indented` tells also a
-/// statement, an `elif` or an `else` that does not stand at the indent of its suite.
+/// Reads the text of a `.bzl` file as the legal tree that spells it. The errors are those of `parse`; `Indented` tells the first
+/// token of a line at an indent where no statement may begin: no deeper than the header right before it, or that of no open suite.
 pub fn parse_bzl(alloc: Global, text: &[u8]) -> Result<BzlTree, ReadFault>
     ensures ok { IfOk result (λ tree. ReadsBzl text.now tree) }
     ensures too_large { (result ≡ Err ReadFault.TooLarge) ↔ (limit < length text.now) }

@@ -249,6 +249,8 @@ pub struct Leaves<'a> {
     offset: usize,
     last: usize,
     too_deep: Option<TooDeep>,
+    /// How many bytes were not left when the next leaf stood at an indent at which a statement may begin.
+    at_indent: Option<usize>,
 }
 
 impl<'a> Model for Leaves<'a> {
@@ -286,6 +288,7 @@ impl<'a> Leaves<'a> {
             offset: 0,
             last: 0,
             too_deep: None,
+            at_indent: None,
         }
     }
 
@@ -358,6 +361,15 @@ impl<'a> Leaves<'a> {
         }
     }
 
+    /// Keeps whether the next leaf stands at this indent, at which a statement may begin.
+    pub(crate) fn mark_indent(&mut self, indent: &[u8])
+        ensures { self.new ≡ self.old }
+    {
+        if self.indent() == indent {
+            self.at_indent = Some(self.offset);
+        }
+    }
+
     /// The byte at which the node begins that keeps the next leaf from being read, since it is nested too deep.
     pub fn too_deep_at(&self) -> Option<usize> {
         match self.too_deep {
@@ -402,11 +414,12 @@ impl<'a> Leaves<'a> {
         Stop { reason, at }
     }
 
-    /// Why no file goes on with the next leaf: the first token of a line stands at a wrong indent, where it has one, and also
-    /// where it begins a statement, since one without an indent may stand in a file but not in a suite.
+    /// Why no file goes on with the next leaf: the first token of a line stands at a wrong indent where no statement may begin
+    /// at that one. At a right indent, the token is the fault.
     fn reason(&self) -> Reason {
         let is_first = matches!(self.place, Place::Fresh) && !self.starts(Token::End);
-        if is_first && (!self.indent().is_empty() || self.starts(Token::Statements)) {
+        let is_at_indent = self.at_indent == Some(self.offset);
+        if is_first && !is_at_indent {
             Reason::Indented
         } else {
             Reason::Unexpected
