@@ -14,7 +14,7 @@ use crate::row::Stack;
 use crate::token::{Halt, Leaves};
 use crate::tree::{BzlTree, Tree};
 use bz_lex::{DEPTH_LIMIT, LENGTH_LIMIT, ReadFault, fault_at, place_of};
-use std::alloc::{AllocError, Global};
+use std::alloc::Global;
 use std::str::from_utf8;
 
 /// Which files a text is read as one of. A BUILD file has no functions, no branches and no loops, and no line with an indent.
@@ -123,10 +123,8 @@ fn fault_before(alloc: Global, dialect: Dialect, text: &[u8], leaves: &Leaves) -
     ensures { IsOther result }
 {
     if let Dialect::Build = dialect {
-        match first_newer(alloc, text, leaves.offset()) {
-            Ok(None) => (),
-            Ok(Some(at)) => return unexpected_at(text, at),
-            Err(_) => return ReadFault::Memory,
+        if let Some(at) = first_newer(alloc, text, leaves.offset()) {
+            return unexpected_at(text, at);
         }
     }
     match leaves.too_deep_at() {
@@ -146,15 +144,12 @@ fn newer_fault(alloc: Global, text: &[u8]) -> ReadFault
     requires { length text.now ≤ limit }
     ensures { IsOther result }
 {
-    match first_newer(alloc, text, text.len()) {
-        Ok(at) => unexpected_at(text, at.unwrap_or(0)),
-        Err(_) => ReadFault::Memory,
-    }
+    let first = first_newer(alloc, text, text.len());
+    unexpected_at(text, first.unwrap_or(0))
 }
 
-/// The byte at which the first token begins that no BUILD file has, among those that begin in so many bytes of a text. The
-/// error: a growth was refused.
-fn first_newer(alloc: Global, text: &[u8], until: usize) -> Result<Option<usize>, AllocError>
+/// The byte at which the first token begins that no BUILD file has, among those that begin in so many bytes of a text.
+fn first_newer(alloc: Global, text: &[u8], until: usize) -> Option<usize>
     requires { length text.now ≤ limit }
 {
     let mut leaves = Leaves::new(alloc, text);

@@ -1,4 +1,4 @@
-ghost use Rattle.std.specs.Prelude.{◌≡◌, ◌↔◌, ◌≤◌, ◌<◌, ◌&&◌, ◌∷◌, [], ℕ, nat_le, false, Some, None, length, MatchOption, IfOk, IsTrue};
+ghost use Rattle.std.specs.Prelude.{◌≡◌, ◌↔◌, ◌≤◌, ◌<◌, ◌&&◌, ◌∷◌, [], ℕ, nat_le, false, Some, None, length, drop, MatchOption, IfOk, IsTrue};
 ghost use Rattle.bz_tree.specs.Shapes.{is_one_of};
 ghost use Rattle.bz_tree.specs.Reading.{starts_with};
 ghost use Rattle.bz_tree.specs.Indents.{first_indent};
@@ -427,20 +427,18 @@ impl<'a> Leaves<'a> {
     }
 
     /// The byte at which the first token begins that no BUILD file has, among those that begin in so many bytes of the text
-    /// of these leaves. The error: a growth was refused.
-    pub fn newer_within(&mut self, until: usize) -> Result<Option<usize>, AllocError> {
+    /// of these leaves.
+    pub fn newer_within(&mut self, until: usize) -> Option<usize> {
         for _ in 0..until {
-            if self.offset >= until {
-                return Ok(None);
+            if self.offset >= until || self.is_empty() {
+                return None;
             }
             if self.starts_newer() {
-                return Ok(self.next_at());
+                return self.next_at();
             }
-            if self.cut()?.is_none() {
-                return Ok(None);
-            }
+            self.skip();
         }
-        Ok(None)
+        None
     }
 
     /// Whether no BUILD file has the next leaf here: a keyword of the newer kinds, or one that begins a line for which it has
@@ -453,7 +451,25 @@ impl<'a> Leaves<'a> {
         }
     }
 
+    /// Passes over the next leaf, if there is one.
+    #[inline(always)]
+    fn skip(&mut self)
+        ensures { self.new ≡ drop 1 self.old }
+    {
+        if let Ok(front) = self.next {
+            let place = self.place.behind(front.class, front.token_of(self.rest));
+            let rest = front.rest_of(self.rest);
+            self.last = self.offset.saturating_add(front.gap);
+            self.offset = self.last.saturating_add(front.token);
+            self.next = leaf_front(rest, place);
+            self.symbol = symbol_at(self.next, rest, place);
+            self.place = place;
+            self.rest = rest;
+        }
+    }
+
     /// Cuts off the next leaf, if there is one. The error: a growth was refused; the leaves are then as before.
+    #[inline(always)]
     fn cut(&mut self) -> Result<Option<Leaf>, AllocError>
         ensures { IfOk result (λ leaf. MatchOption leaf (self.old ≡ []) (λ leaf. self.old ≡ leaf ∷ self.new)) }
     {
@@ -462,18 +478,12 @@ impl<'a> Leaves<'a> {
             Err(_) => return Ok(None),
         };
         let leaf = front.leaf(self.alloc, self.rest)?;
-        let place = self.place.behind(leaf.class, leaf.token.as_slice());
-        let rest = front.rest_of(self.rest);
-        self.last = self.offset.saturating_add(front.gap);
-        self.offset = self.last.saturating_add(front.token);
-        self.next = leaf_front(rest, place);
-        self.symbol = symbol_at(self.next, rest, place);
-        self.place = place;
-        self.rest = rest;
+        self.skip();
         Ok(Some(leaf))
     }
 
     /// The next leaf, where it is this token.
+    #[inline(always)]
     #[tactic(auto, unfolding(crate::specs::Words::token_at))]
     pub(crate) fn take(&mut self, token: Token) -> Result<Leaf, Halt>
         ensures ok { IfOk result (λ leaf. token_at (terminals_of token) self.old ≡ Some (p.Leaf leaf, self.new)) }
