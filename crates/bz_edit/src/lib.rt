@@ -12,7 +12,7 @@ mod plan;
 mod step;
 mod weigh;
 
-pub use advancing::advance;
+pub use advancing::{advance, advance_at};
 pub use edit::{Edit, EditFault};
 pub use exchanging::{all_even, exchange, exchange_node};
 pub use place::swap_each;
