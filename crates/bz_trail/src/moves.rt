@@ -1,13 +1,14 @@
 //! What changes a trail.
 ghost use Rattle.std.specs.Prelude.{◌≡◌, ◌-◌, ◌+◌, ◌≤◌, ◌<◌, ◌++◌, ◌∷◌, [], true, take, length, vec_len, vec_capacity, OnOk, OnErr, IsOk};
 ghost use Rattle.bz_tree.specs.Spell.{spell_node};
+ghost use Rattle.bz_edit.specs.Places.{Ascend, with_parts};
 ghost use Rattle.bz_trail.specs.Shown.{Moves, TakesUp};
-ghost use Rattle.bz_trail.specs.Trails.{IsTrail, trail_at, behind, ahead, are_even};
+ghost use Rattle.bz_trail.specs.Trails.{IsTrail, IsTree, trail_at, behind, ahead, are_even};
 
 use crate::crossing::{cross_back, cross_forward};
-use bz_edit::{Step, advance};
+use bz_edit::{Step, advance, advance_at};
 use bz_items::Memory;
-use bz_tree::Tree;
+use bz_tree::{Part, Tree};
 
 /// Puts a step behind the first n, in the place of those that follow.
 fn put_after(steps: &mut Vec<Step>, n: usize, step: Step)
@@ -33,6 +34,30 @@ pub fn take_up(
 {
     steps.reserve(1)?;
     let step = advance(tree, next)?;
+    let _edits = &step.edits;
+    put_after(steps, cursor, step);
+    Ok(())
+}
+
+/// The same, where the next tree is the present one with other parts in these places of its root. What the lines are then is
+/// not said.
+pub fn take_up_at(
+    tree: &mut Tree,
+    steps: &mut Vec<Step>,
+    cursor: usize,
+    places: &[usize],
+    lines: &mut [Part],
+) -> Result<(), Memory>
+    requires trail { IsTrail (trail_at tree.old steps.old.items cursor) }
+    requires next { IsTree (with_parts places.now lines.old tree.old) }
+    requires count { length places.now ≡ length lines.old }
+    requires ascend { Ascend 0 (length tree.old.parts) places.now }
+    requires other { spell_node (with_parts places.now lines.old tree.old) ≡ spell_node tree.old → ⊥ }
+    ensures ok { OnOk result (TakesUp (trail_at tree.old steps.old.items cursor) (with_parts places.now lines.old tree.old) (trail_at tree.new steps.new.items (cursor + 1))) }
+    ensures err { OnErr result ((tree.new ≡ tree.old) × (steps.new.items ≡ steps.old.items)) }
+{
+    steps.reserve(1)?;
+    let step = advance_at(tree, places, lines)?;
     let _edits = &step.edits;
     put_after(steps, cursor, step);
     Ok(())
