@@ -4,9 +4,12 @@ pub mod Spacing
 pub mod Touching
 pub mod Deep
 pub mod Elements
+pub mod ExchangedDepths
+pub mod Exchanging
 pub mod Joined
 pub mod Fitted
 pub mod PendingForms
+pub mod RedrawnLengths
 pub mod Rooms
 pub mod Settings
 pub mod Sized
@@ -25,6 +28,7 @@ pub mod LinesBack
 pub mod Loops
 pub mod Made
 pub mod ReadBack
+pub mod PutParts
 pub mod Readable
 pub mod Spelled
 pub mod TakenItems

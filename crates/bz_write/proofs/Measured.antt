@@ -26,7 +26,7 @@ pub layout_next : (xs : List Item) (k : ℕ) (d : Item) → k < length xs →
     length (layout (drop k xs)) ≡ length (item_text (get_or xs k d)) + (length (before_next (get_or xs k d) (drop (k + 1) xs)) + length (layout (drop (k + 1) xs)))
 layout_next xs k d h = ap (λ ys. length (layout ys)) (drop_more xs k d h) ∙ layout_first (get_or xs k d) (drop (k + 1) xs)
 
-depth_first : (x : Item) (xs : List Item) → depth_items (x ∷ xs) ≡ max (depth_items (x ∷ [])) (depth_items xs)
+pub depth_first : (x : Item) (xs : List Item) → depth_items (x ∷ xs) ≡ max (depth_items (x ∷ [])) (depth_items xs)
 depth_first (i.Block texts) xs = omega arith
 depth_first (i.Stmt x) xs = omega arith
 

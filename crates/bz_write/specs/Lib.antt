@@ -12,3 +12,5 @@ pub mod Pending
 pub mod Depths
 pub mod Writings
 pub mod Taken
+pub mod Exchanged
+pub mod Marks

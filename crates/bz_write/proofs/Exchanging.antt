@@ -1,0 +1,133 @@
+-- Items exchanged where they are marked change the lines of these items alone.
+use Rattle.std.proofs.Common.{ℕ, Bool, true, false, ◌&&◌, ◌||◌, ◌≡◌, ◌<◌, ◌≤◌, List, [], ◌∷◌, ◌++◌, ◌+◌, if◌then◌else◌, length, drop, set, suc, refl, sym, ap, subst, ◌∙◌, arith, append_assoc, append-nil, length-append, drop_of_length-le}
+use Rattle.std.proofs.lemmas.List.{set_at}
+use Rattle.bz_tree.specs.declared.tree.Part.{Part}
+use Rattle.bz_value.specs.declared.value.Item.{Item}
+use Rattle.bz_value.specs.declared.value.Item.TheVariants as i
+use Rattle.bz_value.specs.Characters.{line_feed}
+use Rattle.bz_value.specs.Empty.{is_empty}
+use Rattle.bz_value.specs.Gaps.{Bytes}
+use Rattle.bz_value.specs.Proper.{comments_of}
+use Rattle.bz_write.specs.Written.{is_load, is_assign, between, comment_lines}
+use Rattle.bz_write.specs.Drawn.{line_part, before_next, lines_from}
+use Rattle.bz_write.specs.Exchanged.{StandsApart, IsExchanged, AreExchanged, AreWithin, put_all}
+use Rattle.bz_write.specs.Marks.{marked_places, marked_lines}
+
+-- ---- what stands between items stays
+
+apart_above : (a b c d e : Bool) → a ≡ false → c ≡ false → (if ((a && b) || (c && d)) && e then [] else (line_feed ∷ [])) ≡ line_feed ∷ []
+apart_above a b c d e f g = rw (f, g) refl
+
+apart_below : (a b c d e : Bool) → b ≡ false → d ≡ false → (if ((a && b) || (c && d)) && e then [] else (line_feed ∷ [])) ≡ line_feed ∷ []
+apart_below true b true d e f g = rw (f, g) refl
+apart_below true b false d e f g = rw f refl
+apart_below false b true d e f g = rw g refl
+apart_below false b false d e f g = refl
+
+between_above : (x y : Item) → StandsApart x → between x y ≡ line_feed ∷ []
+between_above (i.Block texts) y h = absurd h
+between_above (i.Stmt x) (i.Block texts) h = refl
+between_above (i.Stmt x) (i.Stmt y) h = apart_above (is_load x) (is_load y) (is_assign x) (is_assign y) (is_empty (comments_of y).before) h.0 h.1
+
+between_below : (x y : Item) → StandsApart y → between x y ≡ line_feed ∷ []
+between_below x (i.Block texts) h = absurd h
+between_below (i.Block texts) (i.Stmt y) h = refl
+between_below (i.Stmt x) (i.Stmt y) h = apart_below (is_load x) (is_load y) (is_assign x) (is_assign y) (is_empty (comments_of y).before) h.0 h.1
+
+same_between : (m n : Bool) (x y u v : Item) → IsExchanged m x y → IsExchanged n u v → between x u ≡ between y v
+same_between true n x y u v g h = between_above x u g.0 ∙ sym (between_above y v g.1)
+same_between false true x y u v g h = between_below x u h.0 ∙ sym (between_below y v h.1)
+same_between false false x y u v g h = ap (λ z. between z u) g ∙ ap (λ z. between y z) h
+
+same_next : (m : Bool) (ms : List Bool) (x y : Item) (xs ys : List Item) → IsExchanged m x y → AreExchanged ms xs ys → before_next x xs ≡ before_next y ys
+same_next m [] x y [] [] g h = refl
+same_next m (n ∷ ms) x y (u ∷ xs) (v ∷ ys) g h = same_between m n x y u v g h.0
+same_next m _ x y _ _ g h = absurd h
+
+-- ---- the lines
+
+-- the line of a statement put in the place of another, behind so many parts
+one_put : (front : List Part) (old new : Part) (rest : List Part) (place : ℕ) → length front ≡ place → set (front ++ old ∷ rest) place new ≡ (front ++ new ∷ []) ++ rest
+one_put front old new rest place e = set_at front old rest new place e ∙ sym (append_assoc front (new ∷ []) rest)
+
+one_more : (front : List Part) (x : Part) (n : ℕ) → length front ≡ n → length (front ++ x ∷ []) ≡ n + 1
+one_more front x n e = length-append front (x ∷ []) ∙ ap (λ k. k + 1) e
+
+lines_put : (gap : Bytes) (front : List Part) (place : ℕ) (marks : List Bool) (before items : List Item) → length front ≡ place → AreExchanged marks before items →
+    put_all (marked_places place marks items) (marked_lines gap marks items) (front ++ lines_from gap before) ≡ front ++ lines_from gap items
+lines_put gap front place [] [] [] e h = refl
+lines_put gap front place (true ∷ ms) (i.Stmt x ∷ xs) (i.Stmt y ∷ ys) e h =
+    let line : Part = line_part gap y in
+    let next : before_next (i.Stmt x) xs ≡ before_next (i.Stmt y) ys = same_next true ms (i.Stmt x) (i.Stmt y) xs ys h.0 h.1 in
+    let places : List ℕ = marked_places (place + 1) ms ys in
+    let lines : List Part = marked_lines (before_next (i.Stmt y) ys) ms ys in
+    ap (λ zs. put_all places lines zs) (one_put front (line_part gap x) line (lines_from (before_next (i.Stmt x) xs) xs) place e) ∙
+    (ap (λ g. put_all places lines ((front ++ line ∷ []) ++ lines_from g xs)) next ∙
+    (lines_put (before_next (i.Stmt y) ys) (front ++ line ∷ []) (place + 1) ms xs ys (one_more front line place e) h.1 ∙
+    append_assoc front (line ∷ []) (lines_from (before_next (i.Stmt y) ys) ys)))
+lines_put gap front place (true ∷ ms) (i.Block texts ∷ xs) (y ∷ ys) e h = absurd h.0.0
+lines_put gap front place (true ∷ ms) (i.Stmt x ∷ xs) (i.Block texts ∷ ys) e h = absurd h.0.1
+lines_put gap front place (false ∷ ms) (x ∷ xs) (i.Block texts ∷ ys) e h =
+    let places : List ℕ = marked_places place ms ys in
+    let here : Bytes = gap ++ comment_lines texts in
+    let lines : List Part = marked_lines (here ++ before_next (i.Block texts) ys) ms ys in
+    let next : before_next (i.Block texts) xs ≡ before_next (i.Block texts) ys = same_next false ms (i.Block texts) (i.Block texts) xs ys refl h.1 in
+    ap (λ z. put_all places lines (front ++ lines_from gap (z ∷ xs))) h.0 ∙
+    (ap (λ g. put_all places lines (front ++ lines_from (here ++ g) xs)) next ∙
+    lines_put (here ++ before_next (i.Block texts) ys) front place ms xs ys e h.1)
+lines_put gap front place (false ∷ ms) (x ∷ xs) (i.Stmt y ∷ ys) e h =
+    let places : List ℕ = marked_places (place + 1) ms ys in
+    let line : Part = line_part gap y in
+    let lines : List Part = marked_lines (before_next (i.Stmt y) ys) ms ys in
+    let next : before_next (i.Stmt y) xs ≡ before_next (i.Stmt y) ys = same_next false ms (i.Stmt y) (i.Stmt y) xs ys refl h.1 in
+    ap (λ z. put_all places lines (front ++ lines_from gap (z ∷ xs))) h.0 ∙
+    (ap (λ zs. put_all places lines zs) (sym (append_assoc front (line ∷ []) (lines_from (before_next (i.Stmt y) xs) xs))) ∙
+    (ap (λ g. put_all places lines ((front ++ line ∷ []) ++ lines_from g xs)) next ∙
+    (lines_put (before_next (i.Stmt y) ys) (front ++ line ∷ []) (place + 1) ms xs ys (one_more front line place e) h.1 ∙
+    append_assoc front (line ∷ []) (lines_from (before_next (i.Stmt y) ys) ys))))
+lines_put gap front place _ _ _ e h = absurd h
+
+-- ---- the places
+
+from_before : (place end : ℕ) (places : List ℕ) → AreWithin (place + 1) end places → AreWithin place end places
+from_before place end [] h = tt
+from_before place end (p ∷ places) h = (omega arith, h.1, h.2)
+
+places_within : (gap : Bytes) (place end : ℕ) (marks : List Bool) (items : List Item) → place + length (lines_from gap items) ≤ end → AreWithin place end (marked_places place marks items)
+places_within gap place end [] items h = tt
+places_within gap place end (m ∷ ms) [] h = tt
+places_within gap place end (true ∷ ms) (i.Block texts ∷ items) h = places_within _ place end ms items h
+places_within gap place end (false ∷ ms) (i.Block texts ∷ items) h = places_within _ place end ms items h
+places_within gap place end (true ∷ ms) (i.Stmt x ∷ items) h =
+    (omega arith, omega arith, places_within (before_next (i.Stmt x) items) (place + 1) end ms items (omega arith))
+places_within gap place end (false ∷ ms) (i.Stmt x ∷ items) h =
+    from_before place end (marked_places (place + 1) ms items) (places_within (before_next (i.Stmt x) items) (place + 1) end ms items (omega arith))
+
+-- each line has a place
+as_many : (gap : Bytes) (place : ℕ) (marks : List Bool) (items : List Item) → length (marked_places place marks items) ≡ length (marked_lines gap marks items)
+as_many gap place [] items = refl
+as_many gap place (m ∷ ms) [] = refl
+as_many gap place (true ∷ ms) (i.Block texts ∷ items) = as_many ((gap ++ comment_lines texts) ++ before_next (i.Block texts) items) place ms items
+as_many gap place (false ∷ ms) (i.Block texts ∷ items) = as_many ((gap ++ comment_lines texts) ++ before_next (i.Block texts) items) place ms items
+as_many gap place (true ∷ ms) (i.Stmt x ∷ items) = ap suc (as_many (before_next (i.Stmt x) items) (place + 1) ms items)
+as_many gap place (false ∷ ms) (i.Stmt x ∷ items) = as_many (before_next (i.Stmt x) items) (place + 1) ms items
+
+-- ---- what the loop over all items has found
+
+pub places_found : (places : List ℕ) (place : ℕ) (marks : List Bool) (items : List Item) (k : ℕ) → length marks ≤ k →
+    places ++ marked_places place (drop k marks) (drop k items) ≡ marked_places 0 marks items → places ≡ marked_places 0 marks items
+places_found places place marks items k over found = sym (append-nil places) ∙ (ap (λ ms. places ++ marked_places place ms (drop k items)) (sym (drop_of_length-le marks over)) ∙ found)
+
+pub lines_found : (lines : List Part) (gap : Bytes) (marks : List Bool) (items : List Item) (k : ℕ) → length marks ≤ k →
+    lines ++ marked_lines gap (drop k marks) (drop k items) ≡ marked_lines [] marks items → lines ≡ marked_lines [] marks items
+lines_found lines gap marks items k over found = sym (append-nil lines) ∙ (ap (λ ms. lines ++ marked_lines gap ms (drop k items)) (sym (drop_of_length-le marks over)) ∙ found)
+
+module _ (places : List ℕ) (lines : List Part) (marks : List Bool) (items : List Item) (p : places ≡ marked_places 0 marks items) (l : lines ≡ marked_lines [] marks items) where
+  pub found_drawn : (before : List Item) → AreExchanged marks before items → put_all places lines (lines_from [] before) ≡ lines_from [] items
+  found_drawn before h = ap (λ ps. put_all ps lines (lines_from [] before)) p ∙ (ap (λ ls. put_all (marked_places 0 marks items) ls (lines_from [] before)) l ∙ lines_put [] [] 0 marks before items refl h)
+
+  pub found_within : AreWithin 0 (length (lines_from [] items)) places
+  found_within = subst (λ ps. AreWithin 0 (length (lines_from [] items)) ps) (sym p) (places_within [] 0 (length (lines_from [] items)) marks items (omega arith))
+
+  pub found_as_many : length places ≡ length lines
+  found_as_many = ap length p ∙ (as_many [] 0 marks items ∙ sym (ap length l))
