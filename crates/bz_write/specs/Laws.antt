@@ -1,12 +1,15 @@
 -- Laws of the layout.
-use Rattle.std.specs.Prelude.{◌≡◌, ◌≤◌, List, length}
-use Rattle.bz_tree.specs.Spell.{depth_of, limit, depth_limit}
+use Rattle.std.specs.Prelude.{◌≡◌, ◌+◌, ◌≤◌, ℕ, List, length}
+use Rattle.std.specs.List.{flat_map}
+use Rattle.bz_tree.specs.Spell.{spell_part, depth_of, limit, depth_limit}
+use Rattle.bz_tree.specs.declared.tree.Part.{Part}
 use Rattle.bz_tree.specs.Legal.{Reads}
 use Rattle.bz_value.specs.declared.value.Item.{Item}
 use Rattle.bz_value.specs.Proper.{IsProper}
 use Rattle.bz_view.specs.View.{view_of}
 use Rattle.bz_write.specs.Written.{layout}
 use Rattle.bz_write.specs.Drawn.{drawn}
+use Rattle.bz_write.specs.Exchanged.{AreWithin, put_all, parts_at}
 use Rattle.bz_write.specs.Flags.{flags}
 
 -- Settling the flags changes neither the layout nor its tree, and keeps file values proper.
@@ -20,3 +23,10 @@ LayoutIsAccepted = (items : List Item) → IsProper items → length (layout ite
 -- The view of the tree of the layout of a proper file value is the value with its flags settled.
 abbrev pub LayoutReadsBack : Type 0
 LayoutReadsBack = (items : List Item) → IsProper items → view_of (drawn items) ≡ flags items
+
+-- Where lines that are drawn anew are put in the places of others, and make the tree of a layout of another, the layout is as much longer as these lines are
+-- longer than those that stood there.
+abbrev pub RedrawnHasLength : Type 0
+RedrawnHasLength = (before items : List Item) (places : List ℕ) (lines : List Part) → IsProper before → IsProper items →
+    AreWithin 0 (length (drawn items).parts) places → length places ≡ length lines → put_all places lines (drawn before).parts ≡ (drawn items).parts →
+    length (layout items) + length (flat_map spell_part (parts_at places (drawn before).parts)) ≡ length (layout before) + length (flat_map spell_part lines)

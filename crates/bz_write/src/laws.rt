@@ -1,4 +1,4 @@
-ghost use Rattle.bz_write.specs.Laws.{FlagsKeepLayout, LayoutIsAccepted, LayoutReadsBack};
+ghost use Rattle.bz_write.specs.Laws.{FlagsKeepLayout, LayoutIsAccepted, LayoutReadsBack, RedrawnHasLength};
 ghost use Rattle.bz_write.specs.Rows.{WorkedRows};
 
 /// Settling the flags of a file value leaves its layout and the tree of it as they are, and keeps
@@ -15,6 +15,12 @@ pub fn layout_is_accepted()
 /// The tree of the layout of a proper file value has that value, with its flags settled, as its view.
 pub fn layout_reads_back()
     ensures { LayoutReadsBack }
+{}
+
+/// How long the layout is for which lines were drawn anew, told by the length of the layout before and by those of the lines that
+/// were exchanged.
+pub fn redrawn_has_length()
+    ensures { RedrawnHasLength }
 {}
 
 /// Small file values have the layout that they are to have, byte for byte.

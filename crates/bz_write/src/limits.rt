@@ -1,14 +1,18 @@
 //! Whether a layout is within the limits of a text. Neither is the layout written for it, nor its tree made.
-ghost use Rattle.std.specs.Prelude.{◌≡◌, ◌+◌, ◌<◌, ◌≤◌, ◌↔◌, IsTrue, IfOk, ◌∷◌, [], length};
+ghost use Rattle.std.specs.Prelude.{◌≡◌, ◌+◌, ◌<◌, ◌≤◌, ◌↔◌, IsTrue, IfOk, ◌∷◌, [], length, List, false, if◌then◌else◌};
+ghost use Rattle.bz_tree.specs.Spell.{depth_of, depth_limit};
 ghost use Rattle.bz_write.specs.Written.{item_text, layout};
-ghost use Rattle.bz_write.specs.Drawn.{before_next};
+ghost use Rattle.bz_write.specs.Drawn.{before_next, drawn};
 ghost use Rattle.bz_write.specs.Depths.{depth_items};
+ghost use Rattle.bz_write.specs.Exchanged.{AreExchanged};
+ghost use Rattle.bz_write.specs.Marks.{marked_items};
 
 use crate::depth::is_within;
 use crate::lines::is_apart;
 use crate::measure::left_behind;
 use crate::room::{NoRoom, less, less_behind, less_comments};
 use bz_items::Memory;
+use bz_tree::DEPTH_LIMIT;
 use bz_value::{Expr, Item};
 use std::alloc::{AllocError, Global};
 
@@ -80,6 +84,38 @@ pub fn are_items_within(items: &[Item], depth: usize) -> bool
         }
     }
     true
+}
+
+/// Whether the line of the item, if it is marked, has at most this depth.
+fn is_marked_within(is_marked: bool, item: &Item, depth: usize) -> bool
+    ensures { IsTrue result ↔ ((if is_marked then depth_items (item.now ∷ []) else 0) ≤ depth) }
+{
+    !is_marked || is_item_within(item, depth)
+}
+
+/// Whether the lines of the marked items have at most this depth.
+#[tactic(auto, using(crate::proofs::ExchangedDepths::marked_depth_next))]
+fn are_marked_within(marks: &[bool], items: &[Item], depth: usize) -> bool
+    requires { length marks.now ≡ length items.now }
+    ensures { IsTrue result ↔ (depth_items (marked_items marks.now items.now) ≤ depth) }
+{
+    for (i, item) in items.iter().enumerate() {
+        if !is_marked_within(marks[i], item, depth) {
+            return false;
+        }
+    }
+    true
+}
+
+/// Whether the tree of the layout of all items is within the limit of depth, if it was before the marked statements were
+/// exchanged for these: only these are looked at. Where it says no, the tree is past the limit, whatever it was before.
+pub fn are_marked_shallow(marks: &[bool], items: &[Item]) -> bool
+    requires { length marks.now ≡ length items.now }
+    ensures shallow { IsTrue result → (before : List Item) → AreExchanged marks.now before items.now
+        → depth_of (drawn before) ≤ depth_limit → depth_of (drawn items.now) ≤ depth_limit }
+    ensures deep { result ≡ false → depth_limit < depth_of (drawn items.now) }
+{
+    are_marked_within(marks, items, DEPTH_LIMIT as usize - 1)
 }
 
 /// Whether the layout of the items has at most so many bytes. The error: a growth was refused.
