@@ -1,5 +1,5 @@
 -- Items exchanged where they are marked change the lines of these items alone.
-use Rattle.std.proofs.Common.{ℕ, Bool, true, false, ◌&&◌, ◌||◌, ◌≡◌, ◌<◌, ◌≤◌, List, [], ◌∷◌, ◌++◌, ◌+◌, if◌then◌else◌, length, drop, set, suc, refl, sym, ap, subst, ◌∙◌, arith, append_assoc, append-nil, length-append, drop_of_length-le}
+use Rattle.std.proofs.Common.{ℕ, Bool, true, false, ◌&&◌, ◌||◌, ◌≡◌, ◌≤◌, List, [], ◌∷◌, ◌++◌, ◌+◌, if◌then◌else◌, length, drop, set, suc, refl, sym, ap, subst, ◌∙◌, arith, append_assoc, append-nil, length-append, drop_of_length-le}
 use Rattle.std.proofs.lemmas.List.{set_at}
 use Rattle.bz_tree.specs.declared.tree.Part.{Part}
 use Rattle.bz_value.specs.declared.value.Item.{Item}

@@ -5,6 +5,7 @@ pub mod Touching
 pub mod Deep
 pub mod Elements
 pub mod ExchangedDepths
+pub mod ExchangedLengths
 pub mod Exchanging
 pub mod Joined
 pub mod Fitted

@@ -1,5 +1,5 @@
 -- The steps of the loops that measure files, and what the limits say of them.
-use Rattle.std.proofs.Common.{ℕ, max, ◌≡◌, ◌<◌, ◌≤◌, List, [], ◌∷◌, ◌++◌, ◌+◌, length, get_or, drop, ap, sym, ◌∙◌, arith, length-append}
+use Rattle.std.proofs.Common.{ℕ, max, ◌≡◌, ◌<◌, List, [], ◌∷◌, ◌++◌, ◌+◌, length, get_or, drop, ap, sym, ◌∙◌, arith, length-append}
 use Rattle.std.proofs.lemmas.List.{drop_more}
 use Rattle.bz_value.specs.declared.value.Expr.{Expr}
 use Rattle.bz_value.specs.declared.value.Item.{Item}
@@ -10,7 +10,7 @@ use Rattle.bz_value.specs.Proper.{comments_of}
 use Rattle.bz_write.specs.Layout.{behind}
 use Rattle.bz_write.specs.Written.{text_of, comment_lines, item_text, layout}
 use Rattle.bz_write.specs.Drawn.{before_next}
-use Rattle.bz_write.specs.Depths.{depth_expr, depth_items}
+use Rattle.bz_write.specs.Depths.{depth_items}
 use Rattle.bz_write.proofs.Spelled.{next_behind}
 
 pub statement_length : (x : Expr) → length (item_text (i.Stmt x)) ≡ length (comment_lines (comments_of x).before) + (length (text_of x 0) + (length (behind (comments_of x).suffix) + 1))
@@ -19,7 +19,7 @@ statement_length x =
     length-append (comment_lines (comments_of x).before) (text_of x 0 ++ (suffix ++ line_feed ∷ [])) ∙
     ap (λ n. length (comment_lines (comments_of x).before) + n) (length-append (text_of x 0) (suffix ++ line_feed ∷ []) ∙ ap (λ n. length (text_of x 0) + n) (length-append suffix (line_feed ∷ [])))
 
-layout_first : (x : Item) (xs : List Item) → length (layout (x ∷ xs)) ≡ length (item_text x) + (length (before_next x xs) + length (layout xs))
+pub layout_first : (x : Item) (xs : List Item) → length (layout (x ∷ xs)) ≡ length (item_text x) + (length (before_next x xs) + length (layout xs))
 layout_first x xs = ap (λ t. length (item_text x ++ t)) (sym (next_behind x xs)) ∙ (length-append (item_text x) (before_next x xs ++ layout xs) ∙ ap (λ n. length (item_text x) + n) (length-append (before_next x xs) (layout xs)))
 
 pub layout_next : (xs : List Item) (k : ℕ) (d : Item) → k < length xs →

@@ -1,5 +1,5 @@
--- How long and how deep parts are when others are put in some places.
-use Rattle.std.proofs.Common.{ℕ, zero, suc, max, ◌≡◌, ◌<◌, ◌≤◌, List, [], ◌∷◌, ◌++◌, ◌+◌, length, take, drop, set, refl, sym, ap, ◌∙◌, subst, arith, flat_map, length-append, length-set, drop-set-lt}
+-- How long parts are when others are put in some places.
+use Rattle.std.proofs.Common.{ℕ, zero, suc, ◌≡◌, ◌<◌, List, [], ◌∷◌, ◌++◌, ◌+◌, length, take, drop, set, refl, sym, ap, ◌∙◌, subst, arith, flat_map, length-append, length-set, drop-set-lt}
 use Rattle.std.proofs.lemmas.Grind.{flat_map-append}
 use Rattle.bz_tree.specs.declared.tree.Part.{Part}
 use Rattle.bz_tree.specs.Spell.{spell_part}

@@ -1,9 +1,9 @@
 -- Items exchanged for others, and parts of a tree put in the places of others.
-use Rattle.std.specs.Prelude.{◌≡◌, ◌+◌, ◌<◌, ◌≤◌, ℕ, Bool, true, false, List, [], ◌∷◌, ◌++◌, take, drop, slice_set}
+use Rattle.std.specs.Prelude.{◌≡◌, ◌+◌, ◌<◌, ◌≤◌, ℕ, Bool, true, false, List, [], ◌∷◌, ◌++◌, length, take, drop, slice_set, if◌then◌else◌}
 use Rattle.bz_tree.specs.declared.tree.Part.{Part}
 use Rattle.bz_value.specs.declared.value.Item.{Item}
 use Rattle.bz_value.specs.declared.value.Item.TheVariants as i
-use Rattle.bz_write.specs.Written.{is_load, is_assign}
+use Rattle.bz_write.specs.Written.{is_load, is_assign, item_text}
 
 -- a statement that is neither a load nor an assignment: it stands between blank lines, whatever stands beside it
 abbrev pub StandsApart : Item → Type 0
@@ -20,6 +20,12 @@ abbrev pub AreExchanged : List Bool → List Item → List Item → Type 0
 AreExchanged [] [] [] = Unit {0}
 AreExchanged (mark ∷ marks) (x ∷ before) (y ∷ items) = IsExchanged mark x y × AreExchanged marks before items
 AreExchanged _ _ _ = ⊥
+
+-- how many bytes the marked items' own lines have, without what stands between them and others
+abbrev pub marked_length : List Bool → List Item → ℕ
+marked_length [] items = 0
+marked_length (mark ∷ marks) [] = 0
+marked_length (mark ∷ marks) (item ∷ items) = (if mark then length (item_text item) else 0) + marked_length marks items
 
 -- places in ascending order, from the first of these numbers on and below the second
 abbrev pub AreWithin : ℕ → ℕ → List ℕ → Type 0

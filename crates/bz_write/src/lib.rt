@@ -24,7 +24,7 @@ pub use gaps::{deeper, push_behind, push_comments};
 pub use laws::{
     flags_keep_layout, layout_is_accepted, layout_reads_back, redrawn_has_length, worked_rows,
 };
-pub use limits::are_marked_shallow;
+pub use limits::{are_marked_shallow, are_marked_short};
 pub use lines::is_close;
 pub use marked::{Redrawn, redraw};
 pub use measure::{left_behind, left_behind_body, left_behind_row};

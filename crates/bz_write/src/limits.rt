@@ -1,10 +1,10 @@
 //! Whether a layout is within the limits of a text. Neither is the layout written for it, nor its tree made.
 ghost use Rattle.std.specs.Prelude.{◌≡◌, ◌+◌, ◌<◌, ◌≤◌, ◌↔◌, IsTrue, IfOk, ◌∷◌, [], length, List, false, if◌then◌else◌};
-ghost use Rattle.bz_tree.specs.Spell.{depth_of, depth_limit};
+ghost use Rattle.bz_tree.specs.Spell.{depth_of, depth_limit, limit};
 ghost use Rattle.bz_write.specs.Written.{item_text, layout};
 ghost use Rattle.bz_write.specs.Drawn.{before_next, drawn};
 ghost use Rattle.bz_write.specs.Depths.{depth_items};
-ghost use Rattle.bz_write.specs.Exchanged.{AreExchanged};
+ghost use Rattle.bz_write.specs.Exchanged.{AreExchanged, marked_length};
 ghost use Rattle.bz_write.specs.Marks.{marked_items};
 
 use crate::depth::is_within;
@@ -12,7 +12,7 @@ use crate::lines::is_apart;
 use crate::measure::left_behind;
 use crate::room::{NoRoom, less, less_behind, less_comments};
 use bz_items::Memory;
-use bz_tree::DEPTH_LIMIT;
+use bz_tree::{DEPTH_LIMIT, LENGTH_LIMIT};
 use bz_value::{Expr, Item};
 use std::alloc::{AllocError, Global};
 
@@ -123,6 +123,53 @@ pub fn is_layout_within(alloc: Global, items: &[Item], limit: usize) -> Result<b
     ensures { IfOk result (λ within. IsTrue within ↔ (length (layout items.now) ≤ limit)) }
 {
     match less_items(alloc, items, limit) {
+        Ok(_left) => Ok(true),
+        Err(NoRoom::Longer) => Ok(false),
+        Err(NoRoom::Memory) => Err(AllocError),
+    }
+}
+
+/// What is left of the room behind the lines of an item, if it is marked.
+fn less_marked(alloc: Global, is_marked: bool, item: &Item, room: usize) -> Result<usize, NoRoom>
+    ensures ok { IfOk result (λ left. (if is_marked then length (item_text item.now) else 0) + left ≡ room) }
+    ensures longer { result ≡ Err NoRoom.Longer → room < (if is_marked then length (item_text item.now) else 0) }
+{
+    if !is_marked {
+        return Ok(room);
+    }
+    less_item(alloc, item, room)
+}
+
+/// What is left of so much room behind the lines of the marked items. Errors: `Longer`: they are longer; `Memory`: a growth was
+/// refused.
+#[tactic(auto, using(crate::proofs::ExchangedLengths::marked_length_next))]
+fn less_all_marked(
+    alloc: Global,
+    marks: &[bool],
+    items: &[Item],
+    room: usize,
+) -> Result<usize, NoRoom>
+    requires { length marks.now ≡ length items.now }
+    ensures ok { IfOk result (λ left. marked_length marks.now items.now + left ≡ room) }
+    ensures longer { result ≡ Err NoRoom.Longer → room < marked_length marks.now items.now }
+{
+    let mut left = room;
+    for (i, item) in items.iter().enumerate() {
+        left = less_marked(alloc, marks[i], item, left)?;
+    }
+    Ok(left)
+}
+
+/// Whether the own lines of the marked items are within the limit of a text, without what stands between them and others. Where it
+/// says no, the layout of all items is past the limit; so no line that is longer need ever be drawn. The error: a growth was
+/// refused.
+#[tactic(auto, using(crate::proofs::ExchangedLengths::length_below))]
+pub fn are_marked_short(alloc: Global, marks: &[bool], items: &[Item]) -> Result<bool, Memory>
+    requires { length marks.now ≡ length items.now }
+    ensures short { IfOk result (λ short. IsTrue short ↔ (marked_length marks.now items.now ≤ limit)) }
+    ensures long { IfOk result (λ short. short ≡ false → limit < length (layout items.now)) }
+{
+    match less_all_marked(alloc, marks, items, LENGTH_LIMIT) {
         Ok(_left) => Ok(true),
         Err(NoRoom::Longer) => Ok(false),
         Err(NoRoom::Memory) => Err(AllocError),
