@@ -12,6 +12,7 @@ pub mod Inner
 pub mod RuleKinds
 pub mod Places
 pub mod Settling
+pub mod Exchanging
 pub mod Dropping
 pub mod Cut
 pub mod Stable

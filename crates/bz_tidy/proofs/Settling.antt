@@ -251,24 +251,42 @@ to_labels : (p : Expr → Expr) → Keeps lists_in p → Keeps arguments_in p �
     on_taken p (flags (loads (symbols (arguments (lists items))))) ≡ flags (loads (symbols (arguments (lists items))))
 to_labels p l r s f items h = to_lists p r s f (lists items) (taken_keeps lists_in p lists_above l items h)
 
-pub tidy_stays : (items : List Item) → tidied (tidied items) ≡ tidied items
-tidy_stays items =
+-- what each pass leaves as it is
+pub record IsFixed (items : List Item) : Type 0 where
+  pub by_quotes : quotes items ≡ items
+  pub by_labels : labels items ≡ items
+  pub by_lists : lists items ≡ items
+  pub by_arguments : arguments items ≡ items
+  pub by_symbols : symbols items ≡ items
+  pub by_loads : loads items ≡ items
+  pub by_flags : flags items ≡ items
+
+pub tidied_fixed : (items : List Item) → IsFixed (tidied items)
+tidied_fixed items =
     let a1 : List Item = quotes items in
     let a2 : List Item = labels a1 in
     let a3 : List Item = lists a2 in
     let a4 : List Item = arguments a3 in
     let a5 : List Item = symbols a4 in
-    let a7 : List Item = flags (loads a5) in
-    let q : quotes a7 ≡ a7 =
-    to_labels quoted quoted_lists quoted_arguments quoted_symbols flags_keep_quoted a2 (taken_keeps labels_in quoted labels_above quoted_labels a1 (taken_settles quoted quoted_above quoted_settles items)) in
-    let b : labels a7 ≡ a7 = to_labels labels_in labels_lists labels_arguments labels_symbols labels_flags a2 (taken_settles labels_in labels_above labels_settle a1) in
-    let l : lists a7 ≡ a7 = to_lists lists_in lists_arguments lists_symbols lists_flagged a3 (taken_settles lists_in lists_above lists_settled a2) in
-    let r : arguments a7 ≡ a7 = to_arguments arguments_in arguments_symbols arguments_flags a4 (taken_settles arguments_in arguments_above arguments_settle a3) in
-    let s : symbols a7 ≡ a7 = flags_taken symbols_in symbols_flags (loads a5) (loads_taken symbols_in a5 (taken_settles symbols_in symbols_above symbols_settle a4)) in
-    let o : loads a7 ≡ a7 = flags_loads (loads a5) (loads_settle a5) in
-    let f : flags a7 ≡ a7 = flags_settled (loads a5) in
-    ap (λ z. flags (loads (symbols (arguments (lists (labels z)))))) q
-    ∙ (ap (λ z. flags (loads (symbols (arguments (lists z))))) b
-    ∙ (ap (λ z. flags (loads (symbols (arguments z)))) l
-    ∙ (ap (λ z. flags (loads (symbols z))) r
-    ∙ (ap (λ z. flags (loads z)) s ∙ (ap flags o ∙ f)))))
+    record {
+      by_quotes = to_labels quoted quoted_lists quoted_arguments quoted_symbols flags_keep_quoted a2 (taken_keeps labels_in quoted labels_above quoted_labels a1 (taken_settles quoted quoted_above quoted_settles items));
+      by_labels = to_labels labels_in labels_lists labels_arguments labels_symbols labels_flags a2 (taken_settles labels_in labels_above labels_settle a1);
+      by_lists = to_lists lists_in lists_arguments lists_symbols lists_flagged a3 (taken_settles lists_in lists_above lists_settled a2);
+      by_arguments = to_arguments arguments_in arguments_symbols arguments_flags a4 (taken_settles arguments_in arguments_above arguments_settle a3);
+      by_symbols = flags_taken symbols_in symbols_flags (loads a5) (loads_taken symbols_in a5 (taken_settles symbols_in symbols_above symbols_settle a4));
+      by_loads = flags_loads (loads a5) (loads_settle a5);
+      by_flags = flags_settled (loads a5);
+    }
+
+-- the passes that go statement by statement leave it as it is
+pub statements_fixed : (items : List Item) → IsFixed items → symbols (arguments (lists (labels (quotes items)))) ≡ items
+statements_fixed items fixed =
+    ap (λ z. symbols (arguments (lists (labels z)))) fixed.by_quotes
+    ∙ (ap (λ z. symbols (arguments (lists z))) fixed.by_labels
+    ∙ (ap (λ z. symbols (arguments z)) fixed.by_lists
+    ∙ (ap symbols fixed.by_arguments ∙ fixed.by_symbols)))
+
+pub tidy_stays : (items : List Item) → tidied (tidied items) ≡ tidied items
+tidy_stays items =
+    let fixed : IsFixed (tidied items) = tidied_fixed items in
+    ap (λ z. flags (loads z)) (statements_fixed (tidied items) fixed) ∙ (ap flags fixed.by_loads ∙ fixed.by_flags)

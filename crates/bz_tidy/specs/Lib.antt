@@ -1,4 +1,5 @@
 pub mod Changes
+pub mod Exchanged
 pub mod Laws
 pub mod Lists
 pub mod Marks

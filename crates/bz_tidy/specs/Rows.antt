@@ -11,6 +11,7 @@ use Rattle.bz_value.specs.declared.value.Item.TheVariants as i
 use Rattle.bz_value.specs.Gaps.{Bytes}
 use Rattle.bz_value.specs.Comments.{no_comments}
 use Rattle.bz_write.specs.Written.{layout}
+use Rattle.bz_tidy.specs.Exchanged.{tidied_where}
 use Rattle.bz_tidy.specs.Passes.{tidied}
 
 abbrev token : Class → Bytes → Expr
@@ -91,6 +92,13 @@ Sums =
     × (tidied (broken (codes "x") (codes "srcs") (sequence k.Call false (token c.Name (codes "glob") ∷ []) (strings (codes "\"b\"" ∷ codes "\"a\"" ∷ []) ∷ [])))
     ≡ broken (codes "x") (codes "srcs") (sequence k.Call false (token c.Name (codes "glob") ∷ []) (strings (codes "\"b\"" ∷ codes "\"a\"" ∷ []) ∷ [])))
 
+-- the marked items alone take double quote marks
+abbrev named : Bytes → Item
+named text = statement [] (codes "x") (argument (codes "name") (string text) ∷ [])
+
+abbrev pub Marked : Type 0
+Marked = tidied_where (true ∷ false ∷ true ∷ []) (named (codes "'a'") ∷ named (codes "'b'") ∷ named (codes "'c'") ∷ []) ≡ named (codes "\"a\"") ∷ named (codes "'b'") ∷ named (codes "\"c\"") ∷ []
+
 abbrev pub WorkedPasses : Type 0
 WorkedPasses =
-    (layout (tidied two_sources) ≡ codes "cc_library(\n    name = \"a\",\n    srcs = [\n        \"a.c\",\n        \"b.c\",\n    ],\n)\n") × Loads × Lists × Sums
+    (layout (tidied two_sources) ≡ codes "cc_library(\n    name = \"a\",\n    srcs = [\n        \"a.c\",\n        \"b.c\",\n    ],\n)\n") × Loads × Lists × Sums × Marked

@@ -1,4 +1,5 @@
 //! Facts about the definitions, for readers: the functions do nothing.
+ghost use Rattle.bz_tidy.specs.Exchanged.{ExchangedTidied};
 ghost use Rattle.bz_tidy.specs.Laws.{CommentsStay, FlagsSettle, SortingIsTheOne, TidySettles, TidyStays};
 ghost use Rattle.bz_tidy.specs.MovedMarks.{MarksMove};
 ghost use Rattle.bz_tidy.specs.Rows.{WorkedPasses};
@@ -39,4 +40,9 @@ pub fn sorting_is_the_one()
 /// its old first item to the new one.
 pub fn marks_move()
     ensures { MarksMove }
+{}
+
+/// Where marked items of a tidy file were exchanged for others, tidying it is tidying these one by one.
+pub fn exchanged_tidied()
+    ensures { ExchangedTidied }
 {}

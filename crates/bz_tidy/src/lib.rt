@@ -2,6 +2,7 @@
 #![tactic(auto)]
 
 mod arguments;
+mod exchanged;
 mod flags;
 mod labels;
 mod laws;
@@ -19,10 +20,11 @@ mod symbols;
 mod tidying;
 mod walk;
 
+pub use exchanged::tidy_marked;
 pub use flags::settle;
 pub use laws::{
-    comments_stay, flags_settle, marks_move, sorting_is_the_one, tidy_settles, tidy_stays,
-    worked_passes,
+    comments_stay, exchanged_tidied, flags_settle, marks_move, sorting_is_the_one, tidy_settles,
+    tidy_stays, worked_passes,
 };
 pub use proper_laws::proper_stays;
 pub use tidying::tidy;

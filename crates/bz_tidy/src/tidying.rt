@@ -49,7 +49,7 @@ fn change_statement(alloc: Global, x: &mut Expr) -> Result<(), Memory>
 }
 
 /// The passes over an item: a statement marked `buildifier: leave-alone` and what is no statement stay.
-fn change_item(alloc: Global, item: &mut Item) -> Result<(), Memory>
+pub(crate) fn change_item(alloc: Global, item: &mut Item) -> Result<(), Memory>
     ensures { OnOk result (item.new ≡ on_statement (taken changed) item.old) }
 {
     match item {
@@ -74,7 +74,7 @@ fn change_all(alloc: Global, items: &mut Items<Item>) -> Result<(), Memory>
     Ok(())
 }
 
-fn settle_item(item: &mut Item)
+pub(crate) fn settle_item(item: &mut Item)
     ensures { item.new ≡ item_with_flags item.old }
 {
     match item {

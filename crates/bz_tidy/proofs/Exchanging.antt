@@ -1,0 +1,188 @@
+-- Where marked items of a tidy file are exchanged, tidying is tidying these one by one: no other statement is moved, and what is not exchanged stays under each pass.
+use Rattle.std.proofs.Common.{Bool, true, false, not, ◌&&◌, ◌||◌, List, [], ◌∷◌, ◌≡◌, ◌⊎◌, refl, sym, ap, ◌∙◌, subst, map, inl, inr, if◌then◌else◌}
+use Rattle.bz_tree.specs.declared.kind.Kind.{Kind}
+use Rattle.bz_tree.specs.declared.kind.Kind.TheVariants as k
+use Rattle.bz_tree.specs.Shapes.{is_kind}
+use Rattle.bz_value.specs.declared.value.Expr.{Expr, Token, Form'}
+use Rattle.bz_value.specs.declared.value.Item.{Item}
+use Rattle.bz_value.specs.declared.value.Item.TheVariants as i
+use Rattle.bz_value.specs.Gaps.{Bytes}
+use Rattle.bz_write.specs.Flags.{with_flags, item_with_flags, flags}
+use Rattle.bz_write.specs.Written.{is_load, is_load_kind, is_assign, is_assign_kind}
+use Rattle.bz_rule.specs.Values.{has_kind, above, on_first, on_third, behind_first, on_lists}
+use Rattle.std.proofs.lemmas.Bool.{and_left, and_right}
+use Rattle.bz_tidy.specs.Changes.{changed}
+use Rattle.bz_tidy.specs.Exchanged.{is_other_statement, IsExchanged, AreExchanged, item_tidied, tidied_where, ExchangedTidied}
+use Rattle.bz_tidy.specs.Lists.{settled_list}
+use Rattle.bz_tidy.specs.Marks.{any_marked, leave_alone}
+use Rattle.bz_tidy.specs.Orders.{sort_by}
+use Rattle.bz_tidy.specs.Passes.{on_statement, taken, on_taken, on_call, on_rule, on_attribute, quoted, labelled_value, labels_in, sorted_value, in_assign, lists_in, argument_precedes, arguments_in, symbol_precedes, is_loose_load, is_run_load, load_precedes, loads, tidied}
+use Rattle.bz_tidy.proofs.Composed.{five_composed}
+use Rattle.bz_tidy.proofs.Keeping.{both, same_first, same_behind}
+use Rattle.bz_tidy.proofs.Levels.{kind_within}
+use Rattle.bz_tidy.proofs.Parts.{the_parts, the_items, kind_flags}
+use Rattle.bz_tidy.proofs.Settling.{IsFixed, tidied_fixed, statements_fixed, load_one_way}
+use Rattle.bz_tidy.proofs.Sorting.{Starts, Ordered, ordered_stays, sort_ordered}
+
+-- ---- the passes leave the kinds of statements
+
+kind_quoted : (kind : Kind) (x : Expr) → has_kind kind (quoted x) ≡ has_kind kind x
+kind_quoted kind (Token t) = refl
+kind_quoted kind (Form' own s parts s' items end_ split open_ comments) = refl
+
+either_kind : (kind : Kind) (b : Bool) (y z x : Expr) → has_kind kind y ≡ has_kind kind x → has_kind kind z ≡ has_kind kind x → has_kind kind (if b then y else z) ≡ has_kind kind x
+either_kind kind true y z x h h' = h
+either_kind kind false y z x h h' = h'
+
+rule_kept : (change : Bytes → List Expr → List Expr) (kind : Kind) (x : Expr) → has_kind kind (on_rule change x) ≡ has_kind kind x
+rule_kept change kind x = kind_within the_parts k.Bare kind (on_first (on_call change)) x
+
+lists_kept : (kind : Kind) (x : Expr) → has_kind kind (lists_in x) ≡ has_kind kind x
+lists_kept kind x =
+    either_kind kind (has_kind k.Assign x) (in_assign x) (on_rule (λ own. map (on_attribute (sorted_value own))) x) x
+    (kind_within the_parts k.Assign kind (on_third (on_lists (settled_list (above x) false))) x)
+    (rule_kept (λ own. map (on_attribute (sorted_value own))) kind x)
+
+changed_kept : (kind : Kind) (x : Expr) → has_kind kind (changed x) ≡ has_kind kind x
+changed_kept kind x =
+    kind_within the_items k.Load kind (behind_first (sort_by symbol_precedes)) (arguments_in (lists_in (labels_in (quoted x))))
+    ∙ (rule_kept (λ own. sort_by argument_precedes) kind (lists_in (labels_in (quoted x)))
+    ∙ (lists_kept kind (labels_in (quoted x)) ∙ (rule_kept (λ own. map (on_attribute labelled_value)) kind (quoted x) ∙ kind_quoted kind x)))
+
+taken_kept : (kind : Kind) (x : Expr) → has_kind kind (taken changed x) ≡ has_kind kind x
+taken_kept kind x = either_kind kind (any_marked leave_alone (above x)) x (changed x) x refl (changed_kept kind x)
+
+-- ---- loads and assignments by the number of their kind
+
+load_number : (kind : Kind) → is_load_kind kind ≡ is_kind kind k.Load
+load_number k.Load = refl
+load_number _ = refl
+
+assign_number : (kind : Kind) → is_assign_kind kind ≡ is_kind kind k.Assign
+assign_number k.Assign = refl
+assign_number _ = refl
+
+load_has : (x : Expr) → is_load x ≡ has_kind k.Load x
+load_has (Token t) = refl
+load_has (Form' kind s parts s' items end_ split open_ comments) = load_number kind
+
+assign_has : (x : Expr) → is_assign x ≡ has_kind k.Assign x
+assign_has (Token t) = refl
+assign_has (Form' kind s parts s' items end_ split open_ comments) = assign_number kind
+
+load_kept : (x : Expr) → is_load (with_flags (taken changed x)) ≡ is_load x
+load_kept x = load_has (with_flags (taken changed x)) ∙ (kind_flags k.Load (taken changed x) ∙ (taken_kept k.Load x ∙ sym (load_has x)))
+
+assign_kept : (x : Expr) → is_assign (with_flags (taken changed x)) ≡ is_assign x
+assign_kept x = assign_has (with_flags (taken changed x)) ∙ (kind_flags k.Assign (taken changed x) ∙ (taken_kept k.Assign x ∙ sym (assign_has x)))
+
+other_kept : (item : Item) → is_other_statement (item_tidied item) ≡ is_other_statement item
+other_kept (i.Block lines) = refl
+other_kept (i.Stmt x) = both (λ a b. not (a || b)) (load_kept x) (assign_kept x)
+
+-- ---- no other statement is compared
+
+neither : (a b : Bool) → not (a || b) ≡ true → a ≡ false
+neither true b h = sym h
+neither false b h = refl
+
+no_run : (item : Item) → is_other_statement item ≡ true → is_run_load (on_statement (taken changed) item) ≡ false
+no_run (i.Block lines) h = refl
+no_run (i.Stmt x) h = and_left (has_kind k.Load (taken changed x)) _ (taken_kept k.Load x ∙ (sym (load_has x) ∙ neither (is_load x) (is_assign x) h))
+
+never_before : (x y : Item) → is_run_load x ≡ false → load_precedes x y ≡ false
+never_before (i.Block lines) y h = refl
+never_before (i.Stmt x) (i.Block lines) h = refl
+never_before (i.Stmt x) (i.Stmt y) h = and_left (is_loose_load x && is_loose_load y) _ (and_left (is_loose_load x) (is_loose_load y) h)
+
+never_behind : (x y : Item) → is_run_load y ≡ false → load_precedes x y ≡ false
+never_behind (i.Block lines) y h = refl
+never_behind (i.Stmt x) (i.Block lines) h = refl
+never_behind (i.Stmt x) (i.Stmt y) h = and_left (is_loose_load x && is_loose_load y) _ (and_right (is_loose_load x) (is_loose_load y) h)
+
+-- ---- items that are the same or are not compared stay in order
+
+abbrev IsAlike : Item → Item → Type 0
+IsAlike x y = (y ≡ x) ⊎ (is_run_load y ≡ false)
+
+abbrev AreAlike : List Item → List Item → Type 0
+AreAlike [] [] = Unit {0}
+AreAlike (x ∷ xs) (y ∷ ys) = IsAlike x y × AreAlike xs ys
+AreAlike _ _ = ⊥
+
+pair_stays : (x y x' y' : Item) → IsAlike x y → IsAlike x' y' → load_precedes x' x ≡ false → load_precedes y' y ≡ false
+pair_stays x y x' y' (inr n) a h = never_behind y' y n
+pair_stays x y x' y' (inl e) (inr n) h = never_before y' y n
+pair_stays x y x' y' (inl e) (inl e') h = both load_precedes e' e ∙ h
+
+starts_stay : (x y : Item) (xs ys : List Item) → IsAlike x y → AreAlike xs ys → Starts load_precedes x xs → Starts load_precedes y ys
+starts_stay x y [] [] a b h = tt
+starts_stay x y [] (y' ∷ ys) a b h = absurd b
+starts_stay x y (x' ∷ xs) [] a b h = tt
+starts_stay x y (x' ∷ xs) (y' ∷ ys) a b h = pair_stays x y x' y' a b.0 h
+
+order_stays : (xs ys : List Item) → AreAlike xs ys → Ordered load_precedes xs → Ordered load_precedes ys
+order_stays [] [] a h = tt
+order_stays [] (y ∷ ys) a h = absurd a
+order_stays (x ∷ xs) [] a h = tt
+order_stays (x ∷ xs) (y ∷ ys) a h = (starts_stay x y xs ys a.0 a.1 h.0, order_stays xs ys a.1 h.1)
+
+-- ---- exchanged items
+
+one_alike : (mark : Bool) (old item : Item) → on_statement (taken changed) old ≡ old → IsExchanged mark old item → IsAlike old (on_statement (taken changed) item)
+one_alike true old item e h = inr (no_run item h.1)
+one_alike false old item e h = inl (ap (on_statement (taken changed)) (sym h) ∙ e)
+
+are_alike : (marks : List Bool) (before items : List Item) → on_taken changed before ≡ before → AreExchanged marks before items → AreAlike before (on_taken changed items)
+are_alike [] [] [] e h = tt
+are_alike (mark ∷ marks) (old ∷ before) (item ∷ items) e h = (
+  one_alike mark old item (same_first (on_statement (taken changed) old) old (on_taken changed before) before e) h.0,
+  are_alike marks before items (same_behind (on_statement (taken changed) old) old (on_taken changed before) before e) h.1,
+)
+are_alike [] [] (item ∷ items) e h = absurd h
+are_alike [] (old ∷ before) items e h = absurd h
+are_alike (mark ∷ marks) [] items e h = absurd h
+are_alike (mark ∷ marks) (old ∷ before) [] e h = absurd h
+
+one_tidied : (mark : Bool) (old item : Item) → on_statement (taken changed) old ≡ old → item_with_flags old ≡ old → IsExchanged mark old item → item_tidied item ≡ (if mark then item_tidied item else item)
+one_tidied true old item e f h = refl
+one_tidied false old item e f h = ap item_tidied (sym h) ∙ (ap item_with_flags e ∙ (f ∙ h))
+
+each_tidied : (marks : List Bool) (before items : List Item) → on_taken changed before ≡ before → flags before ≡ before → AreExchanged marks before items → flags (on_taken changed items) ≡ tidied_where marks items
+each_tidied [] [] [] e f h = refl
+each_tidied (mark ∷ marks) (old ∷ before) (item ∷ items) e f h =
+    both (λ z zs. z ∷ zs)
+    (one_tidied mark old item (same_first (on_statement (taken changed) old) old (on_taken changed before) before e) (same_first (item_with_flags old) old (flags before) before f) h.0)
+    (each_tidied marks before items (same_behind (on_statement (taken changed) old) old (on_taken changed before) before e) (same_behind (item_with_flags old) old (flags before) before f) h.1)
+each_tidied [] [] (item ∷ items) e f h = absurd h
+each_tidied [] (old ∷ before) items e f h = absurd h
+each_tidied (mark ∷ marks) [] items e f h = absurd h
+each_tidied (mark ∷ marks) (old ∷ before) [] e f h = absurd h
+
+pub marked_tidied : (marks : List Bool) (before items : List Item) → tidied before ≡ before → AreExchanged marks before items → tidied items ≡ tidied_where marks items
+marked_tidied marks before items t h =
+    let fixed : IsFixed before = subst IsFixed t (tidied_fixed before) in
+    let each : on_taken changed before ≡ before = sym (five_composed before) ∙ statements_fixed before fixed in
+    let ordered : Ordered load_precedes before = subst (Ordered load_precedes) fixed.by_loads (sort_ordered load_precedes load_one_way before) in
+    let stay : loads (on_taken changed items) ≡ on_taken changed items =
+    ordered_stays load_precedes (on_taken changed items) (order_stays before (on_taken changed items) (are_alike marks before items each h) ordered) in
+    ap (λ z. flags (loads z)) (five_composed items) ∙ (ap flags stay ∙ each_tidied marks before items each fixed.by_flags h)
+
+one_still : (mark : Bool) (old item : Item) → IsExchanged mark old item → IsExchanged mark old (if mark then item_tidied item else item)
+one_still true old item h = (h.0, other_kept item ∙ h.1)
+one_still false old item h = h
+
+still_exchanged : (marks : List Bool) (before items : List Item) → AreExchanged marks before items → AreExchanged marks before (tidied_where marks items)
+still_exchanged [] [] [] h = tt
+still_exchanged (mark ∷ marks) (old ∷ before) (item ∷ items) h = (one_still mark old item h.0, still_exchanged marks before items h.1)
+still_exchanged [] [] (item ∷ items) h = absurd h
+still_exchanged [] (old ∷ before) items h = absurd h
+still_exchanged (mark ∷ marks) [] items h = absurd h
+still_exchanged (mark ∷ marks) (old ∷ before) [] h = absurd h
+
+pub exchanged_tidied : ExchangedTidied
+exchanged_tidied = record {
+  alone = λ item. ap (λ z. flags (loads z)) (five_composed (item ∷ []));
+  marked = marked_tidied;
+  still = still_exchanged;
+}
