@@ -13,7 +13,7 @@ use bz_exact::{Unread, read_mark, read_number};
 use bz_items::{Items, Text};
 use std::alloc::Global;
 
-/// So many numbers of parts.
+/// So many numbers of parts, in a list of just their number.
 fn read_path(alloc: Global, count: u32, input: &[u8]) -> Result<(Vec<u32>, &[u8]), Unread>
     ensures { Gives (λ x. (x.0.items, x.1.now)) result (repeated (number_at space) count input.now) }
 {
@@ -24,6 +24,7 @@ fn read_path(alloc: Global, count: u32, input: &[u8]) -> Result<(Vec<u32>, &[u8]
         path.push(entry)?;
         rest = after;
     }
+    path.shrink_to_fit();
     Ok((path, rest))
 }
 
@@ -48,7 +49,7 @@ fn read_edit(alloc: Global, depth: u32, input: &[u8]) -> Result<(Edit, &[u8]), U
     Ok((edit, rest))
 }
 
-/// So many edits.
+/// So many edits, in a list of just their number.
 fn read_edits(
     alloc: Global,
     depth: u32,
@@ -64,6 +65,7 @@ fn read_edits(
         edits.push(edit)?;
         rest = after;
     }
+    edits.shrink_to_fit();
     Ok((edits, rest))
 }
 

@@ -50,7 +50,7 @@ fn read_node_of(alloc: Global, depth: u32, input: &[u8]) -> Result<(Node, &[u8])
     Ok((Node { kind, parts }, rest))
 }
 
-/// So many parts.
+/// So many parts, in a list of just their number: a step of a long text has thousands of such lists, most of one part.
 #[cycle(held)]
 pub fn read_parts(
     alloc: Global,
@@ -67,5 +67,6 @@ pub fn read_parts(
         parts.push(part)?;
         rest = after;
     }
+    parts.shrink_to_fit();
     Ok((parts, rest))
 }

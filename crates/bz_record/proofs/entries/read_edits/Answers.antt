@@ -14,4 +14,4 @@ several-preserved c =
     rw c.in_ok-push.ensures.items (goes_on (edit_at c.args.depth) c.several.edits.items c.args.count c.several.counter c.several.rest.now (repeated (edit_at c.args.depth) c.args.count c.args.input.now) c.in_ok-edit.edit c.in_ok-edit.after.now c.several-test.true c.in_ok-edit.ensures c.several.invariant)
 
 pub returns : goal.returns
-returns c = is_done (edit_at c.args.depth) c.several.edits.items c.args.count c.several.counter c.several.rest.now (repeated (edit_at c.args.depth) c.args.count c.args.input.now) c.several-test.false c.several.invariant
+returns c = rw c.shrink_to_fit.ensures.items (is_done (edit_at c.args.depth) c.several.edits.items c.args.count c.several.counter c.several.rest.now (repeated (edit_at c.args.depth) c.args.count c.args.input.now) c.several-test.false c.several.invariant)

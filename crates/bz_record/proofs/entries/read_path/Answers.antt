@@ -14,4 +14,4 @@ several-preserved c =
     rw c.in_ok-push.ensures.items (goes_on (number_at space) c.several.path.items c.args.count c.several.counter c.several.rest.now (repeated (number_at space) c.args.count c.args.input.now) c.in_ok-entry.entry c.in_ok-entry.after.now c.several-test.true c.in_ok-entry.ensures c.several.invariant)
 
 pub returns : goal.returns
-returns c = is_done (number_at space) c.several.path.items c.args.count c.several.counter c.several.rest.now (repeated (number_at space) c.args.count c.args.input.now) c.several-test.false c.several.invariant
+returns c = rw c.shrink_to_fit.ensures.items (is_done (number_at space) c.several.path.items c.args.count c.several.counter c.several.rest.now (repeated (number_at space) c.args.count c.args.input.now) c.several-test.false c.several.invariant)

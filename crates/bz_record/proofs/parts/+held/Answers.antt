@@ -14,4 +14,4 @@ read_parts-parts-preserved t c =
     rw c.in_ok-push.ensures.items (goes_on (held_at c.args.depth) c.parts.parts.items c.args.count c.parts.counter c.parts.rest.now (repeated (held_at c.args.depth) c.args.count c.args.input.now) c.in_ok-part.part c.in_ok-part.after.now c.parts-test.true c.in_ok-part.ensures c.parts.invariant)
 
 pub read_parts-returns : goal.read_parts-returns
-read_parts-returns t c = is_done (held_at c.args.depth) c.parts.parts.items c.args.count c.parts.counter c.parts.rest.now (repeated (held_at c.args.depth) c.args.count c.args.input.now) c.parts-test.false c.parts.invariant
+read_parts-returns t c = rw c.shrink_to_fit.ensures.items (is_done (held_at c.args.depth) c.parts.parts.items c.args.count c.parts.counter c.parts.rest.now (repeated (held_at c.args.depth) c.args.count c.args.input.now) c.parts-test.false c.parts.invariant)
