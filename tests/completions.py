@@ -62,6 +62,8 @@ REPLIES = [
     ("buildozer -f lines d", []),
     ("buildozer 'delete'd", []),
     ("buildifier --m", ["--mode="]),
+    ("buildifier --t", ["--type="]),
+    ("buildifier --type=b", ["build", "bzl"]),
     ("buildifier --mode=", ["fix", "check", "print_if_changed"]),
     ("buildifier --mode=c", ["check"]),
     ("buildifier -- --", []),

@@ -20,6 +20,8 @@ CONTRIB = TOP / "contrib"
 ODD = 'f( name="\u00e9" )\n'
 EVEN = 'f(name = "\u00e9")\n'
 REFUSED = "f(\n"
+ODD_BZL = "def f(x):\n  return x\n"
+EVEN_BZL = "def f(x):\n    return x\n"
 # who commits, and where pre-commit keeps what it knows of hooks
 IDENTITY = {f"GIT_{who}_{what}": text for who in ("AUTHOR", "COMMITTER") for what, text in (("NAME", "a"), ("EMAIL", "a@b"))}
 
@@ -68,6 +70,9 @@ def git_hook(programs, folder):
     shutil.copy(CONTRIB / "git" / "pre-commit", here.path / ".git" / "hooks")
     here.add("other", ODD)
     here.commits("a commit without BUILD files", 0)
+    here.add("r.bzl", ODD_BZL)
+    here.commits("an odd .bzl file", 1, "./r.bzl # reformat")
+    here.add("r.bzl", EVEN_BZL)
     here.add("a b/BUILD", ODD)
     here.put("a b/BUILD", EVEN)
     here.commits("an odd file, mended in the folder alone", 1, "./a b/BUILD # reformat")
@@ -93,11 +98,13 @@ def pre_commit(programs, folder):
     here.add(".pre-commit-config.yaml", settings)
     here.run("pre-commit", "install")
     here.add("a/BUILD", ODD)
+    here.add("a/r.bzl", ODD_BZL)
     here.add("BUILDER", ODD)
     here.commits("an odd file", 1, "- files were modified by this hook")
     here.wants("the file", (here.path / "a/BUILD").read_text(encoding="utf-8"), EVEN)
-    here.run("git", "add", "a/BUILD")
-    here.commits("the formatted file", 0)
+    here.wants("the .bzl file", (here.path / "a/r.bzl").read_text(encoding="utf-8"), EVEN_BZL)
+    here.run("git", "add", "a/BUILD", "a/r.bzl")
+    here.commits("the formatted files", 0)
     return here.wrong
 
 
@@ -111,6 +118,7 @@ def ci_script(programs, folder):
     here.wants("a formatted file", here.run(script), (0, ""))
     here.commits("a commit", 0)
     here.add("b c/BUILD.bazel", ODD)
+    here.add("b c/r.bzl", EVEN_BZL)
     here.wants("an odd file", here.run(script), (4, "b c/BUILD.bazel # reformat\n"))
     here.wants("the file", (here.path / "b c/BUILD.bazel").read_text(encoding="utf-8"), ODD)
     here.add("c/BUILD", REFUSED)
@@ -129,7 +137,7 @@ def on_save(*commands):
 
     def wrong(programs, folder):
         faults = []
-        for name, text, wanted in (("BUILD", ODD, EVEN), ("BUILD.bazel", REFUSED, REFUSED), ("other", ODD, ODD)):
+        for name, text, wanted in (("BUILD", ODD, EVEN), ("BUILD.bazel", REFUSED, REFUSED), ("r.bzl", ODD_BZL, EVEN_BZL), ("other", ODD, ODD)):
             file = pathlib.Path(folder, name)
             file.write_text(text, encoding="utf-8")
             words = [word.replace("CONTRIB", str(CONTRIB)).replace("FILE", name) for word in commands]
@@ -148,17 +156,17 @@ def on_save(*commands):
 # what stands for VS Code: it keeps what formats and what is told, and hands a text to it
 VSCODE = """
 const module_ = require("module"), load = module_._load, told = [];
-let provider;
+const providers = {};
 const vscode = {
   Range: class {},
   TextEdit: { replace: (range, text) => text },
   window: { showWarningMessage: (line) => told.push(line) },
-  languages: { registerDocumentFormattingEditProvider: (language, given) => { provider = given; } },
+  languages: { registerDocumentFormattingEditProvider: (language, given) => { providers[language] = given; } },
 };
 module_._load = (name, ...rest) => (name === "vscode" ? vscode : load(name, ...rest));
 require(process.argv[1]).activate({ subscriptions: [] });
 const document_ = { getText: () => process.argv[2], positionAt: (at) => at };
-provider.provideDocumentFormattingEdits(document_).then((edits) => console.log(JSON.stringify([edits, told])));
+providers[process.argv[3]].provideDocumentFormattingEdits(document_).then((edits) => console.log(JSON.stringify([edits, told])));
 """
 
 
@@ -167,8 +175,9 @@ def extension(programs, folder):
     described = json.loads((CONTRIB / "vscode" / "package.json").read_text())
     main = str(CONTRIB / "vscode" / described["main"])
     faults = []
-    for text, wanted in ((ODD, [[EVEN], []]), (REFUSED, [[], ["buildifier: <stdin>:2:1: Unexpected"]])):
-        left = programs.run(["node", "-e", VSCODE, main, text], folder)[1]
+    refused = [[], ["buildifier: <stdin>:2:1: Unexpected"]]
+    for text, language, wanted in ((ODD, "bazel-build", [[EVEN], []]), (REFUSED, "bazel-build", refused), (ODD_BZL, "bazel-bzl", [[EVEN_BZL], []])):
+        left = programs.run(["node", "-e", VSCODE, main, text, language], folder)[1]
         if left != json.dumps(wanted, separators=(",", ":"), ensure_ascii=False) + "\n":
             faults.append(f"{text!r}: {left!r}, and not {wanted}")
     return faults

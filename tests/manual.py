@@ -90,9 +90,12 @@ def options(pages):
     return wrong
 
 
-def modes(pages):
-    names = [entry.partition("=")[2].split()[0] for entry in pages.entries("buildifier", "OPTIONS")]
-    return missing("modes", texts_in("bz_tools/specs/Modes.antt", "mode_called name"), names)
+def words_of_options(pages):
+    wrong = []
+    for option in ("mode", "type"):
+        names = [entry.partition("=")[2].split()[0] for entry in pages.entries("buildifier", "OPTIONS") if entry.startswith(f"--{option}=")]
+        wrong += missing(f"words of --{option}", texts_in("bz_tools/specs/Modes.antt", f"{option}_called name"), names)
+    return wrong
 
 
 def statuses(pages):
@@ -127,7 +130,7 @@ def a_page_that_would_not_change_stays(pages):
     return [f"{name} was written again" for name in again]
 
 
-FUNCTIONS = [commands, options, modes, statuses, refusals, readers_warn_of_nothing, a_page_that_would_not_change_stays]
+FUNCTIONS = [commands, options, words_of_options, statuses, refusals, readers_warn_of_nothing, a_page_that_would_not_change_stays]
 SCENES = {scene.__name__.replace("_", " "): scene for scene in FUNCTIONS}
 
 

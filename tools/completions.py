@@ -112,8 +112,9 @@ def options(blocks):
     return [*short, (HELP, "", "tells the options and shows examples")]
 
 
-def modes(blocks):
-    return " ".join(CODE.findall(row[0])[0] for row in tables_of(blocks, "Mode"))
+def words_of(blocks, option):
+    """The words of an option of buildifier, by its table."""
+    return " ".join(CODE.findall(row[0])[0] for row in tables_of(blocks, option))
 
 
 def sh(text):
@@ -171,7 +172,7 @@ def main():
     }
     for shell, place in PLACES.items():
         for program in ("buildozer", "buildifier"):
-            text = filled(template(f"{program}.{shell}"), {**tables[shell], "MODES": modes(found["buildifier"])})
+            text = filled(template(f"{program}.{shell}"), {**tables[shell], "MODES": words_of(found["buildifier"], "Mode"), "TYPES": words_of(found["buildifier"], "Type")})
             put(pathlib.Path(sys.argv[1], place.format(program)), text)
 
 

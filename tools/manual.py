@@ -19,10 +19,10 @@ from version import version
 PROGRAMS = ["buildozer", "buildifier"]
 WIDTH = 78
 # the section of a page for each table, by the first word of its header, in the order of the pages
-TABLES = {"Mode": "OPTIONS", "Option": "OPTIONS", "Command": "COMMANDS", "Target": "TARGETS", "Attributes": "ATTRIBUTES",
+TABLES = {"Mode": "OPTIONS", "Type": "OPTIONS", "Option": "OPTIONS", "Command": "COMMANDS", "Target": "TARGETS", "Attributes": "ATTRIBUTES",
           "Status": "EXIT STATUS", "Number": "REFUSALS", "Line": "DIAGNOSTICS"}  # fmt: skip
 # what stands before each row's name
-FRONTS = {"Mode": "--mode="}
+FRONTS = {"Mode": "--mode=", "Type": "--type="}
 # the column behind the name is told without its header where that says only what the table is for
 UNTOLD = ("What", "Their", "Means", "When")
 REFUSALS, DIFFERENCES = "Refusals and other lines on standard error", "What differs from bazelbuild's tools"

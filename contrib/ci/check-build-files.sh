@@ -1,5 +1,5 @@
 #!/bin/sh
-# Checks that the BUILD files of a git repository are formatted; no file is changed.
+# Checks that the BUILD and .bzl files of a git repository are formatted; no file is changed.
 #
 #     check-build-files.sh [COMMIT]
 #
@@ -11,9 +11,9 @@ folder=$(mktemp -d) || exit 2
 trap 'rm -rf "$folder"' EXIT
 : > "$folder/statuses"
 if [ $# -gt 0 ]; then
-    git diff -z --name-only --relative --diff-filter=d "$1" -- ':(glob)**/BUILD' ':(glob)**/BUILD.bazel' > "$folder/names" || exit 2
+    git diff -z --name-only --relative --diff-filter=d "$1" -- ':(glob)**/BUILD' ':(glob)**/BUILD.bazel' ':(glob)**/*.bzl' > "$folder/names" || exit 2
 else
-    git ls-files -z -- ':(glob)**/BUILD' ':(glob)**/BUILD.bazel' > "$folder/names" || exit 2
+    git ls-files -z -- ':(glob)**/BUILD' ':(glob)**/BUILD.bazel' ':(glob)**/*.bzl' > "$folder/names" || exit 2
 fi
 # xargs has a status of its own, so each call leaves its status in a file
 xargs -0 -r sh -c 'buildifier --mode=check "$@" || echo "$?" >> "$0"' "$folder/statuses" < "$folder/names" || exit 2

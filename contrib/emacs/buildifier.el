@@ -1,4 +1,4 @@
-;;; buildifier.el --- Formats BUILD files by buildifier when they are saved  -*- lexical-binding: t -*-
+;;; buildifier.el --- Formats BUILD and .bzl files by buildifier when they are saved  -*- lexical-binding: t -*-
 
 ;; Set up: put this file into a folder of `load-path', and (require 'buildifier) into the init file.
 ;; A text that buildifier refuses is saved as it is, and the refusal is told.
@@ -8,11 +8,16 @@
 (defvar buildifier-command "buildifier"
   "The program that formats a text from standard input to standard output.")
 
+(defun buildifier--bzl-p ()
+  "Whether this buffer is of a .bzl file."
+  (and buffer-file-name (string-suffix-p ".bzl" buffer-file-name)))
+
 (defun buildifier--call (formatted refusal)
   "Format the buffer into the buffer FORMATTED, with standard error in the file REFUSAL, and give the status."
   (let ((coding-system-for-read 'utf-8-unix)
-        (coding-system-for-write 'utf-8-unix))
-    (call-process-region nil nil buildifier-command nil (list formatted refusal) nil)))
+        (coding-system-for-write 'utf-8-unix)
+        (type (if (buildifier--bzl-p) "--type=bzl" "--type=build")))
+    (call-process-region nil nil buildifier-command nil (list formatted refusal) nil type)))
 
 (defun buildifier-buffer ()
   "Format this buffer, where buildifier accepts it."
@@ -28,9 +33,10 @@
       (delete-file refusal))))
 
 (defun buildifier-set-up ()
-  "Format this buffer whenever it is saved, where it is a BUILD file."
-  (when (and buffer-file-name
-             (member (file-name-nondirectory buffer-file-name) '("BUILD" "BUILD.bazel")))
+  "Format this buffer whenever it is saved, where it is a BUILD or a .bzl file."
+  (when (or (buildifier--bzl-p)
+            (and buffer-file-name
+                 (member (file-name-nondirectory buffer-file-name) '("BUILD" "BUILD.bazel"))))
     (add-hook 'before-save-hook #'buildifier-buffer nil t)))
 
 (require 'subr-x)

@@ -1,4 +1,4 @@
-" Formats a BUILD file by buildifier when it is written, in Vim 8 or later and in Neovim.
+" Formats BUILD and .bzl files by buildifier when they are written, in Vim 8 or later and in Neovim.
 "
 " Set up: copy this file into ~/.vim/plugin/ (Neovim: ~/.config/nvim/plugin/). A text that buildifier refuses is written as it
 " is, and the refusal is told. :Buildifier formats without writing.
@@ -9,7 +9,8 @@ let g:loaded_buildifier = 1
 
 function! s:format() abort
   let l:old = getline(1, '$')
-  let l:new = systemlist('buildifier', l:old)
+  let l:type = bufname('%') =~# '\.bzl$' ? 'bzl' : 'build'
+  let l:new = systemlist('buildifier --type=' . l:type, l:old)
   if v:shell_error
     echohl WarningMsg | echomsg 'buildifier: ' . join(l:new, ' ') | echohl None
     return
@@ -29,5 +30,5 @@ command! Buildifier call s:format()
 
 augroup buildifier
   autocmd!
-  autocmd BufWritePre BUILD,BUILD.bazel call s:format()
+  autocmd BufWritePre BUILD,BUILD.bazel,*.bzl call s:format()
 augroup END

@@ -3,12 +3,14 @@
 _buildifier() {
     local line=${COMP_LINE:0:COMP_POINT} front=''
     COMPREPLY=()
-    if [[ $line != *' -- '* && $line =~ [[:blank:]](--mode[=[:blank:]])([^[:blank:]]*)$ ]]; then
-        [[ ${BASH_REMATCH[1]} == *= && $COMP_WORDBREAKS != *=* ]] && front=--mode=
-        mapfile -t COMPREPLY < <(compgen -P "$front" -W '@MODES@' -- "${BASH_REMATCH[2]}")
+    if [[ $line != *' -- '* && $line =~ [[:blank:]](--(mode|type)[=[:blank:]])([^[:blank:]]*)$ ]]; then
+        [[ ${BASH_REMATCH[1]} == *= && $COMP_WORDBREAKS != *=* ]] && front=--${BASH_REMATCH[2]}=
+        local words='@MODES@'
+        [[ ${BASH_REMATCH[2]} == type ]] && words='@TYPES@'
+        mapfile -t COMPREPLY < <(compgen -P "$front" -W "$words" -- "${BASH_REMATCH[3]}")
     elif [[ $line != *' -- '* && $2 == -* ]]; then
-        mapfile -t COMPREPLY < <(compgen -W '--mode= --help' -- "$2")
-        [[ ${COMPREPLY[*]} == --mode= ]] && compopt -o nospace 2> /dev/null
+        mapfile -t COMPREPLY < <(compgen -W '--mode= --type= --help' -- "$2")
+        [[ ${COMPREPLY[*]} == --mode= || ${COMPREPLY[*]} == --type= ]] && compopt -o nospace 2> /dev/null
     else
         compopt -o default 2> /dev/null
     fi

@@ -3,5 +3,6 @@
 
 _arguments -S \
     '--mode=[what is done with a file that differs]:mode:(@MODES@)' \
+    '--type=[what the files are]:type:(@TYPES@)' \
     '(- *)--help[tells the options]' \
-    '*:BUILD file:_files'
+    '*:BUILD or .bzl file:_files'

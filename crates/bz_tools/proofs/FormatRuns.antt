@@ -14,6 +14,7 @@ use Rattle.bz_tools.specs.FormatRun.{Effect, Run, Files, FileStep, InputStep, Fo
 use Rattle.bz_tools.specs.FormatShown.{effect_of, progress_of}
 use Rattle.bz_tools.specs.declared.effect.Effect as e
 use Rattle.bz_tools.specs.declared.effect.Progress.{Progress}
+use Rattle.bz_tools.specs.declared.file_type.FileType.{FileType}
 use Rattle.bz_tools.specs.declared.mode.Mode.{Mode}
 
 -- ---- why a run is cut
@@ -43,11 +44,11 @@ status_more c.Files later a b first last other = rw (first other) refl
 
 -- ---- a run goes on by one file
 
-pub files_more : (mode : Mode) (names left rest : List (List ℕ)) (name : List ℕ) (start run : Run) (before folder mid : Folder) (effect : Effect)
-    → left ≡ name ∷ rest → FileStep mode name run.closed folder effect mid
-    → ((after : Run) (last : Folder) → Files mode left run folder after last → Files mode names start before after last)
-    → (after : Run) (last : Folder) → Files mode rest (grown run effect) mid after last → Files mode names start before after last
-files_more mode names left rest name start run before folder mid effect split step runs after last more =
+pub files_more : (mode : Mode) (file_type : FileType) (names left rest : List (List ℕ)) (name : List ℕ) (start run : Run) (before folder mid : Folder) (effect : Effect)
+    → left ≡ name ∷ rest → FileStep mode file_type name run.closed folder effect mid
+    → ((after : Run) (last : Folder) → Files mode file_type left run folder after last → Files mode file_type names start before after last)
+    → (after : Run) (last : Folder) → Files mode file_type rest (grown run effect) mid after last → Files mode file_type names start before after last
+files_more mode file_type names left rest name start run before folder mid effect split step runs after last more =
     runs after last (rw (split) (effect, mid, step, more))
 
 -- what the code holds of a run that goes on
@@ -71,14 +72,14 @@ grown_is progress result held run effect at is made_so =
 -- ---- whole runs
 
 pub input_outcome : (words : List (List ℕ)) (line : m.FormatLine) (known : Option (List ℕ)) (folder : Folder) (effect : Effect)
-    → m.format_line words ≡ Ok line → line.files ≡ [] → InputStep line.mode known effect → FormatOutcome words known folder (grown begun effect) folder
+    → m.format_line words ≡ Ok line → line.files ≡ [] → InputStep line.mode line.file_type known effect → FormatOutcome words known folder (grown begun effect) folder
 input_outcome words line known folder effect read none step = inr (rw (read, none) (effect, step, refl, refl))
 
 pub files_outcome : (words : List (List ℕ)) (line : m.FormatLine) (known : Option (List ℕ)) (folder after : Folder) (run : Run)
-    → m.format_line words ≡ Ok line → (line.files ≡ [] → ⊥) → Files line.mode line.files begun folder run after → FormatOutcome words known folder run after
+    → m.format_line words ≡ Ok line → (line.files ≡ [] → ⊥) → Files line.mode line.file_type line.files begun folder run after → FormatOutcome words known folder run after
 files_outcome words line known folder after run read some runs = inr (rw (read) (go line.files some runs))
   where
-    go : (names : List (List ℕ)) → (names ≡ [] → ⊥) → Files line.mode names begun folder run after → RunOf line.mode names known folder run after
+    go : (names : List (List ℕ)) → (names ≡ [] → ⊥) → Files line.mode line.file_type names begun folder run after → RunOf line.mode line.file_type names known folder run after
     go [] other all = absurd (other refl)
     go (name ∷ names) other all = all
 

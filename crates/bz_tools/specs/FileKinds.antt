@@ -5,10 +5,14 @@ use Rattle.bz_value.specs.Gaps.{Bytes}
 use Rattle.bz_journal.specs.Faults.{FormatsTo}
 use Rattle.bz_journal.specs.declared.formatter.FormatFault.{FormatFault}
 use Rattle.bz_format.specs.Formatted.{FormatsBzlTo}
+use Rattle.bz_tools.specs.declared.file_type.FileType.{FileType}
+use Rattle.bz_tools.specs.declared.file_type.FileType.TheVariants.{Auto, Build, Bzl}
 
--- A file whose name ends in `.bzl` is one; every other file, and standard input, is a BUILD file.
-abbrev pub is_bzl : Bytes → Bool
-is_bzl name = ends_with eqb name (codes ".bzl")
+-- Whether a file of this name is formatted as a .bzl file: as it is said of all, or else where the name ends in `.bzl`.
+abbrev pub is_bzl : FileType → Bytes → Bool
+is_bzl Auto name = ends_with eqb name (codes ".bzl")
+is_bzl Build name = false
+is_bzl Bzl name = true
 
 -- what formatting a text as one of a .bzl file, or as one of a BUILD file, answers
 abbrev pub FormatsAs : Bool → Bytes → Result Bytes FormatFault → Type 0

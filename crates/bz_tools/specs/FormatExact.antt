@@ -8,25 +8,26 @@ use Rattle.bz_journal.specs.declared.formatter.FormatFault.{FormatFault}
 use Rattle.bz_tools.specs.FileKinds.{FormatsAs, is_bzl}
 use Rattle.bz_tools.specs.FormatRun.{Effect, Run, Files, begun, grown, printed, refused, unopened, file_out, text_status, is_rewritten}
 use Rattle.bz_ports.specs.declared.exit.Cut.TheVariants as c
+use Rattle.bz_tools.specs.declared.file_type.FileType.{FileType}
 use Rattle.bz_tools.specs.declared.mode.Mode.{Mode}
 
 -- A file is absent, is not formatted, or is formatted; in the last case the folder has the formatted text there where the
 -- mode rewrites it, and all else leaves the folder.
-pub data ExactStep (mode : Mode) (name : Bytes) (folder : Folder) (effect : Effect) (after : Folder) : Type 0 where
-  exact_absent : get folder name ≡ None → effect ≡ unopened name c.Whole → after ≡ folder → ExactStep mode name folder effect after
-  exact_unformatted : (text : Bytes) (fault : FormatFault) → get folder name ≡ Some text → FormatsAs (is_bzl name) text (Err fault) → effect ≡ refused name fault
-      → effect.cut ≡ c.Whole → after ≡ folder → ExactStep mode name folder effect after
-  exact_formatted : (text new : Bytes) → get folder name ≡ Some text → FormatsAs (is_bzl name) text (Ok new)
+pub data ExactStep (mode : Mode) (file_type : FileType) (name : Bytes) (folder : Folder) (effect : Effect) (after : Folder) : Type 0 where
+  exact_absent : get folder name ≡ None → effect ≡ unopened name c.Whole → after ≡ folder → ExactStep mode file_type name folder effect after
+  exact_unformatted : (text : Bytes) (fault : FormatFault) → get folder name ≡ Some text → FormatsAs (is_bzl file_type name) text (Err fault) → effect ≡ refused name fault
+      → effect.cut ≡ c.Whole → after ≡ folder → ExactStep mode file_type name folder effect after
+  exact_formatted : (text new : Bytes) → get folder name ≡ Some text → FormatsAs (is_bzl file_type name) text (Ok new)
       → effect ≡ printed (file_out mode name text new) (text_status mode text new)
-      → after ≡ (if is_rewritten mode text new then with_file folder name new else folder) → ExactStep mode name folder effect after
+      → after ≡ (if is_rewritten mode text new then with_file folder name new else folder) → ExactStep mode file_type name folder effect after
 
-abbrev pub Exact : Mode → List Bytes → Run → Folder → Run → Folder → Type 0
-Exact mode [] run folder after folder' = (after ≡ run) × (folder' ≡ folder)
-Exact mode (name ∷ names) run folder after folder' =
-    (effect : Effect) × (mid : Folder) × ExactStep mode name folder effect mid × Exact mode names (grown run effect) mid after folder'
+abbrev pub Exact : Mode → FileType → List Bytes → Run → Folder → Run → Folder → Type 0
+Exact mode file_type [] run folder after folder' = (after ≡ run) × (folder' ≡ folder)
+Exact mode file_type (name ∷ names) run folder after folder' =
+    (effect : Effect) × (mid : Folder) × ExactStep mode file_type name folder effect mid × Exact mode file_type names (grown run effect) mid after folder'
 
 -- A whole run over files of other names does exactly that, and the folder then is the one that this gives.
 abbrev pub WholeRunsAreExact : Type 0
-WholeRunsAreExact = (mode : Mode) (names : List Bytes) (run : Run) (folder after : Folder) → Files mode names begun folder run after
+WholeRunsAreExact = (mode : Mode) (file_type : FileType) (names : List Bytes) (run : Run) (folder after : Folder) → Files mode file_type names begun folder run after
     → run.cut ≡ c.Whole → All (λ name. IsAside name → ⊥) names
-    → (exact : Folder) × Exact mode names begun folder run exact × SameFolders exact after
+    → (exact : Folder) × Exact mode file_type names begun folder run exact × SameFolders exact after

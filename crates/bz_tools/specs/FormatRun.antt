@@ -14,10 +14,11 @@ use Rattle.bz_ports.specs.Faults.{Rises}
 use Rattle.bz_ports.specs.Near.{nearest}
 use Rattle.bz_ports.specs.Ports.{IsInput}
 use Rattle.bz_ports.specs.Told.{stdin, named_line, fault_line}
+use Rattle.bz_tools.specs.declared.file_type.FileType.{FileType}
 use Rattle.bz_tools.specs.declared.mode.Mode.{Mode}
 use Rattle.bz_tools.specs.declared.mode.Mode.TheVariants.{Fix, Check, PrintIfChanged}
 use Rattle.bz_tools.specs.FileKinds.{FormatsAs, is_bzl}
-use Rattle.bz_tools.specs.Modes.{FormatLine, FormatUsage, clap_fault, no_mode, format_line, mode_names}
+use Rattle.bz_tools.specs.Modes.{FormatLine, FormatUsage, clap_fault, no_mode, no_type, format_line, mode_names, type_names}
 
 -- ---- what one text does
 
@@ -105,27 +106,27 @@ unread_file name file.Write = unopened name c.Files
 
 -- A file that is not read is told, an absent one among them. What is read is formatted, or told. Where the mode rewrites
 -- a file the folder changes; all else leaves the folder.
-pub data FileStep (mode : Mode) (name : Bytes) (closed : Bool) (folder : Folder) (effect : Effect) (after : Folder) : Type 0 where
+pub data FileStep (mode : Mode) (file_type : FileType) (name : Bytes) (closed : Bool) (folder : Folder) (effect : Effect) (after : Folder) : Type 0 where
   unread : (fault : FileFault) → (fault ≡ file.Absent → get folder name ≡ None) → effect ≡ unread_file name fault → after ≡ folder
-      → FileStep mode name closed folder effect after
-  without_memory : effect ≡ wanting name → after ≡ folder → FileStep mode name closed folder effect after
-  unformatted : (text : Bytes) (fault : FormatFault) → get folder name ≡ Some text → FormatsAs (is_bzl name) text (Err fault) → effect ≡ refused name fault
-      → after ≡ folder → FileStep mode name closed folder effect after
-  kept : (text new : Bytes) → get folder name ≡ Some text → FormatsAs (is_bzl name) text (Ok new) → is_rewritten mode text new ≡ false
+      → FileStep mode file_type name closed folder effect after
+  without_memory : effect ≡ wanting name → after ≡ folder → FileStep mode file_type name closed folder effect after
+  unformatted : (text : Bytes) (fault : FormatFault) → get folder name ≡ Some text → FormatsAs (is_bzl file_type name) text (Err fault) → effect ≡ refused name fault
+      → after ≡ folder → FileStep mode file_type name closed folder effect after
+  kept : (text new : Bytes) → get folder name ≡ Some text → FormatsAs (is_bzl file_type name) text (Ok new) → is_rewritten mode text new ≡ false
       → Prints closed (file_out mode name text new) (text_status mode text new) effect → after ≡ folder
-      → FileStep mode name closed folder effect after
-  rewritten : (text new : Bytes) → get folder name ≡ Some text → FormatsAs (is_bzl name) text (Ok new) → is_rewritten mode text new ≡ true
-      → Rewrites name text new folder effect after → FileStep mode name closed folder effect after
+      → FileStep mode file_type name closed folder effect after
+  rewritten : (text new : Bytes) → get folder name ≡ Some text → FormatsAs (is_bzl file_type name) text (Ok new) → is_rewritten mode text new ≡ true
+      → Rewrites name text new folder effect after → FileStep mode file_type name closed folder effect after
 
 -- ---- standard input
 
-pub data InputStep (mode : Mode) (known : Option Bytes) (effect : Effect) : Type 0 where
-  input_unread : effect ≡ unopened stdin c.Read → InputStep mode known effect
-  input_without_memory : effect ≡ wanting stdin → InputStep mode known effect
-  input_unformatted : (text : Bytes) (fault : FormatFault) → IsInput known text → FormatsAs false text (Err fault) → effect ≡ refused stdin fault
-      → InputStep mode known effect
-  input_printed : (text new : Bytes) → IsInput known text → FormatsAs false text (Ok new)
-      → Prints false (input_out mode text new) (text_status mode text new) effect → InputStep mode known effect
+pub data InputStep (mode : Mode) (file_type : FileType) (known : Option Bytes) (effect : Effect) : Type 0 where
+  input_unread : effect ≡ unopened stdin c.Read → InputStep mode file_type known effect
+  input_without_memory : effect ≡ wanting stdin → InputStep mode file_type known effect
+  input_unformatted : (text : Bytes) (fault : FormatFault) → IsInput known text → FormatsAs (is_bzl file_type stdin) text (Err fault) → effect ≡ refused stdin fault
+      → InputStep mode file_type known effect
+  input_printed : (text new : Bytes) → IsInput known text → FormatsAs (is_bzl file_type stdin) text (Ok new)
+      → Prints false (input_out mode text new) (text_status mode text new) effect → InputStep mode file_type known effect
 
 -- ---- whole runs
 
@@ -154,35 +155,36 @@ grown run effect = record {
 }
 
 -- One file after the other.
-abbrev pub Files : Mode → List Bytes → Run → Folder → Run → Folder → Type 0
-Files mode [] run folder after folder' = (after ≡ run) × (folder' ≡ folder)
-Files mode (name ∷ names) run folder after folder' =
-    (effect : Effect) × (mid : Folder) × FileStep mode name run.closed folder effect mid × Files mode names (grown run effect) mid after folder'
+abbrev pub Files : Mode → FileType → List Bytes → Run → Folder → Run → Folder → Type 0
+Files mode file_type [] run folder after folder' = (after ≡ run) × (folder' ≡ folder)
+Files mode file_type (name ∷ names) run folder after folder' =
+    (effect : Effect) × (mid : Folder) × FileStep mode file_type name run.closed folder effect mid × Files mode file_type names (grown run effect) mid after folder'
 
 -- Without files it is standard input.
-abbrev pub RunOf : Mode → List Bytes → Option Bytes → Folder → Run → Folder → Type 0
-RunOf mode [] known folder after folder' = (effect : Effect) × InputStep mode known effect × (after ≡ grown begun effect) × (folder' ≡ folder)
-RunOf mode (name ∷ names) known folder after folder' = Files mode (name ∷ names) begun folder after folder'
+abbrev pub RunOf : Mode → FileType → List Bytes → Option Bytes → Folder → Run → Folder → Type 0
+RunOf mode file_type [] known folder after folder' = (effect : Effect) × InputStep mode file_type known effect × (after ≡ grown begun effect) × (folder' ≡ folder)
+RunOf mode file_type (name ∷ names) known folder after folder' = Files mode file_type (name ∷ names) begun folder after folder'
 
--- a mode that may have been meant
-abbrev pub meant_mode : Option Bytes → Bytes
-meant_mode None = []
-meant_mode (Some mode) = codes "buildifier: did you mean '--mode=" ++ (mode ++ codes "'?\n")
+-- a word of an option that may have been meant
+abbrev pub meant_word : Bytes → Option Bytes → Bytes
+meant_word option None = []
+meant_word option (Some word) = codes "buildifier: did you mean '--" ++ (option ++ (codes "=" ++ (word ++ codes "'?\n")))
 
--- a text that is no mode; behind its line stands one of the mode that is near, if one is
-abbrev pub no_mode_line : Bytes → Option Bytes → Bytes
-no_mode_line name near = codes "buildifier: no mode: " ++ (name ++ (codes "\n" ++ meant_mode near))
+-- a text that is none of an option's words; behind its line stands one of the word that is near, if one is
+abbrev pub no_word_line : Bytes → Bytes → Option Bytes → Bytes
+no_word_line option name near = codes "buildifier: no " ++ (option ++ (codes ": " ++ (name ++ (codes "\n" ++ meant_word option near))))
 
 -- Of a fault that clap finds the text is clap's.
 abbrev pub IsFormatUsageLine : FormatUsage → Bytes → Type 0
 IsFormatUsageLine clap_fault line = Unit {0}
-IsFormatUsageLine (no_mode name) line = line ≡ no_mode_line name (nearest name mode_names)
+IsFormatUsageLine (no_mode name) line = line ≡ no_word_line (codes "mode") name (nearest name mode_names)
+IsFormatUsageLine (no_type name) line = line ≡ no_word_line (codes "type") name (nearest name type_names)
 
 -- Words that are no line of buildifier's have status 2; nothing is then read.
 abbrev pub FormatOutcomeOf : Result FormatLine FormatUsage → Option Bytes → Folder → Run → Folder → Type 0
 FormatOutcomeOf (Err usage) known folder after folder' =
     (line : Bytes) × IsFormatUsageLine usage line × (after ≡ record begun { lines = line ∷ []; status = 2 }) × (folder' ≡ folder)
-FormatOutcomeOf (Ok line) known folder after folder' = RunOf line.mode line.files known folder after folder'
+FormatOutcomeOf (Ok line) known folder after folder' = RunOf line.mode line.file_type line.files known folder after folder'
 
 -- Words, the bytes of standard input where they are known, and the folder before: what the run has done at its end, and
 -- the folder after. Memory may be refused before anything is done, which is told.

@@ -9,12 +9,13 @@ use Rattle.bz_tools.specs.declared.format_line.FormatUsage.{FormatUsage}
 use Rattle.bz_tools.specs.declared.format_line.FormatUsage.TheVariants as u
 
 abbrev pub seen_line : FormatLine → m.FormatLine
-seen_line line = record { mode = line.mode; files = map (λ file. file.now) line.files.items }
+seen_line line = record { mode = line.mode; file_type = line.file_type; files = map (λ file. file.now) line.files.items }
 
 -- why the words are no line of buildifier's, where memory is not the cause
 abbrev pub usage_of : FormatUsage → Option m.FormatUsage
 usage_of (u.Line error) = Some m.clap_fault
 usage_of (u.NoMode name) = Some (m.no_mode name.now)
+usage_of (u.NoType name) = Some (m.no_type name.now)
 usage_of u.Memory = None
 
 -- an effect as the code holds it

@@ -3,13 +3,18 @@ use Rattle.std.specs.Prelude.{◌==◌, List, [], ◌∷◌, length, codes, byte
 use Rattle.clap.specs.Words.{App, Rule, Row, all_of, first_of, fault_of, matches_of, new_app, new_rule, with_rule}
 use Rattle.clap.specs.declared.builder.action.ArgAction.TheVariants.{Append}
 use Rattle.bz_value.specs.Gaps.{Bytes}
+use Rattle.bz_tools.specs.declared.file_type.FileType.{FileType}
+use Rattle.bz_tools.specs.declared.file_type.FileType.TheVariants.{Auto, Build, Bzl}
 use Rattle.bz_tools.specs.declared.mode.Mode.{Mode}
 use Rattle.bz_tools.specs.declared.mode.Mode.TheVariants.{Fix, Check, PrintIfChanged}
 
--- ---- the line as clap's rules: `--mode` with a text, and any number of files
+-- ---- the line as clap's rules: `--mode` and `--type`, each with a text, and any number of files
 
 abbrev pub mode_rule : Rule
 mode_rule = record (new_rule (codes "mode")) { long = Some (codes "mode"); value_names = 1 }
+
+abbrev pub type_rule : Rule
+type_rule = record (new_rule (codes "type")) { long = Some (codes "type"); value_names = 1 }
 
 abbrev pub file_rule : Rule
 file_rule = record (new_rule (codes "file")) { action = Some Append; value_names = 1 }
@@ -19,7 +24,7 @@ abbrev pub nameless_buildifier : App
 nameless_buildifier = let app = new_app (codes "buildifier") in record { top = record app.top { no_binary_name = true }; subs = [] }
 
 abbrev pub buildifier_app : App
-buildifier_app = with_rule (with_rule nameless_buildifier mode_rule) file_rule
+buildifier_app = with_rule (with_rule (with_rule nameless_buildifier mode_rule) type_rule) file_rule
 
 -- ---- what the words say
 
@@ -32,26 +37,42 @@ mode_called name = if bytes_eq name (codes "fix") then Some Fix
 abbrev pub mode_names : List Bytes
 mode_names = codes "fix" ∷ codes "check" ∷ codes "print_if_changed" ∷ []
 
--- a mode, and files by their names
+abbrev pub type_called : Bytes → Option FileType
+type_called name = if bytes_eq name (codes "auto") then Some Auto
+    else (if bytes_eq name (codes "build") then Some Build
+    else (if bytes_eq name (codes "bzl") then Some Bzl else None))
+
+-- all names of types
+abbrev pub type_names : List Bytes
+type_names = codes "auto" ∷ codes "build" ∷ codes "bzl" ∷ []
+
+-- a mode, a type, and files by their names
 pub record FormatLine : Type 0 where
   pub mode : Mode
+  pub file_type : FileType
   pub files : List Bytes
 
--- Why words are no line of buildifier's: a fault that clap finds, or a text that is no mode.
+-- Why words are no line of buildifier's: a fault that clap finds, a text that is no mode, or one that is no type.
 pub data FormatUsage : Type 0 where
   clap_fault : FormatUsage
   no_mode : Bytes → FormatUsage
+  no_type : Bytes → FormatUsage
 
-abbrev pub with_mode : Bytes → Option Mode → List Bytes → Result FormatLine FormatUsage
-with_mode name None files = Err (no_mode name)
-with_mode name (Some mode) files = Ok (record { mode = mode; files = files })
+-- the mode is looked at first
+abbrev pub line_of : Bytes → Option Mode → Bytes → Option FileType → List Bytes → Result FormatLine FormatUsage
+line_of mode_word None type_word file_type files = Err (no_mode mode_word)
+line_of mode_word (Some mode) type_word None files = Err (no_type type_word)
+line_of mode_word (Some mode) type_word (Some file_type) files = Ok (record { mode = mode; file_type = file_type; files = files })
 
--- The mode is `fix` where none is named.
+-- The mode is `fix` where none is named, and the type `auto`.
 abbrev pub mode_name : List Row → Bytes
 mode_name rows = unwrap_or (first_of (codes "mode") rows) (codes "fix")
 
+abbrev pub type_name : List Row → Bytes
+type_name rows = unwrap_or (first_of (codes "type") rows) (codes "auto")
+
 abbrev pub line_in : List Row → Result FormatLine FormatUsage
-line_in rows = with_mode (mode_name rows) (mode_called (mode_name rows)) (unwrap_or (all_of (codes "file") rows) [])
+line_in rows = line_of (mode_name rows) (mode_called (mode_name rows)) (type_name rows) (type_called (type_name rows)) (unwrap_or (all_of (codes "file") rows) [])
 
 -- the line of the words, or why they are none
 abbrev pub format_line : List Bytes → Result FormatLine FormatUsage

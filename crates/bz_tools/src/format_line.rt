@@ -1,9 +1,10 @@
 //! The words of buildifier's line.
 ghost use Rattle.std.specs.Prelude.{◌≡◌, [], false, Ok, Err, IfOk, IfErr, IfSome, map};
 ghost use Rattle.clap.specs.Words.{app_of, rule_of, found_of, fault_of, matches_of, rows_of};
-ghost use Rattle.bz_tools.specs.Modes.{nameless_buildifier, buildifier_app, mode_rule, file_rule, format_line};
+ghost use Rattle.bz_tools.specs.Modes.{nameless_buildifier, buildifier_app, mode_rule, type_rule, file_rule, format_line};
 ghost use Rattle.bz_tools.specs.FormatShown.{seen_line, usage_of};
 
+use crate::file_type::FileType;
 use crate::mode::Mode;
 use bz_ports::{text_of, texts_of};
 use clap::error::ErrorKind;
@@ -11,10 +12,11 @@ use clap::{Arg, ArgAction, ArgMatches, Command};
 use std::alloc::{AllocError, Global};
 use std::convert::AsStr;
 
-/// The mode and the files of a line.
+/// The mode, the type and the files of a line.
 #[derive(Drop)]
 pub(crate) struct FormatLine<'a> {
     pub(crate) mode: Mode,
+    pub(crate) file_type: FileType,
     pub(crate) files: Vec<&'a str>,
 }
 
@@ -25,22 +27,28 @@ pub(crate) enum FormatUsage<'a> {
     Line(clap::Error),
     /// There is no mode of this name.
     NoMode(&'a str),
+    /// There is no type of this name.
+    NoType(&'a str),
     /// Memory was refused.
     Memory,
 }
 
 const ABOUT: &str =
-    "Lays out BUILD files in one canonical form. Without files it formats standard input.";
+    "Lays out BUILD and .bzl files in one canonical form. Without files it formats standard input.";
 
 const EXAMPLES: &str = "Modes:
   fix               rewrites each file that differs (the default)
   check             tells which files differ
   print_if_changed  writes what becomes of each file that differs to standard output
 
+Types:
+  auto              a file is a .bzl file where its name ends in .bzl, else a BUILD file (the default)
+  build, bzl        all files are that, standard input too
+
 Examples:
-  buildifier BUILD lib/BUILD.bazel
+  buildifier BUILD lib/BUILD.bazel lib/rules.bzl
   buildifier --mode=check lib/BUILD
-  buildifier < BUILD";
+  buildifier --type=bzl < lib/rules.bzl";
 
 fn mode<'a>(alloc: Global) -> Arg<'a>
     ensures rule { rule_of result ≡ mode_rule }
@@ -51,6 +59,16 @@ fn mode<'a>(alloc: Global) -> Arg<'a>
     )
 }
 
+fn file_type<'a>(alloc: Global) -> Arg<'a>
+    ensures rule { rule_of result ≡ type_rule }
+    ensures local { result.global ≡ false }
+{
+    Arg::new(alloc, "type")
+        .long("type")
+        .value_name("TYPE")
+        .help("What the files are: auto (by their names), build or bzl")
+}
+
 fn file<'a>(alloc: Global) -> Arg<'a>
     ensures rule { rule_of result ≡ file_rule }
     ensures local { result.global ≡ false }
@@ -58,7 +76,7 @@ fn file<'a>(alloc: Global) -> Arg<'a>
     Arg::new(alloc, "file")
         .value_name("FILE")
         .action(ArgAction::Append)
-        .help("BUILD files, each by its own name")
+        .help("BUILD and .bzl files, each by its own name")
 }
 
 fn described<'a>(alloc: Global) -> Command<'a>
@@ -73,7 +91,10 @@ fn described<'a>(alloc: Global) -> Command<'a>
 fn buildifier_command<'a>(alloc: Global) -> Result<Command<'a>, AllocError>
     ensures { IfOk result (λ command. app_of command ≡ buildifier_app) }
 {
-    described(alloc).arg(mode(alloc))?.arg(file(alloc))
+    described(alloc)
+        .arg(mode(alloc))?
+        .arg(file_type(alloc))?
+        .arg(file(alloc))
 }
 
 fn parse<'a, S: AsStr>(alloc: Global, words: &'a [S]) -> Result<ArgMatches<'a>, FormatUsage<'a>>
@@ -92,8 +113,8 @@ fn parse<'a, S: AsStr>(alloc: Global, words: &'a [S]) -> Result<ArgMatches<'a>, 
     }
 }
 
-/// The line of the words. Errors: `Line` where clap finds a fault; `NoMode` where the mode named is none; `Memory`: a
-/// growth was refused.
+/// The line of the words. Errors: `Line` where clap finds a fault; `NoMode` where the mode named is none, else `NoType` where
+/// the type named is none; `Memory`: a growth was refused.
 pub(crate) fn read_format_line<'a, S: AsStr>(
     alloc: Global,
     words: &'a [S],
@@ -106,8 +127,16 @@ pub(crate) fn read_format_line<'a, S: AsStr>(
     let Some(mode) = Mode::called(name) else {
         return Err(FormatUsage::NoMode(name));
     };
+    let type_name = text_of(&matches, "type").unwrap_or("auto");
+    let Some(file_type) = FileType::called(type_name) else {
+        return Err(FormatUsage::NoType(type_name));
+    };
     match texts_of(alloc, &matches, "file") {
-        Ok(files) => Ok(FormatLine { mode, files }),
+        Ok(files) => Ok(FormatLine {
+            mode,
+            file_type,
+            files,
+        }),
         Err(_) => Err(FormatUsage::Memory),
     }
 }

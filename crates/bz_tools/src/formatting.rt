@@ -8,13 +8,14 @@ ghost use Rattle.bz_tools.specs.Modes as m;
 ghost use Rattle.bz_tools.specs.Modes.{format_line};
 ghost use Rattle.bz_tools.specs.FileKinds.{FormatsAs, is_bzl};
 ghost use Rattle.bz_tools.specs.FormatRun as r;
-ghost use Rattle.bz_tools.specs.FormatRun.{IsCutBy, Rewrites, FileStep, InputStep, FormatOutcome, IsFormatUsageLine, no_mode_line, begun};
+ghost use Rattle.bz_tools.specs.FormatRun.{IsCutBy, Rewrites, FileStep, InputStep, FormatOutcome, IsFormatUsageLine, no_word_line, begun};
 ghost use Rattle.bz_tools.specs.FormatShown.{effect_of, progress_of, usage_of};
 
 use crate::effect::{
     BEGUN, Effect, Progress, fail, file_out, grown, input_out, is_rewritten, print, refused,
     text_status, unread_file,
 };
+use crate::file_type::FileType;
 use crate::format_line::{FormatLine, FormatUsage, read_format_line};
 use crate::mode::Mode;
 use crate::{Cut, Exit, Sink, Source};
@@ -57,18 +58,16 @@ fn rewrite<F: Files, E: Sink>(
     }
 }
 
-// Whether a file of this name is a .bzl file.
-fn is_bzl(name: &str) -> bool
-    ensures { result ≡ is_bzl name.now }
-{
-    name.ends_with(".bzl")
-}
-
 // The formatted text of the text of a file of this name.
-fn format_named(alloc: Global, name: &str, text: &[u8]) -> Result<Text, FormatFault>
-    ensures { FormatsAs (is_bzl name.now) text.now result }
+fn format_named(
+    alloc: Global,
+    file_type: FileType,
+    name: &str,
+    text: &[u8],
+) -> Result<Text, FormatFault>
+    ensures { FormatsAs (is_bzl file_type name.now) text.now result }
 {
-    if is_bzl(name) {
+    if file_type.is_bzl(name) {
         format_bzl(alloc, text)
     } else {
         format(alloc, text)
@@ -79,13 +78,14 @@ fn format_named(alloc: Global, name: &str, text: &[u8]) -> Result<Text, FormatFa
 fn file_effect<F: Files, W: Sink, E: Sink>(
     alloc: Global,
     mode: Mode,
+    file_type: FileType,
     name: &str,
     closed: bool,
     files: &mut F,
     out: &mut W,
     err: &mut E,
 ) -> Effect
-    ensures step { F.honest files.old ≡ true → (effect : r.Effect) × FileStep mode name.now closed (F.folder files.old) effect (F.folder files.new)
+    ensures step { F.honest files.old ≡ true → (effect : r.Effect) × FileStep mode file_type name.now closed (F.folder files.old) effect (F.folder files.new)
         × (result ≡ effect_of effect)
         × WritesUnlessClosed closed effect.closes (W.faults out.old) (W.faults out.new) (W.contents out.old) (W.contents out.new) effect.out
         × Tells (E.faults err.old) (E.faults err.new) (E.contents err.old) (E.contents err.new) effect.lines }
@@ -100,7 +100,7 @@ fn file_effect<F: Files, W: Sink, E: Sink>(
         Ok(()) => {}
         Err(fault) => return unread_file(err, name, fault),
     }
-    let new = match format_named(alloc, name, &text) {
+    let new = match format_named(alloc, file_type, name, &text) {
         Ok(new) => new,
         Err(fault) => return refused(err, name, &fault),
     };
@@ -118,11 +118,12 @@ fn file_effect<F: Files, W: Sink, E: Sink>(
 fn input_effect<R: Source, W: Sink, E: Sink>(
     alloc: Global,
     mode: Mode,
+    file_type: FileType,
     input: &mut R,
     out: &mut W,
     err: &mut E,
 ) -> Effect
-    ensures step { (effect : r.Effect) × InputStep mode (R.remaining input.old) effect
+    ensures step { (effect : r.Effect) × InputStep mode file_type (R.remaining input.old) effect
         × (result ≡ effect_of effect)
         × Writes effect.closes (W.faults out.old) (W.faults out.new) (W.contents out.old) (W.contents out.new) effect.out
         × Tells (E.faults err.old) (E.faults err.new) (E.contents err.old) (E.contents err.new) effect.lines }
@@ -139,7 +140,7 @@ fn input_effect<R: Source, W: Sink, E: Sink>(
         Err(InputFault::Read) => return fail(err, STDIN, "cannot open", Cut::Read),
         Err(InputFault::Memory) => return fail(err, STDIN, "Memory", Cut::Memory),
     };
-    let new = match format(alloc, &text) {
+    let new = match format_named(alloc, file_type, STDIN, &text) {
         Ok(new) => new,
         Err(fault) => return refused(err, STDIN, &fault),
     };
@@ -154,13 +155,14 @@ fn input_effect<R: Source, W: Sink, E: Sink>(
 fn run_files<F: Files, W: Sink, E: Sink>(
     alloc: Global,
     mode: Mode,
+    file_type: FileType,
     names: &[&str],
     files: &mut F,
     out: &mut W,
     err: &mut E,
 ) -> Progress
     ensures runs { F.honest files.old ≡ true → (run : r.Run) × (result ≡ progress_of run)
-        × r.Files mode (map (λ name. name.now) names.now) begun (F.folder files.old) run (F.folder files.new)
+        × r.Files mode file_type (map (λ name. name.now) names.now) begun (F.folder files.old) run (F.folder files.new)
         × Writes run.closed (W.faults out.old) (W.faults out.new) (W.contents out.old) (W.contents out.new) run.out
         × Tells (E.faults err.old) (E.faults err.new) (E.contents err.old) (E.contents err.new) run.lines }
     ensures status { result.cut ≢ Cut.Whole → result.status ≡ 3 }
@@ -169,34 +171,47 @@ fn run_files<F: Files, W: Sink, E: Sink>(
 {
     let mut progress = BEGUN;
     for &name in names {
-        let effect = file_effect(alloc, mode, name, progress.closed, files, out, err);
+        let effect = file_effect(
+            alloc,
+            mode,
+            file_type,
+            name,
+            progress.closed,
+            files,
+            out,
+            err,
+        );
         progress = grown(progress, effect);
     }
     progress
 }
 
-// Tells that there is no mode of this name, and the one that is near, if one is.
-fn tell_no_mode<'a, E: Sink>(err: &mut E, name: &'a str, near: Option<&'a str>)
+// Tells that an option has no such word, and the one that is near, if one is.
+fn tell_no_word<'a, E: Sink>(err: &mut E, option: &'a str, name: &'a str, near: Option<&'a str>)
     ensures { AppendsUnlessFailed (E.faults err.old) (E.faults err.new) (E.contents err.old) (E.contents err.new)
-        (no_mode_line name.entry.now (option_map (λ s. s.now) near.entry)) }
+        (no_word_line option.entry.now name.entry.now (option_map (λ s. s.now) near.entry)) }
 {
     match near {
-        Some(mode) => tell(
+        Some(word) => tell(
             err,
             &[
-                "buildifier: no mode: ",
+                "buildifier: no ",
+                option,
+                ": ",
                 name,
-                "\nbuildifier: did you mean '--mode=",
-                mode,
+                "\nbuildifier: did you mean '--",
+                option,
+                "=",
+                word,
                 "'?\n",
             ],
         ),
-        None => tell(err, &["buildifier: no mode: ", name, "\n"]),
+        None => tell(err, &["buildifier: no ", option, ": ", name, "\n"]),
     }
 }
 
 // Tells why the words are no line of the program's. The error: memory was refused, to the words, to the text of a fault
-// that clap finds or to the search for a mode that is near; nothing is then told.
+// that clap finds or to the search for a word that is near; nothing is then told.
 fn tell_unusable<E: Sink>(
     alloc: Global,
     err: &mut E,
@@ -209,7 +224,11 @@ fn tell_unusable<E: Sink>(
     match fault {
         FormatUsage::Line(error) => tell_clap(alloc, err, error),
         FormatUsage::NoMode(name) => {
-            tell_no_mode(err, name, Mode::near(alloc, name)?);
+            tell_no_word(err, "mode", name, Mode::near(alloc, name)?);
+            Ok(())
+        }
+        FormatUsage::NoType(name) => {
+            tell_no_word(err, "type", name, FileType::near(alloc, name)?);
             Ok(())
         }
         FormatUsage::Memory => Err(AllocError),
@@ -242,14 +261,15 @@ fn unusable<E: Sink>(alloc: Global, fault: &FormatUsage<'_>, err: &mut E) -> Exi
     }
 }
 
-/// Reads the words of a line. Without files it formats standard input, else each file in order; all are tried. A file whose name
-/// ends in `.bzl` is formatted as one, every other file and standard input as a BUILD file. Mode `fix`
+/// Reads the words of a line. Without files it formats standard input, else each file in order; all are tried. By type `auto` a file
+/// whose name ends in `.bzl` is formatted as one, every other file and standard input as a BUILD file; by `build` and `bzl` all are
+/// formatted as such files. Mode `fix`
 /// rewrites a file that differs, where it still holds the text that was formatted, and writes the formatted text of
 /// standard input to `out`; `check` writes a line there for a text that differs; `print_if_changed` writes its formatted
 /// text there. Statuses: 2 where the words are no line of the program's (nothing is then read); else 3 where a file could
 /// not be opened, read or written, memory was refused, or a formatted text would be past a limit or would not last; else 1 where a text is
 /// not accepted; else 4 where `check` found a difference; else 0. Each fault is told by one line on `err`, whose faults are
-/// passed over, and that of an unknown mode by one more where a mode is near; where memory is refused to the words, or to that
+/// passed over, and that of an unknown mode or type by one more where one is near; where memory is refused to the words, or to that
 /// search, the line is `buildifier: Memory`. Behind a fault of `out` nothing more is written there; files still are.
 pub fn buildifier<S: AsStr, R: Source, W: Sink, E: Sink, F: Files>(
     alloc: Global,
@@ -288,10 +308,10 @@ pub fn buildifier<S: AsStr, R: Source, W: Sink, E: Sink, F: Files>(
     };
     let names = line.files.as_slice();
     if names.is_empty() {
-        let effect = input_effect(alloc, line.mode, input, out, err);
+        let effect = input_effect(alloc, line.mode, line.file_type, input, out, err);
         return ended(grown(BEGUN, effect));
     }
-    ended(run_files(alloc, line.mode, names, files, out, err))
+    ended(run_files(alloc, line.mode, line.file_type, names, files, out, err))
 }
 
 fn ended(progress: Progress) -> Exit

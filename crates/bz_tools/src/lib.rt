@@ -3,6 +3,7 @@
 #![tactic(auto)]
 
 mod effect;
+mod file_type;
 mod format_line;
 mod formatting;
 mod laws;

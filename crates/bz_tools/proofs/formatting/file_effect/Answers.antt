@@ -23,8 +23,8 @@ returns-in-Err-format_named-clause-step g c = λ honest.
     let fault = c.in-Err-format_named.fault in
     let text = c.read_most.new.into.items in
     let found = c.in-Ok.ensures.found honest in
-    let formats : FormatsAs (is_bzl c.args.name.now) text (Err fault) = subst (λ (t : List ℕ). FormatsAs (is_bzl c.args.name.now) t (Err fault)) c.deref.ensures.value c.in-Err-format_named.ensures in
-    let of_file : FormatsAs (is_bzl c.args.name.now) found.0 (Err fault) = refused_file (is_bzl name) found.0 c.new-text.result.items text fault found.2 c.new-text.ensures.items formats in
+    let formats : FormatsAs (is_bzl c.args.file_type c.args.name.now) text (Err fault) = subst (λ (t : List ℕ). FormatsAs (is_bzl c.args.file_type c.args.name.now) t (Err fault)) c.deref.ensures.value c.in-Err-format_named.ensures in
+    let of_file : FormatsAs (is_bzl c.args.file_type c.args.name.now) found.0 (Err fault) = refused_file (is_bzl c.args.file_type name) found.0 c.new-text.result.items text fault found.2 c.new-text.ensures.items formats in
     let effect = r.refused name fault in (
       effect,
       unformatted found.0 fault found.1 of_file refl (c.in-Ok.ensures.same honest),
@@ -41,9 +41,9 @@ returns-then-is_rewritten-clause-step g c = λ honest.
     let new = c.in-Ok-format_named.new in
     let text = c.read_most.new.into.items in
     let found = c.in-Ok.ensures.found honest in
-    let formats : FormatsAs (is_bzl c.args.name.now) text (Ok new) = subst (λ (t : List ℕ). FormatsAs (is_bzl c.args.name.now) t (Ok new)) c.deref.ensures.value c.in-Ok-format_named.ensures in
+    let formats : FormatsAs (is_bzl c.args.file_type c.args.name.now) text (Ok new) = subst (λ (t : List ℕ). FormatsAs (is_bzl c.args.file_type c.args.name.now) t (Ok new)) c.deref.ensures.value c.in-Ok-format_named.ensures in
     let there : get before name ≡ Some text =
-    whole_file (is_bzl name) before name found.0 c.new-text.result.items text new found.1 found.2 c.new-text.ensures.items formats in
+    whole_file (is_bzl c.args.file_type name) before name found.0 c.new-text.result.items text new found.1 found.2 c.new-text.ensures.items formats in
     let differs : is_rewritten c.args.mode text new ≡ true =
     rw (c.deref-2.ensures.value, c.as_slice.ensures) at (sym c.is_rewritten.ensures ∙ c.if-is_rewritten.true) in
     let step = c.rewrite.ensures.step (c.in-Ok.ensures.honest ∙ honest) in
@@ -67,9 +67,9 @@ returns-in-Ok-file_out-clause-step g c = λ honest.
     let new = c.in-Ok-format_named.new in
     let text = c.read_most.new.into.items in
     let found = c.in-Ok.ensures.found honest in
-    let formats : FormatsAs (is_bzl c.args.name.now) text (Ok new) = subst (λ (t : List ℕ). FormatsAs (is_bzl c.args.name.now) t (Ok new)) c.deref.ensures.value c.in-Ok-format_named.ensures in
+    let formats : FormatsAs (is_bzl c.args.file_type c.args.name.now) text (Ok new) = subst (λ (t : List ℕ). FormatsAs (is_bzl c.args.file_type c.args.name.now) t (Ok new)) c.deref.ensures.value c.in-Ok-format_named.ensures in
     let there : get before name ≡ Some text =
-    whole_file (is_bzl name) before name found.0 c.new-text.result.items text new found.1 found.2 c.new-text.ensures.items formats in
+    whole_file (is_bzl c.args.file_type name) before name found.0 c.new-text.result.items text new found.1 found.2 c.new-text.ensures.items formats in
     let stays : is_rewritten mode text new ≡ false =
     rw (c.deref-2.ensures.value, c.as_slice.ensures) at (sym c.is_rewritten.ensures ∙ c.if-is_rewritten.false) in
     let out : c.as_slice-in-Ok-file_out.result.now ≡ file_out mode name text new =

@@ -1,5 +1,5 @@
 use Rattle.std.proofs.Common.{◌≡◌, ◌∙◌, refl, sym, subst, List, ℕ, false, Ok, Err}
-use Rattle.bz_tools.specs.FileKinds.{FormatsAs}
+use Rattle.bz_tools.specs.FileKinds.{FormatsAs, is_bzl}
 use Rattle.bz_ports.specs.Told.{stdin}
 use Rattle.bz_tools.specs.FormatRun as r
 use Rattle.bz_tools.specs.FormatRun.{input_unread, input_without_memory, input_unformatted, input_printed, Prints, input_out, text_status}
@@ -30,8 +30,8 @@ returns-in-Err-Memory-clause-step g c =
 pub returns-in-Err-clause-step : goal.returns-in-Err-clause-step
 returns-in-Err-clause-step g c =
     let fault = c.in-Err.fault in
-    let formats : FormatsAs false c.in-Ok.text.items (Err fault) = subst (λ (t : List ℕ). FormatsAs false t (Err fault)) c.deref.ensures.value c.in-Err.ensures.formats in
-    let some = err_of_front false (g.R.Source.remaining c.args.input.now) c.in-Ok.text.items fault c.in-Ok.ensures.ok formats in
+    let formats : FormatsAs (is_bzl c.args.file_type stdin) c.in-Ok.text.items (Err fault) = subst (λ (t : List ℕ). FormatsAs (is_bzl c.args.file_type stdin) t (Err fault)) c.deref.ensures.value c.in-Err.ensures in
+    let some = err_of_front (is_bzl c.args.file_type stdin) (g.R.Source.remaining c.args.input.now) c.in-Ok.text.items fault c.in-Ok.ensures.ok formats in
     let effect = r.refused stdin fault in (
       effect,
       input_unformatted some.0 fault some.1 some.2 refl,
@@ -43,10 +43,10 @@ returns-in-Err-clause-step g c =
 pub returns-in-Ok-input_out-clause-step : goal.returns-in-Ok-input_out-clause-step
 returns-in-Ok-input_out-clause-step g c =
     let mode = c.args.mode in
-    let new = c.in-Ok-format.new in
+    let new = c.in-Ok-format_named.new in
     let front = c.in-Ok.text.items in
-    let formats : FormatsAs false front (Ok new) = subst (λ (t : List ℕ). FormatsAs false t (Ok new)) c.deref.ensures.value c.in-Ok-format.ensures.formats in
-    let some = ok_of_front false (g.R.Source.remaining c.args.input.now) front new c.in-Ok.ensures.ok formats in
+    let formats : FormatsAs (is_bzl c.args.file_type stdin) front (Ok new) = subst (λ (t : List ℕ). FormatsAs (is_bzl c.args.file_type stdin) t (Ok new)) c.deref.ensures.value c.in-Ok-format_named.ensures in
+    let some = ok_of_front (is_bzl c.args.file_type stdin) (g.R.Source.remaining c.args.input.now) front new c.in-Ok.ensures.ok formats in
     let out : c.as_slice-in-Ok-input_out.result.now ≡ input_out mode front new =
     c.as_slice-in-Ok-input_out.ensures ∙ (rw (c.deref-3.ensures.value) at c.in-Ok-input_out.ensures) in
     let status : c.text_status-status.result ≡ text_status mode front new =
@@ -56,7 +56,7 @@ returns-in-Ok-input_out-clause-step g c =
     subst (λ (bytes : List ℕ). Prints false bytes (text_status mode front new) step.0) out
     (subst (λ (n : ℕ). Prints false c.as_slice-in-Ok-input_out.result.now n step.0) status step.1) in (
       step.0,
-      input_printed some.0 new some.1 (subst (λ (text : List ℕ). FormatsAs false text (Ok new)) (sym some.2) formats)
+      input_printed some.0 new some.1 (subst (λ (text : List ℕ). FormatsAs (is_bzl c.args.file_type stdin) text (Ok new)) (sym some.2) formats)
           (subst (λ (text : List ℕ). Prints false (input_out mode text new) (text_status mode text new) step.0) (sym some.2) prints),
       step.2,
       step.3,

@@ -26,6 +26,7 @@ loop-name-init g c = record {
 pub loop-name-preserved : goal.loop-name-preserved
 loop-name-preserved g c =
     let mode = c.args.mode in
+    let file_type = c.args.file_type in
     let names = c.args.names.now in
     let at = c.loop-name.name-index in
     let name = (get_or names at none).now in
@@ -41,10 +42,10 @@ loop-name-preserved g c =
           let closed : l.progress.closed ≡ so_far.0.closed = ap (λ (p : Progress). p.closed) so_far.1 in (
             r.grown so_far.0 step.0,
             grown_is l.progress c.grown-progress.result e.result so_far.0 step.0 so_far.1 step.2 c.grown-progress.ensures,
-            files_more mode (texts names) (texts (drop at names)) (texts (drop (at + 1) names)) name r.begun so_far.0
+            files_more mode file_type (texts names) (texts (drop at names)) (texts (drop (at + 1) names)) name r.begun so_far.0
                 (F.folder c.args.files.now) (F.folder l.files) (F.folder e.new.files) step.0
                 (ap texts (left-cons names at none c.loop-name-test.true))
-                (subst (λ (b : Bool). r.FileStep mode name b (F.folder l.files) step.0 (F.folder e.new.files)) closed step.1) so_far.2,
+                (subst (λ (b : Bool). r.FileStep mode file_type name b (F.folder l.files) step.0 (F.folder e.new.files)) closed step.1) so_far.2,
             writes_more so_far.0.closed step.0.closes (W.faults c.args.out.now) (W.faults l.out) (W.faults e.new.out)
                 (W.contents c.args.out.now) (W.contents l.out) (W.contents e.new.out) so_far.0.out step.0.out so_far.3
                 (subst (λ (b : Bool). WritesUnlessClosed b step.0.closes (W.faults l.out) (W.faults e.new.out) (W.contents l.out)

@@ -1,4 +1,4 @@
-use Rattle.bz_tools.proofs.formatting.tell_no_mode.Goals as goal
+use Rattle.bz_tools.proofs.formatting.tell_no_word.Goals as goal
 
 pub returns-in-Some : goal.returns-in-Some
 returns-in-Some g c = rw (c.in-Some.is) c.tell.ensures
