@@ -1,5 +1,5 @@
 -- What several texts of buildifier's do, one after the other.
-use Rattle.std.proofs.Common.{◌≡◌, ◌∙◌, ◌∷◌, ◌==◌, ◌||◌, inr, ℕ, List, [], length, Option, Ok, Err, Bool, Bor, map, true, false, refl, sym, ap, subst}
+use Rattle.std.proofs.Common.{◌≡◌, ◌∙◌, ◌∷◌, ◌==◌, ◌||◌, inr, ℕ, List, [], length, Option, Ok, Err, Bool, Bor, map, true, false, refl, sym, ap, subst, true≢false}
 use Rattle.std.specs.Prelude.{if◌then◌else◌}
 use Rattle.std.proofs.lemmas.List.{nil_from_length}
 use Rattle.std.proofs.lemmas.Bool.{eqb-true}
@@ -93,3 +93,9 @@ pub no_names : (items names : List (Bor (List ℕ))) (empty : Bool) → names �
     → map (λ name. name.now) items ≡ []
 no_names items names empty is test found =
     let none : names ≡ [] = nil_from_length names (eqb-true (length names) 0 (sym test ∙ found)) in ap (map (λ name. name.now)) (sym is ∙ none)
+
+-- and one that it doesn't find empty
+pub some_names : (items names : List (Bor (List ℕ))) (empty : Bool) → names ≡ items → empty ≡ (length names == 0) → empty ≡ false
+    → map (λ name. name.now) items ≡ [] → ⊥
+some_names [] names empty is test found none = true≢false (sym (test ∙ ap (λ (ns : List (Bor (List ℕ))). length ns == 0) is) ∙ found)
+some_names (x ∷ xs) names empty is test found none = absurd (cc none)

@@ -1,11 +1,11 @@
-use Rattle.std.proofs.Common.{◌≡◌, ◌∙◌, ◌∷◌, [], inl, inr, refl, ap, map, codes}
+use Rattle.std.proofs.Common.{◌≡◌, ◌∙◌, ◌∷◌, [], inl, inr, refl, ap, map, codes, subst, Bor, List, ℕ, true}
 use Rattle.bz_tools.specs.FormatRun as r
 use Rattle.bz_tools.specs.FormatShown.{seen_line}
 use Rattle.bz_ports.specs.Told.{named_line}
 use Rattle.bz_ports.specs.declared.exit.Cut.TheVariants as cut
 use Rattle.bz_tools.specs.declared.effect.Progress.{Progress}
 use Rattle.bz_ports.proofs.Outputs.{appends_nothing}
-use Rattle.bz_tools.proofs.FormatRuns.{grown_is, input_outcome, usage_outcome, no_names}
+use Rattle.bz_tools.proofs.FormatRuns.{grown_is, files_outcome, input_outcome, usage_outcome, no_names, some_names}
 use Rattle.bz_tools.proofs.formatting.buildifier.Goals as goal
 
 pub returns-in-Err-clause-run : goal.returns-in-Err-clause-run
@@ -46,4 +46,23 @@ returns-then-is_empty-clause-run g c = λ _.
       c.ended.ensures ∙ ap (λ (p : Progress). record { status = p.status; cut = p.cut }) done,
       step.3,
       step.4,
+    )
+
+pub returns-clause-run : goal.returns-clause-run
+returns-clause-run g c = λ cause.
+    let words = map g.S.AsStr.text c.args.words.now in
+    let known = g.R.Source.remaining c.args.input.now in
+    let before = g.F.Files.folder c.args.files.now in
+    let after = g.F.Files.folder c.run_files.new.files in
+    let line = seen_line c.in-Ok.line in
+    let some = some_names c.in-Ok.line.files.items c.as_slice-names.result.now _ c.as_slice-names.ensures.value c.is_empty.ensures c.if-is_empty.false in
+    let honest : g.F.Files.honest c.args.files.now ≡ true = elim cause [ inl is ↦ is | inr none ↦ absurd (some (rw c.in-Ok.ensures.ok at none)) ] in
+    let runs = c.run_files.ensures.runs honest in
+    let files : r.Files line.mode line.file_type line.files r.begun before runs.0 after =
+    subst (λ (names : List (Bor (List ℕ))). r.Files line.mode line.file_type (map (λ name. name.now) names) r.begun before runs.0 after) c.as_slice-names.ensures.value runs.2 in (
+      runs.0,
+      files_outcome words line known before after runs.0 c.in-Ok.ensures.ok some files,
+      c.ended-2.ensures ∙ ap (λ (p : Progress). record { status = p.status; cut = p.cut }) runs.1,
+      runs.3,
+      runs.4,
     )
