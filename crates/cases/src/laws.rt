@@ -53,6 +53,7 @@ fn call_values() {
     bz_write::flags_keep_layout();
     bz_write::layout_is_accepted();
     bz_write::layout_reads_back();
+    bz_write::redrawn_has_length();
     bz_write::worked_rows();
     bz_tidy::worked_passes();
     bz_tidy::tidy_settles();
@@ -61,6 +62,8 @@ fn call_values() {
     bz_tidy::proper_stays();
     bz_tidy::marks_move();
     bz_tidy::sorting_is_the_one();
+    bz_tidy::flags_settle();
+    bz_tidy::exchanged_tidied();
 }
 
 fn call_words() {
