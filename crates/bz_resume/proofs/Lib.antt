@@ -8,3 +8,4 @@ pub mod Sized
 pub mod Slots
 pub mod Saves
 pub mod Stands
+pub mod Outlined

@@ -1,6 +1,6 @@
 -- The loops over steps, and the test of a tree by its spelling.
 use Rattle.std.proofs.Common.{ℕ, ◌≡◌, ◌+◌, ◌<◌, ◌≤◌, ◌↔◌, Bool, List, [], ◌∷◌, length, drop, get_or, sym, ap, ◌∙◌, subst}
-use Rattle.std.specs.Prelude.{IsTrue}
+use Rattle.std.specs.Prelude.{IsTrue, IfOk, MatchOption, Result, Ok, Err, Option, Some, None}
 use Rattle.std.proofs.lemmas.List.{drop_more, drop_all}
 use Rattle.bz_tree.specs.declared.tree.Node.{Node}
 use Rattle.bz_tree.specs.Legal.{Reads}
@@ -9,14 +9,25 @@ use Rattle.bz_tree.proofs.Accepts.{one_tree}
 use Rattle.bz_edit.specs.declared.edit.Edit.{Edit}
 use Rattle.bz_edit.specs.Steps.{swap_node}
 use Rattle.bz_trail.specs.Trails.{IsTree}
+use Rattle.bz_resume.specs.Outlines.{outline_node}
 use Rattle.bz_resume.specs.Told.{IsTold, AreTold}
+use Rattle.bz_resume.proofs.Outlined.{one_outline}
 
--- the tree that a spelling reads as is the node, or the node is no tree
-pub same_tree : (n m root : Node) (text : List ℕ) (t : Bool) → Reads text m → text ≡ spell_node n → root ≡ m → (IsTrue t ↔ (root ≡ n)) → IsTrue t ↔ IsTree n
-same_tree n m root text t reads is root_is told = (
-  λ h. subst IsTree (sym root_is ∙ told.0 h) (reads.0, subst (λ (s : List ℕ). length s ≤ limit) (sym reads.1) reads.2),
-  λ tree. told.1 (root_is ∙ one_tree m n reads.0 tree.0 (reads.1 ∙ is)),
-)
+-- a text reads as a node that spells it, where the tree that it reads as has the outline of the node, and else the node is no tree
+pub same_tree : (n root : Node) (text outline : List ℕ) → Reads text root → text ≡ spell_node n → outline ≡ outline_node n → outline_node root ≡ outline → (root ≡ n) × IsTree n
+same_tree n root text outline reads is outline_is same =
+    let equal : root ≡ n = one_outline root n (same ∙ outline_is) in
+    (equal, subst IsTree equal (reads.0, subst (λ (s : List ℕ). length s ≤ limit) (sym reads.1) reads.2))
+
+pub other_tree : (n root : Node) (text outline : List ℕ) → Reads text root → text ≡ spell_node n → outline ≡ outline_node n → (outline_node root ≡ outline → ⊥) → IsTree n → ⊥
+other_tree n root text outline reads is outline_is other tree = other (ap outline_node (one_tree root n reads.0 tree.0 (reads.1 ∙ is)) ∙ sym outline_is)
+
+pub same_read : {E : Type 0} (result : Result (Option Node) E) (tree : Node) (text outline : List ℕ) → Reads text tree
+    → IfOk result (λ found. MatchOption found (outline_node tree ≡ outline → ⊥) (λ root. (root ≡ tree) × (outline_node tree ≡ outline)))
+    → (n : Node) → text ≡ spell_node n → outline ≡ outline_node n → IfOk result (λ found. MatchOption found (IsTree n → ⊥) (λ root. (root ≡ n) × IsTree n))
+same_read (Ok (Some root)) tree text outline reads h n is outline_is = let s = same_tree n tree text outline reads is outline_is h.1 in (h.0 ∙ s.0, s.1)
+same_read (Ok None) tree text outline reads h n is outline_is = other_tree n tree text outline reads is outline_is h
+same_read (Err e) tree text outline reads h n is outline_is = h
 
 pub no_tree : (n : Node) (text : List ℕ) → ((m : Node) → Reads text m → ⊥) → text ≡ spell_node n → IsTree n → ⊥
 no_tree n text none is tree = none n (tree.0, sym is, subst (λ (s : List ℕ). length s ≤ limit) (sym is) tree.1)
@@ -65,3 +76,7 @@ module _ (n m : Node) (es : List (List Edit)) (ds : List (List ℕ)) (i : ℕ) (
 pub ends : (n m : Node) (es : List (List Edit)) (ds : List (List ℕ)) (i : ℕ) (text : List ℕ) → length es ≡ length ds → length es ≤ i → IsGoing n es ds i m text → AreTold n es ds
 ends n m es ds i text same past going =
     going.back (subst (λ l. AreTold m l (drop i ds)) (sym (drop_all i es past)) (subst (λ l. AreTold m [] l) (sym (drop_all i ds (subst (λ k. k ≤ i) same past))) tt))
+
+-- what is told of the tree that was read of a text is told of each that the text reads as
+pub told_of : (P : Node → Type 0) (text : List ℕ) (tree : Node) (t : Bool) → Reads text tree → (IsTrue t ↔ P tree) → (n : Node) → Reads text n → IsTrue t ↔ P n
+told_of P text tree t own told n reads = subst (λ (z : Node). IsTrue t ↔ P z) (one_tree tree n own.0 reads.0 (own.1 ∙ sym reads.1)) told

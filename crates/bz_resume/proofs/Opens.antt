@@ -5,7 +5,7 @@ use Rattle.std.specs.List.{AllByRecursion}
 use Rattle.std.proofs.lemmas.Bool.{false≢true}
 use Rattle.std.proofs.lemmas.List.{length-reverse, get_or-reverse}
 use Rattle.bz_tree.specs.declared.tree.Node.{Node}
-use Rattle.bz_tree.specs.Legal.{Reads}
+use Rattle.bz_tree.specs.Legal.{NoTree, Reads}
 use Rattle.bz_tree.specs.Spell.{spell_node, limit}
 use Rattle.bz_edit.specs.declared.edit.Edit.{Edit}
 use Rattle.bz_edit.specs.Steps.{swap_node}
@@ -15,7 +15,6 @@ use Rattle.bz_record.specs.declared.content.Record.{Record}
 use Rattle.bz_resume.specs.Told.{AreTold, AreToldAround, IsCounted, IsOpened, IsTold, IsToldOf, MayLead, NoneTold, edits_of, notes_of, told_trail}
 use Rattle.bz_resume.proofs.Around.{to_whole, from_whole}
 use Rattle.bz_resume.proofs.Loops.{IsGoing, goes_further, stops}
-use Rattle.bz_resume.proofs.Outcomes.{one_told}
 use Rattle.bz_resume.proofs.Paths.{trail_may}
 
 -- ---- steps from the last one on
@@ -57,19 +56,20 @@ pub record HasOpened (r : Record) (tree : Node) : Type 0 where
   pub reads : Reads r.text tree
   pub told : IsToldOf r tree
 
-module _ (r : Record) (tree : Node) (text : Text) (steps es : List (List Edit)) (ds : List Text) (t : Bool) (counted : IsCounted r) (own : Reads text tree) (text_is : text ≡ r.text) (steps_are : steps ≡ edits_of r.steps) (same : es ≡ steps) (digests_are : ds ≡ r.digests) (told : IsTrue t ↔ AreToldAround tree r.cursor es ds) where
-  read : Reads r.text tree
-  read = subst (λ (s : Text). Reads s tree) text_is own
-
+module _ (r : Record) (text : Text) (steps es : List (List Edit)) (ds : List Text) (t : Bool) (counted : IsCounted r) (text_is : text ≡ r.text) (steps_are : steps ≡ edits_of r.steps) (same : es ≡ steps) (digests_are : ds ≡ r.digests) (told : (n : Node) → Reads text n → IsTrue t ↔ AreToldAround n r.cursor es ds) where
   pub opens_none : t ≡ false → NoneTold r
   opens_none f n reads h =
-      let whole = from_whole r tree counted (subst (IsToldOf r) (one_told r n tree reads read) h) in
-      false≢true (sym f ∙ told.1 (around_same tree r.cursor (edits_of r.steps) es r.digests ds (sym (same ∙ steps_are)) (sym digests_are) whole))
+      let own : Reads text n = subst (λ (s : Text). Reads s n) (sym text_is) reads in
+      false≢true (sym f ∙ (told n own).1 (around_same n r.cursor (edits_of r.steps) es r.digests ds (sym (same ∙ steps_are)) (sym digests_are) (from_whole r n counted h)))
 
-  pub opens : t ≡ true → HasOpened r tree
-  opens good =
+  pub opens : (tree : Node) → Reads text tree → t ≡ true → HasOpened r tree
+  opens tree own good =
+      let read : Reads r.text tree = subst (λ (s : Text). Reads s tree) text_is own in
       let is_tree : IsTree tree = (read.0, subst (λ (s : Text). length s ≤ limit) (sym read.1) read.2) in
-      record { reads = read; told = to_whole r tree is_tree counted (around_same tree r.cursor es (edits_of r.steps) ds r.digests (same ∙ steps_are) digests_are (told.0 good)) }
+      record { reads = read; told = to_whole r tree is_tree counted (around_same tree r.cursor es (edits_of r.steps) ds r.digests (same ∙ steps_are) digests_are ((told tree own).0 good)) }
+
+pub none_read : (r : Record) (text : Text) → text ≡ r.text → NoTree text → NoneTold r
+none_read r text is none n reads h = none n (subst (λ (s : Text). Reads s n) (sym is) reads)
 
 pub is_opened : (r : Record) (tree : Node) (steps : List (List Edit)) (notes : List Text) → HasOpened r tree → steps ≡ edits_of r.steps → notes ≡ notes_of r.steps
     → IsOpened r (record { «package» = r.package; tree = tree; steps = steps; digests = r.digests; notes = notes; cursor = r.cursor })

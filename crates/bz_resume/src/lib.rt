@@ -1,9 +1,13 @@
 //! Journals: a session's written, and a stranger's resumed, or refused.
 #![tactic(auto)]
 
+mod copying;
 mod fault;
 pub mod laws;
 mod opening;
+mod outlining;
+mod placing;
+mod reading;
 mod resumed;
 mod resuming;
 mod saving;

@@ -1,48 +1,65 @@
-//! Over the steps of a stranger, each of which is tested.
-ghost use Rattle.std.specs.Prelude.{◌≡◌, ◌↔◌, IsTrue, IfOk, length, reverse};
+//! Over the steps of a stranger, each of which is tested. No more than one tree is held at a time.
+ghost use Rattle.std.specs.Prelude.{◌≡◌, ◌↔◌, IsTrue, IfOk, Err, MatchOption, length, reverse};
 ghost use Rattle.sha2.specs.Sha256.{sha256};
+ghost use Rattle.bz_tree.specs.declared.tree.Node.{Node};
+ghost use Rattle.bz_tree.specs.Legal.{NoTree, Reads};
 ghost use Rattle.bz_tree.specs.Spell.{spell_node};
 ghost use Rattle.bz_edit.specs.Steps.{swap_node};
 ghost use Rattle.bz_trail.specs.Trails.{IsTree};
+ghost use Rattle.bz_resume.specs.declared.fault.Halt.TheVariants as h;
+ghost use Rattle.bz_resume.specs.Outlines.{outline_node};
 ghost use Rattle.bz_resume.specs.Told.{IsTold, AreTold};
 
-use bz_edit::{EditFault, Step, exchange_node};
-use bz_items::Memory;
-use bz_tree::{Node, Part, ReadFault, Tree, parse};
+use crate::fault::Halt;
+use crate::outlining::outline_of;
+use crate::placing::swap;
+use crate::reading::read;
+use bz_edit::{EditFault, Step};
+use bz_items::{Items, Memory};
+use bz_tree::{Node, ReadFault, Tree, parse};
 use sha2::{Digest, Sha256};
-use std::alloc::AllocError;
+use std::alloc::{AllocError, Global};
 
-/// Whether the parts are equal.
-fn are_same(a: &[Part], b: &[Part]) -> bool
-    ensures { IsTrue result ↔ (a.now ≡ b.now) }
+/// The root of a tree, where it has this outline. The error: a growth was refused.
+fn root_with(tree: Tree, outline: &[u8]) -> Result<Option<Node>, Memory>
+    ensures { IfOk result (λ found. MatchOption found (outline_node tree ≡ outline.now → ⊥) (λ root. (root ≡ tree) × (outline_node tree ≡ outline.now))) }
 {
-    if a.len() != b.len() {
-        return false;
+    let Tree { root } = tree;
+    let own = outline_of(&root)?;
+    if own.as_slice() == outline {
+        return Ok(Some(root));
     }
-    for i in 0..a.len() {
-        if !a[i].equals(&b[i]) {
-            return false;
-        }
-    }
-    true
+    Ok(None)
 }
 
-/// Whether the nodes are equal.
-fn is_same(a: &Node, b: &Node) -> bool
-    ensures { IsTrue result ↔ (a.now ≡ b.now) }
+/// The tree that a text reads as, where it has the outline of a node that spells the text. The error: a growth was refused.
+fn read_as(alloc: Global, text: &[u8], outline: &[u8]) -> Result<Option<Node>, Memory>
+    ensures { (node : Node) → text.now ≡ spell_node node → outline.now ≡ outline_node node
+        → IfOk result (λ found. MatchOption found (IsTree node → ⊥) (λ root. (root ≡ node) × IsTree node)) }
 {
-    a.kind == b.kind && are_same(a.parts.as_slice(), b.parts.as_slice())
-}
-
-/// Whether a node is a legal tree within the limit, by its spelling. The error: a growth was refused.
-fn is_tree(node: &Node, text: &[u8]) -> Result<bool, Memory>
-    requires { text.now ≡ spell_node node.now }
-    ensures { IfOk result (λ fine. IsTrue fine ↔ IsTree node.now) }
-{
-    match parse(node.parts.alloc(), text) {
-        Ok(tree) => Ok(is_same(&tree.root, node)),
+    match parse(alloc, text) {
+        Ok(tree) => root_with(tree, outline),
         Err(ReadFault::Memory) => Err(AllocError),
-        Err(_) => Ok(false),
+        Err(_) => Ok(None),
+    }
+}
+
+/// Whether a node is a legal tree within the limit, by its spelling. The node is let go of while its spelling is read, since two
+/// trees take most of the memory of a run; it is the same again behind that, where it is a tree. The error: a growth was refused.
+fn is_tree(node: &mut Node, text: &[u8]) -> Result<bool, Memory>
+    requires { text.now ≡ spell_node node.old }
+    ensures fine { IfOk result (λ fine. IsTrue fine ↔ IsTree node.old) }
+    ensures node { IfOk result (λ fine. IsTrue fine → node.new ≡ node.old) }
+{
+    let alloc = node.parts.alloc();
+    let outline = outline_of(node)?;
+    node.parts = Items::new(alloc);
+    match read_as(alloc, text, outline.as_slice())? {
+        Some(root) => {
+            *node = root;
+            Ok(true)
+        }
+        None => Ok(false),
     }
 }
 
@@ -68,8 +85,7 @@ fn goes_on(
     ensures node { IfOk result (λ told. IsTrue told → node.new ≡ swap_node step.now node.old) }
     ensures text { IfOk result (λ told. IsTrue told → text.new.items ≡ spell_node node.new) }
 {
-    let mut turned = step.copy()?;
-    match exchange_node(node, &mut turned) {
+    match swap(node, step) {
         Ok(()) => {}
         Err(EditFault::Memory) => return Err(AllocError),
         Err(EditFault::BadPlace) => return Ok(false),
@@ -90,13 +106,14 @@ fn goes_on(
 }
 
 /// Whether the steps lead on from a tree, the first one first, to texts with these digests. The error: a growth was refused.
-pub(crate) fn go_on(tree: &Tree, steps: &[Step], digests: &[[u8; 32]]) -> Result<bool, Memory>
+fn lead_on(tree: Tree, steps: &[Step], digests: &[[u8; 32]]) -> Result<bool, Memory>
     requires { length steps.now ≡ length digests.now }
-    ensures { IfOk result (λ told. IsTrue told ↔ AreTold tree.now steps.now digests.now) }
+    ensures { IfOk result (λ told. IsTrue told ↔ AreTold tree steps.now digests.now) }
 {
-    let mut node = tree.root.copy()?;
-    let mut text = Vec::new(node.parts.alloc());
+    let mut text = Vec::new(tree.root.parts.alloc());
     tree.spell_into(&mut text)?;
+    let Tree { root } = tree;
+    let mut node = root;
     for i in 0..steps.len() {
         if !goes_on(&mut node, &mut text, &steps[i], &digests[i])? {
             return Ok(false);
@@ -106,14 +123,15 @@ pub(crate) fn go_on(tree: &Tree, steps: &[Step], digests: &[[u8; 32]]) -> Result
 }
 
 /// The same, the last one first.
-pub(crate) fn go_back(tree: &Tree, steps: &[Step], digests: &[[u8; 32]]) -> Result<bool, Memory>
+fn lead_back(tree: Tree, steps: &[Step], digests: &[[u8; 32]]) -> Result<bool, Memory>
     requires { length steps.now ≡ length digests.now }
-    ensures { IfOk result (λ told. IsTrue told ↔ AreTold tree.now (reverse steps.now) (reverse digests.now)) }
+    ensures { IfOk result (λ told. IsTrue told ↔ AreTold tree (reverse steps.now) (reverse digests.now)) }
 {
     let count = steps.len();
-    let mut node = tree.root.copy()?;
-    let mut text = Vec::new(node.parts.alloc());
+    let mut text = Vec::new(tree.root.parts.alloc());
     tree.spell_into(&mut text)?;
+    let Tree { root } = tree;
+    let mut node = root;
     for i in 0..count {
         let place = count - 1 - i;
         if !goes_on(&mut node, &mut text, &steps[place], &digests[place])? {
@@ -121,4 +139,43 @@ pub(crate) fn go_back(tree: &Tree, steps: &[Step], digests: &[[u8; 32]]) -> Resu
         }
     }
     Ok(true)
+}
+
+/// Whether the steps lead on from the tree of a text, the first one first, to texts with these digests. The tree is read here and
+/// used up, so that its owner need not hold it meanwhile.
+pub(crate) fn go_on(
+    alloc: Global,
+    text: &[u8],
+    steps: &[Step],
+    digests: &[[u8; 32]],
+) -> Result<bool, Halt>
+    requires { length steps.now ≡ length digests.now }
+    ensures told { IfOk result (λ told. (n : Node) → Reads text.now n → IsTrue told ↔ AreTold n steps.now digests.now) }
+    ensures damaged { (result ≡ Err h.Damaged) → NoTree text.now }
+{
+    if steps.is_empty() {
+        return Ok(true);
+    }
+    let tree = read(alloc, text)?;
+    let told = lead_on(tree, steps, digests)?;
+    Ok(told)
+}
+
+/// The same, the last one first.
+pub(crate) fn go_back(
+    alloc: Global,
+    text: &[u8],
+    steps: &[Step],
+    digests: &[[u8; 32]],
+) -> Result<bool, Halt>
+    requires { length steps.now ≡ length digests.now }
+    ensures told { IfOk result (λ told. (n : Node) → Reads text.now n → IsTrue told ↔ AreTold n (reverse steps.now) (reverse digests.now)) }
+    ensures damaged { (result ≡ Err h.Damaged) → NoTree text.now }
+{
+    if steps.is_empty() {
+        return Ok(true);
+    }
+    let tree = read(alloc, text)?;
+    let told = lead_back(tree, steps, digests)?;
+    Ok(told)
 }

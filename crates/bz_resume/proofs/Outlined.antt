@@ -1,0 +1,156 @@
+-- No two nodes have one outline.
+use Rattle.std.proofs.Common.{◌≡◌, ℕ, ◌<◌, List, [], ◌∷◌, ◌++◌, Some, refl, sym, ap, ◌∙◌, append_assoc, inl, inr, arith, lit<}
+use Rattle.std.specs.List.{flat_map, AllByRecursion}
+use Rattle.std.proofs.lemmas.Option.{same_Some}
+use Rattle.bz_token.specs.declared.class.Class.{Class}
+use Rattle.bz_token.specs.declared.class.Class.TheVariants as c
+use Rattle.bz_token.specs.Classes.{class_number, class_of}
+use Rattle.bz_lex.specs.declared.leaf.Leaf.{Leaf}
+use Rattle.bz_tree.specs.declared.kind.Kind.{Kind}
+use Rattle.bz_tree.specs.declared.tree.Node.{Node}
+use Rattle.bz_tree.specs.declared.tree.Part.{Part, Row_of-Part, end_of-Part, more_of-Part, items-the_row-Part}
+use Rattle.bz_tree.specs.declared.tree.Part.TheVariants as p
+use Rattle.bz_tree.specs.Kinds.{kind_number}
+use Rattle.bz_tree.proofs.Nested.{row_of, items_of_row, part_ind, leaf_or_node}
+use Rattle.bz_tree.proofs.Numbers.{same_kind}
+use Rattle.bz_resume.specs.Outlines.{marked, marked_byte, outline_all, outline_leaf, outline_node, outline_part, outline_row}
+
+-- ---- a node by the list of its parts
+
+outline_rows : (m : _) (r : Row_of-Part m) → outline_row r ≡ flat_map outline_part (items-the_row-Part m r)
+outline_rows m end_of-Part = refl
+outline_rows m (more_of-Part x rest) = ap (λ t. outline_part x ++ t) (outline_rows _ rest)
+
+pub outline_Node : (n : Node) → outline_part (p.Node n) ≡ outline_node n
+outline_Node n = ap (λ t. 2 ∷ kind_number n.kind ∷ (t ++ 0 ∷ [])) (outline_rows _ (row_of n).1 ∙ ap (flat_map outline_part) (items_of_row n))
+
+-- ---- lists
+
+same_first : (a b : ℕ) (r s : List ℕ) → a ∷ r ≡ b ∷ s → a ≡ b
+same_first a b r s e = cc
+
+same_rest : (a b : ℕ) (r s : List ℕ) → a ∷ r ≡ b ∷ s → r ≡ s
+same_rest a b r s e = cc
+
+class_of_number : (k : Class) → class_of (class_number k) ≡ Some k
+class_of_number c.Name = refl
+class_of_number _ = refl
+
+same_class : (a b : Class) → class_number a ≡ class_number b → a ≡ b
+same_class a b e = same_Some a b (sym (class_of_number a) ∙ ap class_of e ∙ class_of_number b)
+
+-- ---- texts
+
+abbrev SameFront : List ℕ → List ℕ → List ℕ → List ℕ → Type 0
+SameFront a b r s = (a ≡ b) × (r ≡ s)
+
+text_once : (a b r s : List ℕ) → marked a ++ r ≡ marked b ++ s → SameFront a b r s
+text_once [] [] r s e = (refl, same_rest 0 0 r s e)
+text_once [] (y ∷ b) r s e = absurd cc
+text_once (x ∷ a) [] r s e = absurd cc
+text_once (x ∷ a) (y ∷ b) r s e =
+    let one = same_rest 1 1 (x ∷ (marked a ++ r)) (y ∷ (marked b ++ s)) e in
+    let rest = text_once a b r s (same_rest x y (marked a ++ r) (marked b ++ s) one) in
+    (ap (λ z. z ∷ a) (same_first x y (marked a ++ r) (marked b ++ s) one) ∙ ap (λ z. y ∷ z) rest.0, rest.1)
+
+-- ---- leaves
+
+abbrev leaf_of : Class → List ℕ → List ℕ → Leaf
+leaf_of class gap token = record { class = class; gap = gap; token = token }
+
+same_leaf : (c d : Class) (g h t u : List ℕ) → c ≡ d → g ≡ h → t ≡ u → leaf_of c g t ≡ leaf_of d h u
+same_leaf c d g h t u e f k = ap (λ z. leaf_of z g t) e ∙ ap (λ z. leaf_of d z t) f ∙ ap (λ z. leaf_of d h z) k
+
+leaf_once : (l m : Leaf) (r s : List ℕ) → outline_leaf l ++ r ≡ outline_leaf m ++ s → (l ≡ m) × (r ≡ s)
+leaf_once l m r s e =
+    let lc = class_number l.class in
+    let mc = class_number m.class in
+    let lt = (marked l.gap ++ marked l.token) ++ r in
+    let mt = (marked m.gap ++ marked m.token) ++ s in
+    let one : lc ∷ lt ≡ mc ∷ mt = same_rest 1 1 (lc ∷ lt) (mc ∷ mt) e in
+    let two : lt ≡ mt = same_rest lc mc lt mt one in
+    let gap = text_once l.gap m.gap (marked l.token ++ r) (marked m.token ++ s) (sym (append_assoc (marked l.gap) (marked l.token) r) ∙ two ∙ append_assoc (marked m.gap) (marked m.token) s) in
+    let token = text_once l.token m.token r s gap.1 in
+    (same_leaf l.class m.class l.gap m.gap l.token m.token (same_class l.class m.class (same_first lc mc lt mt one)) gap.0 token.0, token.1)
+
+-- ---- parts
+
+abbrev Once : Part → Type 0
+Once x = (y : Part) (r s : List ℕ) → outline_part x ++ r ≡ outline_part y ++ s → (x ≡ y) × (r ≡ s)
+
+node_front : (y : Part) (n : Node) (s : List ℕ) → y ≡ p.Node n → outline_part y ++ s ≡ outline_node n ++ s
+node_front y n s is = ap (λ z. outline_part z ++ s) is ∙ ap (λ z. z ++ s) (outline_Node n)
+
+leaf_front : (y : Part) (l : Leaf) (s : List ℕ) → y ≡ p.Leaf l → outline_part y ++ s ≡ outline_leaf l ++ s
+leaf_front y l s is = ap (λ z. outline_part z ++ s) is
+
+apart : (a b : ℕ) (r s : List ℕ) → a < b → a ∷ r ≡ b ∷ s → ⊥
+apart a b r s lt e = let f = same_first a b r s e in absurd (omega arith)
+
+leaf_is_none : (l : Leaf) (n : Node) (r s : List ℕ) → outline_leaf l ++ r ≡ outline_node n ++ s → ⊥
+leaf_is_none l n r s e = apart 1 2 (class_number l.class ∷ ((marked l.gap ++ marked l.token) ++ r)) (kind_number n.kind ∷ (outline_all n.parts ++ s)) (lit< tt) e
+
+once_leaf : (l : Leaf) → Once (p.Leaf l)
+once_leaf l y r s e = elim (leaf_or_node y) [
+  | inl m ↦ let f = leaf_once l m.0 r s (e ∙ leaf_front y m.0 s m.1) in (ap p.Leaf f.0 ∙ sym m.1, f.1)
+  | inr n ↦ absurd (leaf_is_none l n.0 r s (e ∙ node_front y n.0 s n.1))
+]
+
+-- no part begins with the byte that ends the parts of a node
+no_end : (y : Part) (r s : List ℕ) → 0 ∷ r ≡ outline_part y ++ s → ⊥
+no_end y r s e = elim (leaf_or_node y) [
+  | inl m ↦ apart 0 1 r (class_number m.0.class ∷ ((marked m.0.gap ++ marked m.0.token) ++ s)) (lit< tt) (e ∙ leaf_front y m.0 s m.1)
+  | inr n ↦ apart 0 2 r (kind_number n.0.kind ∷ (outline_all n.0.parts ++ s)) (lit< tt) (e ∙ node_front y n.0 s n.1)
+]
+
+regroup : (a b c d : List ℕ) → a ++ b ++ c ++ d ≡ a ++ (b ++ c ++ d)
+regroup a b c d = simp append_assoc
+
+from_first : (x : Part) (xs : List Part) (r : List ℕ) → outline_all (x ∷ xs) ++ r ≡ outline_part x ++ (outline_all xs ++ r)
+from_first x xs r = regroup (outline_part x) (flat_map outline_part xs) (0 ∷ []) r
+
+all_once : (xs : List Part) → AllByRecursion Once xs → (ys : List Part) (r s : List ℕ) → outline_all xs ++ r ≡ outline_all ys ++ s → (xs ≡ ys) × (r ≡ s)
+all_once [] h [] r s e = (refl, same_rest 0 0 r s e)
+all_once [] h (y ∷ ys) r s e = absurd (no_end y r (outline_all ys ++ s) (e ∙ from_first y ys s))
+all_once (x ∷ xs) h [] r s e = absurd (no_end x s (outline_all xs ++ r) (sym e ∙ from_first x xs r))
+all_once (x ∷ xs) h (y ∷ ys) r s e =
+    let f = h.0 y (outline_all xs ++ r) (outline_all ys ++ s) (sym (from_first x xs r) ∙ e ∙ from_first y ys s) in
+    let g = all_once xs h.1 ys r s f.1 in
+    (ap (λ z. z ∷ xs) f.0 ∙ ap (λ zs. y ∷ zs) g.0, g.1)
+
+abbrev node_of : Kind → List Part → Node
+node_of kind parts = record { kind = kind; parts = parts }
+
+node_once : (n m : Node) (r s : List ℕ) → AllByRecursion Once n.parts → outline_node n ++ r ≡ outline_node m ++ s → (n ≡ m) × (r ≡ s)
+node_once n m r s h e =
+    let nk = kind_number n.kind in
+    let mk = kind_number m.kind in
+    let nt = outline_all n.parts ++ r in
+    let mt = outline_all m.parts ++ s in
+    let one : nk ∷ nt ≡ mk ∷ mt = same_rest 2 2 (nk ∷ nt) (mk ∷ mt) e in
+    let parts = all_once n.parts h m.parts r s (same_rest nk mk nt mt one) in
+    (ap (λ k. node_of k n.parts) (same_kind n.kind m.kind (same_first nk mk nt mt one)) ∙ ap (node_of m.kind) parts.0, parts.1)
+
+once_node : (n : Node) → AllByRecursion Once n.parts → Once (p.Node n)
+once_node n h y r s e =
+    let own = sym (node_front (p.Node n) n r refl) ∙ e in
+    elim (leaf_or_node y) [
+      | inl m ↦ absurd (leaf_is_none m.0 n s r (sym (own ∙ leaf_front y m.0 s m.1)))
+      | inr m ↦ let f = node_once n m.0 r s h (own ∙ node_front y m.0 s m.1) in (ap p.Node f.0 ∙ sym m.1, f.1)
+    ]
+
+part_once : (x : Part) → Once x
+part_once = part_ind Once once_leaf once_node
+
+each_once : (xs : List Part) → AllByRecursion Once xs
+each_once [] = tt
+each_once (x ∷ xs) = (part_once x, each_once xs)
+
+pub one_outline : (n m : Node) → outline_node n ≡ outline_node m → n ≡ m
+one_outline n m e = (node_once n m [] [] (each_once n.parts) (ap (λ t. t ++ []) e)).0
+
+-- ---- what is pushed
+
+pub node_pushed : (o o1 o2 : List ℕ) (x : Part) (n : Node) → x ≡ p.Node n → o1 ≡ o ++ 2 ∷ kind_number n.kind ∷ [] → o2 ≡ o1 ++ outline_all n.parts → o2 ≡ o ++ outline_part x
+node_pushed o o1 o2 x n is h1 h2 =
+    h2 ∙ ap (λ t. t ++ outline_all n.parts) h1 ∙ append_assoc o (2 ∷ kind_number n.kind ∷ []) (outline_all n.parts) ∙ ap (λ t. o ++ t) (sym (outline_Node n) ∙ ap outline_part (sym is))
