@@ -4,6 +4,7 @@ use Rattle.bz_value.specs.Gaps.{Bytes}
 use Rattle.bz_attribute.specs.Refusals.{refusal_name, refusal_number}
 use Rattle.bz_attribute.specs.declared.refusal.Refusal.{Refusal}
 use Rattle.bz_line.specs.Asked.{Refused, Usage, of_operand, no_command, no_target, no_line}
+use Rattle.bz_line.specs.Hints.{hint_for}
 use Rattle.bz_line.specs.Line.{LineUsage, of_clap, beside_script, beside_stdout}
 use Rattle.bz_line.specs.Verbs.{fault_name, fault_number}
 use Rattle.bz_ports.specs.Told.{named_line}
@@ -17,9 +18,9 @@ abbrev pub refusal_line : Bytes → Bytes → Refusal → Bytes
 refusal_line file command refusal =
     codes "buildozer: " ++ file ++ codes ": " ++ numbered command (refusal_name refusal) (refusal_number refusal)
 
--- an operand that is refused
+-- an operand that is refused; behind its line stands the hint, if there is one
 abbrev pub operand_line : Refused → Bytes
-operand_line refused = codes "buildozer: " ++ numbered refused.operand (fault_name refused.fault) (fault_number refused.fault)
+operand_line refused = codes "buildozer: " ++ numbered refused.operand (fault_name refused.fault) (fault_number refused.fault) ++ hint_for refused
 
 -- a file that was written
 abbrev pub fixed_line : Bytes → Bytes

@@ -47,12 +47,12 @@ fn wanting<E: Sink>(err: &mut E) -> Exit
 }
 
 // Operands, or a file of lines of this name, ask for nothing, which is told.
-fn unasked<E: Sink>(err: &mut E, file: &str, fault: &UsageFault<'_>) -> Exit
+fn unasked<E: Sink>(alloc: Global, err: &mut E, file: &str, fault: &UsageFault<'_>) -> Exit
     ensures whole { result.cut ≡ Cut.Whole → (result.status ≡ 1) × (usage : Usage) × (line : List ℕ) × (usage_in fault.now ≡ Some usage)
         × IsUsageLine file.now usage line × Tells (E.faults err.old) (E.faults err.new) (E.contents err.old) (E.contents err.new) (line ∷ []) }
     ensures cut { result.cut ≢ Cut.Whole → result ≡ record { status = 2; cut = Cut.Memory } }
 {
-    match tell_usage(err, file, fault) {
+    match tell_usage(alloc, err, file, fault) {
         Ok(()) => UNUSED,
         Err(_) => wanting(err),
     }
@@ -188,7 +188,7 @@ fn run_operands<R: Source, W: Sink, E: Sink, F: Files>(
 {
     match read_group(alloc, operands) {
         Ok(asked) => perform_lines(alloc, options, from_ref(&asked), input, out, err, files),
-        Err(fault) => unasked(err, "", &fault),
+        Err(fault) => unasked(alloc, err, "", &fault),
     }
 }
 
@@ -263,7 +263,7 @@ fn run_text<R: Source, W: Sink, E: Sink, F: Files>(
             err,
             files,
         ),
-        Err(fault) => unasked(err, told_name(name), &fault),
+        Err(fault) => unasked(alloc, err, told_name(name), &fault),
     }
 }
 

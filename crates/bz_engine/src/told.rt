@@ -1,11 +1,12 @@
 //! The lines on standard error that speak of commands, operands and usage. Its faults are passed over.
 ghost use Rattle.std.specs.Prelude.{◌≡◌, ◌++◌, codes, List, ℕ, IfSome, IsSome, OnOk, OnErr};
-ghost use Rattle.bz_line.specs.Shown.{refused_in, usage_in, line_usage_in};
+ghost use Rattle.bz_line.specs.Hints.{hint_for};
+ghost use Rattle.bz_line.specs.Shown.{refused_in, usage_in, line_usage_in, hint_text};
 ghost use Rattle.bz_ports.specs.Faults.{AppendsUnlessFailed};
 ghost use Rattle.bz_engine.specs.Told.{numbered, refusal_line, operand_line, fixed_line, input_line, no_journal_line, IsUsageLine, IsLineUsageLine};
 
 use bz_attribute::Refusal;
-use bz_line::{LineFault, Refused, UsageFault};
+use bz_line::{Hint, LineFault, Refused, UsageFault, hint_for};
 use bz_ports::{Sink, tell, tell_clap, tell_named};
 use itoa::Buffer;
 use std::alloc::{AllocError, Global};
@@ -33,21 +34,6 @@ fn tell_numbered_in<'a, E: Sink>(
     );
 }
 
-fn tell_numbered<'a, E: Sink>(
-    err: &mut E,
-    front: &'a str,
-    refused: &'a str,
-    name: &'a str,
-    number: u8,
-)
-    ensures { AppendsUnlessFailed (E.faults err.old) (E.faults err.new) (E.contents err.old) (E.contents err.new)
-        (front.entry.now ++ numbered refused.entry.now name.entry.now number) }
-{
-    let mut numbers = Buffer::new();
-    let number = numbers.format(number);
-    tell(err, &[front, refused, ": ", name, " (", number, ")\n"]);
-}
-
 /// Tells that a command is refused in a file.
 pub(crate) fn tell_refusal<E: Sink>(err: &mut E, file: &str, command: &str, refusal: Refusal)
     ensures { AppendsUnlessFailed (E.faults err.old) (E.faults err.new) (E.contents err.old) (E.contents err.new)
@@ -64,17 +50,46 @@ pub(crate) fn tell_refusal<E: Sink>(err: &mut E, file: &str, command: &str, refu
     );
 }
 
-fn tell_operand<E: Sink>(err: &mut E, refused: &Refused<'_>)
+// Tells what is refused behind this piece, and the three pieces of a hint behind its line.
+fn tell_hinted<'a, E: Sink>(
+    err: &mut E,
+    front: &'a str,
+    refused: &'a str,
+    name: &'a str,
+    number: u8,
+    hint_front: &'a str,
+    hint_word: &'a str,
+    hint_back: &'a str,
+)
+    ensures { AppendsUnlessFailed (E.faults err.old) (E.faults err.new) (E.contents err.old) (E.contents err.new)
+        (front.entry.now ++ numbered refused.entry.now name.entry.now number ++ (hint_front.entry.now ++ hint_word.entry.now ++ hint_back.entry.now)) }
+{
+    let mut numbers = Buffer::new();
+    let number = numbers.format(number);
+    tell(
+        err,
+        &[
+            front, refused, ": ", name, " (", number, ")\n", hint_front, hint_word, hint_back,
+        ],
+    );
+}
+
+// Tells that an operand is refused, and the hint of it behind that.
+fn tell_operand<E: Sink>(err: &mut E, refused: &Refused<'_>, hint: Hint)
+    requires { hint_text hint ≡ hint_for (refused_in refused.now) }
     ensures { AppendsUnlessFailed (E.faults err.old) (E.faults err.new) (E.contents err.old) (E.contents err.new)
         (operand_line (refused_in refused.now)) }
 {
     let fault = refused.fault;
-    tell_numbered(
+    tell_hinted(
         err,
         "buildozer: ",
         refused.operand,
         fault.name(),
         fault.number(),
+        hint.front,
+        hint.word,
+        hint.back,
     );
 }
 
@@ -105,6 +120,7 @@ pub(crate) fn tell_no_journal<E: Sink>(err: &mut E)
 
 /// Tells why operands, or a file of lines of this name, ask for nothing. The error: memory was refused; nothing is told.
 pub(crate) fn tell_usage<E: Sink>(
+    alloc: Global,
     err: &mut E,
     file: &str,
     fault: &UsageFault<'_>,
@@ -115,7 +131,10 @@ pub(crate) fn tell_usage<E: Sink>(
     ensures err { OnErr result (err.new ≡ err.old) }
 {
     match fault {
-        UsageFault::Operand(refused) => tell_operand(err, refused),
+        UsageFault::Operand(refused) => {
+            let hint = hint_for(alloc, refused)?;
+            tell_operand(err, refused, hint);
+        }
         UsageFault::NoCommand => tell(err, &["buildozer: no command\n"]),
         UsageFault::NoTarget => tell(err, &["buildozer: no target\n"]),
         UsageFault::NoLine => tell_named(err, file, "no operands"),
