@@ -16,3 +16,5 @@ pub mod Outcomes
 pub mod Performing
 pub mod RunSteps
 pub mod StepLists
+pub mod UnusedSteps
+pub mod UsageSteps

@@ -39,7 +39,7 @@ pub line_usage_told : (found : Option LineUsage) (f g : ℕ) (old new : Option B
 line_usage_told None f g old new is holds = absurd (true≢false (sym is))
 line_usage_told (Some usage) f g old new is holds = (refl, usage, holds.0, refl, holds.1, told_once f g old new holds.0 holds.2)
 
-at_some : {A : Type 0} (P : A → Type 0) (found : Option A) (x : A) → found ≡ Some x → IfSome found P → P x
+pub at_some : {A : Type 0} (P : A → Type 0) (found : Option A) (x : A) → found ≡ Some x → IfSome found P → P x
 at_some P found x is holds = subst (λ it. IfSome it P) is holds
 
 -- Nothing was done, and one line told.

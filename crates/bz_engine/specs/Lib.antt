@@ -6,4 +6,5 @@ pub mod Run
 pub mod Shown
 pub mod Steps
 pub mod Told
+pub mod Usage
 pub mod Worked

@@ -104,6 +104,22 @@ GivesNothing options (operands texts) = IsErr (group_of texts)
     ⊎ ((options.journal ≡ true) × ((asked : Asked) × (group_of texts ≡ Ok asked) × (names_input (asked ∷ []) ≡ true)))
 GivesNothing options (script name) = ⊥
 
+-- The lines, if any, don't stand in standard input.
+abbrev pub StandApart : Given → Type 0
+StandApart (operands texts) = Unit {0}
+StandApart (script name) = name ≢ input_package
+
+abbrev pub TakesNoInput : List Bytes → Type 0
+TakesNoInput words = IfOk (line_of words) (λ line. StandApart line.given)
+
+-- The lines, if any, don't stand in a file.
+abbrev pub StandInNoFile : Given → Type 0
+StandInNoFile (operands texts) = Unit {0}
+StandInNoFile (script name) = name ≡ input_package
+
+abbrev pub TakesNoFile : List Bytes → Type 0
+TakesNoFile words = IfOk (line_of words) (λ line. StandInNoFile line.given)
+
 -- words that are no line, or whose operands ask for nothing
 abbrev pub LineGivesNothing : Result Line LineUsage → Type 0
 LineGivesNothing (Err usage) = Unit {0}

@@ -240,6 +240,7 @@ fn ended(failed: bool, changed: bool, cut: Cut) -> Exit
     ensures cut { result.cut ≡ cut }
     ensures failed { cut ≢ Cut.Whole → result.status ≡ 2 }
     ensures whole { cut ≡ Cut.Whole → result.status ≡ (if failed then 2 else (if changed then 0 else 3)) }
+    ensures used { result.status ≢ 1 }
 {
     let status = if failed || cut != Cut::Whole {
         FAILED
@@ -273,6 +274,7 @@ fn leave<W: Sink, F: Files, E: Sink>(
     ensures writes { (F.honest files.old ≡ true) ⊎ (writings options.to_stdout (map used_in packages.now) ≡ []) → result.cut ≡ Cut.Whole
         → Writes (writings options.to_stdout (map used_in packages.now)) (F.folder files.old) (F.folder files.new) }
     ensures status { result.cut ≢ Cut.Whole → result.status ≡ 2 }
+    ensures used { result.status ≢ 1 }
     ensures write { result.cut ≡ Cut.Write → cut ≢ Cut.Write → (cut ≡ Cut.Whole)
         × AppendsSome (W.contents out.old) (W.contents out.new) (printed.items ++ texts_out shown options.to_stdout (map used_in packages.now))
         × Rises (W.faults out.old) (W.faults out.new) }
@@ -310,6 +312,7 @@ pub(crate) fn finish<W: Sink, F: Files, E: Sink>(
     ensures writes { (F.honest files.old ≡ true) ⊎ (writings options.to_stdout (state_in run).used ≡ []) → result.cut ≡ Cut.Whole
         → Writes (writings options.to_stdout (state_in run).used) (F.folder files.old) (F.folder files.new) }
     ensures status { result.cut ≢ Cut.Whole → result.status ≡ 2 }
+    ensures used { result.status ≢ 1 }
     ensures write { result.cut ≡ Cut.Write → cut ≢ Cut.Write → (cut ≡ Cut.Whole)
         × AppendsSome (W.contents out.old) (W.contents out.new) ((state_in run).printed ++ texts_out shown options.to_stdout (state_in run).used)
         × Rises (W.faults out.old) (W.faults out.new) }
@@ -358,6 +361,7 @@ pub(crate) fn finish_kept<W: Sink, E: Sink>(
     err: &mut E,
 ) -> Exit
     ensures status { result.cut ≢ Cut.Whole → result.status ≡ 2 }
+    ensures used { result.status ≢ 1 }
     ensures whole { result.cut ≡ Cut.Whole → (cut ≡ Cut.Whole) × (W.faults out.new ≡ W.faults out.old) }
     ensures cause { (result.cut ≡ cut) ⊎ ((cut ≡ Cut.Whole) × ((result.cut ≡ Cut.Memory) ⊎ ((result.cut ≡ Cut.Write) × Rises (W.faults out.old) (W.faults out.new)))) }
 {

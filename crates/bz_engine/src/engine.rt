@@ -1,18 +1,20 @@
 //! The program buildozer over any reader, writers and files.
 ghost use Rattle.std.specs.Prelude.{◌≡◌, ◌≢◌, ◌⊎◌, ◌∷◌, [], List, ℕ, Option, true, false, map, IfOk, IsErr, Some};
 ghost use Rattle.std.specs.List.{All};
+ghost use Rattle.bz_files.specs.Folder.{Elapses};
 ghost use Rattle.bz_line.specs.Asked.{Usage, group_of};
 ghost use Rattle.bz_line.specs.Line.{LineUsage, line_of};
-ghost use Rattle.bz_line.specs.Line.{operands as words_given};
+ghost use Rattle.bz_line.specs.Line.{operands as words_given, script};
 ghost use Rattle.bz_line.specs.Paths.{HasPath};
 ghost use Rattle.bz_line.specs.Shown.{asked_in, usage_in, line_usage_in};
 ghost use Rattle.bz_ports.specs.Faults.{AppendsSome};
 ghost use Rattle.bz_ports.specs.Outputs.{Tells};
 ghost use Rattle.bz_engine.specs.Cuts.{IsEndedBy};
 ghost use Rattle.bz_engine.specs.Ending.{Left, Performs, Stands};
-ghost use Rattle.bz_engine.specs.Outcome.{Outcome, OperandsOutcome, LinesOutcome, TextOutcome, ScriptOutcome, AreOfInput, GivesNothing, KeepsNoJournal, LineGivesNothing, NamesNoFile, TakesScript};
+ghost use Rattle.bz_engine.specs.Outcome.{Outcome, OperandsOutcome, LinesOutcome, TextOutcome, ScriptOutcome, AreOfInput, GivesNothing, KeepsNoJournal, LineGivesNothing, NamesNoFile, TakesNoFile, TakesNoInput, TakesScript};
 ghost use Rattle.bz_engine.specs.Steps.{all_steps, input_package, names_input};
-ghost use Rattle.bz_engine.specs.Told.{IsUsageLine, IsLineUsageLine};
+ghost use Rattle.bz_engine.specs.Told.{IsUsageLine, IsLineUsageLine, no_journal_line};
+ghost use Rattle.bz_engine.specs.Usage.{OperandsTell, LinesTell, TextTells, GivenTells, LineTells};
 
 use crate::ending::{FAILED, finish, finish_kept};
 use crate::keeping::keep_lines;
@@ -50,6 +52,8 @@ fn wanting<E: Sink>(err: &mut E) -> Exit
 fn unasked<E: Sink>(alloc: Global, err: &mut E, file: &str, fault: &UsageFault<'_>) -> Exit
     ensures whole { result.cut ≡ Cut.Whole → (result.status ≡ 1) × (usage : Usage) × (line : List ℕ) × (usage_in fault.now ≡ Some usage)
         × IsUsageLine file.now usage line × Tells (E.faults err.old) (E.faults err.new) (E.contents err.old) (E.contents err.new) (line ∷ []) }
+    ensures told { result.status ≡ 1 → (usage : Usage) × (line : List ℕ) × (usage_in fault.now ≡ Some usage)
+        × IsUsageLine file.now usage line × Tells (E.faults err.old) (E.faults err.new) (E.contents err.old) (E.contents err.new) (line ∷ []) }
     ensures cut { result.cut ≢ Cut.Whole → result ≡ record { status = 2; cut = Cut.Memory } }
 {
     match tell_usage(alloc, err, file, fault) {
@@ -61,6 +65,8 @@ fn unasked<E: Sink>(alloc: Global, err: &mut E, file: &str, fault: &UsageFault<'
 // The words are no line of the program's, which is told.
 fn unlined<E: Sink>(alloc: Global, err: &mut E, fault: &LineFault) -> Exit
     ensures whole { result.cut ≡ Cut.Whole → (result.status ≡ 1) × (usage : LineUsage) × (line : List ℕ) × (line_usage_in fault.now ≡ Some usage)
+        × IsLineUsageLine usage line × Tells (E.faults err.old) (E.faults err.new) (E.contents err.old) (E.contents err.new) (line ∷ []) }
+    ensures told { result.status ≡ 1 → (usage : LineUsage) × (line : List ℕ) × (line_usage_in fault.now ≡ Some usage)
         × IsLineUsageLine usage line × Tells (E.faults err.old) (E.faults err.new) (E.contents err.old) (E.contents err.new) (line ∷ []) }
     ensures cut { result.cut ≢ Cut.Whole → result ≡ record { status = 2; cut = Cut.Memory } }
 {
@@ -88,6 +94,7 @@ fn perform<R: Source, W: Sink, E: Sink, F: Files>(
         × Performs options (all_steps (map asked_in lines.now)) (record { folder = F.folder files.old; known = R.remaining input.old }) left
         × AppendsSome (W.contents out.old) (W.contents out.new) left.output }
     ensures status { result.cut ≢ Cut.Whole → result.status ≡ 2 }
+    ensures used { result.status ≢ 1 }
     ensures ended { IsEndedBy result.cut (R.faults input.old) (R.faults input.new) (W.faults out.old) (W.faults out.new) (F.faults files.old) (F.faults files.new) }
     ensures honest { F.honest files.new ≡ F.honest files.old }
 {
@@ -124,6 +131,9 @@ fn perform_kept<W: Sink, E: Sink, F: Files>(
 ) -> Exit
     requires { All (λ asked. All HasPath asked.targets.items) lines.now }
     ensures unread { names_input (map asked_in lines.now) ≡ true → (out.new ≡ out.old) × (files.new ≡ files.old) }
+    ensures unused { result.status ≡ 1 → (out.new ≡ out.old) × (files.new ≡ files.old) }
+    ensures usage { result.status ≡ 1 → (names_input (map asked_in lines.now) ≡ true)
+        × Tells (E.faults err.old) (E.faults err.new) (E.contents err.old) (E.contents err.new) (no_journal_line ∷ []) }
     ensures status { result.cut ≢ Cut.Whole → result.status ≡ 2 }
     ensures ended { (reads : ℕ) → IsEndedBy result.cut reads reads (W.faults out.old) (W.faults out.new) (F.faults files.old) (F.faults files.new) }
     ensures honest { F.honest files.new ≡ F.honest files.old }
@@ -155,6 +165,9 @@ fn perform_lines<R: Source, W: Sink, E: Sink, F: Files>(
         × Performs options (all_steps (map asked_in lines.now)) (record { folder = F.folder files.old; known = R.remaining input.old }) left
         × AppendsSome (W.contents out.old) (W.contents out.new) left.output }
     ensures unread { options.journal ≡ true → names_input (map asked_in lines.now) ≡ true → (input.new ≡ input.old) × (out.new ≡ out.old) × (files.new ≡ files.old) }
+    ensures unused { result.status ≡ 1 → (input.new ≡ input.old) × (out.new ≡ out.old) × (files.new ≡ files.old) }
+    ensures usage { result.status ≡ 1 → (options.journal ≡ true) × (names_input (map asked_in lines.now) ≡ true)
+        × Tells (E.faults err.old) (E.faults err.new) (E.contents err.old) (E.contents err.new) (no_journal_line ∷ []) }
     ensures status { result.cut ≢ Cut.Whole → result.status ≡ 2 }
     ensures ended { IsEndedBy result.cut (R.faults input.old) (R.faults input.new) (W.faults out.old) (W.faults out.new) (F.faults files.old) (F.faults files.new) }
     ensures honest { F.honest files.new ≡ F.honest files.old }
@@ -182,6 +195,9 @@ fn run_operands<R: Source, W: Sink, E: Sink, F: Files>(
         × OperandsOutcome options (map (λ s. s.now) operands.now) (record { folder = F.folder files.old; known = R.remaining input.old }) left
         × AppendsSome (W.contents out.old) (W.contents out.new) left.output }
     ensures unread { GivesNothing options (words_given (map (λ s. s.now) operands.now)) → (input.new ≡ input.old) × (out.new ≡ out.old) × (files.new ≡ files.old) }
+    ensures unused { result.status ≡ 1 → (input.new ≡ input.old) × (out.new ≡ out.old) × (files.new ≡ files.old) }
+    ensures usage { result.status ≡ 1 → (line : List ℕ) × OperandsTell options (map (λ s. s.now) operands.now) line
+        × Tells (E.faults err.old) (E.faults err.new) (E.contents err.old) (E.contents err.new) (line ∷ []) }
     ensures status { result.cut ≢ Cut.Whole → result.status ≡ 2 }
     ensures ended { IsEndedBy result.cut (R.faults input.old) (R.faults input.new) (W.faults out.old) (W.faults out.new) (F.faults files.old) (F.faults files.new) }
     ensures honest { F.honest files.new ≡ F.honest files.old }
@@ -212,6 +228,9 @@ fn run_lines_of<R: Source, W: Sink, E: Sink, F: Files>(
         → (left : Left)
         × LinesOutcome options of_input (map asked_in lines.now) (record { folder = F.folder files.old; known = known }) left
         × AppendsSome (W.contents out.old) (W.contents out.new) left.output }
+    ensures unused { result.status ≡ 1 → (input.new ≡ input.old) × (out.new ≡ out.old) × (files.new ≡ files.old) }
+    ensures usage { result.status ≡ 1 → (line : List ℕ) × LinesTell options of_input (map asked_in lines.now) line
+        × Tells (E.faults err.old) (E.faults err.new) (E.contents err.old) (E.contents err.new) (line ∷ []) }
     ensures status { result.cut ≢ Cut.Whole → result.status ≡ 2 }
     ensures ended { IsEndedBy result.cut (R.faults input.old) (R.faults input.new) (W.faults out.old) (W.faults out.new) (F.faults files.old) (F.faults files.new) }
     ensures honest { F.honest files.new ≡ F.honest files.old }
@@ -240,6 +259,9 @@ fn run_text<R: Source, W: Sink, E: Sink, F: Files>(
     ensures write { options.journal ≡ false → F.honest files.old ≡ true → result.cut ≡ Cut.Write → (known : Option (List ℕ)) → (name.now ≢ input_package → known ≡ R.remaining input.old)
         → (left : Left) × TextOutcome options name.now (Some bytes.now) (record { folder = F.folder files.old; known = known }) left
         × AppendsSome (W.contents out.old) (W.contents out.new) left.output }
+    ensures unused { result.status ≡ 1 → (input.new ≡ input.old) × (out.new ≡ out.old) × (files.new ≡ files.old) }
+    ensures usage { result.status ≡ 1 → (line : List ℕ) × TextTells options name.now (Some bytes.now) line
+        × Tells (E.faults err.old) (E.faults err.new) (E.contents err.old) (E.contents err.new) (line ∷ []) }
     ensures status { result.cut ≢ Cut.Whole → result.status ≡ 2 }
     ensures ended { IsEndedBy result.cut (R.faults input.old) (R.faults input.new) (W.faults out.old) (W.faults out.new) (F.faults files.old) (F.faults files.new) }
     ensures honest { F.honest files.new ≡ F.honest files.old }
@@ -283,6 +305,13 @@ fn run_script<R: Source, W: Sink, E: Sink, F: Files>(
     ensures write { options.journal ≡ false → F.honest files.old ≡ true → result.cut ≡ Cut.Write → (left : Left)
         × ScriptOutcome options name.now (record { folder = F.folder files.old; known = R.remaining input.old }) left
         × AppendsSome (W.contents out.old) (W.contents out.new) left.output }
+    ensures unused { result.status ≡ 1 → out.new ≡ out.old }
+    ensures unused_input { result.status ≡ 1 → name.now ≢ input_package → input.new ≡ input.old }
+    ensures unused_files { result.status ≡ 1 → name.now ≡ input_package → files.new ≡ files.old }
+    ensures unused_time { result.status ≡ 1 → F.honest files.old ≡ true → Elapses (F.moment files.old) (F.moment files.new) (F.since files.old) (F.since files.new)
+        (λ now. now ≡ F.folder files.old) }
+    ensures usage { result.status ≡ 1 → result.cut ≡ Cut.Whole → (line : List ℕ) × GivenTells (F.honest files.old) (record { folder = F.folder files.old; known = R.remaining input.old }) options (script name.now) line
+        × Tells (E.faults err.old) (E.faults err.new) (E.contents err.old) (E.contents err.new) (line ∷ []) }
     ensures status { result.cut ≢ Cut.Whole → (result.status ≡ 2) ⊎ (result.status ≡ 1) }
     ensures ended { IsEndedBy result.cut (R.faults input.old) (R.faults input.new) (W.faults out.old) (W.faults out.new) (F.faults files.old) (F.faults files.new) }
     ensures honest { F.honest files.new ≡ F.honest files.old }
@@ -323,6 +352,19 @@ pub fn buildozer<S: AsStr, R: Source, W: Sink, E: Sink, F: Files>(
 
     // Words that ask for nothing leave the input, the output and the files as they were.
     ensures unread { LineGivesNothing (line_of (map S.text words.now)) → (input.new ≡ input.old) × (out.new ≡ out.old) × (files.new ≡ files.old) }
+
+    // A run of status 1 that no port cut tells by one line why, with journals as without: of operands the first one that is refused.
+    ensures usage { result.status ≡ 1 → result.cut ≡ Cut.Whole → (line : List ℕ)
+        × LineTells (F.honest files.old) (record { folder = F.folder files.old; known = R.remaining input.old }) (line_of (map S.text words.now)) line
+        × Tells (E.faults err.old) (E.faults err.new) (E.contents err.old) (E.contents err.new) (line ∷ []) }
+
+    // A run of status 1 leaves the output as it was. So it leaves the input, unless lines stand there, and the files, unless lines
+    // stand in one; then these are no more than read, and a folder of honest ones is the same at each moment.
+    ensures unused { result.status ≡ 1 → out.new ≡ out.old }
+    ensures unused_input { result.status ≡ 1 → TakesNoInput (map S.text words.now) → input.new ≡ input.old }
+    ensures unused_files { result.status ≡ 1 → TakesNoFile (map S.text words.now) → files.new ≡ files.old }
+    ensures unused_time { result.status ≡ 1 → F.honest files.old ≡ true → Elapses (F.moment files.old) (F.moment files.new) (F.since files.old) (F.since files.new)
+        (λ now. now ≡ F.folder files.old) }
 
     // Without a file of lines each run that is cut has status 2.
     ensures status { result.cut ≢ Cut.Whole → (result.status ≡ 2) ⊎ ((result.status ≡ 1) × TakesScript (map S.text words.now)) }

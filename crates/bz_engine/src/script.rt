@@ -1,6 +1,7 @@
 //! Files of lines.
 ghost use Rattle.std.specs.Prelude.{◌≡◌, ◌≢◌, ◌⊎◌, ℕ, [], ◌∷◌, codes, Some, None, true, IfOk, IfErr};
 ghost use Rattle.std.specs.FinMap.{get};
+ghost use Rattle.bz_files.specs.Folder.{Elapses};
 ghost use Rattle.bz_ports.specs.Outputs.{Tells, Counts};
 ghost use Rattle.bz_ports.specs.Told.{named_line};
 ghost use Rattle.bz_engine.specs.Cuts.{IsCutBy};
@@ -75,6 +76,8 @@ fn read_file<F: Files, E: Sink>(
         × Tells (E.faults err.old) (E.faults err.new) (E.contents err.old) (E.contents err.new) (named_line name.now (codes "cannot open") ∷ []))
         × (exit.cut ≢ Cut.Write) × ((exit.status ≡ 1) ⊎ (exit.status ≡ 2)) × ((reads : ℕ) → IsCutBy exit.cut reads reads (F.faults files.old) (F.faults files.new))) }
     ensures folder { F.honest files.old ≡ true → F.folder files.new ≡ F.folder files.old }
+    ensures time { F.honest files.old ≡ true → Elapses (F.moment files.old) (F.moment files.new) (F.since files.old) (F.since files.new)
+        (λ now. now ≡ F.folder files.old) }
     ensures counts { Counts (F.faults files.old) (F.faults files.new) }
     ensures honest { F.honest files.new ≡ F.honest files.old }
 {
@@ -105,7 +108,11 @@ pub(crate) fn read_bytes<R: Source, F: Files, E: Sink>(
         × Tells (E.faults err.old) (E.faults err.new) (E.contents err.old) (E.contents err.new) (named_line (told_name name.now) (codes "cannot open") ∷ []))
         × ((exit.status ≡ 1) ⊎ (exit.status ≡ 2)) × (exit.cut ≢ Cut.Write)
         × IsCutBy exit.cut (R.faults input.old) (R.faults input.new) (F.faults files.old) (F.faults files.new)) }
+    ensures input { name.now ≢ input_package → input.new ≡ input.old }
+    ensures files { name.now ≡ input_package → files.new ≡ files.old }
     ensures folder { F.honest files.old ≡ true → F.folder files.new ≡ F.folder files.old }
+    ensures time { F.honest files.old ≡ true → Elapses (F.moment files.old) (F.moment files.new) (F.since files.old) (F.since files.new)
+        (λ now. now ≡ F.folder files.old) }
     ensures counts { Counts (F.faults files.old) (F.faults files.new) }
     ensures honest { F.honest files.new ≡ F.honest files.old }
 {

@@ -1,9 +1,12 @@
-use Rattle.std.proofs.Common.{◌≡◌, List, ℕ, map, ap, sym, subst, ◌∙◌, Bor, Ok}
+use Rattle.std.proofs.Common.{◌≡◌, List, ℕ, map, refl, ap, sym, subst, ◌∙◌, Bor, Ok}
+use Rattle.bz_files.specs.Folder.{Folder}
 use Rattle.bz_line.specs.Line.{operands, script}
 use Rattle.bz_line.specs.Shown.{given_in, line_in, line_usage_in}
 use Rattle.bz_engine.specs.Outcome.{GivesNothing, LineGivesNothing}
 use Rattle.bz_engine.specs.Run.{World}
 use Rattle.bz_engine.proofs.Outcomes.{words_refused, words_done, words_plain, words_premise, script_premise}
+use Rattle.bz_engine.proofs.UnusedSteps.{no_time, lines_apart, lines_of_input}
+use Rattle.bz_engine.proofs.UsageSteps.{words_told, given_told}
 use Rattle.bz_engine.proofs.engine.buildozer.Goals as goal
 
 pub returns-in-Err-clause-whole : goal.returns-in-Err-clause-whole
@@ -72,3 +75,52 @@ returns-clause-unread g c nothing =
     let same : line.given ≡ script c.in-Script.name.now = ap given_in c.in-Script.is in
     let found : LineGivesNothing (Ok line) = subst LineGivesNothing c.in-Ok.ensures.ok nothing in
     absurd (subst (GivesNothing line.options) same found)
+
+pub returns-in-Err-clause-usage : goal.returns-in-Err-clause-usage
+returns-in-Err-clause-usage g c is is_whole =
+    let told = c.unlined.ensures.told is in
+    let world : World = record { folder = g.F.Files.folder c.args.files.now; known = g.R.Source.remaining c.args.input.now } in
+    words_told (g.F.Files.honest c.args.files.now) world (map g.S.AsStr.text c.args.words.now) (line_usage_in c.in-Err.fault) told.0 told.1
+    (g.E.Sink.faults c.args.err.now) (g.E.Sink.faults c.unlined.new.err) (g.E.Sink.contents c.args.err.now) (g.E.Sink.contents c.unlined.new.err)
+    c.in-Err.ensures.err told.2 told.3 told.4
+
+pub returns-in-Operands-clause-usage : goal.returns-in-Operands-clause-usage
+returns-in-Operands-clause-usage g c is is_whole =
+    let line = line_in c.in-Ok.line in
+    let texts = map (λ (s : Bor (List ℕ)). s.now) c.deref.result.now in
+    let same : line.given ≡ operands texts = ap given_in c.in-Operands.is ∙ ap (λ (these : List (Bor (List ℕ))). operands (map (λ (s : Bor (List ℕ)). s.now) these)) (sym c.deref.ensures.value) in
+    let world : World = record { folder = g.F.Files.folder c.args.files.now; known = g.R.Source.remaining c.args.input.now } in
+    given_told (g.F.Files.honest c.args.files.now) world (map g.S.AsStr.text c.args.words.now) line (operands texts) (g.E.Sink.faults c.args.err.now)
+    (g.E.Sink.faults c.run_operands.new.err) (g.E.Sink.contents c.args.err.now) (g.E.Sink.contents c.run_operands.new.err) c.in-Ok.ensures.ok same
+    (c.run_operands.ensures.usage is)
+
+pub returns-clause-usage : goal.returns-clause-usage
+returns-clause-usage g c is is_whole =
+    let line = line_in c.in-Ok.line in
+    let name = c.in-Script.name.now in
+    let same : line.given ≡ script name = ap given_in c.in-Script.is in
+    let world : World = record { folder = g.F.Files.folder c.args.files.now; known = g.R.Source.remaining c.args.input.now } in
+    given_told (g.F.Files.honest c.args.files.now) world (map g.S.AsStr.text c.args.words.now) line (script name) (g.E.Sink.faults c.args.err.now)
+    (g.E.Sink.faults c.run_script.new.err) (g.E.Sink.contents c.args.err.now) (g.E.Sink.contents c.run_script.new.err) c.in-Ok.ensures.ok same
+    (c.run_script.ensures.usage is is_whole)
+
+pub returns-in-Err-clause-unused_time : goal.returns-in-Err-clause-unused_time
+returns-in-Err-clause-unused_time g c is honest =
+    no_time g.F.Files.moment g.F.Files.since c.args.files.now c.args.files.now (λ (now : Folder). now ≡ g.F.Files.folder c.args.files.now) refl
+
+pub returns-in-Operands-clause-unused_time : goal.returns-in-Operands-clause-unused_time
+returns-in-Operands-clause-unused_time g c is honest =
+    no_time g.F.Files.moment g.F.Files.since c.args.files.now c.run_operands.new.files (λ (now : Folder). now ≡ g.F.Files.folder c.args.files.now)
+    (c.run_operands.ensures.unused is).2
+
+pub returns-clause-unused_input : goal.returns-clause-unused_input
+returns-clause-unused_input g c is takes =
+    let line = line_in c.in-Ok.line in
+    c.run_script.ensures.unused_input is
+    (lines_apart (map g.S.AsStr.text c.args.words.now) line c.in-Script.name.now c.in-Ok.ensures.ok (ap given_in c.in-Script.is) takes)
+
+pub returns-clause-unused_files : goal.returns-clause-unused_files
+returns-clause-unused_files g c is takes =
+    let line = line_in c.in-Ok.line in
+    c.run_script.ensures.unused_files is
+    (lines_of_input (map g.S.AsStr.text c.args.words.now) line c.in-Script.name.now c.in-Ok.ensures.ok (ap given_in c.in-Script.is) takes)

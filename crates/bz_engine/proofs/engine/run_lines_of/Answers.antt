@@ -1,8 +1,10 @@
-use Rattle.std.proofs.Common.{◌≡◌, ◌&&◌, Bool, false, map, refl, ap, sym, ◌∙◌, inl}
+use Rattle.std.proofs.Common.{◌≡◌, ◌&&◌, Bool, false, map, refl, ap, sym, ◌∙◌, inl, inr}
 use Rattle.bz_line.specs.Shown.{asked_in}
 use Rattle.bz_engine.specs.Run.{World}
 use Rattle.bz_engine.specs.Steps.{names_input}
+use Rattle.bz_engine.specs.Told.{no_journal_line}
 use Rattle.bz_engine.proofs.Outcomes.{lines_refused, lines_done}
+use Rattle.bz_engine.proofs.UsageSteps.{lines_told}
 use Rattle.bz_engine.proofs.engine.run_lines_of.Goals.{else-of_input-via-then-of_input+else-names_input, else-of_input-via-else-of_input}
 use Rattle.bz_engine.proofs.engine.run_lines_of.Goals as goal
 
@@ -42,3 +44,12 @@ returns-clause-write g c plain honest is_write known before =
           (g.R.Source.remaining c.args.input.now) done.0 neither before done.1,
       done.2,
     )
+
+pub returns-then-names_input-clause-usage : goal.returns-then-names_input-clause-usage
+returns-then-names_input-clause-usage g c is =
+    lines_told c.args.options c.args.of_input c.names_input.result (map asked_in c.args.lines.now) (g.E.Sink.faults c.args.err.now)
+    (g.E.Sink.faults c.tell_input.new.err) (g.E.Sink.contents c.args.err.now) (g.E.Sink.contents c.tell_input.new.err)
+    c.if-of_input.true c.if-names_input.true c.names_input.ensures c.tell_input.ensures
+
+pub returns-clause-usage : goal.returns-clause-usage
+returns-clause-usage g c is = let told = c.perform_lines.ensures.usage is in (no_journal_line, inr (told.0, told.1, refl), told.2)

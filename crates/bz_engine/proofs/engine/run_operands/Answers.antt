@@ -7,6 +7,7 @@ use Rattle.bz_line.specs.Shown.{asked_in, usage_in}
 use Rattle.bz_line.specs.declared.asked.Asked.{Asked}
 use Rattle.bz_engine.specs.Run.{World}
 use Rattle.bz_engine.proofs.Outcomes.{names_given, operands_refused, operands_done, operands_premise}
+use Rattle.bz_engine.proofs.UsageSteps.{operands_told, operands_named}
 use Rattle.bz_engine.proofs.engine.run_operands.Goals as goal
 
 pub perform_lines-requires : goal.perform_lines-requires
@@ -51,3 +52,17 @@ returns-in-Ok-clause-unread g c nothing = elim nothing [
       let same : lines ≡ asked_in c.in-Ok.asked ∷ [] = ap (map asked_in) c.from_ref.ensures.value in
       c.perform_lines.ensures.unread named.0 (names_given (map (λ (s : Bor (List ℕ)). s.now) c.args.operands.now) (asked_in c.in-Ok.asked) lines c.in-Ok.ensures.ok same named.1)
 ]
+
+pub returns-in-Err-clause-usage : goal.returns-in-Err-clause-usage
+returns-in-Err-clause-usage g c is =
+    let told = c.unasked.ensures.told is in
+    operands_told c.args.options (map (λ (s : Bor (List ℕ)). s.now) c.args.operands.now) (usage_in c.in-Err.fault) told.0 told.1
+    (g.E.Sink.faults c.args.err.now) (g.E.Sink.faults c.unasked.new.err) (g.E.Sink.contents c.args.err.now) (g.E.Sink.contents c.unasked.new.err)
+    c.in-Err.ensures.err told.2 told.3 told.4
+
+pub returns-in-Ok-clause-usage : goal.returns-in-Ok-clause-usage
+returns-in-Ok-clause-usage g c is =
+    let told = c.perform_lines.ensures.usage is in
+    operands_named c.args.options (map (λ (s : Bor (List ℕ)). s.now) c.args.operands.now) (asked_in c.in-Ok.asked) (map asked_in c.from_ref.result.now)
+    (g.E.Sink.faults c.args.err.now) (g.E.Sink.faults c.perform_lines.new.err) (g.E.Sink.contents c.args.err.now) (g.E.Sink.contents c.perform_lines.new.err)
+    c.in-Ok.ensures.ok (ap (map asked_in) c.from_ref.ensures.value) told.0 told.1 told.2

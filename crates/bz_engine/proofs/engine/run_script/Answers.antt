@@ -1,6 +1,13 @@
-use Rattle.std.proofs.Common.{ap, sym, ◌∙◌}
+use Rattle.std.proofs.Common.{◌≡◌, ap, sym, ◌∙◌, refl, codes, None}
+use Rattle.bz_files.specs.Folder.{Folder}
+use Rattle.bz_line.specs.Line.{script}
+use Rattle.bz_ports.specs.Told.{named_line}
+use Rattle.bz_engine.specs.Outcome.{told_name}
 use Rattle.bz_engine.specs.Run.{World}
+use Rattle.bz_engine.specs.Usage.{GivenTells}
 use Rattle.bz_engine.proofs.Outcomes.{stands_from, script_unread, script_done}
+use Rattle.bz_engine.proofs.UnusedSteps.{no_more_time}
+use Rattle.bz_engine.proofs.UsageSteps.{read_told, told_from}
 use Rattle.bz_engine.proofs.engine.run_script.Goals as goal
 
 pub returns-in-Err-clause-whole : goal.returns-in-Err-clause-whole
@@ -36,3 +43,25 @@ returns-clause-write g c plain honest is_write =
     let outcome = script_done c.args.options c.args.name.now c.in-Ok.bytes.items c.deref.result.now (g.F.Files.folder c.args.files.now)
     (g.F.Files.folder c.read_bytes.new.files) known done.0 c.deref.ensures.value still (ok.0 honest) done.1 in
     (done.0, outcome, done.2)
+
+pub returns-in-Err-clause-usage : goal.returns-in-Err-clause-usage
+returns-in-Err-clause-usage g c is is_whole =
+    let told = c.in-Err.ensures.err.0 is_whole in
+    (named_line (told_name c.args.name.now) (codes "cannot open"), (None, told.1, refl), told.2)
+
+pub returns-clause-usage : goal.returns-clause-usage
+returns-clause-usage g c is is_whole =
+    let ok = c.in-Ok.ensures.ok in
+    let world : World = record { folder = g.F.Files.folder c.args.files.now; known = g.R.Source.remaining c.args.input.now } in
+    let honest = g.F.Files.honest c.args.files.now in
+    told_from (GivenTells honest world c.args.options (script c.args.name.now)) (g.E.Sink.faults c.args.err.now) (g.E.Sink.faults c.read_bytes.new.err)
+    (g.E.Sink.faults c.run_text.new.err) (g.E.Sink.contents c.args.err.now) (g.E.Sink.contents c.read_bytes.new.err) (g.E.Sink.contents c.run_text.new.err)
+    (ap g.E.Sink.faults ok.3) (ap g.E.Sink.contents ok.3)
+    (read_told honest world c.args.options c.args.name.now c.in-Ok.bytes.items c.deref.result.now (g.E.Sink.faults c.read_bytes.new.err)
+    (g.E.Sink.faults c.run_text.new.err) (g.E.Sink.contents c.read_bytes.new.err) (g.E.Sink.contents c.run_text.new.err) c.deref.ensures.value ok.0
+    (c.run_text.ensures.usage is))
+
+pub returns-clause-unused_time : goal.returns-clause-unused_time
+returns-clause-unused_time g c is honest =
+    no_more_time g.F.Files.moment g.F.Files.since c.args.files.now c.read_bytes.new.files c.run_text.new.files
+    (λ (now : Folder). now ≡ g.F.Files.folder c.args.files.now) (c.run_text.ensures.unused is).2 (c.read_bytes.ensures.time honest)

@@ -6,6 +6,7 @@ use Rattle.bz_line.specs.Shown.{asked_in, usage_in}
 use Rattle.bz_line.specs.declared.asked.Asked.{Asked}
 use Rattle.bz_engine.specs.Run.{World}
 use Rattle.bz_engine.proofs.Outcomes.{apart, text_invalid, text_refused, text_done}
+use Rattle.bz_engine.proofs.UsageSteps.{text_told, script_told, script_lines_told}
 use Rattle.bz_engine.proofs.engine.run_text.Goals as goal
 
 pub returns-in-Err-clause-whole : goal.returns-in-Err-clause-whole
@@ -49,3 +50,23 @@ returns-in-Err-read_script-clause-whole g c plain honest is_whole known before =
     (usage_in c.in-Err-read_script.fault) told.1 told.2 c.unasked.result.status (g.W.Sink.contents c.args.out.now) (g.E.Sink.faults c.args.err.now)
     (g.E.Sink.faults c.unasked.new.err) (g.E.Sink.contents c.args.err.now) (g.E.Sink.contents c.unasked.new.err)
     c.in-Ok.ensures.cases.0 c.in-Ok.ensures.cases.1 c.in-Err-read_script.ensures.err told.3 c.told_name-in-Err-read_script.ensures told.4 told.0 told.5
+
+pub returns-in-Err-clause-usage : goal.returns-in-Err-clause-usage
+returns-in-Err-clause-usage g c is =
+    text_told c.args.options c.args.name.now c.args.bytes.now c.told_name.result.now (valid_up_to c.in-Err.fault) c.valid_up_to-at.result
+    (g.E.Sink.faults c.args.err.now) (g.E.Sink.faults c.tell_fault.new.err) (g.E.Sink.contents c.args.err.now) (g.E.Sink.contents c.tell_fault.new.err)
+    c.in-Err.ensures.cases.1 c.valid_up_to-at.ensures c.told_name.ensures c.tell_fault.ensures
+
+pub returns-in-Ok-read_script-clause-usage : goal.returns-in-Ok-read_script-clause-usage
+returns-in-Ok-read_script-clause-usage g c is =
+    script_lines_told c.args.options c.args.name.now c.args.bytes.now c.in-Ok.text.now c.eq.result (map asked_in c.in-Ok-read_script.lines.items)
+    (map asked_in c.deref.result.now) (g.E.Sink.faults c.args.err.now) (g.E.Sink.faults c.run_lines_of.new.err) (g.E.Sink.contents c.args.err.now)
+    (g.E.Sink.contents c.run_lines_of.new.err) c.in-Ok.ensures.cases.0 c.in-Ok.ensures.cases.1 c.in-Ok-read_script.ensures.ok
+    (ap (map asked_in) c.deref.ensures.value) c.eq.ensures (c.run_lines_of.ensures.usage is)
+
+pub returns-in-Err-read_script-clause-usage : goal.returns-in-Err-read_script-clause-usage
+returns-in-Err-read_script-clause-usage g c is =
+    let told = c.unasked.ensures.told is in
+    script_told c.args.options c.args.name.now c.args.bytes.now c.in-Ok.text.now c.told_name-in-Err-read_script.result.now (usage_in c.in-Err-read_script.fault)
+    told.0 told.1 (g.E.Sink.faults c.args.err.now) (g.E.Sink.faults c.unasked.new.err) (g.E.Sink.contents c.args.err.now) (g.E.Sink.contents c.unasked.new.err)
+    c.in-Ok.ensures.cases.0 c.in-Ok.ensures.cases.1 c.in-Err-read_script.ensures.err told.2 c.told_name-in-Err-read_script.ensures told.3 told.4
