@@ -14,6 +14,7 @@ pub mod KeepSteps
 pub mod OpenSteps
 pub mod Outcomes
 pub mod Performing
+pub mod ReadSteps
 pub mod RunSteps
 pub mod StepLists
 pub mod UnusedSteps

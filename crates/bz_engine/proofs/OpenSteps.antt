@@ -76,7 +76,7 @@ found_behind true found some none = let e = none in cc
 found_behind false (Some place) some none = let e = none in cc
 found_behind false None some none = some refl
 
-last_is_used : (current : Bytes) (used : List Used) (one : Used) → one.package ≡ current → place_of current (used ++ one ∷ []) ≡ None → ⊥
+pub last_is_used : (current : Bytes) (used : List Used) (one : Used) → one.package ≡ current → place_of current (used ++ one ∷ []) ≡ None → ⊥
 last_is_used current [] one is none = found_here (bytes_eq one.package current) None ((bytes_eq-Decides one.package current).1 is) none
 last_is_used current (first ∷ more) one is none =
     found_behind (bytes_eq first.package current) (place_of current (more ++ one ∷ [])) (last_is_used current more one is) none
@@ -94,7 +94,7 @@ left_behind known remaining used new one added left = λ none.
     left (unused_before input_package used one (subst (λ (all : List Used). place_of input_package all ≡ None) added none))
 
 -- an action changes no package
-place_stays : (current : Bytes) (place : ℕ) (file : Option Opened) (used : List Used) → place_of current (with_file place file used) ≡ place_of current used
+pub place_stays : (current : Bytes) (place : ℕ) (file : Option Opened) (used : List Used) → place_of current (with_file place file used) ≡ place_of current used
 place_stays current place file [] = refl
 place_stays current zero file (one ∷ more) = refl
 place_stays current (suc place) file (one ∷ more) =

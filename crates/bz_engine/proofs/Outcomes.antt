@@ -81,12 +81,15 @@ pub operands_done : (options : Options) (texts : List Bytes) (world : World) (as
 operands_done options texts world asked lines left is same performs =
     inr (asked, is, subst (λ (these : List Asked). Performs options (all_steps these) world left) same performs)
 
+pub operands_of_input : (texts : List Bytes) (asked : Asked) (lines : List Asked) → group_of texts ≡ Ok asked → lines ≡ asked ∷ []
+    → IfOk (group_of texts) (λ asked. AreOfInput (asked ∷ [])) → AreOfInput lines
+operands_of_input texts asked lines is same are =
+    subst AreOfInput (sym same) (subst (λ (it : Result Asked Usage). IfOk it (λ asked. AreOfInput (asked ∷ []))) is are)
+
 pub operands_premise : (honest : Bool) (texts : List Bytes) (asked : Asked) (lines : List Asked) → group_of texts ≡ Ok asked → lines ≡ asked ∷ []
     → (honest ≡ true) ⊎ IfOk (group_of texts) (λ asked. AreOfInput (asked ∷ [])) → (honest ≡ true) ⊎ AreOfInput lines
 operands_premise honest texts asked lines is same (inl is_honest) = inl is_honest
-operands_premise honest texts asked lines is same (inr are) =
-    let these : AreOfInput (asked ∷ []) = subst (λ (it : Result Asked Usage). IfOk it (λ asked. AreOfInput (asked ∷ []))) is are in
-    inr (subst AreOfInput (sym same) these)
+operands_premise honest texts asked lines is same (inr are) = inr (operands_of_input texts asked lines is same are)
 
 -- rules of standard input that operands name
 pub names_given : (texts : List Bytes) (asked : Asked) (lines : List Asked) → group_of texts ≡ Ok asked → lines ≡ asked ∷ []
@@ -188,12 +191,14 @@ words_done words line given world left is same outcome =
     let whole : LineOutcome (Ok line) world left = subst (λ (it : Given). GivenOutcome line.options it world left) (sym same) outcome in
     subst (λ (it : Result Line LineUsage). LineOutcome it world left) (sym is) whole
 
+pub words_of_input : (words : List Bytes) (line : Line) (given : Given) → line_of words ≡ Ok line → line.given ≡ given → NamesNoFile words → IsOfInput given
+words_of_input words line given is same none =
+    subst IsOfInput same (subst (λ (it : Result Line LineUsage). IfOk it (λ line. IsOfInput line.given)) is none)
+
 pub words_premise : (honest : Bool) (words : List Bytes) (line : Line) (given : Given) → line_of words ≡ Ok line → line.given ≡ given
     → (honest ≡ true) ⊎ NamesNoFile words → (honest ≡ true) ⊎ IsOfInput given
 words_premise honest words line given is same (inl is_honest) = inl is_honest
-words_premise honest words line given is same (inr none) =
-    let here : IsOfInput line.given = subst (λ (it : Result Line LineUsage). IfOk it (λ line. IsOfInput line.given)) is none in
-    inr (subst IsOfInput same here)
+words_premise honest words line given is same (inr none) = inr (words_of_input words line given is same none)
 
 pub words_plain : (words : List Bytes) (line : Line) → line_of words ≡ Ok line → KeepsNoJournal words → line.options.journal ≡ false
 words_plain words line is plain = subst (λ (it : Result Line LineUsage). IfOk it (λ line. line.options.journal ≡ false)) is plain

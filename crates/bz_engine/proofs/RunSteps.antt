@@ -9,9 +9,10 @@ use Rattle.bz_ports.specs.declared.exit.Cut.{Cut}
 use Rattle.bz_ports.specs.declared.exit.Cut.TheVariants as c
 use Rattle.bz_ports.proofs.Outputs.{counts_more, tells_more}
 use Rattle.bz_ports.proofs.Written.{left-cons}
-use Rattle.bz_engine.specs.Cuts.{IsCutBy, IsLeft}
+use Rattle.bz_engine.specs.Cuts.{IsCutBy, IsLeft, ReadsOnce}
 use Rattle.bz_ports.specs.Exits.{first_cut}
 use Rattle.bz_engine.proofs.CutSteps.{cut_more, whole_before, whole_behind}
+use Rattle.bz_engine.proofs.ReadSteps.{reads_none, reads_more}
 use Rattle.bz_engine.specs.Run.{World, State, Does, Runs, ends}
 use Rattle.bz_engine.specs.Steps.{Step}
 
@@ -89,6 +90,7 @@ pub record Part (Premise : Type 0) (keep_going : Bool) (steps left : List Step) 
   pub reads : Counts old.reads new.reads
   pub counts : Counts old.files new.files
   pub honest : new.honest ≡ old.honest
+  pub input : Premise → ReadsOnce why old.state new.state
 
 -- steps are done
 pub record Done (Premise : Type 0) (keep_going : Bool) (steps : List Step) (why : Cut) (old new : Spot) : Type 0 where
@@ -98,6 +100,7 @@ pub record Done (Premise : Type 0) (keep_going : Bool) (steps : List Step) (why 
   pub reads : Counts old.reads new.reads
   pub counts : Counts old.files new.files
   pub honest : new.honest ≡ old.honest
+  pub input : Premise → ReadsOnce why old.state new.state
 
 counts_same : (count : ℕ) → Counts count count
 counts_same count = record { grows = omega arith; rises = inl refl }
@@ -110,6 +113,7 @@ part_none Premise keep_going steps spot = record {
   reads = counts_same spot.reads;
   counts = counts_same spot.files;
   honest = refl;
+  input = λ is. reads_none spot.state;
 }
 
 passes_more : (folder folder' : Folder) (keep_going : Bool) (steps left part rest : List Step) (old mid new : Spot) → left ≡ part ++ rest
@@ -143,6 +147,7 @@ part_more Premise Now keep_going steps left part rest cut later old mid new impl
   reads = counts_more old.reads mid.reads new.reads before.reads then.reads;
   counts = counts_more old.files mid.files new.files before.counts then.counts;
   honest = then.honest ∙ before.honest;
+  input = λ is. reads_more cut later old.state mid.state new.state (before.input is) (then.input (implies is));
 }
 
 passes_all : (folder : Folder) (keep_going : Bool) (steps left : List Step) (old new : Spot)
@@ -167,6 +172,7 @@ part_done Premise keep_going steps left cut old new none part = record {
   reads = part.reads;
   counts = part.counts;
   honest = part.honest;
+  input = part.input;
 }
 
 -- Nothing is left.

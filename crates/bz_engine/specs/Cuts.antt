@@ -1,10 +1,11 @@
 -- Why the steps of a run are cut, and what is left of standard input.
-use Rattle.std.specs.Prelude.{◌≡◌, ℕ, List, Option, None}
+use Rattle.std.specs.Prelude.{◌≡◌, ◌≢◌, ◌⊎◌, ◌++◌, ℕ, List, [], ◌∷◌, Option, None}
 use Rattle.bz_value.specs.Gaps.{Bytes}
 use Rattle.bz_ports.specs.Faults.{Rises}
 use Rattle.bz_ports.specs.declared.exit.Cut.{Cut}
 use Rattle.bz_ports.specs.declared.exit.Cut.TheVariants as c
 use Rattle.bz_workspace.specs.Packages.{Used, place_of}
+use Rattle.bz_engine.specs.Run.{State}
 use Rattle.bz_engine.specs.Steps.{input_package}
 
 -- Steps are cut where a count of faults rose; where none is, none has risen. (Standard input, then files, each before and after.)
@@ -27,3 +28,32 @@ IsEndedBy c.Memory reads reads' writes writes' files files' = Unit {0}
 IsEndedBy c.Read reads reads' writes writes' files files' = Rises reads reads'
 IsEndedBy c.Write reads reads' writes writes' files files' = Rises writes writes'
 IsEndedBy c.Files reads reads' writes writes' files files' = Rises files files'
+
+-- ---- standard input that can't be read
+
+-- None of these packages has an open file.
+abbrev pub AreClosed : List Used → Type 0
+AreClosed [] = Unit {0}
+AreClosed (used ∷ more) = (used.file ≡ None) × AreClosed more
+
+-- Nothing was printed, and there is no text that can be shown.
+abbrev pub ShowsNothing : State → Type 0
+ShowsNothing state = (state.printed ≡ []) × AreClosed state.used
+
+-- Package `-` was used.
+abbrev pub UsesInput : List Used → Type 0
+UsesInput used = place_of input_package used ≢ None
+
+-- Package `-` is opened: where it was used before nothing is read; where it can't be read it has no file. (Why that is cut, the number of
+-- the open file, and the packages before and after.)
+pub record OpensInput (why : Cut) (place : Option ℕ) (before after : List Used) : Type 0 where
+  pub again : UsesInput before → (why ≡ c.Whole) × (after ≡ before) × (AreClosed before → place ≡ None)
+  pub failed : why ≡ c.Read → (place ≡ None) × (after ≡ before ++ record { «package» = input_package; file = None } ∷ [])
+  pub whole : why ≡ c.Whole → UsesInput after
+
+-- Steps on rules of standard input read it once at most; where it can't be read, nothing is there to be shown at the end.
+pub record ReadsOnce (why : Cut) (before after : State) : Type 0 where
+  pub failed : ShowsNothing before → why ≡ c.Read → ShowsNothing after × UsesInput after.used
+  pub again : UsesInput before.used → why ≢ c.Read
+  pub still : UsesInput before.used → ShowsNothing before → ShowsNothing after × UsesInput after.used
+  pub whole : why ≡ c.Whole → (after ≡ before) ⊎ UsesInput after.used

@@ -8,7 +8,7 @@ ghost use Rattle.bz_line.specs.Shown.{asking_in};
 ghost use Rattle.bz_ports.specs.Outputs.{Tells, Counts};
 ghost use Rattle.bz_workspace.specs.Packages.{Opened, file_at};
 ghost use Rattle.bz_workspace.specs.Shown.{used_in};
-ghost use Rattle.bz_engine.specs.Cuts.{IsCutBy, IsLeft};
+ghost use Rattle.bz_engine.specs.Cuts.{IsCutBy, IsLeft, ReadsOnce};
 ghost use Rattle.bz_engine.specs.Run.{Answers, Does, printed_in, answered, told_of};
 ghost use Rattle.bz_engine.specs.Shown.{state_in};
 ghost use Rattle.bz_engine.specs.Steps.{input_package, step_of};
@@ -179,6 +179,7 @@ pub(crate) fn do_step<R: Source, F: Files, E: Sink>(
         × IsLeft known run.new.workspace (R.remaining input.new)
         × Tells (E.faults err.old) (E.faults err.new) (E.contents err.old) (E.contents err.new) lines }
     ensures folder { (F.honest files.old ≡ true) ⊎ (target.now.«package» ≡ input_package) → F.folder files.new ≡ F.folder files.old }
+    ensures input { target.now.«package» ≡ input_package → ReadsOnce result (state_in run.old) (state_in run.new) }
     ensures cut { IsCutBy result (R.faults input.old) (R.faults input.new) (F.faults files.old) (F.faults files.new) }
     ensures reads { Counts (R.faults input.old) (R.faults input.new) }
     ensures counts { Counts (F.faults files.old) (F.faults files.new) }

@@ -111,6 +111,7 @@ fn print_all<W: Sink, E: Sink>(
     ensures err { IfErr result (λ cut. ((cut ≡ Cut.Memory) × (out.new ≡ out.old)) ⊎ ((cut ≡ Cut.Write)
         × AppendsSome (W.contents out.old) (W.contents out.new) (printed.items ++ texts_out shown to_stdout (map used_in packages.now))
         × Rises (W.faults out.old) (W.faults out.new))) }
+    ensures output { AppendsSome (W.contents out.old) (W.contents out.new) (printed.items ++ texts_out shown to_stdout (map used_in packages.now)) }
 {
     let mut output = printed;
     let Ok(changed) = put_texts(packages, shown, to_stdout, &mut output) else {
@@ -278,6 +279,7 @@ fn leave<W: Sink, F: Files, E: Sink>(
     ensures write { result.cut ≡ Cut.Write → cut ≢ Cut.Write → (cut ≡ Cut.Whole)
         × AppendsSome (W.contents out.old) (W.contents out.new) (printed.items ++ texts_out shown options.to_stdout (map used_in packages.now))
         × Rises (W.faults out.old) (W.faults out.new) }
+    ensures output { AppendsSome (W.contents out.old) (W.contents out.new) (printed.items ++ texts_out shown options.to_stdout (map used_in packages.now)) }
     ensures cause { (result.cut ≡ cut) ⊎ ((cut ≡ Cut.Whole) × ((result.cut ≡ Cut.Memory) ⊎ (result.cut ≡ Cut.Write)
         ⊎ ((result.cut ≡ Cut.Files) × Rises (F.faults files.old) (F.faults files.new)))) }
     ensures counts { Counts (F.faults files.old) (F.faults files.new) }
@@ -316,6 +318,7 @@ pub(crate) fn finish<W: Sink, F: Files, E: Sink>(
     ensures write { result.cut ≡ Cut.Write → cut ≢ Cut.Write → (cut ≡ Cut.Whole)
         × AppendsSome (W.contents out.old) (W.contents out.new) ((state_in run).printed ++ texts_out shown options.to_stdout (state_in run).used)
         × Rises (W.faults out.old) (W.faults out.new) }
+    ensures output { AppendsSome (W.contents out.old) (W.contents out.new) ((state_in run).printed ++ texts_out shown options.to_stdout (state_in run).used) }
     ensures cause { (result.cut ≡ cut) ⊎ ((cut ≡ Cut.Whole) × ((result.cut ≡ Cut.Memory) ⊎ (result.cut ≡ Cut.Write)
         ⊎ ((result.cut ≡ Cut.Files) × Rises (F.faults files.old) (F.faults files.new)))) }
     ensures counts { Counts (F.faults files.old) (F.faults files.new) }

@@ -1,6 +1,7 @@
 //! The program buildozer over any reader, writers and files.
 ghost use Rattle.std.specs.Prelude.{◌≡◌, ◌≢◌, ◌⊎◌, ◌∷◌, [], List, ℕ, Option, true, false, map, IfOk, IsErr, Some};
 ghost use Rattle.std.specs.List.{All};
+ghost use Rattle.std.specs.Io.KnownBytes.{Appends};
 ghost use Rattle.bz_files.specs.Folder.{Elapses};
 ghost use Rattle.bz_line.specs.Asked.{Usage, group_of};
 ghost use Rattle.bz_line.specs.Line.{LineUsage, line_of};
@@ -93,6 +94,7 @@ fn perform<R: Source, W: Sink, E: Sink, F: Files>(
     ensures write { (F.honest files.old ≡ true) ⊎ AreOfInput (map asked_in lines.now) → result.cut ≡ Cut.Write → (left : Left)
         × Performs options (all_steps (map asked_in lines.now)) (record { folder = F.folder files.old; known = R.remaining input.old }) left
         × AppendsSome (W.contents out.old) (W.contents out.new) left.output }
+    ensures read { AreOfInput (map asked_in lines.now) → result.cut ≡ Cut.Read → Appends (W.contents out.old) (W.contents out.new) [] }
     ensures status { result.cut ≢ Cut.Whole → result.status ≡ 2 }
     ensures used { result.status ≢ 1 }
     ensures ended { IsEndedBy result.cut (R.faults input.old) (R.faults input.new) (W.faults out.old) (W.faults out.new) (F.faults files.old) (F.faults files.new) }
@@ -134,6 +136,7 @@ fn perform_kept<W: Sink, E: Sink, F: Files>(
     ensures unused { result.status ≡ 1 → (out.new ≡ out.old) × (files.new ≡ files.old) }
     ensures usage { result.status ≡ 1 → (names_input (map asked_in lines.now) ≡ true)
         × Tells (E.faults err.old) (E.faults err.new) (E.contents err.old) (E.contents err.new) (no_journal_line ∷ []) }
+    ensures read { result.cut ≢ Cut.Read }
     ensures status { result.cut ≢ Cut.Whole → result.status ≡ 2 }
     ensures ended { (reads : ℕ) → IsEndedBy result.cut reads reads (W.faults out.old) (W.faults out.new) (F.faults files.old) (F.faults files.new) }
     ensures honest { F.honest files.new ≡ F.honest files.old }
@@ -168,6 +171,7 @@ fn perform_lines<R: Source, W: Sink, E: Sink, F: Files>(
     ensures unused { result.status ≡ 1 → (input.new ≡ input.old) × (out.new ≡ out.old) × (files.new ≡ files.old) }
     ensures usage { result.status ≡ 1 → (options.journal ≡ true) × (names_input (map asked_in lines.now) ≡ true)
         × Tells (E.faults err.old) (E.faults err.new) (E.contents err.old) (E.contents err.new) (no_journal_line ∷ []) }
+    ensures read { AreOfInput (map asked_in lines.now) → result.cut ≡ Cut.Read → Appends (W.contents out.old) (W.contents out.new) [] }
     ensures status { result.cut ≢ Cut.Whole → result.status ≡ 2 }
     ensures ended { IsEndedBy result.cut (R.faults input.old) (R.faults input.new) (W.faults out.old) (W.faults out.new) (F.faults files.old) (F.faults files.new) }
     ensures honest { F.honest files.new ≡ F.honest files.old }
@@ -198,6 +202,7 @@ fn run_operands<R: Source, W: Sink, E: Sink, F: Files>(
     ensures unused { result.status ≡ 1 → (input.new ≡ input.old) × (out.new ≡ out.old) × (files.new ≡ files.old) }
     ensures usage { result.status ≡ 1 → (line : List ℕ) × OperandsTell options (map (λ s. s.now) operands.now) line
         × Tells (E.faults err.old) (E.faults err.new) (E.contents err.old) (E.contents err.new) (line ∷ []) }
+    ensures read { IfOk (group_of (map (λ s. s.now) operands.now)) (λ asked. AreOfInput (asked ∷ [])) → result.cut ≡ Cut.Read → Appends (W.contents out.old) (W.contents out.new) [] }
     ensures status { result.cut ≢ Cut.Whole → result.status ≡ 2 }
     ensures ended { IsEndedBy result.cut (R.faults input.old) (R.faults input.new) (W.faults out.old) (W.faults out.new) (F.faults files.old) (F.faults files.new) }
     ensures honest { F.honest files.new ≡ F.honest files.old }
@@ -365,6 +370,9 @@ pub fn buildozer<S: AsStr, R: Source, W: Sink, E: Sink, F: Files>(
     ensures unused_files { result.status ≡ 1 → TakesNoFile (map S.text words.now) → files.new ≡ files.old }
     ensures unused_time { result.status ≡ 1 → F.honest files.old ≡ true → Elapses (F.moment files.old) (F.moment files.new) (F.since files.old) (F.since files.new)
         (λ now. now ≡ F.folder files.old) }
+
+    // Where standard input can't be read, and no file and no package but it is named, nothing is written to standard output.
+    ensures read { NamesNoFile (map S.text words.now) → result.cut ≡ Cut.Read → Appends (W.contents out.old) (W.contents out.new) [] }
 
     // Without a file of lines each run that is cut has status 2.
     ensures status { result.cut ≢ Cut.Whole → (result.status ≡ 2) ⊎ ((result.status ≡ 1) × TakesScript (map S.text words.now)) }

@@ -4,7 +4,7 @@ ghost use Rattle.bz_ports.specs.Outputs.{Tells, Counts};
 ghost use Rattle.bz_ports.specs.Told.{stdin};
 ghost use Rattle.bz_workspace.specs.Opens.{Opens};
 ghost use Rattle.bz_workspace.specs.Packages.{Opened, place_of, file_at};
-ghost use Rattle.bz_engine.specs.Cuts.{IsCutBy, IsLeft};
+ghost use Rattle.bz_engine.specs.Cuts.{IsCutBy, IsLeft, OpensInput};
 ghost use Rattle.bz_engine.specs.Run.{Uses};
 ghost use Rattle.bz_ports.specs.Ports.{IsInput};
 ghost use Rattle.bz_engine.specs.Steps.{input_package};
@@ -38,6 +38,7 @@ fn open_input<R: Source, E: Sink>(
         × (result.place ≡ option_map (λ _. length workspace.old) file)
         × Tells (E.faults err.old) (E.faults err.new) (E.contents err.old) (E.contents err.new) lines }
     ensures there { IfSome result.place (λ at. IsSome (file_at at workspace.new)) }
+    ensures failed { result.cut ≡ Cut.Read → (result.place ≡ None) × (workspace.new ≡ workspace.old ++ record { «package» = input_package; file = None } ∷ []) }
     ensures cut { (files : ℕ) → IsCutBy result.cut (R.faults input.old) (R.faults input.new) files files }
     ensures reads { Counts (R.faults input.old) (R.faults input.new) }
 {
@@ -76,6 +77,7 @@ pub(crate) fn open_package<R: Source, F: Files, E: Sink>(
         × Tells (E.faults err.old) (E.faults err.new) (E.contents err.old) (E.contents err.new) lines }
     ensures there { IfSome result.place (λ at. IsSome (file_at at workspace.new)) }
     ensures folder { (F.honest files.old ≡ true) ⊎ («package».now ≡ input_package) → F.folder files.new ≡ F.folder files.old }
+    ensures input { «package».now ≡ input_package → OpensInput result.cut result.place workspace.old workspace.new }
     ensures cut { IsCutBy result.cut (R.faults input.old) (R.faults input.new) (F.faults files.old) (F.faults files.new) }
     ensures reads { Counts (R.faults input.old) (R.faults input.new) }
     ensures counts { Counts (F.faults files.old) (F.faults files.new) }

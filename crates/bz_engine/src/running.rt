@@ -4,7 +4,7 @@ ghost use Rattle.std.specs.List.{All};
 ghost use Rattle.bz_line.specs.Paths.{HasPath};
 ghost use Rattle.bz_line.specs.Shown.{asked_in, asking_in};
 ghost use Rattle.bz_ports.specs.Outputs.{Tells, Counts};
-ghost use Rattle.bz_engine.specs.Cuts.{IsCutBy, IsLeft};
+ghost use Rattle.bz_engine.specs.Cuts.{IsCutBy, IsLeft, ReadsOnce};
 ghost use Rattle.bz_engine.specs.Outcome.{AreOfInput};
 ghost use Rattle.bz_engine.specs.Run.{Runs};
 ghost use Rattle.bz_engine.specs.Shown.{state_in};
@@ -37,6 +37,7 @@ fn run_target<R: Source, F: Files, E: Sink>(
         × IsLeft known run.new.workspace (R.remaining input.new)
         × Tells (E.faults err.old) (E.faults err.new) (E.contents err.old) (E.contents err.new) lines }
     ensures folder { (F.honest files.old ≡ true) ⊎ (target.now.«package» ≡ input_package) → F.folder files.new ≡ F.folder files.old }
+    ensures input { target.now.«package» ≡ input_package → ReadsOnce result (state_in run.old) (state_in run.new) }
     ensures cut { IsCutBy result (R.faults input.old) (R.faults input.new) (F.faults files.old) (F.faults files.new) }
     ensures reads { Counts (R.faults input.old) (R.faults input.new) }
     ensures counts { Counts (F.faults files.old) (F.faults files.new) }
@@ -71,6 +72,7 @@ pub(crate) fn run_line<R: Source, F: Files, E: Sink>(
         × Tells (E.faults err.old) (E.faults err.new) (E.contents err.old) (E.contents err.new) lines }
     ensures folder { (F.honest files.old ≡ true) ⊎ All (λ target. target.«package» ≡ input_package) line.now.targets.items
         → F.folder files.new ≡ F.folder files.old }
+    ensures input { All (λ target. target.«package» ≡ input_package) line.now.targets.items → ReadsOnce result (state_in run.old) (state_in run.new) }
     ensures cut { IsCutBy result (R.faults input.old) (R.faults input.new) (F.faults files.old) (F.faults files.new) }
     ensures reads { Counts (R.faults input.old) (R.faults input.new) }
     ensures counts { Counts (F.faults files.old) (F.faults files.new) }
@@ -109,6 +111,7 @@ pub(crate) fn run_lines<R: Source, F: Files, E: Sink>(
         × Runs (record { folder = F.folder files.old; known = known }) keep_going (all_steps (map asked_in lines.now)) (state_in run.old) told (state_in run.new)
         × Tells (E.faults err.old) (E.faults err.new) (E.contents err.old) (E.contents err.new) told }
     ensures folder { (F.honest files.old ≡ true) ⊎ AreOfInput (map asked_in lines.now) → F.folder files.new ≡ F.folder files.old }
+    ensures input { AreOfInput (map asked_in lines.now) → ReadsOnce result (state_in run.old) (state_in run.new) }
     ensures cut { IsCutBy result (R.faults input.old) (R.faults input.new) (F.faults files.old) (F.faults files.new) }
     ensures reads { Counts (R.faults input.old) (R.faults input.new) }
     ensures counts { Counts (F.faults files.old) (F.faults files.new) }

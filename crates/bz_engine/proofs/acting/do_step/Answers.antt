@@ -1,4 +1,4 @@
-use Rattle.std.proofs.Common.{◌≡◌, ◌++◌, true}
+use Rattle.std.proofs.Common.{◌≡◌, ◌∙◌, ◌++◌, true, refl}
 use Rattle.bz_line.specs.Shown.{asking_in}
 use Rattle.bz_ports.proofs.Outputs.{tells_more}
 use Rattle.bz_workspace.specs.Packages.{file_at}
@@ -7,6 +7,7 @@ use Rattle.bz_engine.specs.Steps.{input_package, step_of}
 use Rattle.bz_engine.proofs.CutSteps.{both_whole, by_name}
 use Rattle.bz_engine.proofs.DoSteps.{done_there, done_nowhere}
 use Rattle.bz_engine.proofs.OpenSteps.{left_after}
+use Rattle.bz_engine.proofs.ReadSteps.{step_there, step_nowhere}
 use Rattle.bz_engine.proofs.acting.do_step.Goals as goal
 
 pub returns-in-Some-clause-does : goal.returns-in-Some-clause-does
@@ -45,3 +46,17 @@ returns-in-None-clause-does g c = λ can whole known left.
       opened.4,
       opened.5,
     )
+
+pub returns-in-Some-clause-input : goal.returns-in-Some-clause-input
+returns-in-Some-clause-input g c = λ is.
+    let opening = c.open_package-opening in
+    step_there (step_of c.args.target.now (asking_in c.args.asking.now)) opening.result.cut c.act_on.result c.first_cut.result opening.result.place
+    c.in-Some.place c.in-Some.place (state_in c.args.run.now) opening.new.workspace (state_in c.act_on.new.run)
+    (opening.ensures.input (c.package_of-package.ensures ∙ is)) c.in-Some.is c.first_cut.ensures c.act_on.ensures.kinds
+    (λ whole. let done = c.act_on.ensures.whole whole in (done.0, done.1))
+
+pub returns-in-None-clause-input : goal.returns-in-None-clause-input
+returns-in-None-clause-input g c = λ is.
+    let opening = c.open_package-opening in
+    step_nowhere opening.result.cut opening.result.place (state_in c.args.run.now) opening.new.workspace
+    (record (state_in c.args.run.now) { used = opening.new.workspace; failed = true }) (opening.ensures.input (c.package_of-package.ensures ∙ is)) refl

@@ -2,9 +2,10 @@ use Rattle.std.proofs.Common.{◌≡◌, List, ℕ, map, refl, ap, sym, subst, �
 use Rattle.bz_files.specs.Folder.{Folder}
 use Rattle.bz_line.specs.Line.{operands, script}
 use Rattle.bz_line.specs.Shown.{given_in, line_in, line_usage_in}
+use Rattle.bz_ports.proofs.Outputs.{appends_nothing}
 use Rattle.bz_engine.specs.Outcome.{GivesNothing, LineGivesNothing}
 use Rattle.bz_engine.specs.Run.{World}
-use Rattle.bz_engine.proofs.Outcomes.{words_refused, words_done, words_plain, words_premise, script_premise}
+use Rattle.bz_engine.proofs.Outcomes.{words_refused, words_done, words_plain, words_premise, words_of_input, script_premise}
 use Rattle.bz_engine.proofs.UnusedSteps.{no_time, lines_apart, lines_of_input}
 use Rattle.bz_engine.proofs.UsageSteps.{words_told, given_told}
 use Rattle.bz_engine.proofs.engine.buildozer.Goals as goal
@@ -124,3 +125,18 @@ returns-clause-unused_files g c is takes =
     let line = line_in c.in-Ok.line in
     c.run_script.ensures.unused_files is
     (lines_of_input (map g.S.AsStr.text c.args.words.now) line c.in-Script.name.now c.in-Ok.ensures.ok (ap given_in c.in-Script.is) takes)
+
+pub returns-in-Err-clause-read : goal.returns-in-Err-clause-read
+returns-in-Err-clause-read g c none read = appends_nothing (g.W.Sink.contents c.args.out.now)
+
+pub returns-in-Operands-clause-read : goal.returns-in-Operands-clause-read
+returns-in-Operands-clause-read g c none read =
+    let line = line_in c.in-Ok.line in
+    let texts = map (λ (s : Bor (List ℕ)). s.now) c.deref.result.now in
+    let same : line.given ≡ operands texts = ap given_in c.in-Operands.is ∙ ap (λ (these : List (Bor (List ℕ))). operands (map (λ (s : Bor (List ℕ)). s.now) these)) (sym c.deref.ensures.value) in
+    c.run_operands.ensures.read (words_of_input (map g.S.AsStr.text c.args.words.now) line (operands texts) c.in-Ok.ensures.ok same none) read
+
+pub returns-clause-read : goal.returns-clause-read
+returns-clause-read g c none read =
+    let line = line_in c.in-Ok.line in
+    absurd (words_of_input (map g.S.AsStr.text c.args.words.now) line (script c.in-Script.name.now) c.in-Ok.ensures.ok (ap given_in c.in-Script.is) none)

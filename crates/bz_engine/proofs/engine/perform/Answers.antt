@@ -4,6 +4,7 @@ use Rattle.bz_engine.specs.Run.{World}
 use Rattle.bz_engine.specs.Shown.{state_in}
 use Rattle.bz_engine.specs.Steps.{all_steps}
 use Rattle.bz_engine.proofs.Performing.{performed, broken_off, honest_still, uncut}
+use Rattle.bz_engine.proofs.ReadSteps.{nothing_left, read_before}
 use Rattle.bz_engine.proofs.engine.perform.Goals as goal
 
 -- src/engine.rt:75:1
@@ -35,3 +36,9 @@ returns-clause-write g c premise is_write =
     let ran = c.run_lines-cut.ensures.runs premise ended.0 (g.R.Source.remaining c.args.input.now) (λ _. refl) in
     broken_off c.args.options (all_steps lines) world (state_in c.begun-run.result) ran.0 (state_in c.run_lines-cut.new.run) c.shows_input.result
     (g.W.Sink.contents c.args.out.now) (g.W.Sink.contents c.finish.new.out) c.begun-run.ensures ran.1 c.shows_input.ensures ended.1
+
+pub returns-clause-read : goal.returns-clause-read
+returns-clause-read g c of_input is_read =
+    nothing_left (state_in c.begun-run.result) (state_in c.run_lines-cut.new.run) c.run_lines-cut.result c.shows_input.result c.args.options.to_stdout
+    (g.W.Sink.contents c.args.out.now) (g.W.Sink.contents c.finish.new.out) c.begun-run.ensures (c.run_lines-cut.ensures.input of_input)
+    (read_before c.finish.result.cut c.run_lines-cut.result _ c.finish.ensures.cause is_read) c.finish.ensures.output

@@ -5,8 +5,9 @@ use Rattle.std.proofs.lemmas.List.Elements.{All-push}
 use Rattle.bz_line.specs.Paths.{HasPath}
 use Rattle.bz_line.specs.Shown.{asked_in, usage_in}
 use Rattle.bz_line.specs.declared.asked.Asked.{Asked}
+use Rattle.bz_ports.proofs.Outputs.{appends_nothing}
 use Rattle.bz_engine.specs.Run.{World}
-use Rattle.bz_engine.proofs.Outcomes.{names_given, operands_refused, operands_done, operands_premise}
+use Rattle.bz_engine.proofs.Outcomes.{names_given, operands_of_input, operands_refused, operands_done, operands_premise}
 use Rattle.bz_engine.proofs.UsageSteps.{operands_told, operands_named}
 use Rattle.bz_engine.proofs.engine.run_operands.Goals as goal
 
@@ -66,3 +67,11 @@ returns-in-Ok-clause-usage g c is =
     operands_named c.args.options (map (λ (s : Bor (List ℕ)). s.now) c.args.operands.now) (asked_in c.in-Ok.asked) (map asked_in c.from_ref.result.now)
     (g.E.Sink.faults c.args.err.now) (g.E.Sink.faults c.perform_lines.new.err) (g.E.Sink.contents c.args.err.now) (g.E.Sink.contents c.perform_lines.new.err)
     c.in-Ok.ensures.ok (ap (map asked_in) c.from_ref.ensures.value) told.0 told.1 told.2
+
+pub returns-in-Ok-clause-read : goal.returns-in-Ok-clause-read
+returns-in-Ok-clause-read g c of_input read = c.perform_lines.ensures.read
+    (operands_of_input (map (λ (s : Bor (List ℕ)). s.now) c.args.operands.now) (asked_in c.in-Ok.asked) (map asked_in c.from_ref.result.now)
+    c.in-Ok.ensures.ok (ap (map asked_in) c.from_ref.ensures.value) of_input) read
+
+pub returns-in-Err-clause-read : goal.returns-in-Err-clause-read
+returns-in-Err-clause-read g c of_input read = appends_nothing (g.W.Sink.contents c.args.out.now)

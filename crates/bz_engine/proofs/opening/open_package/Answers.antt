@@ -1,11 +1,13 @@
 use Rattle.std.proofs.Common.{◌≡◌, ◌∙◌, List, [], length, inl, inr, ap, refl, sym, subst, Option}
 use Rattle.bz_value.specs.Gaps.{Bytes}
 use Rattle.bz_workspace.specs.Packages.{Used, place_of}
+use Rattle.bz_workspace.specs.declared.opening.Opening.{Opening}
 use Rattle.bz_ports.specs.declared.exit.Cut.TheVariants as cut
 use Rattle.bz_engine.specs.Cuts.{IsLeft}
 use Rattle.bz_ports.specs.Ports.{IsInput}
 use Rattle.bz_engine.specs.Steps.{input_package}
 use Rattle.bz_engine.proofs.OpenSteps.{is_found, last_place, left_behind, left_behind_input, place_again, uses_found, uses_input}
+use Rattle.bz_engine.proofs.ReadSteps.{opens_first, opens_again, uses_so}
 use Rattle.bz_engine.proofs.opening.open_package.Goals as goal
 
 pub returns-then-wants_input-clause-uses : goal.returns-then-wants_input-clause-uses
@@ -66,4 +68,22 @@ returns-clause-folder g c = λ can.
         | inl none ↦ absurd (c.wants_input.ensures.other c.if-wants_input.false is (sym (ap (λ (n : Bytes). place_of n old) is) ∙ none))
         | inr some ↦ ap g.F.Files.folder (c.open.ensures.again some.0 some.1).2
       ]
+    ]
+
+pub returns-then-wants_input-clause-input : goal.returns-then-wants_input-clause-input
+returns-then-wants_input-clause-input g c = λ is.
+    let asked = c.wants_input.ensures.yes c.if-wants_input.true in
+    opens_first c.args.workspace.now c.open_input.new.workspace c.open_input.result.place c.open_input.result.cut asked.1 c.open_input.ensures.failed
+    (λ whole. let done = c.open_input.ensures.whole whole in (done.1, done.5))
+
+pub returns-clause-input : goal.returns-clause-input
+returns-clause-input g c = λ is.
+    let old = c.args.workspace.now in
+    let name = c.args.package.now in
+    elim (is_found (place_of name old)) [
+      | inl none ↦ absurd (c.wants_input.ensures.other c.if-wants_input.false is (sym (ap (λ (n : Bytes). place_of n old) is) ∙ none))
+      | inr some ↦
+          let done = c.open.ensures.again some.0 some.1 in
+          opens_again some.0 old c.open.new.self c.open.result.place c.open.result.cut (ap (λ (o : Opening). o.place) done.0)
+          (ap (λ (o : Opening). o.cut) done.0) done.1 (uses_so name old some.0 is some.1)
     ]

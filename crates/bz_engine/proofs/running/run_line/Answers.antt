@@ -39,6 +39,7 @@ loop-target-preserved g c =
       reads = e.ensures.reads;
       counts = e.ensures.counts;
       honest = e.ensures.honest;
+      input = e.ensures.input;
     } in
     rw (c.first_cut-cut.ensures) (part_more (All IsOfInput targets) (IsOfInput target) c.args.keep_going (steps_of (asked_in c.args.line.now))
     (flat_map (on_target commands) (drop at targets)) (on_target commands target) (flat_map (on_target commands) (drop (at + 1) targets))

@@ -47,6 +47,7 @@ loop-line-preserved g c =
       reads = e.ensures.reads;
       counts = e.ensures.counts;
       honest = e.ensures.honest;
+      input = e.ensures.input;
     } in
     rw (c.first_cut-cut.ensures) (part_more (AreOfInput (map asked_in lines)) (IsOfInput line) c.args.keep_going (asked lines)
     (asked (drop at lines)) (steps_of (asked_in line)) (asked (drop (at + 1) lines)) l.cut e.result old mid new

@@ -50,6 +50,7 @@ loop-asking-preserved g c =
       reads = e.ensures.reads;
       counts = e.ensures.counts;
       honest = e.ensures.honest;
+      input = e.ensures.input;
     } in
     rw (c.first_cut-cut.ensures) (part_more (target.«package» ≡ input_package) (target.«package» ≡ input_package) c.args.keep_going (steps target commands)
     (steps target (drop at commands)) (step ∷ []) (steps target (drop (at + 1) commands)) l.cut e.result old mid new (λ is. is)
