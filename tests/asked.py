@@ -18,13 +18,15 @@ With HOSTILE=whole in the environment each request of each case is refused, else
 the script says so, and nothing is tried.
 """
 import collections
+import concurrent.futures
 import itertools
+import os
 import pathlib
 import sys
 import tempfile
 
 from files import report
-from hostile import library_of, sample
+from hostile import WHOLE, library_of, sample
 from memory import MOST, Left, Refusing
 
 SHEET = pathlib.Path(__file__).resolve().parent.parent / "crates" / "cases" / "stdin"
@@ -35,8 +37,9 @@ REFUSED = b"= 8 Memory\n"
 IDLE = b"undo 0\n"
 # no answer: the program ends with this status
 NONE = Left(1)
-# how many cases are asked where only some are, and how many requests of each are refused
-SOME_CASES, SOME_REQUESTS = 60, 8
+# how many cases are asked where only some are, and how many requests of each are refused; where all are asked, up to which one each request is
+# refused by itself, since a text at the limit of length makes a million of them
+SOME_CASES, SOME_REQUESTS, MOST_REQUESTS = 60, 8, 400
 
 # What is asked at once: a question, the texts that stand below it for each of its cases, and the texts of the case. A text is its lines,
 # without the mark of the first one.
@@ -150,12 +153,19 @@ def faults(refusing, asked):
     if ample.status or not ample.out.startswith(sheet_of(asked)):
         return [f"with ample memory: {ample}"]
     found, run = [], run_of(asked)
-    for mark in ("", "-"):
-        for number in sample(range(1, refusing.requests(run) + 1), SOME_REQUESTS):
+    for mark, most in (("", MOST_REQUESTS if WHOLE else SOME_REQUESTS), ("-", SOME_REQUESTS)):
+        for number in some(range(1, refusing.requests(run) + 1), most):
             left, _, _ = refusing.over_files(run, f"{number}{mark}")
             if not is_allowed(refusing, asked, ample, left):
-                found.append(f"request {number}{mark} refused: {left}")
+                found.append(f"request {number}{mark} refused: {str(left)[:500]}")
     return found
+
+
+def some(numbers, most):
+    """So many of the numbers, from the first to the last one."""
+    if len(numbers) <= most:
+        return numbers
+    return sorted({numbers[at * (len(numbers) - 1) // (most - 1)] for at in range(most)})
 
 
 # Each case by its name: all of them, or some.
@@ -170,10 +180,10 @@ def failures(program):
         if not library:
             return []
         refusing = Refusing({"cases": program}, library)
-        for name, asked in SCENES.items():
-            wrong = faults(refusing, asked)
-            if wrong:
-                failed.append("; ".join([name, *wrong[:3]]))
+        with concurrent.futures.ThreadPoolExecutor(os.cpu_count()) as pool:
+            for name, wrong in zip(SCENES, pool.map(lambda asked: faults(refusing, asked), SCENES.values())):
+                if wrong:
+                    failed.append("; ".join([name, *wrong[:3]]))
     return failed
 
 
