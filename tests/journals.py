@@ -787,11 +787,25 @@ def odd_texts_come_back(w):
     return not w.wrong
 
 
+def long_texts_come_back(w):
+    """Of the length that was the longest once, and longer: what one run changes the next one gives back."""
+    rule = b'f( name="x" )\n'
+    for size in (4_194_304, 5_000_000):
+        text = rule + b"#" + b"a" * (size - len(rule) - 2) + b"\n"
+        put(w.path, {P: text})
+        (w.path / KEPT).unlink(missing_ok=True)
+        for command, is_text in (("set size small", False), ("undo", True), ("redo", False), ("undo", True)):
+            ended = w.ended(["--quiet", "--journal", command, "//p:x"], b"")
+            if ended != (0, b"", b"") or (w.left()[P] == text) != is_text:
+                w.wrong.append(f"{size} bytes, {command}: {ended[0]}, {ended[2][:300]}")
+    return not w.wrong
+
+
 FUNCTIONS = [
     left_files_are_written_over, permission_bits_stay, a_new_journal_has_the_bits_of_its_file, a_folder_for_a_journal_is_told, a_journal_that_nobody_may_read_is_told,
     a_journal_that_cannot_be_written_is_told, a_file_that_cannot_be_written_is_told, a_closed_folder_is_told,
     a_second_path_finds_the_journal_of_the_first, a_second_path_that_was_open_before, what_another_program_writes_stays,
-    the_longest_command_is_a_note, odd_texts_come_back,
+    the_longest_command_is_a_note, odd_texts_come_back, long_texts_come_back,
 ]  # fmt: skip
 
 VERSION_NAMES = {2: "the second version", 1: "the first version"}
