@@ -8,6 +8,7 @@ and what it leaves must be one of these:
 
 - the answer that ample memory gives;
 - no answer at all, with status 1: the program was told that memory was refused, which a question passes on;
+- of the question on laws, that a value of which some law speaks is not there;
 - of a question about actions, replies of which some are `8 Memory`. Then all else that it shows (the other replies, the place in the
   history, the present text, weights, the journal) must be what the same case shows without these actions, with ample memory: so
   a call that answers Memory has changed nothing.
@@ -33,6 +34,7 @@ SHEET = pathlib.Path(__file__).resolve().parent.parent / "crates" / "cases" / "s
 # the questions about actions, and the reply to one that was refused memory
 OF_ACTIONS = (b"session", b"weights", b"journal")
 REFUSED = b"= 8 Memory\n"
+UNCALLED = b"= not called, since a value that a law speaks of is not there\n"
 # an action that changes nothing, for a case in which all others were refused
 IDLE = b"undo 0\n"
 # no answer: the program ends with this status
@@ -140,6 +142,8 @@ def lacks_some(refusing, asked, out):
 def is_allowed(refusing, asked, ample, left):
     if left in (ample, NONE._replace(err=left.err)):
         return True
+    if asked.question.startswith(b"laws"):
+        return left == ample._replace(out=sheet_of(asked) + UNCALLED)
     if left.status or not asked.question.startswith(OF_ACTIONS):
         return False
     if asked.question.startswith(b"weights"):
