@@ -188,6 +188,7 @@ def failures(program):
             for name, wrong in zip(SCENES, pool.map(lambda asked: faults(refusing, asked), SCENES.values())):
                 if wrong:
                     failed.append("; ".join([name, *wrong[:3]]))
+        refusing.tell("tests/asked.py")
     return failed
 
 

@@ -23,6 +23,7 @@ import re
 import subprocess
 import sys
 import tempfile
+import threading
 
 import worked
 from files import report
@@ -136,6 +137,12 @@ class Refusing:
     def __init__(self, programs, library):
         self.programs = programs
         self.library = library
+        # in how many runs a request was refused
+        self.met = 0
+        self.counting = threading.Lock()
+
+    def tell(self, script):
+        print(f"{script}: in {self.met} runs a request for memory was refused", flush=True)
 
     def ended(self, row, refused, folder=None):
         """What a run leaves, and whether it was refused what `refused` says."""
@@ -146,7 +153,10 @@ class Refusing:
         run = subprocess.run(command, input=row.text, capture_output=True, **how)
         os.close(its)
         with open(ours, "rb") as told:
-            return Left(run.returncode, run.stdout, run.stderr), bool(told.read())
+            was_refused = bool(told.read())
+        with self.counting:
+            self.met += was_refused
+        return Left(run.returncode, run.stdout, run.stderr), was_refused
 
     def over_files(self, row, refused):
         """The same of a row with files, and what stands in these behind it, but for those whose names end in .bznew."""
@@ -290,6 +300,7 @@ def failures(buildozer, cases, buildifier=None):
             wrong = scene(refusing)
             if wrong:
                 failed.append("; ".join([name, *wrong]))
+        refusing.tell("tests/memory.py")
     return failed
 
 
