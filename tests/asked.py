@@ -8,7 +8,8 @@ and what it leaves must be one of these:
 
 - the answer that ample memory gives;
 - no answer at all, with status 1: the program was told that memory was refused, which a question passes on;
-- of the question on laws, that a value of which some law speaks is not there;
+- of the question on laws, that a value of which some law speaks is not there; of that on copies, that one is not there; of that on journals, that
+  the pair was not written, since the files stand in memory too;
 - of a question about actions, replies of which some are `8 Memory`. Then all else that it shows (the other replies, the place in the
   history, the present text, weights, the journal) must be what the same case shows without these actions, with ample memory: so
   a call that answers Memory has changed nothing.
@@ -28,13 +29,20 @@ import tempfile
 
 from files import report
 from hostile import WHOLE, library_of, sample
-from memory import MOST, Left, Refusing
+from memory import Left, Refusing
 
 SHEET = pathlib.Path(__file__).resolve().parent.parent / "crates" / "cases" / "stdin"
 # the questions about actions, and the reply to one that was refused memory
 OF_ACTIONS = (b"session", b"weights", b"journal")
 REFUSED = b"= 8 Memory\n"
-UNCALLED = b"= not called, since a value that a law speaks of is not there\n"
+# what may stand at an answer's end instead, since a question tells so that memory was refused to what it looks at
+INSTEAD = {
+    b"laws": b"= not called, since a value that a law speaks of is not there\n",
+    b"copies": b"= another copy\n",
+    b"journal": b"? the pair was not written\n",
+}
+# no run makes so many requests
+NEVER = 10**15
 # an action that changes nothing, for a case in which all others were refused
 IDLE = b"undo 0\n"
 # no answer: the program ends with this status
@@ -108,7 +116,7 @@ def without(asked, places):
 
 def answer_of(refusing, asked):
     """The answer that ample memory gives, and what it takes to be one."""
-    left, _, _ = refusing.over_files(run_of(asked), str(MOST))
+    left, _, _ = refusing.over_files(run_of(asked), str(NEVER))
     return left
 
 
@@ -142,13 +150,19 @@ def lacks_some(refusing, asked, out):
 def is_allowed(refusing, asked, ample, left):
     if left in (ample, NONE._replace(err=left.err)):
         return True
-    if asked.question.startswith(b"laws"):
-        return left == ample._replace(out=sheet_of(asked) + UNCALLED)
+    instead = INSTEAD.get(asked.question.split()[0])
+    if instead and left.status == 0 and left.out.endswith(instead):
+        return is_beginning(left.out.removesuffix(instead), ample.out)
     if left.status or not asked.question.startswith(OF_ACTIONS):
         return False
     if asked.question.startswith(b"weights"):
         return lacks_some(refusing, asked, left.out)
     return shows_refusals(refusing, asked, left.out)
+
+
+def is_beginning(lines, out):
+    """Whether these lines are the first ones of an answer, but for actions that were refused memory."""
+    return out.startswith(lines.replace(REFUSED, b"")) or REFUSED in lines
 
 
 def faults(refusing, asked):
