@@ -1,18 +1,18 @@
--- Where marked items of a tidy file are exchanged, tidying is tidying these one by one: no other statement is moved, and what is not exchanged stays under each pass.
-use Rattle.std.proofs.Common.{Bool, true, false, not, ◌&&◌, ◌||◌, List, [], ◌∷◌, ◌≡◌, ◌⊎◌, refl, sym, ap, ◌∙◌, subst, map, inl, inr, if◌then◌else◌}
+-- Where marked items of a tidy file are exchanged, tidying is tidying these one by one: no bare statement is moved, and what is not exchanged stays under each pass.
+use Rattle.std.proofs.Common.{Bool, true, false, ◌&&◌, List, [], ◌∷◌, ◌≡◌, ◌⊎◌, refl, sym, ap, ◌∙◌, subst, map, inl, inr, if◌then◌else◌}
 use Rattle.bz_tree.specs.declared.kind.Kind.{Kind}
 use Rattle.bz_tree.specs.declared.kind.Kind.TheVariants as k
 use Rattle.bz_tree.specs.Shapes.{is_kind}
 use Rattle.bz_value.specs.declared.value.Expr.{Expr, Token, Form'}
 use Rattle.bz_value.specs.declared.value.Item.{Item}
 use Rattle.bz_value.specs.declared.value.Item.TheVariants as i
+use Rattle.bz_value.specs.Exchanged.{is_bare_statement, is_bare, IsExchanged, AreExchanged}
 use Rattle.bz_value.specs.Gaps.{Bytes}
 use Rattle.bz_write.specs.Flags.{with_flags, item_with_flags, flags}
-use Rattle.bz_write.specs.Written.{is_load, is_load_kind, is_assign, is_assign_kind}
 use Rattle.bz_rule.specs.Values.{has_kind, above, on_first, on_third, behind_first, on_lists}
 use Rattle.std.proofs.lemmas.Bool.{and_left, and_right}
 use Rattle.bz_tidy.specs.Changes.{changed}
-use Rattle.bz_tidy.specs.Exchanged.{is_other_statement, IsExchanged, AreExchanged, item_tidied, tidied_where, ExchangedTidied}
+use Rattle.bz_tidy.specs.Exchanged.{item_tidied, tidied_where, ExchangedTidied}
 use Rattle.bz_tidy.specs.Lists.{settled_list}
 use Rattle.bz_tidy.specs.Marks.{any_marked, leave_alone}
 use Rattle.bz_tidy.specs.Orders.{sort_by}
@@ -52,43 +52,29 @@ changed_kept kind x =
 taken_kept : (kind : Kind) (x : Expr) → has_kind kind (taken changed x) ≡ has_kind kind x
 taken_kept kind x = either_kind kind (any_marked leave_alone (above x)) x (changed x) x refl (changed_kept kind x)
 
--- ---- loads and assignments by the number of their kind
+-- ---- bare statements stay ones
 
-load_number : (kind : Kind) → is_load_kind kind ≡ is_kind kind k.Load
-load_number k.Load = refl
-load_number _ = refl
+bare_has : (x : Expr) → is_bare_statement x ≡ has_kind k.Bare x
+bare_has (Token t) = refl
+bare_has (Form' kind s parts s' items end_ split open_ comments) = refl
 
-assign_number : (kind : Kind) → is_assign_kind kind ≡ is_kind kind k.Assign
-assign_number k.Assign = refl
-assign_number _ = refl
+bare_kept : (item : Item) → is_bare (item_tidied item) ≡ is_bare item
+bare_kept (i.Block lines) = refl
+bare_kept (i.Stmt x) = bare_has (with_flags (taken changed x)) ∙ (kind_flags k.Bare (taken changed x) ∙ (taken_kept k.Bare x ∙ sym (bare_has x)))
 
-load_has : (x : Expr) → is_load x ≡ has_kind k.Load x
-load_has (Token t) = refl
-load_has (Form' kind s parts s' items end_ split open_ comments) = load_number kind
+-- ---- none of them is compared
 
-assign_has : (x : Expr) → is_assign x ≡ has_kind k.Assign x
-assign_has (Token t) = refl
-assign_has (Form' kind s parts s' items end_ split open_ comments) = assign_number kind
+no_load_kind : (kind : Kind) → is_kind kind k.Bare ≡ true → is_kind kind k.Load ≡ false
+no_load_kind k.Load h = sym h
+no_load_kind _ h = refl
 
-load_kept : (x : Expr) → is_load (with_flags (taken changed x)) ≡ is_load x
-load_kept x = load_has (with_flags (taken changed x)) ∙ (kind_flags k.Load (taken changed x) ∙ (taken_kept k.Load x ∙ sym (load_has x)))
+no_load : (x : Expr) → is_bare_statement x ≡ true → has_kind k.Load x ≡ false
+no_load (Token t) h = refl
+no_load (Form' kind s parts s' items end_ split open_ comments) h = no_load_kind kind h
 
-assign_kept : (x : Expr) → is_assign (with_flags (taken changed x)) ≡ is_assign x
-assign_kept x = assign_has (with_flags (taken changed x)) ∙ (kind_flags k.Assign (taken changed x) ∙ (taken_kept k.Assign x ∙ sym (assign_has x)))
-
-other_kept : (item : Item) → is_other_statement (item_tidied item) ≡ is_other_statement item
-other_kept (i.Block lines) = refl
-other_kept (i.Stmt x) = both (λ a b. not (a || b)) (load_kept x) (assign_kept x)
-
--- ---- no other statement is compared
-
-neither : (a b : Bool) → not (a || b) ≡ true → a ≡ false
-neither true b h = sym h
-neither false b h = refl
-
-no_run : (item : Item) → is_other_statement item ≡ true → is_run_load (on_statement (taken changed) item) ≡ false
+no_run : (item : Item) → is_bare item ≡ true → is_run_load (on_statement (taken changed) item) ≡ false
 no_run (i.Block lines) h = refl
-no_run (i.Stmt x) h = and_left (has_kind k.Load (taken changed x)) _ (taken_kept k.Load x ∙ (sym (load_has x) ∙ neither (is_load x) (is_assign x) h))
+no_run (i.Stmt x) h = and_left (has_kind k.Load (taken changed x)) _ (taken_kept k.Load x ∙ no_load x h)
 
 never_before : (x y : Item) → is_run_load x ≡ false → load_precedes x y ≡ false
 never_before (i.Block lines) y h = refl
@@ -169,7 +155,7 @@ marked_tidied marks before items t h =
     ap (λ z. flags (loads z)) (five_composed items) ∙ (ap flags stay ∙ each_tidied marks before items each fixed.by_flags h)
 
 one_still : (mark : Bool) (old item : Item) → IsExchanged mark old item → IsExchanged mark old (if mark then item_tidied item else item)
-one_still true old item h = (h.0, other_kept item ∙ h.1)
+one_still true old item h = (h.0, bare_kept item ∙ h.1)
 one_still false old item h = h
 
 still_exchanged : (marks : List Bool) (before items : List Item) → AreExchanged marks before items → AreExchanged marks before (tidied_where marks items)

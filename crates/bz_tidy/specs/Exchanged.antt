@@ -1,27 +1,10 @@
--- Items of a file exchanged for others, and tidied one by one.
-use Rattle.std.specs.Prelude.{◌≡◌, Bool, true, false, not, ◌||◌, List, [], ◌∷◌, if◌then◌else◌}
+-- Items of a file that were exchanged for others, tidied one by one.
+use Rattle.std.specs.Prelude.{◌≡◌, Bool, List, [], ◌∷◌, if◌then◌else◌}
 use Rattle.bz_value.specs.declared.value.Item.{Item}
-use Rattle.bz_value.specs.declared.value.Item.TheVariants as i
+use Rattle.bz_value.specs.Exchanged.{AreExchanged}
 use Rattle.bz_write.specs.Flags.{item_with_flags}
-use Rattle.bz_write.specs.Written.{is_load, is_assign}
 use Rattle.bz_tidy.specs.Changes.{changed}
 use Rattle.bz_tidy.specs.Passes.{on_statement, taken, tidied}
-
--- a statement that is neither a load nor an assignment
-abbrev pub is_other_statement : Item → Bool
-is_other_statement (i.Block lines) = false
-is_other_statement (i.Stmt x) = not (is_load x || is_assign x)
-
--- Items exchanged for others where they are marked: there both are statements and neither of them is a load nor an
--- assignment; elsewhere they are equal.
-abbrev pub IsExchanged : Bool → Item → Item → Type 0
-IsExchanged true before item = (is_other_statement before ≡ true) × (is_other_statement item ≡ true)
-IsExchanged false before item = before ≡ item
-
-abbrev pub AreExchanged : List Bool → List Item → List Item → Type 0
-AreExchanged [] [] [] = Unit {0}
-AreExchanged (mark ∷ marks) (old ∷ before) (item ∷ items) = IsExchanged mark old item × AreExchanged marks before items
-AreExchanged _ _ _ = ⊥
 
 -- an item by itself: what the passes make of a statement, with its flags settled
 abbrev pub item_tidied : Item → Item

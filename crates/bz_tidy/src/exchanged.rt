@@ -1,6 +1,7 @@
 //! Tidying items that were exchanged for others in a tidy file.
 ghost use Rattle.std.specs.Prelude.{◌≡◌, List, OnOk, length, if◌then◌else◌};
-ghost use Rattle.bz_tidy.specs.Exchanged.{AreExchanged, item_tidied, tidied_where};
+ghost use Rattle.bz_value.specs.Exchanged.{AreExchanged};
+ghost use Rattle.bz_tidy.specs.Exchanged.{item_tidied, tidied_where};
 ghost use Rattle.bz_tidy.specs.Passes.{tidied as tidied_all};
 
 use crate::tidying::{change_item, settle_item};
@@ -30,8 +31,8 @@ fn tidy_each(alloc: Global, marks: &[bool], items: &mut [Item]) -> Result<(), Me
     Ok(())
 }
 
-/// Tidies the items that are marked, one by one; the others stay. Where the marked ones are statements, neither loads nor
-/// assignments, that were exchanged for such statements of a tidy file, the whole is tidy then. The error: memory was
+/// Tidies the items that are marked, one by one; the others stay. Where these are bare statements that
+/// were exchanged for such statements of a tidy file, the whole is tidy then. The error: memory was
 /// refused; some of the marked items are tidy then, and part of one may be lost.
 pub fn tidy_marked(alloc: Global, marks: &[bool], items: &mut [Item]) -> Result<(), Memory>
     requires { length marks.now ≡ length items.old }

@@ -1,7 +1,8 @@
 //! What changes a trail.
 ghost use Rattle.std.specs.Prelude.{◌≡◌, ◌-◌, ◌+◌, ◌≤◌, ◌<◌, ◌++◌, ◌∷◌, [], true, take, length, vec_len, vec_capacity, OnOk, OnErr, IsOk};
 ghost use Rattle.bz_tree.specs.Spell.{spell_node};
-ghost use Rattle.bz_edit.specs.Places.{Ascend, with_parts};
+ghost use Rattle.bz_tree.specs.Places.{Ascend};
+ghost use Rattle.bz_edit.specs.Places.{with_parts};
 ghost use Rattle.bz_trail.specs.Shown.{Moves, TakesUp};
 ghost use Rattle.bz_trail.specs.Trails.{IsTrail, IsTree, trail_at, behind, ahead, are_even};
 

@@ -3,6 +3,7 @@ pub mod Commented
 pub mod Comments
 pub mod Counted
 pub mod Empty
+pub mod Exchanged
 pub mod Frames
 pub mod Gaps
 pub mod Indented

@@ -5,7 +5,7 @@ use Rattle.bz_tree.specs.Spell.{depth_of, depth_limit}
 use Rattle.bz_value.specs.declared.value.Item.{Item}
 use Rattle.bz_write.specs.Depths.{depth_items}
 use Rattle.bz_write.specs.Drawn.{drawn}
-use Rattle.bz_write.specs.Exchanged.{AreExchanged}
+use Rattle.bz_value.specs.Exchanged.{AreExchanged}
 use Rattle.bz_write.specs.Marks.{marked_items}
 use Rattle.bz_write.proofs.Deep.{drawn_depth}
 use Rattle.bz_write.proofs.Measured.{depth_first}

@@ -1,16 +1,21 @@
 -- Items exchanged where they are marked change the lines of these items alone.
-use Rattle.std.proofs.Common.{ℕ, Bool, true, false, ◌&&◌, ◌||◌, ◌≡◌, ◌≤◌, List, [], ◌∷◌, ◌++◌, ◌+◌, if◌then◌else◌, length, drop, set, suc, refl, sym, ap, subst, ◌∙◌, arith, append_assoc, append-nil, length-append, drop_of_length-le}
+use Rattle.std.proofs.Common.{ℕ, Bool, true, false, ◌&&◌, ◌||◌, ◌≡◌, ◌≤◌, List, [], ◌∷◌, ◌++◌, ◌+◌, if◌then◌else◌, length, drop, set, suc, refl, sym, ap, subst, ◌∙◌, arith, append_assoc, append-nil, length-append, drop_of_length-le, true≢false}
 use Rattle.std.proofs.lemmas.List.{set_at}
 use Rattle.bz_tree.specs.declared.tree.Part.{Part}
+use Rattle.bz_tree.specs.declared.kind.Kind.{Kind}
+use Rattle.bz_tree.specs.declared.kind.Kind.TheVariants as k
+use Rattle.bz_tree.specs.Places.{Ascend, put_all}
+use Rattle.bz_tree.specs.Shapes.{is_kind}
+use Rattle.bz_value.specs.declared.value.Expr.{Expr, Token, Form'}
 use Rattle.bz_value.specs.declared.value.Item.{Item}
 use Rattle.bz_value.specs.declared.value.Item.TheVariants as i
 use Rattle.bz_value.specs.Characters.{line_feed}
 use Rattle.bz_value.specs.Empty.{is_empty}
+use Rattle.bz_value.specs.Exchanged.{is_bare, IsExchanged, AreExchanged}
 use Rattle.bz_value.specs.Gaps.{Bytes}
 use Rattle.bz_value.specs.Proper.{comments_of}
-use Rattle.bz_write.specs.Written.{is_load, is_assign, between, comment_lines}
+use Rattle.bz_write.specs.Written.{is_load, is_load_kind, is_assign, is_assign_kind, between, comment_lines}
 use Rattle.bz_write.specs.Drawn.{line_part, before_next, lines_from}
-use Rattle.bz_write.specs.Exchanged.{StandsApart, IsExchanged, AreExchanged, AreWithin, put_all}
 use Rattle.bz_write.specs.Marks.{marked_places, marked_lines}
 
 -- ---- what stands between items stays
@@ -24,15 +29,33 @@ apart_below true b false d e f g = rw f refl
 apart_below false b true d e f g = rw g refl
 apart_below false b false d e f g = refl
 
-between_above : (x y : Item) → StandsApart x → between x y ≡ line_feed ∷ []
-between_above (i.Block texts) y h = absurd h
-between_above (i.Stmt x) (i.Block texts) h = refl
-between_above (i.Stmt x) (i.Stmt y) h = apart_above (is_load x) (is_load y) (is_assign x) (is_assign y) (is_empty (comments_of y).before) h.0 h.1
+bare_no_load_kind : (kind : Kind) → is_kind kind k.Bare ≡ true → is_load_kind kind ≡ false
+bare_no_load_kind k.Load h = sym h
+bare_no_load_kind _ h = refl
 
-between_below : (x y : Item) → StandsApart y → between x y ≡ line_feed ∷ []
-between_below x (i.Block texts) h = absurd h
-between_below (i.Block texts) (i.Stmt y) h = refl
-between_below (i.Stmt x) (i.Stmt y) h = apart_below (is_load x) (is_load y) (is_assign x) (is_assign y) (is_empty (comments_of y).before) h.0 h.1
+bare_no_assign_kind : (kind : Kind) → is_kind kind k.Bare ≡ true → is_assign_kind kind ≡ false
+bare_no_assign_kind k.Assign h = sym h
+bare_no_assign_kind _ h = refl
+
+bare_no_load : (x : Expr) → is_bare (i.Stmt x) ≡ true → is_load x ≡ false
+bare_no_load (Token t) h = refl
+bare_no_load (Form' kind s parts s' items end_ split open_ comments) h = bare_no_load_kind kind h
+
+bare_no_assign : (x : Expr) → is_bare (i.Stmt x) ≡ true → is_assign x ≡ false
+bare_no_assign (Token t) h = refl
+bare_no_assign (Form' kind s parts s' items end_ split open_ comments) h = bare_no_assign_kind kind h
+
+between_above : (x y : Item) → is_bare x ≡ true → between x y ≡ line_feed ∷ []
+between_above (i.Block texts) y h = refl
+between_above (i.Stmt x) (i.Block texts) h = refl
+between_above (i.Stmt x) (i.Stmt y) h =
+    apart_above (is_load x) (is_load y) (is_assign x) (is_assign y) (is_empty (comments_of y).before) (bare_no_load x h) (bare_no_assign x h)
+
+between_below : (x y : Item) → is_bare y ≡ true → between x y ≡ line_feed ∷ []
+between_below (i.Block texts) y h = refl
+between_below (i.Stmt x) (i.Block texts) h = refl
+between_below (i.Stmt x) (i.Stmt y) h =
+    apart_below (is_load x) (is_load y) (is_assign x) (is_assign y) (is_empty (comments_of y).before) (bare_no_load y h) (bare_no_assign y h)
 
 same_between : (m n : Bool) (x y u v : Item) → IsExchanged m x y → IsExchanged n u v → between x u ≡ between y v
 same_between true n x y u v g h = between_above x u g.0 ∙ sym (between_above y v g.1)
@@ -65,8 +88,8 @@ lines_put gap front place (true ∷ ms) (i.Stmt x ∷ xs) (i.Stmt y ∷ ys) e h 
     (ap (λ g. put_all places lines ((front ++ line ∷ []) ++ lines_from g xs)) next ∙
     (lines_put (before_next (i.Stmt y) ys) (front ++ line ∷ []) (place + 1) ms xs ys (one_more front line place e) h.1 ∙
     append_assoc front (line ∷ []) (lines_from (before_next (i.Stmt y) ys) ys)))
-lines_put gap front place (true ∷ ms) (i.Block texts ∷ xs) (y ∷ ys) e h = absurd h.0.0
-lines_put gap front place (true ∷ ms) (i.Stmt x ∷ xs) (i.Block texts ∷ ys) e h = absurd h.0.1
+lines_put gap front place (true ∷ ms) (i.Block texts ∷ xs) (y ∷ ys) e h = absurd (true≢false (sym h.0.0))
+lines_put gap front place (true ∷ ms) (i.Stmt x ∷ xs) (i.Block texts ∷ ys) e h = absurd (true≢false (sym h.0.1))
 lines_put gap front place (false ∷ ms) (x ∷ xs) (i.Block texts ∷ ys) e h =
     let places : List ℕ = marked_places place ms ys in
     let here : Bytes = gap ++ comment_lines texts in
@@ -89,17 +112,21 @@ lines_put gap front place _ _ _ e h = absurd h
 
 -- ---- the places
 
-from_before : (place end : ℕ) (places : List ℕ) → AreWithin (place + 1) end places → AreWithin place end places
+from_before : (place end : ℕ) (places : List ℕ) → Ascend (place + 1) end places → Ascend place end places
 from_before place end [] h = tt
 from_before place end (p ∷ places) h = (omega arith, h.1, h.2)
 
-places_within : (gap : Bytes) (place end : ℕ) (marks : List Bool) (items : List Item) → place + length (lines_from gap items) ≤ end → AreWithin place end (marked_places place marks items)
+from_next : (place end : ℕ) (places : List ℕ) → Ascend (place + 1) end places → Ascend (suc place) end places
+from_next place end [] h = tt
+from_next place end (p ∷ places) h = (omega (arith, h.0), h.1, h.2)
+
+places_within : (gap : Bytes) (place end : ℕ) (marks : List Bool) (items : List Item) → place + length (lines_from gap items) ≤ end → Ascend place end (marked_places place marks items)
 places_within gap place end [] items h = tt
 places_within gap place end (m ∷ ms) [] h = tt
 places_within gap place end (true ∷ ms) (i.Block texts ∷ items) h = places_within _ place end ms items h
 places_within gap place end (false ∷ ms) (i.Block texts ∷ items) h = places_within _ place end ms items h
 places_within gap place end (true ∷ ms) (i.Stmt x ∷ items) h =
-    (omega arith, omega arith, places_within (before_next (i.Stmt x) items) (place + 1) end ms items (omega arith))
+    (omega arith, omega arith, from_next place end (marked_places (place + 1) ms items) (places_within (before_next (i.Stmt x) items) (place + 1) end ms items (omega arith)))
 places_within gap place end (false ∷ ms) (i.Stmt x ∷ items) h =
     from_before place end (marked_places (place + 1) ms items) (places_within (before_next (i.Stmt x) items) (place + 1) end ms items (omega arith))
 
@@ -126,8 +153,8 @@ module _ (places : List ℕ) (lines : List Part) (marks : List Bool) (items : Li
   pub found_drawn : (before : List Item) → AreExchanged marks before items → put_all places lines (lines_from [] before) ≡ lines_from [] items
   found_drawn before h = ap (λ ps. put_all ps lines (lines_from [] before)) p ∙ (ap (λ ls. put_all (marked_places 0 marks items) ls (lines_from [] before)) l ∙ lines_put [] [] 0 marks before items refl h)
 
-  pub found_within : AreWithin 0 (length (lines_from [] items)) places
-  found_within = subst (λ ps. AreWithin 0 (length (lines_from [] items)) ps) (sym p) (places_within [] 0 (length (lines_from [] items)) marks items (omega arith))
+  pub found_within : Ascend 0 (length (lines_from [] items)) places
+  found_within = subst (λ ps. Ascend 0 (length (lines_from [] items)) ps) (sym p) (places_within [] 0 (length (lines_from [] items)) marks items (omega arith))
 
   pub found_as_many : length places ≡ length lines
   found_as_many = ap length p ∙ (as_many [] 0 marks items ∙ sym (ap length l))

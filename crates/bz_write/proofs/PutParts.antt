@@ -3,7 +3,8 @@ use Rattle.std.proofs.Common.{ℕ, zero, suc, ◌≡◌, ◌<◌, List, [], ◌�
 use Rattle.std.proofs.lemmas.Grind.{flat_map-append}
 use Rattle.bz_tree.specs.declared.tree.Part.{Part}
 use Rattle.bz_tree.specs.Spell.{spell_part}
-use Rattle.bz_write.specs.Exchanged.{AreWithin, put_all, parts_at}
+use Rattle.bz_tree.specs.Places.{Ascend, put_all}
+use Rattle.bz_write.specs.Exchanged.{parts_at}
 
 -- how many bytes parts have
 abbrev size : List Part → ℕ
@@ -35,23 +36,23 @@ length-put_all (place ∷ places) [] xs = refl
 length-put_all (place ∷ places) (line ∷ lines) xs = length-put_all places lines (set xs place line) ∙ length-set xs place line
 
 -- what stands further down stays
-later_stay : (from end : ℕ) (places : List ℕ) (xs : List Part) (at : ℕ) (y : Part) → AreWithin from end places → at < from → parts_at places (set xs at y) ≡ parts_at places xs
+later_stay : (from end : ℕ) (places : List ℕ) (xs : List Part) (at : ℕ) (y : Part) → Ascend from end places → at < from → parts_at places (set xs at y) ≡ parts_at places xs
 later_stay from end [] xs at y w h = refl
 later_stay from end (place ∷ places) xs at y w h =
     let before : at < place = omega arith in
     ap (λ ys. take 1 ys ++ parts_at places (set xs at y)) (drop-set-lt place xs at y before) ∙
-    ap (λ ys. take 1 (drop place xs) ++ ys) (later_stay (place + 1) end places xs at y w.2 (omega arith))
+    ap (λ ys. take 1 (drop place xs) ++ ys) (later_stay (suc place) end places xs at y w.2 (omega arith))
 
-pub size_put : (from : ℕ) (places : List ℕ) (lines xs : List Part) → AreWithin from (length xs) places → length places ≡ length lines →
+pub size_put : (from : ℕ) (places : List ℕ) (lines xs : List Part) → Ascend from (length xs) places → length places ≡ length lines →
     size (put_all places lines xs) + size (parts_at places xs) ≡ size xs + size lines
 size_put from [] [] xs w e = refl
 size_put from [] (line ∷ lines) xs w e = absurd (omega arith)
 size_put from (place ∷ places) [] xs w e = absurd (omega arith)
 size_put from (place ∷ places) (line ∷ lines) xs w e =
     let new : List Part = set xs place line in
-    let within : AreWithin (place + 1) (length new) places = subst (λ n. AreWithin (place + 1) n places) (sym (length-set xs place line)) w.2 in
-    let rest : size (put_all places lines new) + size (parts_at places new) ≡ size new + size lines = size_put (place + 1) places lines new within (omega arith) in
-    let stay : size (parts_at places new) ≡ size (parts_at places xs) = ap size (later_stay (place + 1) (length xs) places xs place line w.2 (omega arith)) in
+    let within : Ascend (suc place) (length new) places = subst (λ n. Ascend (suc place) n places) (sym (length-set xs place line)) w.2 in
+    let rest : size (put_all places lines new) + size (parts_at places new) ≡ size new + size lines = size_put (suc place) places lines new within (omega arith) in
+    let stay : size (parts_at places new) ≡ size (parts_at places xs) = ap size (later_stay (suc place) (length xs) places xs place line w.2 (omega arith)) in
     let one : size new + size (take 1 (drop place xs)) ≡ size xs + length (spell_part line) = size_set xs place line w.1 in
     let taken : size (take 1 (drop place xs) ++ parts_at places xs) ≡ size (take 1 (drop place xs)) + size (parts_at places xs) = size_append (take 1 (drop place xs)) (parts_at places xs) in
     let all : size (line ∷ lines) ≡ length (spell_part line) + size lines = size_first line lines in

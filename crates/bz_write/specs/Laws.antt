@@ -9,7 +9,8 @@ use Rattle.bz_value.specs.Proper.{IsProper}
 use Rattle.bz_view.specs.View.{view_of}
 use Rattle.bz_write.specs.Written.{layout}
 use Rattle.bz_write.specs.Drawn.{drawn}
-use Rattle.bz_write.specs.Exchanged.{AreWithin, put_all, parts_at}
+use Rattle.bz_tree.specs.Places.{Ascend, put_all}
+use Rattle.bz_write.specs.Exchanged.{parts_at}
 use Rattle.bz_write.specs.Flags.{flags}
 
 -- Settling the flags changes neither the layout nor its tree, and keeps file values proper.
@@ -28,5 +29,5 @@ LayoutReadsBack = (items : List Item) → IsProper items → view_of (drawn item
 -- longer than those that stood there.
 abbrev pub RedrawnHasLength : Type 0
 RedrawnHasLength = (before items : List Item) (places : List ℕ) (lines : List Part) → IsProper before → IsProper items →
-    AreWithin 0 (length (drawn items).parts) places → length places ≡ length lines → put_all places lines (drawn before).parts ≡ (drawn items).parts →
+    Ascend 0 (length (drawn items).parts) places → length places ≡ length lines → put_all places lines (drawn before).parts ≡ (drawn items).parts →
     length (layout items) + length (flat_map spell_part (parts_at places (drawn before).parts)) ≡ length (layout before) + length (flat_map spell_part lines)

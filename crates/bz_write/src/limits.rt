@@ -4,7 +4,8 @@ ghost use Rattle.bz_tree.specs.Spell.{depth_of, depth_limit, limit};
 ghost use Rattle.bz_write.specs.Written.{item_text, layout};
 ghost use Rattle.bz_write.specs.Drawn.{before_next, drawn};
 ghost use Rattle.bz_write.specs.Depths.{depth_items};
-ghost use Rattle.bz_write.specs.Exchanged.{AreExchanged, marked_length};
+ghost use Rattle.bz_value.specs.Exchanged.{AreExchanged};
+ghost use Rattle.bz_write.specs.Exchanged.{marked_length};
 ghost use Rattle.bz_write.specs.Marks.{marked_items};
 
 use crate::depth::is_within;

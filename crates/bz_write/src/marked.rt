@@ -1,7 +1,8 @@
 //! The lines of some statements alone, for a tree in which the others are drawn already.
 ghost use Rattle.std.specs.Prelude.{◌≡◌, ◌++◌, ◌+◌, ◌^◌, ◌<◌, [], length, List, IfOk, OnOk, if◌then◌else◌};
 ghost use Rattle.bz_write.specs.Drawn.{drawn, own_lines, left_gap};
-ghost use Rattle.bz_write.specs.Exchanged.{AreExchanged, AreWithin, put_all};
+ghost use Rattle.bz_tree.specs.Places.{Ascend, put_all};
+ghost use Rattle.bz_value.specs.Exchanged.{AreExchanged};
 ghost use Rattle.bz_write.specs.Marks as marks;
 
 use crate::gaps::push_comments;
@@ -85,7 +86,7 @@ pub fn redraw(alloc: Global, marks: &[bool], items: &[Item]) -> Result<Redrawn, 
     requires { length marks.now ≡ length items.now }
     ensures drawn { IfOk result (λ redrawn. (before : List Item) → AreExchanged marks.now before items.now
         → put_all redrawn.places redrawn.lines (drawn before).parts ≡ (drawn items.now).parts) }
-    ensures places { IfOk result (λ redrawn. AreWithin 0 (length (drawn items.now).parts) redrawn.places) }
+    ensures places { IfOk result (λ redrawn. Ascend 0 (length (drawn items.now).parts) redrawn.places) }
     ensures as_many { IfOk result (λ redrawn. length redrawn.places ≡ length redrawn.lines) }
 {
     let mut redrawn = Redrawn {
