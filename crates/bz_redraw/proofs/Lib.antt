@@ -1,0 +1,2 @@
+pub mod Renewals
+pub mod Rooms

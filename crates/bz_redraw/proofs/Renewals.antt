@@ -1,0 +1,63 @@
+-- What is tidied one by one stays proper, and what makes lines drawn anew those of the whole.
+use Rattle.std.proofs.Common.{◌≡◌, ◌+◌, ◌≤◌, ◌∙◌, Bool, true, false, List, [], ◌∷◌, length, suc, refl, ap, sym, subst, arith, flat_map}
+use Rattle.std.specs.List.{AllByRecursion}
+use Rattle.std.proofs.lemmas.List.Elements.{All-from_recursion, recursion_from_All}
+use Rattle.bz_tree.specs.declared.tree.Node.{Node}
+use Rattle.bz_tree.specs.Places.{Ascend, put_all}
+use Rattle.bz_tree.specs.Spell.{spell_node, spell_part, depth_of, depth_limit, limit}
+use Rattle.bz_value.specs.declared.value.Item.{Item}
+use Rattle.bz_value.specs.Proper.{IsProper, IsProperItem}
+use Rattle.bz_write.specs.declared.marked.Redrawn.{Redrawn}
+use Rattle.bz_write.specs.Drawn.{drawn}
+use Rattle.bz_write.specs.Exchanged.{parts_at}
+use Rattle.bz_write.specs.Laws.{RedrawnHasLength}
+use Rattle.bz_write.specs.Written.{layout}
+use Rattle.bz_write.proofs.PutParts.{length-put_all}
+use Rattle.bz_write.proofs.Spelled.{drawn_spelled}
+use Rattle.bz_tidy.specs.Exchanged.{item_tidied, tidied_where}
+use Rattle.bz_tidy.specs.Laws.{ProperStays}
+use Rattle.bz_tidy.specs.Passes.{tidied}
+use Rattle.bz_redraw.specs.Redrawn.{IsWritten, IsRedrawn}
+
+-- ---- items that are tidied one by one
+
+module _ (alone : (item : Item) → tidied (item ∷ []) ≡ item_tidied item ∷ []) (stays : ProperStays) where
+  one_proper : (item : Item) → IsProperItem item → IsProperItem (item_tidied item)
+  one_proper item h =
+      let made : IsProper (tidied (item ∷ [])) = stays (item ∷ []) (All-from_recursion IsProperItem (item ∷ []) (h, tt)) in
+      (recursion_from_All IsProperItem (item_tidied item ∷ []) (subst IsProper (alone item) made)).0
+
+  each_proper : (marks : List Bool) (items : List Item) → AllByRecursion IsProperItem items → AllByRecursion IsProperItem (tidied_where marks items)
+  each_proper [] items h = h
+  each_proper (mark ∷ marks) [] h = h
+  each_proper (true ∷ marks) (item ∷ items) h = (one_proper item h.0, each_proper marks items h.1)
+  each_proper (false ∷ marks) (item ∷ items) h = (h.0, each_proper marks items h.1)
+
+  pub where_proper : (marks : List Bool) (items : List Item) → IsProper items → IsProper (tidied_where marks items)
+  where_proper marks items h = All-from_recursion IsProperItem (tidied_where marks items) (each_proper marks items (recursion_from_All IsProperItem items h))
+
+pub where_length : (marks : List Bool) (items : List Item) → length (tidied_where marks items) ≡ length items
+where_length [] items = refl
+where_length (mark ∷ marks) [] = refl
+where_length (mark ∷ marks) (item ∷ items) = ap suc (where_length marks items)
+
+-- ---- lines that are drawn anew
+
+-- Lines that make the drawing of the items of that of others make it of the tree that was written, if there is room for them.
+pub renewed : (law : RedrawnHasLength) (redrawn : Redrawn) (tree : Node) (before items : List Item) → IsWritten before tree → IsProper items
+    → put_all redrawn.places redrawn.lines (drawn before).parts ≡ (drawn items).parts → Ascend 0 (length (drawn items).parts) redrawn.places
+    → length redrawn.places ≡ length redrawn.lines → length (spell_node tree) + length (flat_map spell_part redrawn.lines) ≤ limit
+    → depth_of (drawn items) ≤ depth_limit → IsRedrawn redrawn tree items
+renewed law redrawn tree before items written proper put ascend many room deep =
+    let there : put_all redrawn.places redrawn.lines tree.parts ≡ (drawn items).parts = subst (λ (n : Node). put_all redrawn.places redrawn.lines n.parts ≡ (drawn items).parts) written.drawn put in
+    let sum : length (layout items) + length (flat_map spell_part (parts_at redrawn.places (drawn before).parts)) ≡ length (layout before) + length (flat_map spell_part redrawn.lines) =
+    law before items redrawn.places redrawn.lines written.proper proper ascend many put in
+    let spelled : length (spell_node tree) ≡ length (layout before) = ap (λ (n : Node). length (spell_node n)) (sym written.drawn) ∙ ap length (drawn_spelled before written.proper) in
+    let parts : length (drawn items).parts ≡ length tree.parts = sym (ap length there) ∙ length-put_all redrawn.places redrawn.lines tree.parts in
+    record {
+      put = there;
+      ascend = subst (λ n. Ascend 0 n redrawn.places) parts ascend;
+      as_many = many;
+      long = omega (arith, sum, room, spelled);
+      deep = deep;
+    }

@@ -1,0 +1,40 @@
+//! How much room the lines of a tree leave.
+ghost use Rattle.std.specs.Prelude.{◌≡◌, ◌+◌, length, IfSome};
+ghost use Rattle.std.specs.List.{flat_map};
+ghost use Rattle.bz_tree.specs.Spell.{spell_leaf, spell_part};
+
+use bz_lex::Leaf;
+use bz_tree::Part;
+
+/// What is left of the room behind the gap and the token of a leaf; none where they are longer.
+fn left_behind_leaf(leaf: &Leaf, room: usize) -> Option<usize>
+    ensures { IfSome result (λ left. length (spell_leaf leaf.now) + left ≡ room) }
+{
+    let left = room.checked_sub(leaf.gap.len())?;
+    left.checked_sub(leaf.token.len())
+}
+
+/// What is left of the room behind a part; none where it is longer.
+#[cycle(left)]
+#[tactic(auto, using(crate::proofs::Rooms::node_spelled))]
+fn left_behind_part(part: &Part, room: usize) -> Option<usize>
+    ensures { IfSome result (λ left. length (spell_part part.now) + left ≡ room) }
+{
+    match part {
+        Part::Leaf(leaf) => left_behind_leaf(leaf, room),
+        Part::Node(node) => left_behind(node.parts.as_slice(), room),
+    }
+}
+
+/// What is left of so many bytes of room behind parts; none where they are longer.
+#[cycle(left)]
+#[tactic(auto)]
+pub(crate) fn left_behind(parts: &[Part], room: usize) -> Option<usize>
+    ensures { IfSome result (λ left. length (flat_map spell_part parts.now) + left ≡ room) }
+{
+    let mut left = room;
+    for part in parts {
+        left = left_behind_part(part, left)?;
+    }
+    Some(left)
+}
