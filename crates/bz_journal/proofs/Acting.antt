@@ -23,7 +23,7 @@ use Rattle.bz_journal.specs.History.{History, Answer, present, unchanged, after_
 -- ---- commands, in a history
 
 -- a meaning in the package and on the text of a history
-meant_there : (operation : Operation) (target : Target) (h : History) (current here : Bytes) (m : Meaning) → current ≡ h.package → here ≡ present h
+pub meant_there : (operation : Operation) (target : Target) (h : History) (current here : Bytes) (m : Meaning) → current ≡ h.package → here ≡ present h
     → Means operation target current here m → Means operation target h.package (present h) m
 meant_there operation target h current here m own is means =
     subst (λ (c : Bytes). Means operation target c (present h) m) own (subst (λ (text : Bytes). Means operation target current text m) is means)
@@ -65,7 +65,7 @@ left_apart : (made : Result (List Item) Refusal) (value new : List Item) (left :
 left_apart made value new left some told is same = let none : left ≡ None = told.1 (is ∙ ap Ok same) in absurd (cc)
 
 -- what an effect means on the value that was seen and the lines that were counted, it means on the text
-means_on : (operation : Operation) (target : Target) (current text : Bytes) (m : Meaning) (tree : Node) (value : List Item) (lines : List ℕ)
+pub means_on : (operation : Operation) (target : Target) (current text : Bytes) (m : Meaning) (tree : Node) (value : List Item) (lines : List ℕ)
     → Reads text tree → value ≡ view_of tree → lines ≡ lines_of tree
     → EffectMeans (effect operation target current lines value) (told operation (printed operation target current lines value)) value text m
     → Means operation target current text m
@@ -75,7 +75,7 @@ means_on operation target current text m tree value lines reads seen counted mea
     (tree, reads, subst (λ (ls : List ℕ). EffectMeans (effect operation target current ls (view_of tree)) (told operation (printed operation target current ls (view_of tree))) (view_of tree) text m) counted on_view)
 
 -- what is told of what was printed
-told_of : (operation : Operation) (made : Result Bytes Refusal) (out : Bytes) (answer : Option Bytes) → made ≡ Ok out → answer ≡ told operation (Ok out) → answer ≡ told operation made
+pub told_of : (operation : Operation) (made : Result Bytes Refusal) (out : Bytes) (answer : Option Bytes) → made ≡ Ok out → answer ≡ told operation (Ok out) → answer ≡ told operation made
 told_of operation made out answer printed_is answer_is = answer_is ∙ sym (ap (told operation) printed_is)
 
 -- A new value is written. `value` is the value that was seen, `lines` are those that were counted.

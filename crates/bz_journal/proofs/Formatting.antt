@@ -70,7 +70,7 @@ formatted_again layers text formatted formats =
 prints_none : (text formatted : Bytes) (printed : Option Bytes) → Formats text (gives formatted printed) → printed ≡ None
 prints_none text formatted printed formats = IsGiven.same (given (view_of formats.0) formatted None printed (sym formats.2))
 
-present_changed : (note : Bytes) (h : History) (text : Bytes) → h.cursor < length h.texts → present (changed note h text) ≡ text
+pub present_changed : (note : Bytes) (h : History) (text : Bytes) → h.cursor < length h.texts → present (changed note h text) ≡ text
 present_changed note h text within =
     let long : length (take (h.cursor + 1) h.texts) ≡ h.cursor + 1 = rw length-take (omega arith) in
     subst (λ (n : ℕ). get_or (take (h.cursor + 1) h.texts ++ text ∷ []) n [] ≡ text) long (get_or-append_seam (take (h.cursor + 1) h.texts) text [] [])

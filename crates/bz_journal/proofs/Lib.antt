@@ -4,6 +4,9 @@ pub mod Following
 pub mod Formatting
 pub mod Hashing
 pub mod Kept
+pub mod Layouts
+pub mod Edited
+pub mod PutLines
 pub mod Resuming
 pub mod Opening
 pub mod Running

@@ -4,6 +4,7 @@ ghost use Rattle.std.specs.Prelude.{◌≡◌, map};
 ghost use Rattle.sha2.specs.Sha256.{sha256};
 ghost use Rattle.bz_trail.specs.Shown.{StepsAreBetween, StepsLead};
 ghost use Rattle.bz_trail.specs.Trails.{HasLeast, IsSmall};
+ghost use Rattle.bz_journal.specs.Editing.{ChangedIsWritten, WrittenIsDrawn};
 ghost use Rattle.bz_journal.specs.Fixed.{FixedPoint};
 ghost use Rattle.bz_journal.specs.History.{IsKept};
 ghost use Rattle.bz_journal.specs.Lasting.{AlikeGoesOn};
@@ -12,6 +13,7 @@ ghost use Rattle.bz_journal.specs.State.{trail_of};
 ghost use Rattle.bz_journal.specs.Worked.{WorkedHistories};
 
 use crate::session::Session;
+use bz_command::effects_stay_proper;
 use bz_tidy::{comments_stay, proper_stays, tidy_settles, tidy_stays};
 use bz_trail::laws::{small_steps, steps_lead, texts_kept};
 use bz_tree::laws::one_reading;
@@ -64,4 +66,25 @@ pub fn formatted_once()
     tidy_settles();
     tidy_stays();
     comments_stay();
+}
+
+/// Where a value is written and the answer is no refusal, the tree of the present text is the layout of the value tidied.
+pub(crate) fn written_is_drawn()
+    ensures { WrittenIsDrawn }
+{
+    one_reading();
+    layout_is_accepted();
+    layout_reads_back();
+    proper_stays();
+    tidy_settles();
+    tidy_stays();
+}
+
+/// Where a command changed the text, the tree of the new one is the layout of its own value, which is tidy.
+pub(crate) fn changed_is_written()
+    ensures { ChangedIsWritten }
+{
+    views_are_proper();
+    effects_stay_proper();
+    written_is_drawn();
 }

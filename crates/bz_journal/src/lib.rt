@@ -2,7 +2,9 @@
 #![tactic(auto)]
 
 mod action;
+mod beside;
 mod digest;
+mod editor;
 mod formatter;
 mod keeping;
 mod lasting;
@@ -10,9 +12,11 @@ mod laws;
 mod listing;
 mod meaning;
 mod session;
+mod taking;
 
 pub use action::{Action, Reply};
 pub use bz_resume::ResumeFault;
+pub use editor::Editor;
 pub use formatter::{FormatFault, format};
 pub use keeping::KeepFault;
 pub use laws::{alike_goes_on, formatted_once, history_kept, session_holds, worked_histories};

@@ -29,7 +29,7 @@ pub(crate) struct Meant {
 }
 
 /// What a tree spells reads as it.
-fn reads_back(tree: &Tree)
+pub(crate) fn reads_back(tree: &Tree)
     ensures { Reads (spell_node tree.now) tree.now }
 {
     let _root = &tree.root;
@@ -74,7 +74,7 @@ pub(crate) fn written(alloc: Global, file: File) -> Result<Tree, Refusal>
 }
 
 /// What is answered beside the text: of a command that prints, what it prints.
-fn told(command: &Command, printed: Text) -> Option<Text>
+pub(crate) fn told(command: &Command, printed: Text) -> Option<Text>
     ensures { result ≡ told command.now (Ok printed) }
 {
     if command.prints() {

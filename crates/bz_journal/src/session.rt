@@ -32,10 +32,10 @@ use sha2::{Digest, Sha256};
 use std::alloc::Global;
 use std::marker::Model;
 
-const MOST_STEPS: u32 = 100_000;
+pub(crate) const MOST_STEPS: u32 = 100_000;
 
 /// The most bytes of a note.
-const MOST_NOTE: usize = 65_536;
+pub(crate) const MOST_NOTE: usize = 65_536;
 
 /// The texts of a BUILD file of a package, one after another, and the place in them: the tree of the present text, and
 /// between neighbours the step that leads from the one tree to the other. Contracts speak of its history.
@@ -210,12 +210,13 @@ impl Session {
         }
     }
 
-    fn alloc(&self) -> Global {
+    pub(crate) fn alloc(&self) -> Global {
         *self.steps.allocator()
     }
 
     /// The tree of the present text.
     pub(crate) fn present(&self) -> &Tree
+        ensures tree { result.now ≡ self.now.tree }
         ensures text { spell_node result.now ≡ present (history_of self.now) }
         ensures within { (history_of self.now).cursor < length (history_of self.now).texts }
     {
@@ -224,7 +225,7 @@ impl Session {
     }
 
     /// The path of the file's package.
-    fn own_package(&self) -> &[u8]
+    pub(crate) fn own_package(&self) -> &[u8]
         ensures { result.now ≡ (history_of self.now).«package» }
     {
         self.package.as_bytes()
@@ -250,7 +251,7 @@ impl Session {
 
     /// Takes up a new tree with a note: what it spells is the text after the present one; where it is the same one, tells what is
     /// printed.
-    fn take_up(&mut self, next: Tree, printed: Option<Text>, note: &str) -> Result<Reply, Refusal>
+    pub(crate) fn take_up(&mut self, next: Tree, printed: Option<Text>, note: &str) -> Result<Reply, Refusal>
         requires { length note.now ≤ note_limit }
         ensures makes { ((result, history_of self.new) ≡ after_text note.now (history_of self.old) (spell_node next) printed)
             ⊎ ((result ≡ Err Refusal.Memory) × (history_of self.new ≡ history_of self.old)) }
@@ -436,7 +437,7 @@ impl Session {
 }
 
 /// What is answered where the text is as it was.
-fn unchanged(printed: Option<Text>) -> Reply
+pub(crate) fn unchanged(printed: Option<Text>) -> Reply
     ensures { result ≡ unchanged printed }
 {
     match printed {
@@ -455,7 +456,7 @@ fn one_digest(alloc: Global, digest: [u8; 32]) -> Result<Vec<[u8; 32]>, Memory>
 }
 
 /// Puts an item after the first n, in the place of those that follow.
-fn put_after<T: Drop>(items: &mut Vec<T>, n: usize, item: T)
+pub(crate) fn put_after<T: Drop>(items: &mut Vec<T>, n: usize, item: T)
     requires room { vec_len items.old < vec_capacity items.old }
     ensures { items.new.items ≡ take n items.old.items ++ item ∷ [] }
 {

@@ -1,0 +1,84 @@
+-- What a command on the value beside a session does is what the history says.
+use Rattle.std.proofs.Common.{◌≡◌, ◌≢◌, ◌⊎◌, ◌<◌, ◌∙◌, inl, inr, ℕ, suc, Bool, List, [], ◌∷◌, length, Result, Ok, Err, Option, Some, None, refl, sym, subst, ap}
+use Rattle.bz_tree.specs.declared.tree.Node.{Node}
+use Rattle.bz_tree.specs.Legal.{Reads}
+use Rattle.bz_tree.specs.Spell.{spell_node}
+use Rattle.bz_tree.specs.Statements.{lines_of}
+use Rattle.bz_label.specs.declared.target.Target.{Target}
+use Rattle.bz_value.specs.declared.value.Item.{Item}
+use Rattle.bz_value.specs.Exchanged.{AreExchanged}
+use Rattle.bz_value.specs.Gaps.{Bytes}
+use Rattle.bz_value.specs.Proper.{IsProper}
+use Rattle.bz_view.specs.View.{view_of}
+use Rattle.bz_tidy.specs.Passes.{tidied}
+use Rattle.bz_words.specs.declared.command.Operation.{Operation}
+use Rattle.bz_command.specs.Effect.{effect, printed}
+use Rattle.bz_attribute.specs.declared.refusal.Refusal.{Refusal}
+use Rattle.bz_attribute.specs.declared.refusal.Refusal.TheVariants.{Memory}
+use Rattle.bz_redraw.specs.Redrawn.{IsWritten}
+use Rattle.bz_journal.specs.declared.action.Action.TheVariants.{Do}
+use Rattle.bz_journal.specs.declared.action.Reply.{Reply}
+use Rattle.bz_journal.specs.Meaning.{gives, refuses, told, written, EffectMeans, Means}
+use Rattle.bz_journal.specs.History.{History, Answer, present, unchanged, after_meaning, MakesOrWants}
+use Rattle.bz_journal.specs.Editing.{IsLayoutOf, WrittenIsDrawn}
+use Rattle.bz_journal.proofs.Acting.{acts_refused, acts_same, meant_there, means_on, told_of}
+
+-- Below, `value` is the value of the tree, and `out` what was printed of it.
+pub edited_refused : (note : Bytes) (operation : Operation) (target : Target) (h : History) (current : Bytes) (tree : Node) (value : List Item) (refusal : Refusal)
+    → current ≡ h.package → spell_node tree ≡ present h → Reads (spell_node tree) tree → value ≡ view_of tree
+    → (effect operation target current (lines_of tree) value ≡ Err refusal) ⊎ (refusal ≡ Memory) → MakesOrWants (Do operation target) note h (Err refusal) h
+edited_refused note operation target h current tree value refusal own is reads seen (inr memory) = acts_refused note operation target h current (spell_node tree) refusal own is (inr memory)
+edited_refused note operation target h current tree value refusal own is reads seen (inl made) =
+    let answer : Option Bytes = told operation (printed operation target current (lines_of tree) value) in
+    let means : EffectMeans (effect operation target current (lines_of tree) value) answer value (spell_node tree) (refuses refusal) =
+    subst (λ (r : Result (List Item) Refusal). EffectMeans r answer value (spell_node tree) (refuses refusal)) (sym made) refl in
+    acts_refused note operation target h current (spell_node tree) refusal own is
+    (inl (means_on operation target current (spell_node tree) (refuses refusal) tree value (lines_of tree) reads seen refl means))
+
+pub edited_same : (note : Bytes) (operation : Operation) (target : Target) (h : History) (current : Bytes) (tree : Node) (value new : List Item) (out : Bytes) (answer : Option Bytes) (reply : Reply)
+    → current ≡ h.package → spell_node tree ≡ present h → Reads (spell_node tree) tree → value ≡ view_of tree
+    → effect operation target current (lines_of tree) value ≡ Ok new → new ≡ value
+    → printed operation target current (lines_of tree) value ≡ Ok out → answer ≡ told operation (Ok out) → reply ≡ unchanged answer → MakesOrWants (Do operation target) note h (Ok reply) h
+edited_same note operation target h current tree value new out answer reply own is reads seen made same printed_is answer_is replied =
+    let other : Option Bytes = told operation (printed operation target current (lines_of tree) value) in
+    let told_is : answer ≡ other = told_of operation (printed operation target current (lines_of tree) value) out answer printed_is answer_is in
+    let means : EffectMeans (effect operation target current (lines_of tree) value) other value (spell_node tree) (gives (spell_node tree) answer) =
+    subst (λ (r : Result (List Item) Refusal). EffectMeans r other value (spell_node tree) (gives (spell_node tree) answer)) (sym made)
+    (inl (same, ap (gives (spell_node tree)) told_is)) in
+    acts_same note operation target h current (spell_node tree) answer reply own is
+    (means_on operation target current (spell_node tree) (gives (spell_node tree) answer) tree value (lines_of tree) reads seen refl means) replied
+
+pub edited_made : (note : Bytes) (operation : Operation) (target : Target) (h after : History) (current : Bytes) (tree : Node) (value new : List Item) (out : Bytes) (answer : Option Bytes) (reply : Answer)
+    → current ≡ h.package → spell_node tree ≡ present h → Reads (spell_node tree) tree → value ≡ view_of tree
+    → effect operation target current (lines_of tree) value ≡ Ok new → new ≢ value
+    → printed operation target current (lines_of tree) value ≡ Ok out → answer ≡ told operation (Ok out)
+    → ((reply, after) ≡ after_meaning note h (written new answer)) ⊎ ((reply ≡ Err Memory) × (after ≡ h)) → MakesOrWants (Do operation target) note h reply after
+edited_made note operation target h after current tree value new out answer reply own is reads seen made apart printed_is answer_is (inr memory) = inr (λ none. none, memory.0, memory.1)
+edited_made note operation target h after current tree value new out answer reply own is reads seen made apart printed_is answer_is (inl led) =
+    let other : Option Bytes = told operation (printed operation target current (lines_of tree) value) in
+    let told_is : answer ≡ other = told_of operation (printed operation target current (lines_of tree) value) out answer printed_is answer_is in
+    let means : EffectMeans (effect operation target current (lines_of tree) value) other value (spell_node tree) (written new answer) =
+    subst (λ (r : Result (List Item) Refusal). EffectMeans r other value (spell_node tree) (written new answer)) (sym made) (inr (apart, ap (written new) told_is)) in
+    inl (written new answer, meant_there operation target h current (spell_node tree) (written new answer) own is
+    (means_on operation target current (spell_node tree) (written new answer) tree value (lines_of tree) reads seen refl means), led)
+
+-- ---- what stays beside the session
+
+-- there is a mark for each item
+pub exchanged_length : (marks : List Bool) (before items : List Item) → AreExchanged marks before items → length marks ≡ length items
+exchanged_length [] [] [] h = refl
+exchanged_length [] [] (item ∷ items) h = absurd h
+exchanged_length [] (old ∷ before) items h = absurd h
+exchanged_length (mark ∷ marks) [] items h = absurd h
+exchanged_length (mark ∷ marks) (old ∷ before) [] h = absurd h
+exchanged_length (mark ∷ marks) (old ∷ before) (item ∷ items) h = ap suc (exchanged_length marks before items h.1)
+
+-- of a tidy value that was taken up the tree is the layout
+pub value_taken : WrittenIsDrawn → (items : List Item) (answer : Option Bytes) (note : Bytes) (h after : History) (reply : Reply) (tree : Node)
+    → IsProper items → tidied items ≡ items → h.cursor < length h.texts
+    → (◌≡◌ {A = Answer × History} (Ok reply, after) (after_meaning note h (written items answer))) ⊎ ((◌≡◌ {A = Answer} (Ok reply) (Err Memory)) × (after ≡ h))
+    → Reads (spell_node tree) tree → spell_node tree ≡ present after → (items ≡ view_of tree) × IsWritten (view_of tree) tree
+value_taken drawn items answer note h after reply tree proper tidy within (inr memory) reads is = let none : ◌≡◌ {A = Answer} (Ok reply) (Err Memory) = memory.0 in absurd (cc)
+value_taken drawn items answer note h after reply tree proper tidy within (inl led) reads is =
+    let laid : IsLayoutOf items tree = drawn items answer note h after reply tree proper within led (subst (λ (t : Bytes). Reads t tree) is reads) in
+    (sym tidy ∙ sym laid.1, subst (λ (xs : List Item). IsWritten xs tree) (sym laid.1) laid.0)

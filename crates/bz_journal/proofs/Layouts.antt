@@ -1,0 +1,118 @@
+-- The trees that commands leave: each is the layout of a tidy value.
+use Rattle.std.proofs.Common.{◌≡◌, ◌≢◌, ◌⊎◌, ◌<◌, ◌∙◌, ℕ, List, length, Bool, true, false, refl, sym, ap, subst, inl, inr, Option, Some, None, Result, Ok, Err, nat_lt, if◌then◌else◌}
+use Rattle.std.specs.Str.{bytes_eq}
+use Rattle.std.proofs.lemmas.Slice.Eq.{bytes_eq-Decides}
+use Rattle.bz_tree.specs.declared.tree.Node.{Node}
+use Rattle.bz_tree.specs.Legal.{Reads}
+use Rattle.bz_tree.specs.Laws.{OneReading}
+use Rattle.bz_tree.specs.Statements.{lines_of}
+use Rattle.bz_label.specs.declared.target.Target.{Target}
+use Rattle.bz_value.specs.declared.value.Item.{Item}
+use Rattle.bz_value.specs.Gaps.{Bytes}
+use Rattle.bz_value.specs.Proper.{IsProper}
+use Rattle.bz_view.specs.View.{view_of}
+use Rattle.bz_view.specs.Laws.{ViewsAreProper}
+use Rattle.bz_write.specs.Drawn.{drawn}
+use Rattle.bz_write.specs.Laws.{LayoutIsAccepted, LayoutReadsBack}
+use Rattle.bz_write.specs.Written.{layout}
+use Rattle.bz_tidy.specs.Laws.{ProperStays, TidySettles, TidyStays}
+use Rattle.bz_tidy.specs.Passes.{tidied}
+use Rattle.bz_words.specs.declared.command.Operation.{Operation}
+use Rattle.bz_words.specs.Proper.{IsProperCommand}
+use Rattle.bz_command.specs.Effect.{effect, printed}
+use Rattle.bz_command.specs.Laws.{EffectsStayProper}
+use Rattle.bz_attribute.specs.declared.refusal.Refusal.{Refusal}
+use Rattle.bz_attribute.specs.declared.refusal.Refusal.TheVariants.{Full, NoteTooLong}
+use Rattle.bz_redraw.specs.Redrawn.{IsWritten}
+use Rattle.bz_journal.specs.declared.action.Action.TheVariants.{Do}
+use Rattle.bz_journal.specs.declared.action.Reply.{Reply}
+use Rattle.bz_journal.specs.declared.action.Reply.TheVariants.{Changed}
+use Rattle.bz_journal.specs.Meaning.{Meaning, gives, refuses, told, written, EffectMeans, Means}
+use Rattle.bz_journal.specs.History.{History, Answer, Acts, MakesOrWants, present, changed, unchanged, after_text, after_meaning, most_steps}
+use Rattle.bz_journal.specs.Editing.{IsLayoutOf, WrittenIsDrawn, ChangedIsWritten}
+use Rattle.bz_journal.proofs.Formatting.{present_changed}
+use Rattle.bz_journal.proofs.Writes.{IsGiven, given}
+
+-- What the layers below promise: of reading, of the layout of a proper value, and of tidying.
+pub record LayoutsHold : Type 0 where
+  pub one : OneReading
+  pub accepted : LayoutIsAccepted
+  pub back : LayoutReadsBack
+  pub proper : ProperStays
+  pub settled : TidySettles
+  pub stays : TidyStays
+
+-- the tree that reads as the layout of a tidy value
+pub layout_tree : LayoutsHold → (items : List Item) (text : Bytes) (printed asked : Option Bytes) (tree : Node) → IsProper items → IsGiven items text asked printed → Reads text tree
+    → IsLayoutOf items tree
+layout_tree layers items text printed asked tree proper is reads =
+    let tidy : List Item = tidied items in
+    let proper_tidy : IsProper tidy = layers.proper items proper in
+    let laid_reads : Reads text (drawn tidy) = subst (λ (t : Bytes). Reads t (drawn tidy)) (sym is.layout_is) (layers.accepted tidy proper_tidy is.long is.deep) in
+    let same : drawn tidy ≡ tree = layers.one text (drawn tidy) tree laid_reads reads in
+    (record { proper = proper_tidy; tidy = layers.stays items; drawn = same }, ap view_of (sym same) ∙ layers.back tidy proper_tidy ∙ layers.settled items)
+
+-- the text that is present where an answer is no refusal
+text_after : (same below : Bool) (note : Bytes) (h after : History) (text : Bytes) (printed : Option Bytes) (reply : Reply) → h.cursor < length h.texts → (same ≡ true → text ≡ present h)
+    → ◌≡◌ {A = Answer × History} (Ok reply, after) (if same then (Ok (unchanged printed), h) else (if below then (Ok Changed, changed note h text) else (Err Full, h)))
+    → text ≡ present after
+text_after true below note h after text printed reply within is led = is refl ∙ sym (ap (λ (z : Answer × History). present z.1) led)
+text_after false true note h after text printed reply within is led = sym (present_changed note h text within) ∙ sym (ap (λ (z : Answer × History). present z.1) led)
+text_after false false note h after text printed reply within is led = let answer = ap (λ (z : Answer × History). z.0) led in absurd (cc)
+
+by_meaning : LayoutsHold → (m : Meaning) (items : List Item) (asked : Option Bytes) (note : Bytes) (h after : History) (reply : Reply) (tree : Node)
+    → written items asked ≡ m → IsProper items → h.cursor < length h.texts → ◌≡◌ {A = Answer × History} (Ok reply, after) (after_meaning note h m)
+    → Reads (present after) tree → IsLayoutOf items tree
+by_meaning layers (gives text printed) items asked note h after reply tree is proper within led reads =
+    let there : text ≡ present after = text_after (bytes_eq text (present h)) (nat_lt h.cursor most_steps) note h after text printed reply within (bytes_eq-Decides text (present h)).0 led in
+    layout_tree layers items text printed asked tree proper (given items text asked printed is) (subst (λ (t : Bytes). Reads t tree) (sym there) reads)
+by_meaning layers (refuses refusal) items asked note h after reply tree is proper within led reads = let answer = ap (λ (z : Answer × History). z.0) led in absurd (cc)
+
+pub written_is_drawn : LayoutsHold → WrittenIsDrawn
+written_is_drawn layers items printed note h after reply tree proper within led reads =
+    by_meaning layers (written items printed) items printed note h after reply tree refl proper within led reads
+
+-- ---- a command that changed the text
+
+-- Changed is no answer of a text that stays
+other_reply : (printed : Option Bytes) → ◌≡◌ {A = Answer} (Ok Changed) (Ok (unchanged printed)) → ⊥
+other_reply None e = absurd (cc)
+other_reply (Some text) e = absurd (cc)
+
+not_same : (note : Bytes) (h after : History) (printed : Option Bytes) → ◌≡◌ {A = Answer × History} (Ok Changed, after) (after_text note h (present h) printed) → ⊥
+not_same note h after printed led =
+    let same : bytes_eq (present h) (present h) ≡ true = (bytes_eq-Decides (present h) (present h)).1 refl in
+    let stayed : ◌≡◌ {A = Answer × History} (after_text note h (present h) printed) (Ok (unchanged printed), h) = rw same refl in
+    other_reply printed (ap (λ (z : Answer × History). z.0) (led ∙ stayed))
+
+-- the value that was written
+abbrev WasWritten : (note : Bytes) (h after : History) (answer : Option Bytes) → Type 0
+WasWritten note h after answer = (new : List Item) × IsProper new × (◌≡◌ {A = Answer × History} (Ok Changed, after) (after_meaning note h (written new answer)))
+
+by_effect : (made : Result (List Item) Refusal) (answer : Option Bytes) (items : List Item) (note : Bytes) (h after : History) (m : Meaning)
+    → ((new : List Item) → made ≡ Ok new → IsProper new) → EffectMeans made answer items (present h) m
+    → ◌≡◌ {A = Answer × History} (Ok Changed, after) (after_meaning note h m) → WasWritten note h after answer
+by_effect (Err refusal) answer items note h after m proper means led =
+    let refused : ◌≡◌ {A = Answer × History} (Ok Changed, after) (Err refusal, h) = led ∙ ap (after_meaning note h) means in
+    let reply : ◌≡◌ {A = Answer} (Ok Changed) (Err refusal) = ap (λ (z : Answer × History). z.0) refused in absurd (cc)
+by_effect (Ok new) answer items note h after m proper (inl stays) led = absurd (not_same note h after answer (led ∙ ap (after_meaning note h) stays.1))
+by_effect (Ok new) answer items note h after m proper (inr means) led = (new, (proper new refl, led ∙ ap (after_meaning note h) means.1))
+
+by_makes : WrittenIsDrawn → ViewsAreProper → EffectsStayProper → (operation : Operation) (target : Target) (note : Bytes) (h after : History) (tree : Node)
+    → IsProperCommand operation → h.cursor < length h.texts → MakesOrWants (Do operation target) note h (Ok Changed) after
+    → Reads (present after) tree → IsWritten (view_of tree) tree
+by_makes layouts seen effects operation target note h after tree command within (inl (m, means, led)) reads =
+    let old : Node = means.0 in
+    let proper : IsProper (view_of old) = seen old means.1.0 in
+    let was : WasWritten note h after (told operation (printed operation target h.package (lines_of old) (view_of old))) =
+    by_effect (effect operation target h.package (lines_of old) (view_of old)) (told operation (printed operation target h.package (lines_of old) (view_of old))) (view_of old) note h after m
+    (λ new made. effects operation target h.package (lines_of old) (view_of old) new command proper made) means.2 led in
+    let laid : IsLayoutOf was.0 tree = layouts was.0 (told operation (printed operation target h.package (lines_of old) (view_of old))) note h after Changed tree was.1 within was.2 reads in
+    subst (λ (xs : List Item). IsWritten xs tree) (sym laid.1) laid.0
+by_makes layouts seen effects operation target note h after tree command within (inr memory) reads = let answer = memory.1 in absurd (cc)
+
+pub changed_is_written : WrittenIsDrawn → ViewsAreProper → EffectsStayProper → ChangedIsWritten
+changed_is_written layouts seen effects operation target note h after tree command within (inl long) reads =
+    let reply : ◌≡◌ {A = Answer} (Ok Changed) (Err NoteTooLong) = ap (λ (z : Answer × History). z.0) long.1 in absurd (cc)
+changed_is_written layouts seen effects operation target note h after tree command within (inr makes) reads =
+    by_makes layouts seen effects operation target note h after tree command within makes.1 reads

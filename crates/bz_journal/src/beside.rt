@@ -1,0 +1,319 @@
+//! Commands on the value beside a session whose present text is the layout of a tidy value: only what changes is tidied and
+//! drawn.
+ghost use Rattle.std.specs.Prelude.{◌≡◌, ◌≤◌, ◌⊎◌, ◌↔◌, Err, IfErr, IfOk, IfSome, IsTrue, None, Ok, OnErr, OnOk, Option, length};
+ghost use Rattle.bz_tree.specs.Spell.{spell_node};
+ghost use Rattle.bz_tree.specs.Statements.{lines_of};
+ghost use Rattle.bz_value.specs.Exchanged.{AreExchanged};
+ghost use Rattle.bz_value.specs.Gaps.{Bytes};
+ghost use Rattle.bz_view.specs.View.{view_of};
+ghost use Rattle.bz_write.specs.Drawn.{drawn};
+ghost use Rattle.bz_tidy.specs.Passes.{tidied};
+ghost use Rattle.bz_command.specs.Effect.{effect, printed};
+ghost use Rattle.bz_trail.specs.Trails.{IsSmall};
+ghost use Rattle.bz_redraw.specs.Redrawn.{IsRedrawn, IsWritten};
+ghost use Rattle.bz_attribute.specs.declared.refusal.Refusal.{Refusal};
+ghost use Rattle.bz_journal.specs.declared.action.Action.{Action};
+ghost use Rattle.bz_journal.specs.History.{after_meaning, note_limit, present, MakesOrWants};
+ghost use Rattle.bz_journal.specs.Meaning.{gives, refuses, told, written};
+ghost use Rattle.bz_journal.specs.Shown.{history_of};
+ghost use Rattle.bz_journal.specs.State.{trail_of};
+
+use crate::action::{Action, Reply};
+use crate::laws::written_is_drawn;
+use crate::meaning::{reads_back, told};
+use crate::session::{Session, unchanged};
+use bz_attribute::Refusal;
+use bz_command::{Ran, run_in};
+use bz_items::{Memory, Text};
+use bz_label::Target;
+use bz_redraw::{Redrawn, renew};
+use bz_rule::take_apart;
+use bz_tidy::{tidy, tidy_stays};
+use bz_tree::Tree;
+use bz_value::File;
+use bz_view::view;
+use bz_words::Command;
+use bz_write::{SetFault, layout_is_accepted, set};
+use std::alloc::Global;
+
+/// The value of a tree: the one that is kept, or one that is made. The error: memory was refused.
+fn value_of(alloc: Global, kept: Option<File>, tree: &Tree) -> Result<File, Memory>
+    requires { IfSome kept (λ items. items ≡ view_of tree.now) }
+    ensures { IfOk result (λ file. file ≡ view_of tree.now) }
+{
+    match kept {
+        Some(file) => Ok(file),
+        None => view(alloc, tree),
+    }
+}
+
+/// Runs a command on the value of a tree, in place. Errors: those of the command.
+fn run_on_tree(
+    alloc: Global,
+    command: &Command,
+    target: &Target,
+    current: &[u8],
+    tree: &Tree,
+    file: &mut File,
+) -> Result<Ran, Refusal>
+    ensures ok { OnOk result (effect command.now target.now current.now (lines_of tree.now) file.old ≡ Ok file.new) }
+    ensures same { IfOk result (λ ran. IsTrue ran.same ↔ (file.new ≡ file.old)) }
+    ensures printed { IfOk result (λ ran. printed command.now target.now current.now (lines_of tree.now) file.old ≡ Ok ran.printed) }
+    ensures renewed { IfOk result (λ ran. IfSome ran.renewed (λ marks. AreExchanged marks.items file.old file.new)) }
+    ensures err { IfErr result (λ refusal. (effect command.now target.now current.now (lines_of tree.now) file.old ≡ Err refusal) ⊎ (refusal ≡ Refusal.Memory)) }
+{
+    let lines = tree.lines(alloc)?;
+    run_in(alloc, command, target, current, lines.as_slice(), file)
+}
+
+/// A tidy value, and lines that make the present tree the one of its layout, where some are known.
+#[derive(Drop)]
+struct Tidied {
+    file: File,
+    redrawn: Option<Redrawn>,
+}
+
+/// Tidies items of which those that are marked were exchanged. The error: memory was refused.
+fn tidy_marked_in(
+    alloc: Global,
+    marks: &[bool],
+    file: File,
+    tree: &Tree,
+) -> Result<Tidied, Memory>
+    requires marked { AreExchanged marks.now (view_of tree.now) file }
+    requires written { IsWritten (view_of tree.now) tree.now }
+    ensures tidy { IfOk result (λ done. done.file ≡ tidied file) }
+    ensures lines { IfOk result (λ done. IfSome done.redrawn (λ redrawn. IsRedrawn redrawn tree.now done.file)) }
+{
+    let mut file = file;
+    match renew(alloc, marks, &mut file, tree) {
+        Ok(redrawn) => Ok(Tidied { file, redrawn }),
+        Err(fault) => {
+            take_apart(file);
+            Err(fault)
+        }
+    }
+}
+
+/// Tidies a new value, of which only the marked items were exchanged where there are marks. The error: memory was refused.
+fn tidy_in(
+    alloc: Global,
+    marks: Option<Vec<bool>>,
+    file: File,
+    tree: &Tree,
+) -> Result<Tidied, Memory>
+    requires marked { IfSome marks (λ marks. AreExchanged marks.items (view_of tree.now) file) }
+    requires written { IsWritten (view_of tree.now) tree.now }
+    ensures tidy { IfOk result (λ done. done.file ≡ tidied file) }
+    ensures lines { IfOk result (λ done. IfSome done.redrawn (λ redrawn. IsRedrawn redrawn tree.now done.file)) }
+{
+    match marks {
+        Some(marks) => tidy_marked_in(alloc, marks.as_slice(), file, tree),
+        None => Ok(Tidied {
+            file: tidy(alloc, file)?,
+            redrawn: None,
+        }),
+    }
+}
+
+/// The tree of the layout of a tidy value. Errors: `TooLarge` and `TooDeep` past a limit; `Memory`: a growth was refused.
+#[tactic(auto, using(crate::proofs::Writes::written_too_large, crate::proofs::Writes::written_too_deep, crate::proofs::Writes::written_spelled))]
+fn drawn_of(alloc: Global, file: &File) -> Result<Tree, Refusal>
+    requires { tidied file.now ≡ file.now }
+    ensures ok { IfOk result (λ tree. (printed : Option Bytes) → written file.now printed ≡ gives (spell_node tree) printed) }
+    ensures err { IfErr result (λ refusal. ((printed : Option Bytes) → written file.now printed ≡ refuses refusal) ⊎ (refusal ≡ Refusal.Memory)) }
+{
+    match set(alloc, file) {
+        Ok(tree) => {
+            reads_back(&tree);
+            Ok(tree)
+        }
+        Err(SetFault::Memory) => Err(Refusal::Memory),
+        Err(SetFault::TooLarge) => Err(Refusal::TooLarge),
+        Err(SetFault::TooDeep) => Err(Refusal::TooDeep),
+    }
+}
+
+/// Takes up the whole layout of a tidy value, with a note. Errors: `TooLarge`, `TooDeep`, `Full`; `Memory`: a growth was refused.
+fn take_up_whole(
+    session: &mut Session,
+    file: &File,
+    printed: Option<Text>,
+    note: &str,
+) -> Result<Reply, Refusal>
+    requires short { length note.now ≤ note_limit }
+    requires tidy { tidied file.now ≡ file.now }
+    ensures makes { ((result, history_of session.new) ≡ after_meaning note.now (history_of session.old) (written file.now printed))
+        ⊎ ((result ≡ Err Refusal.Memory) × (history_of session.new ≡ history_of session.old)) }
+    ensures unmoved { OnErr result (session.new ≡ session.old) }
+    ensures small { IsSmall (trail_of session.old) → IsSmall (trail_of session.new) }
+{
+    match drawn_of(session.alloc(), file) {
+        Ok(tree) => session.take_up(tree, printed, note),
+        Err(refusal) => Err(refusal),
+    }
+}
+
+/// Takes up the layout of a tidy value by its lines that are other ones than in the present tree, with a note. Errors: `Full`;
+/// `Memory`: a growth was refused.
+fn take_up_lines(
+    session: &mut Session,
+    file: &File,
+    redrawn: Redrawn,
+    printed: Option<Text>,
+    note: &str,
+) -> Result<Reply, Refusal>
+    requires short { length note.now ≤ note_limit }
+    requires tidy { tidied file.now ≡ file.now }
+    requires lines { IsRedrawn redrawn session.old.tree file.now }
+    ensures makes { ((result, history_of session.new) ≡ after_meaning note.now (history_of session.old) (written file.now printed))
+        ⊎ ((result ≡ Err Refusal.Memory) × (history_of session.new ≡ history_of session.old)) }
+    ensures unmoved { OnErr result (session.new ≡ session.old) }
+    ensures small { IsSmall (trail_of session.old) → IsSmall (trail_of session.new) }
+{
+    layout_is_accepted();
+    reads_back(session.present());
+    let _items = &file.items;
+    let Redrawn { places, mut lines } = redrawn;
+    session.take_up_at(places.as_slice(), lines.as_mut_slice(), printed, note)
+}
+
+/// Takes up the layout of a tidy value, by some lines alone where these are known. The errors are those of both.
+fn take_up_tidied(
+    session: &mut Session,
+    file: &File,
+    redrawn: Option<Redrawn>,
+    printed: Option<Text>,
+    note: &str,
+) -> Result<Reply, Refusal>
+    requires short { length note.now ≤ note_limit }
+    requires tidy { tidied file.now ≡ file.now }
+    requires lines { IfSome redrawn (λ redrawn. IsRedrawn redrawn session.old.tree file.now) }
+    ensures makes { ((result, history_of session.new) ≡ after_meaning note.now (history_of session.old) (written file.now printed))
+        ⊎ ((result ≡ Err Refusal.Memory) × (history_of session.new ≡ history_of session.old)) }
+    ensures unmoved { OnErr result (session.new ≡ session.old) }
+    ensures small { IsSmall (trail_of session.old) → IsSmall (trail_of session.new) }
+{
+    match redrawn {
+        Some(redrawn) => take_up_lines(session, file, redrawn, printed, note),
+        None => take_up_whole(session, file, printed, note),
+    }
+}
+
+/// Takes up the layout of a tidy value and keeps this as the value of the present text. The errors are those of taking it up.
+fn take_up_value(
+    session: &mut Session,
+    value: &mut Option<File>,
+    tidied: Tidied,
+    printed: Option<Text>,
+    note: &str,
+) -> Result<Reply, Refusal>
+    requires short { length note.now ≤ note_limit }
+    requires none { value.old ≡ None }
+    requires tidy { tidied tidied.file ≡ tidied.file }
+    requires lines { IfSome tidied.redrawn (λ redrawn. IsRedrawn redrawn session.old.tree tidied.file) }
+    requires written { IsWritten (view_of session.old.tree) session.old.tree }
+    ensures makes { ((result, history_of session.new) ≡ after_meaning note.now (history_of session.old) (written tidied.file printed))
+        ⊎ ((result ≡ Err Refusal.Memory) × (history_of session.new ≡ history_of session.old)) }
+    ensures unmoved { OnErr result (session.new ≡ session.old) }
+    ensures small { IsSmall (trail_of session.old) → IsSmall (trail_of session.new) }
+    ensures value { IfSome value.new (λ items. items ≡ view_of session.new.tree) }
+    ensures written { IsWritten (view_of session.new.tree) session.new.tree }
+{
+    written_is_drawn();
+    let _before = session.present();
+    let Tidied { file, redrawn } = tidied;
+    let _items = &file.items;
+    match take_up_tidied(session, &file, redrawn, printed, note) {
+        Ok(reply) => {
+            reads_back(session.present());
+            *value = Some(file);
+            Ok(reply)
+        }
+        Err(refusal) => {
+            take_apart(file);
+            Err(refusal)
+        }
+    }
+}
+
+/// Tidies and takes up what a command made of the value of the present text: another value.
+fn take_up_made(
+    session: &mut Session,
+    value: &mut Option<File>,
+    marks: Option<Vec<bool>>,
+    file: File,
+    printed: Option<Text>,
+    note: &str,
+) -> Result<Reply, Refusal>
+    requires short { length note.now ≤ note_limit }
+    requires none { value.old ≡ None }
+    requires marked { IfSome marks (λ marks. AreExchanged marks.items (view_of session.old.tree) file) }
+    requires written { IsWritten (view_of session.old.tree) session.old.tree }
+    ensures makes { ((result, history_of session.new) ≡ after_meaning note.now (history_of session.old) (written file printed))
+        ⊎ ((result ≡ Err Refusal.Memory) × (history_of session.new ≡ history_of session.old)) }
+    ensures unmoved { OnErr result (session.new ≡ session.old) }
+    ensures small { IsSmall (trail_of session.old) → IsSmall (trail_of session.new) }
+    ensures value { IfSome value.new (λ items. items ≡ view_of session.new.tree) }
+    ensures written { IsWritten (view_of session.new.tree) session.new.tree }
+{
+    tidy_stays();
+    match tidy_in(session.alloc(), marks, file, session.present()) {
+        Ok(tidied) => take_up_value(session, value, tidied, printed, note),
+        Err(_) => Err(Refusal::Memory),
+    }
+}
+
+/// Does a command with a note on the present text, which is the layout of a tidy value; `value` is its value, where that is kept.
+/// At an error the session is as before. Errors: those of the command; `TooLarge` and `TooDeep` where the new text would be past
+/// a limit; `Full` at the most steps; `Memory`: a growth was refused.
+pub(crate) fn edit_beside(
+    session: &mut Session,
+    value: &mut Option<File>,
+    command: &Command,
+    target: &Target,
+    note: &str,
+) -> Result<Reply, Refusal>
+    requires short { length note.now ≤ note_limit }
+    requires value { IfSome value.old (λ items. items ≡ view_of session.old.tree) }
+    requires written { IsWritten (view_of session.old.tree) session.old.tree }
+    ensures makes { MakesOrWants (Action.Do command.now target.now) note.now (history_of session.old) result (history_of session.new) }
+    ensures unmoved { OnErr result (session.new ≡ session.old) }
+    ensures small { IsSmall (trail_of session.old) → IsSmall (trail_of session.new) }
+    ensures value { IfSome value.new (λ items. items ≡ view_of session.new.tree) }
+    ensures written { IsWritten (view_of session.new.tree) session.new.tree }
+{
+    let alloc = session.alloc();
+    let here = session.present();
+    reads_back(here);
+    let Ok(seen) = value_of(alloc, value.take(), here) else {
+        return Err(Refusal::Memory);
+    };
+    let mut file = seen;
+    match run_on_tree(
+        alloc,
+        command,
+        target,
+        session.own_package(),
+        here,
+        &mut file,
+    ) {
+        Ok(ran) => {
+            let Ran {
+                same,
+                renewed,
+                printed,
+            } = ran;
+            let printed = told(command, printed);
+            if same {
+                *value = Some(file);
+                return Ok(unchanged(printed));
+            }
+            take_up_made(session, value, renewed, file, printed, note)
+        }
+        Err(refusal) => {
+            take_apart(file);
+            Err(refusal)
+        }
+    }
+}

@@ -1,0 +1,212 @@
+//! An editor: a session, and beside it the value of the present text from one command to the next.
+ghost use Rattle.std.specs.Prelude.{◌≡◌, ◌≢◌, ◌≤◌, ◌⊎◌, length, true, IfErr, IfSome, IsOk, Ok, OnErr, OnOk};
+ghost use Rattle.bz_files.specs.Faults.{Rises};
+ghost use Rattle.bz_files.specs.Folder.{Elapses, Folder};
+ghost use Rattle.bz_keep.specs.Resuming.{Holds, OthersStay, Resumes, Survives};
+ghost use Rattle.bz_trail.specs.Trails.{IsSmall};
+ghost use Rattle.bz_view.specs.View.{view_of};
+ghost use Rattle.bz_redraw.specs.Redrawn.{IsWritten};
+ghost use Rattle.bz_keep.specs.declared.fault.PairFault.{PairFault};
+ghost use Rattle.bz_attribute.specs.declared.refusal.Refusal.{Refusal};
+ghost use Rattle.bz_journal.specs.declared.action.Action.{Action};
+ghost use Rattle.bz_journal.specs.declared.action.Reply.{Reply};
+ghost use Rattle.bz_journal.specs.Editing.{IsCommandDone};
+ghost use Rattle.bz_journal.specs.Fixed.{IsFormatted};
+ghost use Rattle.bz_journal.specs.History.{note_limit, present, Acts, IsFormat};
+ghost use Rattle.bz_journal.specs.Keeping.{IsRefused, IsWriteOrOpen, Keeps};
+ghost use Rattle.bz_journal.specs.Shown.{history_of, IsOverEven};
+ghost use Rattle.bz_journal.specs.State.{trail_of};
+
+use crate::action::{Action, Reply};
+use crate::beside::edit_beside;
+use crate::keeping::KeepFault;
+use crate::laws::changed_is_written;
+use crate::meaning::reads_back;
+use crate::session::{MOST_NOTE, Session};
+use bz_attribute::Refusal;
+use bz_files::Files;
+use bz_label::Target;
+use bz_value::File;
+use bz_words::Command;
+use std::marker::Model;
+
+/// A session, and the value of its present text where one is kept, so that a command need not make it anew. Contracts see the
+/// session.
+#[derive(Drop)]
+pub struct Editor {
+    session: Session,
+    /// The value of the present text, where it is kept.
+    value: Option<File>,
+    /// Whether the present text is known to be the layout of a tidy value.
+    written: bool,
+}
+
+impl Model for Editor {
+    ghost use Rattle.bz_tree.specs.contracts.tree.Tree as t;
+    ghost use Rattle.bz_edit.specs.contracts.step.Step as s;
+    ghost use Rattle.bz_journal.specs.State.{State, state_code};
+    ghost use Rattle.bz_journal.specs.Editing.{IsBeside};
+
+    ghost Value = { State };
+
+    ghost coded = { state_code t.the_row.coded s.the_row.coded };
+
+    ghost view = { λ editor. editor.session };
+
+    ghost invariant = { λ editor. IsBeside editor.session.tree editor.value editor.written };
+}
+
+/// Whether it is answered that the text is another one.
+fn is_changed(reply: &Result<Reply, Refusal>) -> bool
+    ensures { result ≡ true → reply.now ≡ Ok Reply.Changed }
+{
+    matches!(reply, Ok(Reply::Changed))
+}
+
+/// Whether this is the answer to a command that changed the text.
+fn is_command_done(action: &Action, reply: &Result<Reply, Refusal>) -> bool
+    ensures { result ≡ true → IsCommandDone action.now reply.now }
+{
+    match action {
+        Action::Do(command, _) => {
+            // What is read of the command, so that its words are known to be proper.
+            let _operation = &command.operation;
+            is_changed(reply)
+        }
+        Action::Format | Action::Undo(_) | Action::Redo(_) => false,
+    }
+}
+
+/// Does an action as the session does it, and tells whether the present text is then known to be the layout of a tidy value.
+fn act_by_session(
+    session: &mut Session,
+    action: &Action,
+    note: &str,
+    written: &mut bool,
+) -> Result<Reply, Refusal>
+    ensures acts { Acts action.now note.now (history_of session.old) result (history_of session.new) }
+    ensures formatted { OnOk result (IsFormat action.now → IsFormatted (present (history_of session.old)) (present (history_of session.new))) }
+    ensures err { OnErr result (history_of session.new ≡ history_of session.old) }
+    ensures unmoved { OnErr result (session.new ≡ session.old) }
+    ensures even { length note.now ≤ note_limit → IsOverEven action.now (trail_of session.old) → IsOk result }
+    ensures small { IsSmall (trail_of session.old) → IsSmall (trail_of session.new) }
+    ensures written { written.new ≡ true → IsWritten (view_of session.new.tree) session.new.tree }
+{
+    changed_is_written();
+    let _before = session.present();
+    let reply = session.act_noted(action, note);
+    *written = is_command_done(action, &reply);
+    reads_back(session.present());
+    reply
+}
+
+/// Does a command with a note on the present text, which is the layout of a tidy value; `value` is its value, where that is kept.
+fn edit_noted(
+    session: &mut Session,
+    value: &mut Option<File>,
+    action: &Action,
+    command: &Command,
+    target: &Target,
+    note: &str,
+) -> Result<Reply, Refusal>
+    requires value { IfSome value.old (λ items. items ≡ view_of session.old.tree) }
+    requires written { IsWritten (view_of session.old.tree) session.old.tree }
+    requires action { action.now ≡ Action.Do command.now target.now }
+    ensures acts { Acts action.now note.now (history_of session.old) result (history_of session.new) }
+    ensures unmoved { OnErr result (session.new ≡ session.old) }
+    ensures small { IsSmall (trail_of session.old) → IsSmall (trail_of session.new) }
+    ensures value { IfSome value.new (λ items. items ≡ view_of session.new.tree) }
+    ensures written { IsWritten (view_of session.new.tree) session.new.tree }
+{
+    if note.len() > MOST_NOTE {
+        return Err(Refusal::NoteTooLong);
+    }
+    edit_beside(session, value, command, target, note)
+}
+
+impl Editor {
+    /// An editor of a session. No value is kept yet.
+    pub fn new(session: Session) -> Editor
+        ensures { result ≡ session }
+    {
+        Editor {
+            session,
+            value: None,
+            written: false,
+        }
+    }
+
+    /// The session.
+    pub fn session(&self) -> &Session
+        ensures { result.now ≡ self.now }
+    {
+        &self.session
+    }
+
+    /// Does an action with a note, as `Session::act_noted` does. Behind a command that changed the text the next ones cost what
+    /// they change: the value is kept, and only the lines of the statements that were exchanged are drawn. The errors are those of
+    /// `Session::act_noted`.
+    pub fn act_noted(&mut self, action: &Action, note: &str) -> Result<Reply, Refusal>
+        ensures acts { Acts action.now note.now (history_of self.old) result (history_of self.new) }
+        ensures formatted { OnOk result (IsFormat action.now → IsFormatted (present (history_of self.old)) (present (history_of self.new))) }
+        ensures err { OnErr result (history_of self.new ≡ history_of self.old) }
+        ensures unmoved { OnErr result (self.new ≡ self.old) }
+        ensures even { length note.now ≤ note_limit → IsOverEven action.now (trail_of self.old) → IsOk result }
+        ensures small { IsSmall (trail_of self.old) → IsSmall (trail_of self.new) }
+    {
+        if self.written {
+            if let Action::Do(command, target) = action {
+                return edit_noted(
+                    &mut self.session,
+                    &mut self.value,
+                    action,
+                    command,
+                    target,
+                    note,
+                );
+            }
+        }
+        self.value = None;
+        act_by_session(&mut self.session, action, note, &mut self.written)
+    }
+
+    /// Does an action with a note and keeps it, as `Session::keep_noted` does. The errors are those.
+    pub fn keep_noted<F: Files>(
+        &mut self,
+        action: &Action,
+        note: &str,
+        file: &str,
+        files: &mut F,
+    ) -> Result<Reply, KeepFault>
+        ensures keeps { Keeps action.now note.now (history_of self.old) result (history_of self.new) }
+        ensures refused { IfErr result (λ fault. IsRefused fault → (self.new ≡ self.old) × (files.new ≡ files.old)) }
+        ensures small { IsSmall (trail_of self.old) → IsSmall (trail_of self.new) }
+
+        // A stop at any moment leaves a file that goes on with the texts of before or after, and that holds the present text of either.
+        ensures each { F.honest files.old ≡ true → Resumes (F.folder files.old) file.now (history_of self.old).«package» (history_of self.old).texts
+            → (now : Folder) → F.since files.new (F.moment files.old) now
+            → (now ≡ F.folder files.old) ⊎ Survives file.now (history_of self.old) (history_of self.new) (F.folder files.old) now }
+        ensures time { F.honest files.old ≡ true → Resumes (F.folder files.old) file.now (history_of self.old).«package» (history_of self.old).texts
+            → Elapses (F.moment files.old) (F.moment files.new) (F.since files.old) (F.since files.new)
+            (λ now. (now ≡ F.folder files.old) ⊎ Survives file.now (history_of self.old) (history_of self.new) (F.folder files.old) now) }
+        ensures kept { F.honest files.old ≡ true → Resumes (F.folder files.old) file.now (history_of self.old).«package» (history_of self.old).texts
+            → OnOk result ((history_of self.new).cursor ≢ (history_of self.old).cursor
+            → Holds (F.folder files.new) file.now (history_of self.old).«package» (present (history_of self.new)) (history_of self.new).texts
+            × OthersStay file.now (F.folder files.old) (F.folder files.new)) }
+
+        // Nothing is replaced where the present text stays, and at every fault but Write.
+        ensures still { OnOk result ((history_of self.new).cursor ≡ (history_of self.old).cursor → files.new ≡ files.old) }
+        ensures untouched { F.honest files.old ≡ true → IfErr result (λ fault. fault ≢ KeepFault.Pair PairFault.Write
+            → (now : Folder) → F.since files.new (F.moment files.old) now → now ≡ F.folder files.old) }
+
+        // A Write and an Open are counted, and nothing else.
+        ensures cause { IsWriteOrOpen result → Rises (F.faults files.old) (F.faults files.new) }
+        ensures rest { (IsWriteOrOpen result → ⊥) → F.faults files.new ≡ F.faults files.old }
+        ensures count { F.faults files.old ≤ F.faults files.new }
+        ensures honest { F.honest files.new ≡ F.honest files.old }
+    {
+        self.value = None;
+        self.written = false;
+        self.session.keep_noted(action, note, file, files)
+    }
+}
