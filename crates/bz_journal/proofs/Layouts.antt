@@ -96,7 +96,7 @@ by_effect (Err refusal) answer items note h after m proper means led =
     let refused : ◌≡◌ {A = Answer × History} (Ok Changed, after) (Err refusal, h) = led ∙ ap (after_meaning note h) means in
     let reply : ◌≡◌ {A = Answer} (Ok Changed) (Err refusal) = ap (λ (z : Answer × History). z.0) refused in absurd (cc)
 by_effect (Ok new) answer items note h after m proper (inl stays) led = absurd (not_same note h after answer (led ∙ ap (after_meaning note h) stays.1))
-by_effect (Ok new) answer items note h after m proper (inr means) led = (new, (proper new refl, led ∙ ap (after_meaning note h) means.1))
+by_effect (Ok new) answer items note h after m proper (inr means) led = (new, proper new refl, led ∙ ap (after_meaning note h) means.1)
 
 by_makes : WrittenIsDrawn → ViewsAreProper → EffectsStayProper → (operation : Operation) (target : Target) (note : Bytes) (h after : History) (tree : Node)
     → IsProperCommand operation → h.cursor < length h.texts → MakesOrWants (Do operation target) note h (Ok Changed) after

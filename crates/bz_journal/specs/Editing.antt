@@ -20,7 +20,7 @@ use Rattle.bz_journal.specs.History.{History, Answer, Acts, after_meaning, prese
 
 -- The value that is kept is the view of the tree; and a tree that counts as written is the layout of its view, which is tidy.
 pub record IsBeside (tree : Node) (value : Option (List Item)) (counts : Bool) : Type 0 where
-  pub value : IfSome value (λ items. items ≡ view_of tree)
+  pub seen : IfSome value (λ items. items ≡ view_of tree)
   pub written : counts ≡ true → IsWritten (view_of tree) tree
 
 -- the tree is the layout of these items tidied, and these are what it is seen as

@@ -204,16 +204,16 @@ fn take_up_tidied(
 fn take_up_value(
     session: &mut Session,
     value: &mut Option<File>,
-    tidied: Tidied,
+    done: Tidied,
     printed: Option<Text>,
     note: &str,
 ) -> Result<Reply, Refusal>
     requires short { length note.now ≤ note_limit }
     requires none { value.old ≡ None }
-    requires tidy { tidied tidied.file ≡ tidied.file }
-    requires lines { IfSome tidied.redrawn (λ redrawn. IsRedrawn redrawn session.old.tree tidied.file) }
+    requires tidy { tidied done.file ≡ done.file }
+    requires lines { IfSome done.redrawn (λ redrawn. IsRedrawn redrawn session.old.tree done.file) }
     requires written { IsWritten (view_of session.old.tree) session.old.tree }
-    ensures makes { ((result, history_of session.new) ≡ after_meaning note.now (history_of session.old) (written tidied.file printed))
+    ensures makes { ((result, history_of session.new) ≡ after_meaning note.now (history_of session.old) (written done.file printed))
         ⊎ ((result ≡ Err Refusal.Memory) × (history_of session.new ≡ history_of session.old)) }
     ensures unmoved { OnErr result (session.new ≡ session.old) }
     ensures small { IsSmall (trail_of session.old) → IsSmall (trail_of session.new) }
@@ -222,7 +222,7 @@ fn take_up_value(
 {
     written_is_drawn();
     let _before = session.present();
-    let Tidied { file, redrawn } = tidied;
+    let Tidied { file, redrawn } = done;
     let _items = &file.items;
     match take_up_tidied(session, &file, redrawn, printed, note) {
         Ok(reply) => {
@@ -259,7 +259,7 @@ fn take_up_made(
 {
     tidy_stays();
     match tidy_in(session.alloc(), marks, file, session.present()) {
-        Ok(tidied) => take_up_value(session, value, tidied, printed, note),
+        Ok(done) => take_up_value(session, value, done, printed, note),
         Err(_) => Err(Refusal::Memory),
     }
 }
