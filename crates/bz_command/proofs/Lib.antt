@@ -1,5 +1,6 @@
 pub mod LawComments
 pub mod ProperEffects
+pub mod RenewedItems
 pub mod RunningItems
 pub mod StatementRules
 pub mod TargetMarks

@@ -4,5 +4,6 @@ pub mod Effect
 pub mod Laws
 pub mod Looks
 pub mod Printing
+pub mod Renewed
 pub mod Targets
 pub mod Worked

@@ -5,12 +5,13 @@ mod laws;
 mod outcome;
 mod printing;
 mod proper_laws;
+mod renewing;
 mod ruling;
 mod running;
 mod statements;
 mod targets;
 
 pub use laws::{comments_stay, worked_effects};
-pub use outcome::Outcome;
+pub use outcome::{Outcome, Ran};
 pub use proper_laws::effects_stay_proper;
-pub use running::{run, run_on};
+pub use running::{run, run_in, run_on};

@@ -1,23 +1,27 @@
 //! The effect of a command on a file value.
-ghost use Rattle.std.specs.Prelude.{◌≡◌, ◌⊎◌, ◌↔◌, true, false, None, Ok, Err, IsOk, IfOk, IfErr};
+ghost use Rattle.std.specs.Prelude.{◌≡◌, ◌⊎◌, ◌↔◌, ◌&&◌, [], true, false, None, Some, Ok, Err, IsOk, IfOk, IfErr, IfSome, IsTrue, OnOk, if◌then◌else◌};
 ghost use Rattle.std.specs.List.{list_any};
 ghost use Rattle.std.specs.Option.{unwrap_or};
+ghost use Rattle.bz_value.specs.Exchanged.{AreExchanged};
 ghost use Rattle.bz_command.specs.Targets.{may_mean_none};
 ghost use Rattle.bz_command.specs.Effect.{effect, lacks_rules, looks_at_rules, printed};
 ghost use Rattle.bz_command.specs.Looks.{IsLook, IsMarked};
+ghost use Rattle.bz_command.specs.Renewed.{are_bare, is_in_place};
 
-use crate::outcome::Outcome;
+use crate::outcome::{Outcome, Ran};
 use crate::printing::print_rules;
 use crate::proper_laws::effects_stay_proper;
+use crate::renewing::{are_bare, is_in_place};
 use crate::ruling::{Changed, on_rules};
 use crate::targets::{may_mean_none, meant};
 use bz_attribute::Refusal;
-use bz_items::Text;
+use bz_items::{Items, Text};
 use bz_label::{Target, Which};
 use bz_rule::take_apart;
 use bz_value::{File, Item};
 use bz_words::{Command, Operation, RuleOperation};
 use std::alloc::Global;
+use std::mem;
 
 /// Whether an operation is meant for rules that are there.
 fn looks_at_rules(operation: &Operation) -> bool
@@ -95,32 +99,150 @@ fn look_at(
     Ok(Look::Changes(marks))
 }
 
-/// What a command makes of a file of which the items that it is meant for are marked; `None` where that is the same value.
-fn changed(
+/// What a command makes of a file of which the items that it is meant for are marked. Whether it is the same value then.
+fn change(
     alloc: Global,
     command: &Command,
     target: &Target,
     current: &[u8],
     lines: &[u32],
     marks: &[bool],
-    file: File,
-) -> Result<Option<File>, Refusal>
-    requires marked { IsMarked command.now target.now current.now lines.now file marks.now }
-    ensures ok { IfOk result (λ new. effect command.now target.now current.now lines.now file ≡ Ok (unwrap_or new file)) }
-    ensures unchanged { IfOk result (λ new. (new ≡ None) ↔ (effect command.now target.now current.now lines.now file ≡ Ok file)) }
-    ensures err { IfErr result (λ refusal. (effect command.now target.now current.now lines.now file ≡ Err refusal) ⊎ (refusal ≡ Refusal.Memory)) }
+    file: &mut File,
+) -> Result<bool, Refusal>
+    requires marked { IsMarked command.now target.now current.now lines.now file.old marks.now }
+    ensures ok { OnOk result (effect command.now target.now current.now lines.now file.old ≡ Ok file.new) }
+    ensures same { IfOk result (λ same. IsTrue same ↔ (file.new ≡ file.old)) }
+    ensures err { IfErr result (λ refusal. (effect command.now target.now current.now lines.now file.old ≡ Err refusal) ⊎ (refusal ≡ Refusal.Memory)) }
 {
     effects_stay_proper();
     // What is read of the command, so that its words are known to be proper.
     let operation = &command.operation;
-    let File { items } = file;
-    let Changed { items, same } = on_rules(alloc, operation, current, marks, items)?;
-    let new = File { items };
-    if same {
-        take_apart(new);
-        return Ok(None);
+    let before = mem::replace(&mut file.items, Items::new(alloc));
+    let Changed { items, same } = on_rules(alloc, operation, current, marks, before)?;
+    file.items = items;
+    Ok(same)
+}
+
+/// Whether a command is one in place, and the items that are marked are expressions alone.
+fn may_exchange(command: &Command, marks: &[bool], file: &File) -> bool
+    ensures { result ≡ (is_in_place command.now && are_bare marks.now file.now) }
+{
+    is_in_place(&command.operation) && are_bare(marks, file.items.as_slice())
+}
+
+/// The marks, where the items that are marked were expressions alone, `before`, and still are.
+fn told(before: bool, marks: Vec<bool>, file: &File) -> Option<Vec<bool>>
+    ensures { IfSome result (λ told. (told.items ≡ marks.items) × ((before && are_bare marks.items file.now) ≡ true)) }
+{
+    if before && are_bare(marks.as_slice(), file.items.as_slice()) {
+        Some(marks)
+    } else {
+        None
     }
-    Ok(Some(new))
+}
+
+/// What a command made of a file of which the items that it is meant for are marked.
+fn change_marked(
+    alloc: Global,
+    command: &Command,
+    target: &Target,
+    current: &[u8],
+    lines: &[u32],
+    marks: Vec<bool>,
+    file: &mut File,
+) -> Result<Ran, Refusal>
+    requires marked { IsMarked command.now target.now current.now lines.now file.old marks.items }
+    requires silent { printed command.now target.now current.now lines.now file.old ≡ Ok [] }
+    ensures ok { OnOk result (effect command.now target.now current.now lines.now file.old ≡ Ok file.new) }
+    ensures same { IfOk result (λ ran. IsTrue ran.same ↔ (file.new ≡ file.old)) }
+    ensures printed { IfOk result (λ ran. printed command.now target.now current.now lines.now file.old ≡ Ok ran.printed) }
+    ensures renewed { IfOk result (λ ran. IfSome ran.renewed (λ marks. AreExchanged marks.items file.old file.new)) }
+    ensures err { IfErr result (λ refusal. (effect command.now target.now current.now lines.now file.old ≡ Err refusal) ⊎ (refusal ≡ Refusal.Memory)) }
+{
+    let marked = marks.as_slice();
+    let before = may_exchange(command, marked, file);
+    let same = change(alloc, command, target, current, lines, marked, file)?;
+    let renewed = told(before, marks, file);
+    Ok(Ran {
+        same,
+        renewed,
+        printed: Text::from_vec(Vec::new(alloc)),
+    })
+}
+
+/// The effect of a command on the rules that the target means, on a file in place, and which of its items it exchanged.
+/// `current` is the path of the file's package, `lines` the lines on which its statements begin, from 1.
+/// Errors: the effect's refusal; `Memory`: a growth was refused. After an error the file may have lost its items.
+pub fn run_in(
+    alloc: Global,
+    command: &Command,
+    target: &Target,
+    current: &[u8],
+    lines: &[u32],
+    file: &mut File,
+) -> Result<Ran, Refusal>
+    ensures ok { OnOk result (effect command.now target.now current.now lines.now file.old ≡ Ok file.new) }
+    ensures same { IfOk result (λ ran. IsTrue ran.same ↔ (file.new ≡ file.old)) }
+    ensures printed { IfOk result (λ ran. printed command.now target.now current.now lines.now file.old ≡ Ok ran.printed) }
+    ensures renewed { IfOk result (λ ran. IfSome ran.renewed (λ marks. AreExchanged marks.items file.old file.new)) }
+    ensures err { IfErr result (λ refusal. (effect command.now target.now current.now lines.now file.old ≡ Err refusal) ⊎ (refusal ≡ Refusal.Memory)) }
+{
+    match look_at(
+        alloc,
+        command,
+        target,
+        current,
+        lines,
+        file.items.as_slice(),
+    )? {
+        Look::Stays(printed) => Ok(Ran {
+            same: true,
+            renewed: None,
+            printed,
+        }),
+        Look::Changes(marks) => change_marked(alloc, command, target, current, lines, marks, file),
+    }
+}
+
+/// A file that is another one now; the same one is let go.
+fn if_other(same: bool, file: File) -> Option<File>
+    ensures { result ≡ if same then None else Some file }
+{
+    if same {
+        take_apart(file);
+        return None;
+    }
+    Some(file)
+}
+
+/// The effect of a command on the rules that the target means, on a file that is given up: what stays of it is moved.
+/// `current` is the path of the file's package, `lines` the lines on which its statements begin, from 1. The outcome holds no
+/// file exactly where the effect is the same value, and what is printed of the rules where the command prints.
+/// Errors: the effect's refusal; `Memory`: a growth was refused.
+pub fn run_on(
+    alloc: Global,
+    command: &Command,
+    target: &Target,
+    current: &[u8],
+    lines: &[u32],
+    file: File,
+) -> Result<Outcome, Refusal>
+    ensures ok { IfOk result (λ outcome. effect command.now target.now current.now lines.now file ≡ Ok (unwrap_or outcome.file file)) }
+    ensures unchanged { IfOk result (λ outcome. (outcome.file ≡ None) ↔ (effect command.now target.now current.now lines.now file ≡ Ok file)) }
+    ensures printed { IfOk result (λ outcome. printed command.now target.now current.now lines.now file ≡ Ok outcome.printed) }
+    ensures err { IfErr result (λ refusal. (effect command.now target.now current.now lines.now file ≡ Err refusal) ⊎ (refusal ≡ Refusal.Memory)) }
+{
+    let mut file = file;
+    match run_in(alloc, command, target, current, lines, &mut file) {
+        Ok(ran) => Ok(Outcome {
+            file: if_other(ran.same, file),
+            printed: ran.printed,
+        }),
+        Err(refusal) => {
+            take_apart(file);
+            Err(refusal)
+        }
+    }
 }
 
 /// The effect of a command on the rules that the target means, as `run_on` tells it, on a copy of the file where it may change.
@@ -150,77 +272,9 @@ pub fn run(
             file: None,
             printed,
         }),
-        Look::Changes(marks) => {
+        Look::Changes(_) => {
             let copy = file.copy()?;
-            let new = changed(
-                alloc,
-                command,
-                target,
-                current,
-                lines,
-                marks.as_slice(),
-                copy,
-            )?;
-            Ok(Outcome {
-                file: new,
-                printed: Text::from_vec(Vec::new(alloc)),
-            })
-        }
-    }
-}
-
-/// The effect of a command on the rules that the target means, on a file that is given up: what stays of it is moved.
-/// `current` is the path of the file's package, `lines` the lines on which its statements begin, from 1. The outcome holds no
-/// file exactly where the effect is the same value, and what is printed of the rules where the command prints.
-/// Errors: the effect's refusal; `Memory`: a growth was refused.
-pub fn run_on(
-    alloc: Global,
-    command: &Command,
-    target: &Target,
-    current: &[u8],
-    lines: &[u32],
-    file: File,
-) -> Result<Outcome, Refusal>
-    ensures ok { IfOk result (λ outcome. effect command.now target.now current.now lines.now file ≡ Ok (unwrap_or outcome.file file)) }
-    ensures unchanged { IfOk result (λ outcome. (outcome.file ≡ None) ↔ (effect command.now target.now current.now lines.now file ≡ Ok file)) }
-    ensures printed { IfOk result (λ outcome. printed command.now target.now current.now lines.now file ≡ Ok outcome.printed) }
-    ensures err { IfErr result (λ refusal. (effect command.now target.now current.now lines.now file ≡ Err refusal) ⊎ (refusal ≡ Refusal.Memory)) }
-{
-    match look_at(
-        alloc,
-        command,
-        target,
-        current,
-        lines,
-        file.items.as_slice(),
-    ) {
-        Ok(look) => match look {
-            Look::Stays(printed) => {
-                take_apart(file);
-                Ok(Outcome {
-                    file: None,
-                    printed,
-                })
-            }
-            Look::Changes(marks) => {
-                let new = changed(
-                    alloc,
-                    command,
-                    target,
-                    current,
-                    lines,
-                    marks.as_slice(),
-                    file,
-                )?;
-                Ok(Outcome {
-                    file: new,
-                    printed: Text::from_vec(Vec::new(alloc)),
-                })
-            }
-        },
-        Err(refusal) => {
-            take_apart(file);
-            Err(refusal)
+            run_on(alloc, command, target, current, lines, copy)
         }
     }
 }
