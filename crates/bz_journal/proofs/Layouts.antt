@@ -24,12 +24,13 @@ use Rattle.bz_command.specs.Laws.{EffectsStayProper}
 use Rattle.bz_attribute.specs.declared.refusal.Refusal.{Refusal}
 use Rattle.bz_attribute.specs.declared.refusal.Refusal.TheVariants.{Full, NoteTooLong}
 use Rattle.bz_redraw.specs.Redrawn.{IsWritten}
-use Rattle.bz_journal.specs.declared.action.Action.TheVariants.{Do}
+use Rattle.bz_journal.specs.declared.action.Action.{Action}
+use Rattle.bz_journal.specs.declared.action.Action.TheVariants.{Do, Format, Undo, Redo}
 use Rattle.bz_journal.specs.declared.action.Reply.{Reply}
 use Rattle.bz_journal.specs.declared.action.Reply.TheVariants.{Changed}
 use Rattle.bz_journal.specs.Meaning.{Meaning, gives, refuses, told, written, EffectMeans, Means}
 use Rattle.bz_journal.specs.History.{History, Answer, Acts, MakesOrWants, present, changed, unchanged, after_text, after_meaning, most_steps}
-use Rattle.bz_journal.specs.Editing.{IsLayoutOf, WrittenIsDrawn, ChangedIsWritten}
+use Rattle.bz_journal.specs.Editing.{IsCommandDone, IsLayoutOf, WrittenIsDrawn, ChangedIsWritten}
 use Rattle.bz_journal.proofs.Formatting.{present_changed}
 use Rattle.bz_journal.proofs.Writes.{IsGiven, given}
 
@@ -116,3 +117,11 @@ changed_is_written layouts seen effects operation target note h after tree comma
     let reply : ◌≡◌ {A = Answer} (Ok Changed) (Err NoteTooLong) = ap (λ (z : Answer × History). z.0) long.1 in absurd (cc)
 changed_is_written layouts seen effects operation target note h after tree command within (inr makes) reads =
     by_makes layouts seen effects operation target note h after tree command within makes.1 reads
+
+pub done_is_written : ChangedIsWritten → (action : Action) (note : Bytes) (h after : History) (answer : Answer) (tree : Node) → h.cursor < length h.texts → IsCommandDone action answer
+    → Acts action note h answer after → Reads (present after) tree → IsWritten (view_of tree) tree
+done_is_written law (Do operation target) note h after answer tree within done acts reads =
+    law operation target note h after tree done.0 within (subst (λ (a : Answer). Acts (Do operation target) note h a after) done.1 acts) reads
+done_is_written law Format note h after answer tree within done acts reads = absurd done
+done_is_written law (Undo n) note h after answer tree within done acts reads = absurd done
+done_is_written law (Redo n) note h after answer tree within done acts reads = absurd done
