@@ -59,8 +59,12 @@ edited_made note operation target h after current tree value new out answer repl
     let told_is : answer ≡ other = told_of operation (printed operation target current (lines_of tree) value) out answer printed_is answer_is in
     let means : EffectMeans (effect operation target current (lines_of tree) value) other value (spell_node tree) (written new answer) =
     subst (λ (r : Result (List Item) Refusal). EffectMeans r other value (spell_node tree) (written new answer)) (sym made) (inr (apart, ap (written new) told_is)) in
-    inl (written new answer, meant_there operation target h current (spell_node tree) (written new answer) own is
-    (means_on operation target current (spell_node tree) (written new answer) tree value (lines_of tree) reads seen refl means), led)
+    inl (
+      written new answer,
+      meant_there operation target h current (spell_node tree) (written new answer) own is
+          (means_on operation target current (spell_node tree) (written new answer) tree value (lines_of tree) reads seen refl means),
+      led,
+    )
 
 -- ---- what stays beside the session
 

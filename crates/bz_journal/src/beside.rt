@@ -74,12 +74,7 @@ struct Tidied {
 }
 
 /// Tidies items of which those that are marked were exchanged. The error: memory was refused.
-fn tidy_marked_in(
-    alloc: Global,
-    marks: &[bool],
-    file: File,
-    tree: &Tree,
-) -> Result<Tidied, Memory>
+fn tidy_marked_in(alloc: Global, marks: &[bool], file: File, tree: &Tree) -> Result<Tidied, Memory>
     requires marked { AreExchanged marks.now (view_of tree.now) file }
     requires written { IsWritten (view_of tree.now) tree.now }
     ensures tidy { IfOk result (λ done. done.file ≡ tidied file) }

@@ -251,7 +251,12 @@ impl Session {
 
     /// Takes up a new tree with a note: what it spells is the text after the present one; where it is the same one, tells what is
     /// printed.
-    pub(crate) fn take_up(&mut self, next: Tree, printed: Option<Text>, note: &str) -> Result<Reply, Refusal>
+    pub(crate) fn take_up(
+        &mut self,
+        next: Tree,
+        printed: Option<Text>,
+        note: &str,
+    ) -> Result<Reply, Refusal>
         requires { length note.now ≤ note_limit }
         ensures makes { ((result, history_of self.new) ≡ after_text note.now (history_of self.old) (spell_node next) printed)
             ⊎ ((result ≡ Err Refusal.Memory) × (history_of self.new ≡ history_of self.old)) }

@@ -81,12 +81,7 @@ impl Session {
 
     /// Puts the text of the present tree with other lines after the present one, with a note of the step to it. The digest is
     /// taken of the tree that has these lines, so all that can fail comes before the exchange.
-    fn extend_at(
-        &mut self,
-        places: &[usize],
-        lines: &mut [Part],
-        note: &str,
-    ) -> Result<(), Memory>
+    fn extend_at(&mut self, places: &[usize], lines: &mut [Part], note: &str) -> Result<(), Memory>
         requires next { IsTree (with_parts places.now lines.old self.old.tree) }
         requires as_many { length places.now ≡ length lines.old }
         requires ascend { Ascend 0 (length self.old.tree.parts) places.now }

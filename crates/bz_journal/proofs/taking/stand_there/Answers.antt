@@ -14,12 +14,15 @@ pub bounds-parts-place : goal.bounds-parts-place
 bounds-parts-place c = ascend_at 0 _ c.args.places.now c.loop-i.i 0 c.requires.ascend (omega arith)
 
 pub returns-then-not-equals : goal.returns-then-not-equals
-returns-then-not-equals c = (λ none. absurd (false≢true none), λ same.
-    let part : Part = c.index-parts-place.result in
-    let line : Part = c.index-lines-i.result in
-    let there : slice_index_or c.args.parts.now (slice_index_or c.args.places.now c.loop-i.i 0) part ≡ slice_index_or c.args.lines.now c.loop-i.i line =
-    lines_there c.args.places.now c.args.lines.now c.args.parts.now c.loop-i.i 0 part line c.requires.ascend c.requires.as_many (omega arith) same in
-    absurd (false≢true (c.if-not-equals.ensures.1 (c.index-parts-place.is ∙ there ∙ sym c.index-lines-i.is))))
+returns-then-not-equals c = (
+  λ none. absurd (false≢true none),
+  λ same.
+      let part : Part = c.index-parts-place.result in
+      let line : Part = c.index-lines-i.result in
+      let there : slice_index_or c.args.parts.now (slice_index_or c.args.places.now c.loop-i.i 0) part ≡ slice_index_or c.args.lines.now c.loop-i.i line =
+      lines_there c.args.places.now c.args.lines.now c.args.parts.now c.loop-i.i 0 part line c.requires.ascend c.requires.as_many (omega arith) same in
+      absurd (false≢true (c.if-not-equals.ensures.1 (c.index-parts-place.is ∙ there ∙ sym c.index-lines-i.is))),
+)
 
 pub loop-i-preserved : goal.loop-i-preserved
 loop-i-preserved c =
