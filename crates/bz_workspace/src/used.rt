@@ -13,7 +13,7 @@ ghost use Rattle.bz_workspace.specs.Shown.{opened_in, used_in};
 use bz_attribute::Refusal;
 use bz_files::Files;
 use bz_items::Text;
-use bz_journal::{Action, KeepFault, Reply, Session};
+use bz_journal::{Action, Editor, KeepFault, Reply, Session};
 
 /// A file that is open.
 #[derive(Drop)]
@@ -22,8 +22,8 @@ pub struct Opened {
     pub name: String,
     /// The text that was read.
     pub read: Text,
-    /// What became of it.
-    pub session: Session,
+    /// What became of it: its session, with the value beside it.
+    pub editor: Editor,
     /// Whether its journal and it were written in this run.
     pub written: bool,
     /// Whether it is left alone: the two could not both be written.
@@ -38,7 +38,7 @@ impl Opened {
         Opened {
             name,
             read,
-            session,
+            editor: Editor::new(session),
             written: false,
             left: false,
         }
@@ -58,12 +58,12 @@ impl Opened {
         ensures count { F.faults files.old ≤ F.faults files.new }
         ensures honest { F.honest files.new ≡ F.honest files.old }
     {
-        let from = self.session.cursor();
+        let from = self.editor.session().cursor();
         let kept = self
-            .session
+            .editor
             .keep_noted(action, note, self.name.as_str(), files);
         match &kept {
-            Ok(_) => self.written = self.written || self.session.cursor() != from,
+            Ok(_) => self.written = self.written || self.editor.session().cursor() != from,
             Err(KeepFault::Refused(_)) => {}
             Err(KeepFault::Pair(_)) => self.left = true,
         }
@@ -106,7 +106,7 @@ fn act_in(used: &mut Used, action: &Action, note: &str) -> Result<Reply, Refusal
         × (used_in used.new ≡ record (used_in used.old) { file = Some (record file { history = history }) }) }
 {
     match &mut used.file {
-        Some(opened) => opened.session.act_noted(action, note),
+        Some(opened) => opened.editor.act_noted(action, note),
         None => Err(Refusal::Memory),
     }
 }
