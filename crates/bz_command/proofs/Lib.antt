@@ -1,4 +1,5 @@
 pub mod LawComments
+pub mod LinesMatter
 pub mod ProperEffects
 pub mod RenewedItems
 pub mod RunningItems

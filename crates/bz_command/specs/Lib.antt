@@ -2,6 +2,7 @@ pub mod ArgumentChanges
 pub mod CallParts
 pub mod Effect
 pub mod Laws
+pub mod LinesMatter
 pub mod Looks
 pub mod Printing
 pub mod Renewed

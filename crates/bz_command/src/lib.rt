@@ -2,6 +2,7 @@
 #![tactic(auto)]
 
 mod laws;
+mod lines;
 mod outcome;
 mod printing;
 mod proper_laws;
@@ -12,6 +13,7 @@ mod statements;
 mod targets;
 
 pub use laws::{comments_stay, worked_effects};
+pub use lines::{lines_matter, looks_at_lines};
 pub use outcome::{Outcome, Ran};
 pub use proper_laws::effects_stay_proper;
 pub use running::{run, run_in, run_on};
