@@ -43,10 +43,11 @@ pub lines_matter : LinesMatter
 lines_matter command target current lines others items h =
     let quiet = neither (prints command) (is_by_line target.which) h in
     let marks = meant target.which others items in
-    let same : meant target.which lines items ≡ marks = meant_same target.which lines others items quiet.1 in
-    (ap (effect_by command target current lines items) same
-    ∙ ap (λ (r : Result (List Item) Refusal). if lacks_rules command marks then (if may_mean_none target.which then Ok items else Err NoTarget) else r)
-    (untaken (prints command) (kept items (printed_rules command current lines marks items)) (kept items (printed_rules command current others marks items)) (on_rules command current marks items) quiet.0),
-    ap (printed_by command current lines items) same
-    ∙ ap (λ (r : Result Bytes Refusal). if lacks_rules command marks then Ok [] else r)
-    (untaken (prints command) (printed_rules command current lines marks items) (printed_rules command current others marks items) (Ok []) quiet.0))
+    let same : meant target.which lines items ≡ marks = meant_same target.which lines others items quiet.1 in (
+      ap (effect_by command target current lines items) same
+          ∙ ap (λ (r : Result (List Item) Refusal). if lacks_rules command marks then (if may_mean_none target.which then Ok items else Err NoTarget) else r)
+          (untaken (prints command) (kept items (printed_rules command current lines marks items)) (kept items (printed_rules command current others marks items)) (on_rules command current marks items) quiet.0),
+      ap (printed_by command current lines items) same
+          ∙ ap (λ (r : Result Bytes Refusal). if lacks_rules command marks then Ok [] else r)
+          (untaken (prints command) (printed_rules command current lines marks items) (printed_rules command current others marks items) (Ok []) quiet.0),
+    )

@@ -1,8 +1,9 @@
 //! Commands on the value beside a session whose present text is the layout of a tidy value: only what changes is tidied and
 //! drawn.
-ghost use Rattle.std.specs.Prelude.{◌≡◌, ◌≤◌, ◌⊎◌, ◌↔◌, Err, IfErr, IfOk, IfSome, IsTrue, None, Ok, OnErr, OnOk, Option, length};
+ghost use Rattle.std.specs.Prelude.{◌≡◌, ◌≤◌, ◌⊎◌, ◌↔◌, Err, IfErr, IfOk, IfSome, IsTrue, None, List, Ok, OnErr, OnOk, Option, length};
 ghost use Rattle.bz_tree.specs.Spell.{spell_node};
 ghost use Rattle.bz_tree.specs.Statements.{lines_of};
+ghost use Rattle.bz_value.specs.declared.value.Item.{Item};
 ghost use Rattle.bz_value.specs.Exchanged.{AreExchanged};
 ghost use Rattle.bz_value.specs.Gaps.{Bytes};
 ghost use Rattle.bz_view.specs.View.{view_of};
@@ -23,7 +24,7 @@ use crate::laws::written_is_drawn;
 use crate::meaning::{reads_back, told};
 use crate::session::{Session, unchanged};
 use bz_attribute::Refusal;
-use bz_command::{Ran, run_in};
+use bz_command::{Ran, lines_matter, looks_at_lines, run_in};
 use bz_items::{Memory, Text};
 use bz_label::Target;
 use bz_redraw::{Redrawn, renew};
@@ -37,7 +38,7 @@ use bz_write::{SetFault, layout_is_accepted, set};
 use std::alloc::Global;
 
 /// The value of a tree: the one that is kept, or one that is made. The error: memory was refused.
-fn value_of(alloc: Global, kept: Option<File>, tree: &Tree) -> Result<File, Memory>
+pub(crate) fn value_of(alloc: Global, kept: Option<File>, tree: &Tree) -> Result<File, Memory>
     requires { IfSome kept (λ items. items ≡ view_of tree.now) }
     ensures { IfOk result (λ file. file ≡ view_of tree.now) }
 {
@@ -45,6 +46,24 @@ fn value_of(alloc: Global, kept: Option<File>, tree: &Tree) -> Result<File, Memo
         Some(file) => Ok(file),
         None => view(alloc, tree),
     }
+}
+
+/// The lines on which the statements of a tree begin, where a command depends on them; else none, which comes to the same. The
+/// error: memory was refused.
+pub(crate) fn lines_for(
+    alloc: Global,
+    command: &Command,
+    target: &Target,
+    tree: &Tree,
+) -> Result<Vec<u32>, Memory>
+    ensures effect { IfOk result (λ lines. (current : Bytes) (items : List Item) → effect command.now target.now current lines.items items ≡ effect command.now target.now current (lines_of tree.now) items) }
+    ensures printed { IfOk result (λ lines. (current : Bytes) (items : List Item) → printed command.now target.now current lines.items items ≡ printed command.now target.now current (lines_of tree.now) items) }
+{
+    lines_matter();
+    if looks_at_lines(command, target) {
+        return tree.lines(alloc);
+    }
+    Ok(Vec::new(alloc))
 }
 
 /// Runs a command on the value of a tree, in place. Errors: those of the command.
@@ -62,7 +81,7 @@ fn run_on_tree(
     ensures renewed { IfOk result (λ ran. IfSome ran.renewed (λ marks. AreExchanged marks.items file.old file.new)) }
     ensures err { IfErr result (λ refusal. (effect command.now target.now current.now (lines_of tree.now) file.old ≡ Err refusal) ⊎ (refusal ≡ Refusal.Memory)) }
 {
-    let lines = tree.lines(alloc)?;
+    let lines = lines_for(alloc, command, target, tree)?;
     run_in(alloc, command, target, current, lines.as_slice(), file)
 }
 

@@ -18,6 +18,7 @@ ghost use Rattle.bz_journal.specs.Shown.{history_of, IsOverEven};
 ghost use Rattle.bz_journal.specs.State.{trail_of};
 
 use crate::action::{Action, Reply};
+use crate::asking::answer_noted;
 use crate::beside::edit_beside;
 use crate::keeping::KeepFault;
 use crate::laws::changed_is_written;
@@ -39,6 +40,8 @@ pub struct Editor {
     value: Option<File>,
     /// Whether the present text is known to be the layout of a tidy value.
     written: bool,
+    /// Whether the last command printed something, so that the value is worth keeping for the next one that prints.
+    asked: bool,
 }
 
 impl Model for Editor {
@@ -133,6 +136,7 @@ impl Editor {
             session,
             value: None,
             written: false,
+            asked: false,
         }
     }
 
@@ -154,8 +158,8 @@ impl Editor {
         ensures even { length note.now ≤ note_limit → IsOverEven action.now (trail_of self.old) → IsOk result }
         ensures small { IsSmall (trail_of self.old) → IsSmall (trail_of self.new) }
     {
-        if self.written {
-            if let Action::Do(command, target) = action {
+        if let Action::Do(command, target) = action {
+            if self.written {
                 return edit_noted(
                     &mut self.session,
                     &mut self.value,
@@ -165,6 +169,20 @@ impl Editor {
                     note,
                 );
             }
+            let asks = command.prints();
+            if self.asked && asks {
+                if let Some(answer) = answer_noted(
+                    &self.session,
+                    &mut self.value,
+                    action,
+                    command,
+                    target,
+                    note,
+                ) {
+                    return answer;
+                }
+            }
+            self.asked = asks;
         }
         self.value = None;
         act_by_session(&mut self.session, action, note, &mut self.written)

@@ -2,6 +2,7 @@
 #![tactic(auto)]
 
 mod action;
+mod asking;
 mod beside;
 mod digest;
 mod editor;

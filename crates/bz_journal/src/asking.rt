@@ -1,0 +1,94 @@
+//! Commands that leave the present text as it is, answered by the value beside a session.
+ghost use Rattle.std.specs.Prelude.{◌≡◌, ◌⊎◌, ◌↔◌, None, Ok, Err, IfErr, IfOk, IfSome};
+ghost use Rattle.std.specs.Option.{unwrap_or};
+ghost use Rattle.bz_tree.specs.Statements.{lines_of};
+ghost use Rattle.bz_value.specs.Gaps.{Bytes};
+ghost use Rattle.bz_view.specs.View.{view_of};
+ghost use Rattle.bz_attribute.specs.declared.refusal.Refusal.{Refusal};
+ghost use Rattle.bz_command.specs.Effect.{effect, printed};
+ghost use Rattle.bz_journal.specs.declared.action.Action.{Action};
+ghost use Rattle.bz_journal.specs.History.{Acts, MakesOrWants};
+ghost use Rattle.bz_journal.specs.Shown.{history_of};
+
+use crate::action::{Action, Reply};
+use crate::beside::{lines_for, value_of};
+use crate::meaning::{reads_back, told};
+use crate::session::{MOST_NOTE, Session, unchanged};
+use bz_attribute::Refusal;
+use bz_command::{Outcome, run};
+use bz_label::Target;
+use bz_tree::Tree;
+use bz_value::File;
+use bz_words::Command;
+use std::alloc::Global;
+
+/// Runs a command on the value of a tree, which stays. Errors: those of the command.
+fn run_beside(
+    alloc: Global,
+    command: &Command,
+    target: &Target,
+    current: &[u8],
+    tree: &Tree,
+    file: &File,
+) -> Result<Outcome, Refusal>
+    ensures ok { IfOk result (λ outcome. (outcome.file ≡ None) → effect command.now target.now current.now (lines_of tree.now) file.now ≡ Ok file.now) }
+    ensures printed { IfOk result (λ outcome. printed command.now target.now current.now (lines_of tree.now) file.now ≡ Ok outcome.printed) }
+    ensures err { IfErr result (λ refusal. (effect command.now target.now current.now (lines_of tree.now) file.now ≡ Err refusal) ⊎ (refusal ≡ Refusal.Memory)) }
+{
+    let lines = lines_for(alloc, command, target, tree)?;
+    run(alloc, command, target, current, lines.as_slice(), file)
+}
+
+/// What a command answers of the value of the present text; none where it would change that.
+fn answer_of(
+    session: &Session,
+    command: &Command,
+    target: &Target,
+    file: &File,
+) -> Option<Result<Reply, Refusal>>
+    requires { file.now ≡ view_of session.now.tree }
+    ensures { IfSome result (λ answer. (note : Bytes) → MakesOrWants (Action.Do command.now target.now) note (history_of session.now) answer (history_of session.now)) }
+{
+    let alloc = session.alloc();
+    let here = session.present();
+    reads_back(here);
+    match run_beside(alloc, command, target, session.own_package(), here, file) {
+        Ok(outcome) => {
+            let Outcome {
+                file: made,
+                printed,
+            } = outcome;
+            if made.is_some() {
+                return None;
+            }
+            Some(Ok(unchanged(told(command, printed))))
+        }
+        Err(refusal) => Some(Err(refusal)),
+    }
+}
+
+/// What a command with a note answers by the value of the present text, which is made where none is kept, and stays; none where the
+/// note is too long, and where the command would change the text.
+pub(crate) fn answer_noted(
+    session: &Session,
+    value: &mut Option<File>,
+    action: &Action,
+    command: &Command,
+    target: &Target,
+    note: &str,
+) -> Option<Result<Reply, Refusal>>
+    requires value { IfSome value.old (λ items. items ≡ view_of session.now.tree) }
+    requires action { action.now ≡ Action.Do command.now target.now }
+    ensures acts { IfSome result (λ answer. Acts action.now note.now (history_of session.now) answer (history_of session.now)) }
+    ensures value { IfSome value.new (λ items. items ≡ view_of session.now.tree) }
+{
+    if note.len() > MOST_NOTE {
+        return None;
+    }
+    let Ok(file) = value_of(session.alloc(), value.take(), session.present()) else {
+        return Some(Err(Refusal::Memory));
+    };
+    let answer = answer_of(session, command, target, &file);
+    *value = Some(file);
+    answer
+}
