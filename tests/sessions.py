@@ -31,7 +31,7 @@ TOP = pathlib.Path(__file__).resolve().parent.parent
 
 # How many lists are made, of how many commands at most, and how often one is an undo or a redo: behind one of these, and behind
 # another command.
-LISTS = 1000
+LISTS = 2000
 LONGEST = 12
 GOES_ON = 0.6
 GOES = 0.25
