@@ -17,6 +17,7 @@
 //! Words are separated by spaces; one that is empty or holds spaces stands in double quotes.
 #![tactic(auto)]
 
+mod failing;
 mod runs;
 
 use crate::runs::RunQuery;

@@ -1,4 +1,5 @@
 //! Runs of the programs over readers and writers in memory.
+use crate::failing::{Failure, SOUND, Trial, Way};
 use bz_engine::buildozer;
 use bz_files::MemoryFiles;
 use bz_items::Memory;
@@ -15,12 +16,30 @@ pub(crate) enum RunQuery {
     Status,
 }
 
-/// How many bytes a reader gives and a writer takes at a time.
-const STEP: usize = 1_048_576;
+/// A run that is wanted: of which program, by which words, over which standard input and files.
+#[derive(Clone, Copy)]
+pub(crate) struct Task<'a> {
+    pub(crate) alloc: Global,
+    program: RunQuery,
+    words: &'a [&'a str],
+    pub(crate) input: &'a [u8],
+    pub(crate) given: &'a [(&'a str, &'a [u8])],
+}
 
 /// What a run leaves.
 #[derive(Drop)]
-struct Left {
+pub(crate) struct Left {
+    pub(crate) exit: Exit,
+    pub(crate) out: MemorySink,
+    pub(crate) err: MemorySink,
+    pub(crate) files: MemoryFiles,
+    // How many moments the files had before the run.
+    pub(crate) moments: usize,
+}
+
+/// How a run ends, and what it writes.
+#[derive(Drop)]
+struct Ended {
     exit: Exit,
     out: MemorySink,
     err: MemorySink,
@@ -47,27 +66,78 @@ impl RunQuery {
         let words = words_of(alloc, line)?;
         let input = case.bytes(place)?;
         let given = files_of(case, place + 1)?;
-        let mut files = MemoryFiles::of(alloc, given.as_slice())?;
-        let left = self.run(alloc, words.as_slice(), input, &mut files);
+        let task = Task {
+            alloc,
+            program: self,
+            words: words.as_slice(),
+            input,
+            given: given.as_slice(),
+        };
+        let left = task.run(given.as_slice(), SOUND)?;
         match self {
             RunQuery::Status => left.show_status(alloc, page)?,
             _ => left.show(alloc, page)?,
         }
-        show_changed(given.as_slice(), &files, page)
+        show_changed(given.as_slice(), &left.files, page)?;
+        Trial::new(task, left)?.try_all(page)
     }
 
-    /// A run of the program, of which nothing has to be known here.
-    fn run(self, alloc: Global, words: &[&str], input: &[u8], files: &mut MemoryFiles) -> Left {
-        let mut source = MemorySource::new(input, STEP, 0);
-        let mut out = MemorySink::new(alloc, STEP, 0);
-        let mut err = MemorySink::new(alloc, STEP, 0);
-        let exit = match self {
-            RunQuery::Buildifier => {
-                buildifier(alloc, words, &mut source, &mut out, &mut err, files)
-            }
-            _ => buildozer(alloc, words, &mut source, &mut out, &mut err, files),
+    /// Whether the program is buildifier.
+    fn is_buildifier(self) -> bool {
+        matches!(self, RunQuery::Buildifier)
+    }
+}
+
+impl Task<'_> {
+    /// A run over these files, in which this call fails. The error: memory was refused for the files.
+    pub(crate) fn run(self, given: &[(&str, &[u8])], failure: Failure) -> Result<Left, Memory> {
+        let mut files = MemoryFiles::of(self.alloc, given)?;
+        let moments = files.moments();
+        plan(failure, &mut files);
+        let Ended { exit, out, err } = self.end(failure, &mut files);
+        Ok(Left {
+            exit,
+            out,
+            err,
+            files,
+            moments,
+        })
+    }
+
+    /// The run of the program, of which nothing has to be known here.
+    fn end(self, failure: Failure, files: &mut MemoryFiles) -> Ended {
+        let alloc = self.alloc;
+        let (step, call) = failure.of_reads();
+        let mut source = MemorySource::new(self.input, step, call);
+        let (step, call) = failure.of_writes();
+        let mut out = MemorySink::new(alloc, step, call);
+        let (step, call) = failure.of_tells();
+        let mut err = MemorySink::new(alloc, step, call);
+        let exit = if self.program.is_buildifier() {
+            buildifier(alloc, self.words, &mut source, &mut out, &mut err, files)
+        } else {
+            buildozer(alloc, self.words, &mut source, &mut out, &mut err, files)
         };
-        Left { exit, out, err }
+        Ended { exit, out, err }
+    }
+
+    /// The status of a run in which something failed.
+    pub(crate) fn status_of_failure(self) -> u8 {
+        if self.program.is_buildifier() { 3 } else { 2 }
+    }
+
+    pub(crate) fn has_word(self, wanted: &str) -> bool {
+        self.words.iter().any(|word| *word == wanted)
+    }
+}
+
+/// Makes a call of the files fail, where one of them is to.
+fn plan(failure: Failure, files: &mut MemoryFiles) {
+    match failure.way() {
+        Way::FileBefore => files.fail_at(failure.call()),
+        Way::FileBehind => files.fail_behind(failure.call()),
+        Way::FilesFrom => files.stop_at(failure.call()),
+        Way::Read | Way::Write | Way::Tell => {}
     }
 }
 
@@ -123,6 +193,16 @@ fn words_of(alloc: Global, line: &str) -> Result<Vec<&str>, Memory> {
 }
 
 impl Left {
+    /// Whether a file held these bytes at some moment from the beginning of the run on.
+    pub(crate) fn has_held(&self, name: &str, bytes: Option<&[u8]>) -> bool {
+        for moment in self.moments..self.files.moments().saturating_add(1) {
+            if self.files.bytes_then(moment, name) == bytes {
+                return true;
+            }
+        }
+        false
+    }
+
     /// Writes the status, and where the run was cut.
     fn shown_exit(&self, alloc: Global) -> Result<String, Memory> {
         let status = self.exit.status;
