@@ -16,6 +16,7 @@ const LONG: usize = 65_536;
 
 /// The number of the last call that is tried of long standard input, and of any other device.
 const FEW: u64 = 4;
+
 const MOST: u64 = 1000;
 
 /// What fails.
@@ -114,7 +115,11 @@ impl Way {
 impl Failure {
     /// The number of the call that fails of a device, and its step; the other ones are sound.
     fn of(self, is_its: bool) -> (usize, u64) {
-        if is_its { (self.step, self.call) } else { (STEP, 0) }
+        if is_its {
+            (self.step, self.call)
+        } else {
+            (STEP, 0)
+        }
     }
 
     pub(crate) fn of_reads(self) -> (usize, u64) {
@@ -299,13 +304,7 @@ impl<'a> Trial<'a> {
     }
 
     /// Makes each call of a device fail, up to the first that a run doesn't meet or the last that is to be tried. How many were met.
-    fn sweep(
-        &self,
-        way: Way,
-        step: usize,
-        last: u64,
-        page: &mut Page,
-    ) -> Result<u64, CaseFault> {
+    fn sweep(&self, way: Way, step: usize, last: u64, page: &mut Page) -> Result<u64, CaseFault> {
         let mut met = 0;
         for call in 1..last {
             if !self.try_call(way, step, call, page)? {
@@ -350,7 +349,9 @@ impl<'a> Trial<'a> {
     fn tell(&self, failure: Failure, breach: Breach, page: &mut Page) -> Result<(), CaseFault> {
         let (way, call, step) = (failure.way.name(), failure.call, failure.step);
         let sentence = breach.sentence();
-        let line = format!(in self.task.alloc; "{way}, call {call}, bytes a call {step}: {sentence}")?;
+        let line = format!(in self.task.alloc;
+            "{way}, call {call}, bytes a call {step}: {sentence}"
+        )?;
         Ok(page.line("?", line.as_bytes())?)
     }
 
@@ -470,7 +471,9 @@ impl<'a> Trial<'a> {
             return false;
         }
         for &(name, before) in self.task.given {
-            if left.files.bytes_at(name) != Some(before) && tells_unwritten(left.err.bytes(), name) {
+            if left.files.bytes_at(name) != Some(before)
+                && tells_unwritten(left.err.bytes(), name)
+            {
                 return true;
             }
         }
@@ -507,5 +510,6 @@ impl<'a> Trial<'a> {
 
 /// Whether a line says that this file was not written.
 fn tells_unwritten(text: &[u8], name: &str) -> bool {
-    text.split(|byte| *byte == b'\n').any(|line| line.strip_suffix(b": cannot write") == Some(name.as_bytes()))
+    text.split(|byte| *byte == b'\n').any(|line| line.strip_suffix(b": cannot write")
+        == Some(name.as_bytes()))
 }

@@ -14,6 +14,9 @@
 //! | `status` | the same | the status, on which of the two outputs something is written, and each file that is changed |
 //! | `laws` | nothing | that all laws of the engines were called |
 //!
+//! Each run is then made again with each call of its devices failing in turn (failing.rt). What is left wrongly is a line with `?` in
+//! front, which says what failed and what is wrong; where nothing is, nothing is written.
+//!
 //! Words are separated by spaces; one that is empty or holds spaces stands in double quotes.
 #![tactic(auto)]
 
