@@ -11,7 +11,7 @@ ghost use Rattle.bz_journal.specs.History.{Acts, MakesOrWants};
 ghost use Rattle.bz_journal.specs.Shown.{history_of};
 
 use crate::action::{Action, Reply};
-use crate::beside::{lines_for, value_of};
+use crate::beside::{kept, lines_for, value_of};
 use crate::meaning::{reads_back, told};
 use crate::session::{MOST_NOTE, Session, unchanged};
 use bz_attribute::Refusal;
@@ -89,6 +89,6 @@ pub(crate) fn answer_noted(
         return Some(Err(Refusal::Memory));
     };
     let answer = answer_of(session, command, target, &file);
-    *value = Some(file);
+    *value = kept(file);
     answer
 }

@@ -1,6 +1,7 @@
 //! Commands on the value beside a session whose present text is the layout of a tidy value: only what changes is tidied and
 //! drawn.
 ghost use Rattle.std.specs.Prelude.{◌≡◌, ◌≤◌, ◌⊎◌, ◌↔◌, Err, IfErr, IfOk, IfSome, IsTrue, None, List, Ok, OnErr, OnOk, Option, length};
+ghost use Rattle.bz_tree.specs.declared.tree.Node.{Node};
 ghost use Rattle.bz_tree.specs.Spell.{spell_node};
 ghost use Rattle.bz_tree.specs.Statements.{lines_of};
 ghost use Rattle.bz_value.specs.declared.value.Item.{Item};
@@ -36,6 +37,20 @@ use bz_view::view;
 use bz_words::Command;
 use bz_write::{SetFault, layout_is_accepted, set};
 use std::alloc::Global;
+
+/// The fewest items of a value that is kept. One of fewer is made anew in a few milliseconds, and a run over thousands of files,
+/// which are mostly short, holds the values of none of them.
+const FEWEST: usize = 500;
+
+/// A value, where it is worth keeping.
+pub(crate) fn kept(file: File) -> Option<File>
+    ensures { (tree : Node) → file ≡ view_of tree → IfSome result (λ items. items ≡ view_of tree) }
+{
+    if file.items.len() < FEWEST {
+        return None;
+    }
+    Some(file)
+}
 
 /// The value of a tree: the one that is kept, or one that is made. The error: memory was refused.
 pub(crate) fn value_of(alloc: Global, kept: Option<File>, tree: &Tree) -> Result<File, Memory>
@@ -241,7 +256,7 @@ fn take_up_value(
     match take_up_tidied(session, &file, redrawn, printed, note) {
         Ok(reply) => {
             reads_back(session.present());
-            *value = Some(file);
+            *value = kept(file);
             Ok(reply)
         }
         Err(refusal) => {
@@ -320,7 +335,7 @@ pub(crate) fn edit_beside(
             } = ran;
             let printed = told(command, printed);
             if same {
-                *value = Some(file);
+                *value = kept(file);
                 return Ok(unchanged(printed));
             }
             take_up_made(session, value, renewed, file, printed, note)
