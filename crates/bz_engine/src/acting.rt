@@ -52,7 +52,7 @@ fn listing_in(alloc: Global, used: &Used) -> Result<Text, AllocError>
     ensures { IfOk result (λ text. (file : Opened) → (used_in used.now).file ≡ Some file → text ≡ listing file.history) }
 {
     match &used.file {
-        Some(file) => file.editor.session().listing(alloc),
+        Some(file) => file.editor.listing(alloc),
         None => Err(AllocError),
     }
 }

@@ -57,7 +57,7 @@ fn put_file(
         × (output.new.items ≡ output.old.items ++ file_out of_input shown to_stdout (Some (opened_in file.now)))) }
 {
     let start = output.len();
-    file.editor.session().text_into(output)?;
+    file.editor.text_into(output)?;
     let changed = &output[start..] != file.read.as_slice();
     if !goes_out(of_input, shown, to_stdout, changed) {
         output.truncate(start);
@@ -133,7 +133,7 @@ fn new_text(alloc: Global, file: &Opened) -> Result<Option<Vec<u8>>, Memory>
         ≡ (if differs (opened_in file.now) then Some (present (opened_in file.now).history) else None)) }
 {
     let mut text = Vec::new(alloc);
-    file.editor.session().text_into(&mut text)?;
+    file.editor.text_into(&mut text)?;
     if text.as_slice() == file.read.as_slice() {
         Ok(None)
     } else {

@@ -1,5 +1,5 @@
 -- Histories that differ at most in the number of the text that was present before.
-use Rattle.std.proofs.Common.{◌≡◌, ◌⊎◌, ◌-◌, ◌+◌, ◌<◌, ℕ, List, [], ◌∷◌, length, Bool, true, false, inl, inr, refl, sym, ap, subst, ◌∙◌, Option, Ok, Err, nat_lt, if◌then◌else◌}
+use Rattle.std.proofs.Common.{◌≡◌, ◌-◌, ◌+◌, ℕ, List, [], ◌∷◌, length, Bool, true, false, inl, inr, refl, sym, ap, subst, Option, Ok, Err, nat_lt, if◌then◌else◌}
 use Rattle.std.specs.Prelude.{◌==◌, bytes_eq}
 use Rattle.bz_value.specs.Gaps.{Bytes}
 use Rattle.bz_attribute.specs.declared.refusal.Refusal.TheVariants.{TooFar, Full}
@@ -7,7 +7,7 @@ use Rattle.bz_journal.specs.declared.action.Action.{Action}
 use Rattle.bz_journal.specs.declared.action.Action.TheVariants.{Do, Format, Undo, Redo}
 use Rattle.bz_journal.specs.declared.action.Reply.TheVariants.{Changed, Moved}
 use Rattle.bz_journal.specs.Meaning.{Meaning, gives, refuses}
-use Rattle.bz_journal.specs.History.{History, Answer, Acts, IsFree, Makes, Runs, after_meaning, changed, most_steps, moved, present, redone, unchanged, undone}
+use Rattle.bz_journal.specs.History.{History, Answer, Acts, IsFree, Makes, Runs, after_meaning, changed, most_steps, moved, present, unchanged}
 use Rattle.bz_journal.specs.Lasting.{AlikeGoesOn, AreAlike}
 
 -- the history with this number of the text that was present before

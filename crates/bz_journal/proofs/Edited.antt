@@ -1,5 +1,5 @@
 -- What a command on the value beside a session does is what the history says.
-use Rattle.std.proofs.Common.{◌≡◌, ◌≢◌, ◌⊎◌, ◌<◌, ◌∙◌, inl, inr, ℕ, suc, Bool, List, [], ◌∷◌, length, Result, Ok, Err, Option, Some, None, refl, sym, subst, ap}
+use Rattle.std.proofs.Common.{◌≡◌, ◌≢◌, ◌⊎◌, ◌<◌, ◌∙◌, inl, inr, suc, Bool, List, [], ◌∷◌, length, Result, Ok, Err, Option, refl, sym, subst, ap}
 use Rattle.bz_tree.specs.declared.tree.Node.{Node}
 use Rattle.bz_tree.specs.Legal.{Reads}
 use Rattle.bz_tree.specs.Spell.{spell_node}
@@ -18,7 +18,7 @@ use Rattle.bz_attribute.specs.declared.refusal.Refusal.TheVariants.{Memory}
 use Rattle.bz_redraw.specs.Redrawn.{IsWritten}
 use Rattle.bz_journal.specs.declared.action.Action.TheVariants.{Do}
 use Rattle.bz_journal.specs.declared.action.Reply.{Reply}
-use Rattle.bz_journal.specs.Meaning.{gives, refuses, told, written, EffectMeans, Means}
+use Rattle.bz_journal.specs.Meaning.{gives, refuses, told, written, EffectMeans}
 use Rattle.bz_journal.specs.History.{History, Answer, present, unchanged, after_meaning, MakesOrWants}
 use Rattle.bz_journal.specs.Editing.{IsLayoutOf, WrittenIsDrawn}
 use Rattle.bz_journal.proofs.Acting.{acts_refused, acts_same, meant_there, means_on, told_of}

@@ -1,8 +1,6 @@
 -- What the histories of sessions keep, and what a new text makes of a session.
-use Rattle.std.proofs.Common.{◌≡◌, ◌<◌, ◌≤◌, ◌+◌, ◌-◌, ℕ, zero, suc, List, [], ◌∷◌, ◌++◌, length, map, take, sym, ap, subst, ◌∙◌, arith, length-append, length-take-le}
+use Rattle.std.proofs.Common.{◌≡◌, ◌<◌, ◌+◌, ◌-◌, ℕ, zero, suc, List, [], ◌∷◌, ◌++◌, length, take, sym, ap, subst, ◌∙◌, arith, length-append, length-take-le}
 use Rattle.std.specs.List.{AllByRecursion}
-use Rattle.std.proofs.lemmas.List.{map-append, take-map}
-use Rattle.sha2.specs.Sha256.{sha256}
 use Rattle.bz_tree.specs.declared.tree.Node.{Node}
 use Rattle.bz_tree.specs.Spell.{spell_node}
 use Rattle.bz_edit.specs.declared.edit.Edit.{Edit}
@@ -40,13 +38,14 @@ all_put P (suc n) (y ∷ ys) x h own = (h.0, all_put P n ys x h.1 own)
 
 pub record HasExtended (s : State) (next : Node) (note : Bytes) (v : State) : Type 0 where
   pub session : IsSession v
+  pub texts : texts_of (trail_of v) ≡ take (s.cursor + 1) (texts_of (trail_of s)) ++ spell_node next ∷ []
   pub history : history_of v ≡ changed note (history_of s) (spell_node next)
   pub small : IsSmall (trail_of s) → IsSmall (trail_of v)
 
-pub extended : TrailsKeep → (s : State) (next tree : Node) (steps : List (List Edit)) (digests notes : List Bytes) (note : Bytes) → IsSession s → s.cursor < most_steps → IsNote Two note
-    → TakesUp (trail_of s) next (trail_at tree steps (s.cursor + 1)) → digests ≡ take (s.cursor + 1) s.digests ++ sha256 (spell_node next) ∷ [] → notes ≡ take s.cursor s.notes ++ note ∷ []
-    → HasExtended s next note (record { tree = tree; steps = steps; digests = digests; notes = notes; «package» = s.«package»; cursor = s.cursor + 1; before = s.cursor })
-extended keep s next tree steps digests notes note h room fits t is put =
+pub extended : TrailsKeep → (s : State) (next tree : Node) (steps : List (List Edit)) (notes : List Bytes) (note : Bytes) → IsSession s → s.cursor < most_steps → IsNote Two note
+    → TakesUp (trail_of s) next (trail_at tree steps (s.cursor + 1)) → notes ≡ take s.cursor s.notes ++ note ∷ []
+    → HasExtended s next note (record { tree = tree; steps = steps; notes = notes; «package» = s.«package»; cursor = s.cursor + 1; before = s.cursor })
+extended keep s next tree steps notes note h room fits t put =
     let to = s.cursor + 1 in
     let texts = texts_of (trail_of s) in
     let old = keep (trail_of s) h.trail in
@@ -55,13 +54,9 @@ extended keep s next tree steps digests notes note h room fits t is put =
     let size : length steps ≡ to = omega (arith, new.counted, ap length t.texts, length-append (take to texts) (spell_node next ∷ []), cut) in
     let kept : length (take s.cursor s.notes) ≡ s.cursor = length-take-le s.cursor s.notes (omega (arith, h.noted, h.trail.within)) in
     let noted : length notes ≡ to = ap length put ∙ length-append (take s.cursor s.notes) (note ∷ []) ∙ ap (λ k. k + 1) kept in
-    let digested : digests ≡ map sha256 (texts_of (trail_at tree steps to)) =
-    is ∙ ap (λ (l : List Bytes). take to l ++ sha256 (spell_node next) ∷ []) h.digests ∙ ap (λ (l : List Bytes). l ++ sha256 (spell_node next) ∷ []) (take-map sha256 to texts)
-    ∙ sym (map-append sha256 (take to texts) (spell_node next ∷ [])) ∙ ap (map sha256) (sym t.texts) in
     record {
       session = record {
         trail = t.trail;
-        digests = digested;
         named = h.named;
         spelled = h.spelled;
         noted = noted ∙ sym size;
@@ -69,6 +64,7 @@ extended keep s next tree steps digests notes note h room fits t is put =
         known = omega (arith, size);
         bounded = omega (arith, size, room);
       };
+      texts = t.texts;
       history =
           ap (λ (l : List Bytes). let g : History = record { «package» = s.«package»; texts = l; notes = notes; cursor = to; before = s.cursor } in g) t.texts
           ∙ ap (λ (l : List Bytes). let g : History = record { «package» = s.«package»; texts = take to texts ++ spell_node next ∷ []; notes = l; cursor = to; before = s.cursor } in g) put;

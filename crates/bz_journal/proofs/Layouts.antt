@@ -1,5 +1,5 @@
 -- The trees that commands leave: each is the layout of a tidy value.
-use Rattle.std.proofs.Common.{◌≡◌, ◌≢◌, ◌⊎◌, ◌<◌, ◌∙◌, ℕ, List, length, Bool, true, false, refl, sym, ap, subst, inl, inr, Option, Some, None, Result, Ok, Err, nat_lt, if◌then◌else◌}
+use Rattle.std.proofs.Common.{◌≡◌, ◌<◌, ◌∙◌, List, length, Bool, true, false, refl, sym, ap, subst, inl, inr, Option, Some, None, Result, Ok, Err, nat_lt, if◌then◌else◌}
 use Rattle.std.specs.Str.{bytes_eq}
 use Rattle.std.proofs.lemmas.Slice.Eq.{bytes_eq-Decides}
 use Rattle.bz_tree.specs.declared.tree.Node.{Node}
@@ -14,7 +14,6 @@ use Rattle.bz_view.specs.View.{view_of}
 use Rattle.bz_view.specs.Laws.{ViewsAreProper}
 use Rattle.bz_write.specs.Drawn.{drawn}
 use Rattle.bz_write.specs.Laws.{LayoutIsAccepted, LayoutReadsBack}
-use Rattle.bz_write.specs.Written.{layout}
 use Rattle.bz_tidy.specs.Laws.{ProperStays, TidySettles, TidyStays}
 use Rattle.bz_tidy.specs.Passes.{tidied}
 use Rattle.bz_words.specs.declared.command.Operation.{Operation}
@@ -28,7 +27,7 @@ use Rattle.bz_journal.specs.declared.action.Action.{Action}
 use Rattle.bz_journal.specs.declared.action.Action.TheVariants.{Do, Format, Undo, Redo}
 use Rattle.bz_journal.specs.declared.action.Reply.{Reply}
 use Rattle.bz_journal.specs.declared.action.Reply.TheVariants.{Changed}
-use Rattle.bz_journal.specs.Meaning.{Meaning, gives, refuses, told, written, EffectMeans, Means}
+use Rattle.bz_journal.specs.Meaning.{Meaning, gives, refuses, told, written, EffectMeans}
 use Rattle.bz_journal.specs.History.{History, Answer, Acts, MakesOrWants, present, changed, unchanged, after_text, after_meaning, most_steps}
 use Rattle.bz_journal.specs.Editing.{IsCommandDone, IsLayoutOf, WrittenIsDrawn, ChangedIsWritten}
 use Rattle.bz_journal.proofs.Formatting.{present_changed}

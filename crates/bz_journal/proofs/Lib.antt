@@ -2,9 +2,10 @@ pub mod Acting
 pub mod Alike
 pub mod Following
 pub mod Formatting
-pub mod Hashing
+pub mod Hashes
 pub mod Kept
 pub mod Layouts
+pub mod Digested
 pub mod Edited
 pub mod PutLines
 pub mod Resuming

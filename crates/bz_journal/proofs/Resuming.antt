@@ -1,5 +1,5 @@
 -- What is saved of a session, and what is resumed of a journal.
-use Rattle.std.proofs.Common.{◌≡◌, ◌≤◌, ◌+◌, ℕ, List, [], length, map, IsUtf8, refl, sym, ap, subst, ◌∙◌, arith, Some}
+use Rattle.std.proofs.Common.{◌≡◌, ◌≤◌, ℕ, List, [], length, map, IsUtf8, refl, sym, ap, subst, ◌∙◌, arith, Some}
 use Rattle.std.specs.Prelude.{slice_index_or, Result, Ok, Err, IfOk, IfErr}
 use Rattle.sha2.specs.Sha256.{sha256}
 use Rattle.bz_tree.specs.declared.tree.Node.{Node}
@@ -7,7 +7,7 @@ use Rattle.bz_tree.specs.Laws.{OneReading}
 use Rattle.bz_tree.specs.Legal.{Reads}
 use Rattle.bz_tree.specs.Spell.{spell_node, limit}
 use Rattle.bz_edit.specs.declared.edit.Edit.{Edit}
-use Rattle.bz_trail.specs.Trails.{IsSmall, IsTrail, Trail, trail_at}
+use Rattle.bz_trail.specs.Trails.{IsSmall, trail_at}
 use Rattle.bz_trail.specs.Shown.{TrailsKeep, texts_of}
 use Rattle.bz_value.specs.Gaps.{Bytes}
 use Rattle.bz_resume.specs.declared.fault.ResumeFault.{ResumeFault}
@@ -25,14 +25,13 @@ use Rattle.bz_journal.specs.State.{State, IsSession, trail_of}
 
 -- ---- states
 
-pub same_state : (n : Node) (es fs : List (List Edit)) (ds gs ns ms : List Bytes) (p q : Bytes) (c b : ℕ) → es ≡ fs → ds ≡ gs → ns ≡ ms → p ≡ q
-    → (let s : State = record { tree = n; steps = es; digests = ds; notes = ns; «package» = p; cursor = c; before = b } in s)
-    ≡ (let s : State = record { tree = n; steps = fs; digests = gs; notes = ms; «package» = q; cursor = c; before = b } in s)
-same_state n es fs ds gs ns ms p q c b steps digests notes named =
-    ap (λ z. let s : State = record { tree = n; steps = z; digests = ds; notes = ns; «package» = p; cursor = c; before = b } in s) steps
-    ∙ ap (λ z. let s : State = record { tree = n; steps = fs; digests = z; notes = ns; «package» = p; cursor = c; before = b } in s) digests
-    ∙ ap (λ z. let s : State = record { tree = n; steps = fs; digests = gs; notes = z; «package» = p; cursor = c; before = b } in s) notes
-    ∙ ap (λ z. let s : State = record { tree = n; steps = fs; digests = gs; notes = ms; «package» = z; cursor = c; before = b } in s) named
+pub same_state : (n : Node) (es fs : List (List Edit)) (ns ms : List Bytes) (p q : Bytes) (c b : ℕ) → es ≡ fs → ns ≡ ms → p ≡ q
+    → (let s : State = record { tree = n; steps = es; notes = ns; «package» = p; cursor = c; before = b } in s)
+    ≡ (let s : State = record { tree = n; steps = fs; notes = ms; «package» = q; cursor = c; before = b } in s)
+same_state n es fs ns ms p q c b steps notes named =
+    ap (λ z. let s : State = record { tree = n; steps = z; notes = ns; «package» = p; cursor = c; before = b } in s) steps
+    ∙ ap (λ z. let s : State = record { tree = n; steps = fs; notes = z; «package» = p; cursor = c; before = b } in s) notes
+    ∙ ap (λ z. let s : State = record { tree = n; steps = fs; notes = ms; «package» = z; cursor = c; before = b } in s) named
 
 -- ---- saving
 
@@ -58,7 +57,7 @@ saves_small keep one s h small n trail is =
 -- ---- resuming
 
 abbrev pub state_of : Resumed → Bytes → State
-state_of s current = record { tree = s.tree; steps = s.steps; digests = s.digests; notes = s.notes; «package» = current; cursor = s.cursor; before = s.cursor }
+state_of s current = record { tree = s.tree; steps = s.steps; notes = s.notes; «package» = current; cursor = s.cursor; before = s.cursor }
 
 pub lasts : TrailsKeep → (bytes text current : Bytes) (s : Resumed) → r.IsResumed bytes text s → current ≡ s.«package» → IsSession (state_of s current)
 lasts keep bytes text current s (h, es, journal, stood) is =
@@ -70,7 +69,6 @@ lasts keep bytes text current s (h, es, journal, stood) is =
     omega (arith, ap length stood.notes, journal.noted, first.counted, ap length journal.follows.2, ap length stood.texts, own.counted) in
     record {
       trail = stood.trail;
-      digests = stood.digests ∙ ap (map sha256) (sym stood.texts);
       named = subst (λ (p : Bytes). length p ≤ 65536) (sym is) saves.package_length;
       spelled = subst IsUtf8 (sym is) saves.package_text;
       noted = noted;
@@ -78,6 +76,10 @@ lasts keep bytes text current s (h, es, journal, stood) is =
       known = omega (arith, noted, saves.known);
       bounded = omega (arith, noted, saves.steps_length);
     }
+
+-- the digests that were resumed are those of the texts
+pub knows : (bytes text : Bytes) (s : Resumed) → r.IsResumed bytes text s → s.digests ≡ map sha256 (texts_of (r.trail_of s))
+knows bytes text s (h, es, journal, stood) = stood.digests ∙ ap (map sha256) (sym stood.texts)
 
 same_history : (p q : Bytes) (ts us ns ms : List Bytes) (c : ℕ) → q ≡ p → us ≡ ts → ms ≡ ns
     → (let h : History = record { «package» = q; texts = us; notes = ms; cursor = c; before = c } in h) ≡ (let h : History = record { «package» = p; texts = ts; notes = ns; cursor = c; before = c } in h)

@@ -1,23 +1,20 @@
--- What a session holds: the tree of the present text, the steps between the texts, and what is known of the texts.
-use Rattle.std.specs.Prelude.{ℕ, ◌≡◌, ◌≤◌, List, length, map, refl, IsUtf8}
+-- What a session holds: the tree of the present text, the steps between the texts, and a note of each.
+use Rattle.std.specs.Prelude.{ℕ, ◌≡◌, ◌≤◌, List, length, refl, IsUtf8}
 use Rattle.std.specs.List.{AllByRecursion}
 use Rattle.std.specs.Coded.{Coded, code_by, coded×, coded_ℕ, coded_list}
-use Rattle.sha2.specs.Sha256.{sha256}
 use Rattle.bz_tree.specs.declared.tree.Node.{Node}
 use Rattle.bz_edit.specs.declared.edit.Edit.{Edit}
 use Rattle.bz_trail.specs.Trails.{Trail, IsTrail, trail_at}
-use Rattle.bz_trail.specs.Shown.{texts_of}
 use Rattle.bz_record.specs.Texts.{IsNote}
 use Rattle.bz_record.specs.declared.content.Version.TheVariants.{Two}
 use Rattle.bz_value.specs.Gaps.{Bytes}
 use Rattle.bz_journal.specs.History.{most_steps}
 
--- the tree of the present text, the steps between the texts, a digest of each text, a note of each step, the path of the file's
--- package, the number of the present text, and that of the one that was present before it
+-- the tree of the present text, the steps between the texts, a note of each step, the path of the file's package, the number of the
+-- present text, and that of the one that was present before it
 pub record State : Type 0 where
   pub tree : Node
   pub steps : List (List Edit)
-  pub digests : List Bytes
   pub notes : List Bytes
   pub «package» : Bytes
   pub cursor : ℕ
@@ -25,20 +22,19 @@ pub record State : Type 0 where
 
 abbrev pub state_code : Coded Node → Coded (List Edit) → Coded State
 state_code node edits =
-    code_by (Node × (List (List Edit) × (List Bytes × (List Bytes × (Bytes × (ℕ × ℕ))))))
-    (coded× node (coded× (coded_list edits) (coded× (coded_list (coded_list coded_ℕ)) (coded× (coded_list (coded_list coded_ℕ)) (coded× (coded_list coded_ℕ) (coded× coded_ℕ coded_ℕ))))))
-    (λ s. (s.tree, (s.steps, (s.digests, (s.notes, (s.«package», (s.cursor, s.before)))))))
-    (λ p. record { tree = p.0; steps = p.1.0; digests = p.1.1.0; notes = p.1.1.1.0; «package» = p.1.1.1.1.0; cursor = p.1.1.1.1.1.0; before = p.1.1.1.1.1.1 }) (λ _. refl)
+    code_by (Node × (List (List Edit) × (List Bytes × (Bytes × (ℕ × ℕ)))))
+    (coded× node (coded× (coded_list edits) (coded× (coded_list (coded_list coded_ℕ)) (coded× (coded_list coded_ℕ) (coded× coded_ℕ coded_ℕ)))))
+    (λ s. (s.tree, (s.steps, (s.notes, (s.«package», (s.cursor, s.before))))))
+    (λ p. record { tree = p.0; steps = p.1.0; notes = p.1.1.0; «package» = p.1.1.1.0; cursor = p.1.1.1.1.0; before = p.1.1.1.1.1 }) (λ _. refl)
 
 -- the trail of its texts
 abbrev pub trail_of : State → Trail
 trail_of s = trail_at s.tree s.steps s.cursor
 
--- The steps lead from text to text, the digests are those of the texts, each step has a note, path and notes are texts that fit a
--- journal, and the numbers are within their bounds.
+-- The steps lead from text to text, each step has a note, path and notes are texts that fit a journal, and the numbers are within
+-- their bounds.
 pub record IsSession (s : State) : Type 0 where
   pub trail : IsTrail (trail_of s)
-  pub digests : s.digests ≡ map sha256 (texts_of (trail_of s))
   pub named : length s.«package» ≤ 65536
   pub spelled : IsUtf8 s.«package»
   pub noted : length s.notes ≡ length s.steps

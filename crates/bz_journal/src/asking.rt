@@ -12,6 +12,7 @@ ghost use Rattle.bz_journal.specs.Shown.{history_of};
 
 use crate::action::{Action, Reply};
 use crate::beside::{kept, lines_for, value_of};
+use crate::digests::OptionalDigests;
 use crate::meaning::{reads_back, told};
 use crate::session::{MOST_NOTE, Session, unchanged};
 use bz_attribute::Refusal;
@@ -41,7 +42,7 @@ fn run_beside(
 
 /// What a command answers of the value of the present text; none where it would change that.
 fn answer_of(
-    session: &Session,
+    session: &Session<OptionalDigests>,
     command: &Command,
     target: &Target,
     file: &File,
@@ -70,7 +71,7 @@ fn answer_of(
 /// What a command with a note answers by the value of the present text, which is made where none is kept, and stays; none where the
 /// note is too long, and where the command would change the text.
 pub(crate) fn answer_noted(
-    session: &Session,
+    session: &Session<OptionalDigests>,
     value: &mut Option<File>,
     action: &Action,
     command: &Command,

@@ -21,6 +21,7 @@ ghost use Rattle.bz_journal.specs.Shown.{history_of};
 ghost use Rattle.bz_journal.specs.State.{trail_of};
 
 use crate::action::{Action, Reply};
+use crate::digests::OptionalDigests;
 use crate::laws::written_is_drawn;
 use crate::meaning::{reads_back, told};
 use crate::session::{Session, unchanged};
@@ -165,7 +166,7 @@ fn drawn_of(alloc: Global, file: &File) -> Result<Tree, Refusal>
 
 /// Takes up the whole layout of a tidy value, with a note. Errors: `TooLarge`, `TooDeep`, `Full`; `Memory`: a growth was refused.
 fn take_up_whole(
-    session: &mut Session,
+    session: &mut Session<OptionalDigests>,
     file: &File,
     printed: Option<Text>,
     note: &str,
@@ -186,7 +187,7 @@ fn take_up_whole(
 /// Takes up the layout of a tidy value by its lines that are other ones than in the present tree, with a note. Errors: `Full`;
 /// `Memory`: a growth was refused.
 fn take_up_lines(
-    session: &mut Session,
+    session: &mut Session<OptionalDigests>,
     file: &File,
     redrawn: Redrawn,
     printed: Option<Text>,
@@ -209,7 +210,7 @@ fn take_up_lines(
 
 /// Takes up the layout of a tidy value, by some lines alone where these are known. The errors are those of both.
 fn take_up_tidied(
-    session: &mut Session,
+    session: &mut Session<OptionalDigests>,
     file: &File,
     redrawn: Option<Redrawn>,
     printed: Option<Text>,
@@ -231,7 +232,7 @@ fn take_up_tidied(
 
 /// Takes up the layout of a tidy value and keeps this as the value of the present text. The errors are those of taking it up.
 fn take_up_value(
-    session: &mut Session,
+    session: &mut Session<OptionalDigests>,
     value: &mut Option<File>,
     done: Tidied,
     printed: Option<Text>,
@@ -268,7 +269,7 @@ fn take_up_value(
 
 /// Tidies and takes up what a command made of the value of the present text: another value.
 fn take_up_made(
-    session: &mut Session,
+    session: &mut Session<OptionalDigests>,
     value: &mut Option<File>,
     marks: Option<Vec<bool>>,
     file: File,
@@ -297,7 +298,7 @@ fn take_up_made(
 /// At an error the session is as before. Errors: those of the command; `TooLarge` and `TooDeep` where the new text would be past
 /// a limit; `Full` at the most steps; `Memory`: a growth was refused.
 pub(crate) fn edit_beside(
-    session: &mut Session,
+    session: &mut Session<OptionalDigests>,
     value: &mut Option<File>,
     command: &Command,
     target: &Target,

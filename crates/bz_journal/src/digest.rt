@@ -19,7 +19,7 @@ fn hash_leaf(leaf: &Leaf, hasher: &mut Sha256)
 
 /// Adds what a part spells to what is hashed.
 #[cycle(hash)]
-#[tactic(auto, using(crate::proofs::Hashing::node_spelled))]
+#[tactic(auto, using(crate::proofs::Hashes::node_spelled))]
 fn hash_part(part: &Part, hasher: &mut Sha256)
     ensures { (m : List ℕ) → Holds256 hasher.old m → Holds256 hasher.new (m ++ spell_part part.now) }
 {

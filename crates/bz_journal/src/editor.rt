@@ -1,8 +1,12 @@
 //! An editor: a session, and beside it the value of the present text from one command to the next.
-ghost use Rattle.std.specs.Prelude.{◌≡◌, ◌≢◌, ◌≤◌, ◌⊎◌, length, true, IfErr, IfSome, IsOk, Ok, OnErr, OnOk};
+ghost use Rattle.std.specs.Prelude.{◌≡◌, ◌≢◌, ◌≤◌, ◌<◌, ◌++◌, ◌↔◌, ◌⊎◌, ℕ, length, true, Err, IfErr, IfOk, IfSome, IsOk, Ok, OnErr, OnOk};
+ghost use Rattle.std.specs.Str.{IsValidUpTo};
 ghost use Rattle.bz_files.specs.Faults.{Rises};
 ghost use Rattle.bz_files.specs.Folder.{Elapses, Folder};
 ghost use Rattle.bz_keep.specs.Resuming.{Holds, OthersStay, Resumes, Survives};
+ghost use Rattle.bz_tree.specs.Faults.{IsOfText};
+ghost use Rattle.bz_tree.specs.Legal.{Accepted};
+ghost use Rattle.bz_tree.specs.Spell.{limit};
 ghost use Rattle.bz_trail.specs.Trails.{IsSmall};
 ghost use Rattle.bz_view.specs.View.{view_of};
 ghost use Rattle.bz_redraw.specs.Redrawn.{IsWritten};
@@ -12,30 +16,35 @@ ghost use Rattle.bz_journal.specs.declared.action.Action.{Action};
 ghost use Rattle.bz_journal.specs.declared.action.Reply.{Reply};
 ghost use Rattle.bz_journal.specs.Editing.{IsCommandDone};
 ghost use Rattle.bz_journal.specs.Fixed.{IsFormatted};
-ghost use Rattle.bz_journal.specs.History.{note_limit, present, Acts, IsFormat};
+ghost use Rattle.bz_journal.specs.History.{note_limit, opened, present, Acts, IsFormat};
 ghost use Rattle.bz_journal.specs.Keeping.{IsRefused, IsWriteOrOpen, Keeps};
+ghost use Rattle.bz_journal.specs.Listing.{listing};
 ghost use Rattle.bz_journal.specs.Shown.{history_of, IsOverEven};
 ghost use Rattle.bz_journal.specs.State.{trail_of};
 
 use crate::action::{Action, Reply};
 use crate::asking::answer_noted;
 use crate::beside::edit_beside;
+use crate::digests::OptionalDigests;
 use crate::keeping::KeepFault;
 use crate::laws::changed_is_written;
 use crate::meaning::reads_back;
-use crate::session::{MOST_NOTE, Session};
+use crate::session::{MOST_NOTE, Session, begin};
 use bz_attribute::Refusal;
 use bz_files::Files;
+use bz_items::{Memory, Text};
 use bz_label::Target;
+use bz_tree::ReadFault;
 use bz_value::File;
 use bz_words::Command;
+use std::alloc::Global;
 use std::marker::Model;
 
-/// A session, and the value of its present text where one is kept, so that a command need not make it anew. Contracts see the
-/// session.
+/// A session, and the value of its present text where one is kept, so that a command need not make it anew. Of a text that was
+/// opened no digest is taken until something reads it: `keep_noted` or `listing`. Contracts see the session.
 #[derive(Drop)]
 pub struct Editor {
-    session: Session,
+    session: Session<OptionalDigests>,
     /// The value of the present text, where it is kept.
     value: Option<File>,
     /// Whether the present text is known to be the layout of a tidy value.
@@ -82,7 +91,7 @@ fn is_command_done(action: &Action, reply: &Result<Reply, Refusal>) -> bool
 
 /// Does an action as the session does it, and tells whether the present text is then known to be the layout of a tidy value.
 fn act_by_session(
-    session: &mut Session,
+    session: &mut Session<OptionalDigests>,
     action: &Action,
     note: &str,
     written: &mut bool,
@@ -105,7 +114,7 @@ fn act_by_session(
 
 /// Does a command with a note on the present text, which is the layout of a tidy value; `value` is its value, where that is kept.
 fn edit_noted(
-    session: &mut Session,
+    session: &mut Session<OptionalDigests>,
     value: &mut Option<File>,
     action: &Action,
     command: &Command,
@@ -127,24 +136,62 @@ fn edit_noted(
     edit_beside(session, value, command, target, note)
 }
 
+/// An editor of a session. No value is kept yet.
+fn beside(session: Session<OptionalDigests>) -> Editor
+    ensures { result ≡ session }
+{
+    Editor {
+        session,
+        value: None,
+        written: false,
+        asked: false,
+    }
+}
+
 impl Editor {
-    /// An editor of a session. No value is kept yet.
-    pub fn new(session: Session) -> Editor
-        ensures { result ≡ session }
+    /// An editor at the first text of a file of the package with this path, as `Session::open` makes a session. The errors are those.
+    pub fn open(alloc: Global, package: &str, text: &[u8]) -> Result<Editor, ReadFault>
+        requires { length «package».now ≤ 65536 }
+        ensures ok { IfOk result (λ editor. history_of editor ≡ opened «package».now text.now) }
+        ensures small { IfOk result (λ editor. IsSmall (trail_of editor)) }
+        ensures accepted { OnOk result (Accepted text.now) }
+        ensures too_large { (result ≡ Err ReadFault.TooLarge) ↔ (limit < length text.now) }
+        ensures not_utf8 { (at : ℕ) → ((result ≡ Err (ReadFault.NotUtf8 at)) ↔ ((length text.now ≤ limit) × IsValidUpTo text.now at)) }
+        ensures refused { IfErr result (λ fault. IsOfText fault → Accepted text.now → ⊥) }
     {
-        Editor {
-            session,
-            value: None,
-            written: false,
-            asked: false,
+        match begin(alloc, package, text) {
+            Ok(session) => Ok(beside(session)),
+            Err(fault) => Err(fault),
         }
     }
 
-    /// The session.
-    pub fn session(&self) -> &Session
-        ensures { result.now ≡ self.now }
+    /// An editor of a session, whose digests are kept.
+    pub fn new(session: Session) -> Editor
+        ensures { result ≡ session }
     {
-        &self.session
+        beside(Session::of_session(session))
+    }
+
+    /// The number of the present text; the first is 0.
+    pub fn cursor(&self) -> u32
+        ensures { result ≡ (history_of self.now).cursor }
+    {
+        self.session.cursor()
+    }
+
+    /// Appends the present text to `out`. The error: a growth was refused; `out` is then as before.
+    pub fn text_into(&self, out: &mut Vec<u8>) -> Result<(), Memory>
+        ensures ok { OnOk result (out.new.items ≡ out.old.items ++ present (history_of self.now)) }
+        ensures err { OnErr result (out.new.items ≡ out.old.items) }
+    {
+        self.session.text_into(out)
+    }
+
+    /// The texts, one line each, as `Session::listing` gives them. The error: a growth was refused.
+    pub fn listing(&self, alloc: Global) -> Result<Text, Memory>
+        ensures { IfOk result (λ text. text ≡ listing (history_of self.now)) }
+    {
+        self.session.listing(alloc)
     }
 
     /// Does an action with a note, as `Session::act_noted` does. Behind a command that changed the text the next ones cost what
@@ -225,6 +272,7 @@ impl Editor {
     {
         self.value = None;
         self.written = false;
+        self.session.keep_digests();
         self.session.keep_noted(action, note, file, files)
     }
 }

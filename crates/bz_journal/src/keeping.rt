@@ -11,6 +11,7 @@ ghost use Rattle.bz_journal.specs.Shown.{history_of};
 ghost use Rattle.bz_journal.specs.State.{trail_of};
 
 use crate::action::{Action, Reply};
+use crate::digests::Digests;
 use crate::session::Session;
 use bz_attribute::Refusal;
 use bz_files::Files;
@@ -26,7 +27,7 @@ pub enum KeepFault {
     Pair(PairFault),
 }
 
-impl Session {
+impl<D: Digests + Drop> Session<D> {
     /// Does an action with an empty note, and keeps it, as `keep_noted` does.
     pub fn keep<F: Files>(
         &mut self,
@@ -129,14 +130,26 @@ impl Session {
         Ok(text)
     }
 
+    /// The journal. The error: a growth was refused.
+    fn journal(&self) -> Result<Vec<u8>, Memory>
+        ensures told { IfOk result (λ told. told.items ≡ saved self.now) }
+        ensures journal { OnOk result (IsSaved self.now) }
+    {
+        let mut told = Vec::new(self.alloc());
+        match self.digests.list() {
+            Some(digests) => self.save_by(digests, &mut told)?,
+            None => self.save_by(self.hashed()?.as_slice(), &mut told)?,
+        }
+        Ok(told)
+    }
+
     /// The journal and the present text. The error: a growth was refused.
     fn pair(&self) -> Result<(Vec<u8>, Vec<u8>), Memory>
         ensures told { IfOk result (λ pair. pair.0.items ≡ saved self.now) }
         ensures text { IfOk result (λ pair. pair.1.items ≡ present (history_of self.now)) }
-        ensures journal { IsSaved self.now }
+        ensures journal { OnOk result (IsSaved self.now) }
     {
-        let mut told = Vec::new(*self.steps.allocator());
-        self.save_into(&mut told)?;
+        let told = self.journal()?;
         let text = self.own_text()?;
         Ok((told, text))
     }

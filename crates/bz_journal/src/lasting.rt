@@ -1,5 +1,6 @@
 //! Sessions that outlive the run: their journal, and what is resumed of one.
-ghost use Rattle.std.specs.Prelude.{◌≡◌, ◌++◌, ◌↔◌, ℕ, List, Err, IfOk, IfErr, OnOk, OnErr, IsUtf8, option_map, slice_get, string_bytes};
+ghost use Rattle.std.specs.Prelude.{◌≡◌, ◌++◌, ◌↔◌, ℕ, List, Err, IfOk, IfErr, OnOk, OnErr, IsUtf8, map, option_map, slice_get, string_bytes};
+ghost use Rattle.sha2.specs.Sha256.{sha256};
 ghost use Rattle.bz_edit.specs.declared.edit.Edit.{Edit};
 ghost use Rattle.bz_record.specs.Texts.{IsOtherVersion};
 ghost use Rattle.bz_resume.specs.declared.fault.ResumeFault.TheVariants as f;
@@ -11,6 +12,7 @@ ghost use Rattle.bz_journal.specs.Lasting.{GoesOn, IsAgain, IsKnown, IsResumed, 
 ghost use Rattle.bz_journal.specs.Shown.{history_of};
 ghost use Rattle.bz_journal.specs.State.{trail_of};
 
+use crate::digests::Digests;
 use crate::session::Session;
 use bz_items::{Memory, Text};
 use bz_resume::laws::reopened;
@@ -27,7 +29,7 @@ fn path_of(alloc: Global, package: &Text) -> Result<String, Memory>
     String::from_str(alloc, str::from_utf8(package.as_slice()).unwrap())
 }
 
-impl Session {
+impl<D: Digests + Drop> Session<D> {
     /// The note of the step between texts i and i + 1; `None` past the last step.
     pub fn note(&self, i: u32) -> Option<&str>
         ensures { option_map (λ note. note.now) result ≡ slice_get (history_of self.now).notes i }
@@ -38,6 +40,29 @@ impl Session {
         }
     }
 
+    /// Appends the journal of the session, whose texts have these digests, in version 2. The error: a growth was refused; `out` is
+    /// then as before.
+    pub(crate) fn save_by(&self, digests: &[[u8; 32]], out: &mut Vec<u8>) -> Result<(), Memory>
+        requires { digests.now ≡ map sha256 (history_of self.now).texts }
+        ensures ok { OnOk result (out.new.items ≡ out.old.items ++ saved self.now) }
+        ensures err { OnErr result (out.new.items ≡ out.old.items) }
+        ensures journal { IsSaved self.now }
+    {
+        texts_kept();
+        let saved = Saved {
+            package: self.package.as_bytes(),
+            tree: &self.tree,
+            steps: self.steps.as_slice(),
+            digests,
+            notes: self.notes.as_slice(),
+            cursor: self.cursor,
+            before: self.before,
+        };
+        bz_resume::save_into(&saved, out)
+    }
+}
+
+impl Session {
     /// Appends the journal of the session, in version 2. The error: a growth was refused; `out` is then as before.
     pub fn save_into(&self, out: &mut Vec<u8>) -> Result<(), Memory>
         ensures ok { OnOk result (out.new.items ≡ out.old.items ++ saved self.now) }
@@ -49,16 +74,8 @@ impl Session {
     {
         one_reading();
         texts_kept();
-        let saved = Saved {
-            package: self.package.as_bytes(),
-            tree: &self.tree,
-            steps: self.steps.as_slice(),
-            digests: self.digests.as_slice(),
-            notes: self.notes.as_slice(),
-            cursor: self.cursor,
-            before: self.before,
-        };
-        bz_resume::save_into(&saved, out)
+        let _tree = &self.tree;
+        self.save_by(self.digests(), out)
     }
 
     /// The session that a journal says, at the text that the file has now: at the cursor where that is the text there, else at

@@ -1,7 +1,5 @@
 //! Facts about the definitions, for readers: the functions do nothing.
 
-ghost use Rattle.std.specs.Prelude.{◌≡◌, map};
-ghost use Rattle.sha2.specs.Sha256.{sha256};
 ghost use Rattle.bz_trail.specs.Shown.{StepsAreBetween, StepsLead};
 ghost use Rattle.bz_trail.specs.Trails.{HasLeast, IsSmall};
 ghost use Rattle.bz_journal.specs.Editing.{ChangedIsWritten, WrittenIsDrawn};
@@ -40,12 +38,11 @@ pub fn history_kept(session: &Session)
 }
 
 /// What a session holds: each step leads between the trees of two texts that follow one another and differ; those of a small
-/// session are the steps between them, and none that leads there weighs less; the digests are those of the texts.
+/// session are the steps between them, and none that leads there weighs less. (`Session::digests` has the digests.)
 pub fn session_holds(session: &Session)
     ensures lead { StepsLead (trail_of session.now) }
     ensures between { IsSmall (trail_of session.now) → StepsAreBetween (trail_of session.now) }
     ensures least { IsSmall (trail_of session.now) → HasLeast (trail_of session.now) }
-    ensures digests { session.now.digests ≡ map sha256 (history_of session.now).texts }
 {
     steps_lead();
     small_steps();

@@ -5,8 +5,10 @@ mod action;
 mod asking;
 mod beside;
 mod digest;
+mod digests;
 mod editor;
 mod formatter;
+mod hashing;
 mod keeping;
 mod lasting;
 mod laws;
@@ -17,6 +19,7 @@ mod taking;
 
 pub use action::{Action, Reply};
 pub use bz_resume::ResumeFault;
+pub use digests::{Digests, OptionalDigests};
 pub use editor::Editor;
 pub use formatter::{FormatFault, format};
 pub use keeping::KeepFault;

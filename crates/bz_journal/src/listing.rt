@@ -1,8 +1,10 @@
 //! The texts of a session, listed.
-ghost use Rattle.std.specs.Prelude.{◌≡◌, ◌++◌, IfOk, OnOk, length};
+ghost use Rattle.std.specs.Prelude.{◌≡◌, ◌++◌, IfOk, OnOk, length, map};
+ghost use Rattle.sha2.specs.Sha256.{sha256};
 ghost use Rattle.bz_journal.specs.Listing.{lines_from, listing, noted, text_line};
 ghost use Rattle.bz_journal.specs.Shown.{history_of};
 
+use crate::digests::Digests;
 use crate::session::Session;
 use bz_exact::{hex_digits, push_number};
 use bz_items::{Memory, Text};
@@ -68,17 +70,28 @@ fn put_lines(
     Ok(())
 }
 
-impl Session {
+impl<D: Digests + Drop> Session<D> {
     /// The texts, one line each: `*` at the present one or a space, a space, its number from 0, a space, its SHA-256 in 64
     /// digits, and after a space the note of the step to it where there is one, newlines as `\n`. The error: a growth was
     /// refused.
     pub fn listing(&self, alloc: Global) -> Result<Text, Memory>
         ensures { IfOk result (λ text. text ≡ listing (history_of self.now)) }
     {
+        match self.digests.list() {
+            Some(digests) => self.listed(alloc, digests),
+            None => self.listed(alloc, self.hashed()?.as_slice()),
+        }
+    }
+
+    /// The listing of texts that have these digests. The error: a growth was refused.
+    fn listed(&self, alloc: Global, digests: &[[u8; 32]]) -> Result<Text, Memory>
+        requires { digests.now ≡ map sha256 (history_of self.now).texts }
+        ensures { IfOk result (λ text. text ≡ listing (history_of self.now)) }
+    {
         texts_kept();
         let mut out = Vec::new(alloc);
         let cursor = self.cursor as usize;
-        let Some((first, digests)) = self.digests.split_first() else {
+        let Some((first, digests)) = digests.split_first() else {
             return Ok(Text::from_vec(out));
         };
         put_line(&mut out, cursor == 0, 0, first, b"")?;

@@ -16,7 +16,7 @@ ghost use Rattle.bz_journal.specs.State.{trail_of};
 ghost use Rattle.bz_journal.specs.Shown.{history_of, IsOverEven};
 
 use crate::action::{Action, Reply};
-use crate::digest::digest_of;
+use crate::digests::{Digests, put_after};
 use crate::laws::formatted_once;
 use crate::meaning::{Meant, formatted, meaning};
 use bz_attribute::Refusal;
@@ -28,7 +28,6 @@ use bz_trail::{go_back, go_forward, take_up};
 use bz_tree::laws::one_tree;
 use bz_tree::{ReadFault, Tree, parse};
 use bz_words::Command;
-use sha2::{Digest, Sha256};
 use std::alloc::Global;
 use std::marker::Model;
 
@@ -40,14 +39,14 @@ pub(crate) const MOST_NOTE: usize = 65_536;
 /// The texts of a BUILD file of a package, one after another, and the place in them: the tree of the present text, and
 /// between neighbours the step that leads from the one tree to the other. Contracts speak of its history.
 #[derive(Drop)]
-pub struct Session {
+pub struct Session<D: Digests + Drop = Vec<[u8; 32]>> {
     /// The tree of the present text.
     pub tree: Tree,
     /// The steps between the texts, in the order in which these came: those before the present text lead back, the others
     /// forward.
     pub steps: Vec<Step>,
     /// The SHA-256 of each text.
-    pub digests: Vec<[u8; 32]>,
+    pub digests: D,
     /// The note of each step.
     pub notes: Vec<Text>,
     /// The path of the file's package.
@@ -58,19 +57,22 @@ pub struct Session {
     pub before: u32,
 }
 
-impl Model for Session {
+impl<D: Digests + Drop> Model for Session<D> {
     ghost use Rattle.std.specs.Prelude.{string_bytes};
     ghost use Rattle.bz_tree.specs.contracts.tree.Tree as t;
     ghost use Rattle.bz_edit.specs.contracts.step.Step as s;
+    ghost use Rattle.bz_trail.specs.Shown.{texts_of};
+    ghost use Rattle.bz_trail.specs.Trails.{trail_at};
     ghost use Rattle.bz_journal.specs.State.{State, IsSession, state_code};
 
     ghost Value = { State };
 
     ghost coded = { state_code t.the_row.coded s.the_row.coded };
 
-    ghost view = { λ session. record { tree = session.tree; steps = session.steps.items; digests = session.digests.items; notes = session.notes.items; «package» = string_bytes session.«package»; cursor = session.cursor; before = session.before } };
+    ghost view = { λ session. record { tree = session.tree; steps = session.steps.items; notes = session.notes.items; «package» = string_bytes session.«package»; cursor = session.cursor; before = session.before } };
 
-    ghost invariant = { λ session. IsSession (record { tree = session.tree; steps = session.steps.items; digests = session.digests.items; notes = session.notes.items; «package» = string_bytes session.«package»; cursor = session.cursor; before = session.before }) };
+    ghost invariant = { λ session. IsSession (record { tree = session.tree; steps = session.steps.items; notes = session.notes.items; «package» = string_bytes session.«package»; cursor = session.cursor; before = session.before })
+        × D.are_of session.digests (texts_of (trail_at session.tree session.steps.items session.cursor)) };
 }
 
 impl Session {
@@ -86,38 +88,79 @@ impl Session {
         ensures not_utf8 { (at : ℕ) → ((result ≡ Err (ReadFault.NotUtf8 at)) ↔ ((length text.now ≤ limit) × IsValidUpTo text.now at)) }
         ensures refused { IfErr result (λ fault. IsOfText fault → Accepted text.now → ⊥) }
     {
-        let tree = match parse(alloc, text) {
-            Ok(tree) => tree,
-            Err(fault) => return Err(fault),
-        };
-        match Session::first(alloc, package, text, tree) {
-            Ok(session) => Ok(session),
-            Err(_) => Err(ReadFault::Memory),
+        begin(alloc, package, text)
+    }
+
+    /// The SHA-256 of each text, in the order in which these came.
+    pub fn digests(&self) -> &[[u8; 32]]
+        ensures { result.now ≡ map sha256 (history_of self.now).texts }
+    {
+        self.digests.as_slice()
+    }
+
+    /// The SHA-256 of text i; `None` past the last text.
+    pub fn digest(&self, i: u32) -> Option<[u8; 32]>
+        ensures { result ≡ option_map sha256 (slice_get (history_of self.now).texts i) }
+    {
+        match bz_items::at(self.digests(), i as usize) {
+            Some(digest) => Some(*digest),
+            None => None,
         }
     }
+}
 
-    /// A session at the first text of a file of the package with this path, which the tree spells.
-    fn first(alloc: Global, package: &str, text: &[u8], tree: Tree) -> Result<Session, Memory>
-        requires named { length «package».now ≤ 65536 }
-        requires spelled { spell_node tree ≡ text.now }
-        ensures ok { IfOk result (λ session. history_of session ≡ opened «package».now text.now) }
-        ensures small { IfOk result (λ session. IsSmall (trail_of session)) }
-    {
-        starts_small();
-        let _root = &tree.root;
-        let package = String::from_str(alloc, package)?;
-        let digests = one_digest(alloc, Sha256::digest(text))?;
-        Ok(Session {
-            tree,
-            steps: Vec::new(alloc),
-            digests,
-            notes: Vec::new(alloc),
-            package,
-            cursor: 0,
-            before: 0,
-        })
+/// A session at the first text of a file of the package with this path, as `Session::open` makes one. The errors are those.
+pub(crate) fn begin<D: Digests + Drop>(
+    alloc: Global,
+    package: &str,
+    text: &[u8],
+) -> Result<Session<D>, ReadFault>
+    requires { length «package».now ≤ 65536 }
+    ensures ok { IfOk result (λ session. history_of session ≡ opened «package».now text.now) }
+    ensures small { IfOk result (λ session. IsSmall (trail_of session)) }
+    ensures accepted { OnOk result (Accepted text.now) }
+    ensures too_large { (result ≡ Err ReadFault.TooLarge) ↔ (limit < length text.now) }
+    ensures not_utf8 { (at : ℕ) → ((result ≡ Err (ReadFault.NotUtf8 at)) ↔ ((length text.now ≤ limit) × IsValidUpTo text.now at)) }
+    ensures refused { IfErr result (λ fault. IsOfText fault → Accepted text.now → ⊥) }
+{
+    let tree = match parse(alloc, text) {
+        Ok(tree) => tree,
+        Err(fault) => return Err(fault),
+    };
+    match first(alloc, package, text, tree) {
+        Ok(session) => Ok(session),
+        Err(_) => Err(ReadFault::Memory),
     }
+}
 
+/// A session at the first text of a file of the package with this path, which the tree spells. The error: memory was refused.
+fn first<D: Digests + Drop>(
+    alloc: Global,
+    package: &str,
+    text: &[u8],
+    tree: Tree,
+) -> Result<Session<D>, Memory>
+    requires named { length «package».now ≤ 65536 }
+    requires spelled { spell_node tree ≡ text.now }
+    ensures ok { IfOk result (λ session. history_of session ≡ opened «package».now text.now) }
+    ensures small { IfOk result (λ session. IsSmall (trail_of session)) }
+{
+    starts_small();
+    let _root = &tree.root;
+    let package = String::from_str(alloc, package)?;
+    let digests = D::of_text(alloc, text)?;
+    Ok(Session {
+        tree,
+        steps: Vec::new(alloc),
+        digests,
+        notes: Vec::new(alloc),
+        package,
+        cursor: 0,
+        before: 0,
+    })
+}
+
+impl<D: Digests + Drop> Session<D> {
     /// The number of the present text; the first is 0.
     pub fn cursor(&self) -> u32
         ensures { result ≡ (history_of self.now).cursor }
@@ -139,16 +182,6 @@ impl Session {
     {
         match bz_items::at(self.steps.as_slice(), i as usize) {
             Some(step) => Some(weight(step)),
-            None => None,
-        }
-    }
-
-    /// The SHA-256 of text i; `None` past the last text.
-    pub fn digest(&self, i: u32) -> Option<[u8; 32]>
-        ensures { result ≡ option_map sha256 (slice_get (history_of self.now).texts i) }
-    {
-        match bz_items::at(self.digests.as_slice(), i as usize) {
-            Some(digest) => Some(*digest),
             None => None,
         }
     }
@@ -286,13 +319,12 @@ impl Session {
     {
         texts_kept();
         let alloc = self.alloc();
-        let digest = digest_of(&next);
         let note = Text::from_slice(alloc, note.as_bytes())?;
-        self.digests.reserve(1)?;
+        self.digests.make_room()?;
         self.notes.reserve(1)?;
         let cursor = self.cursor;
         take_up(&mut self.tree, &mut self.steps, cursor as usize, next)?;
-        put_after(&mut self.digests, cursor as usize + 1, digest);
+        self.digests.put_after(cursor as usize + 1, &self.tree);
         put_after(&mut self.notes, cursor as usize, note);
         self.before = cursor;
         self.cursor = cursor + 1;
@@ -449,22 +481,4 @@ pub(crate) fn unchanged(printed: Option<Text>) -> Reply
         None => Reply::Same,
         Some(text) => Reply::Printed(text),
     }
-}
-
-/// A list of one digest.
-fn one_digest(alloc: Global, digest: [u8; 32]) -> Result<Vec<[u8; 32]>, Memory>
-    ensures { IfOk result (λ digests. digests.items ≡ digest ∷ []) }
-{
-    let mut digests = Vec::new(alloc);
-    digests.push(digest)?;
-    Ok(digests)
-}
-
-/// Puts an item after the first n, in the place of those that follow.
-pub(crate) fn put_after<T: Drop>(items: &mut Vec<T>, n: usize, item: T)
-    requires room { vec_len items.old < vec_capacity items.old }
-    ensures { items.new.items ≡ take n items.old.items ++ item ∷ [] }
-{
-    items.truncate(n);
-    items.push(item).unwrap();
 }

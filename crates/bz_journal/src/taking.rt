@@ -10,9 +10,9 @@ ghost use Rattle.bz_journal.specs.Shown.{history_of};
 ghost use Rattle.bz_journal.specs.State.{trail_of};
 
 use crate::action::Reply;
-use crate::digest::digest_of;
+use crate::digests::{Digests, put_after};
 use crate::meaning::reads_back;
-use crate::session::{MOST_STEPS, Session, put_after, unchanged};
+use crate::session::{MOST_STEPS, Session, unchanged};
 use bz_attribute::Refusal;
 use bz_items::{Memory, Text};
 use bz_trail::laws::texts_kept;
@@ -35,7 +35,7 @@ fn stand_there(places: &[usize], lines: &[Part], parts: &[Part]) -> bool
     true
 }
 
-impl Session {
+impl<D: Digests + Drop> Session<D> {
     /// Whether the present tree spells the present text with these lines in these places of its root.
     fn is_present_at(&self, places: &[usize], lines: &[Part]) -> bool
         requires next { IsTree (with_parts places.now lines.now self.now.tree) }
@@ -79,8 +79,8 @@ impl Session {
         }
     }
 
-    /// Puts the text of the present tree with other lines after the present one, with a note of the step to it. The digest is
-    /// taken of the tree that has these lines, so all that can fail comes before the exchange.
+    /// Puts the text of the present tree with other lines after the present one, with a note of the step to it. Where a digest is
+    /// kept it is taken of the tree that has these lines, so all that can fail comes before the exchange.
     fn extend_at(&mut self, places: &[usize], lines: &mut [Part], note: &str) -> Result<(), Memory>
         requires next { IsTree (with_parts places.now lines.old self.old.tree) }
         requires as_many { length places.now ≡ length lines.old }
@@ -95,7 +95,7 @@ impl Session {
         texts_kept();
         let alloc = self.alloc();
         let note = Text::from_slice(alloc, note.as_bytes())?;
-        self.digests.reserve(1)?;
+        self.digests.make_room()?;
         self.notes.reserve(1)?;
         let cursor = self.cursor;
         take_up_at(
@@ -105,8 +105,7 @@ impl Session {
             places,
             lines,
         )?;
-        let digest = digest_of(&self.tree);
-        put_after(&mut self.digests, cursor as usize + 1, digest);
+        self.digests.put_after(cursor as usize + 1, &self.tree);
         put_after(&mut self.notes, cursor as usize, note);
         self.before = cursor;
         self.cursor = cursor + 1;

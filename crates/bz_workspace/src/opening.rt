@@ -13,7 +13,7 @@ ghost use Rattle.bz_workspace.specs.Shown.{opened_in};
 use crate::Opened;
 use bz_files::{FileFault, Files};
 use bz_items::{Memory, Text};
-use bz_journal::{ResumeFault, Session};
+use bz_journal::{Editor, ResumeFault, Session};
 use bz_lex::ReadFault;
 use bz_ports::{Cut, Sink, tell, tell_named};
 use std::alloc::Global;
@@ -82,12 +82,12 @@ pub(crate) fn opened(
     ensures ok { IfOk result (λ file. (opened_in file ≡ fresh «package».now name.now text.items) × Accepted text.items) }
     ensures err { IfErr result (λ fault. (fault ≡ ReadFault.Memory) ⊎ ((Accepted text.items → ⊥) × IsFaultOf text.items fault)) }
 {
-    let session = match Session::open(alloc, package, text.as_slice()) {
-        Ok(session) => session,
+    let editor = match Editor::open(alloc, package, text.as_slice()) {
+        Ok(editor) => editor,
         Err(fault) => return Err(fault),
     };
     match String::from_str(alloc, name) {
-        Ok(name) => Ok(Opened::new(name, Text::from_vec(text), session)),
+        Ok(name) => Ok(Opened::new(name, Text::from_vec(text), editor)),
         Err(_) => Err(ReadFault::Memory),
     }
 }
@@ -106,7 +106,7 @@ pub(crate) fn resumed(
         return Err(ResumeFault::Damaged);
     }
     let name = String::from_str(alloc, name)?;
-    Ok(Opened::new(name, Text::from_vec(text), session))
+    Ok(Opened::new(name, Text::from_vec(text), Editor::new(session)))
 }
 
 /// The name and the number of why a journal is refused, as they are told after its name.

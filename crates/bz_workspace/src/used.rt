@@ -13,7 +13,7 @@ ghost use Rattle.bz_workspace.specs.Shown.{opened_in, used_in};
 use bz_attribute::Refusal;
 use bz_files::Files;
 use bz_items::Text;
-use bz_journal::{Action, Editor, KeepFault, Reply, Session};
+use bz_journal::{Action, Editor, KeepFault, Reply};
 
 /// A file that is open.
 #[derive(Drop)]
@@ -31,14 +31,14 @@ pub struct Opened {
 }
 
 impl Opened {
-    /// A file of this name as it was read, with its session.
-    pub(crate) fn new(name: String, read: Text, session: Session) -> Opened
-        ensures { opened_in result ≡ record { name = string_bytes name; read = read; history = history_of session } }
+    /// A file of this name as it was read, with its editor.
+    pub(crate) fn new(name: String, read: Text, editor: Editor) -> Opened
+        ensures { opened_in result ≡ record { name = string_bytes name; read = read; history = history_of editor } }
     {
         Opened {
             name,
             read,
-            editor: Editor::new(session),
+            editor,
             written: false,
             left: false,
         }
@@ -58,12 +58,12 @@ impl Opened {
         ensures count { F.faults files.old ≤ F.faults files.new }
         ensures honest { F.honest files.new ≡ F.honest files.old }
     {
-        let from = self.editor.session().cursor();
+        let from = self.editor.cursor();
         let kept = self
             .editor
             .keep_noted(action, note, self.name.as_str(), files);
         match &kept {
-            Ok(_) => self.written = self.written || self.editor.session().cursor() != from,
+            Ok(_) => self.written = self.written || self.editor.cursor() != from,
             Err(KeepFault::Refused(_)) => {}
             Err(KeepFault::Pair(_)) => self.left = true,
         }

@@ -5,11 +5,11 @@ use Rattle.bz_journal.specs.Shown.{history_of}
 use Rattle.bz_journal.proofs.session.Session.do_action.Goals as goal
 
 pub returns-in-Undo-clause-makes : goal.returns-in-Undo-clause-makes
-returns-in-Undo-clause-makes c =
+returns-in-Undo-clause-makes g c =
     subst (λ (a : Action). MakesOrWants a c.args.note.now (history_of c.args.self.now) c.undo.result (history_of c.undo.new.self)) (sym c.in-Undo.is)
     (c.undo.ensures.makes c.args.note.now)
 
 pub returns-in-Redo-clause-makes : goal.returns-in-Redo-clause-makes
-returns-in-Redo-clause-makes c =
+returns-in-Redo-clause-makes g c =
     subst (λ (a : Action). MakesOrWants a c.args.note.now (history_of c.args.self.now) c.redo.result (history_of c.redo.new.self)) (sym c.in-Redo.is)
     (c.redo.ensures.makes c.args.note.now)

@@ -10,7 +10,7 @@ use Rattle.bz_journal.proofs.PutLines.{lines_stand}
 use Rattle.bz_journal.proofs.session.Session.is_present_at.Goals as goal
 
 pub returns : goal.returns
-returns c =
+returns g c =
     let tree : Node = c.args.self.now.tree in
     let same : c.present-here.result.now ≡ tree = c.present-here.ensures.tree in
     let parts : c.as_slice.result.now ≡ tree.parts = c.as_slice.ensures ∙ ap (λ (n : Node). n.parts) (c.here.view_is ∙ same) in

@@ -1,5 +1,3 @@
-use Rattle.std.proofs.Common.{◌≡◌, ◌∙◌, ℕ}
-use Rattle.std.proofs.lemmas.Result.{on_ok_weaker}
 use Rattle.bz_journal.specs.Shown.{history_of}
 use Rattle.bz_journal.proofs.Following.{follows, has_moved}
 use Rattle.bz_journal.proofs.session.Session.keep_noted.Goals as goal

@@ -5,8 +5,8 @@ use Rattle.bz_journal.proofs.Kept.{session_kept, session_present}
 use Rattle.bz_journal.proofs.session.Session.present.Goals as goal
 
 pub returns-clause-text : goal.returns-clause-text
-returns-clause-text c =
-    ap (λ (s : State). spell_node s.tree) c.self.view_is ∙ session_present c.texts_kept.ensures c.args.self.now (subst (λ (s : State). IsSession s) c.self.view_is c.self.invariant)
+returns-clause-text g c =
+    ap (λ (s : State). spell_node s.tree) c.self.view_is ∙ session_present c.texts_kept.ensures c.args.self.now (subst (λ (s : State). IsSession s) c.self.view_is c.self.invariant.0)
 
 pub returns-clause-within : goal.returns-clause-within
-returns-clause-within c = let k = session_kept c.texts_kept.ensures c.args.self.now (subst (λ (s : State). IsSession s) c.self.view_is c.self.invariant) in k.within
+returns-clause-within g c = let k = session_kept c.texts_kept.ensures c.args.self.now (subst (λ (s : State). IsSession s) c.self.view_is c.self.invariant.0) in k.within

@@ -1,7 +1,4 @@
-use Rattle.std.proofs.Common.{◌≡◌, ◌∙◌, List, ℕ, subst, Result, IfOk}
 use Rattle.std.proofs.lemmas.Result.{on_ok_weaker}
-use Rattle.bz_keep.specs.Resuming.{Follows, MayResume, Resumes}
-use Rattle.bz_journal.specs.History.{History, present}
 use Rattle.bz_journal.specs.Shown.{history_of}
 use Rattle.bz_journal.proofs.Resuming.{may_resume}
 use Rattle.bz_journal.proofs.session.Session.replace_pair.Goals as goal

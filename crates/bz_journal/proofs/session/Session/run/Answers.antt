@@ -5,7 +5,7 @@ use Rattle.bz_journal.proofs.Running.{run_more}
 use Rattle.bz_journal.proofs.session.Session.run.Goals as goal
 
 pub loop-action-preserved : goal.loop-action-preserved
-loop-action-preserved c =
+loop-action-preserved g c =
     let so_far = c.loop-action.invariant in
     let replied = c.act-reply.result ∷ [] in
     let pushed : c.push.new.self.items ≡ c.loop-action.replies.items ++ replied = search rules in

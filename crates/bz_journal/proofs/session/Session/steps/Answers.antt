@@ -4,6 +4,6 @@ use Rattle.bz_journal.proofs.Kept.{session_counted}
 use Rattle.bz_journal.proofs.session.Session.steps.Goals as goal
 
 pub returns : goal.returns
-returns c =
+returns g c =
     let size : c.len.result ≡ length c.self.inside.steps.items = search rules in
-    ap (λ k. k + 1) (size ∙ ap (λ (s : State). length s.steps) c.self.view_is) ∙ session_counted c.texts_kept.ensures c.args.self.now (subst (λ (s : State). IsSession s) c.self.view_is c.self.invariant)
+    ap (λ k. k + 1) (size ∙ ap (λ (s : State). length s.steps) c.self.view_is) ∙ session_counted c.texts_kept.ensures c.args.self.now (subst (λ (s : State). IsSession s) c.self.view_is c.self.invariant.0)

@@ -1,5 +1,5 @@
 use Rattle.bz_journal.proofs.Resuming.{known_made, resumed_made}
-use Rattle.bz_journal.proofs.session.Session.resume.Goals as goal
+use Rattle.bz_journal.proofs.lasting.Session.resume.Goals as goal
 
 pub returns-in-Ok-clause-ok : goal.returns-in-Ok-clause-ok
 returns-in-Ok-clause-ok c = resumed_made c.args.journal.now c.args.text.now c.in-Ok.resumed c.of_resumed.result c.in-Ok.ensures.ok c.of_resumed.ensures.ok

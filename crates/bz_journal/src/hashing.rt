@@ -1,0 +1,107 @@
+//! The digests of the texts of a session that keeps none.
+ghost use Rattle.std.specs.Prelude.{◌≡◌, IfOk, map};
+ghost use Rattle.sha2.specs.Sha256.{sha256};
+ghost use Rattle.bz_trail.specs.Shown.{texts_of};
+ghost use Rattle.bz_trail.specs.Trails.{IsTrail, trail_at};
+ghost use Rattle.bz_journal.specs.Shown.{history_of};
+
+use crate::digest::digest_of;
+use crate::digests::{Digests, OptionalDigests, one_digest};
+use crate::session::Session;
+use bz_edit::Step;
+use bz_items::{Items, Memory};
+use bz_trail::laws::texts_kept;
+use bz_trail::{go_back, go_forward};
+use bz_tree::Tree;
+use std::alloc::Global;
+
+/// Equal steps. The error: a growth was refused.
+fn copy_steps(alloc: Global, steps: &[Step]) -> Result<Items<Step>, Memory>
+    ensures { IfOk result (λ copied. copied ≡ steps.now) }
+{
+    let mut copied = Items::new(alloc);
+    for step in steps {
+        copied.push(step.copy()?)?;
+    }
+    Ok(copied)
+}
+
+/// The digests of all texts, from the tree of the first one on, which goes to the last. The error: a growth was refused.
+fn hashed_from(alloc: Global, tree: &mut Tree, steps: &mut [Step]) -> Result<Vec<[u8; 32]>, Memory>
+    requires { IsTrail (trail_at tree.old steps.old 0) }
+    ensures { IfOk result (λ digests. digests.items ≡ map sha256 (texts_of (trail_at tree.old steps.old 0))) }
+{
+    texts_kept();
+    let mut digests = one_digest(alloc, digest_of(tree))?;
+    for at in 0..steps.len() {
+        go_forward(tree, steps, at, 1)?;
+        digests.push(digest_of(tree))?;
+    }
+    Ok(digests)
+}
+
+/// The digests of all texts of a trail, whose tree goes to the first one and then on to the last. The error: a growth was refused.
+fn hashed_around(
+    alloc: Global,
+    tree: &mut Tree,
+    steps: &mut [Step],
+    cursor: usize,
+) -> Result<Vec<[u8; 32]>, Memory>
+    requires { IsTrail (trail_at tree.old steps.old cursor) }
+    ensures { IfOk result (λ digests. digests.items ≡ map sha256 (texts_of (trail_at tree.old steps.old cursor))) }
+{
+    go_back(tree, steps, cursor, cursor)?;
+    hashed_from(alloc, tree, steps)
+}
+
+impl<D: Digests + Drop> Session<D> {
+    /// The digests of all texts, taken of a copy that goes through them. The error: memory was refused.
+    pub(crate) fn hashed(&self) -> Result<Vec<[u8; 32]>, Memory>
+        ensures { IfOk result (λ digests. digests.items ≡ map sha256 (history_of self.now).texts) }
+    {
+        let alloc = self.alloc();
+        let mut tree = self.tree.copy()?;
+        let mut steps = copy_steps(alloc, self.steps.as_slice())?.into_vec();
+        let cursor = self.cursor as usize;
+        hashed_around(alloc, &mut tree, steps.as_mut_slice(), cursor)
+    }
+}
+
+impl Session<OptionalDigests> {
+    /// From now on a digest of each text is kept, where the session has only its first text. Where memory is refused it goes on
+    /// without.
+    pub(crate) fn keep_digests(&mut self)
+        ensures { self.new ≡ self.old }
+    {
+        texts_kept();
+        if self.steps.is_empty() && self.digests.kept.is_none() {
+            self.digests.kept = one_digest(self.alloc(), digest_of(&self.tree)).ok();
+        }
+    }
+
+    /// A session whose digests are kept.
+    pub(crate) fn of_session(session: Session) -> Session<OptionalDigests>
+        ensures { result ≡ session }
+    {
+        let Session {
+            tree,
+            steps,
+            digests,
+            notes,
+            package,
+            cursor,
+            before,
+        } = session;
+        Session {
+            tree,
+            steps,
+            digests: OptionalDigests {
+                kept: Some(digests),
+            },
+            notes,
+            package,
+            cursor,
+            before,
+        }
+    }
+}
