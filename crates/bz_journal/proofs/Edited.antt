@@ -10,6 +10,7 @@ use Rattle.bz_value.specs.Exchanged.{AreExchanged}
 use Rattle.bz_value.specs.Gaps.{Bytes}
 use Rattle.bz_value.specs.Proper.{IsProper}
 use Rattle.bz_view.specs.View.{view_of}
+use Rattle.bz_write.specs.Written.{layout}
 use Rattle.bz_tidy.specs.Passes.{tidied}
 use Rattle.bz_words.specs.declared.command.Operation.{Operation}
 use Rattle.bz_command.specs.Effect.{effect, printed}
@@ -81,8 +82,8 @@ exchanged_length (mark ∷ marks) (old ∷ before) (item ∷ items) h = ap suc (
 pub value_taken : WrittenIsDrawn → (items : List Item) (answer : Option Bytes) (note : Bytes) (h after : History) (reply : Reply) (tree : Node)
     → IsProper items → tidied items ≡ items → h.cursor < length h.texts
     → (◌≡◌ {A = Answer × History} (Ok reply, after) (after_meaning note h (written items answer))) ⊎ ((◌≡◌ {A = Answer} (Ok reply) (Err Memory)) × (after ≡ h))
-    → Reads (spell_node tree) tree → spell_node tree ≡ present after → (items ≡ view_of tree) × IsWritten (view_of tree) tree
+    → Reads (spell_node tree) tree → spell_node tree ≡ present after → (items ≡ view_of tree) × IsWritten (view_of tree) tree × (spell_node tree ≡ layout items)
 value_taken drawn items answer note h after reply tree proper tidy within (inr memory) reads is = let none : ◌≡◌ {A = Answer} (Ok reply) (Err Memory) = memory.0 in absurd (cc)
 value_taken drawn items answer note h after reply tree proper tidy within (inl led) reads is =
     let laid : IsLayoutOf items tree = drawn items answer note h after reply tree proper within led (subst (λ (t : Bytes). Reads t tree) is reads) in
-    (sym tidy ∙ sym laid.1, subst (λ (xs : List Item). IsWritten xs tree) (sym laid.1) laid.0)
+    (sym tidy ∙ sym laid.1, subst (λ (xs : List Item). IsWritten xs tree) (sym laid.1) laid.0, laid.2 ∙ ap layout tidy)

@@ -50,7 +50,7 @@ layout_tree layers items text printed asked tree proper is reads =
     let proper_tidy : IsProper tidy = layers.proper items proper in
     let laid_reads : Reads text (drawn tidy) = subst (λ (t : Bytes). Reads t (drawn tidy)) (sym is.layout_is) (layers.accepted tidy proper_tidy is.long is.deep) in
     let same : drawn tidy ≡ tree = layers.one text (drawn tidy) tree laid_reads reads in
-    (record { proper = proper_tidy; tidy = layers.stays items; drawn = same }, ap view_of (sym same) ∙ layers.back tidy proper_tidy ∙ layers.settled items)
+    (record { proper = proper_tidy; tidy = layers.stays items; drawn = same }, ap view_of (sym same) ∙ layers.back tidy proper_tidy ∙ layers.settled items, reads.1 ∙ is.layout_is)
 
 -- the text that is present where an answer is no refusal
 text_after : (same below : Bool) (note : Bytes) (h after : History) (text : Bytes) (printed : Option Bytes) (reply : Reply) → h.cursor < length h.texts → (same ≡ true → text ≡ present h)

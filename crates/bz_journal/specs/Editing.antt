@@ -1,12 +1,14 @@
 -- The value beside a session, and the trees that a command leaves.
-use Rattle.std.specs.Prelude.{◌≡◌, ◌<◌, true, Bool, List, Option, length, Ok, IfSome}
+use Rattle.std.specs.Prelude.{◌≡◌, ◌<◌, ◌≤◌, ℕ, true, Bool, List, Option, length, Ok, IfSome}
 use Rattle.bz_tree.specs.declared.tree.Node.{Node}
 use Rattle.bz_tree.specs.Legal.{Reads}
+use Rattle.bz_tree.specs.Spell.{spell_node}
 use Rattle.bz_label.specs.declared.target.Target.{Target}
 use Rattle.bz_value.specs.declared.value.Item.{Item}
 use Rattle.bz_value.specs.Gaps.{Bytes}
 use Rattle.bz_value.specs.Proper.{IsProper}
 use Rattle.bz_view.specs.View.{view_of}
+use Rattle.bz_write.specs.Written.{layout}
 use Rattle.bz_tidy.specs.Passes.{tidied}
 use Rattle.bz_words.specs.declared.command.Operation.{Operation}
 use Rattle.bz_words.specs.Proper.{IsProperCommand}
@@ -18,14 +20,16 @@ use Rattle.bz_journal.specs.declared.action.Reply.TheVariants.{Changed}
 use Rattle.bz_journal.specs.Meaning.{written}
 use Rattle.bz_journal.specs.History.{History, Answer, Acts, after_meaning, present}
 
--- The value that is kept is the view of the tree; and a tree that counts as written is the layout of its view, which is tidy.
-pub record IsBeside (tree : Node) (value : Option (List Item)) (counts : Bool) : Type 0 where
+-- The value that is kept is the view of the tree; a tree that counts as written is the layout of its view, which is tidy; and the
+-- text has at most so many bytes.
+pub record IsBeside (tree : Node) (value : Option (List Item)) (counts : Bool) (most : ℕ) : Type 0 where
   pub seen : IfSome value (λ items. items ≡ view_of tree)
   pub written : counts ≡ true → IsWritten (view_of tree) tree
+  pub long : length (spell_node tree) ≤ most
 
--- the tree is the layout of these items tidied, and these are what it is seen as
+-- the tree is the layout of these items tidied, these are what it is seen as, and it spells that layout
 abbrev pub IsLayoutOf : List Item → Node → Type 0
-IsLayoutOf items tree = IsWritten (tidied items) tree × (view_of tree ≡ tidied items)
+IsLayoutOf items tree = IsWritten (tidied items) tree × (view_of tree ≡ tidied items) × (spell_node tree ≡ layout (tidied items))
 
 -- the command is a proper one, and it was answered that the text is another one
 abbrev pub IsCommandDone : Action → Answer → Type 0

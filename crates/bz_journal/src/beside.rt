@@ -2,13 +2,14 @@
 //! drawn.
 ghost use Rattle.std.specs.Prelude.{◌≡◌, ◌≤◌, ◌⊎◌, ◌↔◌, Err, IfErr, IfOk, IfSome, IsTrue, None, List, Ok, OnErr, OnOk, Option, length};
 ghost use Rattle.bz_tree.specs.declared.tree.Node.{Node};
-ghost use Rattle.bz_tree.specs.Spell.{spell_node};
+ghost use Rattle.bz_tree.specs.Spell.{limit, spell_node};
 ghost use Rattle.bz_tree.specs.Statements.{lines_of};
 ghost use Rattle.bz_value.specs.declared.value.Item.{Item};
 ghost use Rattle.bz_value.specs.Exchanged.{AreExchanged};
 ghost use Rattle.bz_value.specs.Gaps.{Bytes};
 ghost use Rattle.bz_view.specs.View.{view_of};
 ghost use Rattle.bz_write.specs.Drawn.{drawn};
+ghost use Rattle.bz_write.specs.Written.{layout};
 ghost use Rattle.bz_tidy.specs.Passes.{tidied};
 ghost use Rattle.bz_command.specs.Effect.{effect, printed};
 ghost use Rattle.bz_trail.specs.Trails.{IsSmall};
@@ -29,10 +30,10 @@ use bz_attribute::Refusal;
 use bz_command::{Ran, lines_matter, looks_at_lines, run_in};
 use bz_items::{Memory, Text};
 use bz_label::Target;
-use bz_redraw::{Redrawn, renew};
+use bz_redraw::{Redrawn, Renewed, renew};
 use bz_rule::take_apart;
 use bz_tidy::{tidy, tidy_stays};
-use bz_tree::Tree;
+use bz_tree::{LENGTH_LIMIT, Tree};
 use bz_value::File;
 use bz_view::view;
 use bz_words::Command;
@@ -101,23 +102,45 @@ fn run_on_tree(
     run_in(alloc, command, target, current, lines.as_slice(), file)
 }
 
-/// A tidy value, and lines that make the present tree the one of its layout, where some are known.
+/// A tidy value, lines that make the present tree the one of its layout, where some are known, and how many bytes its layout has at
+/// most, where it isn't past the limit.
 #[derive(Drop)]
 struct Tidied {
     file: File,
     redrawn: Option<Redrawn>,
+    most: usize,
 }
 
 /// Tidies items of which those that are marked were exchanged. The error: memory was refused.
-fn tidy_marked_in(alloc: Global, marks: &[bool], file: File, tree: &Tree) -> Result<Tidied, Memory>
+fn tidy_marked_in(
+    alloc: Global,
+    marks: &[bool],
+    file: File,
+    tree: &Tree,
+    long: usize,
+) -> Result<Tidied, Memory>
     requires marked { AreExchanged marks.now (view_of tree.now) file }
     requires written { IsWritten (view_of tree.now) tree.now }
+    requires long { length (spell_node tree.now) ≤ long }
     ensures tidy { IfOk result (λ done. done.file ≡ tidied file) }
     ensures lines { IfOk result (λ done. IfSome done.redrawn (λ redrawn. IsRedrawn redrawn tree.now done.file)) }
+    ensures most { IfOk result (λ done. length (layout done.file) ≤ limit → length (layout done.file) ≤ done.most) }
 {
     let mut file = file;
-    match renew(alloc, marks, &mut file, tree) {
-        Ok(redrawn) => Ok(Tidied { file, redrawn }),
+    match renew(alloc, marks, &mut file, tree, long) {
+        Ok(Some(renewed)) => {
+            let Renewed { redrawn, most } = renewed;
+            Ok(Tidied {
+                file,
+                redrawn: Some(redrawn),
+                most,
+            })
+        }
+        Ok(None) => Ok(Tidied {
+            file,
+            redrawn: None,
+            most: LENGTH_LIMIT,
+        }),
         Err(fault) => {
             take_apart(file);
             Err(fault)
@@ -131,17 +154,21 @@ fn tidy_in(
     marks: Option<Vec<bool>>,
     file: File,
     tree: &Tree,
+    long: usize,
 ) -> Result<Tidied, Memory>
     requires marked { IfSome marks (λ marks. AreExchanged marks.items (view_of tree.now) file) }
     requires written { IsWritten (view_of tree.now) tree.now }
+    requires long { length (spell_node tree.now) ≤ long }
     ensures tidy { IfOk result (λ done. done.file ≡ tidied file) }
     ensures lines { IfOk result (λ done. IfSome done.redrawn (λ redrawn. IsRedrawn redrawn tree.now done.file)) }
+    ensures most { IfOk result (λ done. length (layout done.file) ≤ limit → length (layout done.file) ≤ done.most) }
 {
     match marks {
-        Some(marks) => tidy_marked_in(alloc, marks.as_slice(), file, tree),
+        Some(marks) => tidy_marked_in(alloc, marks.as_slice(), file, tree, long),
         None => Ok(Tidied {
             file: tidy(alloc, file)?,
             redrawn: None,
+            most: LENGTH_LIMIT,
         }),
     }
 }
@@ -234,14 +261,17 @@ fn take_up_tidied(
 fn take_up_value(
     session: &mut Session<OptionalDigests>,
     value: &mut Option<File>,
+    long: &mut usize,
     done: Tidied,
     printed: Option<Text>,
     note: &str,
 ) -> Result<Reply, Refusal>
     requires short { length note.now ≤ note_limit }
     requires none { value.old ≡ None }
+    requires long { length (spell_node session.old.tree) ≤ long.old }
     requires tidy { tidied done.file ≡ done.file }
     requires lines { IfSome done.redrawn (λ redrawn. IsRedrawn redrawn session.old.tree done.file) }
+    requires most { length (layout done.file) ≤ limit → length (layout done.file) ≤ done.most }
     requires written { IsWritten (view_of session.old.tree) session.old.tree }
     ensures makes { ((result, history_of session.new) ≡ after_meaning note.now (history_of session.old) (written done.file printed))
         ⊎ ((result ≡ Err Refusal.Memory) × (history_of session.new ≡ history_of session.old)) }
@@ -249,14 +279,20 @@ fn take_up_value(
     ensures small { IsSmall (trail_of session.old) → IsSmall (trail_of session.new) }
     ensures value { IfSome value.new (λ items. items ≡ view_of session.new.tree) }
     ensures written { IsWritten (view_of session.new.tree) session.new.tree }
+    ensures long { length (spell_node session.new.tree) ≤ long.new }
 {
     written_is_drawn();
     let _before = session.present();
-    let Tidied { file, redrawn } = done;
+    let Tidied {
+        file,
+        redrawn,
+        most,
+    } = done;
     let _items = &file.items;
     match take_up_tidied(session, &file, redrawn, printed, note) {
         Ok(reply) => {
             reads_back(session.present());
+            *long = most;
             *value = kept(file);
             Ok(reply)
         }
@@ -271,6 +307,7 @@ fn take_up_value(
 fn take_up_made(
     session: &mut Session<OptionalDigests>,
     value: &mut Option<File>,
+    long: &mut usize,
     marks: Option<Vec<bool>>,
     file: File,
     printed: Option<Text>,
@@ -278,6 +315,7 @@ fn take_up_made(
 ) -> Result<Reply, Refusal>
     requires short { length note.now ≤ note_limit }
     requires none { value.old ≡ None }
+    requires long { length (spell_node session.old.tree) ≤ long.old }
     requires marked { IfSome marks (λ marks. AreExchanged marks.items (view_of session.old.tree) file) }
     requires written { IsWritten (view_of session.old.tree) session.old.tree }
     ensures makes { ((result, history_of session.new) ≡ after_meaning note.now (history_of session.old) (written file printed))
@@ -286,25 +324,28 @@ fn take_up_made(
     ensures small { IsSmall (trail_of session.old) → IsSmall (trail_of session.new) }
     ensures value { IfSome value.new (λ items. items ≡ view_of session.new.tree) }
     ensures written { IsWritten (view_of session.new.tree) session.new.tree }
+    ensures long { length (spell_node session.new.tree) ≤ long.new }
 {
     tidy_stays();
-    match tidy_in(session.alloc(), marks, file, session.present()) {
-        Ok(done) => take_up_value(session, value, done, printed, note),
+    match tidy_in(session.alloc(), marks, file, session.present(), *long) {
+        Ok(done) => take_up_value(session, value, long, done, printed, note),
         Err(_) => Err(Refusal::Memory),
     }
 }
 
-/// Does a command with a note on the present text, which is the layout of a tidy value; `value` is its value, where that is kept.
-/// At an error the session is as before. Errors: those of the command; `TooLarge` and `TooDeep` where the new text would be past
+/// Does a command with a note on the present text, which is the layout of a tidy value; `value` is its value, where that is kept, and
+/// `long` how many bytes it has at most. At an error the session is as before. Errors: those of the command; `TooLarge` and `TooDeep` where the new text would be past
 /// a limit; `Full` at the most steps; `Memory`: a growth was refused.
 pub(crate) fn edit_beside(
     session: &mut Session<OptionalDigests>,
     value: &mut Option<File>,
+    long: &mut usize,
     command: &Command,
     target: &Target,
     note: &str,
 ) -> Result<Reply, Refusal>
     requires short { length note.now ≤ note_limit }
+    requires long { length (spell_node session.old.tree) ≤ long.old }
     requires value { IfSome value.old (λ items. items ≡ view_of session.old.tree) }
     requires written { IsWritten (view_of session.old.tree) session.old.tree }
     ensures makes { MakesOrWants (Action.Do command.now target.now) note.now (history_of session.old) result (history_of session.new) }
@@ -312,6 +353,7 @@ pub(crate) fn edit_beside(
     ensures small { IsSmall (trail_of session.old) → IsSmall (trail_of session.new) }
     ensures value { IfSome value.new (λ items. items ≡ view_of session.new.tree) }
     ensures written { IsWritten (view_of session.new.tree) session.new.tree }
+    ensures long { length (spell_node session.new.tree) ≤ long.new }
 {
     let alloc = session.alloc();
     let here = session.present();
@@ -339,7 +381,7 @@ pub(crate) fn edit_beside(
                 *value = kept(file);
                 return Ok(unchanged(printed));
             }
-            take_up_made(session, value, renewed, file, printed, note)
+            take_up_made(session, value, long, renewed, file, printed, note)
         }
         Err(refusal) => {
             take_apart(file);

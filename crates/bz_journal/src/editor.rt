@@ -6,7 +6,7 @@ ghost use Rattle.bz_files.specs.Folder.{Elapses, Folder};
 ghost use Rattle.bz_keep.specs.Resuming.{Holds, OthersStay, Resumes, Survives};
 ghost use Rattle.bz_tree.specs.Faults.{IsOfText};
 ghost use Rattle.bz_tree.specs.Legal.{Accepted};
-ghost use Rattle.bz_tree.specs.Spell.{limit};
+ghost use Rattle.bz_tree.specs.Spell.{limit, spell_node};
 ghost use Rattle.bz_trail.specs.Trails.{IsSmall};
 ghost use Rattle.bz_view.specs.View.{view_of};
 ghost use Rattle.bz_redraw.specs.Redrawn.{IsWritten};
@@ -34,7 +34,7 @@ use bz_attribute::Refusal;
 use bz_files::Files;
 use bz_items::{Memory, Text};
 use bz_label::Target;
-use bz_tree::ReadFault;
+use bz_tree::{LENGTH_LIMIT, ReadFault};
 use bz_value::File;
 use bz_words::Command;
 use std::alloc::Global;
@@ -49,6 +49,8 @@ pub struct Editor {
     value: Option<File>,
     /// Whether the present text is known to be the layout of a tidy value.
     written: bool,
+    /// How many bytes the present text has at most.
+    long: usize,
     /// Whether the last command printed something, so that the value is worth keeping for the next one that prints.
     asked: bool,
 }
@@ -65,7 +67,7 @@ impl Model for Editor {
 
     ghost view = { λ editor. editor.session };
 
-    ghost invariant = { λ editor. IsBeside editor.session.tree editor.value editor.written };
+    ghost invariant = { λ editor. IsBeside editor.session.tree editor.value editor.written editor.long };
 }
 
 /// Whether it is answered that the text is another one.
@@ -89,12 +91,14 @@ fn is_command_done(action: &Action, reply: &Result<Reply, Refusal>) -> bool
     }
 }
 
-/// Does an action as the session does it, and tells whether the present text is then known to be the layout of a tidy value.
+/// Does an action as the session does it, and tells whether the present text is then known to be the layout of a tidy value, and
+/// how many bytes it has at most.
 fn act_by_session(
     session: &mut Session<OptionalDigests>,
     action: &Action,
     note: &str,
     written: &mut bool,
+    long: &mut usize,
 ) -> Result<Reply, Refusal>
     ensures acts { Acts action.now note.now (history_of session.old) result (history_of session.new) }
     ensures formatted { OnOk result (IsFormat action.now → IsFormatted (present (history_of session.old)) (present (history_of session.new))) }
@@ -103,11 +107,13 @@ fn act_by_session(
     ensures even { length note.now ≤ note_limit → IsOverEven action.now (trail_of session.old) → IsOk result }
     ensures small { IsSmall (trail_of session.old) → IsSmall (trail_of session.new) }
     ensures written { written.new ≡ true → IsWritten (view_of session.new.tree) session.new.tree }
+    ensures long { length (spell_node session.new.tree) ≤ long.new }
 {
     changed_is_written();
     let _before = session.present();
     let reply = session.act_noted(action, note);
     *written = is_command_done(action, &reply);
+    *long = LENGTH_LIMIT;
     reads_back(session.present());
     reply
 }
@@ -116,12 +122,14 @@ fn act_by_session(
 fn edit_noted(
     session: &mut Session<OptionalDigests>,
     value: &mut Option<File>,
+    long: &mut usize,
     action: &Action,
     command: &Command,
     target: &Target,
     note: &str,
 ) -> Result<Reply, Refusal>
     requires value { IfSome value.old (λ items. items ≡ view_of session.old.tree) }
+    requires long { length (spell_node session.old.tree) ≤ long.old }
     requires written { IsWritten (view_of session.old.tree) session.old.tree }
     requires action { action.now ≡ Action.Do command.now target.now }
     ensures acts { Acts action.now note.now (history_of session.old) result (history_of session.new) }
@@ -129,21 +137,24 @@ fn edit_noted(
     ensures small { IsSmall (trail_of session.old) → IsSmall (trail_of session.new) }
     ensures value { IfSome value.new (λ items. items ≡ view_of session.new.tree) }
     ensures written { IsWritten (view_of session.new.tree) session.new.tree }
+    ensures long { length (spell_node session.new.tree) ≤ long.new }
 {
     if note.len() > MOST_NOTE {
         return Err(Refusal::NoteTooLong);
     }
-    edit_beside(session, value, command, target, note)
+    edit_beside(session, value, long, command, target, note)
 }
 
 /// An editor of a session. No value is kept yet.
 fn beside(session: Session<OptionalDigests>) -> Editor
     ensures { result ≡ session }
 {
+    reads_back(session.present());
     Editor {
         session,
         value: None,
         written: false,
+        long: LENGTH_LIMIT,
         asked: false,
     }
 }
@@ -210,6 +221,7 @@ impl Editor {
                 return edit_noted(
                     &mut self.session,
                     &mut self.value,
+                    &mut self.long,
                     action,
                     command,
                     target,
@@ -232,7 +244,13 @@ impl Editor {
             self.asked = asks;
         }
         self.value = None;
-        act_by_session(&mut self.session, action, note, &mut self.written)
+        act_by_session(
+            &mut self.session,
+            action,
+            note,
+            &mut self.written,
+            &mut self.long,
+        )
     }
 
     /// Does an action with a note and keeps it, as `Session::keep_noted` does. The errors are those.
@@ -272,7 +290,10 @@ impl Editor {
     {
         self.value = None;
         self.written = false;
+        self.long = LENGTH_LIMIT;
         self.session.keep_digests();
-        self.session.keep_noted(action, note, file, files)
+        let kept = self.session.keep_noted(action, note, file, files);
+        reads_back(self.session.present());
+        kept
     }
 }

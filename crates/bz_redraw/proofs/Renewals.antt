@@ -1,5 +1,5 @@
 -- What is tidied one by one stays proper, and what makes lines drawn anew those of the whole.
-use Rattle.std.proofs.Common.{◌≡◌, ◌+◌, ◌≤◌, ◌∙◌, Bool, true, false, List, [], ◌∷◌, length, suc, refl, ap, sym, subst, arith, flat_map}
+use Rattle.std.proofs.Common.{◌≡◌, ◌+◌, ℕ, ◌≤◌, ◌∙◌, Bool, true, false, List, [], ◌∷◌, length, suc, refl, ap, sym, subst, arith, flat_map}
 use Rattle.std.specs.List.{AllByRecursion}
 use Rattle.std.proofs.lemmas.List.Elements.{All-from_recursion, recursion_from_All}
 use Rattle.bz_tree.specs.declared.tree.Node.{Node}
@@ -17,7 +17,7 @@ use Rattle.bz_write.proofs.Spelled.{drawn_spelled}
 use Rattle.bz_tidy.specs.Exchanged.{item_tidied, tidied_where}
 use Rattle.bz_tidy.specs.Laws.{ProperStays}
 use Rattle.bz_tidy.specs.Passes.{tidied}
-use Rattle.bz_redraw.specs.Redrawn.{IsWritten, IsRedrawn}
+use Rattle.bz_redraw.specs.Redrawn.{IsWritten, IsRenewed}
 
 -- ---- items that are tidied one by one
 
@@ -44,20 +44,22 @@ where_length (mark ∷ marks) (item ∷ items) = ap suc (where_length marks item
 -- ---- lines that are drawn anew
 
 -- Lines that make the drawing of the items of that of others make it of the tree that was written, if there is room for them.
-pub renewed : (law : RedrawnHasLength) (redrawn : Redrawn) (tree : Node) (before items : List Item) → IsWritten before tree → IsProper items
+pub renewed : (law : RedrawnHasLength) (redrawn : Redrawn) (most : ℕ) (tree : Node) (before items : List Item) → IsWritten before tree → IsProper items
     → put_all redrawn.places redrawn.lines (drawn before).parts ≡ (drawn items).parts → Ascend 0 (length (drawn items).parts) redrawn.places
-    → length redrawn.places ≡ length redrawn.lines → length (spell_node tree) + length (flat_map spell_part redrawn.lines) ≤ limit
-    → depth_of (drawn items) ≤ depth_limit → IsRedrawn redrawn tree items
-renewed law redrawn tree before items written proper put ascend many room deep =
+    → length redrawn.places ≡ length redrawn.lines → (length (spell_node tree) + length (flat_map spell_part redrawn.lines) ≤ most) × (most ≤ limit)
+    → depth_of (drawn items) ≤ depth_limit → IsRenewed (record { redrawn = redrawn; most = most }) tree items
+renewed law redrawn most tree before items written proper put ascend many room deep =
     let there : put_all redrawn.places redrawn.lines tree.parts ≡ (drawn items).parts = subst (λ (n : Node). put_all redrawn.places redrawn.lines n.parts ≡ (drawn items).parts) written.drawn put in
     let sum : length (layout items) + length (flat_map spell_part (parts_at redrawn.places (drawn before).parts)) ≡ length (layout before) + length (flat_map spell_part redrawn.lines) =
     law before items redrawn.places redrawn.lines written.proper proper ascend many put in
     let spelled : length (spell_node tree) ≡ length (layout before) = ap (λ (n : Node). length (spell_node n)) (sym written.drawn) ∙ ap length (drawn_spelled before written.proper) in
-    let parts : length (drawn items).parts ≡ length tree.parts = sym (ap length there) ∙ length-put_all redrawn.places redrawn.lines tree.parts in
-    record {
-      put = there;
-      ascend = subst (λ n. Ascend 0 n redrawn.places) parts ascend;
-      as_many = many;
-      long = omega (arith, sum, room, spelled);
-      deep = deep;
-    }
+    let parts : length (drawn items).parts ≡ length tree.parts = sym (ap length there) ∙ length-put_all redrawn.places redrawn.lines tree.parts in (
+      record {
+        put = there;
+        ascend = subst (λ n. Ascend 0 n redrawn.places) parts ascend;
+        as_many = many;
+        long = omega (arith, sum, room.0, room.1, spelled);
+        deep = deep;
+      },
+      omega (arith, sum, room.0, spelled),
+    )

@@ -6,6 +6,7 @@ use Rattle.bz_tree.specs.Spell.{depth_of, depth_limit, limit}
 use Rattle.bz_value.specs.declared.value.Item.{Item}
 use Rattle.bz_value.specs.Proper.{IsProper}
 use Rattle.bz_write.specs.declared.marked.Redrawn.{Redrawn}
+use Rattle.bz_redraw.specs.declared.renewing.Renewed.{Renewed}
 use Rattle.bz_write.specs.Drawn.{drawn}
 use Rattle.bz_write.specs.Written.{layout}
 use Rattle.bz_tidy.specs.Passes.{tidied}
@@ -23,3 +24,7 @@ pub record IsRedrawn (redrawn : Redrawn) (tree : Node) (items : List Item) : Typ
   pub as_many : length redrawn.places ≡ length redrawn.lines
   pub long : length (layout items) ≤ limit
   pub deep : depth_of (drawn items) ≤ depth_limit
+
+-- The same, and the layout has no more bytes than are said.
+abbrev pub IsRenewed : Renewed → Node → List Item → Type 0
+IsRenewed renewed tree items = IsRedrawn renewed.redrawn tree items × (length (layout items) ≤ renewed.most)

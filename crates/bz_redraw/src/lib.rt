@@ -5,4 +5,4 @@ mod renewing;
 mod room;
 
 pub use bz_write::Redrawn;
-pub use renewing::renew;
+pub use renewing::{Renewed, renew};

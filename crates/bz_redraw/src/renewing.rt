@@ -1,21 +1,29 @@
 //! Statements that were exchanged, tidied and drawn by themselves.
-ghost use Rattle.std.specs.Prelude.{◌≡◌, ◌≤◌, ◌+◌, List, true, length, IfOk, IfSome, OnOk};
+ghost use Rattle.std.specs.Prelude.{◌≡◌, ◌≤◌, ◌+◌, List, length, IfOk, IfSome, OnOk};
 ghost use Rattle.std.specs.List.{flat_map};
 ghost use Rattle.bz_tree.specs.Spell.{limit, spell_node, spell_part};
 ghost use Rattle.bz_value.specs.declared.value.Item.{Item};
 ghost use Rattle.bz_value.specs.Exchanged.{AreExchanged};
 ghost use Rattle.bz_tidy.specs.Exchanged.{tidied_where};
 ghost use Rattle.bz_tidy.specs.Passes.{tidied};
-ghost use Rattle.bz_redraw.specs.Redrawn.{IsRedrawn, IsWritten};
+ghost use Rattle.bz_redraw.specs.Redrawn.{IsRenewed, IsWritten};
 
-use crate::room::left_behind;
+use crate::room::most_with;
 use bz_items::{Items, Memory};
 use bz_tidy::{exchanged_tidied, proper_stays, tidy_marked};
-use bz_tree::{LENGTH_LIMIT, Tree};
+use bz_tree::Tree;
 use bz_value::{File, Item};
 use bz_write::{Redrawn, are_marked_shallow, are_marked_short, redraw, redrawn_has_length};
 use std::alloc::Global;
 use std::mem;
+
+/// Lines that are drawn anew, and how many bytes the text has at most with them.
+#[derive(Drop)]
+pub struct Renewed {
+    pub redrawn: Redrawn,
+    /// Counted in bytes.
+    pub most: usize,
+}
 
 /// The items, of which those that are marked are tidied, each by itself. The error: memory was refused.
 fn tidied_each(alloc: Global, marks: &[bool], items: Items<Item>) -> Result<Items<Item>, Memory>
@@ -43,14 +51,16 @@ fn tidy_within(alloc: Global, marks: &[bool], file: &mut File) -> Result<(), Mem
     Ok(())
 }
 
-/// Whether the lines leave the tree within the limit of a text when they stand in it, whatever they stand in the place of.
-fn is_room_for(redrawn: &Redrawn, tree: &Tree) -> bool
-    ensures { result ≡ true → length (spell_node tree.now) + length (flat_map spell_part redrawn.now.lines) ≤ limit }
+/// How many bytes a tree has at most when the lines stand in it, whatever they stand in the place of; none where that may be past
+/// the limit of a text. Its bytes, of which there are at most `long`, are counted only where that is too many.
+fn most_of(redrawn: &Redrawn, tree: &Tree, long: usize) -> Option<usize>
+    requires { length (spell_node tree.now) ≤ long }
+    ensures { IfSome result (λ most. (length (spell_node tree.now) + length (flat_map spell_part redrawn.now.lines) ≤ most) × (most ≤ limit)) }
 {
-    let _root = &tree.root;
-    match left_behind(redrawn.lines.as_slice(), LENGTH_LIMIT - tree.len()) {
-        Some(_left) => true,
-        None => false,
+    let lines = redrawn.lines.as_slice();
+    match most_with(lines, long) {
+        Some(most) => Some(most),
+        None => most_with(lines, tree.len()),
     }
 }
 
@@ -60,9 +70,11 @@ fn drawn_anew(
     marks: &[bool],
     file: &File,
     tree: &Tree,
-) -> Result<Option<Redrawn>, Memory>
-    requires { length marks.now ≡ length file.now }
-    ensures { IfOk result (λ found. IfSome found (λ redrawn. (before : List Item) → IsWritten before tree.now → AreExchanged marks.now before file.now → IsRedrawn redrawn tree.now file.now)) }
+    long: usize,
+) -> Result<Option<Renewed>, Memory>
+    requires marks { length marks.now ≡ length file.now }
+    requires long { length (spell_node tree.now) ≤ long }
+    ensures { IfOk result (λ found. IfSome found (λ renewed. (before : List Item) → IsWritten before tree.now → AreExchanged marks.now before file.now → IsRenewed renewed tree.now file.now)) }
 {
     let _root = &tree.root;
     let items = file.items.as_slice();
@@ -71,26 +83,28 @@ fn drawn_anew(
     }
     redrawn_has_length();
     let redrawn = redraw(alloc, marks, items)?;
-    if !is_room_for(&redrawn, tree) {
-        return Ok(None);
+    match most_of(&redrawn, tree, long) {
+        Some(most) => Ok(Some(Renewed { redrawn, most })),
+        None => Ok(None),
     }
-    Ok(Some(redrawn))
 }
 
 /// Renews a file where marked statements of it were exchanged since its tree was written: tidies these, so that the file is tidy
-/// again, and gives their lines and places in the tree. None where a limit may be passed so: the file is tidy then too, and its
-/// tree is to be drawn whole. The error: memory was refused; the file has no items then, or those that are tidy.
+/// again, and gives their lines and places in the tree, which has at most `long` bytes. None where a limit may be passed so: the file
+/// is tidy then too, and its tree is to be drawn whole. The error: memory was refused; the file has no items then, or those that are tidy.
 pub fn renew(
     alloc: Global,
     marks: &[bool],
     file: &mut File,
     tree: &Tree,
-) -> Result<Option<Redrawn>, Memory>
-    requires { length marks.now ≡ length file.old }
+    long: usize,
+) -> Result<Option<Renewed>, Memory>
+    requires marks { length marks.now ≡ length file.old }
+    requires long { length (spell_node tree.now) ≤ long }
     ensures tidied { OnOk result ((before : List Item) → tidied before ≡ before → AreExchanged marks.now before file.old → file.new ≡ tidied file.old) }
-    ensures lines { IfOk result (λ found. IfSome found (λ redrawn. (before : List Item) → IsWritten before tree.now → AreExchanged marks.now before file.old → IsRedrawn redrawn tree.now file.new)) }
+    ensures lines { IfOk result (λ found. IfSome found (λ renewed. (before : List Item) → IsWritten before tree.now → AreExchanged marks.now before file.old → IsRenewed renewed tree.now file.new)) }
 {
     tidy_within(alloc, marks, file)?;
     exchanged_tidied();
-    drawn_anew(alloc, marks, file, tree)
+    drawn_anew(alloc, marks, file, tree, long)
 }

@@ -1,10 +1,10 @@
 //! How much room the lines of a tree leave.
-ghost use Rattle.std.specs.Prelude.{◌≡◌, ◌+◌, length, IfSome};
+ghost use Rattle.std.specs.Prelude.{◌≡◌, ◌≤◌, ◌+◌, length, IfSome};
 ghost use Rattle.std.specs.List.{flat_map};
-ghost use Rattle.bz_tree.specs.Spell.{spell_leaf, spell_part};
+ghost use Rattle.bz_tree.specs.Spell.{limit, spell_leaf, spell_part};
 
 use bz_lex::Leaf;
-use bz_tree::Part;
+use bz_tree::{LENGTH_LIMIT, Part};
 
 /// What is left of the room behind the gap and the token of a leaf; none where they are longer.
 fn left_behind_leaf(leaf: &Leaf, room: usize) -> Option<usize>
@@ -29,7 +29,7 @@ fn left_behind_part(part: &Part, room: usize) -> Option<usize>
 /// What is left of so many bytes of room behind parts; none where they are longer.
 #[cycle(left)]
 #[tactic(auto)]
-pub(crate) fn left_behind(parts: &[Part], room: usize) -> Option<usize>
+fn left_behind(parts: &[Part], room: usize) -> Option<usize>
     ensures { IfSome result (λ left. length (flat_map spell_part parts.now) + left ≡ room) }
 {
     let mut left = room;
@@ -37,4 +37,13 @@ pub(crate) fn left_behind(parts: &[Part], room: usize) -> Option<usize>
         left = left_behind_part(part, left)?;
     }
     Some(left)
+}
+
+/// So many bytes and those of parts; none where they are past the limit of a text.
+pub(crate) fn most_with(parts: &[Part], long: usize) -> Option<usize>
+    ensures { IfSome result (λ most. (most ≡ long + length (flat_map spell_part parts.now)) × (most ≤ limit)) }
+{
+    let room = LENGTH_LIMIT.checked_sub(long)?;
+    let left = left_behind(parts, room)?;
+    Some(LENGTH_LIMIT - left)
 }
