@@ -145,7 +145,8 @@ def sorted_blocks(program, found):
 def page(program, found):
     word, day = version()
     synopsis = CODE.search(found[program][0].text)[1]
-    does = CODE.sub("", found[program][0].text, count=1).split(";")[0].split(".")[0].strip()
+    # a dot within a word, such as that of .bzl, ends no sentence
+    does = re.split(r"[;.](?:\s|$)", CODE.sub("", found[program][0].text, count=1))[0].strip()
     others = ", ".join(rf"\fB{other}\fR(1)" for other in PROGRAMS if other != program)
     lines = [
         r'.\" Made by tools/manual.py from README.md.',
