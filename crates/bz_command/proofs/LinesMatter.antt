@@ -1,17 +1,27 @@
--- Commands that neither print nor have a target by its line depend on no lines.
-use Rattle.std.proofs.Common.{◌≡◌, ◌∙◌, ℕ, Bool, true, false, ◌||◌, List, [], refl, sym, ap, if◌then◌else◌, true≢false, Result, Ok, Err}
+-- Commands that print no lines and have no target by its line depend on no lines.
+use Rattle.std.proofs.Common.{◌≡◌, ◌∙◌, ℕ, Bool, true, false, ◌||◌, List, [], ◌∷◌, ◌++◌, Option, Some, None, refl, ap, ap₂, if◌then◌else◌, true≢false, Result, Ok, Err}
+use Rattle.std.specs.Prelude.{decimal, option_map}
+use Rattle.std.specs.List.{list_any}
+use Rattle.std.specs.Option.{option_map_or}
 use Rattle.bz_label.specs.declared.target.Target.{Target}
 use Rattle.bz_label.specs.declared.target.Which.{Which}
 use Rattle.bz_label.specs.declared.target.Which.TheVariants.{All, Kind, Line, Package, Name}
+use Rattle.bz_value.specs.Characters.{line_feed}
 use Rattle.bz_value.specs.declared.value.Item.{Item}
 use Rattle.bz_value.specs.Gaps.{Bytes}
 use Rattle.bz_words.specs.declared.command.Operation.{Operation}
+use Rattle.bz_words.specs.declared.command.Operation.TheVariants as w
+use Rattle.bz_words.specs.declared.command.CommentOperation.TheVariants as wc
+use Rattle.bz_words.specs.declared.command.Field.{Field}
+use Rattle.bz_words.specs.declared.command.Field.TheVariants as f
 use Rattle.bz_words.specs.Printing.{prints}
+use Rattle.bz_rule.specs.Rules.{Rule, rule_of}
+use Rattle.bz_print.specs.Prints.{printed_field, printed_fields, printed_item, printed_rule, spaced}
 use Rattle.bz_attribute.specs.declared.refusal.Refusal.{Refusal}
 use Rattle.bz_attribute.specs.declared.refusal.Refusal.TheVariants.{NoTarget}
 use Rattle.bz_command.specs.Effect.{effect, kept, lacks_rules, on_rules, printed}
-use Rattle.bz_command.specs.LinesMatter.{is_by_line, looks_at_lines, LinesMatter}
-use Rattle.bz_command.specs.Printing.{printed_rules}
+use Rattle.bz_command.specs.LinesMatter.{is_by_line, looks_at_lines, prints_line, prints_lines, LinesMatter}
+use Rattle.bz_command.specs.Printing.{before_rest, if_marked, line_of, lines_behind, printed_one, printed_rules}
 use Rattle.bz_command.specs.Targets.{meant, may_mean_none}
 
 neither : (a b : Bool) → (a || b) ≡ false → (a ≡ false) × (b ≡ false)
@@ -25,29 +35,63 @@ meant_same (Line line) lines others items h = absurd (true≢false h)
 meant_same Package lines others items h = refl
 meant_same (Name name) lines others items h = refl
 
--- what stands behind a test that fails may be any
-untaken : {X : Type 0} (b : Bool) (x x' y : X) → b ≡ false → (if b then x else y) ≡ (if b then x' else y)
-untaken true x x' y h = absurd (true≢false h)
-untaken false x x' y h = refl
+-- ---- what is printed of one rule, on any line
 
-abbrev effect_by : Operation → Target → Bytes → List ℕ → List Item → List Bool → Result (List Item) Refusal
-effect_by command target current lines items marks =
+field_same : (line other : Option Bytes) (item : Item) (rule : Rule) (field : Field) → prints_line field ≡ false → printed_field line item rule field ≡ printed_field other item rule field
+field_same line other item rule f.Kind h = refl
+field_same line other item rule f.StartLine h = absurd (true≢false h)
+field_same line other item rule f.Rule h = refl
+field_same line other item rule (f.Attribute name) h = refl
+
+fields_same : (line other : Option Bytes) (item : Item) (rule : Rule) (fields : List Field) → list_any prints_line fields ≡ false
+    → printed_fields line item rule fields ≡ printed_fields other item rule fields
+fields_same line other item rule [] h = refl
+fields_same line other item rule (field ∷ fields) h =
+    let quiet = neither (prints_line field) (list_any prints_line fields) h in
+    ap₂ ◌∷◌ (field_same line other item rule field quiet.0) (fields_same line other item rule fields quiet.1)
+
+found_same : (line other : Option Bytes) (item : Item) (found : Option Rule) (fields : List Field) → list_any prints_line fields ≡ false
+    → option_map_or (λ rule. printed_rule line item rule fields) found [] ≡ option_map_or (λ rule. printed_rule other item rule fields) found []
+found_same line other item None fields h = refl
+found_same line other item (Some rule) fields h = ap (λ texts. spaced texts ++ line_feed ∷ []) (fields_same line other item rule fields h)
+
+one_same : (operation : Operation) (current : Bytes) (line other : Option Bytes) (item : Item) → prints_lines operation ≡ false
+    → printed_one operation current line item ≡ printed_one operation current other item
+one_same (w.Rule operation) current line other item h = refl
+one_same (w.Attribute operation) current line other item h = refl
+one_same (w.Value operation) current line other item h = refl
+one_same (w.Dict operation) current line other item h = refl
+one_same (w.Load operation) current line other item h = refl
+one_same (w.Comment (wc.Add host text)) current line other item h = refl
+one_same (w.Comment (wc.Print host)) current line other item h = refl
+one_same (w.Comment (wc.Remove host)) current line other item h = refl
+one_same (w.Print fields) current line other item h = ap (λ text. Ok text) (found_same line other item (rule_of item) fields h)
+
+-- ---- and of all rules
+
+rules_same : (operation : Operation) (current : Bytes) (lines others : List ℕ) (marks : List Bool) (items : List Item) → prints_lines operation ≡ false
+    → printed_rules operation current lines marks items ≡ printed_rules operation current others marks items
+rules_same operation current lines others [] items h = refl
+rules_same operation current lines others (mark ∷ marks) [] h = refl
+rules_same operation current lines others (mark ∷ marks) (item ∷ items) h =
+    ap₂ before_rest
+    (ap (if_marked mark) (one_same operation current (option_map decimal (line_of lines item)) (option_map decimal (line_of others item)) item h))
+    (rules_same operation current (lines_behind lines item) (lines_behind others item) marks items h)
+
+-- ---- the law
+
+abbrev effect_by : Operation → Target → Bytes → List Item → List Bool → Result Bytes Refusal → Result (List Item) Refusal
+effect_by command target current items marks texts =
     if lacks_rules command marks then (if may_mean_none target.which then Ok items else Err NoTarget)
-    else (if prints command then kept items (printed_rules command current lines marks items) else on_rules command current marks items)
+    else (if prints command then kept items texts else on_rules command current marks items)
 
-abbrev printed_by : Operation → Bytes → List ℕ → List Item → List Bool → Result Bytes Refusal
-printed_by command current lines items marks =
-    if lacks_rules command marks then Ok [] else (if prints command then printed_rules command current lines marks items else Ok [])
+abbrev printed_by : Operation → List Bool → Result Bytes Refusal → Result Bytes Refusal
+printed_by command marks texts = if lacks_rules command marks then Ok [] else (if prints command then texts else Ok [])
 
 pub lines_matter : LinesMatter
 lines_matter command target current lines others items h =
-    let quiet = neither (prints command) (is_by_line target.which) h in
-    let marks = meant target.which others items in
-    let same : meant target.which lines items ≡ marks = meant_same target.which lines others items quiet.1 in (
-      ap (effect_by command target current lines items) same
-          ∙ ap (λ (r : Result (List Item) Refusal). if lacks_rules command marks then (if may_mean_none target.which then Ok items else Err NoTarget) else r)
-          (untaken (prints command) (kept items (printed_rules command current lines marks items)) (kept items (printed_rules command current others marks items)) (on_rules command current marks items) quiet.0),
-      ap (printed_by command current lines items) same
-          ∙ ap (λ (r : Result Bytes Refusal). if lacks_rules command marks then Ok [] else r)
-          (untaken (prints command) (printed_rules command current lines marks items) (printed_rules command current others marks items) (Ok []) quiet.0),
-    )
+    let quiet = neither (prints_lines command) (is_by_line target.which) h in
+    let marks : meant target.which lines items ≡ meant target.which others items = meant_same target.which lines others items quiet.1 in
+    let texts : printed_rules command current lines (meant target.which lines items) items ≡ printed_rules command current others (meant target.which others items) items =
+    rules_same command current lines others (meant target.which lines items) items quiet.0 ∙ ap (λ all. printed_rules command current others all items) marks in
+    (ap₂ (effect_by command target current items) marks texts, ap₂ (printed_by command) marks texts)

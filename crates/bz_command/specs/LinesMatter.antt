@@ -1,12 +1,15 @@
 -- Which commands depend on the lines on which statements begin.
 use Rattle.std.specs.Prelude.{◌≡◌, ℕ, Bool, true, false, ◌||◌, List}
+use Rattle.std.specs.List.{list_any}
 use Rattle.bz_label.specs.declared.target.Target.{Target}
 use Rattle.bz_label.specs.declared.target.Which.{Which}
 use Rattle.bz_label.specs.declared.target.Which.TheVariants.{All, Kind, Line, Package, Name}
 use Rattle.bz_value.specs.declared.value.Item.{Item}
 use Rattle.bz_value.specs.Gaps.{Bytes}
 use Rattle.bz_words.specs.declared.command.Operation.{Operation}
-use Rattle.bz_words.specs.Printing.{prints}
+use Rattle.bz_words.specs.declared.command.Operation.TheVariants as w
+use Rattle.bz_words.specs.declared.command.Field.{Field}
+use Rattle.bz_words.specs.declared.command.Field.TheVariants as f
 use Rattle.bz_command.specs.Effect.{effect, printed}
 
 abbrev pub is_by_line : Which → Bool
@@ -16,9 +19,26 @@ is_by_line (Line line) = true
 is_by_line Package = false
 is_by_line (Name name) = false
 
--- a command that prints may print a line, and a target may name one
+-- of the fields that are printed one is the line on which the rule begins
+abbrev pub prints_line : Field → Bool
+prints_line f.Kind = false
+prints_line f.StartLine = true
+prints_line f.Rule = false
+prints_line (f.Attribute name) = false
+
+-- comments are printed without lines
+abbrev pub prints_lines : Operation → Bool
+prints_lines (w.Rule operation) = false
+prints_lines (w.Attribute operation) = false
+prints_lines (w.Value operation) = false
+prints_lines (w.Dict operation) = false
+prints_lines (w.Load operation) = false
+prints_lines (w.Comment operation) = false
+prints_lines (w.Print fields) = list_any prints_line fields
+
+-- a command may print lines, and a target may name one
 abbrev pub looks_at_lines : Operation → Target → Bool
-looks_at_lines command target = prints command || is_by_line target.which
+looks_at_lines command target = prints_lines command || is_by_line target.which
 
 -- To every other command they may be any.
 abbrev pub LinesMatter : Type 0
