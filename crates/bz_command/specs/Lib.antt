@@ -6,5 +6,9 @@ pub mod LinesMatter
 pub mod Looks
 pub mod Printing
 pub mod Renewed
+pub mod SmallValues
 pub mod Targets
 pub mod Worked
+pub mod WorkedAttributes
+pub mod WorkedRules
+pub mod WorkedValues

@@ -1,10 +1,20 @@
 //! Facts about the definitions, for readers: the functions do nothing.
 ghost use Rattle.bz_command.specs.Laws.{CommentsStay};
 ghost use Rattle.bz_command.specs.Worked.{WorkedEffects};
+ghost use Rattle.bz_command.specs.WorkedAttributes.{WorkedAttributes};
+ghost use Rattle.bz_command.specs.WorkedRules.{WorkedRules};
+ghost use Rattle.bz_command.specs.WorkedValues.{WorkedValues};
 
 /// Worked rows: what commands make of small file values.
 pub fn worked_effects()
     ensures { WorkedEffects }
+{}
+
+/// Worked rows: what each command makes of small file values, typed as its words are.
+pub fn worked_commands()
+    ensures rules { WorkedRules }
+    ensures attributes { WorkedAttributes }
+    ensures values { WorkedValues }
 {}
 
 /// Commands that take nothing away lose no comment.
