@@ -10,5 +10,9 @@ pub mod SmallValues
 pub mod Targets
 pub mod Worked
 pub mod WorkedAttributes
+pub mod WorkedComments
+pub mod WorkedDicts
+pub mod WorkedLoads
+pub mod WorkedPrints
 pub mod WorkedRules
 pub mod WorkedValues

@@ -2,6 +2,10 @@
 ghost use Rattle.bz_command.specs.Laws.{CommentsStay};
 ghost use Rattle.bz_command.specs.Worked.{WorkedEffects};
 ghost use Rattle.bz_command.specs.WorkedAttributes.{WorkedAttributes};
+ghost use Rattle.bz_command.specs.WorkedComments.{WorkedComments};
+ghost use Rattle.bz_command.specs.WorkedDicts.{WorkedDicts};
+ghost use Rattle.bz_command.specs.WorkedLoads.{WorkedLoads};
+ghost use Rattle.bz_command.specs.WorkedPrints.{WorkedPrints};
 ghost use Rattle.bz_command.specs.WorkedRules.{WorkedRules};
 ghost use Rattle.bz_command.specs.WorkedValues.{WorkedValues};
 
@@ -15,6 +19,10 @@ pub fn worked_commands()
     ensures rules { WorkedRules }
     ensures attributes { WorkedAttributes }
     ensures values { WorkedValues }
+    ensures dicts { WorkedDicts }
+    ensures loads { WorkedLoads }
+    ensures comments { WorkedComments }
+    ensures prints { WorkedPrints }
 {}
 
 /// Commands that take nothing away lose no comment.
