@@ -15,4 +15,5 @@ pub mod WorkedDicts
 pub mod WorkedLoads
 pub mod WorkedPrints
 pub mod WorkedRules
+pub mod WorkedSubstitutes
 pub mod WorkedValues

@@ -110,34 +110,41 @@ target which = record { «package» = codes "p"; which = which }
 abbrev pub effect_on : Which → Operation → List Item → Result (List Item) Refusal
 effect_on which operation items = effect operation (target which) (codes "p") (1 ∷ 2 ∷ 3 ∷ []) items
 
-abbrev pub effect_of : Read → Which → List Item → Option (Result (List Item) Refusal)
+-- what a typed command makes of a file, and what it prints; a text that is no command does neither
+abbrev pub Made : Type 0
+Made = Option (Result (List Item) Refusal)
+
+abbrev pub Shown : Type 0
+Shown = Option (Result Bytes Refusal)
+
+abbrev pub effect_of : Read → Which → List Item → Made
 effect_of (Err fault) which items = None
 effect_of (Ok operation) which items = Some (effect_on which operation items)
 
--- What the command of a text makes of a file; a text that is none makes nothing.
-abbrev pub made : Bytes → Which → List Item → Option (Result (List Item) Refusal)
+-- What the command of a text makes of a file.
+abbrev pub made : Bytes → Which → List Item → Made
 made text which items = effect_of (command_of text) which items
 
-abbrev pub gives : List Item → Option (Result (List Item) Refusal)
+abbrev pub gives : List Item → Made
 gives items = Some (Ok items)
 
 abbrev pub refuses : {X : Type 0} → Refusal → Option (Result X Refusal)
 refuses refusal = Some (Err refusal)
 
 -- The same of f(name = "x", ..) alone, by its further arguments.
-abbrev pub done : Bytes → List Expr → Option (Result (List Item) Refusal)
+abbrev pub done : Bytes → List Expr → Made
 done text arguments = made text (Name (codes "x")) (rule arguments ∷ [])
 
-abbrev pub leaves : List Expr → Option (Result (List Item) Refusal)
+abbrev pub leaves : List Expr → Made
 leaves arguments = gives (rule arguments ∷ [])
 
-abbrev pub shown_of : Read → Which → List Item → Option (Result Bytes Refusal)
+abbrev pub shown_of : Read → Which → List Item → Shown
 shown_of (Err fault) which items = None
 shown_of (Ok operation) which items = Some (printed operation (target which) (codes "p") (1 ∷ 2 ∷ 3 ∷ []) items)
 
 -- What it prints of a file.
-abbrev pub shown : Bytes → Which → List Item → Option (Result Bytes Refusal)
+abbrev pub shown : Bytes → Which → List Item → Shown
 shown text which items = shown_of (command_of text) which items
 
-abbrev pub prints : Bytes → Option (Result Bytes Refusal)
+abbrev pub prints : Bytes → Shown
 prints text = Some (Ok text)

@@ -7,6 +7,7 @@ ghost use Rattle.bz_command.specs.WorkedDicts.{WorkedDicts};
 ghost use Rattle.bz_command.specs.WorkedLoads.{WorkedLoads};
 ghost use Rattle.bz_command.specs.WorkedPrints.{WorkedPrints};
 ghost use Rattle.bz_command.specs.WorkedRules.{WorkedRules};
+ghost use Rattle.bz_command.specs.WorkedSubstitutes.{WorkedSubstitutes};
 ghost use Rattle.bz_command.specs.WorkedValues.{WorkedValues};
 
 /// Worked rows: what commands make of small file values.
@@ -19,6 +20,7 @@ pub fn worked_commands()
     ensures rules { WorkedRules }
     ensures attributes { WorkedAttributes }
     ensures values { WorkedValues }
+    ensures substitutes { WorkedSubstitutes }
     ensures dicts { WorkedDicts }
     ensures loads { WorkedLoads }
     ensures comments { WorkedComments }

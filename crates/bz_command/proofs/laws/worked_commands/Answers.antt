@@ -1,5 +1,6 @@
 use Rattle.std.proofs.Common.{refl}
 use Rattle.std.specs.Fmt.{digits}
+use Rattle.bz_command.proofs.Substituting.{substitutes}
 use Rattle.bz_command.proofs.laws.worked_commands.Goals as goal
 
 pub returns-clause-rules : goal.returns-clause-rules
@@ -13,6 +14,9 @@ returns-clause-attributes c = ((refl, refl, refl, refl, refl, refl, refl, refl, 
 pub returns-clause-values : goal.returns-clause-values
 unfolding Rattle.bz_value.specs.declared.value.Expr.TheBlock.hidden-the_row-Expr-0 denote.Hole.Carrier.hidden
 returns-clause-values c = ((refl, refl, refl, refl, refl, refl, refl, refl, refl, refl, refl, refl, refl), (refl, refl, refl, refl, refl, refl, refl, refl, refl, refl), (refl, refl, refl, refl, refl, refl, refl), (refl, refl, refl, refl, refl, refl, refl, refl, refl))
+
+pub returns-clause-substitutes : goal.returns-clause-substitutes
+returns-clause-substitutes c = substitutes
 
 pub returns-clause-dicts : goal.returns-clause-dicts
 unfolding Rattle.bz_value.specs.declared.value.Expr.TheBlock.hidden-the_row-Expr-0 denote.Hole.Carrier.hidden
