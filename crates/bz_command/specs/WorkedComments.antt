@@ -44,6 +44,7 @@ Added =
     -- The attribute is absent, or the item; the value is no list; no rule is meant.
     × (done (codes "comment size c") (deps [] ∷ []) ≡ refuses NoAttribute)
     × (done (codes "comment deps :b c") (deps (a no_comments ∷ []) ∷ []) ≡ refuses NoAttribute)
+    × (done (codes "comment deps :a c") (size no_comments ∷ []) ≡ refuses NoAttribute)
     × (done (codes "comment size small c") (size no_comments ∷ []) ≡ refuses NotAList)
     × (made (codes "comment c") (Name (codes "z")) (rule [] ∷ []) ≡ refuses NoTarget)
 

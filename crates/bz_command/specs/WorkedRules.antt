@@ -13,7 +13,7 @@ abbrev NewRules : Type 0
 NewRules =
     let x : Item = rule [] in
     let y : Item = rule_of_kind (codes "g") (codes "y") [] in
-    -- A new rule goes to the end. The command looks at no target, so it may go into an empty file too.
+    -- A new rule goes to the end. The command looks at no rule that the target means, so it may go into an empty file too.
     (made (codes "new g y") All (x ∷ block ∷ []) ≡ gives (x ∷ block ∷ y ∷ []))
     × (made (codes "new g y") (Name (codes "z")) [] ≡ gives (y ∷ []))
     -- A kind of names joined by dots is a call of such.

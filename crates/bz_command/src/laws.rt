@@ -15,7 +15,7 @@ pub fn worked_effects()
     ensures { WorkedEffects }
 {}
 
-/// Worked rows: what each command makes of small file values, typed as its words are.
+/// Worked rows: what each command, as it is typed, makes of small file values and prints of them.
 pub fn worked_commands()
     ensures rules { WorkedRules }
     ensures attributes { WorkedAttributes }

@@ -28,7 +28,7 @@ returns-clause-loads c = ((refl, refl, refl, refl, refl, refl, refl), (refl, ref
 
 pub returns-clause-comments : goal.returns-clause-comments
 unfolding Rattle.bz_value.specs.declared.value.Expr.TheBlock.hidden-the_row-Expr-0 denote.Hole.Carrier.hidden
-returns-clause-comments c = ((refl, refl, refl, refl, refl, refl, refl, refl, refl, refl), (refl, refl, refl, refl, refl, refl, refl, refl), (refl, refl, refl, refl, refl, refl, refl, refl, refl, refl, refl, refl))
+returns-clause-comments c = ((refl, refl, refl, refl, refl, refl, refl, refl, refl, refl, refl), (refl, refl, refl, refl, refl, refl, refl, refl), (refl, refl, refl, refl, refl, refl, refl, refl, refl, refl, refl, refl))
 
 pub returns-clause-prints : goal.returns-clause-prints
 unfolding Rattle.bz_value.specs.declared.value.Expr.TheBlock.hidden-the_row-Expr-0 denote.Hole.Carrier.hidden digits
