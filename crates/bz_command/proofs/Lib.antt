@@ -4,4 +4,5 @@ pub mod ProperEffects
 pub mod RenewedItems
 pub mod RunningItems
 pub mod StatementRules
+pub mod Substituting
 pub mod TargetMarks

@@ -6,5 +6,14 @@ pub mod LinesMatter
 pub mod Looks
 pub mod Printing
 pub mod Renewed
+pub mod SmallValues
 pub mod Targets
 pub mod Worked
+pub mod WorkedAttributes
+pub mod WorkedComments
+pub mod WorkedDicts
+pub mod WorkedLoads
+pub mod WorkedPrints
+pub mod WorkedRules
+pub mod WorkedSubstitutes
+pub mod WorkedValues

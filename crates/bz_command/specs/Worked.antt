@@ -1,63 +1,35 @@
--- Worked rows: small file values, and what commands make of them.
-use Rattle.std.specs.Prelude.{◌≡◌, false, List, [], ◌∷◌, Some, None, Result, Ok, Err, codes, option_map}
-use Rattle.bz_token.specs.declared.class.Class.{Class}
+-- Worked rows: small file values, and what `delete` makes of them.
+use Rattle.std.specs.Prelude.{◌≡◌, List, [], ◌∷◌, Some, Result, Ok, Err, codes, option_map}
 use Rattle.bz_token.specs.declared.class.Class.TheVariants as c
-use Rattle.bz_tree.specs.declared.kind.Kind.{Kind}
 use Rattle.bz_tree.specs.declared.kind.Kind.TheVariants as k
 use Rattle.bz_value.specs.declared.value.Expr.{Expr}
-use Rattle.bz_value.specs.declared.value.Expr.TheVariants as e
 use Rattle.bz_value.specs.declared.value.Item.{Item}
 use Rattle.bz_value.specs.declared.value.Item.TheVariants as i
-use Rattle.bz_value.specs.Comments.{no_comments}
 use Rattle.bz_value.specs.Gaps.{Bytes}
 use Rattle.bz_label.specs.declared.target.Which.{Which}
 use Rattle.bz_label.specs.declared.target.Which.TheVariants.{All, Kind as OfKind, Line, Package, Name}
-use Rattle.bz_words.specs.declared.command.Operation.{Operation}
 use Rattle.bz_words.specs.declared.command.Operation.TheVariants as w
 use Rattle.bz_words.specs.declared.command.RuleOperation.TheVariants as wr
 use Rattle.bz_attribute.specs.declared.refusal.Refusal.TheVariants.{NoTarget}
 use Rattle.bz_rule.specs.Rules.{rule_of}
 use Rattle.bz_attribute.specs.declared.refusal.Refusal.{Refusal}
-use Rattle.bz_command.specs.Effect.{effect}
+use Rattle.bz_command.specs.SmallValues.{above, argument, block, call, commented_statement, dot, effect_on, form, literal, name, token}
 
 -- ---- values
 
-abbrev token : Class → Bytes → Expr
-token class text = e.Token (record { class = class; text = text; break_ = false; comments = no_comments })
-
-abbrev form : Kind → List Expr → List Expr → Expr
-form kind parts items = e.Form (record { kind = kind; parts = parts; seq = record { items = items; end_ = []; split = false }; open_ = false; comments = no_comments })
-
-abbrev name : Bytes → Expr
-name text = token c.Name text
-
--- OPERAND.NAME
-abbrev dot : Expr → Bytes → Expr
-dot operand last = form k.Dot (operand ∷ token c.Mark (codes ".") ∷ name last ∷ []) []
-
 -- name = TEXT
 abbrev named : Bytes → Expr
-named text = form k.Named (name (codes "name") ∷ token c.Mark (codes "=") ∷ token c.String text ∷ []) []
-
-abbrev call : Expr → List Expr → Expr
-call function arguments = form k.Call (function ∷ []) arguments
+named text = argument (codes "name") (literal text)
 
 -- an expression as a statement under a comment
 abbrev bare : Expr → Item
-bare x = i.Stmt (e.Form (record { kind = k.Bare; parts = x ∷ []; seq = record { items = []; end_ = []; split = false }; open_ = false; comments = record { before = codes "# c" ∷ []; suffix = None } }))
+bare x = commented_statement (above (codes "# c" ∷ [])) x
 
 abbrev statement : Bytes → List Expr → Item
 statement kind arguments = bare (call (name kind) arguments)
 
-abbrev block : Item
-block = i.Block (codes "# b" ∷ [])
-
--- in the package `p`, on statements on lines 1 to 3
-abbrev made : Operation → Which → List Item → Result (List Item) Refusal
-made operation which items = effect operation (record { «package» = codes "-"; which = which }) (codes "p") (1 ∷ 2 ∷ 3 ∷ []) items
-
 abbrev deleted : Which → List Item → Result (List Item) Refusal
-deleted which items = made (w.Rule wr.Delete) which items
+deleted which items = effect_on which (w.Rule wr.Delete) items
 
 abbrev Rules : Type 0
 Rules =

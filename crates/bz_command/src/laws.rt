@@ -1,10 +1,30 @@
 //! Facts about the definitions, for readers: the functions do nothing.
 ghost use Rattle.bz_command.specs.Laws.{CommentsStay};
 ghost use Rattle.bz_command.specs.Worked.{WorkedEffects};
+ghost use Rattle.bz_command.specs.WorkedAttributes.{WorkedAttributes};
+ghost use Rattle.bz_command.specs.WorkedComments.{WorkedComments};
+ghost use Rattle.bz_command.specs.WorkedDicts.{WorkedDicts};
+ghost use Rattle.bz_command.specs.WorkedLoads.{WorkedLoads};
+ghost use Rattle.bz_command.specs.WorkedPrints.{WorkedPrints};
+ghost use Rattle.bz_command.specs.WorkedRules.{WorkedRules};
+ghost use Rattle.bz_command.specs.WorkedSubstitutes.{WorkedSubstitutes};
+ghost use Rattle.bz_command.specs.WorkedValues.{WorkedValues};
 
 /// Worked rows: what commands make of small file values.
 pub fn worked_effects()
     ensures { WorkedEffects }
+{}
+
+/// Worked rows: what each command, as it is typed, makes of small file values and prints of them.
+pub fn worked_commands()
+    ensures rules { WorkedRules }
+    ensures attributes { WorkedAttributes }
+    ensures values { WorkedValues }
+    ensures substitutes { WorkedSubstitutes }
+    ensures dicts { WorkedDicts }
+    ensures loads { WorkedLoads }
+    ensures comments { WorkedComments }
+    ensures prints { WorkedPrints }
 {}
 
 /// Commands that take nothing away lose no comment.

@@ -12,7 +12,7 @@ mod running;
 mod statements;
 mod targets;
 
-pub use laws::{comments_stay, worked_effects};
+pub use laws::{comments_stay, worked_commands, worked_effects};
 pub use lines::{lines_matter, looks_at_lines};
 pub use outcome::{Outcome, Ran};
 pub use proper_laws::effects_stay_proper;

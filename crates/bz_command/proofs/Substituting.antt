@@ -1,0 +1,27 @@
+-- The worked rows of `substitute`, by what the pattern makes of a text.
+use Rattle.std.proofs.Common.{[], ◌∷◌, refl, ap}
+use Rattle.std.specs.Prelude.{codes, map}
+use Rattle.bz_value.specs.declared.value.Expr.{Expr}
+use Rattle.bz_value.specs.Gaps.{Bytes}
+use Rattle.bz_rule.specs.Values.{on_lists}
+use Rattle.bz_list.specs.Changes.{substituted_item, with_body}
+use Rattle.bz_command.specs.SmallValues.{Made, leaves, literal, string}
+use Rattle.bz_command.specs.WorkedSubstitutes.{WorkedSubstitutes, deps, others, size, small}
+
+-- what is left of a size that stands alone, by what the pattern makes of its body
+abbrev left : Bytes → Bytes → Bytes → Expr → Bytes → Made
+left pattern template body value text =
+    leaves (size (on_lists (map (substituted_item (codes "p") (codes "size") pattern template)) (with_body (codes "p") (codes "size") body text value)) ∷ [])
+
+pub substitutes : WorkedSubstitutes
+unfolding Rattle.bz_value.specs.declared.value.Expr.TheBlock.hidden-the_row-Expr-0 denote.Hole.Carrier.hidden
+substitutes = (
+  (
+    λ h. ap (left (codes "l+") (codes "n") (codes "small") (string (codes "small"))) h,
+    λ h. ap (λ text. leaves (small ∷ deps (with_body (codes "p") (codes "deps") (codes ":l") text (string (codes ":l")) ∷ others) ∷ [])) h,
+    λ h. ap (λ text. leaves (deps (with_body (codes "p") (codes "deps") (codes "//q:a") text (string (codes "//q:a")) ∷ []) ∷ [])) h,
+    λ h. ap (left (codes "l") (codes "l") (codes "small") (literal (codes "'small'"))) h,
+    λ h. ap (left (codes "x") (codes "y") (codes "x") (string (codes "x"))) h,
+  ),
+  (refl, refl, refl, refl),
+)

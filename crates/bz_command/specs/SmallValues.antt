@@ -1,0 +1,150 @@
+-- Small values for worked rows, and what a command that is typed makes of them and prints of them.
+use Rattle.std.specs.Prelude.{false, List, [], ◌∷◌, ◌++◌, Option, Some, None, Result, Ok, Err, codes, map}
+use Rattle.bz_token.specs.declared.class.Class.{Class}
+use Rattle.bz_token.specs.declared.class.Class.TheVariants as c
+use Rattle.bz_tree.specs.declared.kind.Kind.{Kind}
+use Rattle.bz_tree.specs.declared.kind.Kind.TheVariants as k
+use Rattle.bz_label.specs.declared.target.Target.{Target}
+use Rattle.bz_label.specs.declared.target.Which.{Which}
+use Rattle.bz_label.specs.declared.target.Which.TheVariants.{Name}
+use Rattle.bz_value.specs.declared.value.Expr.{Expr}
+use Rattle.bz_value.specs.declared.value.Expr.TheVariants as e
+use Rattle.bz_value.specs.declared.value.Item.{Item}
+use Rattle.bz_value.specs.declared.value.Item.TheVariants as i
+use Rattle.bz_value.specs.Comments.{HostComments, no_comments}
+use Rattle.bz_value.specs.Gaps.{Bytes}
+use Rattle.bz_words.specs.declared.command.Operation.{Operation}
+use Rattle.bz_words.specs.Commands.{Read, command_of}
+use Rattle.bz_attribute.specs.declared.refusal.Refusal.{Refusal}
+use Rattle.bz_command.specs.Effect.{effect, printed}
+
+-- ---- expressions
+
+abbrev pub commented_token : HostComments → Class → Bytes → Expr
+commented_token comments class text = e.Token (record { class = class; text = text; break_ = false; comments = comments })
+
+abbrev pub commented_form : HostComments → Kind → List Expr → List Expr → Expr
+commented_form comments kind parts items =
+    e.Form (record { kind = kind; parts = parts; seq = record { items = items; end_ = []; split = false }; open_ = false; comments = comments })
+
+abbrev pub token : Class → Bytes → Expr
+token class text = commented_token no_comments class text
+
+abbrev pub form : Kind → List Expr → List Expr → Expr
+form kind parts items = commented_form no_comments kind parts items
+
+abbrev pub name : Bytes → Expr
+name text = token c.Name text
+
+abbrev pub mark : Bytes → Expr
+mark text = token c.Mark text
+
+abbrev pub number : Bytes → Expr
+number text = token c.Number text
+
+-- a string by its whole text, and one by what stands between its double quotation marks
+abbrev pub literal : Bytes → Expr
+literal text = token c.String text
+
+abbrev pub between_marks : Bytes → Bytes
+between_marks body = codes "\"" ++ body ++ codes "\""
+
+abbrev pub string : Bytes → Expr
+string body = literal (between_marks body)
+
+-- OPERAND.NAME
+abbrev pub dot : Expr → Bytes → Expr
+dot operand last = form k.Dot (operand ∷ mark (codes ".") ∷ name last ∷ []) []
+
+-- LEFT + RIGHT
+abbrev pub sum : Expr → Expr → Expr
+sum left right = form k.Sum (left ∷ mark (codes "+") ∷ right ∷ []) []
+
+abbrev pub list : List Expr → Expr
+list items = form k.List [] items
+
+abbrev pub strings : List Bytes → Expr
+strings bodies = list (map string bodies)
+
+-- KEY: VALUE, both strings, and {KEY: VALUE, ..}
+abbrev pub entry : Bytes → Bytes → Expr
+entry key value = form k.Entry (string key ∷ mark (codes ":") ∷ string value ∷ []) []
+
+abbrev pub dict : List Expr → Expr
+dict entries = form k.Dict [] entries
+
+-- NAME = VALUE
+abbrev pub argument : Bytes → Expr → Expr
+argument left value = form k.Named (name left ∷ mark (codes "=") ∷ value ∷ []) []
+
+abbrev pub call : Expr → List Expr → Expr
+call function arguments = form k.Call (function ∷ []) arguments
+
+-- ---- items
+
+abbrev pub above : List Bytes → HostComments
+above comments = record { before = comments; suffix = None }
+
+-- an expression as a statement, under comments and without
+abbrev pub commented_statement : HostComments → Expr → Item
+commented_statement comments x = i.Stmt (commented_form comments k.Bare (x ∷ []) [])
+
+abbrev pub statement : Expr → Item
+statement x = commented_statement no_comments x
+
+abbrev pub block : Item
+block = i.Block (codes "# b" ∷ [])
+
+-- KIND(name = NAME, ..), and f(name = "x", ..)
+abbrev pub rule_of_kind : Bytes → Bytes → List Expr → Item
+rule_of_kind kind own arguments = statement (call (name kind) (argument (codes "name") (string own) ∷ arguments))
+
+abbrev pub rule : List Expr → Item
+rule arguments = rule_of_kind (codes "f") (codes "x") arguments
+
+-- ---- commands, in the package `p`, on statements on lines 1 to 3
+
+abbrev pub target : Which → Target
+target which = record { «package» = codes "p"; which = which }
+
+abbrev pub effect_on : Which → Operation → List Item → Result (List Item) Refusal
+effect_on which operation items = effect operation (target which) (codes "p") (1 ∷ 2 ∷ 3 ∷ []) items
+
+-- what a typed command makes of a file, and what it prints; a text that is no command does neither
+abbrev pub Made : Type 0
+Made = Option (Result (List Item) Refusal)
+
+abbrev pub Shown : Type 0
+Shown = Option (Result Bytes Refusal)
+
+abbrev pub effect_of : Read → Which → List Item → Made
+effect_of (Err fault) which items = None
+effect_of (Ok operation) which items = Some (effect_on which operation items)
+
+-- What the command of a text makes of a file.
+abbrev pub made : Bytes → Which → List Item → Made
+made text which items = effect_of (command_of text) which items
+
+abbrev pub gives : List Item → Made
+gives items = Some (Ok items)
+
+abbrev pub refuses : {X : Type 0} → Refusal → Option (Result X Refusal)
+refuses refusal = Some (Err refusal)
+
+-- The same of f(name = "x", ..) alone, by its further arguments.
+abbrev pub done : Bytes → List Expr → Made
+done text arguments = made text (Name (codes "x")) (rule arguments ∷ [])
+
+abbrev pub leaves : List Expr → Made
+leaves arguments = gives (rule arguments ∷ [])
+
+abbrev pub shown_of : Read → Which → List Item → Shown
+shown_of (Err fault) which items = None
+shown_of (Ok operation) which items = Some (printed operation (target which) (codes "p") (1 ∷ 2 ∷ 3 ∷ []) items)
+
+-- What it prints of a file.
+abbrev pub shown : Bytes → Which → List Item → Shown
+shown text which items = shown_of (command_of text) which items
+
+abbrev pub prints : Bytes → Shown
+prints text = Some (Ok text)
