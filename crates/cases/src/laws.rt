@@ -102,6 +102,7 @@ fn call_effects() {
     bz_comment::worked_comments();
     bz_print::worked_prints();
     bz_command::worked_effects();
+    bz_command::worked_commands();
     bz_command::effects_stay_proper();
     bz_command::lines_matter();
     bz_command::comments_stay();
