@@ -19,3 +19,4 @@ pub mod RunSteps
 pub mod StepLists
 pub mod UnusedSteps
 pub mod UsageSteps
+pub mod WorkedEnds

@@ -8,3 +8,5 @@ pub mod Steps
 pub mod Told
 pub mod Usage
 pub mod Worked
+pub mod WorkedParts
+pub mod WorkedRuns

@@ -1,12 +1,21 @@
 //! Facts about the definitions, for readers: the functions do nothing.
 ghost use Rattle.bz_engine.specs.Exact.{OutcomesAreExact};
 ghost use Rattle.bz_engine.specs.Worked.{WorkedRefusals};
+ghost use Rattle.bz_engine.specs.WorkedParts.{WorkedParts};
+ghost use Rattle.bz_engine.specs.WorkedRuns.{WorkedUsage, WorkedWholeRuns};
 
 use bz_tree::laws::one_reading;
 
 /// How refusals and faults are told, worked out by hand.
 pub fn worked_refusals()
     ensures { WorkedRefusals }
+{}
+
+/// How runs end, worked out by hand: what each part of a run gives, which words ask for nothing, and whole runs.
+pub fn worked_runs()
+    ensures parts { WorkedParts }
+    ensures usage { WorkedUsage }
+    ensures whole { WorkedWholeRuns }
 {}
 
 /// Words, the bytes of standard input and a folder have at most one outcome: the same output, the same status, the same folder,

@@ -16,4 +16,4 @@ mod told;
 
 pub use bz_ports::{Cut, Exit};
 pub use engine::buildozer;
-pub use laws::{outcomes_are_exact, worked_refusals};
+pub use laws::{outcomes_are_exact, worked_refusals, worked_runs};

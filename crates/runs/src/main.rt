@@ -57,6 +57,7 @@ impl Question for Query {
 fn call_laws() {
     bz_ports::lines_are_whole();
     bz_engine::worked_refusals();
+    bz_engine::worked_runs();
     bz_engine::outcomes_are_exact();
     bz_tools::worked_formats();
     bz_tools::whole_runs_are_exact();

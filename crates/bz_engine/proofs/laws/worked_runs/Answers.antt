@@ -1,0 +1,22 @@
+use Rattle.std.proofs.Common.{inl, refl}
+use Rattle.std.specs.Fmt.{digits}
+use Rattle.bz_engine.specs.WorkedParts.{held}
+use Rattle.bz_engine.proofs.WorkedEnds.{found_first, found_second, found_none, usage, whole}
+use Rattle.bz_engine.proofs.laws.worked_runs.Goals as goal
+
+pub returns-clause-parts : goal.returns-clause-parts
+unfolding digits
+returns-clause-parts c = (
+  (refl, refl, refl, refl, refl, refl, refl, refl, refl),
+  (refl, refl, refl, refl),
+  (refl, refl, refl, refl, refl, refl, refl, refl, refl, refl, refl, refl, refl, refl, refl),
+  (refl, refl, refl, refl, refl, refl, refl, refl, refl),
+  (refl, refl, refl, refl, refl, refl),
+  (refl, refl, refl, refl, found_first, found_second, found_none, (λ folder. inl (refl, (held, refl, refl))), refl, refl),
+)
+
+pub returns-clause-usage : goal.returns-clause-usage
+returns-clause-usage c = usage
+
+pub returns-clause-whole : goal.returns-clause-whole
+returns-clause-whole c = whole
