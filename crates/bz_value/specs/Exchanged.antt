@@ -1,5 +1,5 @@
--- Items exchanged for others, one in the place of each.
-use Rattle.std.specs.Prelude.{◌≡◌, Bool, true, false, List, [], ◌∷◌}
+-- Items exchanged for others: one in the place of each, or some in the place of some that stand together.
+use Rattle.std.specs.Prelude.{◌≡◌, ◌≤◌, ◌+◌, ℕ, Bool, true, false, List, [], ◌∷◌, drop, length, take}
 use Rattle.bz_tree.specs.Shapes.{is_kind}
 use Rattle.bz_tree.specs.declared.kind.Kind.TheVariants as k
 use Rattle.bz_value.specs.declared.value.Expr.{Expr, Token, Form'}
@@ -25,3 +25,13 @@ abbrev pub AreExchanged : List Bool → List Item → List Item → Type 0
 AreExchanged [] [] [] = Unit {0}
 AreExchanged (mark ∷ marks) (old ∷ before) (item ∷ items) = IsExchanged mark old item × AreExchanged marks before items
 AreExchanged _ _ _ = ⊥
+
+-- ---- items taken out, and others put in their place
+
+-- Behind the first `from` items, so many as `gone` says stand no more, and in their place so many others as `come` says; all
+-- others stand as before.
+pub record IsSpliced (from gone come : ℕ) (before after : List Item) : Type 0 where
+  pub front : take from after ≡ take from before
+  pub behind : drop (from + come) after ≡ drop (from + gone) before
+  pub within : from + gone ≤ length before
+  pub held : from + come ≤ length after
