@@ -75,7 +75,7 @@ fn keep_going<'a>(alloc: Global) -> Arg<'a>
     Arg::new(alloc, "keep_going")
         .short('k')
         .action(ArgAction::SetTrue)
-        .help("Goes on behind a command or a file that fails")
+        .help("Continues after a command or a file that fails")
 }
 
 fn file<'a>(alloc: Global) -> Arg<'a>
@@ -94,7 +94,7 @@ fn to_stdout<'a>(alloc: Global) -> Arg<'a>
     Arg::new(alloc, "stdout")
         .long("stdout")
         .action(ArgAction::SetTrue)
-        .help("Writes the files that change to standard output, and leaves them")
+        .help("Writes changed files to standard output instead of replacing them")
 }
 
 fn quiet<'a>(alloc: Global) -> Arg<'a>
@@ -104,7 +104,7 @@ fn quiet<'a>(alloc: Global) -> Arg<'a>
     Arg::new(alloc, "quiet")
         .long("quiet")
         .action(ArgAction::SetTrue)
-        .help("Doesn't tell which files were written")
+        .help("Does not report which files were written")
 }
 
 fn journal<'a>(alloc: Global) -> Arg<'a>

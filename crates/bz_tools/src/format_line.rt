@@ -34,16 +34,16 @@ pub(crate) enum FormatUsage<'a> {
 }
 
 const ABOUT: &str =
-    "Lays out BUILD and .bzl files in one canonical form. Without files it formats standard input.";
+    "Formats BUILD and .bzl files in one canonical layout. Without files, it formats standard input.";
 
 const EXAMPLES: &str = "Modes:
-  fix               rewrites each file that differs (the default)
-  check             tells which files differ
-  print_if_changed  writes what becomes of each file that differs to standard output
+  fix               rewrites each file that is not formatted (the default)
+  check             reports which files would change
+  print_if_changed  writes the formatted text of each file that would change to standard output
 
 Types:
-  auto              a file is a .bzl file where its name ends in .bzl, else a BUILD file (the default)
-  build, bzl        all files are that, standard input too
+  auto              a file whose name ends in .bzl is a .bzl file, any other a BUILD file (the default)
+  build, bzl        every file is of this type, and so is standard input
 
 Examples:
   buildifier BUILD lib/BUILD.bazel lib/rules.bzl
@@ -55,7 +55,7 @@ fn mode<'a>(alloc: Global) -> Arg<'a>
     ensures local { result.global ≡ false }
 {
     Arg::new(alloc, "mode").long("mode").value_name("MODE").help(
-        "What is done with a file that differs: fix, check or print_if_changed",
+        "What to do with a file that is not formatted: fix, check or print_if_changed",
     )
 }
 
@@ -66,7 +66,7 @@ fn file_type<'a>(alloc: Global) -> Arg<'a>
     Arg::new(alloc, "type")
         .long("type")
         .value_name("TYPE")
-        .help("What the files are: auto (by their names), build or bzl")
+        .help("The type of the files: auto (by their names), build or bzl")
 }
 
 fn file<'a>(alloc: Global) -> Arg<'a>
@@ -76,7 +76,7 @@ fn file<'a>(alloc: Global) -> Arg<'a>
     Arg::new(alloc, "file")
         .value_name("FILE")
         .action(ArgAction::Append)
-        .help("BUILD and .bzl files, each by its own name")
+        .help("BUILD and .bzl files, as paths")
 }
 
 fn described<'a>(alloc: Global) -> Command<'a>
