@@ -10,7 +10,7 @@ With a command after it, as 'tests/programs.py rt ci', that runs too, and the la
 programs that it built then run over real files: buildifier over single ones (tests/files.py), buildozer over packages
 (tests/workspace.py), both through the examples of README.md and the pages beside it (tests/readme.py) and through what contrib/ has
 for git, CI and editors (tests/contrib.py); the pages for man and the completions are compared with the code and tried in shells
-(tests/manual.py, tests/completions.py), and both programs installed and packed (tests/install.py); buildozer runs beside a plain list of texts
+(tests/manual.py, tests/completions.py), no public name gets a second home (tests/names.py), and both programs are installed and packed (tests/install.py); buildozer runs beside a plain list of texts
 (tests/sessions.py), keeps journals and reads torn and forged ones (tests/journals.py), and is killed while it keeps one (tests/killed.py); both
 programs and cases run with memory refused at each request in turn (tests/memory.py, tests/asked.py); both programs over torn, deep and made
 texts (tests/torn.py), with calls of the system and devices that fail (tests/failing.py, tests/devices.py), over cases by chance (tests/fuzz.py), and
@@ -41,6 +41,7 @@ import journals
 import killed
 import manual
 import memory
+import names
 import readme
 import sessions
 import torn
@@ -65,6 +66,7 @@ SCRIPTS = [
     ("examples of the pages", readme, ["buildozer", "buildifier"]),
     ("what contrib has", contrib, ["buildozer", "buildifier"]),
     ("pages for man", manual, []),
+    ("public names", names, []),
     ("completions in shells", completions, ["buildozer"]),
     ("installing and packing", install, ["buildozer", "buildifier"]),
     ("runs beside a plain list of texts", sessions, ["buildozer"]),

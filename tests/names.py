@@ -1,0 +1,71 @@
+#!/usr/bin/env python3
+"""One name, one meaning: which public names more than one crate defines.
+
+    tests/names.py         compares them with tests/names.txt, which lists those that are accepted: no further name may get a second
+                           home, and no name stays there that has one home again
+    tests/names.py --write writes that list anew
+
+Read are the definitions of specs/ and the public types, calls and constants of src/. Left out are names that Rust and these crates give
+to many (new, copy, len), and those of programs and of what tests stand on, which no contract cites.
+"""
+import collections
+import pathlib
+import re
+import sys
+
+TOP = pathlib.Path(__file__).resolve().parent.parent
+ACCEPTED = pathlib.Path(__file__).with_suffix(".txt")
+# names that one habit gives to many
+HABIT = {"new", "copy", "equals", "number", "of", "read", "len", "get", "push", "as_slice", "open", "name", "is_empty", "mod"}
+# crates whose names no contract cites
+ASIDE = {"sheets", "cases", "runs", "rows", "buildozer", "buildifier"}
+DEFINITION = re.compile(r"^(?:abbrev |unfoldable )*pub (?:record |data |abbrev )?([A-Za-z_]\w*)\s*[:(]|^(?:abbrev|unfoldable) pub ([A-Za-z_]\w*) *:")
+CODE = re.compile(r"^\s*pub (?:const )?(?:struct|enum|trait|fn|const) ([A-Za-z_]\w*)")
+
+
+def homes():
+    """For each public name the crates that define it."""
+    found = collections.defaultdict(set)
+    for pattern, files in ((DEFINITION, "*/specs/**/*.antt"), (CODE, "*/src/**/*.rt")):
+        for file in (TOP / "crates").glob(files):
+            crate = file.relative_to(TOP / "crates").parts[0]
+            if crate not in ASIDE:
+                names = [m[1] or m[pattern.groups] for m in map(pattern.match, file.read_text().splitlines()) if m]
+                for name in set(names) - HABIT:
+                    found[name].add(crate)
+    return {name: " ".join(sorted(crates)) for name, crates in sorted(found.items()) if len(crates) > 1}
+
+
+def accepted():
+    return dict(line.split(": ") for line in ACCEPTED.read_text().splitlines())
+
+
+def each_public_name_has_one_home():
+    now, before = homes(), accepted()
+    more = [f"{name} is defined in {crates}" for name, crates in now.items() if not set(crates.split()) <= set(before.get(name, "").split())]
+    fewer = [f"{name} has fewer homes than tests/names.txt says" for name, crates in before.items() if set(crates.split()) - set(now.get(name, "").split())]
+    return more + fewer
+
+
+FUNCTIONS = [each_public_name_has_one_home]
+SCENES = {scene.__name__.replace("_", " "): scene for scene in FUNCTIONS}
+
+
+def failures():
+    """The names of the scenes that fail, each with what was wrong."""
+    return [f"{name}: {', '.join(wrong)}" for name, scene in SCENES.items() if (wrong := scene())]
+
+
+def main():
+    if sys.argv[1:] == ["--write"]:
+        ACCEPTED.write_text("".join(f"{name}: {crates}\n" for name, crates in homes().items()))
+        return 0
+    failed = failures()
+    for fault in failed:
+        print(f"FAILED {fault}")
+    print(f"{len(SCENES) - len(failed)} passed, {len(failed)} failed")
+    return len(failed) > 0
+
+
+if __name__ == "__main__":
+    sys.exit(main())
