@@ -4,7 +4,7 @@ it takes, for commands on made rules that are laid out as the program lays them 
 and the commands stand in a file of lines, each with its target. Each row has a run of one command beside it, so that what each
 further one costs can be seen.
 
-    bench/commands.py [--long] [PROGRAM..]
+    bench/commands.py [--long] [--journal] [PROGRAM..]
 
 Build the program first (make), or name others, which are run in turn, row by row, so that what else the machine does meets each
 of them. With --long come the rows that take more than a minute too. BEST_OF sets the runs of each (3). A memory of less than what
@@ -12,11 +12,13 @@ this script takes itself, which stands in the last line, shows as that.
 """
 import os
 import pathlib
+import shutil
 import sys
 import tempfile
 
 TOP = pathlib.Path(__file__).resolve().parent.parent
 RUNS = int(os.environ.get("BEST_OF", "3"))
+JOURNAL = "--journal" in sys.argv
 # rules whose text has 4.2 MB
 MOST = 28_600
 
@@ -84,13 +86,28 @@ LONG = [
 ]
 
 
+def on_input(program, lines, text):
+    """Runs the program in the place of this process, over the text as standard input."""
+    os.dup2(os.open(text, os.O_RDONLY), 0)
+    os.execv(program, [program, "-f", lines])
+
+
+def on_package(program, lines, text):
+    """Runs the program in the place of this process, over the text as the file of a package that has no journal yet."""
+    package = pathlib.Path(tempfile.mkdtemp(dir=text.parent), "pkg")
+    package.mkdir()
+    shutil.copy(text, package / "BUILD")
+    os.chdir(package.parent)
+    os.dup2(os.open(os.devnull, os.O_WRONLY), 2)
+    os.execv(program, [program, "--journal", "-f", lines])
+
+
 def run(program, lines, text, wanted):
     """The processor's seconds and the peak memory in KiB of one run, which must end with the status."""
     child = os.fork()
     if child == 0:
-        os.dup2(os.open(text, os.O_RDONLY), 0)
         os.dup2(os.open(os.devnull, os.O_WRONLY), 1)
-        os.execv(program, [program, "-f", lines])
+        (on_package if JOURNAL else on_input)(program, lines, text)
     _, status, used = os.wait4(child, 0)
     if status != wanted << 8:
         sys.exit(f"bench/commands.py: {program} ended with the wait status {status}")
@@ -101,6 +118,7 @@ def measured(programs, folder, rules, lines, wanted):
     """For each program the least seconds and the most memory of its runs, and how many bytes the text has."""
     text = "\n".join(RULE % (i, i, i, i) for i in range(rules))
     files = pathlib.Path(folder, "lines"), pathlib.Path(folder, "text")
+    lines = [line.replace("|-:", "|//pkg:") for line in lines] if JOURNAL else lines
     for file, content in zip(files, ("".join(line + "\n" for line in lines), text)):
         file.write_text(content)
     runs = [[run(program, *files, wanted) for program in programs] for _ in range(RUNS)]
@@ -116,7 +134,7 @@ def of_nothing():
 
 
 def main():
-    words = [word for word in sys.argv[1:] if word != "--long"]
+    words = [word for word in sys.argv[1:] if word not in ("--long", "--journal")]
     programs = [pathlib.Path(word).resolve() for word in words] or [TOP / "bin/buildozer"]
     missing = [program for program in programs if not program.exists()]
     if missing:

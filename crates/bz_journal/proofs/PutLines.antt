@@ -1,6 +1,7 @@
 -- Lines put in places of parts: whether they are those that stand there.
-use Rattle.std.proofs.Common.{◌≡◌, ◌↔◌, ◌<◌, ◌+◌, ◌∙◌, ℕ, zero, suc, List, [], ◌∷◌, drop, length, get_or, slice_set, refl, sym, ap, subst, arith, length-set}
-use Rattle.std.proofs.lemmas.List.{get_or-set_same, get_or-set_other, set-get_or}
+use Rattle.std.proofs.Common.{◌≡◌, ◌↔◌, ◌<◌, ◌+◌, ◌∙◌, ℕ, zero, suc, List, [], ◌∷◌, ◌++◌, ◌≤◌, drop, length, slice_range, take, get_or, slice_set, refl, sym, ap, subst, arith, length-set}
+use Rattle.std.proofs.lemmas.List.{append_cancel_left, append_cancel_right, get_or-set_same, get_or-set_other, set-get_or, take-append-drop}
+use Rattle.std.proofs.lemmas.List.Folds.{drop_split}
 use Rattle.bz_tree.specs.declared.kind.Kind.{Kind}
 use Rattle.bz_tree.specs.declared.tree.Node.{Node}
 use Rattle.bz_tree.specs.declared.tree.Part.{Part}
@@ -8,16 +9,16 @@ use Rattle.bz_tree.specs.Laws.{OneReading}
 use Rattle.bz_tree.specs.Legal.{Legal, Reads}
 use Rattle.bz_tree.specs.Places.{Ascend, put_all}
 use Rattle.bz_tree.specs.Spell.{spell_node}
-use Rattle.bz_edit.specs.Places.{with_parts}
 use Rattle.bz_trail.specs.Trails.{IsTree}
 use Rattle.bz_value.specs.declared.value.Item.{Item}
 use Rattle.bz_value.specs.Gaps.{Bytes}
 use Rattle.bz_value.specs.Proper.{IsProper}
-use Rattle.bz_write.specs.declared.marked.Redrawn.{Redrawn}
 use Rattle.bz_write.specs.Drawn.{drawn}
 use Rattle.bz_write.specs.Laws.{LayoutIsAccepted}
 use Rattle.bz_write.specs.Written.{layout}
-use Rattle.bz_redraw.specs.Redrawn.{IsRedrawn}
+use Rattle.bz_journal.specs.declared.lines.Lines.{Lines}
+use Rattle.bz_journal.specs.declared.lines.Lines.TheVariants as l
+use Rattle.bz_journal.specs.Lines.{AreLinesOf, tree_with}
 
 -- what stands before all places stays
 later_stay : (from end : ℕ) (places : List ℕ) (lines parts : List Part) (at : ℕ) (d : Part) → Ascend from end places → at < from → get_or (put_all places lines parts) at d ≡ get_or parts at d
@@ -58,24 +59,42 @@ line_passed k places lines parts none d e within count same =
     let next : suc k ≡ k + 1 = omega arith in
     passed k places lines parts none d e within count same ∙ ap (λ (n : ℕ). put_all (drop n places) (drop n lines) parts) next
 
+-- ---- lines in the place of others that stand together
+
+-- Put in the place of the parts there, lines leave the parts as they are exactly where they are those.
+pub across_stands : (at gone : ℕ) (lines parts : List Part) → at + gone ≤ length parts
+    → (slice_range parts at (at + gone) ≡ lines) ↔ (take at parts ++ lines ++ drop (at + gone) parts ≡ parts)
+across_stands at gone lines parts within =
+    let there : take at parts ++ slice_range parts at (at + gone) ++ drop (at + gone) parts ≡ parts =
+    ap (λ (xs : List Part). take at parts ++ xs) (sym (drop_split parts at (at + gone) (omega arith))) ∙ take-append-drop at parts in (
+      λ same. ap (λ (xs : List Part). take at parts ++ xs ++ drop (at + gone) parts) (sym same) ∙ there,
+      λ stays. append_cancel_right (slice_range parts at (at + gone)) lines (drop (at + gone) parts) (append_cancel_left (take at parts) _ _ (there ∙ sym stays)),
+    )
+
 -- ---- trees
 
--- the lines are those that stand there exactly where the text stays
-pub lines_stand : OneReading → (places : List ℕ) (lines : List Part) (tree : Node) (here : Bytes) → IsTree (with_parts places lines tree) → Reads (spell_node tree) tree → spell_node tree ≡ here
-    → (put_all places lines tree.parts ≡ tree.parts) ↔ (spell_node (with_parts places lines tree) ≡ here)
-lines_stand one places lines tree here next reads is = (
-  λ same. ap (λ (parts : List Part). let n : Node = record { kind = tree.kind; parts = parts } in spell_node n) same ∙ is,
-  λ same. let other : Reads (spell_node tree) (with_parts places lines tree) = (next.0, same ∙ sym is, reads.2) in
-      ap (λ (n : Node). n.parts) (one (spell_node tree) (with_parts places lines tree) tree other reads),
+-- the tree with lines is of the same kind
+pub with_kind : (lines : Lines) (tree : Node) → (tree_with lines tree).kind ≡ tree.kind
+with_kind (l.Exchanged redrawn) tree = refl
+with_kind (l.Spliced respliced) tree = refl
+
+same_node : (a b : Node) → a.kind ≡ b.kind → a.parts ≡ b.parts → a ≡ b
+same_node a b kind parts =
+    ap (λ (k : Kind). let n : Node = record { kind = k; parts = a.parts } in n) kind ∙ ap (λ (ps : List Part). let n : Node = record { kind = b.kind; parts = ps } in n) parts
+
+-- another tree has the parts of this one exactly where the text stays
+pub parts_stay : OneReading → (next tree : Node) (here : Bytes) → next.kind ≡ tree.kind → IsTree next → Reads (spell_node tree) tree → spell_node tree ≡ here
+    → (next.parts ≡ tree.parts) ↔ (spell_node next ≡ here)
+parts_stay one next tree here kind is_tree reads is = (
+  λ same. ap spell_node (same_node next tree kind same) ∙ is,
+  λ same. let other : Reads (spell_node tree) next = (is_tree.0, same ∙ sym is, reads.2) in
+      ap (λ (n : Node). n.parts) (one (spell_node tree) next tree other reads),
 )
 
 -- with its lines the tree is that of the layout
-pub redrawn_tree : (redrawn : Redrawn) (tree : Node) (items : List Item) → Legal tree → IsRedrawn redrawn tree items → with_parts redrawn.places redrawn.lines tree ≡ drawn items
-redrawn_tree redrawn tree items legal is =
-    ap (λ (kind : Kind). let n : Node = record { kind = kind; parts = put_all redrawn.places redrawn.lines tree.parts } in n) legal.file.root
-    ∙ ap (λ (parts : List Part). let n : Node = record { kind = (drawn items).kind; parts = parts } in n) is.put
+pub tree_with_lines : (lines : Lines) (tree : Node) (items : List Item) → Legal tree → AreLinesOf lines tree items → tree_with lines tree ≡ drawn items
+tree_with_lines lines tree items legal are = same_node (tree_with lines tree) (drawn items) (with_kind lines tree ∙ legal.file.root) are.put
 
-pub redrawn_reads : LayoutIsAccepted → (redrawn : Redrawn) (tree : Node) (items : List Item) → Legal tree → IsProper items → IsRedrawn redrawn tree items
-    → Reads (layout items) (with_parts redrawn.places redrawn.lines tree)
-redrawn_reads accepted redrawn tree items legal proper is =
-    subst (λ (n : Node). Reads (layout items) n) (sym (redrawn_tree redrawn tree items legal is)) (accepted items proper is.long is.deep)
+pub lines_read : LayoutIsAccepted → (lines : Lines) (tree : Node) (items : List Item) → Legal tree → IsProper items → AreLinesOf lines tree items → Reads (layout items) (tree_with lines tree)
+lines_read accepted lines tree items legal proper are =
+    subst (λ (n : Node). Reads (layout items) n) (sym (tree_with_lines lines tree items legal are)) (accepted items proper are.long are.deep)

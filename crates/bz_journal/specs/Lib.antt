@@ -4,6 +4,7 @@ pub mod Fixed
 pub mod History
 pub mod Keeping
 pub mod Lasting
+pub mod Lines
 pub mod Listing
 pub mod Meaning
 pub mod Shown

@@ -5,7 +5,7 @@ ghost use Rattle.bz_tree.specs.declared.tree.Node.{Node};
 ghost use Rattle.bz_tree.specs.Spell.{limit, spell_node};
 ghost use Rattle.bz_tree.specs.Statements.{lines_of};
 ghost use Rattle.bz_value.specs.declared.value.Item.{Item};
-ghost use Rattle.bz_value.specs.Exchanged.{AreExchanged};
+ghost use Rattle.bz_value.specs.Exchanged.{AreExchanged, IsSpliced};
 ghost use Rattle.bz_value.specs.Gaps.{Bytes};
 ghost use Rattle.bz_view.specs.View.{view_of};
 ghost use Rattle.bz_write.specs.Drawn.{drawn};
@@ -13,10 +13,11 @@ ghost use Rattle.bz_write.specs.Written.{layout};
 ghost use Rattle.bz_tidy.specs.Passes.{tidied};
 ghost use Rattle.bz_command.specs.Effect.{effect, printed};
 ghost use Rattle.bz_trail.specs.Trails.{IsSmall};
-ghost use Rattle.bz_redraw.specs.Redrawn.{IsRedrawn, IsWritten};
+ghost use Rattle.bz_redraw.specs.Redrawn.{IsWritten};
 ghost use Rattle.bz_attribute.specs.declared.refusal.Refusal.{Refusal};
 ghost use Rattle.bz_journal.specs.declared.action.Action.{Action};
 ghost use Rattle.bz_journal.specs.History.{after_meaning, note_limit, present, MakesOrWants};
+ghost use Rattle.bz_journal.specs.Lines.{AreLinesOf};
 ghost use Rattle.bz_journal.specs.Meaning.{gives, refuses, told, written};
 ghost use Rattle.bz_journal.specs.Shown.{history_of};
 ghost use Rattle.bz_journal.specs.State.{trail_of};
@@ -24,13 +25,14 @@ ghost use Rattle.bz_journal.specs.State.{trail_of};
 use crate::action::{Action, Reply};
 use crate::digests::OptionalDigests;
 use crate::laws::written_is_drawn;
+use crate::lines::Lines;
 use crate::meaning::{reads_back, told};
 use crate::session::{Session, unchanged};
 use bz_attribute::Refusal;
-use bz_command::{Ran, lines_matter, looks_at_lines, run_in};
+use bz_command::{Ran, Spliced, lines_matter, looks_at_lines, run_in};
 use bz_items::{Memory, Text};
 use bz_label::Target;
-use bz_redraw::{Redrawn, Renewed, renew};
+use bz_redraw::{Renewed, RenewedWindow, renew, renew_spliced};
 use bz_rule::take_apart;
 use bz_tidy::{tidy, tidy_stays};
 use bz_tree::{LENGTH_LIMIT, Tree};
@@ -96,18 +98,19 @@ fn run_on_tree(
     ensures same { IfOk result (λ ran. IsTrue ran.same ↔ (file.new ≡ file.old)) }
     ensures printed { IfOk result (λ ran. printed command.now target.now current.now (lines_of tree.now) file.old ≡ Ok ran.printed) }
     ensures renewed { IfOk result (λ ran. IfSome ran.renewed (λ marks. AreExchanged marks.items file.old file.new)) }
+    ensures spliced { IfOk result (λ ran. IfSome ran.spliced (λ s. IsSpliced s.from s.gone s.come file.old file.new)) }
     ensures err { IfErr result (λ refusal. (effect command.now target.now current.now (lines_of tree.now) file.old ≡ Err refusal) ⊎ (refusal ≡ Refusal.Memory)) }
 {
     let lines = lines_for(alloc, command, target, tree)?;
     run_in(alloc, command, target, current, lines.as_slice(), file)
 }
 
-/// A tidy value, lines that make the present tree the one of its layout, where some are known, and how many bytes its layout has at
-/// most, where it isn't past the limit.
+/// A tidy value, lines with which the present tree is the one of its layout, where some are known, and how many bytes its layout has
+/// at most, where it isn't past the limit.
 #[derive(Drop)]
 struct Tidied {
     file: File,
-    redrawn: Option<Redrawn>,
+    lines: Option<Lines>,
     most: usize,
 }
 
@@ -123,7 +126,7 @@ fn tidy_marked_in(
     requires written { IsWritten (view_of tree.now) tree.now }
     requires long { length (spell_node tree.now) ≤ long }
     ensures tidy { IfOk result (λ done. done.file ≡ tidied file) }
-    ensures lines { IfOk result (λ done. IfSome done.redrawn (λ redrawn. IsRedrawn redrawn tree.now done.file)) }
+    ensures lines { IfOk result (λ done. IfSome done.lines (λ lines. AreLinesOf lines tree.now done.file)) }
     ensures most { IfOk result (λ done. length (layout done.file) ≤ limit → length (layout done.file) ≤ done.most) }
 {
     let mut file = file;
@@ -132,13 +135,13 @@ fn tidy_marked_in(
             let Renewed { redrawn, most } = renewed;
             Ok(Tidied {
                 file,
-                redrawn: Some(redrawn),
+                lines: Some(Lines::Exchanged(redrawn)),
                 most,
             })
         }
         Ok(None) => Ok(Tidied {
             file,
-            redrawn: None,
+            lines: None,
             most: LENGTH_LIMIT,
         }),
         Err(fault) => {
@@ -148,28 +151,87 @@ fn tidy_marked_in(
     }
 }
 
-/// Tidies a new value, of which only the marked items were exchanged where there are marks. The error: memory was refused.
-fn tidy_in(
+/// Tidies items of which some were taken out, and others put in their place. The error: memory was refused.
+fn tidy_spliced_in(
     alloc: Global,
-    marks: Option<Vec<bool>>,
+    spliced: &Spliced,
     file: File,
     tree: &Tree,
     long: usize,
 ) -> Result<Tidied, Memory>
-    requires marked { IfSome marks (λ marks. AreExchanged marks.items (view_of tree.now) file) }
+    requires spliced { IsSpliced spliced.now.from spliced.now.gone spliced.now.come (view_of tree.now) file }
     requires written { IsWritten (view_of tree.now) tree.now }
     requires long { length (spell_node tree.now) ≤ long }
     ensures tidy { IfOk result (λ done. done.file ≡ tidied file) }
-    ensures lines { IfOk result (λ done. IfSome done.redrawn (λ redrawn. IsRedrawn redrawn tree.now done.file)) }
+    ensures lines { IfOk result (λ done. IfSome done.lines (λ lines. AreLinesOf lines tree.now done.file)) }
     ensures most { IfOk result (λ done. length (layout done.file) ≤ limit → length (layout done.file) ≤ done.most) }
 {
-    match marks {
-        Some(marks) => tidy_marked_in(alloc, marks.as_slice(), file, tree, long),
-        None => Ok(Tidied {
-            file: tidy(alloc, file)?,
-            redrawn: None,
+    let mut file = file;
+    match renew_spliced(alloc, spliced.from, spliced.come, &mut file, tree, long) {
+        Ok(Some(renewed)) => {
+            let RenewedWindow { respliced, most } = renewed;
+            Ok(Tidied {
+                file,
+                lines: Some(Lines::Spliced(respliced)),
+                most,
+            })
+        }
+        Ok(None) => Ok(Tidied {
+            file,
+            lines: None,
             most: LENGTH_LIMIT,
         }),
+        Err(fault) => {
+            take_apart(file);
+            Err(fault)
+        }
+    }
+}
+
+/// Tidies a new value whole. The error: memory was refused.
+fn tidy_whole(alloc: Global, file: File) -> Result<Tidied, Memory>
+    ensures tidy { IfOk result (λ done. done.file ≡ tidied file) }
+    ensures lines { IfOk result (λ done. done.lines ≡ None) }
+    ensures most { IfOk result (λ done. length (layout done.file) ≤ limit → length (layout done.file) ≤ done.most) }
+{
+    Ok(Tidied {
+        file: tidy(alloc, file)?,
+        lines: None,
+        most: LENGTH_LIMIT,
+    })
+}
+
+/// What a command did to the value of the present text, as far as it tells.
+#[derive(Drop)]
+struct Changes {
+    /// A mark for each item, where it exchanged the marked ones alone.
+    marks: Option<Vec<bool>>,
+    /// Where it took some out and put others in their place.
+    spliced: Option<Spliced>,
+}
+
+/// Tidies a new value: only what changed, where that is told. The error: memory was refused.
+fn tidy_in(
+    alloc: Global,
+    changes: Changes,
+    file: File,
+    tree: &Tree,
+    long: usize,
+) -> Result<Tidied, Memory>
+    requires marked { IfSome changes.marks (λ marks. AreExchanged marks.items (view_of tree.now) file) }
+    requires spliced { IfSome changes.spliced (λ s. IsSpliced s.from s.gone s.come (view_of tree.now) file) }
+    requires written { IsWritten (view_of tree.now) tree.now }
+    requires long { length (spell_node tree.now) ≤ long }
+    ensures tidy { IfOk result (λ done. done.file ≡ tidied file) }
+    ensures lines { IfOk result (λ done. IfSome done.lines (λ lines. AreLinesOf lines tree.now done.file)) }
+    ensures most { IfOk result (λ done. length (layout done.file) ≤ limit → length (layout done.file) ≤ done.most) }
+{
+    if let Some(marks) = changes.marks {
+        return tidy_marked_in(alloc, marks.as_slice(), file, tree, long);
+    }
+    match changes.spliced {
+        Some(spliced) => tidy_spliced_in(alloc, &spliced, file, tree, long),
+        None => tidy_whole(alloc, file),
     }
 }
 
@@ -212,17 +274,17 @@ fn take_up_whole(
 }
 
 /// Takes up the layout of a tidy value by its lines that are other ones than in the present tree, with a note. Errors: `Full`;
-/// `Memory`: a growth was refused.
+/// `Memory`: a growth was refused; those of taking it up whole where the step isn't known.
 fn take_up_lines(
     session: &mut Session<OptionalDigests>,
     file: &File,
-    redrawn: Redrawn,
+    lines: Lines,
     printed: Option<Text>,
     note: &str,
 ) -> Result<Reply, Refusal>
     requires short { length note.now ≤ note_limit }
     requires tidy { tidied file.now ≡ file.now }
-    requires lines { IsRedrawn redrawn session.old.tree file.now }
+    requires lines { AreLinesOf lines session.old.tree file.now }
     ensures makes { ((result, history_of session.new) ≡ after_meaning note.now (history_of session.old) (written file.now printed))
         ⊎ ((result ≡ Err Refusal.Memory) × (history_of session.new ≡ history_of session.old)) }
     ensures unmoved { OnErr result (session.new ≡ session.old) }
@@ -231,28 +293,32 @@ fn take_up_lines(
     layout_is_accepted();
     reads_back(session.present());
     let _items = &file.items;
-    let Redrawn { places, mut lines } = redrawn;
-    session.take_up_at(places.as_slice(), lines.as_mut_slice(), printed, note)
+    let mut printed = printed;
+    match session.take_up_with(lines, &mut printed, note) {
+        Ok(Some(reply)) => Ok(reply),
+        Ok(None) => take_up_whole(session, file, printed, note),
+        Err(refusal) => Err(refusal),
+    }
 }
 
 /// Takes up the layout of a tidy value, by some lines alone where these are known. The errors are those of both.
 fn take_up_tidied(
     session: &mut Session<OptionalDigests>,
     file: &File,
-    redrawn: Option<Redrawn>,
+    lines: Option<Lines>,
     printed: Option<Text>,
     note: &str,
 ) -> Result<Reply, Refusal>
     requires short { length note.now ≤ note_limit }
     requires tidy { tidied file.now ≡ file.now }
-    requires lines { IfSome redrawn (λ redrawn. IsRedrawn redrawn session.old.tree file.now) }
+    requires lines { IfSome lines (λ lines. AreLinesOf lines session.old.tree file.now) }
     ensures makes { ((result, history_of session.new) ≡ after_meaning note.now (history_of session.old) (written file.now printed))
         ⊎ ((result ≡ Err Refusal.Memory) × (history_of session.new ≡ history_of session.old)) }
     ensures unmoved { OnErr result (session.new ≡ session.old) }
     ensures small { IsSmall (trail_of session.old) → IsSmall (trail_of session.new) }
 {
-    match redrawn {
-        Some(redrawn) => take_up_lines(session, file, redrawn, printed, note),
+    match lines {
+        Some(lines) => take_up_lines(session, file, lines, printed, note),
         None => take_up_whole(session, file, printed, note),
     }
 }
@@ -270,7 +336,7 @@ fn take_up_value(
     requires none { value.old ≡ None }
     requires long { length (spell_node session.old.tree) ≤ long.old }
     requires tidy { tidied done.file ≡ done.file }
-    requires lines { IfSome done.redrawn (λ redrawn. IsRedrawn redrawn session.old.tree done.file) }
+    requires lines { IfSome done.lines (λ lines. AreLinesOf lines session.old.tree done.file) }
     requires most { length (layout done.file) ≤ limit → length (layout done.file) ≤ done.most }
     requires written { IsWritten (view_of session.old.tree) session.old.tree }
     ensures makes { ((result, history_of session.new) ≡ after_meaning note.now (history_of session.old) (written done.file printed))
@@ -283,13 +349,9 @@ fn take_up_value(
 {
     written_is_drawn();
     let _before = session.present();
-    let Tidied {
-        file,
-        redrawn,
-        most,
-    } = done;
+    let Tidied { file, lines, most } = done;
     let _items = &file.items;
-    match take_up_tidied(session, &file, redrawn, printed, note) {
+    match take_up_tidied(session, &file, lines, printed, note) {
         Ok(reply) => {
             reads_back(session.present());
             *long = most;
@@ -308,7 +370,7 @@ fn take_up_made(
     session: &mut Session<OptionalDigests>,
     value: &mut Option<File>,
     long: &mut usize,
-    marks: Option<Vec<bool>>,
+    changes: Changes,
     file: File,
     printed: Option<Text>,
     note: &str,
@@ -316,7 +378,8 @@ fn take_up_made(
     requires short { length note.now ≤ note_limit }
     requires none { value.old ≡ None }
     requires long { length (spell_node session.old.tree) ≤ long.old }
-    requires marked { IfSome marks (λ marks. AreExchanged marks.items (view_of session.old.tree) file) }
+    requires marked { IfSome changes.marks (λ marks. AreExchanged marks.items (view_of session.old.tree) file) }
+    requires spliced { IfSome changes.spliced (λ s. IsSpliced s.from s.gone s.come (view_of session.old.tree) file) }
     requires written { IsWritten (view_of session.old.tree) session.old.tree }
     ensures makes { ((result, history_of session.new) ≡ after_meaning note.now (history_of session.old) (written file printed))
         ⊎ ((result ≡ Err Refusal.Memory) × (history_of session.new ≡ history_of session.old)) }
@@ -327,15 +390,15 @@ fn take_up_made(
     ensures long { length (spell_node session.new.tree) ≤ long.new }
 {
     tidy_stays();
-    match tidy_in(session.alloc(), marks, file, session.present(), *long) {
+    match tidy_in(session.alloc(), changes, file, session.present(), *long) {
         Ok(done) => take_up_value(session, value, long, done, printed, note),
         Err(_) => Err(Refusal::Memory),
     }
 }
 
 /// Does a command with a note on the present text, which is the layout of a tidy value; `value` is its value, where that is kept, and
-/// `long` how many bytes it has at most. At an error the session is as before. Errors: those of the command; `TooLarge` and `TooDeep` where the new text would be past
-/// a limit; `Full` at the most steps; `Memory`: a growth was refused.
+/// `long` how many bytes it has at most. At an error the session is as before. Errors: those of the command; `TooLarge` and
+/// `TooDeep` where the new text would be past a limit; `Full` at the most steps; `Memory`: a growth was refused.
 pub(crate) fn edit_beside(
     session: &mut Session<OptionalDigests>,
     value: &mut Option<File>,
@@ -374,6 +437,7 @@ pub(crate) fn edit_beside(
             let Ran {
                 same,
                 renewed,
+                spliced,
                 printed,
             } = ran;
             let printed = told(command, printed);
@@ -381,7 +445,11 @@ pub(crate) fn edit_beside(
                 *value = kept(file);
                 return Ok(unchanged(printed));
             }
-            take_up_made(session, value, long, renewed, file, printed, note)
+            let changes = Changes {
+                marks: renewed,
+                spliced,
+            };
+            take_up_made(session, value, long, changes, file, printed, note)
         }
         Err(refusal) => {
             take_apart(file);

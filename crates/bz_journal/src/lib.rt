@@ -12,6 +12,7 @@ mod hashing;
 mod keeping;
 mod lasting;
 mod laws;
+mod lines;
 mod listing;
 mod meaning;
 mod session;

@@ -1,94 +1,79 @@
 //! What a session makes of a new text that is the present one in all but some lines.
-ghost use Rattle.std.specs.Prelude.{◌≡◌, ◌<◌, ◌≤◌, ◌⊎◌, ◌↔◌, Err, IsTrue, OnErr, OnOk, length};
-ghost use Rattle.bz_tree.specs.Places.{Ascend, put_all};
+ghost use Rattle.std.specs.Prelude.{◌≡◌, ◌<◌, ◌⊎◌, ◌↔◌, ◌≤◌, false, Err, IfErr, IfOk, IfSome, IsTrue, None, Ok, OnErr, Result, length};
 ghost use Rattle.bz_tree.specs.Spell.{spell_node};
-ghost use Rattle.bz_edit.specs.Places.{with_parts};
 ghost use Rattle.bz_trail.specs.Trails.{IsSmall, IsTree};
 ghost use Rattle.bz_attribute.specs.declared.refusal.Refusal.{Refusal};
-ghost use Rattle.bz_journal.specs.History.{after_text, changed, most_steps, note_limit, present};
+ghost use Rattle.bz_journal.specs.History.{Answer, History, after_text, changed, most_steps, note_limit, present};
+ghost use Rattle.bz_journal.specs.Lines.{AreIn, tree_with};
 ghost use Rattle.bz_journal.specs.Shown.{history_of};
 ghost use Rattle.bz_journal.specs.State.{trail_of};
 
 use crate::action::Reply;
 use crate::digests::{Digests, put_after};
+use crate::lines::{Lines, stand_in, take_up_lines};
 use crate::meaning::reads_back;
 use crate::session::{MOST_STEPS, Session, unchanged};
 use bz_attribute::Refusal;
 use bz_items::{Memory, Text};
 use bz_trail::laws::texts_kept;
-use bz_trail::take_up_at;
-use bz_tree::Part;
 use bz_tree::laws::one_reading;
 
-/// Whether these lines are the parts that stand in these places.
-fn stand_there(places: &[usize], lines: &[Part], parts: &[Part]) -> bool
-    requires as_many { length places.now ≡ length lines.now }
-    requires ascend { Ascend 0 (length parts.now) places.now }
-    ensures { IsTrue result ↔ (put_all places.now lines.now parts.now ≡ parts.now) }
-{
-    for i in 0..places.len() {
-        let place = places[i];
-        if !parts[place].equals(&lines[i]) {
-            return false;
-        }
-    }
-    true
-}
-
 impl<D: Digests + Drop> Session<D> {
-    /// Whether the present tree spells the present text with these lines in these places of its root.
-    fn is_present_at(&self, places: &[usize], lines: &[Part]) -> bool
-        requires next { IsTree (with_parts places.now lines.now self.now.tree) }
-        requires as_many { length places.now ≡ length lines.now }
-        requires ascend { Ascend 0 (length self.now.tree.parts) places.now }
-        ensures { IsTrue result ↔ (spell_node (with_parts places.now lines.now self.now.tree) ≡ present (history_of self.now)) }
+    /// Whether the present tree spells the present text with these lines.
+    fn is_present_with(&self, lines: &Lines) -> bool
+        requires next { IsTree (tree_with lines.now self.now.tree) }
+        requires placed { AreIn lines.now self.now.tree }
+        ensures { IsTrue result ↔ (spell_node (tree_with lines.now self.now.tree) ≡ present (history_of self.now)) }
     {
         one_reading();
         let here = self.present();
         reads_back(here);
-        stand_there(places, lines, here.root.parts.as_slice())
+        stand_in(lines, here)
     }
 
-    /// Takes up, with a note, the present tree with other lines in these places of its root, as `take_up` does a new one. What the
-    /// lines are then is not said.
-    pub(crate) fn take_up_at(
+    /// Takes up, with a note, the present tree with these lines, as `take_up` does a new one; where that is the same one, tells what
+    /// is printed. None where the step to it isn't known: it is to be taken up whole then. Errors: `Full`; `Memory`: a growth was
+    /// refused.
+    pub(crate) fn take_up_with(
         &mut self,
-        places: &[usize],
-        lines: &mut [Part],
-        printed: Option<Text>,
+        lines: Lines,
+        printed: &mut Option<Text>,
         note: &str,
-    ) -> Result<Reply, Refusal>
+    ) -> Result<Option<Reply>, Refusal>
         requires short { length note.now ≤ note_limit }
-        requires next { IsTree (with_parts places.now lines.old self.old.tree) }
-        requires as_many { length places.now ≡ length lines.old }
-        requires ascend { Ascend 0 (length self.old.tree.parts) places.now }
-        ensures makes { ((result, history_of self.new) ≡ after_text note.now (history_of self.old) (spell_node (with_parts places.now lines.old self.old.tree)) printed)
-            ⊎ ((result ≡ Err Refusal.Memory) × (history_of self.new ≡ history_of self.old)) }
+        requires next { IsTree (tree_with lines self.old.tree) }
+        requires placed { AreIn lines self.old.tree }
+        ensures some { IfOk result (λ taken. IfSome taken (λ reply. ◌≡◌ {A = Answer × History} (Ok reply, history_of self.new) (after_text note.now (history_of self.old) (spell_node (tree_with lines self.old.tree)) printed.old))) }
+        ensures none { result ≡ Ok None → (self.new ≡ self.old) × (printed.new ≡ printed.old) }
+        ensures err { IfErr result (λ refusal. (◌≡◌ {A = Answer × History} (Err refusal, history_of self.old) (after_text note.now (history_of self.old) (spell_node (tree_with lines self.old.tree)) printed.old))
+            ⊎ (refusal ≡ Refusal.Memory)) }
         ensures unmoved { OnErr result (self.new ≡ self.old) }
         ensures small { IsSmall (trail_of self.old) → IsSmall (trail_of self.new) }
     {
-        if self.is_present_at(places, lines) {
-            return Ok(unchanged(printed));
+        if self.is_present_with(&lines) {
+            return Ok(Some(unchanged(printed.take())));
         }
         if self.cursor() >= MOST_STEPS {
             return Err(Refusal::Full);
         }
-        match self.extend_at(places, lines, note) {
-            Ok(()) => Ok(Reply::Changed),
+        match self.extend_with(lines, note) {
+            Ok(true) => Ok(Some(Reply::Changed)),
+            Ok(false) => Ok(None),
             Err(_) => Err(Refusal::Memory),
         }
     }
 
-    /// Puts the text of the present tree with other lines after the present one, with a note of the step to it. Where a digest is
-    /// kept it is taken of the tree that has these lines, so all that can fail comes before the exchange.
-    fn extend_at(&mut self, places: &[usize], lines: &mut [Part], note: &str) -> Result<(), Memory>
-        requires next { IsTree (with_parts places.now lines.old self.old.tree) }
-        requires as_many { length places.now ≡ length lines.old }
-        requires ascend { Ascend 0 (length self.old.tree.parts) places.now }
-        requires other { spell_node (with_parts places.now lines.old self.old.tree) ≡ present (history_of self.old) → ⊥ }
+    /// Puts the text of the present tree with these lines after the present one, with a note of the step to it. False where that
+    /// step isn't known; the session is then as before. Where a digest is kept it is taken of the tree that has these lines, so all
+    /// that can fail comes before the exchange.
+    fn extend_with(&mut self, lines: Lines, note: &str) -> Result<bool, Memory>
+        requires next { IsTree (tree_with lines self.old.tree) }
+        requires placed { AreIn lines self.old.tree }
+        requires other { spell_node (tree_with lines self.old.tree) ≡ present (history_of self.old) → ⊥ }
         requires room { self.old.cursor < most_steps }
         requires short { length note.now ≤ note_limit }
-        ensures ok { OnOk result (history_of self.new ≡ changed note.now (history_of self.old) (spell_node (with_parts places.now lines.old self.old.tree))) }
+        ensures ok { IfOk result (λ taken. IsTrue taken → history_of self.new ≡ changed note.now (history_of self.old) (spell_node (tree_with lines self.old.tree))) }
+        ensures stays { IfOk result (λ taken. taken ≡ false → self.new ≡ self.old) }
         ensures err { OnErr result (self.new ≡ self.old) }
         ensures small { IsSmall (trail_of self.old) → IsSmall (trail_of self.new) }
     {
@@ -98,17 +83,13 @@ impl<D: Digests + Drop> Session<D> {
         self.digests.make_room()?;
         self.notes.reserve(1)?;
         let cursor = self.cursor;
-        take_up_at(
-            &mut self.tree,
-            &mut self.steps,
-            cursor as usize,
-            places,
-            lines,
-        )?;
+        if !take_up_lines(&mut self.tree, &mut self.steps, cursor as usize, lines)? {
+            return Ok(false);
+        }
         self.digests.put_after(cursor as usize + 1, &self.tree);
         put_after(&mut self.notes, cursor as usize, note);
         self.before = cursor;
         self.cursor = cursor + 1;
-        Ok(())
+        Ok(true)
     }
 }

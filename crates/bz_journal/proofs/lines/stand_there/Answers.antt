@@ -3,7 +3,7 @@ use Rattle.std.proofs.lemmas.Bool.{false≢true}
 use Rattle.bz_tree.specs.declared.tree.Part.{Part}
 use Rattle.bz_edit.proofs.Lines.{ascend_at}
 use Rattle.bz_journal.proofs.PutLines.{line_passed, lines_there}
-use Rattle.bz_journal.proofs.taking.stand_there.Goals as goal
+use Rattle.bz_journal.proofs.lines.stand_there.Goals as goal
 
 pub offset_bounds-parts-place : goal.offset_bounds-parts-place
 offset_bounds-parts-place c =

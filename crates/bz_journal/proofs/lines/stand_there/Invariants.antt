@@ -1,6 +1,6 @@
 use Rattle.std.proofs.Common.{◌≡◌, drop}
 use Rattle.bz_tree.specs.Places.{put_all}
-use Rattle.bz_journal.proofs.taking.stand_there.Given as goal
+use Rattle.bz_journal.proofs.lines.stand_there.Given as goal
 
 -- the lines so far stand in their places
 abbrev pub invariant-loop-i : goal.invariant-loop-i

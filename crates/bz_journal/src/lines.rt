@@ -1,0 +1,114 @@
+//! Lines that stand in the place of others of a tree.
+ghost use Rattle.std.specs.Prelude.{◌≡◌, ◌≤◌, ◌+◌, ◌++◌, ◌↔◌, false, drop, length, take, IfOk, IsTrue, OnErr};
+ghost use Rattle.bz_tree.specs.Places.{Ascend, put_all};
+ghost use Rattle.bz_tree.specs.Spell.{spell_node};
+ghost use Rattle.bz_trail.specs.Shown.{TakesUp};
+ghost use Rattle.bz_trail.specs.Trails.{IsTrail, IsTree, trail_at};
+ghost use Rattle.bz_journal.specs.Lines.{AreIn, tree_with};
+
+use bz_edit::Step;
+use bz_items::Memory;
+use bz_redraw::{Redrawn, Respliced};
+use bz_trail::{take_up_across, take_up_at};
+use bz_tree::{Part, Tree};
+
+/// Lines that are drawn anew, and where they stand in a tree.
+#[derive(Drop)]
+pub(crate) enum Lines {
+    /// Each in the place of one.
+    Exchanged(Redrawn),
+    /// All in the place of some that stand together.
+    Spliced(Respliced),
+}
+
+/// Whether these lines are the parts that stand in these places.
+fn stand_there(places: &[usize], lines: &[Part], parts: &[Part]) -> bool
+    requires as_many { length places.now ≡ length lines.now }
+    requires ascend { Ascend 0 (length parts.now) places.now }
+    ensures { IsTrue result ↔ (put_all places.now lines.now parts.now ≡ parts.now) }
+{
+    for i in 0..places.len() {
+        let place = places[i];
+        if !parts[place].equals(&lines[i]) {
+            return false;
+        }
+    }
+    true
+}
+
+/// Whether both lists have the same parts in the same places.
+fn are_same(a: &[Part], b: &[Part]) -> bool
+    ensures { IsTrue result ↔ (a.now ≡ b.now) }
+{
+    if a.len() != b.len() {
+        return false;
+    }
+    for at in 0..a.len() {
+        if !a[at].equals(&b[at]) {
+            return false;
+        }
+    }
+    true
+}
+
+/// Whether these lines are the so many parts that stand from a place on.
+fn stand_across(at: usize, gone: usize, lines: &[Part], parts: &[Part]) -> bool
+    requires { at + gone ≤ length parts.now }
+    ensures { IsTrue result ↔ (take at parts.now ++ lines.now ++ drop (at + gone) parts.now ≡ parts.now) }
+{
+    are_same(&parts[at..at + gone], lines)
+}
+
+/// Whether the tree stays the same one with these lines.
+pub(crate) fn stand_in(lines: &Lines, tree: &Tree) -> bool
+    requires { AreIn lines.now tree.now }
+    ensures { IsTrue result ↔ ((tree_with lines.now tree.now).parts ≡ tree.now.parts) }
+{
+    let parts = tree.root.parts.as_slice();
+    match lines {
+        Lines::Exchanged(redrawn) => {
+            stand_there(redrawn.places.as_slice(), redrawn.lines.as_slice(), parts)
+        }
+        Lines::Spliced(respliced) => stand_across(
+            respliced.at,
+            respliced.gone,
+            respliced.lines.as_slice(),
+            parts,
+        ),
+    }
+}
+
+/// Takes up the tree with these lines as the next one of a trail. False where the step to it isn't known: tree and steps are then
+/// as before. The error: a growth was refused; they are as before then too.
+pub(crate) fn take_up_lines(
+    tree: &mut Tree,
+    steps: &mut Vec<Step>,
+    cursor: usize,
+    lines: Lines,
+) -> Result<bool, Memory>
+    requires trail { IsTrail (trail_at tree.old steps.old.items cursor) }
+    requires placed { AreIn lines tree.old }
+    requires next { IsTree (tree_with lines tree.old) }
+    requires other { spell_node (tree_with lines tree.old) ≡ spell_node tree.old → ⊥ }
+    ensures ok { IfOk result (λ taken. IsTrue taken → TakesUp (trail_at tree.old steps.old.items cursor) (tree_with lines tree.old) (trail_at tree.new steps.new.items (cursor + 1))) }
+    ensures stays { IfOk result (λ taken. taken ≡ false → (tree.new ≡ tree.old) × (steps.new.items ≡ steps.old.items)) }
+    ensures err { OnErr result ((tree.new ≡ tree.old) × (steps.new.items ≡ steps.old.items)) }
+{
+    match lines {
+        Lines::Exchanged(redrawn) => {
+            let Redrawn { places, mut lines } = redrawn;
+            take_up_at(
+                tree,
+                steps,
+                cursor,
+                places.as_slice(),
+                lines.as_mut_slice(),
+            )?;
+            Ok(true)
+        }
+        Lines::Spliced(respliced) => {
+            let Respliced { at, gone, lines } = respliced;
+            take_up_across(tree, steps, cursor, at, gone, lines)
+        }
+    }
+}
