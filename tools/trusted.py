@@ -42,7 +42,7 @@ def chunks(lines):
         line = lines[at]
         if line.startswith("--"):
             comments += 1
-        elif not line.strip() or line.startswith("use ") or line.startswith("module ") or line.startswith("open "):
+        elif not line.strip() or line.startswith(("use ", "pub use ", "pub mod ")) or line.startswith("module ") or line.startswith("open "):
             comments = 0
         elif not line.startswith(" "):
             end = at + 1
@@ -97,7 +97,14 @@ def main():
             single, modules = imports(lines)
             local = {}
             for names, size, text in chunks(lines):
-                key = (module, names[0] if names else text)
+                first = text.split()[0]
+                if not names or first in local:
+                    # a further clause, or what closes the definition before
+                    key = local.get(first, key)
+                    sizes[key] += size
+                    definitions[key] = (definitions[key][0] + "\n" + text, single, modules, local)
+                    continue
+                key = (module, names[0])
                 sizes[key], files[key] = size, file
                 definitions[key] = (text, single, modules, local)
                 for name in names:
