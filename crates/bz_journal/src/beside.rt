@@ -44,7 +44,7 @@ use std::alloc::Global;
 
 /// The fewest items of a value that is kept. One of fewer is made anew in a few milliseconds, and a run over thousands of files,
 /// which are mostly short, holds the values of none of them.
-const FEWEST: usize = 500;
+pub(crate) const FEWEST: usize = 500;
 
 /// A value, where it is worth keeping.
 pub(crate) fn kept(file: File) -> Option<File>

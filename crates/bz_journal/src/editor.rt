@@ -34,6 +34,7 @@ use bz_attribute::Refusal;
 use bz_files::Files;
 use bz_items::{Memory, Text};
 use bz_label::Target;
+use bz_names::Names;
 use bz_tree::{LENGTH_LIMIT, ReadFault};
 use bz_value::File;
 use bz_words::Command;
@@ -47,6 +48,8 @@ pub struct Editor {
     session: Session<OptionalDigests>,
     /// The value of the present text, where it is kept.
     value: Option<File>,
+    /// The index of its names, where it is kept.
+    names: Option<Names>,
     /// Whether the present text is known to be the layout of a tidy value.
     written: bool,
     /// How many bytes the present text has at most.
@@ -67,7 +70,7 @@ impl Model for Editor {
 
     ghost view = { λ editor. editor.session };
 
-    ghost invariant = { λ editor. IsBeside editor.session.tree editor.value editor.written editor.long };
+    ghost invariant = { λ editor. IsBeside editor.session.tree editor.value editor.names editor.written editor.long };
 }
 
 /// Whether it is answered that the text is another one.
@@ -153,6 +156,7 @@ fn beside(session: Session<OptionalDigests>) -> Editor
     Editor {
         session,
         value: None,
+        names: None,
         written: false,
         long: LENGTH_LIMIT,
         asked: false,
@@ -217,7 +221,23 @@ impl Editor {
         ensures small { IsSmall (trail_of self.old) → IsSmall (trail_of self.new) }
     {
         if let Action::Do(command, target) = action {
+            let asks = command.prints();
+            if asks && (self.written || self.asked) {
+                if let Some(answer) = answer_noted(
+                    &self.session,
+                    &mut self.value,
+                    &mut self.names,
+                    action,
+                    command,
+                    target,
+                    note,
+                ) {
+                    return answer;
+                }
+            }
+            self.asked = asks;
             if self.written {
+                self.names = None;
                 return edit_noted(
                     &mut self.session,
                     &mut self.value,
@@ -228,21 +248,8 @@ impl Editor {
                     note,
                 );
             }
-            let asks = command.prints();
-            if self.asked && asks {
-                if let Some(answer) = answer_noted(
-                    &self.session,
-                    &mut self.value,
-                    action,
-                    command,
-                    target,
-                    note,
-                ) {
-                    return answer;
-                }
-            }
-            self.asked = asks;
         }
+        self.names = None;
         self.value = None;
         act_by_session(
             &mut self.session,
@@ -289,6 +296,7 @@ impl Editor {
         ensures honest { F.honest files.new ≡ F.honest files.old }
     {
         self.value = None;
+        self.names = None;
         self.written = false;
         self.long = LENGTH_LIMIT;
         self.session.keep_digests();
