@@ -1,6 +1,7 @@
 //! Edits of trees: the least step between two trees, and exchange by steps.
 #![tactic(auto)]
 
+mod across;
 mod advancing;
 mod edit;
 mod exchanging;
@@ -12,6 +13,7 @@ mod plan;
 mod step;
 mod weigh;
 
+pub use across::advance_across;
 pub use advancing::{advance, advance_at};
 pub use edit::{Edit, EditFault};
 pub use exchanging::{all_even, exchange, exchange_node};

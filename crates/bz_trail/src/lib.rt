@@ -5,4 +5,4 @@ mod crossing;
 pub mod laws;
 mod moves;
 
-pub use moves::{go_back, go_forward, take_up, take_up_at};
+pub use moves::{go_back, go_forward, take_up, take_up_across, take_up_at};

@@ -1,14 +1,14 @@
 //! What changes a trail.
-ghost use Rattle.std.specs.Prelude.{◌≡◌, ◌-◌, ◌+◌, ◌≤◌, ◌<◌, ◌++◌, ◌∷◌, [], true, take, length, vec_len, vec_capacity, OnOk, OnErr, IsOk};
+ghost use Rattle.std.specs.Prelude.{◌≡◌, ◌-◌, ◌+◌, ◌≤◌, ◌<◌, ◌++◌, ◌∷◌, [], true, false, take, length, vec_len, vec_capacity, IfOk, OnOk, OnErr, IsOk, IsTrue};
 ghost use Rattle.bz_tree.specs.Spell.{spell_node};
 ghost use Rattle.bz_tree.specs.Places.{Ascend};
-ghost use Rattle.bz_edit.specs.Places.{with_parts};
+ghost use Rattle.bz_edit.specs.Places.{put, with_parts};
 ghost use Rattle.bz_trail.specs.Shown.{Moves, TakesUp};
 ghost use Rattle.bz_trail.specs.Trails.{IsTrail, IsTree, trail_at, behind, ahead, are_even};
 
 use crate::crossing::{cross_back, cross_forward};
-use bz_edit::{Step, advance, advance_at};
-use bz_items::Memory;
+use bz_edit::{Step, advance, advance_across, advance_at};
+use bz_items::{Items, Memory};
 use bz_tree::{Part, Tree};
 
 /// Puts a step behind the first n, in the place of those that follow.
@@ -62,6 +62,33 @@ pub fn take_up_at(
     let _edits = &step.edits;
     put_after(steps, cursor, step);
     Ok(())
+}
+
+/// The same, where the next tree is the present one with the lines in the place of `gone` parts of its root from `at` on, as many
+/// or not. No part outside of these is looked at. `false`: the step can't be known so, and tree and steps are as before.
+pub fn take_up_across(
+    tree: &mut Tree,
+    steps: &mut Vec<Step>,
+    cursor: usize,
+    at: usize,
+    gone: usize,
+    lines: Items<Part>,
+) -> Result<bool, Memory>
+    requires trail { IsTrail (trail_at tree.old steps.old.items cursor) }
+    requires there { at + gone ≤ length tree.old.parts }
+    requires next { IsTree (put [] at gone lines tree.old) }
+    requires other { spell_node (put [] at gone lines tree.old) ≡ spell_node tree.old → ⊥ }
+    ensures ok { IfOk result (λ taken. IsTrue taken → TakesUp (trail_at tree.old steps.old.items cursor) (put [] at gone lines tree.old) (trail_at tree.new steps.new.items (cursor + 1))) }
+    ensures stays { IfOk result (λ taken. taken ≡ false → (tree.new ≡ tree.old) × (steps.new.items ≡ steps.old.items)) }
+    ensures err { OnErr result ((tree.new ≡ tree.old) × (steps.new.items ≡ steps.old.items)) }
+{
+    steps.reserve(1)?;
+    let Some(step) = advance_across(tree, at, gone, lines)? else {
+        return Ok(false);
+    };
+    let _edits = &step.edits;
+    put_after(steps, cursor, step);
+    Ok(true)
 }
 
 /// Back by n steps. Where each of their edits holds as many parts as it covers, it takes no memory. The error: a growth was
