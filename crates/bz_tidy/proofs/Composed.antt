@@ -29,7 +29,7 @@ rule_above change = above_within the_parts k.Bare (λ x. on_first (on_call chang
 pub labels_above : SameAbove labels_in
 labels_above = rule_above (λ kind. map (on_attribute labelled_value))
 
-either_above : (b : Bool) (y z x : Expr) → above y ≡ above x → above z ≡ above x → above (if b then y else z) ≡ above x
+pub either_above : (b : Bool) (y z x : Expr) → above y ≡ above x → above z ≡ above x → above (if b then y else z) ≡ above x
 either_above true y z x h i = h
 either_above false y z x h i = i
 

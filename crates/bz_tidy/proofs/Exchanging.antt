@@ -49,7 +49,7 @@ changed_kept kind x =
     ∙ (rule_kept (λ own. sort_by argument_precedes) kind (lists_in (labels_in (quoted x)))
     ∙ (lists_kept kind (labels_in (quoted x)) ∙ (rule_kept (λ own. map (on_attribute labelled_value)) kind (quoted x) ∙ kind_quoted kind x)))
 
-taken_kept : (kind : Kind) (x : Expr) → has_kind kind (taken changed x) ≡ has_kind kind x
+pub taken_kept : (kind : Kind) (x : Expr) → has_kind kind (taken changed x) ≡ has_kind kind x
 taken_kept kind x = either_kind kind (any_marked leave_alone (above x)) x (changed x) x refl (changed_kept kind x)
 
 -- ---- bare statements stay ones
@@ -76,12 +76,12 @@ no_run : (item : Item) → is_bare item ≡ true → is_run_load (on_statement (
 no_run (i.Block lines) h = refl
 no_run (i.Stmt x) h = and_left (has_kind k.Load (taken changed x)) _ (taken_kept k.Load x ∙ no_load x h)
 
-never_before : (x y : Item) → is_run_load x ≡ false → load_precedes x y ≡ false
+pub never_before : (x y : Item) → is_run_load x ≡ false → load_precedes x y ≡ false
 never_before (i.Block lines) y h = refl
 never_before (i.Stmt x) (i.Block lines) h = refl
 never_before (i.Stmt x) (i.Stmt y) h = and_left (is_loose_load x && is_loose_load y) _ (and_left (is_loose_load x) (is_loose_load y) h)
 
-never_behind : (x y : Item) → is_run_load y ≡ false → load_precedes x y ≡ false
+pub never_behind : (x y : Item) → is_run_load y ≡ false → load_precedes x y ≡ false
 never_behind (i.Block lines) y h = refl
 never_behind (i.Stmt x) (i.Block lines) h = refl
 never_behind (i.Stmt x) (i.Stmt y) h = and_left (is_loose_load x && is_loose_load y) _ (and_right (is_loose_load x) (is_loose_load y) h)

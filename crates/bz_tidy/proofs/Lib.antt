@@ -13,6 +13,7 @@ pub mod RuleKinds
 pub mod Places
 pub mod Settling
 pub mod Exchanging
+pub mod Splicing
 pub mod Dropping
 pub mod Cut
 pub mod Stable

@@ -12,4 +12,5 @@ pub mod Rising
 pub mod Rows
 pub mod Sorted
 pub mod Sorting
+pub mod Spliced
 pub mod Strings

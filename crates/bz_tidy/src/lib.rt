@@ -15,6 +15,7 @@ mod proper_laws;
 mod quotes;
 mod repeats;
 mod runs;
+mod spliced;
 mod strings;
 mod symbols;
 mod tidying;
@@ -27,4 +28,5 @@ pub use laws::{
     tidy_stays, worked_passes,
 };
 pub use proper_laws::proper_stays;
+pub use spliced::{Window, tidy_spliced};
 pub use tidying::tidy;

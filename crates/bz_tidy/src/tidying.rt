@@ -93,6 +93,16 @@ fn settle_all(alloc: Global, items: &mut Items<Item>)
     *items = Items::from_vec(all);
 }
 
+/// The passes over items that stand alone. The error: memory was refused; some of the items are then lost.
+pub(crate) fn tidy_items(alloc: Global, items: &mut Items<Item>) -> Result<(), Memory>
+    ensures { OnOk result (items.new ≡ tidied items.old) }
+{
+    change_all(alloc, items)?;
+    sort_loads(items)?;
+    settle_all(alloc, items);
+    Ok(())
+}
+
 /// The tidy file value: strings take double quote marks, labels lose a repeated name, lists, arguments, symbols and loads are
 /// sorted, and each sequence is split where the layout breaks it. A statement with `buildifier: leave-alone` in a comment above
 /// stays, but for its flags. The error: memory was refused.
@@ -103,8 +113,6 @@ pub fn tidy(alloc: Global, file: File) -> Result<File, Memory>
     ensures comments { IfOk result (λ new. (text : Bytes) → times text new ≡ times text file) }
 {
     let File { mut items } = file;
-    change_all(alloc, &mut items)?;
-    sort_loads(&mut items)?;
-    settle_all(alloc, &mut items);
+    tidy_items(alloc, &mut items)?;
     Ok(File { items })
 }

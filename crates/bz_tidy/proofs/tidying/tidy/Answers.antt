@@ -3,34 +3,30 @@ use Rattle.bz_value.specs.Counted.{times}
 use Rattle.bz_value.specs.Proper.{IsProper}
 use Rattle.bz_value.specs.declared.value.Item.{Item}
 use Rattle.bz_write.specs.Flags.{flags}
-use Rattle.bz_tidy.specs.Passes.{loads, tidied}
-use Rattle.bz_tidy.proofs.Composed.{five_composed}
+use Rattle.bz_tidy.specs.Passes.{tidied}
 use Rattle.bz_tidy.proofs.Counts.{comments_stay}
 use Rattle.bz_tidy.proofs.Inner.{flags_settled}
 use Rattle.bz_tidy.proofs.ProperPasses.{tidied_proper}
 use Rattle.bz_tidy.proofs.Settling.{tidy_stays}
 use Rattle.bz_tidy.proofs.tidying.tidy.Goals as goal
 
--- what the passes make of the file value
-made : (c : goal.After-settle_all) → c.settle_all.new.items ≡ tidied c.args.file
-made c =
-    c.settle_all.ensures
-    ∙ (ap flags (c.in_ok-sort_loads.ensures ∙ ap loads (c.in_ok-change_all.ensures ∙ sym (five_composed c.file.inside.items)))
-    ∙ ap tidied c.file.view_is)
+-- what the passes make of the items of a file value is what they make of it
+of_file : (file items new : List Item) → new ≡ tidied items → items ≡ file → new ≡ tidied file
+of_file file items new made view_is = made ∙ ap tidied view_is
 
 pub invariant_of-result : goal.invariant_of-result
 invariant_of-result c =
-    subst (λ (items : List Item). IsProper items) (sym (made c))
+    subst (λ (items : List Item). IsProper items) (sym (of_file _ _ _ c.in_ok-tidy_items.ensures c.file.view_is))
     (tidied_proper c.args.file (subst (λ (items : List Item). IsProper items) c.file.view_is c.file.invariant))
 
 pub returns-clause-tidied : goal.returns-clause-tidied
-returns-clause-tidied c = made c
+returns-clause-tidied c = of_file _ _ _ c.in_ok-tidy_items.ensures c.file.view_is
 
 pub returns-clause-settled : goal.returns-clause-settled
-returns-clause-settled c = ap flags (made c) ∙ (flags_settled _ ∙ sym (made c))
+returns-clause-settled c = let made = of_file _ _ _ c.in_ok-tidy_items.ensures c.file.view_is in ap flags made ∙ (flags_settled _ ∙ sym made)
 
 pub returns-clause-again : goal.returns-clause-again
-returns-clause-again c = ap tidied (made c) ∙ (tidy_stays c.args.file ∙ sym (made c))
+returns-clause-again c = let made = of_file _ _ _ c.in_ok-tidy_items.ensures c.file.view_is in ap tidied made ∙ (tidy_stays c.args.file ∙ sym made)
 
 pub returns-clause-comments : goal.returns-clause-comments
-returns-clause-comments c = λ text. ap (times text) (made c) ∙ comments_stay text c.args.file
+returns-clause-comments c = λ text. ap (times text) (of_file _ _ _ c.in_ok-tidy_items.ensures c.file.view_is) ∙ comments_stay text c.args.file
