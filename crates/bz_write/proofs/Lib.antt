@@ -37,3 +37,5 @@ pub mod Viewed
 pub mod ViewedItems
 pub mod Waiting
 pub mod Writing
+pub mod WindowLimits
+pub mod Windows

@@ -16,6 +16,7 @@ mod room;
 mod row_gaps;
 mod setting;
 mod spaces;
+mod spliced;
 mod taken;
 mod texts;
 
@@ -24,11 +25,12 @@ pub use gaps::{deeper, push_behind, push_comments};
 pub use laws::{
     flags_keep_layout, layout_is_accepted, layout_reads_back, redrawn_has_length, worked_rows,
 };
-pub use limits::{are_marked_shallow, are_marked_short};
+pub use limits::{are_marked_shallow, are_marked_short, is_window_shallow, is_window_short};
 pub use lines::is_close;
 pub use marked::{Redrawn, redraw};
 pub use measure::{left_behind, left_behind_body, left_behind_row};
 pub use room::{NoRoom, less, less_behind};
 pub use setting::{SetFault, set};
+pub use spliced::{Respliced, redraw_spliced};
 pub use taken::set_from;
 pub use texts::{expr_text, item_text, push_body, push_expr, push_row};

@@ -1,10 +1,11 @@
 //! Whether a layout is within the limits of a text. Neither is the layout written for it, nor its tree made.
-ghost use Rattle.std.specs.Prelude.{◌≡◌, ◌+◌, ◌<◌, ◌≤◌, ◌↔◌, IsTrue, IfOk, ◌∷◌, [], length, List, false, if◌then◌else◌};
+ghost use Rattle.std.specs.Prelude.{ℕ, ◌≡◌, ◌+◌, ◌<◌, ◌≤◌, ◌↔◌, IsTrue, IfOk, ◌∷◌, [], length, take, drop, List, false, if◌then◌else◌};
 ghost use Rattle.bz_tree.specs.Spell.{depth_of, depth_limit, limit};
 ghost use Rattle.bz_write.specs.Written.{item_text, layout};
 ghost use Rattle.bz_write.specs.Drawn.{before_next, drawn};
 ghost use Rattle.bz_write.specs.Depths.{depth_items};
-ghost use Rattle.bz_value.specs.Exchanged.{AreExchanged};
+ghost use Rattle.bz_value.specs.Exchanged.{AreExchanged, IsSpliced};
+ghost use Rattle.bz_value.specs.declared.value.Item.{Item};
 ghost use Rattle.bz_write.specs.Exchanged.{marked_length};
 ghost use Rattle.bz_write.specs.Marks.{marked_items};
 
@@ -175,4 +176,42 @@ pub fn are_marked_short(alloc: Global, marks: &[bool], items: &[Item]) -> Result
         Err(NoRoom::Longer) => Ok(false),
         Err(NoRoom::Memory) => Err(AllocError),
     }
+}
+
+/// So many of the items, behind the first `from` ones.
+fn window(items: &[Item], from: usize, come: usize) -> &[Item]
+    requires { from + come ≤ length items.now }
+    ensures { result.now ≡ take come (drop from items.now) }
+{
+    let (_front, rest) = items.split_at(from);
+    let (window, _behind) = rest.split_at(come);
+    window
+}
+
+/// Whether the tree of the layout of all items is within the limit of depth, if it was before so many of them came in the place of
+/// others behind the first `from` ones: only these are looked at. Where it says no, the tree is past the limit, whatever it was
+/// before.
+pub fn is_window_shallow(items: &[Item], from: usize, come: usize) -> bool
+    requires held { from + come ≤ length items.now }
+    ensures shallow { IsTrue result → (before : List Item) (gone : ℕ) → IsSpliced from gone come before items.now
+        → depth_of (drawn before) ≤ depth_limit → depth_of (drawn items.now) ≤ depth_limit }
+    ensures deep { result ≡ false → depth_limit < depth_of (drawn items.now) }
+{
+    are_items_within(window(items, from, come), DEPTH_LIMIT as usize - 1)
+}
+
+/// Whether the layout of so many of the items alone, behind the first `from` ones, is within the limit of a text. Where it says no,
+/// that of all items is past the limit; so no line that is longer need ever be drawn. The error: a growth was refused.
+#[tactic(auto, using(crate::proofs::WindowLimits::window_below))]
+pub fn is_window_short(
+    alloc: Global,
+    items: &[Item],
+    from: usize,
+    come: usize,
+) -> Result<bool, Memory>
+    requires held { from + come ≤ length items.now }
+    ensures short { IfOk result (λ short. IsTrue short ↔ (length (layout (take come (drop from items.now))) ≤ limit)) }
+    ensures long { IfOk result (λ short. short ≡ false → limit < length (layout items.now)) }
+{
+    is_layout_within(alloc, window(items, from, come), LENGTH_LIMIT)
 }

@@ -61,7 +61,7 @@ pub fn push_between(gap: &mut Vec<u8>, item: &Item, others: &[Item]) -> Result<(
 }
 
 /// The line of a statement behind a gap.
-fn draw_line(alloc: Global, expr: &Expr, gap: Vec<u8>) -> Result<Part, Memory>
+pub fn draw_line(alloc: Global, expr: &Expr, gap: Vec<u8>) -> Result<Part, Memory>
     ensures { IfOk result (λ part. part ≡ line_part gap.items expr.now) }
 {
     let comments = expr.comments();

@@ -20,7 +20,7 @@ pub struct Redrawn {
 }
 
 /// The place of the line behind an item, where its own is to stand at this place.
-fn place_behind(place: usize, item: &Item) -> usize
+pub fn place_behind(place: usize, item: &Item) -> usize
     requires { place + 1 < 2 ^ 64 }
     ensures { result ≡ marks.place_behind place item.now }
 {
@@ -31,7 +31,7 @@ fn place_behind(place: usize, item: &Item) -> usize
 }
 
 /// The gap that an item leaves to what follows, where its line is not drawn.
-fn pass_over(item: &Item, gap: Vec<u8>) -> Result<Vec<u8>, Memory>
+pub fn pass_over(item: &Item, gap: Vec<u8>) -> Result<Vec<u8>, Memory>
     ensures { IfOk result (λ left. left.items ≡ left_gap gap.items item.now) }
 {
     let mut gap = gap;

@@ -1,0 +1,29 @@
+-- For private functions only: the lines of a window of a file's items, and the gap before its first one.
+use Rattle.std.specs.Prelude.{ℕ, zero, suc, Bool, true, false, List, [], ◌∷◌, ◌++◌}
+use Rattle.bz_tree.specs.declared.tree.Part.{Part}
+use Rattle.bz_value.specs.declared.value.Item.{Item}
+use Rattle.bz_value.specs.declared.value.Item.TheVariants as i
+use Rattle.bz_value.specs.Gaps.{Bytes}
+use Rattle.bz_write.specs.Drawn.{left_gap, before_next, lines_from}
+
+abbrev pub is_statement : Item → Bool
+is_statement (i.Block texts) = false
+is_statement (i.Stmt x) = true
+
+-- how many lines items have: one for each statement
+abbrev pub lines_in : List Item → ℕ
+lines_in [] = 0
+lines_in (i.Block texts ∷ items) = lines_in items
+lines_in (i.Stmt x ∷ items) = suc (lines_in items)
+
+-- the gap before what stands behind so many items, where this gap stands before the first of them
+abbrev pub gap_at : Bytes → ℕ → List Item → Bytes
+gap_at gap zero items = gap
+gap_at gap (suc n) [] = gap
+gap_at gap (suc n) (item ∷ items) = gap_at (left_gap gap item ++ before_next item items) n items
+
+-- the lines of the items, and the end, but for the first one: whatever the gap before that is, these are the same
+abbrev pub lines_behind : List Item → List Part
+lines_behind [] = []
+lines_behind (i.Block texts ∷ items) = lines_behind items
+lines_behind (i.Stmt x ∷ items) = lines_from (before_next (i.Stmt x) items) items

@@ -1,0 +1,151 @@
+//! The lines of some items that stand together, for a tree in which those of the others are drawn already.
+ghost use Rattle.std.specs.Prelude.{ℕ, ◌≡◌, ◌++◌, ◌+◌, ◌-◌, ◌≤◌, [], take, drop, length, List, IfOk, OnOk};
+ghost use Rattle.bz_value.specs.Exchanged.{IsSpliced};
+ghost use Rattle.bz_value.specs.declared.value.Item.{Item};
+ghost use Rattle.bz_write.specs.Drawn.{drawn, lines_from};
+ghost use Rattle.bz_write.specs.Windows as windows;
+
+use crate::gaps::push_comments;
+use crate::lines::{draw_item, draw_line, end_behind, push_between};
+use crate::marked::{pass_over, place_behind};
+use bz_items::{Items, Memory};
+use bz_tree::Part;
+use bz_value::Item;
+use std::alloc::Global;
+
+/// Lines that are to stand in the place of some parts of a file's tree that stand together.
+#[derive(Drop)]
+pub struct Respliced {
+    /// How many parts of the tree stand before them.
+    pub at: usize,
+    /// How many parts of the tree they replace.
+    pub gone: usize,
+    pub lines: Items<Part>,
+}
+
+fn is_statement(item: &Item) -> bool
+    ensures { result ≡ windows.is_statement item.now }
+{
+    matches!(item, Item::Stmt(_))
+}
+
+/// How many lines the items have, the end not counted.
+#[tactic(auto, using(crate::proofs::Windows::counted_next))]
+fn count_lines(items: &[Item]) -> usize
+    ensures { result ≡ windows.lines_in items.now }
+{
+    let mut count = 0;
+    for item in items {
+        count = place_behind(count, item);
+    }
+    count
+}
+
+/// The place of the last statement before another place, or the first place of all: a gap that begins there is that of all items.
+fn last_statement(items: &[Item], from: usize) -> usize
+    requires { from ≤ length items.now }
+    ensures within { result ≤ from }
+    ensures gap { windows.gap_at [] (from - result) (drop result items.now) ≡ windows.gap_at [] from items.now }
+{
+    let mut at = from;
+    while at > 0 {
+        at -= 1;
+        if is_statement(&items[at]) {
+            return at;
+        }
+    }
+    0
+}
+
+/// The gap before the item at a place, or before the end.
+fn gap_before(alloc: Global, items: &[Item], from: usize) -> Result<Vec<u8>, Memory>
+    requires { from ≤ length items.now }
+    ensures { IfOk result (λ gap. gap.items ≡ windows.gap_at [] from items.now) }
+{
+    let mut gap = Vec::new(alloc);
+    for at in last_statement(items, from)..from {
+        let item = &items[at];
+        let (_passed, others) = items.split_at(at + 1);
+        gap = pass_over(item, gap)?;
+        push_between(&mut gap, item, others)?;
+    }
+    Ok(gap)
+}
+
+/// Appends the first line of the items, that of the first statement or else the end, behind a gap.
+fn draw_first(
+    alloc: Global,
+    items: &[Item],
+    first: Vec<u8>,
+    lines: &mut Items<Part>,
+) -> Result<(), Memory>
+    ensures { OnOk result (lines.new ++ windows.lines_behind items.now ≡ lines.old ++ lines_from first.items items.now) }
+{
+    let mut gap = first;
+    let mut rest = items;
+    while let [item, others @ ..] = rest {
+        match item {
+            Item::Block(texts) => push_comments(&mut gap, texts.as_slice())?,
+            Item::Stmt(expr) => {
+                lines.push(draw_line(alloc, expr, gap)?)?;
+                return Ok(());
+            }
+        }
+        push_between(&mut gap, item, others)?;
+        rest = others;
+    }
+    lines.push(end_behind(alloc, gap))?;
+    Ok(())
+}
+
+/// The lines of so many of the items, and the next one behind them, the first of all behind a gap.
+#[tactic(auto, using(crate::proofs::Loops::lines_next))]
+fn draw_window(
+    alloc: Global,
+    items: &[Item],
+    come: usize,
+    first: Vec<u8>,
+) -> Result<Items<Part>, Memory>
+    requires { come ≤ length items.now }
+    ensures { IfOk result (λ lines. lines ++ windows.lines_behind (drop come items.now) ≡ lines_from first.items items.now) }
+{
+    let mut lines = Items::new(alloc);
+    let mut gap = first;
+    for at in 0..come {
+        let item = &items[at];
+        gap = draw_item(alloc, item, gap, &mut lines)?;
+        push_between(&mut gap, item, &items[at + 1..])?;
+    }
+    draw_first(alloc, items.split_at(come).1, gap, &mut lines)?;
+    Ok(lines)
+}
+
+/// The lines of the items that have come in the place of others behind the first `from` ones, as the layout of all items has them,
+/// and the line behind them, before which another gap may stand. Put there, they make the tree of the layout of all items, of that
+/// which had `count` parts before: there those of the lines that are gone, whichever these were, are counted by what is left of
+/// it. The error: a growth was refused.
+pub fn redraw_spliced(
+    alloc: Global,
+    items: &[Item],
+    from: usize,
+    come: usize,
+    count: usize,
+) -> Result<Respliced, Memory>
+    requires held { from + come ≤ length items.now }
+    ensures drawn { IfOk result (λ respliced. (before : List Item) (gone : ℕ) → IsSpliced from gone come before items.now
+        → length (drawn before).parts ≡ count
+        → (take respliced.at (drawn before).parts ++ respliced.lines ++ drop (respliced.at + respliced.gone) (drawn before).parts ≡ (drawn items.now).parts)
+        × (respliced.at + respliced.gone ≤ count)) }
+{
+    let (front, rest) = items.split_at(from);
+    let (_window, behind) = rest.split_at(come);
+    let at = count_lines(front);
+    let left = count_lines(behind);
+    let gap = gap_before(alloc, items, from)?;
+    let lines = draw_window(alloc, rest, come, gap)?;
+    Ok(Respliced {
+        at,
+        gone: count.saturating_sub(at).saturating_sub(left),
+        lines,
+    })
+}
