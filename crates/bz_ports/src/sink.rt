@@ -2,7 +2,7 @@
 ghost use Rattle.std.specs.Prelude.{◌≡◌, ◌≤◌, ◌<◌, ℕ, List, Option, IfOk, OnOk, OnErr, IsOk, IsErr, length, drop};
 ghost use Rattle.std.specs.Io.{WritesAtMost};
 ghost use Rattle.std.specs.Io.KnownBytes.{WriteAppends, Appends};
-ghost use Rattle.bz_ports.specs.Faults.{Rises, AppendsSome};
+ghost use Rattle.bz_ports.specs.Faults.{Rises, AppendsSome, AppendsPart};
 
 use crate::PortFault;
 
@@ -32,10 +32,11 @@ fn after(bytes: &[u8], n: usize) -> &[u8]
 }
 
 /// Writes all of these bytes, as many calls as that takes. The error: a write failed, which the writer counted; a
-/// beginning of the bytes then stands on it. Nothing is tried again.
+/// beginning of the bytes, and not all of them, then stands on it. Nothing is tried again.
 pub fn write_whole<S: Sink>(sink: &mut S, bytes: &[u8]) -> Result<(), PortFault>
     ensures ok { OnOk result (Appends (S.contents sink.old) (S.contents sink.new) bytes.now) }
     ensures err { OnErr result (AppendsSome (S.contents sink.old) (S.contents sink.new) bytes.now) }
+    ensures part { OnErr result (AppendsPart (S.contents sink.old) (S.contents sink.new) bytes.now) }
     ensures cause { IsErr result → Rises (S.faults sink.old) (S.faults sink.new) }
     ensures steady { IsOk result → S.faults sink.new ≡ S.faults sink.old }
     ensures count { S.faults sink.old ≤ S.faults sink.new }

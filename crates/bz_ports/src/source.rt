@@ -77,6 +77,7 @@ pub fn read_most<S: Source>(
     most: usize,
 ) -> Result<Vec<u8>, InputFault>
     ensures ok { IfOk result (λ bytes. IfSome (S.remaining source.old) (λ all. bytes.items ≡ take most all)) }
+    ensures taken { IfOk result (λ bytes. Consumes (S.remaining source.old) (S.remaining source.new) bytes.items) }
     ensures fault { IsErrOf result InputFault.Read → Rises (S.faults source.old) (S.faults source.new) }
     ensures steady { (IsErrOf result InputFault.Read → ⊥) → S.faults source.new ≡ S.faults source.old }
     ensures count { S.faults source.old ≤ S.faults source.new }

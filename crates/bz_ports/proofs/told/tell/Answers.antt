@@ -1,7 +1,7 @@
 use Rattle.std.proofs.Common.{◌≡◌, ◌+◌, [], ℕ, List, Bor, get_or, map, drop, ap, subst, inl, inr, refl, rules}
 use Rattle.std.specs.List.{concat}
 use Rattle.std.proofs.lemmas.List.{drop_all}
-use Rattle.bz_ports.proofs.Written.{SoFar, left-cons, begins, piece_written, piece_begun, all_written}
+use Rattle.bz_ports.proofs.Written.{SoFar, left-cons, begins, piece_written, piece_cut, all_written}
 use Rattle.bz_ports.proofs.told.tell.Goals as goal
 
 abbrev texts : List (Bor (List ℕ)) → List ℕ
@@ -32,7 +32,7 @@ returns-in-Err g c =
     let contents = g.E.Sink.contents in
     inr (
       search rules,
-      piece_begun (contents c.args.err.now) (contents c.loop-piece.err) (contents c.write_whole.new.sink) (texts pieces)
+      piece_cut (contents c.args.err.now) (contents c.loop-piece.err) (contents c.write_whole.new.sink) (texts pieces)
           (texts (drop at pieces)) (get_or pieces at none).now (texts (drop (at + 1) pieces)) (ap texts (left-cons pieces at none c.loop-piece-test.true))
           c.loop-piece.invariant.so_far (search rules),
     )
