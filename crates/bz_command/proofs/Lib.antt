@@ -3,6 +3,7 @@ pub mod LinesMatter
 pub mod ProperEffects
 pub mod RenewedItems
 pub mod RunningItems
+pub mod SplicedItems
 pub mod StatementRules
 pub mod Substituting
 pub mod TargetMarks

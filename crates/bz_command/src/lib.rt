@@ -1,6 +1,7 @@
 //! Commands: which rules of a BUILD file a target means, and what each command makes of a file value.
 #![tactic(auto)]
 
+mod deleting;
 mod laws;
 mod lines;
 mod outcome;
@@ -14,6 +15,6 @@ mod targets;
 
 pub use laws::{comments_stay, worked_commands, worked_effects};
 pub use lines::{lines_matter, looks_at_lines};
-pub use outcome::{Outcome, Ran};
+pub use outcome::{Outcome, Ran, Spliced};
 pub use proper_laws::effects_stay_proper;
 pub use running::{run, run_in, run_on};

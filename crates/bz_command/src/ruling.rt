@@ -1,27 +1,26 @@
-//! What a command makes of the items of a file: of the rules that are marked, and with a new rule. Items that stay are moved.
-ghost use Rattle.std.specs.Prelude.{◌≡◌, ◌≢◌, ◌⊎◌, ◌↔◌, ◌≤◌, ◌<◌, ◌∷◌, ◌++◌, ◌+◌, List, true, false, not, length, take, drop, vec_len, MatchOption, Ok, Err, OnOk, IsTrue, IfOk, IfErr, if◌then◌else◌};
+//! What a command makes of the items of a file: of the rules that are marked, with a new rule, and of loads. Items that stay are
+//! moved.
+ghost use Rattle.std.specs.Prelude.{◌≡◌, ◌⊎◌, ◌↔◌, ◌≤◌, ◌<◌, ◌∷◌, ◌++◌, ◌+◌, List, true, false, not, length, take, drop, vec_len, MatchOption, Ok, Err, OnOk, IsTrue, IfOk, IfErr, IfSome, if◌then◌else◌};
 ghost use Rattle.std.specs.List.{list_any};
 ghost use Rattle.std.specs.Option.{option_copied};
 ghost use Rattle.bz_value.specs.declared.value.Item.{Item};
+ghost use Rattle.bz_value.specs.Exchanged.{IsSpliced};
 ghost use Rattle.bz_rule.specs.Rules.{has_name};
-ghost use Rattle.bz_command.specs.Effect.{before_first, behind_first, copied_from, has_place, loads_changed, on_each, on_meant, on_one, on_rules, placed, source_of, unmarked, with_rule};
+ghost use Rattle.bz_load.specs.Fixes.{fix};
+ghost use Rattle.bz_load.specs.NewLoad.{new_load};
+ghost use Rattle.bz_command.specs.Effect.{before_first, behind_first, copied_from, has_place, loads_changed, on_each, on_meant, on_one, on_rules, placed, source_of, with_rule};
 ghost use Rattle.bz_command.specs.Looks.{one_made};
 
+use crate::deleting::delete;
+use crate::outcome::{Changed, Spliced};
 use crate::statements::{on_one, source};
 use bz_attribute::{Refusal, rule_made};
 use bz_items::{Items, Memory};
-use bz_load::{fix, new_load};
+use bz_load::{WithLoad, fix, new_load};
 use bz_rule::has_name;
 use bz_value::{Expr, Item};
-use bz_words::{AttributeOperation, LoadOperation, Operation, Place, RuleOperation};
+use bz_words::{AttributeOperation, Fixes, LoadOperation, Operation, Place, RuleOperation, Symbol};
 use std::alloc::Global;
-
-/// The items that a command makes of those of a file, and whether they are the same.
-#[derive(Drop)]
-pub(crate) struct Changed {
-    pub(crate) items: Items<Item>,
-    pub(crate) same: bool,
-}
 
 /// What an operation makes of an item where it is marked. Whether the item is the same then.
 #[tactic(auto, unfolding(crate::specs::Looks::one_made))]
@@ -65,48 +64,6 @@ fn on_meant(
         same = same && stays;
     }
     Ok(same)
-}
-
-/// Takes up an item unless the first of the marks is set. The marks behind that one.
-fn keep_unmarked<'a>(
-    marks: &'a [bool],
-    item: Item,
-    kept: &mut Items<Item>,
-) -> Result<&'a [bool], Memory>
-    ensures { (items : List Item) → IfOk result (λ rest. kept.new ++ unmarked rest.now items ≡ kept.old ++ unmarked marks.entry.now (item ∷ items)) }
-{
-    let Some((mark, rest)) = marks.split_first() else {
-        return Ok(marks);
-    };
-    if !*mark {
-        kept.push(item)?;
-    }
-    Ok(rest)
-}
-
-/// The items without a mark.
-fn unmarked(alloc: Global, marks: &[bool], items: Items<Item>) -> Result<Items<Item>, Memory>
-    ensures { IfOk result (λ kept. kept ≡ unmarked marks.now items) }
-{
-    let mut kept = Items::from_vec(Vec::with_capacity(alloc, marks.len())?);
-    let mut left = marks;
-    for item in items.into_vec() {
-        left = keep_unmarked(left, item, &mut kept)?;
-    }
-    Ok(kept)
-}
-
-/// The items without a mark; they are the same where as many are left.
-#[tactic(auto, using(crate::proofs::RunningItems::all_kept))]
-fn delete(alloc: Global, marks: &[bool], items: Items<Item>) -> Result<Changed, Memory>
-    requires { length marks.now ≡ length items }
-    ensures items { IfOk result (λ changed. changed.items ≡ unmarked marks.now items) }
-    ensures same { IfOk result (λ changed. IsTrue changed.same ↔ (changed.items ≡ items)) }
-{
-    let count = items.len();
-    let items = unmarked(alloc, marks, items)?;
-    let same = items.len() == count;
-    Ok(Changed { items, same })
 }
 
 /// The place of the first rule of this name.
@@ -158,15 +115,23 @@ fn put_at<T: Drop>(items: &mut Vec<T>, at: usize, item: T) -> Result<(), Memory>
 }
 
 /// The items with a new one at this place, so others than they were.
-#[tactic(auto, using(crate::proofs::RunningItems::another))]
-fn with_item(at: usize, new: Item, items: Items<Item>) -> Result<Items<Item>, Memory>
+fn with_item(at: usize, new: Item, items: Items<Item>) -> Result<Changed, Memory>
     requires { at ≤ length items }
-    ensures items { IfOk result (λ all. all ≡ take at items ++ new ∷ drop at items) }
-    ensures other { IfOk result (λ all. all ≢ items) }
+    ensures items { IfOk result (λ changed. changed.items ≡ take at items ++ new ∷ drop at items) }
+    ensures same { IfOk result (λ changed. IsTrue changed.same ↔ (changed.items ≡ items)) }
+    ensures spliced { IfOk result (λ changed. IfSome changed.spliced (λ s. IsSpliced s.from s.gone s.come items changed.items)) }
 {
     let mut all = items.into_vec();
     put_at(&mut all, at, new)?;
-    Ok(Items::from_vec(all))
+    Ok(Changed {
+        items: Items::from_vec(all),
+        same: false,
+        spliced: Some(Spliced {
+            from: at,
+            gone: 0,
+            come: 1,
+        }),
+    })
 }
 
 /// The items with a new rule at its place.
@@ -176,9 +141,10 @@ fn with_rule(
     name: &[u8],
     place: &Place,
     items: Items<Item>,
-) -> Result<Items<Item>, Refusal>
-    ensures ok { IfOk result (λ new. with_rule kind.now name.now place.now items ≡ Ok new) }
-    ensures other { IfOk result (λ new. new ≢ items) }
+) -> Result<Changed, Refusal>
+    ensures ok { IfOk result (λ changed. with_rule kind.now name.now place.now items ≡ Ok changed.items) }
+    ensures same { IfOk result (λ changed. IsTrue changed.same ↔ (changed.items ≡ items)) }
+    ensures spliced { IfOk result (λ changed. IfSome changed.spliced (λ s. IsSpliced s.from s.gone s.come items changed.items)) }
     ensures err { IfErr result (λ refusal. (with_rule kind.now name.now place.now items ≡ Err refusal) ⊎ (refusal ≡ Refusal.Memory)) }
 {
     let Some(at) = place_of_new(place, items.as_slice()) else {
@@ -189,22 +155,6 @@ fn with_rule(
     }
     let rule = rule_made(alloc, kind, name)?;
     Ok(with_item(at, rule, items)?)
-}
-
-/// The same, told as a change.
-fn add_rule(
-    alloc: Global,
-    kind: &[u8],
-    name: &[u8],
-    place: &Place,
-    items: Items<Item>,
-) -> Result<Changed, Refusal>
-    ensures ok { IfOk result (λ changed. with_rule kind.now name.now place.now items ≡ Ok changed.items) }
-    ensures same { IfOk result (λ changed. IsTrue changed.same ↔ (changed.items ≡ items)) }
-    ensures err { IfErr result (λ refusal. (with_rule kind.now name.now place.now items ≡ Err refusal) ⊎ (refusal ≡ Refusal.Memory)) }
-{
-    let items = with_rule(alloc, kind, name, place, items)?;
-    Ok(Changed { items, same: false })
 }
 
 /// The value that an operation on attributes copies.
@@ -263,6 +213,7 @@ fn on_found(
     requires { length marks.now ≡ length items }
     ensures ok { IfOk result (λ changed. on_meant (on_one operation.now current.now (option_copied found.entry)) marks.now items ≡ Ok changed.items) }
     ensures same { IfOk result (λ changed. IsTrue changed.same ↔ (changed.items ≡ items)) }
+    ensures spliced { IfOk result (λ changed. IfSome changed.spliced (λ s. IsSpliced s.from s.gone s.come items changed.items)) }
     ensures err { IfErr result (λ refusal. (on_meant (on_one operation.now current.now (option_copied found.entry)) marks.now items ≡ Err refusal) ⊎ (refusal ≡ Refusal.Memory)) }
 {
     let mut all = items.into_vec();
@@ -270,6 +221,7 @@ fn on_found(
     Ok(Changed {
         items: Items::from_vec(all),
         same,
+        spliced: None,
     })
 }
 
@@ -284,26 +236,11 @@ fn on_each(
     requires { length marks.now ≡ length items }
     ensures ok { IfOk result (λ changed. on_each operation.now current.now marks.now items ≡ Ok changed.items) }
     ensures same { IfOk result (λ changed. IsTrue changed.same ↔ (changed.items ≡ items)) }
+    ensures spliced { IfOk result (λ changed. IfSome changed.spliced (λ s. IsSpliced s.from s.gone s.come items changed.items)) }
     ensures err { IfErr result (λ refusal. (on_each operation.now current.now marks.now items ≡ Err refusal) ⊎ (refusal ≡ Refusal.Memory)) }
 {
     let found = copied_source(operation, items.as_slice())?;
     on_found(alloc, operation, current, found.as_ref(), marks, items)
-}
-
-/// What an operation on the symbols that the file loads makes of its items.
-fn with_loads(
-    alloc: Global,
-    operation: &LoadOperation,
-    items: &[Item],
-) -> Result<Items<Item>, Memory>
-    ensures { IfOk result (λ new. new ≡ loads_changed operation.now items.now) }
-{
-    match operation {
-        LoadOperation::New { path, symbols } => {
-            new_load(alloc, path.as_slice(), symbols.as_slice(), items)
-        }
-        LoadOperation::Fix { fixes } => fix(alloc, *fixes, items),
-    }
 }
 
 /// Whether both lists have the same items in the same places.
@@ -321,7 +258,50 @@ fn are_same(a: &[Item], b: &[Item]) -> bool
     true
 }
 
-/// What an operation on the symbols that the file loads makes of its items, which are let go.
+/// The items with these symbols loaded from the path too.
+fn load_too(
+    alloc: Global,
+    path: &[u8],
+    symbols: &[Symbol],
+    items: Items<Item>,
+) -> Result<Changed, Memory>
+    ensures items { IfOk result (λ changed. changed.items ≡ new_load path.now symbols.now items) }
+    ensures same { IfOk result (λ changed. IsTrue changed.same ↔ (changed.items ≡ items)) }
+    ensures spliced { IfOk result (λ changed. IfSome changed.spliced (λ s. IsSpliced s.from s.gone s.come items changed.items)) }
+{
+    let WithLoad {
+        items,
+        same,
+        at,
+        gone,
+    } = new_load(alloc, path, symbols, items)?;
+    Ok(Changed {
+        items,
+        same,
+        spliced: Some(Spliced {
+            from: at,
+            gone,
+            come: 1,
+        }),
+    })
+}
+
+/// The items mended, which are let go.
+fn mend(alloc: Global, fixes: Fixes, items: Items<Item>) -> Result<Changed, Memory>
+    ensures items { IfOk result (λ changed. changed.items ≡ fix fixes items) }
+    ensures same { IfOk result (λ changed. IsTrue changed.same ↔ (changed.items ≡ items)) }
+    ensures spliced { IfOk result (λ changed. IfSome changed.spliced (λ s. IsSpliced s.from s.gone s.come items changed.items)) }
+{
+    let new = fix(alloc, fixes, items.as_slice())?;
+    let same = are_same(new.as_slice(), items.as_slice());
+    Ok(Changed {
+        items: new,
+        same,
+        spliced: None,
+    })
+}
+
+/// What an operation on the symbols that the file loads makes of its items.
 fn change_loads(
     alloc: Global,
     operation: &LoadOperation,
@@ -329,10 +309,14 @@ fn change_loads(
 ) -> Result<Changed, Memory>
     ensures items { IfOk result (λ changed. changed.items ≡ loads_changed operation.now items) }
     ensures same { IfOk result (λ changed. IsTrue changed.same ↔ (changed.items ≡ items)) }
+    ensures spliced { IfOk result (λ changed. IfSome changed.spliced (λ s. IsSpliced s.from s.gone s.come items changed.items)) }
 {
-    let new = with_loads(alloc, operation, items.as_slice())?;
-    let same = are_same(new.as_slice(), items.as_slice());
-    Ok(Changed { items: new, same })
+    match operation {
+        LoadOperation::New { path, symbols } => {
+            load_too(alloc, path.as_slice(), symbols.as_slice(), items)
+        }
+        LoadOperation::Fix { fixes } => mend(alloc, *fixes, items),
+    }
 }
 
 /// What an operation makes of the items, of which those that it is meant for are marked.
@@ -346,14 +330,15 @@ pub(crate) fn on_rules(
     requires { length marks.now ≡ length items }
     ensures ok { IfOk result (λ changed. on_rules operation.now current.now marks.now items ≡ Ok changed.items) }
     ensures same { IfOk result (λ changed. IsTrue changed.same ↔ (changed.items ≡ items)) }
+    ensures spliced { IfOk result (λ changed. IfSome changed.spliced (λ s. IsSpliced s.from s.gone s.come items changed.items)) }
     ensures err { IfErr result (λ refusal. (on_rules operation.now current.now marks.now items ≡ Err refusal) ⊎ (refusal ≡ Refusal.Memory)) }
 {
     match operation {
         Operation::Rule(rule) => match rule {
             RuleOperation::New { kind, name, place } => {
-                add_rule(alloc, kind.as_slice(), name.as_slice(), place, items)
+                with_rule(alloc, kind.as_slice(), name.as_slice(), place, items)
             }
-            RuleOperation::Delete => Ok(delete(alloc, marks, items)?),
+            RuleOperation::Delete => Ok(delete(marks, items)),
             RuleOperation::SetKind { .. } => on_each(alloc, operation, current, marks, items),
         },
         Operation::Attribute(_)
@@ -361,6 +346,10 @@ pub(crate) fn on_rules(
         | Operation::Dict(_)
         | Operation::Comment(_) => on_each(alloc, operation, current, marks, items),
         Operation::Load(load) => Ok(change_loads(alloc, load, items)?),
-        Operation::Print { .. } => Ok(Changed { items, same: true }),
+        Operation::Print { .. } => Ok(Changed {
+            items,
+            same: true,
+            spliced: None,
+        }),
     }
 }

@@ -2,17 +2,17 @@
 ghost use Rattle.std.specs.Prelude.{◌≡◌, ◌⊎◌, ◌↔◌, ◌&&◌, [], true, false, None, Some, Ok, Err, IsOk, IfOk, IfErr, IfSome, IsTrue, OnOk, if◌then◌else◌};
 ghost use Rattle.std.specs.List.{list_any};
 ghost use Rattle.std.specs.Option.{unwrap_or};
-ghost use Rattle.bz_value.specs.Exchanged.{AreExchanged};
+ghost use Rattle.bz_value.specs.Exchanged.{AreExchanged, IsSpliced};
 ghost use Rattle.bz_command.specs.Targets.{may_mean_none};
 ghost use Rattle.bz_command.specs.Effect.{effect, lacks_rules, looks_at_rules, printed};
 ghost use Rattle.bz_command.specs.Looks.{IsLook, IsMarked};
 ghost use Rattle.bz_command.specs.Renewed.{are_bare, is_in_place};
 
-use crate::outcome::{Outcome, Ran};
+use crate::outcome::{Changed, Outcome, Ran, Spliced};
 use crate::printing::print_rules;
 use crate::proper_laws::effects_stay_proper;
 use crate::renewing::{are_bare, is_in_place};
-use crate::ruling::{Changed, on_rules};
+use crate::ruling::on_rules;
 use crate::targets::{may_mean_none, meant};
 use bz_attribute::Refusal;
 use bz_items::{Items, Text};
@@ -99,7 +99,8 @@ fn look_at(
     Ok(Look::Changes(marks))
 }
 
-/// What a command makes of a file of which the items that it is meant for are marked. Whether it is the same value then.
+/// What a command makes of a file of which the items that it is meant for are marked. Whether it is the same value then, and where
+/// items were taken out or put in, if that is known.
 fn change(
     alloc: Global,
     command: &Command,
@@ -108,19 +109,24 @@ fn change(
     lines: &[u32],
     marks: &[bool],
     file: &mut File,
-) -> Result<bool, Refusal>
+) -> Result<(bool, Option<Spliced>), Refusal>
     requires marked { IsMarked command.now target.now current.now lines.now file.old marks.now }
     ensures ok { OnOk result (effect command.now target.now current.now lines.now file.old ≡ Ok file.new) }
-    ensures same { IfOk result (λ same. IsTrue same ↔ (file.new ≡ file.old)) }
+    ensures same { IfOk result (λ told. IsTrue told.0 ↔ (file.new ≡ file.old)) }
+    ensures spliced { IfOk result (λ told. IfSome told.1 (λ s. IsSpliced s.from s.gone s.come file.old file.new)) }
     ensures err { IfErr result (λ refusal. (effect command.now target.now current.now lines.now file.old ≡ Err refusal) ⊎ (refusal ≡ Refusal.Memory)) }
 {
     effects_stay_proper();
     // What is read of the command, so that its words are known to be proper.
     let operation = &command.operation;
     let before = mem::replace(&mut file.items, Items::new(alloc));
-    let Changed { items, same } = on_rules(alloc, operation, current, marks, before)?;
+    let Changed {
+        items,
+        same,
+        spliced,
+    } = on_rules(alloc, operation, current, marks, before)?;
     file.items = items;
-    Ok(same)
+    Ok((same, spliced))
 }
 
 /// Whether a command is one in place, and the items that are marked are expressions alone.
@@ -157,20 +163,23 @@ fn change_marked(
     ensures same { IfOk result (λ ran. IsTrue ran.same ↔ (file.new ≡ file.old)) }
     ensures printed { IfOk result (λ ran. printed command.now target.now current.now lines.now file.old ≡ Ok ran.printed) }
     ensures renewed { IfOk result (λ ran. IfSome ran.renewed (λ marks. AreExchanged marks.items file.old file.new)) }
+    ensures spliced { IfOk result (λ ran. IfSome ran.spliced (λ s. IsSpliced s.from s.gone s.come file.old file.new)) }
     ensures err { IfErr result (λ refusal. (effect command.now target.now current.now lines.now file.old ≡ Err refusal) ⊎ (refusal ≡ Refusal.Memory)) }
 {
     let marked = marks.as_slice();
     let before = may_exchange(command, marked, file);
-    let same = change(alloc, command, target, current, lines, marked, file)?;
+    let (same, spliced) = change(alloc, command, target, current, lines, marked, file)?;
     let renewed = told(before, marks, file);
     Ok(Ran {
         same,
         renewed,
+        spliced,
         printed: Text::from_vec(Vec::new(alloc)),
     })
 }
 
-/// The effect of a command on the rules that the target means, on a file in place, and which of its items it exchanged.
+/// The effect of a command on the rules that the target means, on a file in place, which of its items it exchanged, and where it
+/// took some out or put some in.
 /// `current` is the path of the file's package, `lines` the lines on which its statements begin, from 1.
 /// Errors: the effect's refusal; `Memory`: a growth was refused. After an error the file may have lost its items.
 pub fn run_in(
@@ -185,6 +194,7 @@ pub fn run_in(
     ensures same { IfOk result (λ ran. IsTrue ran.same ↔ (file.new ≡ file.old)) }
     ensures printed { IfOk result (λ ran. printed command.now target.now current.now lines.now file.old ≡ Ok ran.printed) }
     ensures renewed { IfOk result (λ ran. IfSome ran.renewed (λ marks. AreExchanged marks.items file.old file.new)) }
+    ensures spliced { IfOk result (λ ran. IfSome ran.spliced (λ s. IsSpliced s.from s.gone s.come file.old file.new)) }
     ensures err { IfErr result (λ refusal. (effect command.now target.now current.now lines.now file.old ≡ Err refusal) ⊎ (refusal ≡ Refusal.Memory)) }
 {
     match look_at(
@@ -198,6 +208,7 @@ pub fn run_in(
         Look::Stays(printed) => Ok(Ran {
             same: true,
             renewed: None,
+            spliced: None,
             printed,
         }),
         Look::Changes(marks) => change_marked(alloc, command, target, current, lines, marks, file),

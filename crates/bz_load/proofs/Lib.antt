@@ -9,5 +9,6 @@ pub mod LoadParts
 pub mod PlaceSteps
 pub mod ProperLoads
 pub mod PutSteps
+pub mod Splices
 pub mod UsesForms
 pub mod UsesSteps

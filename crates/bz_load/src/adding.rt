@@ -1,9 +1,10 @@
 //! Symbols that are loaded too.
-ghost use Rattle.std.specs.Prelude.{◌≡◌, ◌++◌, ◌∷◌, [], codes, map, IfOk, OnOk};
+ghost use Rattle.std.specs.Prelude.{◌≡◌, ◌↔◌, ◌++◌, ◌∷◌, [], codes, map, IfOk, IsTrue, OnOk};
 ghost use Rattle.std.specs.List.{list_any, position};
 ghost use Rattle.bz_token.specs.declared.class.Class.TheVariants as c;
 ghost use Rattle.bz_tree.specs.declared.kind.Kind.TheVariants as k;
 ghost use Rattle.bz_value.specs.declared.value.Item.TheVariants as i;
+ghost use Rattle.bz_value.specs.Exchanged.{IsSpliced};
 ghost use Rattle.bz_words.specs.Quoted.{quoted_of};
 ghost use Rattle.bz_rule.specs.Values.{on_items};
 ghost use Rattle.bz_attribute.specs.Made.{token, sequence};
@@ -22,15 +23,16 @@ use bz_words::Symbol;
 use std::alloc::Global;
 use std::mem;
 
-/// Copies of the items.
-pub(crate) fn copied(alloc: Global, items: &[Item]) -> Result<Vec<Item>, Memory>
-    ensures { IfOk result (λ copied. copied.items ≡ items.now) }
-{
-    let mut copied = Vec::with_capacity(alloc, items.len())?;
-    for item in items {
-        copied.push(item.copy()?)?;
-    }
-    Ok(copied)
+/// The items of a file with a load that has the new symbols.
+#[derive(Drop)]
+pub struct WithLoad {
+    pub items: Items<Item>,
+    /// Whether they are the items that there were: no symbol was new to a load that stood there.
+    pub same: bool,
+    /// Behind how many items the load stands.
+    pub at: usize,
+    /// In the place of how many items it stands: of one where there was such a load before, of none where it is put in.
+    pub gone: usize,
 }
 
 /// The items for the symbols that are not loaded so yet, each once.
@@ -89,35 +91,63 @@ fn append_to_item(alloc: Global, more: &mut Vec<Expr>, item: &mut Item) -> Resul
     }
 }
 
+/// Whether there are no expressions.
+fn are_none(exprs: &[Expr]) -> bool
+    ensures { IsTrue result ↔ (exprs.now ≡ []) }
+{
+    exprs.is_empty()
+}
+
 /// Puts the items of new symbols to the end of the first load from the path, or into a new load.
 fn put(
     alloc: Global,
     path: &[u8],
     more: &mut Vec<Expr>,
-    items: &mut Vec<Item>,
-) -> Result<(), Memory>
-    ensures { OnOk result (items.new.items ≡ placed path.now more.old.items items.old.items) }
+    items: Items<Item>,
+) -> Result<WithLoad, Memory>
+    ensures items { IfOk result (λ made. made.items ≡ placed path.now more.old.items items) }
+    ensures same { IfOk result (λ made. IsTrue made.same ↔ (made.items ≡ items)) }
+    ensures spliced { IfOk result (λ made. IsSpliced made.at made.gone 1 items made.items) }
 {
-    match place_of_load(path, items.as_slice()) {
-        Some(at) => append_to_item(alloc, more, &mut items[at])?,
-        None => insert_behind_loads(load_of(alloc, path, more)?, items)?,
+    let mut all = items.into_vec();
+    match place_of_load(path, all.as_slice()) {
+        Some(at) => {
+            let same = are_none(more.as_slice());
+            append_to_item(alloc, more, &mut all[at])?;
+            Ok(WithLoad {
+                items: Items::from_vec(all),
+                same,
+                at,
+                gone: 1,
+            })
+        }
+        None => {
+            let load = load_of(alloc, path, more)?;
+            let at = insert_behind_loads(load, &mut all)?;
+            Ok(WithLoad {
+                items: Items::from_vec(all),
+                same: false,
+                at,
+                gone: 0,
+            })
+        }
     }
-    Ok(())
 }
 
-/// A copy of the items in which the symbols are loaded from the path: those that aren't loaded so yet, each once, go to the
-/// end of its first load; without such a load a new one goes behind the last load, or behind the leading comment blocks. The
-/// error: memory was refused.
+/// The items, in which the symbols are loaded from the path then: those that aren't loaded so yet, each once, go to the end of
+/// its first load; without such a load a new one goes behind the last load, or behind the leading comment blocks. All other
+/// items stay and are moved. The error: memory was refused; the items are then lost.
 pub fn new_load(
     alloc: Global,
     path: &[u8],
     symbols: &[Symbol],
-    items: &[Item],
-) -> Result<Items<Item>, Memory>
-    ensures { IfOk result (λ new. new ≡ new_load path.now symbols.now items.now) }
+    items: Items<Item>,
+) -> Result<WithLoad, Memory>
+    ensures items { IfOk result (λ made. made.items ≡ new_load path.now symbols.now items) }
+    ensures same { IfOk result (λ made. IsTrue made.same ↔ (made.items ≡ items)) }
+    ensures spliced { IfOk result (λ made. IsSpliced made.at made.gone 1 items made.items) }
 {
-    let mut more = new_symbols(alloc, path, symbols, items)?;
-    let mut all = copied(alloc, items)?;
-    put(alloc, path, &mut more, &mut all)?;
-    Ok(Items::from_vec(all))
+    let mut more = new_symbols(alloc, path, symbols, items.as_slice())?;
+    let made = put(alloc, path, &mut more, items)?;
+    Ok(made)
 }

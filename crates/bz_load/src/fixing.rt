@@ -2,13 +2,23 @@
 ghost use Rattle.std.specs.Prelude.{◌≡◌, IfOk, OnOk, if◌then◌else◌};
 ghost use Rattle.bz_load.specs.Fixes.{fix, move_package_to_top, unused_loads};
 
-use crate::adding::copied;
 use crate::package::move_package;
 use crate::unused::drop_unused;
 use bz_items::{Items, Memory};
 use bz_value::Item;
 use bz_words::Fixes;
 use std::alloc::Global;
+
+/// Copies of the items.
+fn copied(alloc: Global, items: &[Item]) -> Result<Vec<Item>, Memory>
+    ensures { IfOk result (λ copied. copied.items ≡ items.now) }
+{
+    let mut copied = Vec::with_capacity(alloc, items.len())?;
+    for item in items {
+        copied.push(item.copy()?)?;
+    }
+    Ok(copied)
+}
 
 fn fix_package(wanted: bool, items: &mut Vec<Item>) -> Result<(), Memory>
     ensures { OnOk result (items.new.items ≡ (if wanted then move_package_to_top items.old.items else items.old.items)) }

@@ -13,7 +13,7 @@ mod readings;
 mod unused;
 mod uses;
 
-pub use adding::new_load;
+pub use adding::{WithLoad, new_load};
 pub use fixing::fix;
 pub use laws::{
     comments_stay, dropping_again, fixing_again, loading_again, loads_stay_proper, moving_again,

@@ -1,6 +1,6 @@
 //! Places among the items of a file.
-ghost use Rattle.std.specs.Prelude.{◌≡◌, ◌++◌, ◌∷◌, ◌≤◌, true, length, nat_lt, take, drop, OnOk};
-ghost use Rattle.std.specs.List.{list_all, list_any};
+ghost use Rattle.std.specs.Prelude.{◌≡◌, ◌++◌, ◌∷◌, ◌≤◌, true, length, nat_lt, take, drop, IfOk, OnOk};
+ghost use Rattle.std.specs.List.{insert, list_all, list_any};
 ghost use Rattle.bz_value.specs.declared.value.Item.{Item};
 ghost use Rattle.bz_load.specs.Fixes.{package_behind_blocks, is_package};
 ghost use Rattle.bz_load.specs.Loads.{is_load as is_any_load};
@@ -48,10 +48,11 @@ pub(crate) fn count_of_blocks(items: &[Item]) -> usize
     items.len()
 }
 
-/// Puts an item behind the last load; without a load behind the comment blocks that the items begin with. The error: memory
-/// was refused; the item is then lost.
-pub(crate) fn insert_behind_loads(new: Item, items: &mut Vec<Item>) -> Result<(), Memory>
-    ensures { OnOk result (items.new.items ≡ behind_loads new items.old.items) }
+/// Puts an item behind the last load; without a load behind the comment blocks that the items begin with. Behind how many items
+/// it stands then. The error: memory was refused; the item is then lost.
+pub(crate) fn insert_behind_loads(new: Item, items: &mut Vec<Item>) -> Result<usize, Memory>
+    ensures items { OnOk result (items.new.items ≡ behind_loads new items.old.items) }
+    ensures place { IfOk result (λ at. (at ≤ length items.old.items) × (items.new.items ≡ insert items.old.items at new)) }
 {
     let loads = count_to_last_load(items.as_slice());
     let at = if loads > 0 {
@@ -60,5 +61,5 @@ pub(crate) fn insert_behind_loads(new: Item, items: &mut Vec<Item>) -> Result<()
         count_of_blocks(items.as_slice())
     };
     items.insert(at, new)?;
-    Ok(())
+    Ok(at)
 }
