@@ -1,5 +1,6 @@
 -- What patterns match, and what a template makes of the matches.
-use Rattle.std.specs.Prelude.{◌≢◌, ℕ, List, Option, Some, None, chars, ◌&&◌, if◌then◌else◌, IsUtf8}
+use Rattle.std.specs.Prelude.{◌≡◌, ◌≢◌, ℕ, List, Option, Some, None, chars, codes, nat_eq, Bool, true, ◌&&◌, if◌then◌else◌, IsUtf8}
+use Rattle.std.specs.List.{list_any}
 use Rattle.std.specs.Str.{is_utf8}
 use Rattle.regex_syntax.specs.Grammar.{Names, read}
 use Rattle.regex_syntax.specs.Brackets.{Nested}
@@ -30,6 +31,18 @@ substituted source template body =
 abbrev pub TextStaysText : Type 0
 TextStaysText = (source template body : List ℕ) → IsUtf8 source → IsUtf8 template → IsUtf8 body → IsUtf8 (substituted source template body)
 
--- `regex` refuses the text as a pattern, for another cause than memory.
+-- the characters by which a pattern is more than a text
+abbrev pub special_characters : List ℕ
+special_characters = codes "\\.+*?()|[]{}^$"
+
+unfoldable pub is_special : ℕ → Bool
+is_special byte = list_any (nat_eq byte) special_characters
+
+-- the text is more than one that matches itself
+abbrev pub has_special : List ℕ → Bool
+has_special source = list_any is_special source
+
+-- `regex` refuses the text as a pattern, for another cause than memory, and it has a special character.
 unfoldable pub IsRefusedPattern : List ℕ → Type 0
 IsRefusedPattern source = (error : Error) × (error ≢ OutOfMemory) × IsRefusal default_config source error × IsRightKind default_config source error
+    × (has_special source ≡ true)

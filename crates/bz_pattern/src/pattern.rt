@@ -1,3 +1,7 @@
+ghost use Rattle.std.specs.Prelude.{◌≡◌, nat_eq};
+ghost use Rattle.std.specs.List.{list_any};
+ghost use Rattle.bz_pattern.specs.Patterns.{is_special as special, has_special as more_than_text};
+
 use bz_items::{Memory, Text};
 use regex::{Error, Regex, Template};
 use std::alloc::Global;
@@ -33,18 +37,52 @@ pub enum PatternFault {
 }
 
 impl PatternFault {
-    ghost use Rattle.std.specs.Prelude.{◌≡◌, ◌≢◌};
+    ghost use Rattle.std.specs.Prelude.{◌≡◌, ◌≢◌, true};
     ghost use Rattle.regex.specs.declared.error.Error.TheVariants.{OutOfMemory};
 
-    // Why the text is not taken, where `regex` gives this error for it.
-    fn of(error: Error) -> PatternFault
-        ensures { result ≡ PatternFault.BadPattern → error ≢ OutOfMemory }
+    // Why a text is not taken, where `regex` gives this error for it. A text without special characters is a pattern: it can only
+    // want memory.
+    fn of(error: Error, has_special: bool) -> PatternFault
+        ensures memory { result ≡ PatternFault.BadPattern → error ≢ OutOfMemory }
+        ensures special { result ≡ PatternFault.BadPattern → has_special ≡ true }
     {
+        if !has_special {
+            return PatternFault::Memory;
+        }
         match error {
             Error::OutOfMemory => PatternFault::Memory,
             _ => PatternFault::BadPattern,
         }
     }
+}
+
+// Whether the byte is one of these.
+fn is_one_of(byte: u8, bytes: &[u8]) -> bool
+    ensures { result ≡ list_any (nat_eq byte) bytes.now }
+{
+    bytes.iter().any(|other| byte == *other)
+}
+
+// Whether the character is one by which a pattern is more than a text.
+#[tactic(auto, unfolding(crate::specs::Patterns::is_special))]
+fn is_special(byte: u8) -> bool
+    ensures { result ≡ special byte }
+{
+    is_one_of(byte, b"\\.+*?()|[]{}^$")
+}
+
+// Whether one of these bytes is a special character.
+fn is_any_special(bytes: &[u8]) -> bool
+    ensures { result ≡ list_any special bytes.now }
+{
+    bytes.iter().any(|byte| is_special(*byte))
+}
+
+// Whether the text has a special character.
+fn has_special(source: &str) -> bool
+    ensures { result ≡ more_than_text source.now }
+{
+    is_any_special(source.as_bytes())
 }
 
 impl Pattern {
@@ -53,16 +91,16 @@ impl Pattern {
     ghost use Rattle.regex.specs.Patterns.{default_config};
     ghost use Rattle.bz_pattern.specs.Patterns.{IsRefusedPattern, substituted, substituted_by};
 
-    /// Compiles a pattern, with `regex`'s default options. Errors: `BadPattern` where `regex` refuses the text for another
-    /// cause than memory: it is no pattern, is nested deeper than 250, or its tables would take more than 10 MiB; `Memory`: a
-    /// growth was refused.
+    /// Compiles a pattern, with `regex`'s default options. Errors: `BadPattern` where `regex` refuses a text with a special
+    /// character for another cause than memory: it is no pattern, is nested deeper than 250, or its tables would take more than 10 MiB;
+    /// `Memory`: a growth was refused.
     pub fn read(alloc: Global, source: &str) -> Result<Pattern, PatternFault>
         ensures ok { IfOk result (λ pattern. pattern ≡ source.now) }
         ensures err { IfErr result (λ fault. fault ≡ PatternFault.BadPattern → IsRefusedPattern source.now) }
     {
         let regex = match Regex::new(alloc, source) {
             Ok(regex) => regex,
-            Err(error) => return Err(PatternFault::of(error)),
+            Err(error) => return Err(PatternFault::of(error, has_special(source))),
         };
         match Rc::new(alloc, regex) {
             Ok(regex) => Ok(Pattern { regex }),
