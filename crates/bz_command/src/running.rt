@@ -1,9 +1,10 @@
 //! The effect of a command on a file value.
-ghost use Rattle.std.specs.Prelude.{◌≡◌, ◌⊎◌, ◌↔◌, ◌&&◌, [], true, false, None, Some, Ok, Err, IsOk, IfOk, IfErr, IfSome, IsTrue, OnOk, if◌then◌else◌};
+ghost use Rattle.std.specs.Prelude.{length, ◌≡◌, ◌⊎◌, ◌↔◌, ◌&&◌, [], true, false, None, Some, Ok, Err, IsOk, IfOk, IfErr, IfSome, IsTrue, OnOk, if◌then◌else◌};
 ghost use Rattle.std.specs.List.{list_any};
 ghost use Rattle.std.specs.Option.{unwrap_or};
 ghost use Rattle.bz_value.specs.Exchanged.{AreExchanged, IsSpliced};
-ghost use Rattle.bz_command.specs.Targets.{may_mean_none};
+ghost use Rattle.bz_names.specs.Index.{IsIndexOf};
+ghost use Rattle.bz_command.specs.Targets.{may_mean_none, meant};
 ghost use Rattle.bz_command.specs.Effect.{effect, lacks_rules, looks_at_rules, printed};
 ghost use Rattle.bz_command.specs.Looks.{IsLook, IsMarked};
 ghost use Rattle.bz_command.specs.Renewed.{are_bare, is_in_place};
@@ -13,10 +14,11 @@ use crate::printing::print_rules;
 use crate::proper_laws::effects_stay_proper;
 use crate::renewing::{are_bare, is_in_place};
 use crate::ruling::on_rules;
-use crate::targets::{may_mean_none, meant};
+use crate::targets::{may_mean_none, meant, meant_by};
 use bz_attribute::Refusal;
 use bz_items::{Items, Text};
 use bz_label::{Target, Which};
+use bz_names::Names;
 use bz_rule::take_apart;
 use bz_value::{File, Item};
 use bz_words::{Command, Operation, RuleOperation};
@@ -73,6 +75,34 @@ enum Look {
     Changes(Vec<bool>),
 }
 
+/// Looks at the items of a file, of which those that a command is meant for are marked, and prints what it prints of them.
+fn look_with(
+    alloc: Global,
+    command: &Command,
+    target: &Target,
+    current: &[u8],
+    lines: &[u32],
+    marks: Vec<bool>,
+    items: &[Item],
+) -> Result<Look, Refusal>
+    requires value { marks.items ≡ meant target.now.which lines.now items.now }
+    requires count { length marks.items ≡ length items.now }
+    ensures ok { IfOk result (IsLook command.now target.now current.now lines.now items.now) }
+    ensures err { IfErr result (λ refusal. (effect command.now target.now current.now lines.now items.now ≡ Err refusal) ⊎ (refusal ≡ Refusal.Memory)) }
+{
+    let operation = &command.operation;
+    let marked = marks.as_slice();
+    if lacks_rules(operation, marked) {
+        on_none(&target.which)?;
+        return Ok(Look::Stays(Text::from_vec(Vec::new(alloc))));
+    }
+    if command.prints() {
+        let printed = print_rules(alloc, operation, current, lines, marked, items)?;
+        return Ok(Look::Stays(printed));
+    }
+    Ok(Look::Changes(marks))
+}
+
 /// Looks at the items of a file for what a command is meant for, and prints it where the command prints.
 fn look_at(
     alloc: Global,
@@ -85,18 +115,8 @@ fn look_at(
     ensures ok { IfOk result (IsLook command.now target.now current.now lines.now items.now) }
     ensures err { IfErr result (λ refusal. (effect command.now target.now current.now lines.now items.now ≡ Err refusal) ⊎ (refusal ≡ Refusal.Memory)) }
 {
-    let operation = &command.operation;
     let marks = meant(alloc, &target.which, lines, items)?;
-    let marked = marks.as_slice();
-    if lacks_rules(operation, marked) {
-        on_none(&target.which)?;
-        return Ok(Look::Stays(Text::from_vec(Vec::new(alloc))));
-    }
-    if command.prints() {
-        let printed = print_rules(alloc, operation, current, lines, marked, items)?;
-        return Ok(Look::Stays(printed));
-    }
-    Ok(Look::Changes(marks))
+    look_with(alloc, command, target, current, lines, marks, items)
 }
 
 /// What a command makes of a file of which the items that it is meant for are marked. Whether it is the same value then, and where
@@ -256,6 +276,34 @@ pub fn run_on(
     }
 }
 
+/// What a command makes of a file that was looked at, on a copy where it may change.
+fn finish(
+    alloc: Global,
+    command: &Command,
+    target: &Target,
+    current: &[u8],
+    lines: &[u32],
+    look: Look,
+    file: &File,
+) -> Result<Outcome, Refusal>
+    requires { IsLook command.now target.now current.now lines.now file.now look }
+    ensures ok { IfOk result (λ outcome. effect command.now target.now current.now lines.now file.now ≡ Ok (unwrap_or outcome.file file.now)) }
+    ensures unchanged { IfOk result (λ outcome. (outcome.file ≡ None) ↔ (effect command.now target.now current.now lines.now file.now ≡ Ok file.now)) }
+    ensures printed { IfOk result (λ outcome. printed command.now target.now current.now lines.now file.now ≡ Ok outcome.printed) }
+    ensures err { IfErr result (λ refusal. (effect command.now target.now current.now lines.now file.now ≡ Err refusal) ⊎ (refusal ≡ Refusal.Memory)) }
+{
+    match look {
+        Look::Stays(printed) => Ok(Outcome {
+            file: None,
+            printed,
+        }),
+        Look::Changes(_) => {
+            let copy = file.copy()?;
+            run_on(alloc, command, target, current, lines, copy)
+        }
+    }
+}
+
 /// The effect of a command on the rules that the target means, as `run_on` tells it, on a copy of the file where it may change.
 /// Errors: the effect's refusal; `Memory`: a growth was refused.
 pub fn run(
@@ -271,21 +319,29 @@ pub fn run(
     ensures printed { IfOk result (λ outcome. printed command.now target.now current.now lines.now file.now ≡ Ok outcome.printed) }
     ensures err { IfErr result (λ refusal. (effect command.now target.now current.now lines.now file.now ≡ Err refusal) ⊎ (refusal ≡ Refusal.Memory)) }
 {
-    match look_at(
-        alloc,
-        command,
-        target,
-        current,
-        lines,
-        file.items.as_slice(),
-    )? {
-        Look::Stays(printed) => Ok(Outcome {
-            file: None,
-            printed,
-        }),
-        Look::Changes(_) => {
-            let copy = file.copy()?;
-            run_on(alloc, command, target, current, lines, copy)
-        }
-    }
+    let items = file.items.as_slice();
+    let look = look_at(alloc, command, target, current, lines, items)?;
+    finish(alloc, command, target, current, lines, look, file)
+}
+
+/// The same, where an index of the names of the file's rules is there: a target that is a name is not sought among its items.
+pub fn run_named(
+    alloc: Global,
+    command: &Command,
+    target: &Target,
+    current: &[u8],
+    lines: &[u32],
+    names: &Names,
+    file: &File,
+) -> Result<Outcome, Refusal>
+    requires { IsIndexOf names.now file.now }
+    ensures ok { IfOk result (λ outcome. effect command.now target.now current.now lines.now file.now ≡ Ok (unwrap_or outcome.file file.now)) }
+    ensures unchanged { IfOk result (λ outcome. (outcome.file ≡ None) ↔ (effect command.now target.now current.now lines.now file.now ≡ Ok file.now)) }
+    ensures printed { IfOk result (λ outcome. printed command.now target.now current.now lines.now file.now ≡ Ok outcome.printed) }
+    ensures err { IfErr result (λ refusal. (effect command.now target.now current.now lines.now file.now ≡ Err refusal) ⊎ (refusal ≡ Refusal.Memory)) }
+{
+    let items = file.items.as_slice();
+    let marks = meant_by(alloc, &target.which, lines, names, items)?;
+    let look = look_with(alloc, command, target, current, lines, marks, items)?;
+    finish(alloc, command, target, current, lines, look, file)
 }

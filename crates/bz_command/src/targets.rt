@@ -2,10 +2,12 @@
 ghost use Rattle.std.specs.Prelude.{◌≡◌, ◌∷◌, List, IfOk, length, map};
 ghost use Rattle.bz_value.specs.declared.value.Item.{Item};
 ghost use Rattle.bz_rule.specs.Rules.{has_kind, has_name};
+ghost use Rattle.bz_names.specs.Index.{IsIndexOf};
 ghost use Rattle.bz_command.specs.Targets.{is_rule, on_line, first_mark, meant, may_mean_none};
 
 use bz_items::Memory;
 use bz_label::Which;
+use bz_names::Names;
 use bz_rule::{call_of, has_kind, has_name, is_named};
 use bz_value::Item;
 use std::alloc::Global;
@@ -106,6 +108,26 @@ pub(crate) fn meant(
             Ok(marks)
         }
         Which::Name(name) => all_named(alloc, name.as_slice(), items),
+    }
+}
+
+/// The same by an index of the names of the items, where the target is a name.
+pub(crate) fn meant_by(
+    alloc: Global,
+    which: &Which,
+    lines: &[u32],
+    names: &Names,
+    items: &[Item],
+) -> Result<Vec<bool>, Memory>
+    requires { IsIndexOf names.now items.now }
+    ensures value { IfOk result (λ marks. marks.items ≡ meant which.now lines.now items.now) }
+    ensures count { IfOk result (λ marks. length marks.items ≡ length items.now) }
+{
+    match which {
+        Which::Name(name) => names.marks(alloc, name.as_slice()),
+        Which::All | Which::Kind(_) | Which::Line(_) | Which::Package => {
+            meant(alloc, which, lines, items)
+        }
     }
 }
 
