@@ -1,2 +1,3 @@
 pub mod Renewals
 pub mod Rooms
+pub mod Resplicings

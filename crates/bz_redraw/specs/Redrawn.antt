@@ -1,11 +1,12 @@
 -- A tree that was written, and lines of it that are drawn anew.
-use Rattle.std.specs.Prelude.{◌≡◌, ◌≤◌, List, length}
+use Rattle.std.specs.Prelude.{◌≡◌, ◌≤◌, ◌+◌, ◌++◌, List, length, take, drop}
 use Rattle.bz_tree.specs.declared.tree.Node.{Node}
 use Rattle.bz_tree.specs.Places.{Ascend, put_all}
 use Rattle.bz_tree.specs.Spell.{depth_of, depth_limit, limit}
 use Rattle.bz_value.specs.declared.value.Item.{Item}
 use Rattle.bz_value.specs.Proper.{IsProper}
 use Rattle.bz_write.specs.declared.marked.Redrawn.{Redrawn}
+use Rattle.bz_write.specs.declared.spliced.Respliced.{Respliced}
 use Rattle.bz_redraw.specs.declared.renewing.Renewed.{Renewed}
 use Rattle.bz_write.specs.Drawn.{drawn}
 use Rattle.bz_write.specs.Written.{layout}
@@ -28,3 +29,10 @@ pub record IsRedrawn (redrawn : Redrawn) (tree : Node) (items : List Item) : Typ
 -- The same, and the layout has no more bytes than are said.
 abbrev pub IsRenewed : Renewed → Node → List Item → Type 0
 IsRenewed renewed tree items = IsRedrawn renewed.redrawn tree items × (length (layout items) ≤ renewed.most)
+
+-- With these lines in the place of parts that stand together the tree is the layout of the items, and within the limits.
+pub record IsRespliced (respliced : Respliced) (tree : Node) (items : List Item) : Type 0 where
+  pub put : take respliced.at tree.parts ++ respliced.lines ++ drop (respliced.at + respliced.gone) tree.parts ≡ (drawn items).parts
+  pub there : respliced.at + respliced.gone ≤ length tree.parts
+  pub long : length (layout items) ≤ limit
+  pub deep : depth_of (drawn items) ≤ depth_limit

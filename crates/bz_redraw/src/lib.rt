@@ -1,8 +1,11 @@
-//! A tree that was written, renewed where statements of its file were exchanged: only these are tidied and drawn.
+//! A tree that was written, renewed where statements of its file were exchanged, or items that stand together came in the place of
+//! others: only these are tidied and drawn.
 #![tactic(auto)]
 
 mod renewing;
 mod room;
+mod splicing;
 
-pub use bz_write::Redrawn;
+pub use bz_write::{Redrawn, Respliced};
 pub use renewing::{Renewed, renew};
+pub use splicing::{RenewedWindow, renew_spliced};

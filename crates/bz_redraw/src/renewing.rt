@@ -1,14 +1,13 @@
 //! Statements that were exchanged, tidied and drawn by themselves.
-ghost use Rattle.std.specs.Prelude.{◌≡◌, ◌≤◌, ◌+◌, List, length, IfOk, IfSome, OnOk};
-ghost use Rattle.std.specs.List.{flat_map};
-ghost use Rattle.bz_tree.specs.Spell.{limit, spell_node, spell_part};
+ghost use Rattle.std.specs.Prelude.{◌≡◌, ◌≤◌, List, length, IfOk, IfSome, OnOk};
+ghost use Rattle.bz_tree.specs.Spell.{spell_node};
 ghost use Rattle.bz_value.specs.declared.value.Item.{Item};
 ghost use Rattle.bz_value.specs.Exchanged.{AreExchanged};
 ghost use Rattle.bz_tidy.specs.Exchanged.{tidied_where};
 ghost use Rattle.bz_tidy.specs.Passes.{tidied};
 ghost use Rattle.bz_redraw.specs.Redrawn.{IsRenewed, IsWritten};
 
-use crate::room::most_with;
+use crate::room::most_of;
 use bz_items::{Items, Memory};
 use bz_tidy::{exchanged_tidied, proper_stays, tidy_marked};
 use bz_tree::Tree;
@@ -51,19 +50,6 @@ fn tidy_within(alloc: Global, marks: &[bool], file: &mut File) -> Result<(), Mem
     Ok(())
 }
 
-/// How many bytes a tree has at most when the lines stand in it, whatever they stand in the place of; none where that may be past
-/// the limit of a text. Its bytes, of which there are at most `long`, are counted only where that is too many.
-fn most_of(redrawn: &Redrawn, tree: &Tree, long: usize) -> Option<usize>
-    requires { length (spell_node tree.now) ≤ long }
-    ensures { IfSome result (λ most. (length (spell_node tree.now) + length (flat_map spell_part redrawn.now.lines) ≤ most) × (most ≤ limit)) }
-{
-    let lines = redrawn.lines.as_slice();
-    match most_with(lines, long) {
-        Some(most) => Some(most),
-        None => most_with(lines, tree.len()),
-    }
-}
-
 /// The lines of the items that are marked, and their places in the tree; none where they may be past a limit there.
 fn drawn_anew(
     alloc: Global,
@@ -83,7 +69,7 @@ fn drawn_anew(
     }
     redrawn_has_length();
     let redrawn = redraw(alloc, marks, items)?;
-    match most_of(&redrawn, tree, long) {
+    match most_of(&redrawn.lines, tree, long) {
         Some(most) => Ok(Some(Renewed { redrawn, most })),
         None => Ok(None),
     }

@@ -1,10 +1,11 @@
 //! How much room the lines of a tree leave.
 ghost use Rattle.std.specs.Prelude.{◌≡◌, ◌≤◌, ◌+◌, length, IfSome};
 ghost use Rattle.std.specs.List.{flat_map};
-ghost use Rattle.bz_tree.specs.Spell.{limit, spell_leaf, spell_part};
+ghost use Rattle.bz_tree.specs.Spell.{limit, spell_leaf, spell_node, spell_part};
 
+use bz_items::Items;
 use bz_lex::Leaf;
-use bz_tree::{LENGTH_LIMIT, Part};
+use bz_tree::{LENGTH_LIMIT, Part, Tree};
 
 /// What is left of the room behind the gap and the token of a leaf; none where they are longer.
 fn left_behind_leaf(leaf: &Leaf, room: usize) -> Option<usize>
@@ -40,10 +41,23 @@ fn left_behind(parts: &[Part], room: usize) -> Option<usize>
 }
 
 /// So many bytes and those of parts; none where they are past the limit of a text.
-pub(crate) fn most_with(parts: &[Part], long: usize) -> Option<usize>
+fn most_with(parts: &[Part], long: usize) -> Option<usize>
     ensures { IfSome result (λ most. (most ≡ long + length (flat_map spell_part parts.now)) × (most ≤ limit)) }
 {
     let room = LENGTH_LIMIT.checked_sub(long)?;
     let left = left_behind(parts, room)?;
     Some(LENGTH_LIMIT - left)
+}
+
+/// How many bytes a tree has at most when the lines stand in it, whatever they stand in the place of; none where that may be past
+/// the limit of a text. Its bytes, of which there are at most `long`, are counted only where that is too many.
+pub(crate) fn most_of(lines: &Items<Part>, tree: &Tree, long: usize) -> Option<usize>
+    requires { length (spell_node tree.now) ≤ long }
+    ensures { IfSome result (λ most. (length (spell_node tree.now) + length (flat_map spell_part lines.now) ≤ most) × (most ≤ limit)) }
+{
+    let lines = lines.as_slice();
+    match most_with(lines, long) {
+        Some(most) => Some(most),
+        None => most_with(lines, tree.len()),
+    }
 }

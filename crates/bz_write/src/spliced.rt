@@ -41,7 +41,8 @@ fn count_lines(items: &[Item]) -> usize
     count
 }
 
-/// The place of the last statement before another place, or the first place of all: a gap that begins there is that of all items.
+/// From which item on the gap before a place is made: from the last statement before it, or else from the first item of all. What
+/// stands above that item leaves nothing in it.
 fn last_statement(items: &[Item], from: usize) -> usize
     requires { from ≤ length items.now }
     ensures within { result ≤ from }
@@ -120,10 +121,10 @@ fn draw_window(
     Ok(lines)
 }
 
-/// The lines of the items that have come in the place of others behind the first `from` ones, as the layout of all items has them,
-/// and the line behind them, before which another gap may stand. Put there, they make the tree of the layout of all items, of that
-/// which had `count` parts before: there those of the lines that are gone, whichever these were, are counted by what is left of
-/// it. The error: a growth was refused.
+/// The lines of the `come` items that stand behind the first `from` ones, as the layout of all items has them, and the next line
+/// behind them, before which another gap may stand now. Where these items came in the place of any others in a file, the tree of
+/// whose layout had `count` parts, it is that of the layout of all items once these lines are put there. How many parts they
+/// replace is told by `count` and by the lines that are left behind them. The error: a growth was refused.
 pub fn redraw_spliced(
     alloc: Global,
     items: &[Item],
