@@ -9,9 +9,10 @@ use crate::laws::formatted_bzl_once;
 use bz_indent::{is_layout_within, is_same, layout_text, level};
 use bz_items::Text;
 use bz_journal::FormatFault;
+use bz_parse::parse_bzl;
 use bz_suite::{BzlFile, view_bzl};
 use bz_tree::laws::one_bzl_reading;
-use bz_tree::{LENGTH_LIMIT, ReadFault, parse_bzl};
+use bz_tree::{LENGTH_LIMIT, ReadFault};
 use std::alloc::Global;
 
 /// What is told of a text that is not read.

@@ -7,7 +7,8 @@ use crate::laws::formatted_once;
 use crate::meaning::{spelled, value_of, written};
 use bz_attribute::Refusal;
 use bz_items::Text;
-use bz_tree::{ReadFault, parse};
+use bz_parse::parse;
+use bz_tree::ReadFault;
 use std::alloc::Global;
 use thiserror::Error;
 

@@ -5,7 +5,7 @@ use Rattle.std.proofs.lemmas.List.{drop_more, drop_all}
 use Rattle.bz_tree.specs.declared.tree.Node.{Node}
 use Rattle.bz_tree.specs.Legal.{Reads}
 use Rattle.bz_tree.specs.Spell.{spell_node, limit}
-use Rattle.bz_tree.proofs.Accepts.{one_tree}
+use Rattle.bz_tree.proofs.Unique.{one_tree}
 use Rattle.bz_edit.specs.declared.edit.Edit.{Edit}
 use Rattle.bz_edit.specs.Steps.{swap_node}
 use Rattle.bz_trail.specs.Trails.{IsTree}

@@ -9,7 +9,7 @@ use Rattle.sha2.specs.Sha256.{sha256}
 use Rattle.bz_tree.specs.declared.tree.Node.{Node}
 use Rattle.bz_tree.specs.Legal.{Reads, NoTree}
 use Rattle.bz_tree.specs.Spell.{spell_node, limit, depth_limit}
-use Rattle.bz_tree.proofs.Accepts.{one_tree}
+use Rattle.bz_tree.proofs.Unique.{one_tree}
 use Rattle.bz_edit.specs.declared.edit.Edit.{Edit}
 use Rattle.bz_trail.specs.Trails.{Trail, IsTrail, IsSmall, trail_at}
 use Rattle.bz_trail.specs.Shown.{Moves, Text, texts_of}

@@ -3,7 +3,8 @@ ghost use Rattle.bz_tree.specs.Legal.{NoTree, Reads};
 ghost use Rattle.bz_resume.specs.declared.fault.Halt.TheVariants as h;
 
 use crate::fault::Halt;
-use bz_tree::{ReadFault, Tree, parse};
+use bz_parse::parse;
+use bz_tree::{ReadFault, Tree};
 use std::alloc::Global;
 
 /// The tree of a text.

@@ -16,7 +16,8 @@ use crate::placing::swap;
 use crate::reading::read;
 use bz_edit::{EditFault, Step};
 use bz_items::{Items, Memory};
-use bz_tree::{Node, ReadFault, Tree, parse};
+use bz_parse::parse;
+use bz_tree::{Node, ReadFault, Tree};
 use sha2::{Digest, Sha256};
 use std::alloc::{AllocError, Global};
 

@@ -13,22 +13,12 @@ pub mod Primary
 pub mod ExactSorts
 pub mod Ended
 pub mod Suites
-pub mod Files
-pub mod Steps
-pub mod Moves
-pub mod Deepest
-pub mod Climbs
 pub mod Flat
 pub mod Balance
 pub mod Both
-pub mod Accepts
+pub mod Unique
 pub mod Statements
 pub mod AllLines
-pub mod Rises
-pub mod Pushed
-mod Told
-pub mod Cutting
-pub mod Blocks
 pub mod Blanks
 pub mod Build
 pub mod Newer

@@ -17,9 +17,9 @@ fn has_newer(part: &Part) -> bool
     }
 }
 
-/// The same of parts.
+/// Whether one of the parts has a node of a kind that no BUILD file has, itself or further in.
 #[cycle(older)]
-pub(crate) fn have_newer(parts: &[Part]) -> bool
+pub fn have_newer(parts: &[Part]) -> bool
     ensures found { IsTrue result → AllByRecursion IsBuildPart parts.now → ⊥ }
     ensures none { (result ≡ false) → AllByRecursion IsBuildPart parts.now }
 {

@@ -3,7 +3,8 @@
 use bz_edit::advance;
 use bz_journal::{Session, history_kept, session_holds};
 use bz_label::{Label, LabelFault, Target, TargetFault, shorten, shorten_repeat};
-use bz_tree::{ReadFault, parse};
+use bz_parse::parse;
+use bz_tree::ReadFault;
 use sheets::{Case, CaseFault, Page};
 use std::alloc::Global;
 

@@ -5,8 +5,9 @@
 //! memory the process took at most. `spell` writes what the tree spells to standard output, and `layout` what it is laid out
 //! as, or the fault of a text that has none to standard error.
 use bz_lex::lex;
+use bz_parse::parse;
 use bz_tidy::tidy;
-use bz_tree::{ReadFault, Tree, parse};
+use bz_tree::{ReadFault, Tree};
 use bz_view::view;
 use bz_write::set;
 use std::alloc::Global;

@@ -1,5 +1,5 @@
 use Rattle.std.proofs.Common.{sym, ◌∙◌}
-use Rattle.bz_tree.proofs.Accepts.{one_bzl_tree}
+use Rattle.bz_tree.proofs.Unique.{one_bzl_tree}
 use Rattle.bz_tree.proofs.laws.one_bzl_reading.Goals as goal
 
 pub returns : goal.returns

@@ -1,0 +1,4 @@
+pub mod Words
+pub mod Symbols
+pub mod States
+pub mod Rows

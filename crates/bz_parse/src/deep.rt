@@ -1,0 +1,128 @@
+//! Where a text nests too deep. It is told with the fault; no clause speaks of the place.
+ghost use Rattle.std.specs.Prelude.{◌≡◌};
+
+use crate::state::{LAMBDA, NOT, Rung, Sort, UNARY, rung_at};
+use crate::token::{Leaves, Token};
+use bz_tree::{Part, first_of};
+
+/// Marks where the part, right before the next leaf, holds the first node inside more than so many levels.
+pub(crate) fn mark_part(part: &Part, depth: u32, leaves: &mut Leaves)
+    ensures { leaves.new ≡ leaves.old }
+{
+    let levels = depth as u64;
+    let mut length = 0;
+    let _ = finds_deeper(part, u64::MAX, &mut length);
+    let mut at = leaves.offset().saturating_sub(length);
+    let _ = finds_deeper(part, levels, &mut at);
+    leaves.mark_too_deep(at);
+}
+
+/// The byte at which the first token of the first node begins that is inside more than so many nodes, itself and the file
+/// counted, if there is one: in the statements with which a file begins, where it isn't read to its end.
+pub(crate) fn deeper_at(parts: &[Part], limit: u32) -> Option<usize> {
+    let mut at = 0;
+    let room = (limit as u64).saturating_sub(1);
+    for part in parts {
+        if matches!(part, Part::Leaf(_)) {
+            return None;
+        }
+        if finds_deeper(part, room, &mut at) {
+            return Some(at);
+        }
+    }
+    None
+}
+
+/// Marks the next leaf where it begins a node of this sort, for which there is no room.
+pub(crate) fn mark_next(sort: Sort, leaves: &mut Leaves)
+    ensures { leaves.new ≡ leaves.old }
+{
+    if let Some(at) = leaves.next_at()
+        && begins_node(sort, leaves)
+    {
+        leaves.mark_too_deep(at);
+    }
+}
+
+/// Whether the part has a node inside more than so many levels; `at`, the byte at which the part begins, is then the byte at
+/// which that node's first token begins, else the byte behind the part.
+#[cycle(deep)]
+fn finds_deeper(part: &Part, levels: u64, at: &mut usize) -> bool {
+    match part {
+        Part::Leaf(leaf) => {
+            *at = at
+                .saturating_add(leaf.gap.len())
+                .saturating_add(leaf.token.len());
+            false
+        }
+        Part::Node(node) => {
+            if levels == 0 {
+                *at = at.saturating_add(first_gap(node.parts.as_slice()));
+                return true;
+            }
+            finds_deeper_in(node.parts.as_slice(), levels - 1, at)
+        }
+    }
+}
+
+#[cycle(deep)]
+fn finds_deeper_in(parts: &[Part], levels: u64, at: &mut usize) -> bool {
+    for part in parts {
+        if finds_deeper(part, levels, at) {
+            return true;
+        }
+    }
+    false
+}
+
+/// How long the gap is before the first token of the parts.
+fn first_gap(parts: &[Part]) -> usize {
+    first_of(parts).map_or(0, |leaf| leaf.gap.len())
+}
+
+/// Whether a node of this sort begins with the next leaf and not with a leaf of it.
+fn begins_node(sort: Sort, leaves: &Leaves) -> bool {
+    match sort {
+        Sort::Level(n) => begins_level(n, leaves),
+        Sort::Argument => leaves.starts(Token::Stars) || begins_level(LAMBDA, leaves),
+        Sort::Loaded => leaves.starts(Token::Name),
+        Sort::Entry => leaves.starts(Token::Simple) || begins_level(LAMBDA, leaves),
+        Sort::Clause => leaves.starts(Token::Clauses),
+        Sort::FirstClause => leaves.starts(Token::For),
+        Sort::Small | Sort::Line => leaves.starts(Token::Statements),
+        Sort::Param => leaves.starts(Token::Stars),
+    }
+}
+
+fn begins_level(n: u8, leaves: &Leaves) -> bool {
+    leaves.starts(Token::OpenRound)
+        || leaves.starts(Token::OpenSquare)
+        || leaves.starts(Token::OpenCurly)
+        || (n >= UNARY && leaves.starts(Token::Signs))
+        || (n >= NOT && leaves.starts(Token::Not))
+        || (n >= LAMBDA && leaves.starts(Token::Lambda))
+}
+
+/// Whether a node of this sort goes on with the next leaf behind a leaf of it.
+pub(crate) fn goes_on(sort: Sort, leaves: &Leaves) -> bool {
+    match sort {
+        Sort::Level(n) => level_goes_on(n, leaves),
+        Sort::Argument => leaves.starts(Token::Equals) || level_goes_on(LAMBDA, leaves),
+        Sort::Param => leaves.starts(Token::Equals),
+        _ => false,
+    }
+}
+
+fn level_goes_on(n: u8, leaves: &Leaves) -> bool {
+    if leaves.starts(Token::Suffixes) {
+        return true;
+    }
+    for rank in 0..n {
+        if let Rung::Infix(token, _) = rung_at(rank)
+            && leaves.starts(token)
+        {
+            return true;
+        }
+    }
+    false
+}

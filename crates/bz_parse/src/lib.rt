@@ -1,0 +1,13 @@
+//! The parser: a text is read as the one legal tree that spells it, or refused with its first fault.
+#![tactic(auto)]
+
+mod deep;
+mod grammar;
+mod indented;
+mod parsing;
+mod row;
+mod state;
+mod symbol;
+mod token;
+
+pub use parsing::{parse, parse_bzl, unexpected_at};

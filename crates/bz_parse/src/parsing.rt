@@ -1,0 +1,182 @@
+//! Reading a text as the tree that spells it.
+ghost use Rattle.std.specs.Prelude.{◌≡◌, ◌↔◌, ◌≤◌, ◌<◌, ℕ, min, length, IfOk, IfErr, IsUtf8};
+ghost use Rattle.std.specs.Str.{IsValidUpTo};
+ghost use Rattle.bz_lex.specs.Positions.{line_at, column_of};
+ghost use Rattle.bz_tree.specs.Legal.{Reads, ReadsBzl, NoTree, NoBzlTree};
+ghost use Rattle.bz_tree.specs.Spell.{limit};
+ghost use Rattle.bz_tree.specs.Suites.{file_of};
+ghost use Rattle.bz_tree.specs.Faults.{IsOfText, IsOther};
+
+use crate::deep::deeper_at;
+use crate::indented::{file, read_so_far};
+use crate::row::Stack;
+use crate::token::{Halt, Leaves};
+use bz_lex::{DEPTH_LIMIT, LENGTH_LIMIT, ReadFault, fault_at, place_of};
+use bz_tree::{BzlTree, Kind, Tree};
+use std::alloc::Global;
+use std::str::from_utf8;
+
+/// Which files a text is read as one of. A BUILD file has no functions, no branches and no loops, and no line with an indent.
+#[derive(Clone, Copy)]
+enum Dialect {
+    Build,
+    Bzl,
+}
+
+/// Reads the text of a BUILD file as the legal tree that spells it.
+///
+/// Errors: `TooLarge` for a text past `LENGTH_LIMIT`; `NotUtf8` with the length of the longest beginning that is;
+/// `BadCharacter`, `OpenString`, `Indented`, `Unexpected` or `TooDeep` (a tree past `DEPTH_LIMIT`) with line and column of the
+/// first fault where no legal tree spells the text; `Memory` where a growth was refused.
+pub fn parse(alloc: Global, text: &[u8]) -> Result<Tree, ReadFault>
+    ensures ok { IfOk result (λ tree. Reads text.now tree) }
+    ensures too_large { (result ≡ Err ReadFault.TooLarge) ↔ (limit < length text.now) }
+    ensures not_utf8 { (at : ℕ) → ((result ≡ Err (ReadFault.NotUtf8 at)) ↔ ((length text.now ≤ limit) × IsValidUpTo text.now at)) }
+    ensures refused { IfErr result (λ fault. IsOfText fault → NoTree text.now) }
+{
+    if text.len() > LENGTH_LIMIT {
+        return Err(ReadFault::TooLarge);
+    }
+    if let Err(fault) = from_utf8(text) {
+        return Err(ReadFault::NotUtf8 {
+            at: fault.valid_up_to(),
+        });
+    }
+    build_tree_of(alloc, text)
+}
+
+/// Reads the text of a `.bzl` file as the legal tree that spells it. The errors are those of `parse`; `Indented` tells the first
+/// token of a line at an indent where no statement may begin: no deeper than the header right before it, or that of no open suite.
+pub fn parse_bzl(alloc: Global, text: &[u8]) -> Result<BzlTree, ReadFault>
+    ensures ok { IfOk result (λ tree. ReadsBzl text.now tree) }
+    ensures too_large { (result ≡ Err ReadFault.TooLarge) ↔ (limit < length text.now) }
+    ensures not_utf8 { (at : ℕ) → ((result ≡ Err (ReadFault.NotUtf8 at)) ↔ ((length text.now ≤ limit) × IsValidUpTo text.now at)) }
+    ensures refused { IfErr result (λ fault. IsOfText fault → NoBzlTree text.now) }
+{
+    if LENGTH_LIMIT < text.len() {
+        return Err(ReadFault::TooLarge);
+    }
+    if let Err(fault) = from_utf8(text) {
+        let at = fault.valid_up_to();
+        return Err(ReadFault::NotUtf8 { at });
+    }
+    bzl_tree_of(alloc, text)
+}
+
+/// The tree of the text of a BUILD file, of characters and within the limit, or a fault.
+fn build_tree_of(alloc: Global, text: &[u8]) -> Result<Tree, ReadFault>
+    requires within { length text.now ≤ limit }
+    requires coded { IsUtf8 text.now }
+    ensures ok { IfOk result (λ tree. Reads text.now tree) }
+    ensures other { IfErr result (λ fault. IsOther fault) }
+    ensures refused { IfErr result (λ fault. IsOfText fault → NoTree text.now) }
+{
+    let parts = match parts_of(alloc, Dialect::Build, text) {
+        Ok(parts) => parts,
+        Err(fault) => return Err(fault),
+    };
+    if parts.is_newer() {
+        return Err(newer_fault(alloc, text));
+    }
+    Ok(Tree {
+        root: parts.into_node(Kind::File),
+    })
+}
+
+/// The tree of the text of a `.bzl` file, of characters and within the limit, or a fault.
+fn bzl_tree_of(alloc: Global, text: &[u8]) -> Result<BzlTree, ReadFault>
+    requires within { length text.now ≤ limit }
+    requires coded { IsUtf8 text.now }
+    ensures ok { IfOk result (λ tree. ReadsBzl text.now tree) }
+    ensures other { IfErr result (λ fault. IsOther fault) }
+    ensures refused { IfErr result (λ fault. IsOfText fault → NoBzlTree text.now) }
+{
+    match parts_of(alloc, Dialect::Bzl, text) {
+        Ok(parts) => Ok(BzlTree {
+            root: parts.into_node(Kind::File),
+        }),
+        Err(fault) => Err(fault),
+    }
+}
+
+/// What the file holds of a text of characters within the limit, newer kinds in a BUILD file too, or the fault that stands
+/// first in it.
+fn parts_of(alloc: Global, dialect: Dialect, text: &[u8]) -> Result<Stack, ReadFault>
+    requires within { length text.now ≤ limit }
+    requires coded { IsUtf8 text.now }
+    ensures ok { IfOk result (λ parts. ReadsBzl text.now (file_of parts)) }
+    ensures other { IfErr result (λ fault. IsOther fault) }
+    ensures refused { IfErr result (λ fault. IsOfText fault → NoBzlTree text.now) }
+{
+    let mut leaves = Leaves::new(alloc, text);
+    match file(alloc, &mut leaves) {
+        Ok(parts) => Ok(parts),
+        Err(Halt::Memory) => Err(ReadFault::Memory),
+        Err(Halt::Unexpected) => Err(fault_before(alloc, dialect, text, &leaves)),
+    }
+}
+
+/// The fault for which no file goes on with the next of these leaves of a text.
+fn fault_before(alloc: Global, dialect: Dialect, text: &[u8], leaves: &Leaves) -> ReadFault
+    requires { length text.now ≤ limit }
+    ensures { IsOther result }
+{
+    if let Dialect::Build = dialect {
+        if let Some(at) = first_newer(alloc, text, leaves.offset()) {
+            return unexpected_at(text, at);
+        }
+    }
+    match leaves.too_deep_at() {
+        Some(at) => match first_too_deep(alloc, text) {
+            Ok(first) => too_deep(text, first.unwrap_or(at)),
+            Err(_) => ReadFault::Memory,
+        },
+        None => {
+            let stop = leaves.stopped_at(text);
+            fault_at(text, stop.at, stop.reason)
+        }
+    }
+}
+
+/// The fault of a text of statements of which no BUILD file has one.
+fn newer_fault(alloc: Global, text: &[u8]) -> ReadFault
+    requires { length text.now ≤ limit }
+    ensures { IsOther result }
+{
+    let first = first_newer(alloc, text, text.len());
+    unexpected_at(text, first.unwrap_or(0))
+}
+
+/// The byte at which the first token begins that no BUILD file has, among those that begin in so many bytes of a text.
+fn first_newer(alloc: Global, text: &[u8], until: usize) -> Option<usize>
+    requires { length text.now ≤ limit }
+{
+    let mut leaves = Leaves::new(alloc, text);
+    leaves.newer_within(until)
+}
+
+/// The byte at which the first node begins that is too deep, by a reading with room for twice the depth: what stands behind a
+/// node may put it deeper. Where the text is no file further on, the lines in front of that place tell. The error, `Memory`
+/// alone: a growth was refused.
+fn first_too_deep(alloc: Global, text: &[u8]) -> Result<Option<usize>, Halt>
+    requires { length text.now ≤ limit }
+{
+    let mut leaves = Leaves::new(alloc, text);
+    let read = read_so_far(alloc, 2 * DEPTH_LIMIT, &mut leaves)?;
+    Ok(deeper_at(read.as_slice(), DEPTH_LIMIT))
+}
+
+fn too_deep(text: &[u8], at: usize) -> ReadFault
+    ensures { IsOther result }
+{
+    let (line, column) = place_of(text, at.min(text.len()));
+    ReadFault::TooDeep { line, column }
+}
+
+/// The fault `Unexpected` with line and column, from 1, of the byte at `at` (past the last one: of the end).
+pub fn unexpected_at(text: &[u8], at: usize) -> ReadFault
+    ensures told { result ≡ ReadFault.Unexpected (min (line_at text.now (min at (length text.now))) u32.MAX) (min (column_of text.now (min at (length text.now))) u32.MAX) }
+{
+    let (line, column) = place_of(text, at.min(text.len()));
+    ReadFault::Unexpected { line, column }
+}
