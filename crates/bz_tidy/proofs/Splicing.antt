@@ -18,7 +18,7 @@ use Rattle.bz_tidy.specs.Exchanged.{item_tidied}
 use Rattle.bz_tidy.specs.Marks.{any_marked, leave_alone}
 use Rattle.bz_tidy.specs.Orders.{insert_by, sort_by}
 use Rattle.bz_tidy.specs.Passes.{arguments_in, is_run_load, labels_in, lists_in, load_precedes, loads, on_statement, on_taken, quoted, symbols_in, taken, tidied}
-use Rattle.bz_tidy.specs.Spliced.{IsWhole, begins_with_load, ends_with_load, tidied_within}
+use Rattle.bz_tidy.specs.Spliced.{StandsApart, begins_with_load, ends_with_load, tidied_within}
 use Rattle.bz_tidy.proofs.Composed.{SameAbove, arguments_above, composed_above, either_above, five_composed, labels_above, lists_above, quoted_above, symbols_above}
 use Rattle.bz_tidy.proofs.Cut.{sort_cut}
 use Rattle.bz_tidy.proofs.Exchanging.{never_before, never_behind, taken_kept}
@@ -153,7 +153,7 @@ sides_stay front middle back n m t =
     )
 
 -- where others were put into a tidy file, tidying them by themselves is tidying the whole
-pub within_tidied : (from gone come : ℕ) (before items : List Item) → tidied before ≡ before → IsSpliced from gone come before items → IsWhole from come items → tidied_within from come items ≡ tidied items
+pub within_tidied : (from gone come : ℕ) (before items : List Item) → tidied before ≡ before → IsSpliced from gone come before items → StandsApart from come items → tidied_within from come items ≡ tidied items
 within_tidied from gone come before items t h w =
     let front : List Item = take from items in
     let middle : List Item = take come (drop from items) in
@@ -213,7 +213,7 @@ last_load [] item = refl
 last_load (x ∷ []) item = refl
 last_load (x ∷ y ∷ ys) item = last_load (y ∷ ys) item
 
-pub whole_between : (start stop : ℕ) (items : List Item) → start ≤ stop → stop ≤ length items → ends_with_load (take start items) ≡ false → begins_with_load (drop stop items) ≡ false → IsWhole start (stop - start) items
+pub whole_between : (start stop : ℕ) (items : List Item) → start ≤ stop → stop ≤ length items → ends_with_load (take start items) ≡ false → begins_with_load (drop stop items) ≡ false → StandsApart start (stop - start) items
 whole_between start stop items a b n m =
     let sum : start + (stop - start) ≡ stop = omega (arith, a) in
     record {

@@ -2,7 +2,7 @@
 ghost use Rattle.std.specs.Prelude.{◌≡◌, ◌≤◌, ◌<◌, ◌+◌, ◌-◌, ℕ, List, false, drop, length, take, IfOk, IsTrue, OnOk};
 ghost use Rattle.bz_value.specs.Exchanged.{IsSpliced};
 ghost use Rattle.bz_tidy.specs.Passes.{tidied};
-ghost use Rattle.bz_tidy.specs.Spliced.{IsWhole, begins_with_load as begins_so, ends_with_load as ends_so, tidied_within};
+ghost use Rattle.bz_tidy.specs.Spliced.{StandsApart, begins_with_load as begins_so, ends_with_load as ends_so, tidied_within};
 
 use crate::runs::InRuns;
 use crate::tidying::tidy_items;
@@ -72,7 +72,7 @@ fn end_of_run(items: &[Item], at: usize) -> usize
 fn widened(file: &File, from: usize, come: usize) -> Window
     requires { from + come ≤ length file.now }
     ensures wider { (result.from ≤ from) × (from + come ≤ result.from + result.come) }
-    ensures whole { IsWhole result.from result.come file.now }
+    ensures whole { StandsApart result.from result.come file.now }
 {
     let items = file.items.as_slice();
     let start = start_of_run(items, from);
