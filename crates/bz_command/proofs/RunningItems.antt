@@ -1,5 +1,5 @@
 -- What commands make of the items of a file, item by item.
-use Rattle.std.proofs.Common.{◌≡◌, ◌≢◌, ◌≤◌, ℕ, zero, suc, Bool, true, false, List, [], ◌∷◌, ◌++◌, length, take, drop, refl, ap, arith}
+use Rattle.std.proofs.Common.{◌≡◌, ◌≤◌, Bool, true, false, List, [], ◌∷◌, ◌++◌, length, refl, ap, arith}
 use Rattle.std.specs.Prelude.{Result, Ok, Err}
 use Rattle.bz_value.specs.declared.value.Item.{Item}
 use Rattle.bz_attribute.specs.declared.refusal.Refusal.{Refusal}
@@ -14,13 +14,6 @@ NewItems = Result (List Item) Refusal
 abbrev pub with_front : List Item → NewItems → NewItems
 with_front front (Err refusal) = Err refusal
 with_front front (Ok items) = Ok (front ++ items)
-
--- where no items are left, none stays
-pub none_left : (marks : List Bool) (items : List Item) → length items ≡ 0 → unmarked marks items ≡ []
-none_left [] items over = refl
-none_left (true ∷ marks) [] over = refl
-none_left (false ∷ marks) [] over = refl
-none_left (mark ∷ marks) (item ∷ items) over = absurd (omega (arith, over))
 
 -- no more stay than there are
 no_more : (marks : List Bool) (items : List Item) → length (unmarked marks items) ≤ length items
@@ -38,14 +31,3 @@ all_kept (true ∷ marks) [] m h = refl
 all_kept (false ∷ marks) [] m h = refl
 all_kept (true ∷ marks) (item ∷ items) m h = let short = no_more marks items in absurd (omega (arith, short, h))
 all_kept (false ∷ marks) (item ∷ items) m h = ap (λ (xs : List Item). item ∷ xs) (all_kept marks items (omega (arith, m)) (omega (arith, h)))
-
--- ---- new
-
-longer : (at : ℕ) (new : Item) (items : List Item) → length (take at items ++ new ∷ drop at items) ≡ suc (length items)
-longer zero new items = refl
-longer (suc at) new [] = refl
-longer (suc at) new (item ∷ items) = ap suc (longer at new items)
-
--- with one more the items are others
-pub another : (at : ℕ) (new : Item) (items : List Item) → take at items ++ new ∷ drop at items ≢ items
-another at new items same = let more = longer at new items in let length_is = ap (λ (xs : List Item). length xs) same in omega (arith, more, length_is)

@@ -71,8 +71,8 @@ fn count_to_last(marks: &[bool]) -> usize
     count
 }
 
-/// From which item to which the marked ones stand, of which as many as `left` says are left once they are taken out. `None` where
-/// no mark is set.
+/// The items from the first marked one to the last: behind how many they stand, how many they are, and how many of them are left
+/// once the marked ones are taken out, where `left` is how many are left of all. `None` where no mark is set.
 fn window(marks: &[bool], left: usize) -> Option<Spliced>
     ensures { IfSome result (λ s. (items : List Item) → length marks.now ≡ length items → left ≡ length (unmarked marks.now items) → IsSpliced s.from s.gone s.come items (unmarked marks.now items)) }
 {
