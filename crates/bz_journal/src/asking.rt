@@ -36,7 +36,7 @@ fn run_beside(
     names: Option<&Names>,
     file: &File,
 ) -> Result<Outcome, Refusal>
-    requires { IfSome names.entry (λ index. IsIndexOf index.now file.now) }
+    requires { IfSome names (λ index. IsIndexOf index.now file.now) }
     ensures ok { IfOk result (λ outcome. (outcome.file ≡ None) → effect command.now target.now current.now (lines_of tree.now) file.now ≡ Ok file.now) }
     ensures printed { IfOk result (λ outcome. printed command.now target.now current.now (lines_of tree.now) file.now ≡ Ok outcome.printed) }
     ensures err { IfErr result (λ refusal. (effect command.now target.now current.now (lines_of tree.now) file.now ≡ Err refusal) ⊎ (refusal ≡ Refusal.Memory)) }
@@ -65,7 +65,7 @@ fn answer_of(
     file: &File,
 ) -> Option<Result<Reply, Refusal>>
     requires value { file.now ≡ view_of session.now.tree }
-    requires names { IfSome names.entry (λ index. IsIndexOf index.now file.now) }
+    requires names { IfSome names (λ index. IsIndexOf index.now file.now) }
     ensures { IfSome result (λ answer. (note : Bytes) → MakesOrWants (Action.Do command.now target.now) note (history_of session.now) answer (history_of session.now)) }
 {
     let alloc = session.alloc();
