@@ -83,7 +83,8 @@ impl<D: Digests + Drop> Session<D> {
         self.digests.make_room()?;
         self.notes.reserve(1)?;
         let cursor = self.cursor;
-        if !take_up_lines(&mut self.tree, &mut self.steps, cursor as usize, lines)? {
+        let taken = take_up_lines(&mut self.tree, &mut self.steps, cursor as usize, lines)?;
+        if !taken {
             return Ok(false);
         }
         self.digests.put_after(cursor as usize + 1, &self.tree);

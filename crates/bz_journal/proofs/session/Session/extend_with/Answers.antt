@@ -27,7 +27,7 @@ invariant_of-self-2 g c =
     c.put_after-2.ensures ∙ ap (λ (l : List Bytes). take c.self.inside.cursor l ++ c.in_ok-note.note ∷ []) c.reserve.ensures.items
     ∙ ap (λ (d : Bytes). take c.self.inside.cursor c.self.inside.notes.items ++ d ∷ []) (c.in_ok-note.ensures ∙ c.as_bytes.ensures.value) in
     let own : List Bytes = texts_of (trail_of s) in
-    let takes : TakesUp (trail_of s) next (trail_at c.take_up_lines.new.tree c.take_up_lines.new.steps.items (c.self.inside.cursor + 1)) = c.in_ok-take_up_lines.ensures.ok in
+    let takes : TakesUp (trail_of s) next (trail_at c.take_up_lines.new.tree c.take_up_lines.new.steps.items (c.self.inside.cursor + 1)) = c.in_ok-taken.ensures.ok c.if-not-taken.false in
     let e = extended c.texts_kept.ensures s next c.take_up_lines.new.tree c.take_up_lines.new.steps.items c.put_after-2.new.items.items c.args.note.now c.self.invariant.0 room (c.requires.short, search rules) takes notes in (
       HasExtended.session e,
       subst (λ (texts : List Bytes). g.D.Digests.are_of c.put_after.new.self texts)
