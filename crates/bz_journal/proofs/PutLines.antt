@@ -1,5 +1,5 @@
 -- Lines put in places of parts: whether they are those that stand there.
-use Rattle.std.proofs.Common.{◌≡◌, ◌↔◌, ◌<◌, ◌+◌, ◌∙◌, ℕ, zero, suc, List, [], ◌∷◌, ◌++◌, ◌≤◌, drop, length, slice_range, take, get_or, slice_set, refl, sym, ap, subst, arith, length-set}
+use Rattle.std.proofs.Common.{◌≡◌, ◌↔◌, ◌<◌, ◌+◌, ◌∙◌, ℕ, zero, suc, List, [], ◌∷◌, ◌++◌, ◌≤◌, drop, length, slice_range, take, get_or, slice_set, refl, sym, ap, subst, arith, append_assoc, length-set}
 use Rattle.std.proofs.lemmas.List.{append_cancel_left, append_cancel_right, get_or-set_same, get_or-set_other, set-get_or, take-append-drop}
 use Rattle.std.proofs.lemmas.List.Folds.{drop_split}
 use Rattle.bz_tree.specs.declared.kind.Kind.{Kind}
@@ -65,10 +65,12 @@ line_passed k places lines parts none d e within count same =
 pub across_stands : (at gone : ℕ) (lines parts : List Part) → at + gone ≤ length parts
     → (slice_range parts at (at + gone) ≡ lines) ↔ (take at parts ++ lines ++ drop (at + gone) parts ≡ parts)
 across_stands at gone lines parts within =
-    let there : take at parts ++ slice_range parts at (at + gone) ++ drop (at + gone) parts ≡ parts =
-    ap (λ (xs : List Part). take at parts ++ xs) (sym (drop_split parts at (at + gone) (omega arith))) ∙ take-append-drop at parts in (
-      λ same. ap (λ (xs : List Part). take at parts ++ xs ++ drop (at + gone) parts) (sym same) ∙ there,
-      λ stays. append_cancel_right (slice_range parts at (at + gone)) lines (drop (at + gone) parts) (append_cancel_left (take at parts) _ _ (there ∙ sym stays)),
+    let here : List Part = slice_range parts at (at + gone) in
+    let rest : List Part = drop (at + gone) parts in
+    let there : take at parts ++ here ++ rest ≡ parts =
+    append_assoc (take at parts) here rest ∙ ap (λ (xs : List Part). take at parts ++ xs) (sym (drop_split parts at (at + gone) (omega arith))) ∙ take-append-drop at parts in (
+      λ same. ap (λ (xs : List Part). take at parts ++ xs ++ rest) (sym same) ∙ there,
+      λ stays. append_cancel_left (take at parts) here lines (append_cancel_right (take at parts ++ here) (take at parts ++ lines) rest (there ∙ sym stays)),
     )
 
 -- ---- trees
