@@ -10,7 +10,7 @@ use Rattle.bz_tree.specs.Shapes.{is_kind}
 use Rattle.bz_value.specs.declared.value.Form.{Form}
 use Rattle.bz_value.specs.declared.value.Expr.{Expr, Token, Form', items-the_row-Expr}
 use Rattle.bz_value.specs.declared.value.Expr.TheVariants as e
-use Rattle.bz_value.specs.Gaps.{Bytes}
+use Rattle.bz_items.specs.Characters.{Bytes}
 use Rattle.bz_token.specs.declared.class.Class.TheVariants as c
 use Rattle.bz_rule.specs.Rules.{is_text, text_in, value_behind, value_named}
 use Rattle.bz_rule.specs.Values.{has_kind, parts_of, with_parts, on_row, on_third}

@@ -9,7 +9,7 @@ use Rattle.std.proofs.lemmas.Bool.{ltb-false, not-true}
 use Rattle.std.proofs.lemmas.List.Edits.{insert_end}
 use Rattle.bz_tree.specs.declared.kind.Kind.TheVariants as k
 use Rattle.bz_value.specs.declared.value.Expr.{Expr}
-use Rattle.bz_value.specs.Gaps.{Bytes}
+use Rattle.bz_items.specs.Characters.{Bytes}
 use Rattle.bz_rule.specs.Rules.{attribute, value_named}
 use Rattle.bz_rule.specs.Values.{has_kind}
 use Rattle.bz_attribute.specs.Attributes.{is_attribute, on_first_that, without_first, inserted}

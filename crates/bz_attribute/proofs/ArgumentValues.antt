@@ -5,7 +5,7 @@ use Rattle.std.specs.Option.{option_or}
 use Rattle.bz_token.specs.declared.class.Class.TheVariants as c
 use Rattle.bz_tree.specs.declared.kind.Kind.TheVariants as k
 use Rattle.bz_value.specs.declared.value.Expr.{Expr}
-use Rattle.bz_value.specs.Gaps.{Bytes}
+use Rattle.bz_items.specs.Characters.{Bytes}
 use Rattle.bz_rule.specs.Rules.{is_text, text_in, value_behind, value_named, attribute}
 use Rattle.bz_rule.specs.Values.{has_kind, parts_of, with_parts, on_third}
 use Rattle.bz_attribute.specs.Attributes.{is_attribute, on_first_that, on_value, with_value}

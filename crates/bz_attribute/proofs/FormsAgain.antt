@@ -12,7 +12,7 @@ use Rattle.bz_value.specs.declared.value.Expr.TheVariants as e
 use Rattle.bz_value.specs.declared.value.Expr.TheOpen as o
 use Rattle.bz_value.specs.declared.value.Expr.TheViews.{roll-Expr, out-Expr, roll-out-Expr}
 use Rattle.bz_value.specs.Comments.{HostComments}
-use Rattle.bz_value.specs.Gaps.{Bytes}
+use Rattle.bz_items.specs.Characters.{Bytes}
 use Rattle.bz_rule.specs.Rules.{value_behind, value_named, attribute}
 use Rattle.bz_rule.specs.Values.{has_kind, parts_of, items_of, with_parts, with_items, on_row, on_items}
 use Rattle.bz_rule.proofs.ProperChanges.{by_case}

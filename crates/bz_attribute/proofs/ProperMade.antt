@@ -16,7 +16,7 @@ use Rattle.bz_label.specs.Tables.{is_label_attribute}
 use Rattle.bz_label.specs.Read.{shortened}
 use Rattle.bz_value.specs.declared.value.Expr.{Expr, Token, Form'}
 use Rattle.bz_value.specs.Comments.{no_comments}
-use Rattle.bz_value.specs.Gaps.{Bytes}
+use Rattle.bz_items.specs.Characters.{Bytes, full_stop}
 use Rattle.bz_value.specs.Proper.{IsComment, AreComments, comments_of, has_break, is_sign, is_operator, behind_expr, ProperExpr, IsProperItem}
 use Rattle.bz_value.specs.Roots.{root}
 use Rattle.bz_value.specs.Roots as r
@@ -26,7 +26,6 @@ use Rattle.bz_words.specs.Quoted.{quoted_of}
 use Rattle.bz_words.proofs.NameTests.{identifiers_are_names}
 use Rattle.bz_words.proofs.Strings.{quoted_lexeme}
 use Rattle.bz_words.proofs.Utf8Texts.{quoted_utf8}
-use Rattle.bz_rule.specs.Characters.{full_stop}
 use Rattle.bz_rule.specs.Values.{has_kind, on_row}
 use Rattle.bz_rule.proofs.ProperChanges.{by_test, by_case, Strung}
 use Rattle.bz_rule.proofs.ProperItems.{IsValue, KeepsRow, row_within, value_within}

@@ -2,7 +2,7 @@
 use Rattle.std.specs.Prelude.{Bool, not, ◌&&◌, List, [], ◌∷◌, Option, Some, None, Result, codes, if◌then◌else◌, is_some}
 use Rattle.bz_tree.specs.declared.kind.Kind.TheVariants as k
 use Rattle.bz_value.specs.declared.value.Expr.{Expr}
-use Rattle.bz_value.specs.Gaps.{Bytes}
+use Rattle.bz_items.specs.Characters.{Bytes}
 use Rattle.bz_rule.specs.Rules.{value_named, attribute}
 use Rattle.bz_rule.specs.Values.{has_kind, on_row, on_third}
 use Rattle.bz_attribute.specs.declared.refusal.Refusal.{Refusal}

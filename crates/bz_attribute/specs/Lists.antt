@@ -7,7 +7,7 @@ use Rattle.bz_tree.specs.declared.kind.Kind.TheVariants as k
 use Rattle.bz_label.specs.Tables.{is_label_attribute}
 use Rattle.bz_label.specs.Read.{is_same, shortened}
 use Rattle.bz_value.specs.declared.value.Expr.{Expr}
-use Rattle.bz_value.specs.Gaps.{Bytes}
+use Rattle.bz_items.specs.Characters.{Bytes}
 use Rattle.bz_rule.specs.Rules.{body, text_in}
 use Rattle.bz_rule.specs.Values.{has_kind, has_class, parts_of, items_of, with_text, on_row, on_items}
 use Rattle.bz_words.specs.Quoted.{quoted_of}

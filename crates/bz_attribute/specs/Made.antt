@@ -13,9 +13,8 @@ use Rattle.bz_value.specs.declared.value.Expr.TheVariants as e
 use Rattle.bz_value.specs.declared.value.Item.{Item}
 use Rattle.bz_value.specs.declared.value.Item.TheVariants as i
 use Rattle.bz_value.specs.Comments.{no_comments}
-use Rattle.bz_value.specs.Gaps.{Bytes}
+use Rattle.bz_items.specs.Characters.{Bytes, full_stop}
 use Rattle.bz_words.specs.Quoted.{quoted_of}
-use Rattle.bz_rule.specs.Characters.{full_stop}
 use Rattle.bz_rule.specs.Values.{has_kind, on_row}
 
 abbrev pub token : Class → Bytes → Expr

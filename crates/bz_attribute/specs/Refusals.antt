@@ -1,6 +1,6 @@
 -- The names and the numbers of refusals.
 use Rattle.std.specs.Prelude.{ℕ, codes}
-use Rattle.bz_value.specs.Gaps.{Bytes}
+use Rattle.bz_items.specs.Characters.{Bytes}
 use Rattle.bz_attribute.specs.declared.refusal.Refusal.{Refusal}
 use Rattle.bz_attribute.specs.declared.refusal.Refusal.TheVariants.{Memory, TooLarge, TooDeep, NoTarget, NoAttribute, AttributeExists, NotAList, NotADict, NoSource, NameTaken, TooFar, Full, NoteTooLong}
 

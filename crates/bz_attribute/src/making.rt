@@ -4,7 +4,7 @@ ghost use Rattle.std.specs.List.{slice_split};
 ghost use Rattle.std.specs.Option.{option_map_or};
 ghost use Rattle.bz_tree.specs.declared.kind.Kind.TheVariants as k;
 ghost use Rattle.bz_tree.specs.Shapes.{rank};
-ghost use Rattle.bz_rule.specs.Characters.{full_stop};
+ghost use Rattle.bz_items.specs.Characters.{full_stop};
 ghost use Rattle.bz_rule.specs.Values.{with_text};
 ghost use Rattle.bz_attribute.specs.Made.{token, node, sequence, name, mark, shortened_in, string_text, string_of, list_of, binds_looser, operand, plus, function_of, argument_of, rule_made};
 

@@ -8,7 +8,7 @@ use Rattle.bz_tree.specs.declared.kind.Kind.TheVariants as k
 use Rattle.bz_tree.specs.Shapes.{is_class}
 use Rattle.bz_value.specs.declared.value.Expr.{Expr, Token, Form'}
 use Rattle.bz_value.specs.declared.value.Expr.TheVariants as e
-use Rattle.bz_value.specs.Gaps.{Bytes}
+use Rattle.bz_items.specs.Characters.{Bytes}
 use Rattle.bz_rule.specs.Rules.{text_in, is_text, value_behind}
 use Rattle.bz_rule.specs.Values.{parts_of, with_parts, with_text, on_row, on_first}
 use Rattle.bz_attribute.specs.Attributes.{is_attribute, has_attribute, on_first_that}

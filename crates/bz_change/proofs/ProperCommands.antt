@@ -4,7 +4,7 @@ use Rattle.std.specs.Prelude.{IfSome, Option, Ok, Err, if◌then◌else◌}
 use Rattle.bz_tree.specs.declared.kind.Kind.TheVariants as k
 use Rattle.bz_tree.specs.Shapes as s
 use Rattle.bz_value.specs.declared.value.Expr.{Expr}
-use Rattle.bz_value.specs.Gaps.{Bytes}
+use Rattle.bz_items.specs.Characters.{Bytes}
 use Rattle.bz_words.specs.Proper.{AreUtf8, IsAttribute}
 use Rattle.bz_words.specs.declared.command.Attributes.{Attributes}
 use Rattle.bz_words.specs.declared.command.Attributes.TheVariants as t

@@ -7,7 +7,7 @@ use Rattle.bz_token.specs.declared.class.Class.TheVariants as c
 use Rattle.bz_value.specs.declared.value.Form.{Form}
 use Rattle.bz_value.specs.declared.value.Expr.{Expr}
 use Rattle.bz_value.specs.declared.value.Expr.TheVariants as e
-use Rattle.bz_value.specs.Gaps.{Bytes}
+use Rattle.bz_items.specs.Characters.{Bytes}
 use Rattle.bz_rule.specs.Values.{has_class, items_of, text_of}
 use Rattle.bz_attribute.proofs.MakingForms as forms
 use Rattle.bz_change.specs.Changes.{is_decimal, are_texts}

@@ -3,7 +3,7 @@ use Rattle.std.proofs.Common.{◌≡◌, List, refl}
 use Rattle.std.specs.Prelude.{Option, Some, None, Ok, false, is_some, if◌then◌else◌}
 use Rattle.std.specs.Option.{option_map_or}
 use Rattle.bz_value.specs.declared.value.Expr.{Expr}
-use Rattle.bz_value.specs.Gaps.{Bytes}
+use Rattle.bz_items.specs.Characters.{Bytes}
 use Rattle.bz_rule.specs.Rules.{attribute}
 use Rattle.bz_change.specs.declared.settings.Setting.{Setting}
 use Rattle.bz_attribute.specs.Attributes.{with_value, with_new, put}

@@ -1,6 +1,6 @@
 -- A law of the commands on whole attributes.
 use Rattle.std.specs.Prelude.{◌≡◌, false, List, Ok}
-use Rattle.bz_value.specs.Gaps.{Bytes}
+use Rattle.bz_items.specs.Characters.{Bytes}
 use Rattle.bz_value.specs.declared.value.Expr.{Expr}
 use Rattle.bz_attribute.specs.Attributes.{has_attribute}
 use Rattle.bz_change.specs.Changes.{rename}

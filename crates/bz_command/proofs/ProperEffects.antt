@@ -11,7 +11,7 @@ use Rattle.bz_label.specs.declared.target.Which.TheVariants as t
 use Rattle.bz_value.specs.declared.value.Expr.{Expr}
 use Rattle.bz_value.specs.declared.value.Item.{Item}
 use Rattle.bz_value.specs.declared.value.Item.TheVariants as i
-use Rattle.bz_value.specs.Gaps.{Bytes}
+use Rattle.bz_items.specs.Characters.{Bytes}
 use Rattle.bz_value.specs.Proper.{IsProperItem}
 use Rattle.bz_words.specs.Proper.{IsKind, IsProperCommand}
 use Rattle.bz_words.specs.declared.command.Operation.{Operation}

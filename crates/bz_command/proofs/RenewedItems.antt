@@ -4,7 +4,7 @@ use Rattle.std.specs.Prelude.{Result, IfOk}
 use Rattle.std.proofs.lemmas.Bool.{and_parts}
 use Rattle.bz_value.specs.declared.value.Item.{Item}
 use Rattle.bz_value.specs.Exchanged.{is_bare, AreExchanged}
-use Rattle.bz_value.specs.Gaps.{Bytes}
+use Rattle.bz_items.specs.Characters.{Bytes}
 use Rattle.bz_words.specs.declared.command.Operation.{Operation}
 use Rattle.bz_words.specs.declared.command.Operation.TheVariants as w
 use Rattle.bz_words.specs.declared.command.RuleOperation.TheVariants as wr

@@ -2,7 +2,7 @@
 use Rattle.std.proofs.Common.{[], ◌∷◌, refl, ap}
 use Rattle.std.specs.Prelude.{codes, map}
 use Rattle.bz_value.specs.declared.value.Expr.{Expr}
-use Rattle.bz_value.specs.Gaps.{Bytes}
+use Rattle.bz_items.specs.Characters.{Bytes}
 use Rattle.bz_rule.specs.Values.{on_lists}
 use Rattle.bz_list.specs.Changes.{substituted_item, with_body}
 use Rattle.bz_command.specs.SmallValues.{Made, leaves, literal, string}

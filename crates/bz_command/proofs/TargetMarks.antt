@@ -6,7 +6,7 @@ use Rattle.bz_label.specs.declared.target.Which.TheVariants as t
 use Rattle.bz_value.specs.declared.value.Expr.{Expr}
 use Rattle.bz_value.specs.declared.value.Item.{Item}
 use Rattle.bz_value.specs.declared.value.Item.TheVariants as i
-use Rattle.bz_value.specs.Gaps.{Bytes}
+use Rattle.bz_items.specs.Characters.{Bytes}
 use Rattle.bz_rule.specs.Rules.{Call, Rule, dotted_name, named, has_kind, has_name}
 use Rattle.bz_command.specs.Targets.{is_rule, on_line, first_mark, meant}
 

@@ -1,7 +1,7 @@
 -- What commands make of the arguments of a rule that they are meant for.
 use Rattle.std.specs.Prelude.{List, Option, Ok}
 use Rattle.bz_value.specs.declared.value.Expr.{Expr}
-use Rattle.bz_value.specs.Gaps.{Bytes}
+use Rattle.bz_items.specs.Characters.{Bytes}
 use Rattle.bz_words.specs.declared.command.Operation.{Operation}
 use Rattle.bz_words.specs.declared.command.Operation.TheVariants as w
 use Rattle.bz_words.specs.declared.command.CommentOperation.{CommentOperation}

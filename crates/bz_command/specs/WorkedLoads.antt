@@ -6,7 +6,7 @@ use Rattle.bz_label.specs.declared.target.Which.TheVariants.{All, Name}
 use Rattle.bz_value.specs.declared.value.Expr.{Expr}
 use Rattle.bz_value.specs.declared.value.Item.{Item}
 use Rattle.bz_value.specs.declared.value.Item.TheVariants as i
-use Rattle.bz_value.specs.Gaps.{Bytes}
+use Rattle.bz_items.specs.Characters.{Bytes}
 use Rattle.bz_command.specs.SmallValues.{above, between_marks, block, call, commented_token, form, gives, literal, made, mark, name, rule, statement, string, token}
 
 abbrev load : List Expr → Item

@@ -9,8 +9,7 @@ use Rattle.bz_tree.specs.declared.kind.Kind.{Kind}
 use Rattle.bz_tree.specs.declared.kind.Kind.TheVariants as k
 use Rattle.bz_value.specs.declared.value.Expr.{Expr}
 use Rattle.bz_value.specs.Comments.{HostComments, no_comments}
-use Rattle.bz_value.specs.Characters.{line_feed}
-use Rattle.bz_value.specs.Gaps.{Bytes}
+use Rattle.bz_items.specs.Characters.{Bytes, line_feed}
 use Rattle.bz_value.specs.Proper.{comments_of}
 use Rattle.bz_words.specs.declared.command.Host.{Host}
 use Rattle.bz_words.specs.declared.command.Host.TheVariants as h

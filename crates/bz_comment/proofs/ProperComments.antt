@@ -11,14 +11,13 @@ use Rattle.bz_tree.specs.Shapes.{Sort}
 use Rattle.bz_tree.specs.Spots.{Spot}
 use Rattle.bz_value.specs.declared.value.Expr.{Expr, Token, Form'}
 use Rattle.bz_value.specs.declared.value.Item.TheVariants as i
-use Rattle.bz_value.specs.Characters.{line_feed, number_sign}
+use Rattle.bz_items.specs.Characters.{Bytes, line_feed, number_sign, space}
 use Rattle.bz_value.specs.Comments.{HostComments, no_comments}
 use Rattle.bz_value.specs.Commented.{with_comments}
-use Rattle.bz_value.specs.Gaps.{Bytes, trimmed}
+use Rattle.bz_value.specs.Gaps.{trimmed}
 use Rattle.bz_value.specs.Proper.{IsComment, AreComments, ProperExpr, comments_of, IsProperItem}
 use Rattle.bz_value.proofs.GapComments.{suffix_fine}
 use Rattle.bz_value.proofs.Lines.{NoneBefore, comment_stops}
-use Rattle.bz_words.specs.Characters.{space}
 use Rattle.bz_words.specs.Commands.{is_one_line}
 use Rattle.bz_words.specs.Proper.{IsHost}
 use Rattle.bz_words.specs.declared.command.Host.{Host}

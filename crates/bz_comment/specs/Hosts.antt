@@ -4,14 +4,13 @@ use Rattle.std.specs.Prelude.{ℕ, Bool, not, ◌&&◌, List, [], ◌∷◌, ◌
 use Rattle.std.specs.List.{find, list_any, flat_map}
 use Rattle.bz_tree.specs.declared.kind.Kind.TheVariants as k
 use Rattle.bz_value.specs.declared.value.Expr.{Expr}
-use Rattle.bz_value.specs.Characters.{line_feed, number_sign}
+use Rattle.bz_items.specs.Characters.{Bytes, line_feed, number_sign, space}
 use Rattle.bz_value.specs.Comments.{HostComments, no_comments}
 use Rattle.bz_value.specs.Commented.{with_comments}
-use Rattle.bz_value.specs.Gaps.{Bytes, trimmed}
+use Rattle.bz_value.specs.Gaps.{trimmed}
 use Rattle.bz_value.specs.Proper.{comments_of}
 use Rattle.bz_words.specs.declared.command.Host.{Host}
 use Rattle.bz_words.specs.declared.command.Host.TheVariants as h
-use Rattle.bz_words.specs.Characters.{space}
 use Rattle.bz_rule.specs.Rules.{attribute}
 use Rattle.bz_rule.specs.Values.{has_kind, items_of, on_row, on_items, above, with_above}
 use Rattle.bz_attribute.specs.declared.refusal.Refusal.{Refusal}

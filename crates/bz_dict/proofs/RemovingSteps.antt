@@ -4,7 +4,7 @@ use Rattle.std.specs.Prelude.{Option, Some, Ok, Err, if◌then◌else◌}
 use Rattle.std.specs.List.{filter, list_any}
 use Rattle.bz_tree.specs.declared.kind.Kind.TheVariants as k
 use Rattle.bz_value.specs.declared.value.Expr.{Expr}
-use Rattle.bz_value.specs.Gaps.{Bytes}
+use Rattle.bz_items.specs.Characters.{Bytes}
 use Rattle.bz_value.specs.Empty.{is_empty}
 use Rattle.bz_rule.specs.Rules.{attribute}
 use Rattle.bz_rule.specs.Values.{has_kind, items_of, on_items}

@@ -4,7 +4,7 @@ use Rattle.std.specs.List.{list_any, filter}
 use Rattle.bz_token.specs.declared.class.Class.TheVariants as c
 use Rattle.bz_tree.specs.declared.kind.Kind.TheVariants as k
 use Rattle.bz_value.specs.declared.value.Expr.{Expr}
-use Rattle.bz_value.specs.Gaps.{Bytes}
+use Rattle.bz_items.specs.Characters.{Bytes}
 use Rattle.bz_value.specs.Empty.{is_empty}
 use Rattle.bz_words.specs.declared.command.DictOperation.{DictOperation}
 use Rattle.bz_words.specs.declared.command.DictOperation.TheVariants as wd

@@ -9,7 +9,7 @@ use Rattle.std.specs.BTreeMap.{BTreeMap}
 use Rattle.std.specs.BTreeSet.{BTreeSet}
 use Rattle.std.specs.declared.alloc.Global.{Global}
 use Rattle.bz_value.specs.declared.value.Expr.{Expr}
-use Rattle.bz_value.specs.Gaps.{Bytes}
+use Rattle.bz_items.specs.Characters.{Bytes}
 use Rattle.bz_words.specs.declared.command.Entry.{Entry}
 use Rattle.bz_dict.specs.declared.entries.Change.{Change}
 use Rattle.bz_dict.specs.declared.entries.Change.TheVariants.{Add, Set}

@@ -1,7 +1,7 @@
 //! The keys of a dict, each with the place of its first entry, and a set of keys.
 ghost use Rattle.std.specs.Prelude.{◌≡◌, ◌||◌, ◌∷◌, ◌++◌, [], List, length, Some, IfOk, OnOk, if◌then◌else◌, bytes_eq};
 ghost use Rattle.std.specs.List.{list_any};
-ghost use Rattle.bz_value.specs.Gaps.{Bytes};
+ghost use Rattle.bz_items.specs.Characters.{Bytes};
 ghost use Rattle.bz_value.specs.declared.value.Expr.{Expr as Value};
 ghost use Rattle.bz_dict.specs.Dicts.{has_some_key};
 ghost use Rattle.bz_dict.specs.Keys.{AreIndexed, place_at as place_in, texts_of, is_chosen as has_chosen};

@@ -1,7 +1,7 @@
 -- An action leads to one answer and one history.
 use Rattle.std.proofs.Common.{◌≡◌, inl, inr, List, Option, Some, None, Result, Ok, Err, sym, ap, ◌∙◌, arith}
 use Rattle.bz_tree.specs.Laws.{OneReading}
-use Rattle.bz_value.specs.Gaps.{Bytes}
+use Rattle.bz_items.specs.Characters.{Bytes}
 use Rattle.bz_value.specs.declared.value.Item.{Item}
 use Rattle.bz_attribute.specs.declared.refusal.Refusal.{Refusal}
 use Rattle.bz_journal.specs.declared.action.Action.{Action}

@@ -7,7 +7,7 @@ use Rattle.std.specs.Cmp.Lexicographic.{slice_cmp}
 use Rattle.std.proofs.lemmas.Cmp.{nat_list_cmp_total}
 use Rattle.std.proofs.lemmas.List.Folds.{list_any-append}
 use Rattle.bz_tree.specs.Laws.{OneReading}
-use Rattle.bz_value.specs.Gaps.{Bytes}
+use Rattle.bz_items.specs.Characters.{Bytes}
 use Rattle.bz_files.specs.Folder.{Folder, SameBut, SameFolders, with_file, new_name}
 use Rattle.bz_label.specs.declared.target.Target.{Target}
 use Rattle.bz_line.specs.Asked.{Asked, Asking}

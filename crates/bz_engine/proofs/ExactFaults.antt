@@ -1,6 +1,6 @@
 -- Why operands and lines are refused, as their functions say it, but for patterns.
 use Rattle.std.proofs.Common.{◌≡◌, ◌⊎◌, inl, inr, List, [], ◌∷◌, ◌++◌, Result, Ok, Err, refl, sym, ap, subst, ◌∙◌}
-use Rattle.bz_value.specs.Gaps.{Bytes}
+use Rattle.bz_items.specs.Characters.{Bytes}
 use Rattle.bz_line.specs.Asked.{Asked, Refused, Usage, of_operand, no_command, no_target, no_line, joined, accepted, asked_by, asked_of, group_of}
 use Rattle.bz_line.specs.Refused.{IsPatternFault, IsFirstRefused, IsFirstFault, IsGroupFault, IsScriptFault}
 use Rattle.bz_line.specs.Script.{lines_in, operands_in, in_front, groups_of, some_groups, script_of}

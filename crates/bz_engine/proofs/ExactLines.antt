@@ -1,6 +1,6 @@
 -- Lists of lines that are the same but for what is left open.
 use Rattle.std.proofs.Common.{◌≡◌, inl, List, [], ◌∷◌, ◌++◌, refl, sym, subst}
-use Rattle.bz_value.specs.Gaps.{Bytes}
+use Rattle.bz_items.specs.Characters.{Bytes}
 use Rattle.bz_engine.specs.Exact.{SameLines}
 use Rattle.bz_engine.specs.Run.{World}
 

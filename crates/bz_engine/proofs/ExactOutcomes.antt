@@ -6,7 +6,7 @@ use Rattle.std.proofs.Math.Seq.{take-length}
 use Rattle.std.proofs.lemmas.Bool.{cases_lt}
 use Rattle.bz_lex.specs.declared.fault.ReadFault.TheVariants.{NotUtf8}
 use Rattle.bz_tree.specs.Laws.{OneReading}
-use Rattle.bz_value.specs.Gaps.{Bytes}
+use Rattle.bz_items.specs.Characters.{Bytes}
 use Rattle.bz_line.specs.Asked.{Asked, Refused, Usage, of_operand, group_of}
 use Rattle.bz_line.specs.Line.{Given, operands, script, LineUsage, of_clap, beside_script, beside_stdout, Line, line_of}
 use Rattle.bz_line.specs.Refused.{IsFirstFault}

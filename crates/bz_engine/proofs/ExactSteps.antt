@@ -1,7 +1,7 @@
 -- Steps of a run do one thing, and tell the same lines but for what is left open.
 use Rattle.std.proofs.Common.{◌≡◌, inl, inr, ℕ, List, [], ◌∷◌, ◌++◌, Option, Some, None, Bool, true≢false, refl, sym, ap, subst, ◌∙◌}
 use Rattle.bz_tree.specs.Laws.{OneReading}
-use Rattle.bz_value.specs.Gaps.{Bytes}
+use Rattle.bz_items.specs.Characters.{Bytes}
 use Rattle.bz_ports.specs.Ports.{IsInput}
 use Rattle.bz_ports.specs.Told.{stdin, fault_line}
 use Rattle.bz_journal.specs.History.{History, Answer}

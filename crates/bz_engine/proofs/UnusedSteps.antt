@@ -1,6 +1,6 @@
 -- What a run of status 1 leaves as it was.
 use Rattle.std.proofs.Common.{◌≡◌, ◌≢◌, inl, ℕ, List, Ok, IfOk, Result, arith, sym, subst}
-use Rattle.bz_value.specs.Gaps.{Bytes}
+use Rattle.bz_items.specs.Characters.{Bytes}
 use Rattle.bz_files.specs.Folder.{Folder, Elapses}
 use Rattle.bz_line.specs.Line.{script, Line, LineUsage, line_of}
 use Rattle.bz_engine.specs.Outcome.{StandApart, StandInNoFile, TakesNoInput, TakesNoFile}

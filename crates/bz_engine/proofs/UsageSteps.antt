@@ -2,7 +2,7 @@
 use Rattle.std.proofs.Common.{◌≡◌, ◌&&◌, inl, inr, ℕ, List, [], ◌∷◌, Option, Some, IfSome, Result, Ok, Err, Bool, true, refl, sym, ap, subst, ◌∙◌, bytes_eq}
 use Rattle.std.specs.Str.{IsUtf8, IsValidUpTo}
 use Rattle.bz_lex.specs.declared.fault.ReadFault.TheVariants.{NotUtf8}
-use Rattle.bz_value.specs.Gaps.{Bytes}
+use Rattle.bz_items.specs.Characters.{Bytes}
 use Rattle.bz_line.specs.Asked.{Asked, Usage, group_of}
 use Rattle.bz_line.specs.Line.{Given, script, Line, LineUsage, line_of}
 use Rattle.bz_line.specs.Refused.{IsGroupFault, IsScriptFault}

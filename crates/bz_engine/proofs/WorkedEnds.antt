@@ -21,7 +21,7 @@ use Rattle.bz_line.specs.declared.verb.OperandFault.{OperandFault}
 use Rattle.bz_line.specs.declared.verb.OperandFault.TheVariants.{BadTarget, Command}
 use Rattle.bz_line.specs.declared.verb.Verb.TheVariants.{Do, Undo, Redo}
 use Rattle.bz_ports.specs.Told.{stdin}
-use Rattle.bz_value.specs.Gaps.{Bytes}
+use Rattle.bz_items.specs.Characters.{Bytes}
 use Rattle.bz_words.specs.declared.command.AttributeOperation.TheVariants as wa
 use Rattle.bz_words.specs.declared.command.Operation.TheVariants as w
 use Rattle.bz_words.specs.declared.command.RuleOperation.TheVariants as wr

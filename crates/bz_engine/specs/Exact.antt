@@ -3,7 +3,7 @@
 use Rattle.std.specs.Prelude.{◌≡◌, ◌⊎◌, List, [], ◌∷◌, Some, Ok, Err}
 use Rattle.bz_lex.specs.declared.fault.ReadFault.{ReadFault}
 use Rattle.bz_tree.specs.Legal.{Accepted}
-use Rattle.bz_value.specs.Gaps.{Bytes}
+use Rattle.bz_items.specs.Characters.{Bytes}
 use Rattle.bz_files.specs.Folder.{SameFolders}
 use Rattle.bz_journal.specs.Faults.{IsFaultOf}
 use Rattle.bz_line.specs.Asked.{Refused, of_operand}

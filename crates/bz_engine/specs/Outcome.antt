@@ -4,7 +4,7 @@ use Rattle.std.specs.List.{All}
 use Rattle.std.specs.FinMap.{get}
 use Rattle.std.specs.Str.{IsUtf8, IsValidUpTo}
 use Rattle.bz_lex.specs.declared.fault.ReadFault.TheVariants.{NotUtf8}
-use Rattle.bz_value.specs.Gaps.{Bytes}
+use Rattle.bz_items.specs.Characters.{Bytes}
 use Rattle.bz_files.specs.Folder.{Folder}
 use Rattle.bz_line.specs.Asked.{Asked, Usage, group_of}
 use Rattle.bz_line.specs.Line.{Given, operands, script, LineUsage, Line, line_of}

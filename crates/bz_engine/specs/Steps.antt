@@ -1,7 +1,7 @@
 -- What a line asks for, step by step.
 use Rattle.std.specs.Prelude.{List, map, codes, Bool, not, ◌&&◌, bytes_eq, Option, Some, None}
 use Rattle.std.specs.List.{flat_map, list_any}
-use Rattle.bz_value.specs.Gaps.{Bytes}
+use Rattle.bz_items.specs.Characters.{Bytes}
 use Rattle.bz_label.specs.declared.target.Target.{Target}
 use Rattle.bz_journal.specs.declared.action.Action.{Action}
 use Rattle.bz_journal.specs.declared.action.Action.TheVariants as a

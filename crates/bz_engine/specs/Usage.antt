@@ -2,7 +2,7 @@
 use Rattle.std.specs.Prelude.{◌≡◌, ◌⊎◌, ◌&&◌, ℕ, List, [], ◌∷◌, codes, bytes_eq, Bool, true, Option, Some, None, Result, Ok, Err}
 use Rattle.std.specs.Str.{IsUtf8, IsValidUpTo}
 use Rattle.bz_lex.specs.declared.fault.ReadFault.TheVariants.{NotUtf8}
-use Rattle.bz_value.specs.Gaps.{Bytes}
+use Rattle.bz_items.specs.Characters.{Bytes}
 use Rattle.bz_line.specs.Asked.{Asked, Usage, group_of}
 use Rattle.bz_line.specs.Line.{Given, operands, script, Line, LineUsage}
 use Rattle.bz_line.specs.Refused.{IsGroupFault, IsScriptFault}

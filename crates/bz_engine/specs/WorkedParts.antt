@@ -7,7 +7,7 @@ use Rattle.bz_journal.specs.History.{changed, undone, redone}
 use Rattle.bz_journal.specs.declared.action.Reply.TheVariants.{Changed, Same, Printed, Moved}
 use Rattle.bz_line.specs.Asked.{Asked, Usage, group_of}
 use Rattle.bz_ports.specs.Told.{stdin}
-use Rattle.bz_value.specs.Gaps.{Bytes}
+use Rattle.bz_items.specs.Characters.{Bytes}
 use Rattle.bz_workspace.specs.Found.{found_in, first_name, second_name}
 use Rattle.bz_workspace.specs.Opens.{fresh}
 use Rattle.bz_workspace.specs.Packages.{Opened, Used, place_of}

@@ -6,7 +6,7 @@ use Rattle.bz_journal.specs.Meaning.{gives, Means}
 use Rattle.bz_label.specs.declared.target.Which.TheVariants.{Name}
 use Rattle.bz_line.specs.Line.{line_of}
 use Rattle.bz_tree.specs.Legal.{Accepted}
-use Rattle.bz_value.specs.Gaps.{Bytes}
+use Rattle.bz_items.specs.Characters.{Bytes}
 use Rattle.bz_words.specs.declared.command.AttributeOperation.TheVariants as wa
 use Rattle.bz_words.specs.declared.command.Operation.TheVariants as w
 use Rattle.bz_workspace.specs.Found.{found_in}

@@ -10,7 +10,8 @@ use Rattle.hex.specs.Hex.{encode_lower, decode_sized}
 use Rattle.hex.specs.declared.error.FromHexError.{FromHexError}
 use Rattle.hex.proofs.HexLemmas.{decode_of-ok, decode_sized-twice, decode_sized-encode_lower, length-encode_with}
 use Rattle.hex.specs.Hex.{lower_digits}
-use Rattle.bz_token.specs.Bytes.{is_digit, line_feed}
+use Rattle.bz_items.specs.Characters.{line_feed}
+use Rattle.bz_token.specs.Bytes.{is_digit}
 use Rattle.bz_exact.specs.Spellings.{counted_text, IsDigest, number_limit, numeral}
 use Rattle.bz_exact.specs.Laws.{IsExact}
 use Rattle.bz_exact.specs.Readers.{◌>>=◌, Reader, after_mark, field_at, number_at, ok_value, digest_at, repeated, counted_at, listed_at, tested, up_to}

@@ -6,7 +6,7 @@ use Rattle.std.proofs.lemmas.Bool.{cases_Bool, eqb-true}
 use Rattle.std.proofs.lemmas.Bool.Decides.{nat_tests}
 use Rattle.std.proofs.lemmas.List.Quantifiers.{position-Some}
 use Rattle.std.proofs.lemmas.List.Sums.{fails_before_first}
-use Rattle.bz_token.specs.Bytes.{line_feed}
+use Rattle.bz_items.specs.Characters.{line_feed}
 use Rattle.bz_exact.specs.Laws.{IsExact}
 use Rattle.bz_exact.specs.Spellings.{IsLine}
 use Rattle.bz_exact.specs.Readers.{ended_line_at}

@@ -1,7 +1,8 @@
 -- Which readers are exact, and what that says.
 use Rattle.std.specs.Prelude.{◌≡◌, ℕ, ◌<◌, false, List, [], ◌∷◌, ◌++◌, length, Some}
 use Rattle.hex.specs.Hex.{encode_lower}
-use Rattle.bz_token.specs.Bytes.{is_digit, line_feed}
+use Rattle.bz_items.specs.Characters.{line_feed}
+use Rattle.bz_token.specs.Bytes.{is_digit}
 use Rattle.bz_exact.specs.Spellings.{counted_text, IsDigest, IsLine, number_limit, numeral}
 use Rattle.bz_exact.specs.Readers.{counted_at, digest_at, field_at, ended_line_at, number_at, Reader}
 

@@ -3,7 +3,8 @@ use Rattle.std.specs.Prelude.{ℕ, zero, suc, ◌+◌, ◌-◌, ◌*◌, Bool, L
 use Rattle.std.specs.Str.{bytes_eq}
 use Rattle.hex.specs.Hex.{encode_lower, decode_sized}
 use Rattle.hex.specs.declared.error.FromHexError.{FromHexError}
-use Rattle.bz_token.specs.Bytes.{is_digit, line_feed}
+use Rattle.bz_items.specs.Characters.{line_feed}
+use Rattle.bz_token.specs.Bytes.{is_digit}
 use Rattle.bz_exact.specs.Spellings.{digit_zero, number_limit}
 
 infixl 10 ◌>>=◌

@@ -2,7 +2,7 @@
 use Rattle.std.specs.Prelude.{◌≡◌, ◌≢◌, ℕ, ◌^◌, List, [], ◌∷◌, ◌++◌, length, decimal}
 use Rattle.std.specs.List.{AllByRecursion}
 use Rattle.hex.specs.Hex.{IsBytes}
-use Rattle.bz_token.specs.Bytes.{line_feed}
+use Rattle.bz_items.specs.Characters.{line_feed}
 
 -- numbers are below it
 abbrev pub number_limit : ℕ

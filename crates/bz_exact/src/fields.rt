@@ -1,6 +1,6 @@
 //! Fields: each function takes one from the front of the bytes, and gives what stands after it. None of them allocates.
 ghost use Rattle.std.specs.Prelude.{◌≡◌, ◌∷◌, ◌<◌, ◌≤◌, ◌^◌, [], ℕ, Bool, nat_eq, position, IfOk, MatchOption, Some, None};
-ghost use Rattle.bz_token.specs.Bytes.{line_feed};
+ghost use Rattle.bz_items.specs.Characters.{line_feed};
 ghost use Rattle.bz_exact.specs.Outcomes.{Gives};
 ghost use Rattle.bz_exact.specs.Readers.{after_mark, counted_at, digest_at, digits_at, field_at, ended_line_at, number_at, up_to};
 

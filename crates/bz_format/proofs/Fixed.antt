@@ -3,7 +3,7 @@ use Rattle.std.proofs.Common.{◌≡◌, sym, ap, ◌∙◌, subst}
 use Rattle.bz_tree.specs.declared.tree.Node.{Node}
 use Rattle.bz_tree.specs.Laws.{OneBzlReading}
 use Rattle.bz_tree.specs.Legal.{ReadsBzl}
-use Rattle.bz_value.specs.Gaps.{Bytes}
+use Rattle.bz_items.specs.Characters.{Bytes}
 use Rattle.bz_suite.specs.Kept.{BzlCommentsKept, bzl_times}
 use Rattle.bz_suite.specs.View.{bzl_view_of}
 use Rattle.bz_indent.specs.Laws.{LevelKeepsComments, LevelStays}

@@ -17,7 +17,8 @@ use Rattle.bz_tree.proofs.Balance.{no_such, parts_of_row}
 use Rattle.bz_tree.proofs.Numbers.{same_kind}
 use Rattle.bz_value.specs.Comments.{HostComments}
 use Rattle.bz_value.specs.Frames.{frame}
-use Rattle.bz_value.specs.Gaps.{Bytes, GapLine, lines_of, behind_first, groups_of, all_but_last, last_group}
+use Rattle.bz_items.specs.Characters.{Bytes}
+use Rattle.bz_value.specs.Gaps.{GapLine, lines_of, behind_first, groups_of, all_but_last, last_group}
 use Rattle.bz_view.specs.View as v
 use Rattle.bz_view.specs.View.{Seen, seen, seen_row, first_gap, blocks, statement, statements_in, file_items, view_of}
 use Rattle.bz_view.proofs.SeenParts.{seen_rows, node_gap, comments_made}

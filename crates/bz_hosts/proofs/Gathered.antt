@@ -1,7 +1,8 @@
 -- The texts that a place gathers from the comments of a gap, and places that differ.
 use Rattle.std.proofs.Common.{◌≡◌, ℕ, suc, ◌+◌, Bool, true, false, List, [], ◌∷◌, ◌++◌, inl, inr, refl, sym, ap, ◌∙◌, map, if◌then◌else◌}
 use Rattle.std.proofs.lemmas.Bool.{cases_Bool, eq-eqb, ne_eqb}
-use Rattle.bz_value.specs.Gaps.{Bytes, GapLine, lines_of, listed, behind_first, comments_in, first_comment, suffix_in, others_in, all_in}
+use Rattle.bz_items.specs.Characters.{Bytes}
+use Rattle.bz_value.specs.Gaps.{GapLine, lines_of, listed, behind_first, comments_in, first_comment, suffix_in, others_in, all_in}
 use Rattle.bz_hosts.specs.Hosts.{Region, Comment, comments_at, Place, suffix_of, above, end_of, outside, same_place, place_of, texts_at}
 
 -- ---- places

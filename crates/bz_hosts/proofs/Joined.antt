@@ -1,6 +1,6 @@
 -- Texts joined of several, most of which are none.
 use Rattle.std.proofs.Common.{◌≡◌, List, [], ◌++◌, sym, ◌∙◌, refl, append_assoc, append-nil}
-use Rattle.bz_value.specs.Gaps.{Bytes}
+use Rattle.bz_items.specs.Characters.{Bytes}
 
 abbrev pub Lines : Type 0
 Lines = List Bytes

@@ -10,7 +10,8 @@ use Rattle.bz_tree.specs.Shapes as s
 use Rattle.bz_tree.specs.Shapes.{Fits, shape}
 use Rattle.bz_tree.specs.Legal.{IsSort, LegalPart, LegalRow}
 use Rattle.bz_value.specs.Frames.{Frame, row, sequence, frame, lead}
-use Rattle.bz_value.specs.Gaps.{Bytes, all_in}
+use Rattle.bz_items.specs.Characters.{Bytes}
+use Rattle.bz_value.specs.Gaps.{all_in}
 use Rattle.bz_value.proofs.GapComments.{all_joined}
 use Rattle.bz_view.specs.View.{Seen, seen, plain, loose_in, items_in}
 use Rattle.bz_view.proofs.SeenParts.{all_parted}

@@ -1,7 +1,8 @@
 -- Groups of comment lines, told by the numbers of the lines.
 use Rattle.std.proofs.Common.{◌≡◌, ℕ, zero, suc, Bool, true, false, ◌&&◌, List, [], ◌∷◌, ◌++◌, Option, None, Some, length, refl, sym, ap, ◌∙◌, map, append_assoc, if◌then◌else◌}
 use Rattle.std.proofs.lemmas.List.{map-append}
-use Rattle.bz_value.specs.Gaps.{Bytes, GapLine, listed, before_groups, groups_of, all_but_last, last_group}
+use Rattle.bz_items.specs.Characters.{Bytes}
+use Rattle.bz_value.specs.Gaps.{GapLine, listed, before_groups, groups_of, all_but_last, last_group}
 use Rattle.bz_hosts.specs.Hosts.{comment_on, with_last, right_above, unless_comment, bare_lines}
 
 -- ---- what one line more on top adds

@@ -10,7 +10,7 @@ use Rattle.bz_tree.specs.Shapes.{Fits, shape}
 use Rattle.bz_tree.specs.Spell.{leaves_part, leaves_row}
 use Rattle.bz_tree.specs.Legal.{IsSort, LegalPart, LegalRow}
 use Rattle.bz_value.specs.Frames.{frame}
-use Rattle.bz_value.specs.Gaps.{Bytes}
+use Rattle.bz_items.specs.Characters.{Bytes}
 use Rattle.bz_view.specs.View.{seen, seen_row, first_gap}
 use Rattle.bz_view.proofs.SeenParts.{node_gap}
 use Rattle.bz_hosts.specs.Hosts.{Comment, comments_at, comments_from, Measured, sizes, measured, measured_row}

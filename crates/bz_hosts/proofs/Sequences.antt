@@ -11,7 +11,8 @@ use Rattle.bz_tree.specs.Shapes as s
 use Rattle.bz_tree.specs.Shapes.{Terminal}
 use Rattle.bz_value.specs.declared.value.Expr.{Expr}
 use Rattle.bz_value.specs.Comments.{HostComments}
-use Rattle.bz_value.specs.Gaps.{Bytes, listed, suffix_in, others_in, all_in}
+use Rattle.bz_items.specs.Characters.{Bytes}
+use Rattle.bz_value.specs.Gaps.{listed, suffix_in, others_in, all_in}
 use Rattle.bz_value.specs.Proper.{comments_of}
 use Rattle.bz_view.specs.View.{seen, plain, items_in}
 use Rattle.bz_view.proofs.SeenParts.{comments_made}

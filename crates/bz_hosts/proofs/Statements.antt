@@ -6,7 +6,8 @@ use Rattle.bz_tree.specs.declared.tree.Part.{Part, Node'}
 use Rattle.bz_tree.specs.declared.tree.Part.TheVariants as p
 use Rattle.bz_tree.specs.Shapes as s
 use Rattle.bz_value.specs.declared.value.Item.{Item}
-use Rattle.bz_value.specs.Gaps.{Bytes, GapLine, lines_of, listed, behind_first, comments_in, first_comment, suffix_in, others_in, all_in}
+use Rattle.bz_items.specs.Characters.{Bytes}
+use Rattle.bz_value.specs.Gaps.{GapLine, lines_of, listed, behind_first, comments_in, first_comment, suffix_in, others_in, all_in}
 use Rattle.bz_view.specs.View.{seen, plain, statement, statements_in}
 use Rattle.bz_view.proofs.QuietGaps.{Quiet}
 use Rattle.bz_hosts.specs.Hosts.{Region, host, Comment, comments_at, sizes, measured, is_item, hosts_from, Place, suffix_of, above, outside, texts_at, hosted_at, inside_expr, inside_item}

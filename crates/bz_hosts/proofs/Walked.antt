@@ -6,7 +6,8 @@ use Rattle.bz_lex.specs.declared.leaf.Leaf.{Leaf}
 use Rattle.bz_tree.specs.declared.tree.Part.{Part, Node'}
 use Rattle.bz_tree.specs.declared.tree.Part.TheVariants as p
 use Rattle.bz_tree.specs.Spell.{leaves_part}
-use Rattle.bz_value.specs.Gaps.{Bytes, GapLine, lines_of, behind_first, groups_of, all_but_last, last_group}
+use Rattle.bz_items.specs.Characters.{Bytes}
+use Rattle.bz_value.specs.Gaps.{GapLine, lines_of, behind_first, groups_of, all_but_last, last_group}
 use Rattle.bz_hosts.specs.Hosts.{Region, Comment, in_line, Hosted, hosted_at, alone, with_group, lines_before, right_above, bare_lines, hosted_from}
 use Rattle.bz_hosts.proofs.Numbered.{all_numbered, alone_numbered, last_numbered}
 use Rattle.bz_hosts.proofs.Parts.{size, size_leaves, Solid}

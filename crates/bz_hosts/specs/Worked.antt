@@ -8,7 +8,7 @@ use Rattle.bz_tree.specs.declared.tree.Node.{Node}
 use Rattle.bz_tree.specs.declared.tree.Part.{Part}
 use Rattle.bz_tree.specs.declared.tree.Part.TheVariants as p
 use Rattle.bz_tree.specs.Spell.{spell_node}
-use Rattle.bz_value.specs.Gaps.{Bytes}
+use Rattle.bz_items.specs.Characters.{Bytes}
 use Rattle.bz_hosts.specs.Hosts.{Hosted, block, hosted, ended, hosted_in}
 
 -- ---- trees: each leaf with the gap before it

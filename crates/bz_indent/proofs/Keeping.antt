@@ -4,7 +4,7 @@ use Rattle.bz_value.specs.declared.value.Expr.{Expr}
 use Rattle.bz_value.specs.declared.value.Expr.TheVariants as e
 use Rattle.bz_value.specs.declared.value.Form.{Form}
 use Rattle.bz_value.specs.Counted.{total, amount, host_amount, one_if}
-use Rattle.bz_value.specs.Gaps.{Bytes}
+use Rattle.bz_items.specs.Characters.{Bytes}
 use Rattle.bz_value.proofs.Totals.{form_amount}
 use Rattle.bz_write.specs.Flags.{with_flags}
 use Rattle.bz_tidy.specs.Laws.{FlagsSettle}

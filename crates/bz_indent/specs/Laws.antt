@@ -1,6 +1,6 @@
 -- Laws of the pass over a .bzl file.
 use Rattle.std.specs.Prelude.{◌≡◌, List}
-use Rattle.bz_value.specs.Gaps.{Bytes}
+use Rattle.bz_items.specs.Characters.{Bytes}
 use Rattle.bz_suite.specs.declared.value.BzlItem.{BzlItem}
 use Rattle.bz_suite.specs.Kept.{bzl_times}
 use Rattle.bz_indent.specs.Level.{level}

@@ -1,6 +1,6 @@
 //! How long the layout of a .bzl file is. It is counted, not written.
 ghost use Rattle.std.specs.Prelude.{◌≡◌, ◌+◌, ◌<◌, ◌≤◌, ◌↔◌, ◌∷◌, [], IsTrue, IfOk, length, if◌then◌else◌};
-ghost use Rattle.bz_value.specs.Characters.{line_feed};
+ghost use Rattle.bz_items.specs.Characters.{line_feed};
 ghost use Rattle.bz_indent.specs.Layout as layout;
 ghost use Rattle.bz_indent.specs.Layout.{bzl_layout};
 

@@ -1,6 +1,6 @@
 //! The layout of what a .bzl file says, as text.
 ghost use Rattle.std.specs.Prelude.{◌≡◌, ◌++◌, OnOk, IfOk, replicate};
-ghost use Rattle.bz_value.specs.Characters.{space};
+ghost use Rattle.bz_items.specs.Characters.{space};
 ghost use Rattle.bz_indent.specs.Layout as layout;
 ghost use Rattle.bz_indent.specs.Layout.{bzl_layout};
 

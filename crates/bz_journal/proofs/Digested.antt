@@ -7,7 +7,7 @@ use Rattle.bz_tree.specs.declared.tree.Node.{Node}
 use Rattle.bz_trail.specs.Shown.{texts_of}
 use Rattle.bz_edit.specs.declared.edit.Edit.{Edit}
 use Rattle.bz_trail.specs.Trails.{trail_at}
-use Rattle.bz_value.specs.Gaps.{Bytes}
+use Rattle.bz_items.specs.Characters.{Bytes}
 
 pub put_one : (n : ℕ) (digests made texts : List Bytes) (text digest : Bytes) → digests ≡ map sha256 texts → digest ≡ sha256 text → made ≡ take n digests ++ digest ∷ []
     → made ≡ map sha256 (take n texts ++ text ∷ [])

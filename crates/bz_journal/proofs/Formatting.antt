@@ -9,7 +9,7 @@ use Rattle.bz_tree.specs.Spell.{depth_of, depth_limit, limit}
 use Rattle.bz_value.specs.Counted.{times}
 use Rattle.bz_tree.specs.Laws.{OneReading}
 use Rattle.bz_value.specs.declared.value.Item.{Item}
-use Rattle.bz_value.specs.Gaps.{Bytes}
+use Rattle.bz_items.specs.Characters.{Bytes}
 use Rattle.bz_value.specs.Proper.{IsProper}
 use Rattle.bz_view.specs.Kept.{CommentsKept}
 use Rattle.bz_view.specs.View.{view_of}

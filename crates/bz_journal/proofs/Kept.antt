@@ -8,7 +8,7 @@ use Rattle.bz_trail.specs.Trails.{IsSmall, trail_at}
 use Rattle.bz_trail.specs.Shown.{TakesUp, TrailsKeep, texts_of}
 use Rattle.bz_record.specs.Texts.{IsNote}
 use Rattle.bz_record.specs.declared.content.Version.TheVariants.{Two}
-use Rattle.bz_value.specs.Gaps.{Bytes}
+use Rattle.bz_items.specs.Characters.{Bytes}
 use Rattle.bz_journal.specs.History.{History, IsKept, changed, most_steps, present}
 use Rattle.bz_journal.specs.State.{State, IsSession, trail_of}
 use Rattle.bz_journal.specs.Shown.{history_of}

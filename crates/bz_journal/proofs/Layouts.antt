@@ -8,7 +8,7 @@ use Rattle.bz_tree.specs.Laws.{OneReading}
 use Rattle.bz_tree.specs.Statements.{lines_of}
 use Rattle.bz_label.specs.declared.target.Target.{Target}
 use Rattle.bz_value.specs.declared.value.Item.{Item}
-use Rattle.bz_value.specs.Gaps.{Bytes}
+use Rattle.bz_items.specs.Characters.{Bytes}
 use Rattle.bz_value.specs.Proper.{IsProper}
 use Rattle.bz_view.specs.View.{view_of}
 use Rattle.bz_view.specs.Laws.{ViewsAreProper}

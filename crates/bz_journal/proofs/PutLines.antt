@@ -11,7 +11,7 @@ use Rattle.bz_tree.specs.Places.{Ascend, put_all}
 use Rattle.bz_tree.specs.Spell.{spell_node}
 use Rattle.bz_trail.specs.Trails.{IsTree}
 use Rattle.bz_value.specs.declared.value.Item.{Item}
-use Rattle.bz_value.specs.Gaps.{Bytes}
+use Rattle.bz_items.specs.Characters.{Bytes}
 use Rattle.bz_value.specs.Proper.{IsProper}
 use Rattle.bz_write.specs.Drawn.{drawn}
 use Rattle.bz_write.specs.Laws.{LayoutIsAccepted}

@@ -5,7 +5,7 @@ use Rattle.bz_lex.specs.declared.fault.ReadFault.{ReadFault}
 use Rattle.bz_lex.specs.declared.fault.ReadFault.TheVariants as f
 use Rattle.bz_tree.specs.Spell.{limit}
 use Rattle.bz_tree.specs.Legal.{Accepted}
-use Rattle.bz_value.specs.Gaps.{Bytes}
+use Rattle.bz_items.specs.Characters.{Bytes}
 use Rattle.bz_attribute.specs.declared.refusal.Refusal.TheVariants as r
 use Rattle.bz_journal.specs.Meaning.{gives, refuses, Formats}
 use Rattle.bz_journal.specs.declared.formatter.FormatFault.{FormatFault}

@@ -2,7 +2,7 @@
 use Rattle.std.specs.Prelude.{◌≡◌, ℕ, List, Some, None, Result, Ok, Err}
 use Rattle.bz_edit.specs.declared.edit.Edit.{Edit}
 use Rattle.bz_trail.specs.Trails.{IsSmall}
-use Rattle.bz_value.specs.Gaps.{Bytes}
+use Rattle.bz_items.specs.Characters.{Bytes}
 use Rattle.bz_resume.specs.declared.fault.ResumeFault.{ResumeFault}
 use Rattle.bz_resume.specs.declared.fault.ResumeFault.TheVariants as f
 use Rattle.bz_resume.specs.Journals.{Journal, AreSmall, journal_text, stands}

@@ -3,9 +3,7 @@ use Rattle.std.specs.Prelude.{◌==◌, ◌+◌, ℕ, List, [], ◌∷◌, ◌++
 use Rattle.std.specs.List.{flat_map}
 use Rattle.hex.specs.Hex.{encode_lower}
 use Rattle.sha2.specs.Sha256.{sha256}
-use Rattle.bz_token.specs.Bytes.{line_feed}
-use Rattle.bz_lex.specs.Characters.{space}
-use Rattle.bz_value.specs.Gaps.{Bytes}
+use Rattle.bz_items.specs.Characters.{Bytes, line_feed, space}
 use Rattle.bz_journal.specs.History.{History}
 
 -- a newline of a note is shown as a backslash and the letter n, so that each text has one line

@@ -7,7 +7,7 @@ use Rattle.bz_edit.specs.declared.edit.Edit.{Edit}
 use Rattle.bz_trail.specs.Trails.{Trail, IsTrail, trail_at}
 use Rattle.bz_record.specs.Texts.{IsNote}
 use Rattle.bz_record.specs.declared.content.Version.TheVariants.{Two}
-use Rattle.bz_value.specs.Gaps.{Bytes}
+use Rattle.bz_items.specs.Characters.{Bytes}
 use Rattle.bz_journal.specs.History.{most_steps}
 
 -- the tree of the present text, the steps between the texts, a note of each step, the path of the file's package, the number of the

@@ -6,7 +6,7 @@ ghost use Rattle.bz_tree.specs.Spell.{limit, spell_node};
 ghost use Rattle.bz_tree.specs.Statements.{lines_of};
 ghost use Rattle.bz_value.specs.declared.value.Item.{Item};
 ghost use Rattle.bz_value.specs.Exchanged.{AreExchanged, IsSpliced};
-ghost use Rattle.bz_value.specs.Gaps.{Bytes};
+ghost use Rattle.bz_items.specs.Characters.{Bytes};
 ghost use Rattle.bz_view.specs.View.{view_of};
 ghost use Rattle.bz_write.specs.Drawn.{drawn};
 ghost use Rattle.bz_write.specs.Written.{layout};

@@ -1,6 +1,6 @@
 //! What commands and the format make of a text.
 ghost use Rattle.std.specs.Prelude.{◌≡◌, ◌⊎◌, Option, None, Ok, IfOk, IfErr, option_map};
-ghost use Rattle.bz_value.specs.Gaps.{Bytes};
+ghost use Rattle.bz_items.specs.Characters.{Bytes};
 ghost use Rattle.std.specs.Option.{unwrap_or};
 ghost use Rattle.bz_tree.specs.Legal.{Reads, Accepted};
 ghost use Rattle.bz_tree.specs.Spell.{spell_node};

@@ -5,7 +5,8 @@ use Rattle.std.specs.Str.{bytes_eq}
 use Rattle.std.specs.Option.{option_map, option_map_or}
 use Rattle.std.proofs.lemmas.Bool.{cases_Bool, true≢false, and_parts, and_from, or_parts, eqb-true, both_ways, not-true}
 use Rattle.std.proofs.lemmas.Slice.Eq.{bytes_eq-Decides}
-use Rattle.bz_label.specs.Pieces.{Bytes, is_empty, last_piece, has_colon, has_slash, is_colon, is_slash, is_at, begins_with_at}
+use Rattle.bz_items.specs.Characters.{Bytes}
+use Rattle.bz_label.specs.Pieces.{is_empty, last_piece, has_colon, has_slash, is_colon, is_slash, is_at, begins_with_at}
 use Rattle.bz_label.specs.Labels.{is_path, is_repository_name, IsWhole, IsPackageAlone, IsRepositoryAlone, IsColonName, IsBareName, IsLabel, whole, package_alone, repository_alone, colon_name, bare_name, IsSame, IsOwn, IsShortened, own, other}
 use Rattle.bz_label.specs.Forms.{label_of, are_whole, are_alone}
 use Rattle.bz_label.specs.Shorter.{before_colon, behind_colon, before_slashes, before_slashes_from, behind_slashes}

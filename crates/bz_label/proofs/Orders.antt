@@ -6,7 +6,7 @@ use Rattle.std.specs.declared.cmp.Ordering.{Ordering}
 use Rattle.std.specs.declared.cmp.Ordering.TheVariants.{Less, Equal, Greater}
 use Rattle.std.proofs.lemmas.Cmp.{nat_cmp_total, nat_list_cmp_total, lists_total, then_total, on_total}
 use Rattle.std.proofs.lemmas.Map.Lookups.{exact_bytes}
-use Rattle.bz_label.specs.Pieces.{Bytes}
+use Rattle.bz_items.specs.Characters.{Bytes}
 use Rattle.bz_label.specs.Keys.{group_of, key_pieces, key_order}
 
 pub key_total : IsTotalOrder key_order

@@ -2,7 +2,8 @@
 use Rattle.std.proofs.Common.{◌≡◌, ℕ, Bool, true, false, List, [], ◌∷◌, ◌++◌, refl, sym, ◌∙◌, ap, ◌&&◌, codes, ◌↔◌, ◌⊎◌, inl, inr, IsTrue, append_assoc, cond}
 use Rattle.std.specs.List.{list_all, onto_first}
 use Rattle.std.proofs.lemmas.Bool.{both_ways, cases_Bool, eqb-true}
-use Rattle.bz_label.specs.Pieces.{Bytes, is_present, is_slash, pieces_of, is_joined, IsSlashSeparated}
+use Rattle.bz_items.specs.Characters.{Bytes}
+use Rattle.bz_label.specs.Pieces.{is_present, is_slash, pieces_of, is_joined, IsSlashSeparated}
 
 -- whether the pieces that follow are there, where a piece may have begun
 abbrev goes_on : Bool → Bytes → Bool

@@ -3,7 +3,8 @@ use Rattle.std.proofs.Common.{◌≡◌, ℕ, Bool, true, false, [], ◌∷◌, 
 use Rattle.std.proofs.lemmas.Bool.{and_parts, not-true, both_ways, cases_Bool}
 use Rattle.std.proofs.lemmas.Bool.Decides.{nat_tests}
 use Rattle.std.proofs.lemmas.List.Folds.{list_any-append}
-use Rattle.bz_label.specs.Pieces.{Bytes, is_empty, is_slash, is_colon, is_at, has_slash, has_colon, begins_with_at, is_joined, last_piece}
+use Rattle.bz_items.specs.Characters.{Bytes}
+use Rattle.bz_label.specs.Pieces.{is_empty, is_slash, is_colon, is_at, has_slash, has_colon, begins_with_at, is_joined, last_piece}
 use Rattle.bz_label.specs.Labels.{is_path, is_repository_name, IsWhole, IsPackageAlone, IsRepositoryAlone, IsColonName, IsBareName, IsLabel, IsSame, whole, package_alone, repository_alone, colon_name, bare_name}
 use Rattle.bz_label.specs.Forms.{is_repository}
 use Rattle.bz_label.specs.declared.label.Label.{Label}

@@ -4,7 +4,8 @@ use Rattle.std.specs.Str.{bytes_eq}
 use Rattle.std.proofs.lemmas.Bool.{cases_Bool, true≢false, and_parts, and_from, or_parts, eqb-true}
 use Rattle.std.proofs.lemmas.Slice.Eq.{bytes_eq-Decides}
 use Rattle.std.proofs.lemmas.List.Folds.{list_any-append}
-use Rattle.bz_label.specs.Pieces.{Bytes, is_empty, last_piece, has_colon, has_slash, is_colon, is_slash, is_at}
+use Rattle.bz_items.specs.Characters.{Bytes}
+use Rattle.bz_label.specs.Pieces.{is_empty, last_piece, has_colon, has_slash, is_colon, is_slash, is_at}
 use Rattle.bz_label.specs.Labels.{is_path, is_repository_name, IsRepeat, IsUnrepeated, repeat, stays}
 use Rattle.bz_label.specs.Forms.{is_repository, are_whole}
 use Rattle.bz_label.specs.Shorter.{before_colon, behind_colon, before_slashes, behind_slashes, is_repeated, unrepeated}

@@ -3,7 +3,8 @@ use Rattle.std.proofs.Common.{◌≡◌, ℕ, Bool, true, false, [], ◌∷◌, 
 use Rattle.std.specs.List.{list_any}
 use Rattle.std.proofs.lemmas.Bool.{and_parts, and_from, not-true, eqb-true, both_ways}
 use Rattle.std.proofs.lemmas.Bool.Decides.{nat_tests}
-use Rattle.bz_label.specs.Pieces.{Bytes, is_empty, is_slash, is_colon, has_slash, has_colon, last_piece}
+use Rattle.bz_items.specs.Characters.{Bytes}
+use Rattle.bz_label.specs.Pieces.{is_empty, is_slash, is_colon, has_slash, has_colon, last_piece}
 use Rattle.bz_label.specs.Labels.{is_barred, is_plain, is_path, is_repository_name, IsRepository, absent, main, canonical_main, named, canonical_named, IsWhole, IsPackageAlone}
 use Rattle.bz_label.specs.declared.label.Label.{Label}
 use Rattle.bz_label.specs.Forms.{is_repository, are_whole, are_alone}

@@ -2,7 +2,8 @@
 use Rattle.std.proofs.Common.{◌≡◌, ℕ, ◌+◌, ◌-◌, true, [], ◌∷◌, ◌++◌, length, take, drop, refl, sym, ◌∙◌, ap, ◌||◌, append_assoc, arith, codes, inl, inr, length-append, ◌<◌}
 use Rattle.std.proofs.Math.Seq.{take-append_seam, drop-append_seam}
 use Rattle.std.proofs.lemmas.Bool.{both_ways}
-use Rattle.bz_label.specs.Pieces.{Bytes, is_empty, last_piece}
+use Rattle.bz_items.specs.Characters.{Bytes}
+use Rattle.bz_label.specs.Pieces.{is_empty, last_piece}
 use Rattle.bz_label.specs.Labels.{is_path, IsWhole, IsPackageAlone, IsColonName, IsSame, IsOwn, IsRepeat, IsUnrepeated, IsShortened, repeat, stays, own, other, whole, package_alone, colon_name}
 use Rattle.bz_label.specs.declared.label.Label.{Label}
 use Rattle.bz_label.proofs.Readings.{form_of, whole_once, whole_form, alone_form, colon_form}

@@ -1,7 +1,8 @@
 -- How a target's text falls into the package and what follows it.
 use Rattle.std.proofs.Common.{◌≡◌, ℕ, Bool, true, false, List, [], ◌∷◌, ◌++◌, length, refl, sym, ◌∙◌, ap, ◌&&◌, codes, ◌⊎◌, inl, inr, append_assoc, Option, Some, None, MatchOption, IsSomeAnd, nat_le, Bor}
 use Rattle.std.proofs.lemmas.Bool.{and_parts, and_from, not-true, both_ways, leb-true, le-leb}
-use Rattle.bz_label.specs.Pieces.{Bytes, is_present, is_slash, is_colon, has_colon, last_piece}
+use Rattle.bz_items.specs.Characters.{Bytes}
+use Rattle.bz_label.specs.Pieces.{is_present, is_slash, is_colon, has_colon, last_piece}
 use Rattle.bz_label.specs.Targets.{is_package, IsSpelled, IsTarget, which_of, target_of}
 use Rattle.bz_label.specs.declared.target.Target.{Target}
 use Rattle.bz_label.specs.declared.target.Which.{Which}

@@ -1,7 +1,8 @@
 -- The target of a text, as a function, is the one that the condition describes.
 use Rattle.std.proofs.Common.{ℕ, Bool, true, false, not, ◌&&◌, ◌||◌, [], ◌∷◌, ◌++◌, ◌≡◌, ◌≤◌, refl, sym, ap, ◌∙◌, inl, inr, codes, length, nat_le, Option, Some, None, IsTrue, subst, append_assoc, if◌then◌else◌}
 use Rattle.std.proofs.lemmas.Bool.{cases_Bool, true≢false, and_parts, and_from, or_parts, eqb-true, le-leb, leb-true}
-use Rattle.bz_label.specs.Pieces.{Bytes, is_slash, is_colon, is_present, is_joined, has_colon, last_piece}
+use Rattle.bz_items.specs.Characters.{Bytes}
+use Rattle.bz_label.specs.Pieces.{is_slash, is_colon, is_present, is_joined, has_colon, last_piece}
 use Rattle.bz_label.specs.Shorter.{before_colon, behind_colon}
 use Rattle.bz_label.specs.Targets.{is_package, target_of, which_of, IsSpelled, IsTarget}
 use Rattle.bz_label.specs.TargetRead.{target_if, relative_target, absolute_target, target_in}

@@ -2,7 +2,8 @@
 use Rattle.std.specs.Prelude.{Bool, true, ◌&&◌, ◌||◌, [], ◌∷◌}
 use Rattle.bz_label.specs.declared.label.Label.{Label}
 use Rattle.bz_label.specs.declared.form.Parts.{Parts}
-use Rattle.bz_label.specs.Pieces.{Bytes, is_empty, is_at}
+use Rattle.bz_items.specs.Characters.{Bytes}
+use Rattle.bz_label.specs.Pieces.{is_empty, is_at}
 use Rattle.bz_label.specs.Labels.{is_path, is_repository_name}
 
 -- the label that slices of texts make

@@ -4,7 +4,8 @@ use Rattle.std.specs.List.{slice_split}
 use Rattle.std.specs.Ordering.{ordering_then, nat_cmp}
 use Rattle.std.specs.Cmp.Lexicographic.{slice_cmp}
 use Rattle.std.specs.declared.cmp.Ordering.{Ordering}
-use Rattle.bz_label.specs.Pieces.{Bytes, is_slash, is_colon, is_at}
+use Rattle.bz_items.specs.Characters.{Bytes}
+use Rattle.bz_label.specs.Pieces.{is_slash, is_colon, is_at}
 
 -- by what a text begins with: others 0, then : 1, then // 2, then @ 3
 abbrev pub group_from_slash : Bytes → ℕ

@@ -2,7 +2,8 @@
 use Rattle.std.specs.Prelude.{◌≡◌, ℕ, Bool, not, ◌&&◌, ◌||◌, ◌==◌, nat_lt, [], ◌++◌, codes, IsTrue, ◌⊎◌}
 use Rattle.std.specs.List.{list_all}
 use Rattle.bz_label.specs.declared.label.Label.{Label}
-use Rattle.bz_label.specs.Pieces.{Bytes, is_empty, is_present, has_slash, is_joined, last_piece, begins_with_at}
+use Rattle.bz_items.specs.Characters.{Bytes}
+use Rattle.bz_label.specs.Pieces.{is_empty, is_present, has_slash, is_joined, last_piece, begins_with_at}
 
 -- what no part of a label holds: a character below U+0020, a quote mark, a colon, a backslash
 abbrev pub is_barred : ℕ → Bool

@@ -1,10 +1,7 @@
 -- The parts of labels and targets. Texts are lists of bytes, so a character from U+0080 on is bytes from 128 on.
 use Rattle.std.specs.Prelude.{◌≡◌, ℕ, Bool, true, false, not, ◌==◌, List, [], ◌∷◌, ◌++◌, codes}
+use Rattle.bz_items.specs.Characters.{Bytes}
 use Rattle.std.specs.List.{slice_split, list_all, list_any, after_last}
-
--- the bytes of a text
-abbrev pub Bytes : Type 0
-Bytes = List ℕ
 
 abbrev pub is_empty : Bytes → Bool
 is_empty [] = true

@@ -3,7 +3,8 @@
 use Rattle.std.specs.Prelude.{Bool, false, ◌&&◌, ◌||◌, ◌++◌, [], ◌∷◌, Option, Some, None, if◌then◌else◌, bytes_eq, codes}
 use Rattle.std.specs.Option.{option_map_or}
 use Rattle.bz_label.specs.declared.label.Label.{Label}
-use Rattle.bz_label.specs.Pieces.{Bytes, is_at, is_colon, is_slash, is_empty, has_colon, last_piece}
+use Rattle.bz_items.specs.Characters.{Bytes}
+use Rattle.bz_label.specs.Pieces.{is_at, is_colon, is_slash, is_empty, has_colon, last_piece}
 use Rattle.bz_label.specs.Labels.{is_path, is_repository_name}
 use Rattle.bz_label.specs.Forms.{are_whole, are_alone}
 use Rattle.bz_label.specs.Shorter.{before_colon, behind_colon, before_slashes, behind_slashes, unrepeated}

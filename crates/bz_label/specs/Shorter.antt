@@ -1,6 +1,7 @@
 -- The text of a label without a repeated name, as a function. `IsUnrepeated` says what it is to be.
 use Rattle.std.specs.Prelude.{ℕ, Bool, ◌&&◌, [], ◌∷◌, ◌++◌, ◌+◌, if◌then◌else◌, drop, length, bytes_eq, codes}
-use Rattle.bz_label.specs.Pieces.{Bytes, is_slash, is_colon, last_piece}
+use Rattle.bz_items.specs.Characters.{Bytes}
+use Rattle.bz_label.specs.Pieces.{is_slash, is_colon, last_piece}
 use Rattle.bz_label.specs.Forms.{are_whole}
 
 -- what stands before the first colon, and behind it

@@ -1,7 +1,8 @@
 -- The target that a text is, as a function. `IsTarget` says what it is to be.
 use Rattle.std.specs.Prelude.{Bool, ◌&&◌, [], ◌∷◌, Option, Some, None, length, nat_le, if◌then◌else◌}
 use Rattle.bz_label.specs.declared.target.Target.{Target}
-use Rattle.bz_label.specs.Pieces.{Bytes, is_slash, is_present, has_colon, last_piece}
+use Rattle.bz_items.specs.Characters.{Bytes}
+use Rattle.bz_label.specs.Pieces.{is_slash, is_present, has_colon, last_piece}
 use Rattle.bz_label.specs.Shorter.{before_colon, behind_colon}
 use Rattle.bz_label.specs.Targets.{is_package, target_of}
 

@@ -6,7 +6,8 @@ use Rattle.std.specs.Str.{bytes_eq}
 use Rattle.bz_label.specs.declared.target.Target.{Target}
 use Rattle.bz_label.specs.declared.target.Which.{Which}
 use Rattle.bz_label.specs.declared.target.Which.TheVariants.{All, Kind, Line, Package, Name}
-use Rattle.bz_label.specs.Pieces.{Bytes, is_empty, is_present, has_colon, is_joined, last_piece}
+use Rattle.bz_items.specs.Characters.{Bytes}
+use Rattle.bz_label.specs.Pieces.{is_empty, is_present, has_colon, is_joined, last_piece}
 
 -- the number that decimal digits write
 abbrev pub decimal : Bytes → ℕ

@@ -2,8 +2,8 @@
 use Rattle.std.specs.Prelude.{◌≡◌, ℕ, Bool, true, false, List, [], ◌∷◌, Option, Some, None, nat_eq, ◌&&◌, if◌then◌else◌}
 use Rattle.bz_lex.specs.declared.gap.GapState.{GapState}
 use Rattle.bz_lex.specs.declared.gap.GapState.TheVariants.{Open, Escape, EscapeReturn, Comment}
-use Rattle.bz_token.specs.Bytes.{line_feed, is_blank}
-use Rattle.bz_lex.specs.Characters.{carriage_return, number_sign, backslash}
+use Rattle.bz_items.specs.Characters.{backslash, carriage_return, line_feed, number_sign}
+use Rattle.bz_token.specs.Bytes.{is_blank}
 
 -- the state behind one more byte; None where no gap goes on with it
 abbrev pub gap_move : Bool → GapState → ℕ → Option GapState

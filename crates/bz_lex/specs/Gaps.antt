@@ -1,7 +1,7 @@
 -- Gaps: what may stand before a token.
 use Rattle.std.specs.Prelude.{◌≡◌, ◌≢◌, ℕ, Bool, true, false, List, [], ◌∷◌, ◌++◌, ◌||◌, ◌&&◌, nat_eq, if◌then◌else◌}
-use Rattle.bz_token.specs.Bytes.{line_feed, is_blank}
-use Rattle.bz_lex.specs.Characters.{tab, carriage_return, space, number_sign, backslash}
+use Rattle.bz_items.specs.Characters.{backslash, carriage_return, line_feed, number_sign, space, tab}
+use Rattle.bz_token.specs.Bytes.{is_blank}
 
 -- no newline is in the text
 abbrev pub IsOneLine : List ℕ → Type 0

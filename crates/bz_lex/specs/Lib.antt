@@ -1,4 +1,3 @@
-pub mod Characters
 pub mod Gaps
 pub mod Places
 pub mod Leaves

@@ -1,6 +1,6 @@
 -- Lines and columns of a text, from 1.
 use Rattle.std.specs.Prelude.{ℕ, ◌+◌, Bool, not, ◌&&◌, nat_eq, nat_le, List, take, count_by, take_while, reverse}
-use Rattle.bz_token.specs.Bytes.{line_feed}
+use Rattle.bz_items.specs.Characters.{line_feed}
 
 abbrev pub is_newline : ℕ → Bool
 is_newline byte = nat_eq byte line_feed

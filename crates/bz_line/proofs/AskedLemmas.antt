@@ -1,7 +1,7 @@
 -- Operands one after the other.
 use Rattle.std.proofs.Common.{◌≡◌, List, [], ◌∷◌, ◌++◌, append_assoc, Result, Ok, Err, refl, ap, sym, ◌∙◌}
 use Rattle.std.proofs.lemmas.List.{append-nil}
-use Rattle.bz_label.specs.Pieces.{Bytes}
+use Rattle.bz_items.specs.Characters.{Bytes}
 use Rattle.bz_line.specs.Asked.{Asked, Refused, nothing, joined, asked_by, asked_of}
 
 joined-nothing : (asked : Result Asked Refused) → joined asked (Ok nothing) ≡ joined (Ok nothing) asked

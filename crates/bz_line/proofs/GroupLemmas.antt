@@ -1,6 +1,6 @@
 -- Lines one after the other.
 use Rattle.std.proofs.Common.{◌≡◌, List, [], ◌∷◌, ◌++◌, Result, Ok, Err, IfErr, IsErrAnd, Option, Some, None, IfSome, refl, ap, sym, ◌∙◌}
-use Rattle.bz_label.specs.Pieces.{Bytes}
+use Rattle.bz_items.specs.Characters.{Bytes}
 use Rattle.bz_line.specs.Asked.{Asked, Usage, group_of}
 use Rattle.bz_line.specs.Refused.{IsGroupFault, IsFirstFault}
 use Rattle.bz_line.specs.Script.{in_front, groups_of, operands_in}

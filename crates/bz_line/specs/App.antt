@@ -2,7 +2,7 @@
 use Rattle.std.specs.Prelude.{Some, [], codes, true}
 use Rattle.clap.specs.Words.{App, Rule, new_app, new_rule, with_rule}
 use Rattle.clap.specs.declared.builder.action.ArgAction.TheVariants.{SetTrue, Append}
-use Rattle.bz_line.specs.Characters.{letter_f, letter_k}
+use Rattle.bz_items.specs.Characters.{letter_f, letter_k}
 
 -- `-k`: a failed line doesn't keep the next ones from being run
 abbrev pub keep_going_rule : Rule

@@ -1,6 +1,6 @@
 -- What the operands of one line ask for: commands, in order, and targets, in order.
 use Rattle.std.specs.Prelude.{List, [], ◌∷◌, ◌++◌, if◌then◌else◌, Result, Ok, Err}
-use Rattle.bz_label.specs.Pieces.{Bytes}
+use Rattle.bz_items.specs.Characters.{Bytes}
 use Rattle.bz_label.specs.declared.target.Target.{Target}
 use Rattle.bz_line.specs.Operands.{is_target, target_of, verb_of}
 use Rattle.bz_line.specs.declared.verb.Verb.{Verb}

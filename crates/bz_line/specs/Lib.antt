@@ -1,6 +1,5 @@
 pub mod App
 pub mod Asked
-pub mod Characters
 pub mod Hints
 pub mod Line
 pub mod Operands

@@ -3,7 +3,8 @@ use Rattle.std.specs.Prelude.{◌==◌, ℕ, ◌^◌, List, [], ◌∷◌, lengt
 use Rattle.std.specs.Str.{all_ascii_digits}
 use Rattle.std.specs.Option.{ok_or, option_map_or}
 use Rattle.std.specs.List.{list_any}
-use Rattle.bz_label.specs.Pieces.{Bytes, has_colon}
+use Rattle.bz_items.specs.Characters.{Bytes, space}
+use Rattle.bz_label.specs.Pieces.{has_colon}
 use Rattle.bz_label.specs.TargetRead.{target_in}
 use Rattle.bz_label.specs.Targets.{decimal}
 use Rattle.bz_label.specs.declared.target.Target.{Target}
@@ -12,7 +13,6 @@ use Rattle.bz_words.specs.Words.{words_of}
 use Rattle.bz_words.specs.declared.command.Operation.{Operation}
 use Rattle.bz_words.specs.declared.fault.CommandFault.{CommandFault}
 use Rattle.bz_words.specs.declared.fault.CommandFault.TheVariants as c
-use Rattle.bz_line.specs.Characters.{space}
 use Rattle.bz_line.specs.declared.verb.Verb.{Verb}
 use Rattle.bz_line.specs.declared.verb.Verb.TheVariants.{Do, Undo, Redo, Journal}
 use Rattle.bz_line.specs.declared.verb.OperandFault.{OperandFault}

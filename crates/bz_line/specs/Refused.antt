@@ -1,6 +1,6 @@
 -- Why operands and lines are refused. Whether `regex` takes a pattern is told here alone: a command's pattern is its source.
 use Rattle.std.specs.Prelude.{◌≡◌, ◌⊎◌, List, [], ◌∷◌, ◌++◌, Ok, Err}
-use Rattle.bz_label.specs.Pieces.{Bytes}
+use Rattle.bz_items.specs.Characters.{Bytes}
 use Rattle.bz_words.specs.Commands.{command_of}
 use Rattle.bz_words.specs.Refused.{HasBadPattern}
 use Rattle.bz_words.specs.declared.fault.CommandFault.TheVariants.{BadPattern}

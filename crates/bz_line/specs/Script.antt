@@ -1,9 +1,8 @@
 -- What a file of lines asks for. Its lines end at newlines, and the operands of a line are separated by `|`.
 use Rattle.std.specs.Prelude.{◌==◌, Bool, false, not, List, [], ◌∷◌, filter, Result, Ok, Err}
 use Rattle.std.specs.List.{slice_split}
-use Rattle.bz_label.specs.Pieces.{Bytes}
+use Rattle.bz_items.specs.Characters.{Bytes, line_feed, number_sign, vertical_bar}
 use Rattle.bz_line.specs.Asked.{Asked, Usage, no_line, group_of}
-use Rattle.bz_line.specs.Characters.{line_feed, number_sign, vertical_bar}
 
 -- A line is passed over where it is empty or begins with `#`.
 abbrev pub is_read : Bytes → Bool

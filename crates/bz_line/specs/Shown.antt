@@ -1,6 +1,6 @@
 -- What was read, as contracts see it.
 use Rattle.std.specs.Prelude.{map, ◌++◌, Option, Some, None}
-use Rattle.bz_label.specs.Pieces.{Bytes}
+use Rattle.bz_items.specs.Characters.{Bytes}
 use Rattle.bz_line.specs.Asked as a
 use Rattle.bz_line.specs.Line as l
 use Rattle.bz_line.specs.declared.asked.Asked.{Asked}

@@ -1,6 +1,6 @@
 -- The verbs that print, and the names and the numbers of refused operands.
 use Rattle.std.specs.Prelude.{ℕ, codes, Bool, true, false}
-use Rattle.bz_label.specs.Pieces.{Bytes}
+use Rattle.bz_items.specs.Characters.{Bytes}
 use Rattle.bz_words.specs.Faults as c
 use Rattle.bz_words.specs.Printing as p
 use Rattle.bz_line.specs.declared.verb.OperandFault.{OperandFault}

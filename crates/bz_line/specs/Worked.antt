@@ -1,6 +1,6 @@
 -- Worked rows: what lines of words and files of lines say.
 use Rattle.std.specs.Prelude.{◌≡◌, [], ◌∷◌, ◌++◌, codes, Ok, Err, true, false}
-use Rattle.bz_label.specs.Pieces.{Bytes}
+use Rattle.bz_items.specs.Characters.{Bytes}
 use Rattle.bz_label.specs.declared.target.Target.{Target}
 use Rattle.bz_label.specs.declared.target.Which.TheVariants.{Name}
 use Rattle.bz_words.specs.declared.command.Operation.TheVariants as w

@@ -2,7 +2,7 @@
 ghost use Rattle.std.specs.Prelude.{◌≡◌, ◌==◌, [], ◌∷◌, ◌++◌, Ok, IfOk, OnOk, IfErr, IfSome, map, filter};
 ghost use Rattle.std.specs.List.{All, slice_split};
 ghost use Rattle.bz_line.specs.Asked.{group_of};
-ghost use Rattle.bz_line.specs.Characters.{line_feed};
+ghost use Rattle.bz_items.specs.Characters.{line_feed};
 ghost use Rattle.bz_line.specs.Paths.{HasPath};
 ghost use Rattle.bz_line.specs.Refused.{IsFirstFault, IsGroupFault, IsScriptFault};
 ghost use Rattle.bz_line.specs.Script.{is_read, lines_in, operands_in, groups_of, script_of};

@@ -14,7 +14,7 @@ use Rattle.std.proofs.lemmas.Map.Text.{is_eq-slice_cmp}
 use Rattle.std.specs.declared.alloc.Global.{Global}
 use Rattle.bz_label.specs.declared.label.Label.{Label}
 use Rattle.bz_label.specs.Read.{is_equal}
-use Rattle.bz_value.specs.Gaps.{Bytes}
+use Rattle.bz_items.specs.Characters.{Bytes}
 use Rattle.bz_attribute.proofs.KeySets.{any_map, any_like, any_inserted, equal_texts}
 use Rattle.bz_list.specs.declared.known.Key.{Key}
 use Rattle.bz_list.specs.contracts.known.KeyOrd.TheImpl as key_ord

@@ -13,7 +13,7 @@ use Rattle.bz_label.specs.declared.label.Label.{Label}
 use Rattle.bz_label.specs.Read.{label_in, is_equal, are_equal, is_same}
 use Rattle.bz_label.specs.Tables.{is_label_attribute}
 use Rattle.bz_value.specs.declared.value.Expr.{Expr}
-use Rattle.bz_value.specs.Gaps.{Bytes}
+use Rattle.bz_items.specs.Characters.{Bytes}
 use Rattle.bz_attribute.specs.Lists.{body_of, items_in, are_one, is_some_item}
 use Rattle.bz_attribute.proofs.KeySets.{equal_texts, or_group, or_none}
 use Rattle.bz_list.specs.declared.known.Chosen.TheVariants as h

@@ -5,7 +5,7 @@ use Rattle.std.specs.List.{AllByRecursion, filter, list_any}
 use Rattle.std.proofs.lemmas.Bool.{or_right}
 use Rattle.bz_tree.specs.declared.kind.Kind.TheVariants as k
 use Rattle.bz_value.specs.declared.value.Expr.{Expr}
-use Rattle.bz_value.specs.Gaps.{Bytes}
+use Rattle.bz_items.specs.Characters.{Bytes}
 use Rattle.bz_value.specs.Empty.{is_empty}
 use Rattle.bz_words.specs.Words.{is_nonempty}
 use Rattle.bz_rule.specs.Rules.{attribute}

@@ -15,7 +15,7 @@ use Rattle.bz_label.specs.Read.{shortened}
 use Rattle.bz_value.specs.declared.value.Expr.{Expr, Token, Form', items-the_row-Expr}
 use Rattle.bz_value.specs.declared.value.Expr.TheVariants as e
 use Rattle.bz_value.specs.Comments.{HostComments}
-use Rattle.bz_value.specs.Gaps.{Bytes}
+use Rattle.bz_items.specs.Characters.{Bytes}
 use Rattle.bz_value.specs.Proper.{ProperExpr, behind_expr}
 use Rattle.bz_value.proofs.FormParts.{AreParts}
 use Rattle.bz_pattern.specs.Patterns.{substituted}

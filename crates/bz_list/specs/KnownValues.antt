@@ -6,7 +6,7 @@ use Rattle.bz_label.specs.Tables.{is_label_attribute}
 use Rattle.bz_label.specs.Read.{label_in, is_equal, is_same}
 use Rattle.bz_label.specs.declared.label.Label.{Label}
 use Rattle.bz_value.specs.declared.value.Expr.{Expr}
-use Rattle.bz_value.specs.Gaps.{Bytes}
+use Rattle.bz_items.specs.Characters.{Bytes}
 use Rattle.bz_attribute.specs.Lists.{body_of, travelled}
 
 -- words that mean one value, where the attribute is a label attribute and where it is none

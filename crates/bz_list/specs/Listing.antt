@@ -3,7 +3,7 @@ use Rattle.std.specs.Prelude.{Bool, true, not, List, [], ◌∷◌, Option, Some
 use Rattle.std.specs.List.{filter}
 use Rattle.bz_tree.specs.declared.kind.Kind.TheVariants as k
 use Rattle.bz_value.specs.declared.value.Expr.{Expr}
-use Rattle.bz_value.specs.Gaps.{Bytes}
+use Rattle.bz_items.specs.Characters.{Bytes}
 use Rattle.bz_rule.specs.Values.{has_kind, items_of}
 use Rattle.bz_list.specs.declared.known.Chosen.{Chosen}
 use Rattle.bz_list.specs.declared.known.Chosen.TheVariants as h

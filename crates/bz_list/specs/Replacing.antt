@@ -1,7 +1,7 @@
 -- What `replace` and `substitute` do to an item, to a value and to an attribute, by the change that they are.
 use Rattle.std.specs.Prelude.{if◌then◌else◌}
 use Rattle.bz_value.specs.declared.value.Expr.{Expr}
-use Rattle.bz_value.specs.Gaps.{Bytes}
+use Rattle.bz_items.specs.Characters.{Bytes}
 use Rattle.bz_rule.specs.Values.{parts_of, first_text}
 use Rattle.bz_list.specs.declared.replacing.Change.{Change}
 use Rattle.bz_list.specs.declared.replacing.Change.TheVariants.{Replace, Substitute}

@@ -6,7 +6,7 @@ ghost use Rattle.std.specs.Str.{bytes_eq};
 ghost use Rattle.bz_label.specs.Forms.{label_of};
 ghost use Rattle.bz_label.specs.Read.{is_equal};
 ghost use Rattle.bz_label.specs.declared.label.Label.{Label};
-ghost use Rattle.bz_value.specs.Gaps.{Bytes};
+ghost use Rattle.bz_items.specs.Characters.{Bytes};
 ghost use Rattle.bz_tree.specs.declared.kind.Kind.TheVariants as kinds;
 ghost use Rattle.bz_rule.specs.Values.{has_kind as is_of, items_of as items};
 ghost use Rattle.bz_attribute.specs.Lists.{items_in, is_some_item};

@@ -9,7 +9,7 @@ use Rattle.bz_tree.specs.Spots.{Begins}
 use Rattle.bz_value.specs.declared.value.Expr.{Expr, Token, Form', items_hidden-the_row-Expr-0}
 use Rattle.bz_value.specs.declared.value.Item.{Item}
 use Rattle.bz_value.specs.declared.value.Item.TheVariants as i
-use Rattle.bz_value.specs.Gaps.{Bytes}
+use Rattle.bz_items.specs.Characters.{Bytes}
 use Rattle.bz_value.specs.Proper.{IsProperItem}
 use Rattle.bz_value.specs.Empty.{is_empty}
 use Rattle.bz_rule.specs.Values.{has_kind, items_of, with_items, on_items, behind_first}

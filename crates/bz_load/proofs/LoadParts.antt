@@ -10,7 +10,7 @@ use Rattle.bz_tree.specs.Shapes.{has_token, is_one_of, is_class, is_kind}
 use Rattle.bz_tree.specs.Spots.{Spot, Within}
 use Rattle.bz_value.specs.declared.value.Expr.{Expr, Token, Form', items-the_row-Expr}
 use Rattle.bz_value.specs.Comments.{no_comments}
-use Rattle.bz_value.specs.Gaps.{Bytes}
+use Rattle.bz_items.specs.Characters.{Bytes}
 use Rattle.bz_value.specs.Proper.{comments_of, ProperExpr}
 use Rattle.bz_value.specs.Roots.{root, mark}
 use Rattle.bz_rule.specs.Values.{has_kind, parts_of, items_of}

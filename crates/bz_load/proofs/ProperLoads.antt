@@ -13,7 +13,7 @@ use Rattle.bz_value.specs.declared.value.Expr.{Expr}
 use Rattle.bz_value.specs.declared.value.Item.{Item}
 use Rattle.bz_value.specs.declared.value.Item.TheVariants as i
 use Rattle.bz_value.specs.Comments.{no_comments}
-use Rattle.bz_value.specs.Gaps.{Bytes}
+use Rattle.bz_items.specs.Characters.{Bytes}
 use Rattle.bz_value.specs.Proper.{IsComment, AreComments, behind_expr, IsProperItem}
 use Rattle.bz_value.specs.Roots as r
 use Rattle.bz_value.proofs.FormParts.{AreParts, form_proper}

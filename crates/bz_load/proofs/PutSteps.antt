@@ -9,7 +9,7 @@ use Rattle.bz_value.specs.declared.value.Expr.{Expr}
 use Rattle.bz_value.specs.declared.value.Item.{Item}
 use Rattle.bz_value.specs.declared.value.Item.TheVariants as i
 use Rattle.bz_value.specs.Exchanged.{IsSpliced}
-use Rattle.bz_value.specs.Gaps.{Bytes}
+use Rattle.bz_items.specs.Characters.{Bytes}
 use Rattle.bz_rule.specs.Rules.{is_text}
 use Rattle.bz_rule.specs.Values.{has_kind, items_of, on_items}
 use Rattle.bz_attribute.proofs.ArgumentPlaces.{is_first, none_passes, changed_at}

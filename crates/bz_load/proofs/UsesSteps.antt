@@ -10,7 +10,7 @@ use Rattle.bz_value.specs.declared.value.Form.{Form}
 use Rattle.bz_value.specs.declared.value.Expr.{Expr}
 use Rattle.bz_value.specs.declared.value.Expr.TheVariants as e
 use Rattle.bz_value.specs.declared.value.Item.{Item}
-use Rattle.bz_value.specs.Gaps.{Bytes}
+use Rattle.bz_items.specs.Characters.{Bytes}
 use Rattle.bz_attribute.proofs.KeySets.{or_group, or_none}
 use Rattle.bz_load.specs.Uses.{all_of, behind_head, head, with_operands, operands, operands_in, is_used}
 use Rattle.bz_load.specs.Known.{has_name, and_name, and_names, and_operands, and_uses}

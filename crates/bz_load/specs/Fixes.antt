@@ -10,7 +10,7 @@ use Rattle.bz_value.specs.declared.value.Item.{Item}
 use Rattle.bz_value.specs.declared.value.Item.TheVariants as i
 use Rattle.bz_value.specs.Comments.{HostComments}
 use Rattle.bz_value.specs.Proper.{comments_of}
-use Rattle.bz_value.specs.Gaps.{Bytes}
+use Rattle.bz_items.specs.Characters.{Bytes}
 use Rattle.bz_value.specs.Empty.{is_empty, is_none}
 use Rattle.bz_words.specs.declared.command.Fixes.{Fixes}
 use Rattle.bz_rule.specs.Rules.{has_kind as is_rule_of}

@@ -1,7 +1,7 @@
 -- The keys of the sets of the code, as what they stand for.
 use Rattle.std.specs.Prelude.{ℕ, List, Vec, map}
 use Rattle.std.specs.declared.alloc.Global.{Global}
-use Rattle.bz_value.specs.Gaps.{Bytes}
+use Rattle.bz_items.specs.Characters.{Bytes}
 use Rattle.bz_words.specs.declared.command.Symbol.{Symbol}
 use Rattle.bz_load.specs.declared.readings.Loaded.{Loaded}
 

@@ -3,7 +3,7 @@ use Rattle.std.specs.Prelude.{◌≡◌, Bool, true, false, not, List, IsUtf8}
 use Rattle.std.specs.List.{list_any, list_all}
 use Rattle.bz_value.specs.declared.value.Item.{Item}
 use Rattle.bz_value.specs.Counted.{times}
-use Rattle.bz_value.specs.Gaps.{Bytes}
+use Rattle.bz_items.specs.Characters.{Bytes}
 use Rattle.bz_value.specs.Proper.{IsProper}
 use Rattle.bz_words.specs.Proper.{IsSymbol, AreSome}
 use Rattle.bz_words.specs.Quoted.{is_escaped}

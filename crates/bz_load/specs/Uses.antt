@@ -9,7 +9,7 @@ use Rattle.bz_value.specs.declared.value.Expr.{Expr, Form', Row_of-Expr, end_of-
 use Rattle.bz_value.specs.declared.value.Expr.TheVariants as e
 use Rattle.bz_value.specs.declared.value.Item.{Item}
 use Rattle.bz_value.specs.declared.value.Item.TheVariants as i
-use Rattle.bz_value.specs.Gaps.{Bytes}
+use Rattle.bz_items.specs.Characters.{Bytes}
 
 -- all parts but the first
 abbrev pub behind_head : {X : Type 0} → List X → List X

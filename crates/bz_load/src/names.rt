@@ -33,7 +33,7 @@ pub(crate) struct UsedNames {
 
 impl Model for UsedNames {
     ghost use Rattle.std.specs.Prelude.{List};
-    ghost use Rattle.bz_value.specs.Gaps.{Bytes};
+    ghost use Rattle.bz_items.specs.Characters.{Bytes};
     ghost use Rattle.bz_load.specs.KnownKeys.{texts_of_keys};
 
     ghost Value = { List Bytes };

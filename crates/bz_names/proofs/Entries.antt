@@ -7,7 +7,7 @@ use Rattle.std.specs.HashMap.{HashMap, UpdatesBy, WritesThrough, get_by}
 use Rattle.std.specs.Map.{lookup, KeepsOthers, IsKeyTest, AreApart}
 use Rattle.std.specs.Option.{is_some, option_map_or, unwrap_or}
 use Rattle.std.proofs.lemmas.Slice.Eq.{bytes_eq-Decides}
-use Rattle.bz_value.specs.Gaps.{Bytes}
+use Rattle.bz_items.specs.Characters.{Bytes}
 use Rattle.bz_names.specs.Index.{places_of}
 use Rattle.bz_names.specs.Held.{AddsPlace, held}
 

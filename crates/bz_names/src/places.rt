@@ -1,7 +1,7 @@
 //! Names with places, in a map.
 ghost use Rattle.std.specs.Prelude.{◌≡◌, [], bytes_eq, IfOk, OnOk};
 ghost use Rattle.std.specs.Option.{option_copied};
-ghost use Rattle.bz_value.specs.Gaps.{Bytes};
+ghost use Rattle.bz_items.specs.Characters.{Bytes};
 ghost use Rattle.bz_rule.specs.Rules.{has_name};
 ghost use Rattle.bz_names.specs.Index.{places_from, places_of};
 ghost use Rattle.bz_names.specs.Held.{AddsPlace, held, name_in};

@@ -2,7 +2,7 @@
 use Rattle.std.specs.Prelude.{◌≡◌, ◌⊎◌, ◌≤◌, ℕ, List, [], ◌∷◌, Bool, true, false, Option}
 use Rattle.std.specs.Io.KnownBytes.{Appends}
 use Rattle.bz_ports.specs.Faults.{Rises, AppendsSome, AppendsUnlessFailed}
-use Rattle.bz_ports.specs.Told.{Bytes}
+use Rattle.bz_items.specs.Characters.{Bytes}
 
 -- By a writer with these counts of faults before and after, a text was written; or, where the writer is closed, a failure
 -- left a beginning of it.

@@ -1,11 +1,8 @@
 -- The lines on standard error that speak of files.
 use Rattle.std.specs.Prelude.{ℕ, List, ◌++◌, codes, decimal}
+use Rattle.bz_items.specs.Characters.{Bytes}
 use Rattle.bz_lex.specs.declared.fault.ReadFault.{ReadFault}
 use Rattle.bz_lex.specs.declared.fault.ReadFault.TheVariants as f
-
--- a text, as the list of its bytes
-abbrev pub Bytes : Type 0
-Bytes = List ℕ
 
 -- the name by which standard input is told
 abbrev pub stdin : Bytes

@@ -5,7 +5,7 @@ use Rattle.std.specs.Option.{option_map_or}
 use Rattle.std.proofs.lemmas.List.{drop_more}
 use Rattle.bz_tree.specs.declared.kind.Kind.TheVariants as k
 use Rattle.bz_value.specs.declared.value.Expr.{Expr}
-use Rattle.bz_value.specs.Gaps.{Bytes}
+use Rattle.bz_items.specs.Characters.{Bytes}
 use Rattle.bz_write.specs.Written as written
 use Rattle.bz_rule.specs.Values.{has_kind, items_of}
 use Rattle.bz_attribute.specs.Lists.{body_of}

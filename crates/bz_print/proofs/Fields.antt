@@ -2,7 +2,7 @@
 use Rattle.std.proofs.Common.{ℕ, ◌≡◌, ◌<◌, List, [], ◌∷◌, ◌++◌, ◌+◌, length, get_or, drop, refl, sym, ap, ◌∙◌, append-nil, Option}
 use Rattle.std.proofs.lemmas.List.{drop_more}
 use Rattle.bz_value.specs.declared.value.Item.{Item}
-use Rattle.bz_value.specs.Gaps.{Bytes}
+use Rattle.bz_items.specs.Characters.{Bytes}
 use Rattle.bz_words.specs.declared.command.Field.{Field}
 use Rattle.bz_rule.specs.Rules.{Rule}
 use Rattle.bz_print.specs.Prints.{spaced, printed_field, printed_fields}

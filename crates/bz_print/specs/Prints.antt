@@ -4,12 +4,10 @@ use Rattle.std.specs.Option.{option_map_or}
 use Rattle.bz_tree.specs.declared.kind.Kind.TheVariants as k
 use Rattle.bz_value.specs.declared.value.Expr.{Expr}
 use Rattle.bz_value.specs.declared.value.Item.{Item}
-use Rattle.bz_value.specs.Characters.{line_feed}
-use Rattle.bz_value.specs.Gaps.{Bytes}
+use Rattle.bz_items.specs.Characters.{Bytes, line_feed, space}
 use Rattle.bz_write.specs.Written as written
 use Rattle.bz_words.specs.declared.command.Field.{Field}
 use Rattle.bz_words.specs.declared.command.Field.TheVariants as f
-use Rattle.bz_words.specs.Characters.{space}
 use Rattle.bz_rule.specs.Rules.{Rule, rule_of, attribute}
 use Rattle.bz_rule.specs.Values.{has_kind, items_of}
 use Rattle.bz_attribute.specs.Lists.{body_of}

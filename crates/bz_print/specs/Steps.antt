@@ -2,8 +2,7 @@
 use Rattle.std.specs.Prelude.{Bool, List, [], ◌∷◌, Option, is_some}
 use Rattle.std.specs.Option.{option_map_or}
 use Rattle.bz_value.specs.declared.value.Expr.{Expr}
-use Rattle.bz_value.specs.Gaps.{Bytes}
-use Rattle.bz_words.specs.Characters.{space}
+use Rattle.bz_items.specs.Characters.{Bytes, space}
 use Rattle.bz_rule.specs.Rules as r
 use Rattle.bz_attribute.specs.Lists.{body_of}
 use Rattle.bz_print.specs.declared.rules.Rule.{Rule}

@@ -2,7 +2,7 @@
 ghost use Rattle.std.specs.Prelude.{◌≡◌, ◌++◌, ◌∷◌, OnOk, IfOk, is_some};
 ghost use Rattle.bz_token.specs.declared.class.Class.TheVariants as c;
 ghost use Rattle.bz_rule.specs.Rules as r;
-ghost use Rattle.bz_rule.specs.Characters.{full_stop};
+ghost use Rattle.bz_items.specs.Characters.{full_stop};
 ghost use Rattle.bz_rule.specs.Named.{each_named};
 ghost use Rattle.bz_print.specs.Steps.{text_or_nothing};
 

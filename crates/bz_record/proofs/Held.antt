@@ -21,10 +21,9 @@ use Rattle.bz_exact.proofs.Formats.{field_exact, listed_exact}
 use Rattle.bz_exact.specs.Laws.{IsExact}
 use Rattle.bz_exact.specs.Readers.{Reader, after_mark, field_at, listed_at, number_at, ◌>>=◌}
 use Rattle.bz_exact.specs.Spellings.{number_limit}
-use Rattle.bz_lex.specs.Characters.{space}
+use Rattle.bz_items.specs.Characters.{line_feed, space}
 use Rattle.bz_record.specs.Reading.{leaf_read, node_read, choice, either, held_at, leaf_at, node_at, nodes_at, numbered_class_at, numbered_kind_at}
 use Rattle.bz_record.specs.Texts.{AreSmallParts, IsHeld, IsSmallPart, held_row_text, last_number, node_line, part_text, row_length, spaced_number}
-use Rattle.bz_token.specs.Bytes.{line_feed}
 
 -- ---- leaves
 

@@ -15,7 +15,7 @@ use Rattle.bz_exact.proofs.Counting.{number_exact}
 use Rattle.bz_exact.specs.Laws.{IsExact}
 use Rattle.bz_exact.specs.Readers.{number_at, ◌>>=◌}
 use Rattle.bz_exact.specs.Spellings.{number_limit}
-use Rattle.bz_lex.specs.Characters.{space}
+use Rattle.bz_items.specs.Characters.{space}
 use Rattle.bz_record.specs.Reading.{numbered_class_at, numbered_kind_at}
 use Rattle.bz_record.specs.Texts.{spaced_number}
 

@@ -11,7 +11,7 @@ use Rattle.bz_exact.proofs.Chains.{after_own}
 use Rattle.bz_exact.specs.Readers.{after_mark}
 use Rattle.bz_exact.specs.Spellings.{IsLine}
 use Rattle.bz_record.specs.Texts.{IsOtherNumber, IsOtherVersion, record_text, version_line}
-use Rattle.bz_token.specs.Bytes.{line_feed}
+use Rattle.bz_items.specs.Characters.{line_feed}
 
 -- the digits in a first line
 line_of : (digits bytes begun ds rest : List ℕ) → bytes ≡ (codes "bzjournal " ++ (digits ++ line_feed ∷ [])) ++ begun → bytes ≡ codes "bzjournal " ++ ds ++ line_feed ∷ rest → digits ++ line_feed ∷ begun ≡ ds ++ line_feed ∷ rest

@@ -10,7 +10,8 @@ use Rattle.bz_exact.proofs.Lines.{line_exact}
 use Rattle.bz_exact.specs.Readers.{after_mark, ended_line_at}
 use Rattle.bz_exact.specs.Spellings.{IsLine}
 use Rattle.bz_record.specs.Texts.{IsOtherNumber}
-use Rattle.bz_token.specs.Bytes.{is_digit, line_feed}
+use Rattle.bz_items.specs.Characters.{line_feed}
+use Rattle.bz_token.specs.Bytes.{is_digit}
 
 no_line_feed : (b : ℕ) → is_digit b ≡ true → b ≢ line_feed
 no_line_feed b h = λ e. grind (arith, nat_tests)

@@ -15,9 +15,8 @@ use Rattle.bz_record.specs.declared.content.Record.{Record}
 use Rattle.bz_record.specs.declared.content.Version.{Version}
 use Rattle.bz_record.specs.declared.content.Version.TheVariants.{One, Two}
 use Rattle.bz_exact.specs.Readers.{Reader, after_mark, counted_at, digest_at, field_at, listed_at, number_at, repeated, tested, up_to, ◌>>=◌}
-use Rattle.bz_lex.specs.Characters.{space}
+use Rattle.bz_items.specs.Characters.{line_feed, space}
 use Rattle.bz_record.specs.Texts.{end_line, short_limit, step_limit, version_line}
-use Rattle.bz_token.specs.Bytes.{line_feed}
 
 -- ---- parts
 

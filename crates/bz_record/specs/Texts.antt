@@ -3,10 +3,10 @@ use Rattle.std.specs.Prelude.{◌≡◌, ℕ, suc, ◌+◌, ◌<◌, ◌≤◌, 
 use Rattle.std.specs.List.{flat_map, AllByRecursion, list_all}
 use Rattle.sha2.specs.Sha256.{sha256}
 use Rattle.hex.specs.Hex.{encode_lower}
-use Rattle.bz_token.specs.Bytes.{is_digit, line_feed}
+use Rattle.bz_items.specs.Characters.{line_feed, space}
+use Rattle.bz_token.specs.Bytes.{is_digit}
 use Rattle.bz_token.specs.Classes.{class_number}
 use Rattle.bz_exact.specs.Spellings.{counted_text, digit_zero, IsDigest, number_limit, numeral}
-use Rattle.bz_lex.specs.Characters.{space}
 use Rattle.bz_lex.specs.declared.leaf.Leaf.{Leaf}
 use Rattle.bz_tree.specs.Kinds.{kind_number}
 use Rattle.bz_tree.specs.Spell.{depth_part, depth_limit}

@@ -2,7 +2,7 @@
 ghost use Rattle.std.specs.Prelude.{◌≡◌, ◌-◌, ◌+◌, ◌<◌, ℕ};
 ghost use Rattle.bz_exact.specs.Outcomes.{Gives};
 ghost use Rattle.bz_exact.specs.Readers.{after_mark, listed_at, number_at, repeated};
-ghost use Rattle.bz_lex.specs.Characters.{space};
+ghost use Rattle.bz_items.specs.Characters.{space};
 ghost use Rattle.bz_record.specs.Reading.{digest_line_at, edit_at, entry_at, held_at};
 
 use crate::content::{Entry, Version};

@@ -3,7 +3,7 @@
 ghost use Rattle.std.specs.Prelude.{◌≡◌, ◌∷◌, ◌<◌, ◌≤◌, ◌^◌, [], ℕ};
 ghost use Rattle.bz_exact.specs.Outcomes.{Gives};
 ghost use Rattle.bz_exact.specs.Readers.{counted_at, tested};
-ghost use Rattle.bz_lex.specs.Characters.{space};
+ghost use Rattle.bz_items.specs.Characters.{space};
 ghost use Rattle.bz_record.specs.Reading.{digest_line_at, is_short_text, leaf_at, note_at, numbered_class_at, numbered_kind_at};
 ghost use Rattle.bz_record.specs.Texts.{version_line};
 

@@ -5,8 +5,7 @@ use Rattle.std.specs.Bool.{Decides}
 use Rattle.std.proofs.lemmas.Bool.Decides.{same_from_decides}
 use Rattle.std.proofs.lemmas.Slice.Eq.{bytes_eq-Decides}
 use Rattle.std.proofs.lemmas.List.{append_cancel_right}
-use Rattle.bz_value.specs.Gaps.{Bytes}
-use Rattle.bz_rule.specs.Characters.{full_stop}
+use Rattle.bz_items.specs.Characters.{Bytes, full_stop}
 use Rattle.bz_rule.specs.Rules.{is_text, dotted}
 
 abbrev joined_by : Bytes → Bytes → Bytes

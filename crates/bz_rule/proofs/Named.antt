@@ -2,7 +2,7 @@
 use Rattle.std.proofs.Common.{◌≡◌, ◌&&◌, false, List, refl, Option, Some, None, option_map, is_some}
 use Rattle.std.specs.Option.{option_and_then, option_map_or}
 use Rattle.bz_value.specs.declared.value.Expr.{Expr}
-use Rattle.bz_value.specs.Gaps.{Bytes}
+use Rattle.bz_items.specs.Characters.{Bytes}
 use Rattle.bz_rule.specs.Rules.{Call, Rule, is_text, dotted_name, named, name_in, name_of}
 
 abbrev made : List Expr → Bytes → Rule

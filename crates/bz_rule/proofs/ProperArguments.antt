@@ -17,7 +17,7 @@ use Rattle.bz_value.specs.declared.value.Form.{Form}
 use Rattle.bz_value.specs.declared.value.Expr.{Expr, Token, Form', items-the_row-Expr}
 use Rattle.bz_value.specs.declared.value.Expr.TheVariants as e
 use Rattle.bz_value.specs.Comments.{HostComments}
-use Rattle.bz_value.specs.Gaps.{Bytes}
+use Rattle.bz_items.specs.Characters.{Bytes}
 use Rattle.bz_value.specs.Proper.{IsComment, AreComments, behind_expr, has_break, ProperExpr}
 use Rattle.bz_value.specs.Roots.{root}
 use Rattle.bz_rule.specs.Rules.{is_text, text_in, value_behind, value_named, attribute}

@@ -11,7 +11,7 @@ use Rattle.bz_tree.specs.Shapes.{is_class}
 use Rattle.bz_value.specs.declared.value.Expr.{Expr, Token, Form', items-the_row-Expr}
 use Rattle.bz_value.specs.declared.value.Expr.TheVariants as e
 use Rattle.bz_value.specs.Comments.{HostComments}
-use Rattle.bz_value.specs.Gaps.{Bytes}
+use Rattle.bz_items.specs.Characters.{Bytes}
 use Rattle.bz_rule.specs.Values.{has_kind, has_class, text_of, parts_of, items_of, with_parts, with_items, with_text, on_row, on_items, on_first, on_third, on_lists}
 use Rattle.bz_rule.proofs.ProperForms.{InPlace, itself, EachInPlace, none, both, all_itself, each_mapped, lists_in_place}
 use Rattle.bz_rule.proofs.ProperShapes.{other_string}

@@ -8,7 +8,7 @@ use Rattle.bz_tree.specs.Shapes.{Sort, has_sort, is_kind}
 use Rattle.bz_tree.specs.Spots.{Within}
 use Rattle.bz_value.specs.declared.value.Expr.{Expr, Token, Form', items-the_row-Expr}
 use Rattle.bz_value.specs.Comments.{no_comments}
-use Rattle.bz_value.specs.Gaps.{Bytes}
+use Rattle.bz_items.specs.Characters.{Bytes}
 use Rattle.bz_value.specs.Proper.{AreComments, comments_of, has_break, ProperExpr}
 use Rattle.bz_value.specs.Roots.{root}
 use Rattle.bz_value.proofs.FormParts.{form_proper}

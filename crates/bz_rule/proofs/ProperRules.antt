@@ -10,7 +10,7 @@ use Rattle.bz_value.specs.declared.value.Expr.{Expr, Token, Form', items-the_row
 use Rattle.bz_value.specs.declared.value.Item.{Item}
 use Rattle.bz_value.specs.declared.value.Item.TheVariants as i
 use Rattle.bz_value.specs.Comments.{HostComments}
-use Rattle.bz_value.specs.Gaps.{Bytes}
+use Rattle.bz_items.specs.Characters.{Bytes}
 use Rattle.bz_value.specs.Proper.{AreComments, IsBare, ProperExpr, IsProperItem}
 use Rattle.bz_value.specs.Roots.{root}
 use Rattle.bz_rule.specs.Rules.{Rule, only, form_in, called, named, rule_of, dotted_name}

@@ -10,8 +10,7 @@ use Rattle.bz_tree.specs.Shapes.{Sort, Terminal, Fits, Listed, Behind, has_token
 use Rattle.bz_tree.specs.Legal.{IsSort}
 use Rattle.bz_tree.specs.Spots.{Spot, Within}
 use Rattle.bz_value.specs.declared.value.Expr.{Expr, Token, Form', items-the_row-Expr}
-use Rattle.bz_value.specs.Characters.{comma}
-use Rattle.bz_value.specs.Gaps.{Bytes}
+use Rattle.bz_items.specs.Characters.{Bytes, comma}
 use Rattle.bz_value.specs.Proper.{AreComments, comments_of, has_break, ProperExpr}
 use Rattle.bz_value.specs.Roots.{root, mark, each_with_comma}
 use Rattle.bz_value.proofs.FormParts.{AreItems}

@@ -1,4 +1,3 @@
-pub mod Characters
 pub mod Named
 pub mod QuoteMarks
 pub mod Rules

@@ -1,7 +1,7 @@
 -- Parts that may be names joined by dots, as the private functions that read them state them.
 use Rattle.std.specs.Prelude.{ℕ, suc, List, [], ◌∷◌, Option, map}
 use Rattle.bz_value.specs.declared.value.Expr.{Expr, Token, Form', Row_of-Expr, end_of-Expr, more_of-Expr}
-use Rattle.bz_value.specs.Gaps.{Bytes}
+use Rattle.bz_items.specs.Characters.{Bytes}
 use Rattle.bz_rule.specs.Rules.{dotted_name}
 
 -- each part with its own text

@@ -13,9 +13,7 @@ use Rattle.bz_value.specs.declared.value.Expr.{Expr, Form', Row_of-Expr, end_of-
 use Rattle.bz_value.specs.declared.value.Expr.TheVariants as e
 use Rattle.bz_value.specs.declared.value.Item.{Item}
 use Rattle.bz_value.specs.declared.value.Item.TheVariants as i
-use Rattle.bz_value.specs.Characters.{backslash}
-use Rattle.bz_value.specs.Gaps.{Bytes}
-use Rattle.bz_rule.specs.Characters.{full_stop, quotation_mark, apostrophe}
+use Rattle.bz_items.specs.Characters.{Bytes, apostrophe, backslash, full_stop, quotation_mark}
 
 -- ---- parts of a value
 

@@ -1,10 +1,9 @@
 //! Names joined by dots.
 ghost use Rattle.std.specs.Prelude.{◌≡◌, ◌≢◌, ◌<◌, MatchOption, IfSome, [], ◌∷◌, ◌++◌, false, Option, Some, None, is_some};
-ghost use Rattle.bz_value.specs.Gaps.{Bytes};
+ghost use Rattle.bz_items.specs.Characters.{Bytes, full_stop};
 ghost use Rattle.bz_token.specs.declared.class.Class.TheVariants as c;
 ghost use Rattle.bz_rule.specs.Rules.{is_text, text_in, dotted, joined, dotted_name};
 ghost use Rattle.bz_rule.specs.Named.{each_named, fronts, fronts_in};
-ghost use Rattle.bz_rule.specs.Characters.{full_stop};
 
 use crate::parts::{is_text, text_in};
 use bz_tree::{Class, Kind};

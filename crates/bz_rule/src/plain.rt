@@ -2,7 +2,7 @@
 ghost use Rattle.std.specs.Prelude.{◌≡◌, ◌||◌, [], ◌∷◌, ◌++◌, bytes_eq, nat_eq};
 ghost use Rattle.std.specs.List.{list_any};
 ghost use Rattle.std.specs.Option.{option_copied};
-ghost use Rattle.bz_value.specs.Characters.{backslash};
+ghost use Rattle.bz_items.specs.Characters.{backslash};
 ghost use Rattle.bz_rule.specs.Rules.{inner, is_plain_in, body};
 
 /// Whether the text begins and ends with this quote mark.

@@ -1,6 +1,6 @@
 -- End comments among the lines of two gaps.
 use Rattle.std.proofs.Common.{ℕ, Bool, true, false, ◌≡◌, List, [], ◌∷◌, ◌++◌, refl, sym, ap, ◌∙◌, append_assoc, if◌then◌else◌}
-use Rattle.bz_value.specs.Gaps.{Bytes}
+use Rattle.bz_items.specs.Characters.{Bytes}
 use Rattle.bz_value.specs.Indented.{IndentedGapLine}
 use Rattle.bz_suite.specs.View.{end_comments, behind_end, is_taken, comments_of}
 

@@ -13,7 +13,8 @@ use Rattle.bz_tree.specs.Spots.{Begins, Along, BzlStands, AtLeaves, AtParts}
 use Rattle.bz_tree.proofs.Balance.{no_such}
 use Rattle.bz_value.specs.declared.value.Expr.TheVariants as e
 use Rattle.bz_value.specs.Counted.{total, suffix_amount, amount}
-use Rattle.bz_value.specs.Gaps.{Bytes, all_in}
+use Rattle.bz_items.specs.Characters.{Bytes}
+use Rattle.bz_value.specs.Gaps.{all_in}
 use Rattle.bz_value.specs.Indented.{IndentedGapLine, indented}
 use Rattle.bz_value.proofs.Totals.{append_total, form_amount}
 use Rattle.bz_view.specs.View.{Seen, seen, first_gap, loose_in, items_in}

@@ -10,7 +10,8 @@ use Rattle.bz_tree.specs.Legal.{IsSort, LegalBzlPart}
 use Rattle.bz_tree.specs.Spots.{Begins, BzlStands, AtParts}
 use Rattle.bz_tree.proofs.Balance.{no_such}
 use Rattle.bz_value.specs.Counted.{total, one_if}
-use Rattle.bz_value.specs.Gaps.{Bytes, groups_of, all_but_last, last_group}
+use Rattle.bz_items.specs.Characters.{Bytes}
+use Rattle.bz_value.specs.Gaps.{groups_of, all_but_last, last_group}
 use Rattle.bz_value.specs.Indented.{IndentedGapLine}
 use Rattle.bz_value.proofs.Totals.{append_total}
 use Rattle.bz_view.specs.View.{seen}

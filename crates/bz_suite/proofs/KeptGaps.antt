@@ -18,9 +18,9 @@ use Rattle.bz_tree.specs.Shapes.{Sort, Terminal, Fits, bzl_shape, has_token, is_
 use Rattle.bz_tree.specs.Legal.{IsSort, LegalBzlPart, LegalBzlRow}
 use Rattle.bz_tree.specs.Spots.{Spot, Begins, Along, role, behind_token, behind_part, BzlGapStands, BzlStands, AtLeaves, AtRow}
 use Rattle.bz_tree.proofs.Balance.{no_such, same_class, inner_sort}
-use Rattle.bz_value.specs.Characters.{line_feed}
+use Rattle.bz_items.specs.Characters.{Bytes, line_feed}
 use Rattle.bz_value.specs.Frames.{frame}
-use Rattle.bz_value.specs.Gaps.{Bytes, in_comment, listed, all_in}
+use Rattle.bz_value.specs.Gaps.{in_comment, listed, all_in}
 use Rattle.bz_view.specs.View.{seen, seen_row, node_in, first_gap}
 use Rattle.bz_view.proofs.InnerParts.{ends_line, is_inner, inner_kind, inner_tokens, every, every_part, token_inner, sort_inner}
 use Rattle.bz_view.proofs.KeptParts.{KeptPart, AllKept, held, node_kept}

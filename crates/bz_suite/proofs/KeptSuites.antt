@@ -13,7 +13,8 @@ use Rattle.bz_tree.specs.Spots.{Spot, Begins, Along, BzlStands, AtLeaves, AtPart
 use Rattle.bz_tree.proofs.Balance.{no_such, parts_of_row}
 use Rattle.bz_value.specs.Counted.{total, suffix_amount}
 use Rattle.bz_value.specs.Frames.{frame}
-use Rattle.bz_value.specs.Gaps.{Bytes, all_in}
+use Rattle.bz_items.specs.Characters.{Bytes}
+use Rattle.bz_value.specs.Gaps.{all_in}
 use Rattle.bz_value.specs.Indented.{IndentedGapLine, indented}
 use Rattle.bz_value.proofs.Totals.{append_total}
 use Rattle.bz_view.specs.View.{seen, seen_row, node_in, first_gap, last_gap}

@@ -6,7 +6,8 @@ use Rattle.bz_value.specs.declared.value.Expr.TheVariants as e
 use Rattle.bz_value.specs.declared.value.Item.{Item}
 use Rattle.bz_value.specs.declared.value.Item.TheVariants as i
 use Rattle.bz_value.specs.Counted.{total, amount, item_amount}
-use Rattle.bz_value.specs.Gaps.{Bytes, comments_in, behind_first as behind_first_line}
+use Rattle.bz_items.specs.Characters.{Bytes}
+use Rattle.bz_value.specs.Gaps.{comments_in, behind_first as behind_first_line}
 use Rattle.bz_value.specs.Indented.{IndentedGapLine, indented}
 use Rattle.bz_view.specs.View.{Seen, statements_in, statement_in, blocks}
 use Rattle.bz_view.proofs.KeptFiles.{left_amount}

@@ -1,8 +1,8 @@
 -- The lines of a gap with their indents are its lines.
 use Rattle.std.proofs.Common.{ℕ, suc, Bool, true, false, ◌≡◌, ◌||◌, List, [], ◌∷◌, ◌++◌, Some, None, refl, sym, ap, ◌∙◌, map, nat_eq, if◌then◌else◌, append_assoc}
 use Rattle.std.proofs.lemmas.List.{map-append}
-use Rattle.bz_value.specs.Characters.{line_feed, number_sign, backslash, space, tab}
-use Rattle.bz_value.specs.Gaps.{Bytes, GapLine, CommentRest, trimmed, lines_of, in_comment, behind_backslash, comments_in, all_in, listed}
+use Rattle.bz_items.specs.Characters.{Bytes, backslash, line_feed, number_sign, space, tab}
+use Rattle.bz_value.specs.Gaps.{GapLine, CommentRest, trimmed, lines_of, in_comment, behind_backslash, comments_in, all_in, listed}
 use Rattle.bz_value.specs.Indented.{IndentedGapLine, indented, indented_from, indented_behind}
 use Rattle.bz_suite.specs.View.{comments_of}
 

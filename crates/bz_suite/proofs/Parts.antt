@@ -7,7 +7,7 @@ use Rattle.bz_tree.specs.declared.kind.Kind.TheVariants as k
 use Rattle.bz_tree.specs.Shapes.{is_kind}
 use Rattle.bz_tree.proofs.Nested.{row_of, items_of_row}
 use Rattle.std.proofs.lemmas.Bool.{cond-true, cond-false}
-use Rattle.bz_value.specs.Gaps.{Bytes}
+use Rattle.bz_items.specs.Characters.{Bytes}
 use Rattle.bz_value.specs.Indented.{IndentedGapLine, indented}
 use Rattle.bz_view.specs.View.{seen, first_gap}
 use Rattle.bz_suite.specs.View.{stated, stated_row, statement_read, suite_in, suffix_before, lines_before, line_read, compound_read, is_compound, SuiteRead}

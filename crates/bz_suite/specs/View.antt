@@ -10,7 +10,8 @@ use Rattle.bz_tree.specs.Shapes.{is_kind, is_one_of, colon}
 use Rattle.bz_value.specs.declared.value.Form.{Form}
 use Rattle.bz_value.specs.declared.value.Item.{Item}
 use Rattle.bz_value.specs.declared.value.Item.TheVariants as i
-use Rattle.bz_value.specs.Gaps.{Bytes, comments_in, all_in, groups_of, all_but_last, last_group}
+use Rattle.bz_items.specs.Characters.{Bytes}
+use Rattle.bz_value.specs.Gaps.{comments_in, all_in, groups_of, all_but_last, last_group}
 use Rattle.bz_value.specs.Indented.{IndentedGapLine, indented}
 use Rattle.bz_view.specs.View.{Seen, seen, plain, first_gap, last_gap, loose_in, row_exprs, items_in, is_split, statements_in, blocks}
 use Rattle.bz_suite.specs.declared.value.Statement.{Statement}

@@ -7,7 +7,7 @@ use Rattle.bz_value.specs.declared.value.Expr.{Expr, Token, Form'}
 use Rattle.bz_value.specs.declared.value.Item.{Item}
 use Rattle.bz_value.specs.declared.value.Item.TheVariants as i
 use Rattle.bz_value.specs.Exchanged.{is_bare_statement, is_bare, IsExchanged, AreExchanged}
-use Rattle.bz_value.specs.Gaps.{Bytes}
+use Rattle.bz_items.specs.Characters.{Bytes}
 use Rattle.bz_write.specs.Flags.{with_flags, item_with_flags, flags}
 use Rattle.bz_rule.specs.Values.{has_kind, above, on_first, on_third, behind_first, on_lists}
 use Rattle.std.proofs.lemmas.Bool.{and_left, and_right}

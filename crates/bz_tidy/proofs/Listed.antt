@@ -10,7 +10,7 @@ use Rattle.bz_token.specs.declared.class.Class.TheVariants as c
 use Rattle.bz_value.specs.Comments.{HostComments}
 use Rattle.bz_value.specs.Empty.{is_empty, is_none}
 use Rattle.bz_value.specs.declared.value.Expr.{Expr, Token, Form'}
-use Rattle.bz_value.specs.Gaps.{Bytes}
+use Rattle.bz_items.specs.Characters.{Bytes}
 use Rattle.bz_value.specs.Proper.{comments_of}
 use Rattle.bz_rule.specs.Values.{has_class, text_of, above, with_above}
 use Rattle.bz_tidy.specs.Orders.{sort_by}

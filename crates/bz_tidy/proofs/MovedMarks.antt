@@ -7,7 +7,7 @@ use Rattle.std.proofs.lemmas.Bool.{cases_Bool, or_from, or_parts, and_right, and
 use Rattle.std.proofs.lemmas.Slice.Eq.{bytes_eq-Decides}
 use Rattle.bz_label.specs.Keys.{key_order}
 use Rattle.bz_value.specs.declared.value.Expr.{Expr}
-use Rattle.bz_value.specs.Gaps.{Bytes}
+use Rattle.bz_items.specs.Characters.{Bytes}
 use Rattle.bz_rule.specs.Values.{text_of, above}
 use Rattle.bz_tidy.specs.Orders.{insert_by, sort_by}
 use Rattle.bz_rule.specs.QuoteMarks.{between}

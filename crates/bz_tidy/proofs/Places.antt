@@ -5,7 +5,7 @@ use Rattle.bz_tree.specs.declared.kind.Kind.{Kind}
 use Rattle.bz_tree.specs.declared.kind.Kind.TheVariants as k
 use Rattle.bz_tree.specs.Kinds.{kind_number}
 use Rattle.bz_value.specs.declared.value.Expr.{Expr, Token, Form'}
-use Rattle.bz_value.specs.Gaps.{Bytes}
+use Rattle.bz_items.specs.Characters.{Bytes}
 use Rattle.bz_write.specs.Flags.{with_flags}
 use Rattle.bz_rule.specs.Values.{has_kind, parts_of, items_of, with_items, with_parts, above, on_items, on_row, on_first, on_third, first_text, on_lists}
 use Rattle.bz_tidy.specs.Passes.{rule_kind, of_rule, on_call, on_rule, on_attribute, quoted}

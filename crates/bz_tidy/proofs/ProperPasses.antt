@@ -16,7 +16,7 @@ use Rattle.bz_value.specs.declared.value.Expr.TheVariants as e
 use Rattle.bz_value.specs.declared.value.Item.{Item}
 use Rattle.bz_value.specs.declared.value.Item.TheVariants as i
 use Rattle.bz_value.specs.Comments.{HostComments}
-use Rattle.bz_value.specs.Gaps.{Bytes}
+use Rattle.bz_items.specs.Characters.{Bytes}
 use Rattle.bz_value.specs.Proper.{AreComments, IsProperItem, IsProper}
 use Rattle.bz_write.proofs.FlaggedProper.{flags_proper}
 use Rattle.bz_rule.specs.Values.{has_kind, has_class, text_of, parts_of, items_of, with_parts, with_items, with_text, above, on_row, on_items, on_first, on_third, first_text, on_lists}

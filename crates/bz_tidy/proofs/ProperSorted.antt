@@ -7,7 +7,7 @@ use Rattle.bz_tree.specs.Shapes.{Sort}
 use Rattle.bz_value.specs.declared.value.Expr.{Expr, Token, Form'}
 use Rattle.bz_value.specs.Comments.{HostComments}
 use Rattle.bz_value.specs.Commented.{with_comments}
-use Rattle.bz_value.specs.Gaps.{Bytes}
+use Rattle.bz_items.specs.Characters.{Bytes}
 use Rattle.bz_value.specs.Proper.{IsComment, AreComments, comments_of}
 use Rattle.bz_rule.specs.Values.{above, with_above, text_of}
 use Rattle.bz_tidy.specs.Orders.{insert_by, sort_by}

@@ -14,10 +14,8 @@ use Rattle.bz_token.specs.Bytes.{is_quote}
 use Rattle.bz_token.specs.Lexemes.{IsShort, short_end, short_plain, short_taken, short_line, IsLong, long_end, long_plain, IsQuoted, single, triple, IsString, is_prefix}
 use Rattle.bz_label.specs.Pieces.{is_colon}
 use Rattle.bz_label.specs.Shorter.{before_colon, behind_colon, is_repeated, unrepeated}
-use Rattle.bz_rule.specs.Characters.{quotation_mark, apostrophe}
+use Rattle.bz_items.specs.Characters.{Bytes, apostrophe, backslash, quotation_mark}
 use Rattle.bz_rule.specs.Rules.{inner, is_plain_in}
-use Rattle.bz_value.specs.Characters.{backslash}
-use Rattle.bz_value.specs.Gaps.{Bytes}
 use Rattle.bz_tidy.specs.Strings.{holds, begins_single, in_double, with_double, shorter_string}
 use Rattle.bz_rule.specs.QuoteMarks.{begins_thrice, marks_of, inside}
 

@@ -12,7 +12,7 @@ use Rattle.bz_label.specs.Tables.{is_sorted, is_label_attribute, priority_of}
 use Rattle.bz_value.specs.declared.value.Expr.{Expr}
 use Rattle.bz_value.specs.declared.value.Item.{Item}
 use Rattle.bz_value.specs.declared.value.Item.TheVariants as i
-use Rattle.bz_value.specs.Gaps.{Bytes}
+use Rattle.bz_items.specs.Characters.{Bytes}
 use Rattle.bz_value.specs.Empty.{is_empty}
 use Rattle.bz_write.specs.Flags.{with_flags, item_with_flags, flags}
 use Rattle.bz_rule.specs.Values.{has_kind, text_of, parts_of, items_of, above, with_parts, on_first, on_third, behind_first, first_text, on_lists}

@@ -1,7 +1,7 @@
 -- A plain string whose label repeats no name stays.
 use Rattle.std.proofs.Common.{◌≡◌, Some, ◌++◌, take, sym, ap, ◌∙◌}
 use Rattle.std.specs.Option.{option_map_or}
-use Rattle.bz_value.specs.Gaps.{Bytes}
+use Rattle.bz_items.specs.Characters.{Bytes}
 use Rattle.bz_label.specs.Shorter.{unrepeated}
 use Rattle.bz_rule.specs.Rules.{body}
 use Rattle.bz_tidy.specs.Strings.{shorter_string}

@@ -1,7 +1,7 @@
 -- What is done to one statement, by what it is done to: lists, values, the arguments of a rule.
 use Rattle.std.specs.Prelude.{List, Option, Some, None, map}
 use Rattle.bz_value.specs.declared.value.Expr.{Expr}
-use Rattle.bz_value.specs.Gaps.{Bytes}
+use Rattle.bz_items.specs.Characters.{Bytes}
 use Rattle.bz_tidy.specs.declared.walk.ListChange.{ListChange}
 use Rattle.bz_tidy.specs.declared.walk.ListChange.TheVariants as l
 use Rattle.bz_tidy.specs.declared.walk.ValueChange.{ValueChange}

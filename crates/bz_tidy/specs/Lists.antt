@@ -5,7 +5,7 @@ use Rattle.std.specs.Ordering.{is_lt}
 use Rattle.bz_token.specs.declared.class.Class.TheVariants as c
 use Rattle.bz_label.specs.Keys.{key_order}
 use Rattle.bz_value.specs.declared.value.Expr.{Expr}
-use Rattle.bz_value.specs.Gaps.{Bytes}
+use Rattle.bz_items.specs.Characters.{Bytes}
 use Rattle.bz_value.specs.Proper.{comments_of}
 use Rattle.bz_value.specs.Empty.{is_empty, is_none}
 use Rattle.bz_rule.specs.Values.{has_class, text_of, above, with_above}

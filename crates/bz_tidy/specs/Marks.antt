@@ -1,7 +1,7 @@
 -- Marks in comments: texts that are sought ignoring ASCII case.
 use Rattle.std.specs.Prelude.{ℕ, Bool, true, false, ◌&&◌, ◌||◌, ◌==◌, ◌+◌, List, [], ◌∷◌, if◌then◌else◌, map, nat_le, codes, not}
 use Rattle.std.specs.List.{list_any, filter}
-use Rattle.bz_value.specs.Gaps.{Bytes}
+use Rattle.bz_items.specs.Characters.{Bytes}
 
 abbrev pub lower : ℕ → ℕ
 lower c = if nat_le 65 c && nat_le c 90 then c + 32 else c

@@ -2,9 +2,7 @@
 use Rattle.std.specs.Prelude.{ℕ, Bool, false, not, ◌&&◌, ◌||◌, [], ◌∷◌, ◌++◌, if◌then◌else◌, take, replicate, nat_eq}
 use Rattle.std.specs.List.{list_any}
 use Rattle.std.specs.Option.{option_map_or}
-use Rattle.bz_value.specs.Characters.{backslash}
-use Rattle.bz_value.specs.Gaps.{Bytes}
-use Rattle.bz_rule.specs.Characters.{quotation_mark, apostrophe}
+use Rattle.bz_items.specs.Characters.{Bytes, apostrophe, backslash, quotation_mark}
 use Rattle.bz_rule.specs.QuoteMarks.{marks_of, inside}
 use Rattle.bz_rule.specs.Rules.{body}
 use Rattle.bz_label.specs.Shorter.{unrepeated}

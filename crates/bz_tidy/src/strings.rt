@@ -1,7 +1,6 @@
 //! The texts of strings: double quote marks, and labels without a repeated name.
 ghost use Rattle.std.specs.Prelude.{◌≡◌, ◌++◌, ◌≤◌, ◌&&◌, ◌||◌, not, take, replicate, IfOk, OnOk};
-ghost use Rattle.bz_value.specs.Characters.{backslash};
-ghost use Rattle.bz_rule.specs.Characters.{quotation_mark};
+ghost use Rattle.bz_items.specs.Characters.{backslash, quotation_mark};
 ghost use Rattle.bz_rule.specs.QuoteMarks.{marks_of};
 ghost use Rattle.bz_tidy.specs.Strings.{begins_single, holds, in_double, with_double, shorter_string};
 

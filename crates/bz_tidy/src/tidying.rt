@@ -1,7 +1,7 @@
 //! The passes in turn.
 ghost use Rattle.std.specs.Prelude.{◌≡◌, IfOk, OnOk, map};
 ghost use Rattle.bz_value.specs.Counted.{times};
-ghost use Rattle.bz_value.specs.Gaps.{Bytes};
+ghost use Rattle.bz_items.specs.Characters.{Bytes};
 ghost use Rattle.bz_write.specs.Flags.{IsSettled, flags, item_with_flags};
 ghost use Rattle.bz_tidy.specs.Passes.{on_statement, on_taken, symbols_in, taken, tidied};
 ghost use Rattle.bz_tidy.specs.Changes.{changed};

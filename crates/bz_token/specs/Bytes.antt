@@ -1,10 +1,6 @@
 -- Tests on bytes.
 use Rattle.std.specs.Prelude.{ℕ, Bool, true, false, List, [], ◌∷◌, ◌&&◌, ◌||◌, nat_eq, nat_le, if◌then◌else◌}
 
--- the byte of a newline
-abbrev pub line_feed : ℕ
-line_feed = 10
-
 -- one of these bytes
 abbrev pub among : ℕ → List ℕ → Bool
 among b [] = false

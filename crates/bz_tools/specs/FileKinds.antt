@@ -1,7 +1,7 @@
 -- Which files are formatted as .bzl files, and what formatting a file answers.
 use Rattle.std.specs.Prelude.{Bool, true, false, codes, eqb, Result}
 use Rattle.std.specs.List.{ends_with}
-use Rattle.bz_value.specs.Gaps.{Bytes}
+use Rattle.bz_items.specs.Characters.{Bytes}
 use Rattle.bz_journal.specs.Faults.{FormatsTo}
 use Rattle.bz_journal.specs.declared.formatter.FormatFault.{FormatFault}
 use Rattle.bz_format.specs.Formatted.{FormatsBzlTo}

@@ -1,7 +1,7 @@
 -- What buildifier makes of standard input, or of files one after the other.
 use Rattle.std.specs.Prelude.{◌≡◌, ◌⊎◌, ◌==◌, ◌||◌, ℕ, List, [], ◌∷◌, ◌++◌, codes, bytes_eq, Bool, true, false, not, if◌then◌else◌, Option, Some, None, Result, Ok, Err}
 use Rattle.std.specs.FinMap.{get}
-use Rattle.bz_value.specs.Gaps.{Bytes}
+use Rattle.bz_items.specs.Characters.{Bytes}
 use Rattle.bz_files.specs.Folder.{Folder, SameBut, new_name, with_file, IsReplacing}
 use Rattle.bz_files.specs.declared.files.FileFault.{FileFault}
 use Rattle.bz_files.specs.declared.files.FileFault.TheVariants as file

@@ -2,7 +2,7 @@
 use Rattle.std.specs.Prelude.{◌==◌, List, [], ◌∷◌, length, codes, bytes_eq, if◌then◌else◌, unwrap_or, Option, Some, None, Result, Ok, Err, true}
 use Rattle.clap.specs.Words.{App, Rule, Row, all_of, first_of, fault_of, matches_of, new_app, new_rule, with_rule}
 use Rattle.clap.specs.declared.builder.action.ArgAction.TheVariants.{Append}
-use Rattle.bz_value.specs.Gaps.{Bytes}
+use Rattle.bz_items.specs.Characters.{Bytes}
 use Rattle.bz_tools.specs.declared.file_type.FileType.{FileType}
 use Rattle.bz_tools.specs.declared.file_type.FileType.TheVariants.{Auto, Build, Bzl}
 use Rattle.bz_tools.specs.declared.mode.Mode.{Mode}

@@ -4,8 +4,8 @@ use Rattle.std.proofs.lemmas.Bool.{both_ways, ne_eqb}
 use Rattle.std.proofs.lemmas.Bool.Decides.{nat_tests}
 use Rattle.bz_token.specs.Bytes.{is_blank}
 use Rattle.bz_lex.specs.Gaps.{IsGap, IsOneLine, nothing, blank, escaped, escaped_return, unescaped, comment, last_comment}
-use Rattle.bz_value.specs.Characters.{line_feed, number_sign, backslash}
-use Rattle.bz_value.specs.Gaps.{Bytes, in_comment, lines_of, has_newline}
+use Rattle.bz_items.specs.Characters.{Bytes, backslash, line_feed, number_sign}
+use Rattle.bz_value.specs.Gaps.{in_comment, lines_of, has_newline}
 
 -- a blank says nothing
 blank_silent : (c : ℕ) (g : Bytes) → is_blank c ≡ true → lines_of (c ∷ g) ≡ lines_of g

@@ -8,8 +8,8 @@ use Rattle.std.proofs.lemmas.List.Elements.{All-from_recursion}
 use Rattle.std.proofs.lemmas.Bool.{cases_Bool, eqb-true, eqb-false}
 use Rattle.std.proofs.lemmas.Bool.Decides.{nat_tests}
 use Rattle.bz_token.specs.Bytes.{is_blank}
-use Rattle.bz_value.specs.Characters.{line_feed, number_sign, backslash}
-use Rattle.bz_value.specs.Gaps.{Bytes, GapLine, with_first, trimmed, in_comment, behind_backslash, lines_of, listed, comments_in, first_comment, behind_first, suffix_in, others_in, all_in, on_first, before_groups, groups_of, all_but_last, last_group}
+use Rattle.bz_items.specs.Characters.{Bytes, backslash, line_feed, number_sign}
+use Rattle.bz_value.specs.Gaps.{GapLine, with_first, trimmed, in_comment, behind_backslash, lines_of, listed, comments_in, first_comment, behind_first, suffix_in, others_in, all_in, on_first, before_groups, groups_of, all_but_last, last_group}
 use Rattle.bz_value.specs.Proper.{IsComment, MaybeComment}
 
 abbrev OneLine : Bytes → Type 0

@@ -3,8 +3,8 @@ use Rattle.std.proofs.Common.{ℕ, zero, suc, true, false, eqb, ◌≡◌, ◌�
 use Rattle.std.proofs.lemmas.Bool.{ne_eqb}
 use Rattle.std.proofs.lemmas.List.{take_more, drop_all}
 use Rattle.bz_token.specs.Bytes.{is_blank}
-use Rattle.bz_value.specs.Characters.{line_feed}
-use Rattle.bz_value.specs.Gaps.{Bytes, with_first, trimmed, in_comment, behind_backslash, lines_of}
+use Rattle.bz_items.specs.Characters.{Bytes, line_feed}
+use Rattle.bz_value.specs.Gaps.{with_first, trimmed, in_comment, behind_backslash, lines_of}
 use Rattle.bz_value.specs.Indented.{indented, indented_behind}
 
 abbrev pub NoneBefore : ℕ → Bytes → Type 0

@@ -7,7 +7,7 @@ use Rattle.bz_tree.specs.declared.tree.Part.{Part}
 use Rattle.bz_tree.specs.Shapes as s
 use Rattle.bz_tree.specs.Shapes.{Sort, Terminal, Shape, Fits, Listed, Behind, Several, Times, no_more, once_more, shape, items, has_token, has_sort, is_one_of, is_terminal, tok, done}
 use Rattle.bz_tree.specs.Legal.{IsSort}
-use Rattle.bz_value.specs.Characters.{comma}
+use Rattle.bz_items.specs.Characters.{comma}
 use Rattle.bz_value.specs.Frames.{Frame, row, sequence, frame, lead}
 use Rattle.bz_value.specs.Roots.{mark, each_with_comma, row_in}
 

@@ -4,7 +4,7 @@ use Rattle.bz_value.specs.declared.value.Expr.{Expr, Token, Form', Row_of-Expr, 
 use Rattle.bz_value.specs.declared.value.Item.{Item}
 use Rattle.bz_value.specs.declared.value.Item.TheVariants as i
 use Rattle.bz_value.specs.Comments.{HostComments}
-use Rattle.bz_value.specs.Gaps.{Bytes}
+use Rattle.bz_items.specs.Characters.{Bytes}
 
 -- the sum of a number of each element
 abbrev pub total : {X : Type 0} → (X → ℕ) → List X → ℕ

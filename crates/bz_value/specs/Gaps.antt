@@ -2,10 +2,7 @@
 -- the newlines, and the groups of comment lines at file level.
 use Rattle.std.specs.Prelude.{ℕ, Bool, true, false, ◌||◌, List, [], ◌∷◌, ◌++◌, Option, Some, None, if◌then◌else◌, nat_eq}
 use Rattle.bz_token.specs.Bytes.{is_blank}
-use Rattle.bz_value.specs.Characters.{line_feed, number_sign, backslash}
-
-abbrev pub Bytes : Type 0
-Bytes = List ℕ
+use Rattle.bz_items.specs.Characters.{Bytes, backslash, line_feed, number_sign}
 
 -- A comment's text is kept without spaces, tabs and carriage returns at its end.
 abbrev pub with_first : ℕ → Bytes → Bytes

@@ -1,7 +1,7 @@
 -- What a gap says line by line, with the indent of each comment. (A .bzl file's end comments go by it.)
 use Rattle.std.specs.Prelude.{ℕ, suc, false, true, List, [], ◌∷◌, ◌||◌, None, Some, if◌then◌else◌, nat_eq}
-use Rattle.bz_value.specs.Characters.{line_feed, number_sign, backslash, space, tab}
-use Rattle.bz_value.specs.Gaps.{Bytes, GapLine, trimmed, in_comment}
+use Rattle.bz_items.specs.Characters.{Bytes, backslash, line_feed, number_sign, space, tab}
+use Rattle.bz_value.specs.Gaps.{GapLine, trimmed, in_comment}
 
 -- a line, and how many spaces and tabs stand right before its comment
 pub record IndentedGapLine : Type 0 where

@@ -1,4 +1,3 @@
-pub mod Characters
 pub mod Commented
 pub mod Comments
 pub mod Counted

@@ -10,10 +10,10 @@ use Rattle.bz_tree.specs.Spots.{Spot, Begins, Within, role, behind_token, behind
 use Rattle.bz_value.specs.declared.value.Expr.{Expr, Token, Form', Row_of-Expr, end_of-Expr, more_of-Expr}
 use Rattle.bz_value.specs.declared.value.Item.{Item}
 use Rattle.bz_value.specs.declared.value.Item.TheVariants as i
-use Rattle.bz_value.specs.Characters.{line_feed, number_sign}
+use Rattle.bz_items.specs.Characters.{Bytes, line_feed, number_sign}
 use Rattle.bz_value.specs.Comments.{HostComments, no_comments}
 use Rattle.bz_value.specs.Frames.{Frame, row, sequence, frame, is_binary, is_comprehension, is_statement}
-use Rattle.bz_value.specs.Gaps.{Bytes, trimmed}
+use Rattle.bz_value.specs.Gaps.{trimmed}
 use Rattle.bz_value.specs.Roots.{root, row_in}
 
 -- ---- comments

@@ -1,6 +1,7 @@
 -- Worked rows of gaps: a gap, and what it says.
 use Rattle.std.specs.Prelude.{◌≡◌, Bool, true, false, List, [], ◌∷◌, Option, Some, None, codes}
-use Rattle.bz_value.specs.Gaps.{Bytes, GapLine, lines_of, suffix_in, others_in, all_in, has_newline, groups_of, all_but_last, last_group}
+use Rattle.bz_items.specs.Characters.{Bytes}
+use Rattle.bz_value.specs.Gaps.{GapLine, lines_of, suffix_in, others_in, all_in, has_newline, groups_of, all_but_last, last_group}
 
 abbrev commented : Bytes → Bool → GapLine
 commented text newline = record { comment = Some text; newline = newline }

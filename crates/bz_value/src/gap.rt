@@ -2,7 +2,7 @@
 ghost use Rattle.std.specs.Prelude.{◌≡◌, ◌+◌, ◌-◌, ◌^◌, ◌||◌, [], ◌∷◌, ◌++◌, ◌<◌, ◌≤◌, suc, nat_eq, nat_lt, if◌then◌else◌, take, drop, length, IfSome, MatchOption, OnOk, IfOk};
 ghost use Rattle.std.specs.Option.{option_copied};
 ghost use Rattle.bz_token.specs.Bytes.{is_blank};
-ghost use Rattle.bz_value.specs.Characters.{space, tab};
+ghost use Rattle.bz_items.specs.Characters.{space, tab};
 ghost use Rattle.bz_value.specs.Gaps.{all_in, behind_backslash, behind_first, has_newline, in_comment, lines_of, others_in, suffix_in, trimmed};
 ghost use Rattle.bz_value.specs.Indented.{indented, indented_behind};
 

@@ -3,7 +3,8 @@ use Rattle.std.proofs.Common.{Bor, Result, Ok, Err, IfOk, OnOk, Bool, ◌≡◌,
 use Rattle.std.specs.Option.{option_copied}
 use Rattle.bz_value.specs.declared.value.Item.{Item}
 use Rattle.bz_value.specs.declared.value.Item.TheVariants as i
-use Rattle.bz_value.specs.Gaps.{Bytes, GapLine, lines_of, on_first, groups_of, all_but_last, last_group}
+use Rattle.bz_items.specs.Characters.{Bytes}
+use Rattle.bz_value.specs.Gaps.{GapLine, lines_of, on_first, groups_of, all_but_last, last_group}
 use Rattle.bz_view.specs.View.{blocks}
 use Rattle.bz_view.specs.Walks.{prepend}
 

@@ -12,7 +12,8 @@ use Rattle.bz_tree.specs.Spots.{Begins, behind_node, Stands, AtRow, AtParts}
 use Rattle.bz_tree.proofs.Balance.{no_such, parts_of_row}
 use Rattle.bz_tree.proofs.Numbers.{same_kind}
 use Rattle.bz_value.specs.Counted.{total, item_amount, one_if}
-use Rattle.bz_value.specs.Gaps.{Bytes, GapLine, lines_of, comments_in, behind_first, groups_of, all_but_last, last_group, suffix_in}
+use Rattle.bz_items.specs.Characters.{Bytes}
+use Rattle.bz_value.specs.Gaps.{GapLine, lines_of, comments_in, behind_first, groups_of, all_but_last, last_group, suffix_in}
 use Rattle.bz_view.specs.Kept.{CommentsKept}
 use Rattle.bz_view.specs.View.{seen, seen_row, first_gap, last_gap, blocks, statements_in, line_items, file_items}
 use Rattle.bz_view.proofs.KeptParts.{AllKept, host_kept, token_part, parts_kept}

@@ -10,7 +10,8 @@ use Rattle.bz_tree.specs.Legal.{LegalPart, LegalRow}
 use Rattle.bz_value.specs.Comments.{no_comments}
 use Rattle.bz_value.specs.Counted.{total, suffix_amount, amount}
 use Rattle.bz_value.specs.Frames.{Frame, row, sequence, frame, lead, is_binary}
-use Rattle.bz_value.specs.Gaps.{Bytes, suffix_in, others_in, all_in, has_newline}
+use Rattle.bz_items.specs.Characters.{Bytes}
+use Rattle.bz_value.specs.Gaps.{suffix_in, others_in, all_in, has_newline}
 use Rattle.bz_value.specs.Proper.{is_operator}
 use Rattle.bz_view.specs.View.{Seen, seen, node_in, plain, first_gap, begins_operator, loose_in, loose_behind, row_exprs, items_in}
 use Rattle.bz_view.specs.Walks.{form_in, loose_of}

@@ -9,7 +9,8 @@ use Rattle.bz_value.specs.declared.value.Item.{Item}
 use Rattle.bz_value.specs.declared.value.Item.TheVariants as i
 use Rattle.bz_value.specs.Commented.{with_comments}
 use Rattle.bz_value.specs.Comments.{HostComments, no_comments}
-use Rattle.bz_value.specs.Gaps.{Bytes, GapLine, lines_of, behind_first, groups_of, all_but_last, last_group, suffix_in}
+use Rattle.bz_items.specs.Characters.{Bytes}
+use Rattle.bz_value.specs.Gaps.{GapLine, lines_of, behind_first, groups_of, all_but_last, last_group, suffix_in}
 use Rattle.bz_view.specs.View.{Seen, seen, first_gap, last_gap, blocks, statement, statements_in, line_items, file_items}
 use Rattle.bz_view.specs.Walks.{line_suffix}
 use Rattle.bz_view.proofs.NodeViews.{seen_comments, seen_parts}

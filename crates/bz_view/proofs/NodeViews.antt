@@ -14,7 +14,8 @@ use Rattle.bz_value.specs.declared.value.Seq.{Seq}
 use Rattle.bz_value.specs.Commented.{with_comments}
 use Rattle.bz_value.specs.Comments.{HostComments, no_comments}
 use Rattle.bz_value.specs.Frames.{Frame, row, sequence, frame, has_brackets, lead}
-use Rattle.bz_value.specs.Gaps.{Bytes, has_newline}
+use Rattle.bz_items.specs.Characters.{Bytes}
+use Rattle.bz_value.specs.Gaps.{has_newline}
 use Rattle.bz_value.specs.Proper.{is_operator}
 use Rattle.bz_view.specs.View.{Seen, seen, seen_row, node_in, plain, first_gap, is_open, is_split}
 use Rattle.bz_view.specs.Walks.{form_in, loose_of, seq_in}

@@ -26,7 +26,8 @@ use Rattle.bz_tree.proofs.Trees.{parts_legal}
 use Rattle.bz_value.specs.declared.value.Item.{Item}
 use Rattle.bz_value.specs.Comments.{HostComments}
 use Rattle.bz_value.specs.Frames.{Frame, row, sequence, frame, is_statement}
-use Rattle.bz_value.specs.Gaps.{Bytes, GapLine, lines_of, behind_first, groups_of, all_but_last, last_group, suffix_in}
+use Rattle.bz_items.specs.Characters.{Bytes}
+use Rattle.bz_value.specs.Gaps.{GapLine, lines_of, behind_first, groups_of, all_but_last, last_group, suffix_in}
 use Rattle.bz_value.specs.Proper.{IsComment, MaybeComment, AreComments, has_statement_kind, IsProperItem, IsProper}
 use Rattle.bz_value.proofs.Begun.{moved_expr}
 use Rattle.bz_value.proofs.GapComments.{AreFine, Group, Groups, all_joined, fine_lines, fine_behind, suffix_fine, groups_fine, groups_front, groups_last}

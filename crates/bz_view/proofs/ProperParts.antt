@@ -19,7 +19,8 @@ use Rattle.bz_value.specs.declared.value.Expr.{Expr}
 use Rattle.bz_value.specs.declared.value.Form.{Form}
 use Rattle.bz_value.specs.Comments.{HostComments, no_comments}
 use Rattle.bz_value.specs.Frames.{Frame, row, sequence, frame, lead, is_binary, is_comprehension}
-use Rattle.bz_value.specs.Gaps.{Bytes, all_in, has_newline}
+use Rattle.bz_items.specs.Characters.{Bytes}
+use Rattle.bz_value.specs.Gaps.{all_in, has_newline}
 use Rattle.bz_value.specs.Roots.{root, row_in}
 use Rattle.bz_value.specs.Proper.{IsComment, is_operator, in_frame, ProperExpr}
 use Rattle.bz_value.proofs.FormParts.{AsRow, AsSequence, form_proper}

@@ -15,9 +15,9 @@ use Rattle.bz_tree.specs.Shapes.{Fits, Listed, tok, done, has_token}
 use Rattle.bz_tree.specs.Legal.{IsSort, LegalPart, LegalRow}
 use Rattle.bz_tree.specs.Spots.{Spot, Begins, Along, onward, behind_part, GapStands, Stands, AtLeaves, AtRow, AtParts}
 use Rattle.bz_tree.proofs.Balance.{no_such}
-use Rattle.bz_value.specs.Characters.{line_feed, number_sign, backslash}
+use Rattle.bz_items.specs.Characters.{Bytes, backslash, line_feed, number_sign}
 use Rattle.bz_value.specs.Frames.{frame}
-use Rattle.bz_value.specs.Gaps.{Bytes, lines_of, all_in}
+use Rattle.bz_value.specs.Gaps.{lines_of, all_in}
 use Rattle.bz_view.specs.View.{seen, seen_row, first_gap}
 use Rattle.bz_view.proofs.InnerParts.{ends_line, is_inner, token_inner, sort_inner, inner_parts, sort_goes, token_goes}
 use Rattle.bz_view.proofs.RowParts.{on_twice}

@@ -7,7 +7,8 @@ use Rattle.bz_value.specs.declared.value.Expr.{Expr}
 use Rattle.bz_value.specs.declared.value.Seq.{Seq}
 use Rattle.bz_value.specs.Commented.{with_comments}
 use Rattle.bz_value.specs.Comments.{HostComments, no_comments}
-use Rattle.bz_value.specs.Gaps.{Bytes, suffix_in, others_in, all_in}
+use Rattle.bz_items.specs.Characters.{Bytes}
+use Rattle.bz_value.specs.Gaps.{suffix_in, others_in, all_in}
 use Rattle.bz_view.specs.View.{Seen, seen, plain, is_split, first_gap, last_gap, items_in, loose_behind}
 use Rattle.bz_view.specs.Walks.{seq_in, loose_from, suffix_behind, above_behind}
 use Rattle.bz_view.proofs.NodeViews.{seen_comments}

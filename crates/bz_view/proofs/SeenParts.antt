@@ -15,7 +15,8 @@ use Rattle.bz_tree.specs.Spots.{Spot, Along, behind_node, behind_part, GapStands
 use Rattle.bz_tree.proofs.Balance.{no_such}
 use Rattle.bz_value.specs.Comments.{HostComments, no_comments}
 use Rattle.bz_value.specs.Frames.{Frame, row, sequence, frame, lead}
-use Rattle.bz_value.specs.Gaps.{Bytes, all_in, has_newline}
+use Rattle.bz_items.specs.Characters.{Bytes}
+use Rattle.bz_value.specs.Gaps.{all_in, has_newline}
 use Rattle.bz_value.specs.Roots.{root}
 use Rattle.bz_value.specs.Proper.{IsComment, comments_of, has_break, is_operator, behind_expr}
 use Rattle.bz_value.proofs.AlongGaps.{along_quiet}

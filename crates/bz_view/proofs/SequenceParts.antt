@@ -12,7 +12,8 @@ use Rattle.bz_tree.specs.Spots.{Spot, Within, behind_part, Stands, AtLeaves, AtP
 use Rattle.bz_value.specs.declared.value.Expr.{Expr}
 use Rattle.bz_value.specs.Comments.{HostComments, no_comments}
 use Rattle.bz_value.specs.Frames.{Frame, row, sequence, frame, lead}
-use Rattle.bz_value.specs.Gaps.{Bytes, suffix_in, others_in, all_in}
+use Rattle.bz_items.specs.Characters.{Bytes}
+use Rattle.bz_value.specs.Gaps.{suffix_in, others_in, all_in}
 use Rattle.bz_value.specs.Roots.{root}
 use Rattle.bz_value.specs.Proper.{IsComment, MaybeComment, AreComments, comments_of}
 use Rattle.bz_value.proofs.FormParts.{AreHead, AreItems}

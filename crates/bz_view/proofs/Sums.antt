@@ -11,7 +11,8 @@ use Rattle.bz_value.proofs.Totals.{append_total, form_amount, inner_amount}
 use Rattle.bz_value.specs.Comments.{HostComments, no_comments}
 use Rattle.bz_value.specs.Counted.{total, suffix_amount, host_amount, amount, item_amount}
 use Rattle.bz_value.specs.Frames.{Frame, row, sequence, frame}
-use Rattle.bz_value.specs.Gaps.{Bytes, GapLine, lines_of, listed, comments_in, first_comment, behind_first, on_first, before_groups, groups_of, all_but_last, last_group, suffix_in, others_in, all_in}
+use Rattle.bz_items.specs.Characters.{Bytes}
+use Rattle.bz_value.specs.Gaps.{GapLine, lines_of, listed, comments_in, first_comment, behind_first, on_first, before_groups, groups_of, all_but_last, last_group, suffix_in, others_in, all_in}
 use Rattle.bz_view.specs.View.{Seen, seen, seen_row, node_in, plain, blocks}
 use Rattle.bz_view.specs.Walks.{form_in}
 

@@ -5,7 +5,8 @@ use Rattle.bz_tree.specs.declared.tree.Node.{Node}
 use Rattle.bz_tree.specs.Legal.{Legal}
 use Rattle.bz_tree.specs.Spell.{leaves_of}
 use Rattle.bz_value.specs.Counted.{total, one_if, times}
-use Rattle.bz_value.specs.Gaps.{Bytes, all_in}
+use Rattle.bz_items.specs.Characters.{Bytes}
+use Rattle.bz_value.specs.Gaps.{all_in}
 use Rattle.bz_view.specs.View.{view_of}
 
 -- the comments of a tree: those in the gaps of its leaves, in the order of the text

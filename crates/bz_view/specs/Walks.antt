@@ -5,7 +5,8 @@ use Rattle.bz_value.specs.declared.value.Form.{Form}
 use Rattle.bz_value.specs.declared.value.Seq.{Seq}
 use Rattle.bz_value.specs.Comments.{HostComments}
 use Rattle.bz_value.specs.Frames.{Frame, row, sequence, lead, is_binary, is_comprehension}
-use Rattle.bz_value.specs.Gaps.{Bytes, suffix_in, others_in, all_in}
+use Rattle.bz_items.specs.Characters.{Bytes}
+use Rattle.bz_value.specs.Gaps.{suffix_in, others_in, all_in}
 use Rattle.bz_view.specs.View.{Seen, plain, first_gap, loose_in, loose_behind, row_exprs, items_in, is_split, is_open}
 
 -- a sequence, from behind its opening bracket on

@@ -1,7 +1,7 @@
 //! The view of a tree that is given up.
 ghost use Rattle.std.specs.Prelude.{◌≡◌, [], IfOk};
 ghost use Rattle.bz_value.specs.Counted.{times};
-ghost use Rattle.bz_value.specs.Gaps.{Bytes};
+ghost use Rattle.bz_items.specs.Characters.{Bytes};
 ghost use Rattle.bz_view.specs.Kept.{occurrences};
 ghost use Rattle.bz_view.specs.View.{file_items, view_of};
 

@@ -2,7 +2,8 @@
 ghost use Rattle.std.specs.Prelude.{◌≡◌, ◌<◌, [], ◌∷◌, ◌++◌, List, length, map, drop, IfOk, OnOk};
 ghost use Rattle.bz_tree.specs.declared.tree.Part.{Part};
 ghost use Rattle.bz_value.specs.Counted.{times};
-ghost use Rattle.bz_value.specs.Gaps.{Bytes, lines_of, suffix_in};
+ghost use Rattle.bz_items.specs.Characters.{Bytes};
+ghost use Rattle.bz_value.specs.Gaps.{lines_of, suffix_in};
 ghost use Rattle.bz_view.specs.Kept.{occurrences};
 ghost use Rattle.bz_view.specs.View.{file_items, seen, statements_in, view_of};
 ghost use Rattle.bz_view.specs.Walks.{line_suffix};

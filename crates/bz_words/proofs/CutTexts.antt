@@ -4,7 +4,7 @@ use Rattle.std.specs.List.{position, position_or_len}
 use Rattle.std.proofs.lemmas.Bool.{ltb-false}
 use Rattle.std.proofs.lemmas.List.Quantifiers.{position-Some}
 use Rattle.std.proofs.lemmas.List.Sums.{fails_before_first}
-use Rattle.bz_words.specs.Characters.{Bytes}
+use Rattle.bz_items.specs.Characters.{Bytes}
 use Rattle.bz_words.specs.Commands.{cut_at}
 
 -- the byte stands there, and at no place before it

@@ -1,7 +1,7 @@
 -- What each word is, one word after the other.
 use Rattle.std.proofs.Common.{◌≡◌, Option, Some, None, List, [], ◌∷◌, ◌++◌, ap, append_assoc, refl, sym, ◌∙◌, option_map}
 use Rattle.std.specs.Option.{option_and_then}
-use Rattle.bz_words.specs.Characters.{Bytes}
+use Rattle.bz_items.specs.Characters.{Bytes}
 use Rattle.bz_words.specs.Commands.{each_of}
 
 -- behind what is there already

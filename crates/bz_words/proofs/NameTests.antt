@@ -10,7 +10,7 @@ use Rattle.bz_token.specs.Bytes.{is_digit, is_high, is_letter}
 use Rattle.bz_token.specs.Lexemes.{is_keyword, IsLetters, none, one, three, IsWord, IsLexeme}
 use Rattle.bz_token.specs.Tokens.{IsToken, NoToken, TokenAt}
 use Rattle.bz_token.proofs.Laws.{one_token}
-use Rattle.bz_words.specs.Characters.{Bytes}
+use Rattle.bz_items.specs.Characters.{Bytes}
 use Rattle.bz_words.specs.Identifiers.{is_plain_letter, are_letters, is_word_of_letters, is_identifier, IdentifiersAreNames}
 
 -- ---- letters

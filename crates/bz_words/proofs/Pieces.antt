@@ -4,7 +4,7 @@ use Rattle.std.specs.Prelude.{if◌then◌else◌}
 use Rattle.std.proofs.lemmas.List.{append-nil}
 use Rattle.std.proofs.lemmas.Bool.{eqb-true, ne_eqb}
 use Rattle.std.specs.List.{onto_first}
-use Rattle.bz_words.specs.Characters.{Bytes, space, backslash}
+use Rattle.bz_items.specs.Characters.{Bytes, backslash, space}
 use Rattle.bz_words.specs.Words.{pieces, begins_with_space, unescaped, is_nonempty, words_of}
 
 -- the unescaped pieces, the first of which goes on

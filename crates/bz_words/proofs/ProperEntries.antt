@@ -5,7 +5,7 @@ use lib.Utf8.{encode}
 use Rattle.std.specs.Option.{option_and_then, option_map_or}
 use Rattle.std.proofs.lemmas.Bool.{and_parts}
 use Rattle.std.proofs.lemmas.Str.{IsUtf8-from_is_utf8}
-use Rattle.bz_words.specs.Characters.{Bytes, colon, equals_sign}
+use Rattle.bz_items.specs.Characters.{Bytes, colon, equals_sign}
 use Rattle.bz_words.specs.Words.{is_nonempty}
 use Rattle.bz_words.specs.Identifiers.{is_identifier}
 use Rattle.bz_words.specs.Commands as c

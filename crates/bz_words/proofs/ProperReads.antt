@@ -3,7 +3,7 @@ use Rattle.std.proofs.Common.{◌≡◌, Bool, true, false, List, ◌&&◌, Opti
 use Rattle.std.specs.Prelude.{if◌then◌else◌}
 use Rattle.std.specs.Option.{ok_or}
 use Rattle.std.proofs.lemmas.Bool.{and_parts}
-use Rattle.bz_words.specs.Characters.{Bytes}
+use Rattle.bz_items.specs.Characters.{Bytes}
 use Rattle.bz_words.specs.Words.{is_nonempty}
 use Rattle.bz_words.specs.Identifiers.{is_identifier}
 use Rattle.bz_words.specs.Commands as c

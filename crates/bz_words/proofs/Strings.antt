@@ -3,9 +3,9 @@ use Rattle.std.proofs.Common.{◌≡◌, ◌==◌, ℕ, false, [], ◌∷◌, �
 use Rattle.std.specs.List.{flat_map, list_any}
 use Rattle.std.proofs.lemmas.Bool.{cases_Bool, or_parts}
 use Rattle.bz_token.specs.declared.class.Class.TheVariants as class
-use Rattle.bz_token.specs.Bytes.{among, line_feed}
+use Rattle.bz_items.specs.Characters.{Bytes, backslash, line_feed, quotation_mark}
+use Rattle.bz_token.specs.Bytes.{among}
 use Rattle.bz_token.specs.Lexemes.{IsShort, short_end, short_plain, short_taken, single, IsLexeme}
-use Rattle.bz_words.specs.Characters.{Bytes, quotation_mark, backslash}
 use Rattle.bz_words.specs.Quoted.{is_escaped, escaped, quoted_of}
 
 -- a byte that stands by itself

@@ -8,8 +8,7 @@ use Rattle.std.proofs.lemmas.Str.{IsUtf8-take, IsUtf8-drop, IsUtf8-append, IsUtf
 use Rattle.std.proofs.lemmas.Str.Ascii.{IsAscii-from_all}
 use Rattle.std.proofs.lemmas.List.Elements.{All-cons}
 use Rattle.std.proofs.Math.Seq.{get_or-append_seam}
-use Rattle.bz_token.specs.Bytes.{line_feed}
-use Rattle.bz_words.specs.Characters.{Bytes, space, quotation_mark, backslash, letter_n}
+use Rattle.bz_items.specs.Characters.{Bytes, backslash, letter_n, line_feed, quotation_mark, space}
 use Rattle.bz_words.specs.Commands.{cut_at}
 use Rattle.bz_words.specs.Proper.{AreUtf8}
 use Rattle.bz_words.specs.Quoted.{escaped, quoted_of}

@@ -1,6 +1,6 @@
 -- The names and the numbers of faults.
 use Rattle.std.specs.Prelude.{ℕ, codes}
-use Rattle.bz_words.specs.Characters.{Bytes}
+use Rattle.bz_items.specs.Characters.{Bytes}
 use Rattle.bz_words.specs.declared.fault.CommandFault.{CommandFault}
 use Rattle.bz_words.specs.declared.fault.CommandFault.TheVariants.{Unknown, Arguments, BadPattern, Memory}
 

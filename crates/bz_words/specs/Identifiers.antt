@@ -4,7 +4,7 @@ use Rattle.std.specs.List.{list_all, slice_split}
 use Rattle.bz_token.specs.declared.class.Class.TheVariants as class
 use Rattle.bz_token.specs.Bytes.{is_digit, is_high, is_letter}
 use Rattle.bz_token.specs.Lexemes.{is_keyword, IsLexeme}
-use Rattle.bz_words.specs.Characters.{Bytes, full_stop}
+use Rattle.bz_items.specs.Characters.{Bytes, full_stop}
 
 -- a letter, a digit or `_`, told from its byte alone: EF tells nothing
 abbrev pub is_plain_letter : ℕ → Bool

@@ -1,4 +1,3 @@
-pub mod Characters
 pub mod Commands
 pub mod Faults
 pub mod Identifiers

@@ -1,8 +1,7 @@
 -- Words as strings.
 use Rattle.std.specs.Prelude.{ℕ, ◌==◌, Bool, ◌||◌, [], ◌∷◌, ◌++◌, if◌then◌else◌}
 use Rattle.std.specs.List.{flat_map}
-use Rattle.bz_token.specs.Bytes.{line_feed}
-use Rattle.bz_words.specs.Characters.{Bytes, quotation_mark, backslash, letter_n}
+use Rattle.bz_items.specs.Characters.{Bytes, backslash, letter_n, line_feed, quotation_mark}
 
 -- a quotation mark, a backslash or a newline, which cannot stand in a string by itself
 abbrev pub is_escaped : ℕ → Bool

@@ -1,7 +1,7 @@
 -- Why a text gives no command.
 use Rattle.std.specs.Prelude.{◌≡◌, ◌⊎◌, Ok, Err}
 use Rattle.bz_pattern.specs.Patterns.{IsRefusedPattern}
-use Rattle.bz_words.specs.Characters.{Bytes}
+use Rattle.bz_items.specs.Characters.{Bytes}
 use Rattle.bz_words.specs.Commands.{Read, command_of}
 use Rattle.bz_words.specs.declared.command.Operation.TheVariants as w
 use Rattle.bz_words.specs.declared.command.ValueOperation.TheVariants as wv

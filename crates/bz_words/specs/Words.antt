@@ -2,7 +2,7 @@
 -- goes; other backslashes stay.
 use Rattle.std.specs.Prelude.{◌==◌, List, [], ◌∷◌, map, filter, Bool, true, false, if◌then◌else◌, ◌&&◌, not}
 use Rattle.std.specs.List.{onto_first}
-use Rattle.bz_words.specs.Characters.{Bytes, space, backslash}
+use Rattle.bz_items.specs.Characters.{Bytes, backslash, space}
 
 -- The pieces between the spaces that have no backslash right before them. The flag: a backslash stands right before the text.
 abbrev pub pieces : Bool → Bytes → List Bytes

@@ -1,6 +1,6 @@
 //! What the commands on dicts read.
 ghost use Rattle.std.specs.Prelude.{◌≡◌, ◌⊎◌, Ok, Err, IfOk, IfErr, List};
-ghost use Rattle.bz_words.specs.Characters.{Bytes};
+ghost use Rattle.bz_items.specs.Characters.{Bytes};
 ghost use Rattle.bz_words.specs.Commands as c;
 ghost use Rattle.bz_words.specs.declared.command.Entry.{Entry as EntryIn};
 ghost use Rattle.bz_words.specs.declared.command.Operation.{Operation as OperationIn};

@@ -3,7 +3,7 @@ ghost use Rattle.std.specs.Prelude.{◌≡◌, ◌++◌, ◌∷◌, [], OnOk, If
 ghost use Rattle.std.specs.List.{list_any};
 ghost use Rattle.bz_token.specs.declared.class.Class.TheVariants as class;
 ghost use Rattle.bz_token.specs.Lexemes.{IsLexeme};
-ghost use Rattle.bz_words.specs.Characters.{quotation_mark};
+ghost use Rattle.bz_items.specs.Characters.{quotation_mark};
 ghost use Rattle.bz_words.specs.Quoted.{is_escaped, escaped, quoted_of};
 
 use bz_items::{Memory, Text};

@@ -1,7 +1,7 @@
 //! What each command reads in the words behind its name.
 ghost use Rattle.std.specs.Prelude.{◌≡◌, ◌⊎◌, ◌∷◌, [], false, List, Ok, Err, Some, is_some, IfOk, IfErr, IfSome, IsSomeAnd};
 ghost use Rattle.std.specs.List.{list_any};
-ghost use Rattle.bz_words.specs.Characters.{Bytes};
+ghost use Rattle.bz_items.specs.Characters.{Bytes};
 ghost use Rattle.bz_words.specs.Commands as c;
 ghost use Rattle.bz_words.specs.Proper.{AreUtf8};
 ghost use Rattle.bz_words.specs.Refused.{HasBadPattern, IsCommandFault};

@@ -1,6 +1,6 @@
 //! The words of a command's text.
 ghost use Rattle.std.specs.Prelude.{◌≡◌, ◌==◌, [], ◌∷◌, ◌++◌, filter, not, OnOk, IfOk, ◌&&◌};
-ghost use Rattle.bz_words.specs.Characters.{space, backslash};
+ghost use Rattle.bz_items.specs.Characters.{backslash, space};
 ghost use Rattle.bz_words.specs.Words.{words_of, begins_with_space, is_nonempty};
 
 use bz_items::{Memory, Text};

@@ -2,7 +2,7 @@
 use Rattle.std.proofs.Common.{◌≡◌, List, [], ◌∷◌, Option, Some, None, refl, sym, ap, subst, codes, ◌∙◌}
 use Rattle.std.specs.FinMap.{get}
 use Rattle.bz_files.specs.Folder.{Folder}
-use Rattle.bz_value.specs.Gaps.{Bytes}
+use Rattle.bz_items.specs.Characters.{Bytes}
 use Rattle.bz_ports.specs.Told.{named_line}
 use Rattle.bz_workspace.specs.Found.{Found, found_at, found_in, first_name, second_name}
 use Rattle.bz_workspace.specs.Opens.{Opens, Takes}

@@ -1,7 +1,7 @@
 -- Which file of a package is read.
 use Rattle.std.specs.Prelude.{[], ◌∷◌, ◌++◌, codes, Option, Some, None}
 use Rattle.std.specs.FinMap.{get}
-use Rattle.bz_value.specs.Gaps.{Bytes}
+use Rattle.bz_items.specs.Characters.{Bytes}
 use Rattle.bz_files.specs.Folder.{Folder}
 
 -- a file of a package, by its path below the current folder; the root package has the empty path

@@ -1,7 +1,7 @@
 -- The packages that a run has used, each with its file where that was opened, in order of first use.
 use Rattle.std.specs.Prelude.{ℕ, ◌+◌, zero, suc, List, [], ◌∷◌, bytes_eq, if◌then◌else◌, Option, Some, None}
 use Rattle.std.specs.Option.{option_map}
-use Rattle.bz_value.specs.Gaps.{Bytes}
+use Rattle.bz_items.specs.Characters.{Bytes}
 use Rattle.bz_journal.specs.History.{History}
 
 -- an open file: its name, the text that was read, and its history

@@ -2,7 +2,7 @@
 ghost use Rattle.std.specs.Prelude.{◌≡◌, ◌≢◌, ◌⊎◌, ◌≤◌, length, take, true, Some, None, IfOk, IfErr, IsErrOf, string_bytes};
 ghost use Rattle.std.specs.FinMap.{get};
 ghost use Rattle.bz_tree.specs.Legal.{Accepted};
-ghost use Rattle.bz_value.specs.Gaps.{Bytes};
+ghost use Rattle.bz_items.specs.Characters.{Bytes};
 ghost use Rattle.bz_journal.specs.Faults.{IsFaultOf};
 ghost use Rattle.bz_ports.specs.Faults.{Rises, AppendsUnlessFailed};
 ghost use Rattle.bz_ports.specs.Told.{named_line};

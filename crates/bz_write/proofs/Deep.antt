@@ -13,9 +13,8 @@ use Rattle.bz_value.specs.declared.value.Expr.{Expr, Token, Form', Row_of-Expr, 
 use Rattle.bz_value.specs.declared.value.Expr.TheVariants as e
 use Rattle.bz_value.specs.declared.value.Item.{Item}
 use Rattle.bz_value.specs.declared.value.Item.TheVariants as i
-use Rattle.bz_value.specs.Characters.{space, comma}
+use Rattle.bz_items.specs.Characters.{Bytes, comma, space}
 use Rattle.bz_value.specs.Frames.{Frame, row, sequence, frame, has_brackets}
-use Rattle.bz_value.specs.Gaps.{Bytes}
 use Rattle.bz_value.specs.Proper.{comments_of}
 use Rattle.bz_write.specs.Layout.{Piece, mark, laid_in, rowed, headed, joined, stacked, is_broken, is_tuple, gap_behind, margin_behind, firsts}
 use Rattle.bz_value.specs.Empty.{is_empty}

@@ -16,7 +16,7 @@ use Rattle.bz_tree.specs.Shapes.{Sort, Terminal, Shape, Fits, shape, has_sort, h
 use Rattle.bz_tree.specs.Legal.{IsSort}
 use Rattle.bz_tree.specs.Spots.{opens, role}
 use Rattle.bz_tree.proofs.Balance.{same_class, no_such}
-use Rattle.bz_value.specs.Characters.{comma}
+use Rattle.bz_items.specs.Characters.{comma}
 use Rattle.bz_value.specs.Frames.{Frame, row, sequence, frame, has_brackets, is_comprehension}
 use Rattle.bz_value.specs.Proper.{in_frame}
 use Rattle.bz_value.specs.Roots.{mark, each_with_comma, row_in}

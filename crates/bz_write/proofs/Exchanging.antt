@@ -9,10 +9,9 @@ use Rattle.bz_tree.specs.Shapes.{is_kind}
 use Rattle.bz_value.specs.declared.value.Expr.{Expr, Token, Form'}
 use Rattle.bz_value.specs.declared.value.Item.{Item}
 use Rattle.bz_value.specs.declared.value.Item.TheVariants as i
-use Rattle.bz_value.specs.Characters.{line_feed}
+use Rattle.bz_items.specs.Characters.{Bytes, line_feed}
 use Rattle.bz_value.specs.Empty.{is_empty}
 use Rattle.bz_value.specs.Exchanged.{is_bare, IsExchanged, AreExchanged}
-use Rattle.bz_value.specs.Gaps.{Bytes}
 use Rattle.bz_value.specs.Proper.{comments_of}
 use Rattle.bz_write.specs.Written.{is_load, is_load_kind, is_assign, is_assign_kind, between, comment_lines}
 use Rattle.bz_write.specs.Drawn.{line_part, before_next, lines_from}

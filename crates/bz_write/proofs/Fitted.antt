@@ -11,9 +11,8 @@ use Rattle.bz_tree.specs.Shapes as s
 use Rattle.bz_tree.specs.Shapes.{Sort, Terminal, Shape, Fits, Listed, Several, Times, no_more, once_more, has_sort, has_token, is_one_of, is_terminal, leaves_at, shape}
 use Rattle.bz_tree.specs.Legal.{IsSort}
 use Rattle.bz_value.specs.declared.value.Expr.{Expr, Token, Form', Row_of-Expr, end_of-Expr, more_of-Expr}
-use Rattle.bz_value.specs.Characters.{comma}
+use Rattle.bz_items.specs.Characters.{Bytes, comma}
 use Rattle.bz_value.specs.Frames.{Frame, row, sequence, frame}
-use Rattle.bz_value.specs.Gaps.{Bytes}
 use Rattle.bz_value.specs.Proper.{comments_of, roots}
 use Rattle.bz_value.specs.Roots.{root, mark as bare_mark, each_with_comma, row_in}
 use Rattle.bz_write.specs.Layout.{Piece, mark, is_broken, is_tuple, gap_behind, margin_behind, firsts, rowed, headed, joined, stacked, laid_in, laid}

@@ -11,7 +11,7 @@ use Rattle.bz_value.specs.declared.value.Item.{Item}
 use Rattle.bz_value.specs.declared.value.Item.TheVariants as i
 use Rattle.bz_value.specs.Comments.{no_comments}
 use Rattle.bz_value.specs.Frames.{Frame, row, sequence, frame, is_binary}
-use Rattle.bz_value.specs.Gaps.{Bytes}
+use Rattle.bz_items.specs.Characters.{Bytes}
 use Rattle.bz_value.specs.Proper.{AreComments, comments_of, has_break, is_operator, begins_operator, behind_expr, roots, IsEmptyRow, IsBare, in_frame, ProperExpr, ProperRow, ProperHead, ProperItems, has_statement_kind, IsProperItem, IsProper}
 use Rattle.bz_value.specs.Roots.{root, row_in}
 use Rattle.bz_value.specs.Empty.{is_empty}

@@ -4,8 +4,8 @@ use Rattle.std.specs.Prelude.{Option, None, Some, replicate}
 use Rattle.std.specs.List.{AllByRecursion}
 use Rattle.std.proofs.lemmas.Bool.{ne_eqb}
 use Rattle.std.proofs.lemmas.List.Elements.{recursion_from_All}
-use Rattle.bz_value.specs.Characters.{line_feed, space, number_sign}
-use Rattle.bz_value.specs.Gaps.{Bytes, GapLine, CommentRest, trimmed, lines_of, in_comment, comments_in}
+use Rattle.bz_items.specs.Characters.{Bytes, line_feed, number_sign, space}
+use Rattle.bz_value.specs.Gaps.{GapLine, CommentRest, trimmed, lines_of, in_comment, comments_in}
 use Rattle.bz_value.specs.Proper.{IsComment, MaybeComment}
 use Rattle.bz_write.specs.Layout.{line, ended, above, behind}
 

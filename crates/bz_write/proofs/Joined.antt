@@ -10,7 +10,7 @@ use Rattle.bz_tree.specs.Shapes as s
 use Rattle.bz_tree.specs.Shapes.{Sort, Terminal, Shape, Fits, Listed, shape, has_sort, has_token, items}
 use Rattle.bz_tree.specs.Legal.{IsSort}
 use Rattle.bz_tree.proofs.Balance.{no_such}
-use Rattle.bz_value.specs.Characters.{comma}
+use Rattle.bz_items.specs.Characters.{comma}
 use Rattle.bz_value.specs.Frames.{Frame, row, sequence, frame}
 use Rattle.bz_value.specs.Proper.{in_frame}
 use Rattle.bz_value.specs.Roots.{mark, each_with_comma, row_in}

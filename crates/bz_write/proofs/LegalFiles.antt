@@ -27,9 +27,8 @@ use Rattle.bz_tree.proofs.Balance.{no_such, row_of_parts}
 use Rattle.bz_value.specs.declared.value.Expr.{Expr, Token, Form'}
 use Rattle.bz_value.specs.declared.value.Item.{Item}
 use Rattle.bz_value.specs.declared.value.Item.TheVariants as i
-use Rattle.bz_value.specs.Characters.{line_feed}
+use Rattle.bz_items.specs.Characters.{Bytes, line_feed}
 use Rattle.bz_value.specs.Frames.{is_statement}
-use Rattle.bz_value.specs.Gaps.{Bytes}
 use Rattle.bz_value.specs.Proper.{IsComment, comments_of, has_statement_kind, IsProperItem, IsProper}
 use Rattle.bz_write.specs.Layout.{behind}
 use Rattle.bz_write.specs.Written.{comment_lines, between, layout}

@@ -17,9 +17,8 @@ use Rattle.bz_tree.proofs.Nested.{row_of, items_of_row}
 use Rattle.bz_tree.proofs.Spells.{leaves_Node}
 use Rattle.bz_tree.proofs.Trees.{of_shapes}
 use Rattle.bz_value.specs.declared.value.Expr.{Expr, Token, Form', Row_of-Expr, end_of-Expr, more_of-Expr}
-use Rattle.bz_value.specs.Characters.{comma, space}
+use Rattle.bz_items.specs.Characters.{Bytes, comma, space}
 use Rattle.bz_value.specs.Frames.{Frame, row, sequence, frame, is_binary}
-use Rattle.bz_value.specs.Gaps.{Bytes}
 use Rattle.bz_value.specs.Proper.{comments_of, behind_expr, roots, IsEmptyRow, in_frame, ProperExpr, ProperRow, ProperHead, ProperItems}
 use Rattle.bz_value.specs.Roots.{row_in}
 use Rattle.bz_write.specs.Layout.{mark, is_broken, is_tuple, gap_behind, margin_behind, firsts, rowed, headed, joined, stacked, laid_in, laid}

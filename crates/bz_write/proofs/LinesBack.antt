@@ -13,9 +13,9 @@ use Rattle.bz_tree.proofs.Nested.{row_of, items_of_row}
 use Rattle.bz_value.specs.declared.value.Expr.{Expr, Token, Form'}
 use Rattle.bz_value.specs.declared.value.Item.{Item}
 use Rattle.bz_value.specs.declared.value.Item.TheVariants as i
-use Rattle.bz_value.specs.Characters.{line_feed}
+use Rattle.bz_items.specs.Characters.{Bytes, line_feed}
 use Rattle.bz_value.specs.Comments.{HostComments}
-use Rattle.bz_value.specs.Gaps.{Bytes, GapLine, lines_of, first_comment, behind_first, groups_of, all_but_last, last_group, suffix_in}
+use Rattle.bz_value.specs.Gaps.{GapLine, lines_of, first_comment, behind_first, groups_of, all_but_last, last_group, suffix_in}
 use Rattle.bz_value.specs.Proper.{IsComment, comments_of, has_break, has_statement_kind, IsProperItem, IsProper}
 use Rattle.bz_view.specs.View.{Seen, seen, first_gap, last_gap, blocks, statement, line_items, file_items, view_of}
 use Rattle.bz_write.specs.Layout.{behind}

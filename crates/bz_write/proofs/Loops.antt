@@ -9,9 +9,8 @@ use Rattle.bz_value.specs.declared.value.Form.{Form}
 use Rattle.bz_value.specs.declared.value.Expr.{Expr}
 use Rattle.bz_value.specs.declared.value.Item.{Item}
 use Rattle.bz_value.specs.declared.value.Item.TheVariants as i
-use Rattle.bz_value.specs.Characters.{space, comma}
+use Rattle.bz_items.specs.Characters.{Bytes, comma, space}
 use Rattle.bz_value.specs.Frames.{Frame, row, sequence, frame}
-use Rattle.bz_value.specs.Gaps.{Bytes}
 use Rattle.bz_value.specs.Proper.{comments_of}
 use Rattle.bz_write.specs.declared.brackets.Brackets.{Brackets}
 use Rattle.bz_write.specs.Brackets.{brackets_of}

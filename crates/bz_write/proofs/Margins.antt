@@ -11,8 +11,7 @@ use Rattle.bz_tree.specs.declared.kind.Kind.{Kind}
 use Rattle.bz_tree.specs.Spots.{Spot, Begins, Within, Along, GapStands}
 use Rattle.bz_tree.proofs.Balance.{no_such}
 use Rattle.bz_value.specs.declared.value.Expr.{Expr}
-use Rattle.bz_value.specs.Characters.{line_feed, space}
-use Rattle.bz_value.specs.Gaps.{Bytes}
+use Rattle.bz_items.specs.Characters.{Bytes, line_feed, space}
 use Rattle.bz_value.specs.Proper.{IsComment, MaybeComment, has_break}
 use Rattle.bz_value.specs.Roots.{root}
 use Rattle.bz_write.specs.Spaces.{is_spaced}

@@ -4,8 +4,7 @@ use Rattle.std.proofs.lemmas.List.{drop_more}
 use Rattle.bz_value.specs.declared.value.Expr.{Expr}
 use Rattle.bz_value.specs.declared.value.Item.{Item}
 use Rattle.bz_value.specs.declared.value.Item.TheVariants as i
-use Rattle.bz_value.specs.Characters.{line_feed}
-use Rattle.bz_value.specs.Gaps.{Bytes}
+use Rattle.bz_items.specs.Characters.{Bytes, line_feed}
 use Rattle.bz_value.specs.Proper.{comments_of}
 use Rattle.bz_write.specs.Layout.{behind}
 use Rattle.bz_write.specs.Written.{text_of, comment_lines, item_text, layout}

@@ -7,7 +7,7 @@ use Rattle.bz_value.specs.declared.value.Form.{Form}
 use Rattle.bz_value.specs.declared.value.Expr.{Expr, Row_of-Expr, end_of-Expr, more_of-Expr, items-the_row-Expr}
 use Rattle.bz_value.specs.declared.value.Expr.TheVariants as e
 use Rattle.bz_value.specs.Frames.{Frame, row, sequence, frame, has_brackets}
-use Rattle.bz_value.specs.Gaps.{Bytes}
+use Rattle.bz_items.specs.Characters.{Bytes}
 use Rattle.bz_write.specs.Layout.{gap_behind, margin_behind}
 use Rattle.bz_write.specs.Written.{text_of}
 use Rattle.bz_write.specs.Sizes.{row_size, head_size, comma_size, joined_size, stacked_item_size, stacked_size, body_size, size_in, form_size}

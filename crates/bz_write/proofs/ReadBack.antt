@@ -10,7 +10,8 @@ use Rattle.bz_value.specs.declared.value.Expr.{Expr, Token, Form', Row_of-Expr, 
 use Rattle.bz_value.specs.declared.value.Expr.TheVariants as e
 use Rattle.bz_value.specs.Comments.{HostComments, no_comments}
 use Rattle.bz_value.specs.Frames.{Frame, row, sequence, frame, is_binary, is_comprehension}
-use Rattle.bz_value.specs.Gaps.{Bytes, all_in}
+use Rattle.bz_items.specs.Characters.{Bytes}
+use Rattle.bz_value.specs.Gaps.{all_in}
 use Rattle.bz_value.specs.Proper.{in_frame, is_operator}
 use Rattle.bz_view.specs.View.{Seen, seen, seen_row, plain, first_gap, loose_in, loose_behind, node_in, sequence_form, items_in, is_split, is_open}
 use Rattle.bz_write.specs.Layout.{laid, laid_in, rowed, headed, is_broken, is_tuple, gap_behind, margin_behind, firsts}

@@ -9,7 +9,7 @@ use Rattle.bz_tree.specs.Spots.{Spot, Within}
 use Rattle.bz_value.specs.declared.value.Expr.{Expr, Token, Form', Row_of-Expr, end_of-Expr, more_of-Expr, items-the_row-Expr}
 use Rattle.bz_value.specs.Comments.{no_comments}
 use Rattle.bz_value.specs.Frames.{Frame, row, sequence, frame, lead, is_binary, is_comprehension}
-use Rattle.bz_value.specs.Gaps.{Bytes}
+use Rattle.bz_items.specs.Characters.{Bytes}
 use Rattle.bz_value.specs.Proper.{IsComment, MaybeComment, comments_of, has_break, is_operator, begins_operator, roots, behind_expr, IsEmptyRow, in_frame, ProperExpr, ProperRow, ProperHead, ProperItems}
 use Rattle.bz_value.specs.Roots.{root, row_in}
 use Rattle.bz_value.specs.Empty.{is_empty}

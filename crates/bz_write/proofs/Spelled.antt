@@ -14,9 +14,8 @@ use Rattle.bz_tree.proofs.Spells.{spell_Node}
 use Rattle.bz_value.specs.declared.value.Expr.{Expr, Token, Form', Row_of-Expr, end_of-Expr, more_of-Expr, items-the_row-Expr}
 use Rattle.bz_value.specs.declared.value.Item.{Item}
 use Rattle.bz_value.specs.declared.value.Item.TheVariants as i
-use Rattle.bz_value.specs.Characters.{line_feed, space, comma}
+use Rattle.bz_items.specs.Characters.{Bytes, comma, line_feed, space}
 use Rattle.bz_value.specs.Frames.{Frame, row, sequence, frame}
-use Rattle.bz_value.specs.Gaps.{Bytes}
 use Rattle.bz_value.specs.Proper.{IsProperItem, IsProper, in_frame, comments_of}
 use Rattle.bz_write.specs.Layout.{Piece, mark, laid_in, rowed, headed, joined, stacked, is_broken, is_tuple, gap_behind, margin_behind, behind, firsts}
 use Rattle.bz_value.specs.Empty.{is_empty}

@@ -12,7 +12,7 @@ use Rattle.bz_tree.specs.Spots.{Spot, Begins, Within, Along, onward, opens, clos
 use Rattle.bz_tree.proofs.Balance.{no_such}
 use Rattle.bz_value.specs.declared.value.Expr.{Expr, Token, Form', Row_of-Expr, end_of-Expr, more_of-Expr}
 use Rattle.bz_value.specs.Frames.{Frame, row, sequence, frame, has_brackets, is_binary, is_comprehension}
-use Rattle.bz_value.specs.Gaps.{Bytes}
+use Rattle.bz_items.specs.Characters.{Bytes}
 use Rattle.bz_value.specs.Proper.{IsComment, has_break, behind_expr, roots, IsEmptyRow, in_frame, ProperExpr, ProperRow, ProperHead, ProperItems}
 use Rattle.bz_value.specs.Roots.{root, row_in}
 use Rattle.bz_write.specs.Spaces.{is_value, is_word}

@@ -6,10 +6,10 @@ use Rattle.bz_tree.specs.declared.kind.Kind.{Kind}
 use Rattle.bz_tree.specs.declared.kind.Kind.TheVariants as k
 use Rattle.bz_tree.specs.declared.tree.Part.{Part}
 use Rattle.bz_value.specs.declared.value.Expr.{Expr}
-use Rattle.bz_value.specs.Characters.{space}
+use Rattle.bz_items.specs.Characters.{Bytes, space}
 use Rattle.bz_value.specs.Comments.{no_comments}
 use Rattle.bz_value.specs.Frames.{is_binary, is_comprehension}
-use Rattle.bz_value.specs.Gaps.{Bytes, GapLine, lines_of, comments_in, some_newline, all_in, has_newline}
+use Rattle.bz_value.specs.Gaps.{GapLine, lines_of, comments_in, some_newline, all_in, has_newline}
 use Rattle.bz_value.specs.Proper.{comments_of, has_break, is_operator}
 use Rattle.bz_value.specs.Roots.{root}
 use Rattle.bz_view.specs.View.{Seen, seen, plain, first_gap, begins_operator, loose_behind, row_exprs, is_open}

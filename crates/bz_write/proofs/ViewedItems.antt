@@ -5,9 +5,9 @@ use Rattle.std.specs.List.{AllByRecursion}
 use Rattle.bz_token.specs.declared.class.Class.TheVariants as c
 use Rattle.bz_tree.specs.declared.kind.Kind.{Kind}
 use Rattle.bz_value.specs.declared.value.Expr.{Expr}
-use Rattle.bz_value.specs.Characters.{space, comma}
+use Rattle.bz_items.specs.Characters.{Bytes, comma, space}
 use Rattle.bz_value.specs.Comments.{HostComments, no_comments}
-use Rattle.bz_value.specs.Gaps.{Bytes, lines_of, comments_in, first_comment, behind_first, some_newline, suffix_in, others_in, all_in, has_newline}
+use Rattle.bz_value.specs.Gaps.{lines_of, comments_in, first_comment, behind_first, some_newline, suffix_in, others_in, all_in, has_newline}
 use Rattle.bz_value.specs.Proper.{IsComment, MaybeComment, comments_of, has_break}
 use Rattle.bz_view.specs.View.{Seen, seen, plain, first_gap, loose_behind, loose_in, items_in, item_in, is_split, leaf_seen}
 use Rattle.bz_write.specs.Layout.{Piece, joined, stacked, headed, is_broken, has_comments, line, above, behind, firsts}

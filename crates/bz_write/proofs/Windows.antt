@@ -5,7 +5,7 @@ use Rattle.bz_tree.specs.declared.tree.Part.{Part}
 use Rattle.bz_value.specs.declared.value.Item.{Item}
 use Rattle.bz_value.specs.declared.value.Item.TheVariants as i
 use Rattle.bz_value.specs.Exchanged.{IsSpliced}
-use Rattle.bz_value.specs.Gaps.{Bytes}
+use Rattle.bz_items.specs.Characters.{Bytes}
 use Rattle.bz_write.specs.Written.{between, comment_lines}
 use Rattle.bz_write.specs.Drawn.{own_lines, left_gap, before_next, lines_from}
 use Rattle.bz_write.specs.Marks.{place_behind}

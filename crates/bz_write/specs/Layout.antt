@@ -3,10 +3,9 @@ use Rattle.std.specs.Prelude.{ℕ, Bool, true, false, not, ◌&&◌, ◌||◌, L
 use Rattle.bz_tree.specs.declared.kind.Kind.{Kind}
 use Rattle.bz_tree.specs.declared.kind.Kind.TheVariants as k
 use Rattle.bz_value.specs.declared.value.Expr.{Expr, Token, Form'}
-use Rattle.bz_value.specs.Characters.{line_feed, space, comma}
+use Rattle.bz_items.specs.Characters.{Bytes, comma, line_feed, space}
 use Rattle.bz_value.specs.Empty.{is_empty, is_none}
 use Rattle.bz_value.specs.Frames.{Frame, row, sequence, frame}
-use Rattle.bz_value.specs.Gaps.{Bytes}
 use Rattle.bz_value.specs.Proper.{comments_of, has_break}
 use Rattle.bz_value.specs.Roots.{root}
 use Rattle.bz_write.specs.Spaces.{is_spaced}

@@ -1,7 +1,6 @@
 -- What stands between two parts of a row, as the code has it before it is written or counted.
 use Rattle.std.specs.Prelude.{[], ◌∷◌}
-use Rattle.bz_value.specs.Characters.{space}
-use Rattle.bz_value.specs.Gaps.{Bytes}
+use Rattle.bz_items.specs.Characters.{Bytes, space}
 use Rattle.bz_write.specs.Layout.{line}
 use Rattle.bz_write.specs.declared.row_gaps.RowGap.{RowGap}
 use Rattle.bz_write.specs.declared.row_gaps.RowGap.TheVariants as g

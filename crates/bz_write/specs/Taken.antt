@@ -1,7 +1,7 @@
 -- For private functions only: what the loop that uses a value up has so far.
 use Rattle.std.specs.Prelude.{List, [], Option, None, Some}
 use Rattle.bz_value.specs.declared.value.Item.{Item}
-use Rattle.bz_value.specs.Gaps.{Bytes}
+use Rattle.bz_items.specs.Characters.{Bytes}
 use Rattle.bz_write.specs.Drawn.{before_next}
 
 -- what stands between an item that may be there and those that follow

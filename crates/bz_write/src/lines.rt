@@ -1,6 +1,6 @@
 //! The lines of a file as parts of its tree.
 ghost use Rattle.std.specs.Prelude.{◌≡◌, ◌++◌, ◌∷◌, [], OnOk, IfOk, if◌then◌else◌};
-ghost use Rattle.bz_value.specs.Characters.{line_feed};
+ghost use Rattle.bz_items.specs.Characters.{line_feed};
 ghost use Rattle.bz_write.specs.Written as written;
 ghost use Rattle.bz_write.specs.Drawn.{line_part, own_lines, left_gap, before_next, lines_from};
 

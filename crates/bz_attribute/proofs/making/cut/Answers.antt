@@ -1,7 +1,7 @@
 use Rattle.std.proofs.Common.{◌∙◌, ap, ◌∷◌, sym, ◌+◌, nat_eq, take}
 use Rattle.std.specs.List.{slice_split}
 use Rattle.std.proofs.lemmas.List.{take_rest}
-use Rattle.bz_rule.specs.Characters.{full_stop}
+use Rattle.bz_items.specs.Characters.{full_stop}
 use Rattle.bz_attribute.proofs.MakingPieces.{piece_found, piece_alone}
 use Rattle.bz_attribute.proofs.making.cut.Goals as goal
 

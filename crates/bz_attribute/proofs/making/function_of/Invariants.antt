@@ -1,7 +1,7 @@
 use Rattle.std.proofs.Common.{◌≡◌, [], nat_eq, length, ◌+◌}
 use Rattle.std.specs.List.{slice_split}
 use Rattle.std.specs.Option.{option_map_or}
-use Rattle.bz_rule.specs.Characters.{full_stop}
+use Rattle.bz_items.specs.Characters.{full_stop}
 use Rattle.bz_attribute.specs.Made.{dotted_behind, function_of}
 use Rattle.bz_attribute.proofs.making.function_of.Given as goal
 

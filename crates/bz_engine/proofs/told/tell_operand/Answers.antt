@@ -1,5 +1,5 @@
 use Rattle.std.proofs.Common.{◌++◌, codes, subst}
-use Rattle.bz_value.specs.Gaps.{Bytes}
+use Rattle.bz_items.specs.Characters.{Bytes}
 use Rattle.bz_line.specs.Verbs.{fault_name, fault_number}
 use Rattle.bz_ports.specs.Faults.{AppendsUnlessFailed}
 use Rattle.bz_engine.specs.Told.{numbered}

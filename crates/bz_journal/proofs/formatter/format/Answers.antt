@@ -1,5 +1,5 @@
 use Rattle.std.proofs.Common.{List, None, sym, ap, ◌∙◌}
-use Rattle.bz_value.specs.Gaps.{Bytes}
+use Rattle.bz_items.specs.Characters.{Bytes}
 use Rattle.bz_value.specs.declared.value.Item.{Item}
 use Rattle.bz_journal.specs.Meaning.{gives, written}
 use Rattle.bz_journal.proofs.Untold.{unread_told}

@@ -5,7 +5,7 @@ use Rattle.sha2.specs.Sha256.{sha256}
 use Rattle.bz_tree.specs.Spell.{spell_node}
 use Rattle.bz_trail.specs.Shown.{Moves, texts_of}
 use Rattle.bz_trail.specs.Trails.{Trail, trail_at}
-use Rattle.bz_value.specs.Gaps.{Bytes}
+use Rattle.bz_items.specs.Characters.{Bytes}
 use Rattle.bz_journal.proofs.Digested.{hash_next}
 use Rattle.bz_journal.proofs.hashing.hashed_from.Goals as goal
 

@@ -1,6 +1,6 @@
 use Rattle.std.proofs.Common.{◌≡◌, ◌++◌, ◌∷◌, take}
 use Rattle.std.specs.List.{flat_map}
-use Rattle.bz_lex.specs.Characters.{space}
+use Rattle.bz_items.specs.Characters.{space}
 use Rattle.bz_journal.specs.Listing.{shown_byte}
 use Rattle.bz_journal.proofs.listing.put_note.Given as goal
 

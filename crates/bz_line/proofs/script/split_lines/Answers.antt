@@ -1,7 +1,7 @@
 use Rattle.std.proofs.Common.{lit<}
 use Rattle.std.proofs.lemmas.Iterator.Consumers.{map_from_collect}
 use Rattle.std.proofs.lemmas.Iterator.Splits.{YieldsList-from_str_split}
-use Rattle.bz_line.specs.Characters.{line_feed}
+use Rattle.bz_items.specs.Characters.{line_feed}
 use Rattle.bz_line.proofs.script.split_lines.Goals as goal
 
 pub returns : goal.returns

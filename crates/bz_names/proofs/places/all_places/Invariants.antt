@@ -1,5 +1,5 @@
 use Rattle.std.proofs.Common.{◌≡◌, ◌++◌, drop}
-use Rattle.bz_value.specs.Gaps.{Bytes}
+use Rattle.bz_items.specs.Characters.{Bytes}
 use Rattle.bz_names.specs.Index.{places_from, places_of}
 use Rattle.bz_names.specs.Held.{held}
 use Rattle.bz_names.proofs.places.all_places.Given as goal

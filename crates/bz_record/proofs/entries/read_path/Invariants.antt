@@ -1,7 +1,7 @@
 use Rattle.std.proofs.Common.{◌≡◌, ◌-◌}
 use Rattle.bz_exact.proofs.Loops.{with_front}
 use Rattle.bz_exact.specs.Readers.{number_at, repeated}
-use Rattle.bz_lex.specs.Characters.{space}
+use Rattle.bz_items.specs.Characters.{space}
 use Rattle.bz_record.proofs.entries.read_path.Given as goal
 
 abbrev pub invariant-several : goal.invariant-several

@@ -4,7 +4,7 @@ use Rattle.hex.specs.Hex.{encode_lower}
 use Rattle.sha2.specs.Sha256.{sha256}
 use Rattle.bz_record.proofs.Marks.{no_front, no_middle, at_end}
 use Rattle.bz_exact.specs.Readers.{after_mark}
-use Rattle.bz_token.specs.Bytes.{line_feed}
+use Rattle.bz_items.specs.Characters.{line_feed}
 use Rattle.bz_record.proofs.lines.is_end.Goals as goal
 
 pub returns-in_default : goal.returns-in_default

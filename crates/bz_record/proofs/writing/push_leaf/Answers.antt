@@ -3,7 +3,7 @@ use Rattle.std.specs.Prelude.{codes}
 use Rattle.bz_token.specs.Classes.{class_number}
 use Rattle.bz_record.proofs.Appends.{leaf_pushed}
 use Rattle.bz_record.specs.Texts.{last_number, spaced_number}
-use Rattle.bz_token.specs.Bytes.{line_feed}
+use Rattle.bz_items.specs.Characters.{line_feed}
 use Rattle.bz_record.proofs.writing.push_leaf.Goals as goal
 
 pub returns : goal.returns

@@ -2,9 +2,8 @@ use Rattle.std.proofs.Common.{[], ◌∷◌, ◌++◌, ap, ◌∙◌}
 use Rattle.std.specs.Prelude.{codes}
 use Rattle.bz_record.proofs.Appends.{texts_pushed}
 use Rattle.bz_exact.specs.Spellings.{counted_text}
-use Rattle.bz_lex.specs.Characters.{space}
+use Rattle.bz_items.specs.Characters.{line_feed, space}
 use Rattle.bz_record.specs.Texts.{version_line}
-use Rattle.bz_token.specs.Bytes.{line_feed}
 use Rattle.bz_record.proofs.writing.push_texts.Goals as goal
 
 pub returns : goal.returns

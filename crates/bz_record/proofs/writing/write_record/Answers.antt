@@ -4,7 +4,7 @@ use Rattle.hex.specs.Hex.{encode_lower}
 use Rattle.sha2.specs.Sha256.{sha256}
 use Rattle.bz_record.proofs.Appends.{end_pushed}
 use Rattle.bz_record.specs.Texts.{lines_text}
-use Rattle.bz_token.specs.Bytes.{line_feed}
+use Rattle.bz_items.specs.Characters.{line_feed}
 use Rattle.bz_record.proofs.writing.write_record.Goals as goal
 
 pub returns-clause-ok : goal.returns-clause-ok

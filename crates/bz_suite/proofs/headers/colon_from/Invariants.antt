@@ -1,6 +1,6 @@
 use Rattle.std.proofs.Common.{◌≡◌, ◌-◌, [], List, map, take, drop}
 use Rattle.bz_tree.specs.declared.kind.Kind.{Kind}
-use Rattle.bz_value.specs.Gaps.{Bytes}
+use Rattle.bz_items.specs.Characters.{Bytes}
 use Rattle.bz_value.specs.Indented.{IndentedGapLine}
 use Rattle.bz_view.specs.View.{seen}
 use Rattle.bz_suite.specs.View.{branches, stated}

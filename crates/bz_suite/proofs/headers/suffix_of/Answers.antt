@@ -2,7 +2,8 @@ use Rattle.std.proofs.Common.{sym, ap, ◌∙◌, map, Option, None}
 use Rattle.std.proofs.lemmas.Bool.{cond-true}
 use Rattle.bz_tree.specs.declared.kind.Kind.TheVariants as k
 use Rattle.bz_tree.specs.Shapes.{is_kind}
-use Rattle.bz_value.specs.Gaps.{Bytes, all_in}
+use Rattle.bz_items.specs.Characters.{Bytes}
+use Rattle.bz_value.specs.Gaps.{all_in}
 use Rattle.bz_view.specs.View.{first_gap, seen}
 use Rattle.bz_suite.specs.View.{only_comment, stated}
 use Rattle.bz_suite.proofs.Parts.{parts_seen}

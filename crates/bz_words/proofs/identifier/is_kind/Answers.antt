@@ -2,7 +2,7 @@ use Rattle.std.proofs.Common.{◌==◌, rules}
 use Rattle.std.proofs.lemmas.Iterator.Search.{all_from_yields_List}
 use Rattle.std.proofs.lemmas.Iterator.Splits.{YieldsList-from_slice_split}
 use borrow.Author.Tests.{tests}
-use Rattle.bz_words.specs.Characters.{full_stop}
+use Rattle.bz_items.specs.Characters.{full_stop}
 use Rattle.bz_words.specs.Identifiers.{is_identifier}
 use Rattle.bz_words.proofs.identifier.is_kind.Goals as goal
 

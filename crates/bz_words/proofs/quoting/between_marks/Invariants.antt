@@ -1,6 +1,6 @@
 use Rattle.std.proofs.Common.{◌≡◌, ◌∷◌, take}
 use Rattle.std.specs.List.{flat_map}
-use Rattle.bz_words.specs.Characters.{quotation_mark}
+use Rattle.bz_items.specs.Characters.{quotation_mark}
 use Rattle.bz_words.specs.Quoted.{escaped}
 use Rattle.bz_words.proofs.quoting.between_marks.Given as goal
 

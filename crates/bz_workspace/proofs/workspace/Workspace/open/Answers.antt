@@ -1,6 +1,6 @@
 use Rattle.std.proofs.Common.{◌≡◌, ◌∙◌, ◌++◌, ◌∷◌, [], ℕ, None, ap, refl}
 use Rattle.std.specs.Option.{option_map}
-use Rattle.bz_value.specs.Gaps.{Bytes}
+use Rattle.bz_items.specs.Characters.{Bytes}
 use Rattle.bz_workspace.specs.Packages as p
 use Rattle.bz_workspace.proofs.FileSteps.{before_added, closed_last, put_last}
 use Rattle.bz_workspace.proofs.workspace.Workspace.open.Goals as goal
