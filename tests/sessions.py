@@ -115,6 +115,14 @@ cc_test( name="y",  deps=[ ":b",":a" ] )
 # those from which one is taken by chance; more often one with rules
 NAMES = [name for name, text in TEXTS.items() for _ in range(4 if b"(" in text else 1)]
 
+# A file so long that its value is kept from one command to the next; the last two rules are equal, the one behind the other.
+MANY = "\n".join(
+    ['load("//:b.bzl", "b")\n', *(f'cc_library(\n    name = "r{i}",\n    deps = [":a"],\n)\n' for i in range(520)), *['f(name = "twin")\n'] * 2]
+)
+TEXTS["many rules"] = MANY.encode()
+# the line of the first of the two
+TWIN = MANY.count("\n", 0, MANY.index("f(name")) + 1
+
 TARGETS = ["-:x"] * 6 + ["-:y"] * 3 + ["-:all"] * 4 + ["-:*", "-:%cc_library", "-:%cc_test", "-:%1", "-:%4", "-:__pkg__", "-:none"]
 
 # ---- commands from which lists are made: each is taken by the program, though mostly refused on some of the texts
@@ -256,6 +264,14 @@ FIXED = [
     ("a name that changes under a target", "laid out", "-:x", "set name z|set size small|undo|set name z|redo|print|undo"),
     ("a text past the levels", "laid out", "-:x", "set kind " + ".".join(["k"] * 600) + "|set size small|undo|redo"),
     ("a rule that is left alone", "marks that steer", "-:y", "print rule|add deps :c|undo|print rule|redo|set kind f|undo 2"),
+    ("rules of a long file come and go", "many rules", "-:r250 -:r4 -:r519",
+     "delete|print|undo|print name|redo|undo 2|new f z before r5|new f y after r519|set size small|delete|undo|redo|undo 3"),
+    ("a long file is asked many things", "many rules", "-:r7 -:r300",
+     "print name|print name deps|print kind startline|set size small|print size|print name size|delete|print name|undo|print name|redo|print name"),
+    ("loads of a long file come", "many rules", "-:__pkg__",
+     "new_load //:b.bzl b|new_load //:a.bzl a|new_load //:a.bzl a2|new_load //:c.bzl c|undo 2|new_load :d.bzl d|redo|undo 4|new cc_library s before r0|new_load //:a.bzl a|undo 2|redo"),
+    ("one of two equal rules goes", "many rules", f"-:%{TWIN}", "set size small|undo|delete|print|undo|redo|delete|undo 2|redo"),
+    ("many rules of a long file go", "many rules", "-:%cc_library", "set size small|delete|undo|delete|new f z|undo 2|redo|undo"),
 ]  # fmt: skip
 
 # ---- the program
