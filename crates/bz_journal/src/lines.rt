@@ -97,13 +97,7 @@ pub(crate) fn take_up_lines(
     match lines {
         Lines::Exchanged(redrawn) => {
             let Redrawn { places, mut lines } = redrawn;
-            take_up_at(
-                tree,
-                steps,
-                cursor,
-                places.as_slice(),
-                lines.as_mut_slice(),
-            )?;
+            take_up_at(tree, steps, cursor, places.as_slice(), lines.as_mut_slice())?;
             Ok(true)
         }
         Lines::Spliced(respliced) => {

@@ -63,10 +63,9 @@ fn file_type<'a>(alloc: Global) -> Arg<'a>
     ensures rule { rule_of result ≡ type_rule }
     ensures local { result.global ≡ false }
 {
-    Arg::new(alloc, "type")
-        .long("type")
-        .value_name("TYPE")
-        .help("The type of the files: auto (by their names), build or bzl")
+    Arg::new(alloc, "type").long("type").value_name("TYPE").help(
+        "The type of the files: auto (by their names), build or bzl",
+    )
 }
 
 fn file<'a>(alloc: Global) -> Arg<'a>
