@@ -22,7 +22,7 @@ use Rattle.bz_words.specs.Proper.{IsAttribute, IsEntry, EachIs, AreSome}
 use Rattle.bz_words.specs.Quoted.{quoted_of}
 use Rattle.bz_value.specs.Empty.{is_empty}
 use Rattle.bz_rule.specs.Values.{has_kind, items_of, with_items, on_row, on_items, on_third}
-use Rattle.bz_rule.proofs.ProperBrackets.{lead_before}
+use Rattle.bz_value.proofs.LeadParts.{lead_before}
 use Rattle.bz_rule.proofs.ProperChanges.{by_test}
 use Rattle.bz_rule.proofs.ProperForms.{AsForm, InPlace, itself, form_in_place}
 use Rattle.bz_rule.proofs.ProperItems.{IsValue, KeepsRow, row_within, item_within, value_in_place, all_joined, all_kept}

@@ -15,7 +15,7 @@ use Rattle.bz_value.specs.Proper.{comments_of, ProperExpr}
 use Rattle.bz_value.specs.Roots.{root, mark}
 use Rattle.bz_rule.specs.Values.{has_kind, parts_of, items_of}
 use Rattle.bz_rule.proofs.ProperForms.{AsForm, opened}
-use Rattle.bz_rule.proofs.ProperBrackets.{lead_before}
+use Rattle.bz_value.proofs.LeadParts.{lead_before}
 use Rattle.bz_rule.proofs.ProperSequences.{IsItem, AreOf, items_apart}
 use Rattle.bz_load.specs.Uses.{all_of, with_operands, operands, each_operands}
 use Rattle.bz_load.specs.Fixes.{end_of}

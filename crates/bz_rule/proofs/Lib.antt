@@ -1,8 +1,8 @@
 pub mod Dotted
 pub mod Forms
 pub mod Named
+pub mod Opened
 pub mod ProperArguments
-pub mod ProperBrackets
 pub mod ProperChanges
 pub mod ProperForms
 pub mod ProperItems

@@ -15,7 +15,7 @@ use Rattle.bz_value.specs.Proper.{AreComments, comments_of, has_break, ProperExp
 use Rattle.bz_value.specs.Roots.{root, mark, each_with_comma}
 use Rattle.bz_value.proofs.FormParts.{AreItems}
 use Rattle.bz_rule.specs.Values.{has_kind, items_of, with_items, on_items, behind_first}
-use Rattle.bz_rule.proofs.ProperBrackets.{lead_before}
+use Rattle.bz_value.proofs.LeadParts.{lead_before}
 use Rattle.bz_rule.proofs.ProperForms.{AsForm, InPlace, itself, form_in_place}
 
 -- what an item of a sequence is, where the items have this sort

@@ -1,5 +1,5 @@
 -- Reading and changing the parts of a file value. Each change leaves expressions of other kinds and classes as they are.
-use Rattle.std.specs.Prelude.{Bool, true, false, List, [], ◌∷◌, Option, Some, None, if◌then◌else◌, map}
+use Rattle.std.specs.Prelude.{Bool, false, List, [], ◌∷◌, if◌then◌else◌, map}
 use Rattle.bz_token.specs.declared.class.Class.{Class}
 use Rattle.bz_tree.specs.declared.kind.Kind.{Kind}
 use Rattle.bz_tree.specs.declared.kind.Kind.TheVariants as k

@@ -1,49 +1,20 @@
 -- Reading what was changed: the parts of expressions, by lists.
-use Rattle.std.proofs.Common.{Bool, true, List, ◌∷◌, ◌≡◌, refl, sym, ap, ◌∙◌, map}
+use Rattle.std.proofs.Common.{true, List, ◌∷◌, ◌≡◌, refl, sym, ap, ◌∙◌, map}
 use Rattle.std.proofs.Common.{true≢false}
 use mathlib.Core.Former.{Count}
 use Rattle.bz_token.specs.declared.class.Class.{Class}
 use Rattle.bz_tree.specs.declared.kind.Kind.{Kind}
 use Rattle.bz_value.specs.declared.value.Form.{Form}
-use Rattle.bz_value.specs.declared.value.Seq.{Seq}
-use Rattle.bz_value.specs.declared.value.Expr.{Expr, Token, Form', Row_of-Expr, end_of-Expr, more_of-Expr, items-the_row-Expr, items_hidden-the_row-Expr-0, items_shown-the_row-Expr-0}
+use Rattle.bz_value.specs.declared.value.Expr.{Expr, Token, Form', Row_of-Expr, end_of-Expr, more_of-Expr, items-the_row-Expr, items_hidden-the_row-Expr-0}
 use Rattle.bz_value.specs.declared.value.Expr.TheVariants as e
-use Rattle.bz_value.specs.declared.value.Expr.TheOpen as o
-use Rattle.bz_value.specs.declared.value.Expr.TheViews.{roll-Expr, out-Expr, roll-out-Expr}
-use Rattle.bz_value.specs.Comments.{HostComments}
 use Rattle.bz_value.specs.Frames.{frame}
 use Rattle.bz_items.specs.Characters.{Bytes}
 use Rattle.bz_value.specs.Proper.{comments_of}
 use Rattle.bz_write.specs.Flags.{settled_split, with_flags, each_with_flags}
 use Rattle.bz_rule.specs.Values.{has_kind, has_class, text_of, parts_of, items_of, with_parts, with_items, above, with_above}
+pub use Rattle.bz_rule.proofs.Opened.{made, own_parts, own_items}
 use Rattle.bz_tidy.specs.Passes.{quoted, each_quoted}
 use Rattle.bz_tidy.proofs.Keeping.{both}
-
--- ---- an expression by rows is the one by lists
-
--- a form by its fields
-abbrev pub made : Kind → List Expr → List Expr → List Bytes → Bool → Bool → HostComments → Form
-made kind parts items end_ split open_ comments = record { kind = kind; parts = parts; seq = record { items = items; end_ = end_; split = split }; open_ = open_; comments = comments }
-
-abbrev opened : Expr → o.Expr-F Expr Form Seq
-opened (Token t) = o.Token t
-opened (Form' kind s parts s' items end_ split open_ comments) = o.Form (made kind (items-the_row-Expr _ parts) (items-the_row-Expr _ items) end_ split open_ comments)
-
-opens : (x : Expr) → out-Expr x ≡ opened x
-unfolding out-Expr denote.Hole.Carrier.out Rattle.bz_value.specs.declared.value.Expr.TheBlock.shown-the_row-Expr-0 denote.Hole.Carrier.shown
-opens (Token t) = refl
-opens (Form' kind s parts s' items end_ split open_ comments) =
-    both (λ p i. o.Form (made kind p i end_ split open_ comments)) (items_shown-the_row-Expr-0 s parts) (items_shown-the_row-Expr-0 s' items)
-
--- an expression with the parts that it has, and with the items that it has
-pub own_parts : (x : Expr) → with_parts (parts_of x) x ≡ x
-own_parts (Token t) = refl
-own_parts (Form' kind s parts s' items end_ split open_ comments) =
-    sym (e.rolls-Form _) ∙ (ap roll-Expr (sym (opens (Form' kind s parts s' items end_ split open_ comments))) ∙ roll-out-Expr _)
-
-pub own_items : (x : Expr) → with_items (items_of x) x ≡ x
-own_items (Token t) = refl
-own_items (Form' kind s parts s' items end_ split open_ comments) = own_parts (Form' kind s parts s' items end_ split open_ comments)
 
 -- ---- the rows of a form
 

@@ -115,7 +115,7 @@ row_indented : (i : List ℕ) (m : _) (r : Row_of-Part m) → AllIndented i r �
 row_indented i m end_of-Part h = tt
 row_indented i m (more_of-Part x rest) h = (h.0, row_indented i _ rest h.1)
 
-indented_row : (i : List ℕ) (m : _) (r : Row_of-Part m) → AreIndented i (items-the_row-Part m r) → AllIndented i r
+pub indented_row : (i : List ℕ) (m : _) (r : Row_of-Part m) → AreIndented i (items-the_row-Part m r) → AllIndented i r
 indented_row i m end_of-Part h = tt
 indented_row i m (more_of-Part x rest) h = (h.0, indented_row i _ rest h.1)
 

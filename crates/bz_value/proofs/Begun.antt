@@ -5,7 +5,8 @@ use Rattle.bz_tree.specs.declared.kind.Kind.TheVariants as k
 use Rattle.bz_tree.specs.Spots.{Spot, onward, Role, opens, closes, ends, plain, role, behind_token, behind_node}
 use Rattle.bz_value.specs.declared.value.Expr.{Expr, Token, Form', Row_of-Expr, end_of-Expr, more_of-Expr}
 use Rattle.bz_value.specs.Frames.{frame, is_binary}
-use Rattle.bz_value.specs.Proper.{behind_expr, ProperExpr, ProperRow, ProperHead}
+use Rattle.bz_tree.specs.Shapes.{Shape}
+use Rattle.bz_value.specs.Proper.{behind_expr, ProperBy, ProperRowBy, ProperHeadBy}
 use Rattle.bz_value.proofs.FormParts.{framed}
 
 token_same : (t : Role) (outer outer' here here' : Spot) → onward outer ≡ onward outer' → onward here ≡ onward here' → behind_token t outer here ≡ behind_token t outer' here'
@@ -26,27 +27,28 @@ behind_same : (x : Expr) (outer outer' here here' : Spot) → onward outer ≡ o
 behind_same (Token t) outer outer' here here' e f = token_same (role t.class t.text) outer outer' here here' e f
 behind_same (Form' kind s parts s' items end_ split open_ comments) outer outer' here here' e f = node_same kind here here' f
 
-mutual
-  pub moved_expr : (x : Expr) (here here' : Spot) → onward here ≡ onward here' → ProperExpr here x → ProperExpr here' x
-  moved_expr (Token t) here here' f h = h
-  moved_expr (Form' kind s parts s' items end_ split open_ comments) here here' f h = (
-    h.0,
-    framed (frame kind)
-        (λ g. (moved_row _ parts (is_binary kind) here here' here here' f f g.0, g.1, g.2, g.3, g.4))
-        (λ g. (moved_head _ parts here here' f g.0, g.1, g.2, g.3))
-        h.1,
-  )
+module _ (grammar : Kind → Shape) where
+  mutual
+    pub moved_expr : (x : Expr) (here here' : Spot) → onward here ≡ onward here' → ProperBy grammar here x → ProperBy grammar here' x
+    moved_expr (Token t) here here' f h = h
+    moved_expr (Form' kind s parts s' items end_ split open_ comments) here here' f h = (
+      h.0,
+      framed (frame kind)
+          (λ g. (moved_row _ parts (is_binary kind) here here' here here' f f g.0, g.1, g.2, g.3, g.4))
+          (λ g. (moved_head _ parts here here' f g.0, g.1, g.2, g.3))
+          h.1,
+    )
 
-  moved_row : (m : _) (r : Row_of-Expr m) (binary : Bool) (outer outer' here here' : Spot) → onward outer ≡ onward outer' → onward here ≡ onward here' → ProperRow binary outer here r → ProperRow binary outer' here' r
-  moved_row m end_of-Expr binary outer outer' here here' e f h = tt
-  moved_row m (more_of-Expr x rest) binary outer outer' here here' e f h =
-      let same = behind_same x outer outer' here here' e f in (
-        moved_expr x here here' f h.0,
-        h.1,
-        λ b. ((h.2 b).0, sym same ∙ (h.2 b).1),
-        moved_row _ rest binary outer outer' (behind_expr outer here x) (behind_expr outer' here' x) e (ap onward same) h.3,
-      )
+    moved_row : (m : _) (r : Row_of-Expr m) (binary : Bool) (outer outer' here here' : Spot) → onward outer ≡ onward outer' → onward here ≡ onward here' → ProperRowBy grammar binary outer here r → ProperRowBy grammar binary outer' here' r
+    moved_row m end_of-Expr binary outer outer' here here' e f h = tt
+    moved_row m (more_of-Expr x rest) binary outer outer' here here' e f h =
+        let same = behind_same x outer outer' here here' e f in (
+          moved_expr x here here' f h.0,
+          h.1,
+          λ b. ((h.2 b).0, sym same ∙ (h.2 b).1),
+          moved_row _ rest binary outer outer' (behind_expr outer here x) (behind_expr outer' here' x) e (ap onward same) h.3,
+        )
 
-  moved_head : (m : _) (r : Row_of-Expr m) (here here' : Spot) → onward here ≡ onward here' → ProperHead here r → ProperHead here' r
-  moved_head m end_of-Expr here here' f h = tt
-  moved_head m (more_of-Expr x rest) here here' f h = (moved_expr x here here' f h.0, h.1, moved_head _ rest here here' f h.2)
+    moved_head : (m : _) (r : Row_of-Expr m) (here here' : Spot) → onward here ≡ onward here' → ProperHeadBy grammar here r → ProperHeadBy grammar here' r
+    moved_head m end_of-Expr here here' f h = tt
+    moved_head m (more_of-Expr x rest) here here' f h = (moved_expr x here here' f h.0, h.1, moved_head _ rest here here' f h.2)

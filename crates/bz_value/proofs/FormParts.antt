@@ -2,7 +2,8 @@
 use Rattle.std.proofs.Common.{◌≡◌, Bool, true, false, not, ◌&&◌, List, [], ◌∷◌, map, refl, sym, ap, ◌∙◌, subst}
 use Rattle.std.specs.List.{All}
 use mathlib.Core.Former.{Count}
-use Rattle.bz_tree.specs.Shapes.{Fits, shape}
+use Rattle.bz_tree.specs.declared.kind.Kind.{Kind}
+use Rattle.bz_tree.specs.Shapes.{Shape, Fits, shape}
 use Rattle.bz_tree.specs.Legal.{IsSort}
 use Rattle.bz_tree.specs.Spots.{Spot, Within}
 use Rattle.bz_value.specs.declared.value.Form.{Form}
@@ -11,28 +12,13 @@ use Rattle.bz_value.specs.declared.value.Expr.TheVariants as e
 use Rattle.bz_value.specs.Comments.{no_comments}
 use Rattle.bz_value.specs.Frames.{Frame, row, sequence, frame, is_binary, is_comprehension}
 use Rattle.bz_value.specs.Roots.{root, row_in}
-use Rattle.bz_value.specs.Proper.{IsComment, AreComments, comments_of, has_break, is_operator, begins_operator, behind_expr, roots, IsEmptyRow, IsBare, in_frame, ProperExpr, ProperRow, ProperHead, ProperItems}
+use Rattle.bz_value.specs.Proper.{IsComment, AreComments, comments_of, has_break, is_operator, begins_operator, behind_expr, roots, IsEmptyRow, IsBare, in_frame, ProperExpr, ProperBy, ProperRowBy, ProperHeadBy, ProperItemsBy}
 
 -- ---- the definition's conditions on rows, of lists
 
 abbrev pub operator_first : List Expr → Bool
 operator_first [] = false
 operator_first (x ∷ xs) = is_operator x
-
-abbrev pub AreParts : Bool → Spot → Spot → List Expr → Type 0
-AreParts binary outer here [] = Unit {0}
-AreParts binary outer here (x ∷ xs) =
-    ProperExpr here x × (comments_of x ≡ no_comments)
-    × (has_break x ≡ true → ((binary && (is_operator x && not (operator_first xs))) ≡ true) × (behind_expr outer here x ≡ Within))
-    × AreParts binary outer (behind_expr outer here x) xs
-
-abbrev pub AreHead : Spot → List Expr → Type 0
-AreHead here [] = Unit {0}
-AreHead here (x ∷ xs) = ProperExpr here x × IsBare x × AreHead here xs
-
-abbrev pub AreItems : List Expr → Type 0
-AreItems [] = Unit {0}
-AreItems (x ∷ xs) = ProperExpr Within x × AreComments (comments_of x) × (has_break x ≡ false) × AreItems xs
 
 abbrev pub IsNone : List Expr → Type 0
 IsNone [] = Unit {0}
@@ -41,23 +27,6 @@ IsNone (x ∷ xs) = ⊥
 first_same : (m : _) (r : Row_of-Expr m) → begins_operator r ≡ operator_first (items-the_row-Expr m r)
 first_same m end_of-Expr = refl
 first_same m (more_of-Expr x rest) = refl
-
-row_of : (binary : Bool) (outer here : Spot) (m : _) (r : Row_of-Expr m) → AreParts binary outer here (items-the_row-Expr m r) → ProperRow binary outer here r
-row_of binary outer here m end_of-Expr h = tt
-row_of binary outer here m (more_of-Expr x rest) h = (
-  h.0,
-  h.1,
-  subst (λ b. has_break x ≡ true → ((binary && (is_operator x && not b)) ≡ true) × (behind_expr outer here x ≡ Within)) (sym (first_same _ rest)) h.2,
-  row_of binary outer (behind_expr outer here x) _ rest h.3,
-)
-
-head_of : (here : Spot) (m : _) (r : Row_of-Expr m) → AreHead here (items-the_row-Expr m r) → ProperHead here r
-head_of here m end_of-Expr h = tt
-head_of here m (more_of-Expr x rest) h = (h.0, h.1, head_of here _ rest h.2)
-
-items_of : (m : _) (r : Row_of-Expr m) → AreItems (items-the_row-Expr m r) → ProperItems r
-items_of m end_of-Expr h = tt
-items_of m (more_of-Expr x rest) h = (h.0, h.1, h.2, items_of _ rest h.3)
 
 none_of : (m : _) (r : Row_of-Expr m) → IsNone (items-the_row-Expr m r) → IsEmptyRow r
 none_of m end_of-Expr h = tt
@@ -77,29 +46,84 @@ abbrev items_in : Expr → (m : Count) × Row_of-Expr m
 items_in (Form' kind s parts s' items end_ split open_ comments) = (_, items)
 items_in (Token t) = (_, end_of-Expr)
 
--- what the definition asks of a form, by its frame
-abbrev pub AsRow : Spot → Form → Type 0
-AsRow here f =
-    AreParts (is_binary f.kind) here here f.parts × IsNone f.seq.items × (f.seq.end_ ≡ []) × (f.seq.split ≡ false) × (f.open_ ≡ true → is_comprehension f.kind ≡ true)
-
-abbrev pub AsSequence : Spot → Form → Type 0
-AsSequence here f = AreHead here f.parts × AreItems f.seq.items × All IsComment f.seq.end_ × (f.open_ ≡ false)
-
 pub framed : (f : Frame) {A A' B B' : Type 0} → (A → A') → (B → B') → in_frame f A B → in_frame f A' B'
 framed row a b h = a h
 framed (sequence opener closer) a b h = b h
 
+-- ---- by a grammar
+
+module _ (grammar : Kind → Shape) where
+  abbrev pub ArePartsBy : Bool → Spot → Spot → List Expr → Type 0
+  ArePartsBy binary outer here [] = Unit {0}
+  ArePartsBy binary outer here (x ∷ xs) =
+      ProperBy grammar here x × (comments_of x ≡ no_comments)
+      × (has_break x ≡ true → ((binary && (is_operator x && not (operator_first xs))) ≡ true) × (behind_expr outer here x ≡ Within))
+      × ArePartsBy binary outer (behind_expr outer here x) xs
+
+  abbrev pub AreHeadBy : Spot → List Expr → Type 0
+  AreHeadBy here [] = Unit {0}
+  AreHeadBy here (x ∷ xs) = ProperBy grammar here x × IsBare x × AreHeadBy here xs
+
+  abbrev pub AreItemsBy : List Expr → Type 0
+  AreItemsBy [] = Unit {0}
+  AreItemsBy (x ∷ xs) = ProperBy grammar Within x × AreComments (comments_of x) × (has_break x ≡ false) × AreItemsBy xs
+
+  row_of : (binary : Bool) (outer here : Spot) (m : _) (r : Row_of-Expr m) → ArePartsBy binary outer here (items-the_row-Expr m r) → ProperRowBy grammar binary outer here r
+  row_of binary outer here m end_of-Expr h = tt
+  row_of binary outer here m (more_of-Expr x rest) h = (
+    h.0,
+    h.1,
+    subst (λ b. has_break x ≡ true → ((binary && (is_operator x && not b)) ≡ true) × (behind_expr outer here x ≡ Within)) (sym (first_same _ rest)) h.2,
+    row_of binary outer (behind_expr outer here x) _ rest h.3,
+  )
+
+  head_of : (here : Spot) (m : _) (r : Row_of-Expr m) → AreHeadBy here (items-the_row-Expr m r) → ProperHeadBy grammar here r
+  head_of here m end_of-Expr h = tt
+  head_of here m (more_of-Expr x rest) h = (h.0, h.1, head_of here _ rest h.2)
+
+  items_of : (m : _) (r : Row_of-Expr m) → AreItemsBy (items-the_row-Expr m r) → ProperItemsBy grammar r
+  items_of m end_of-Expr h = tt
+  items_of m (more_of-Expr x rest) h = (h.0, h.1, h.2, items_of _ rest h.3)
+
+  -- what the definition asks of a form, by its frame
+  abbrev pub AsRowBy : Spot → Form → Type 0
+  AsRowBy here f =
+      ArePartsBy (is_binary f.kind) here here f.parts × IsNone f.seq.items × (f.seq.end_ ≡ []) × (f.seq.split ≡ false) × (f.open_ ≡ true → is_comprehension f.kind ≡ true)
+
+  abbrev pub AsSequenceBy : Spot → Form → Type 0
+  AsSequenceBy here f = AreHeadBy here f.parts × AreItemsBy f.seq.items × All IsComment f.seq.end_ × (f.open_ ≡ false)
+
+  pub form_proper_by : (here : Spot) (f : Form) → Fits IsSort (grammar f.kind) (row_in (frame f.kind) (map root f.parts) (map root f.seq.items)) → in_frame (frame f.kind) (AsRowBy here f) (AsSequenceBy here f) → ProperBy grammar here (e.Form f)
+  form_proper_by here f h i =
+      let ps = parts_in (e.Form f) in
+      let qs = items_in (e.Form f) in
+      let parts : items-the_row-Expr ps.0 ps.1 ≡ f.parts = items_hidden-the_row-Expr-0 f.parts in
+      let items : items-the_row-Expr qs.0 qs.1 ≡ f.seq.items = items_hidden-the_row-Expr-0 f.seq.items in
+      let first : roots ps.1 ≡ map root f.parts = roots_of ps.0 ps.1 ∙ ap (map root) parts in
+      let then_ : roots qs.1 ≡ map root f.seq.items = roots_of qs.0 qs.1 ∙ ap (map root) items in (
+        subst (λ xs. Fits IsSort (grammar f.kind) (row_in (frame f.kind) xs (roots qs.1))) (sym first) (subst (λ ys. Fits IsSort (grammar f.kind) (row_in (frame f.kind) (map root f.parts) ys)) (sym then_) h),
+        framed (frame f.kind)
+            (λ g. (row_of (is_binary f.kind) here here ps.0 ps.1 (subst (ArePartsBy (is_binary f.kind) here here) (sym parts) g.0), none_of qs.0 qs.1 (subst IsNone (sym items) g.1), g.2, g.3, g.4))
+            (λ g. (head_of here ps.0 ps.1 (subst (AreHeadBy here) (sym parts) g.0), items_of qs.0 qs.1 (subst AreItemsBy (sym items) g.1), g.2, g.3))
+            i,
+      )
+
+-- ---- by the grammar of BUILD files
+
+abbrev pub AreParts : Bool → Spot → Spot → List Expr → Type 0
+AreParts binary outer here xs = ArePartsBy shape binary outer here xs
+
+abbrev pub AreHead : Spot → List Expr → Type 0
+AreHead here xs = AreHeadBy shape here xs
+
+abbrev pub AreItems : List Expr → Type 0
+AreItems xs = AreItemsBy shape xs
+
+abbrev pub AsRow : Spot → Form → Type 0
+AsRow here f = AsRowBy shape here f
+
+abbrev pub AsSequence : Spot → Form → Type 0
+AsSequence here f = AsSequenceBy shape here f
+
 pub form_proper : (here : Spot) (f : Form) → Fits IsSort (shape f.kind) (row_in (frame f.kind) (map root f.parts) (map root f.seq.items)) → in_frame (frame f.kind) (AsRow here f) (AsSequence here f) → ProperExpr here (e.Form f)
-form_proper here f h i =
-    let ps = parts_in (e.Form f) in
-    let qs = items_in (e.Form f) in
-    let parts : items-the_row-Expr ps.0 ps.1 ≡ f.parts = items_hidden-the_row-Expr-0 f.parts in
-    let items : items-the_row-Expr qs.0 qs.1 ≡ f.seq.items = items_hidden-the_row-Expr-0 f.seq.items in
-    let first : roots ps.1 ≡ map root f.parts = roots_of ps.0 ps.1 ∙ ap (map root) parts in
-    let then_ : roots qs.1 ≡ map root f.seq.items = roots_of qs.0 qs.1 ∙ ap (map root) items in (
-      subst (λ xs. Fits IsSort (shape f.kind) (row_in (frame f.kind) xs (roots qs.1))) (sym first) (subst (λ ys. Fits IsSort (shape f.kind) (row_in (frame f.kind) (map root f.parts) ys)) (sym then_) h),
-      framed (frame f.kind)
-          (λ g. (row_of (is_binary f.kind) here here ps.0 ps.1 (subst (AreParts (is_binary f.kind) here here) (sym parts) g.0), none_of qs.0 qs.1 (subst IsNone (sym items) g.1), g.2, g.3, g.4))
-          (λ g. (head_of here ps.0 ps.1 (subst (AreHead here) (sym parts) g.0), items_of qs.0 qs.1 (subst AreItems (sym items) g.1), g.2, g.3))
-          i,
-    )
+form_proper here f h i = form_proper_by shape here f h i

@@ -140,11 +140,11 @@ pub all_joined : {X : Type 0} (P : X → Type 0) (xs ys : List X) → AllByRecur
 all_joined P [] ys h i = i
 all_joined P (x ∷ xs) ys h i = (h.0, all_joined P xs ys h.1 i)
 
-fine_listed : (o : Option Bytes) → MaybeComment o → Group (listed o)
+pub fine_listed : (o : Option Bytes) → MaybeComment o → Group (listed o)
 fine_listed None h = tt
 fine_listed (Some text) h = (h, tt)
 
-fine_comments : (ls : List GapLine) → AreFine ls → Group (comments_in ls)
+pub fine_comments : (ls : List GapLine) → AreFine ls → Group (comments_in ls)
 fine_comments [] h = tt
 fine_comments (line ∷ ls) h = all_joined IsComment (listed line.comment) (comments_in ls) (fine_listed line.comment h.0) (fine_comments ls h.1)
 

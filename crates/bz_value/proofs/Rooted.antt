@@ -9,6 +9,7 @@ use Rattle.bz_tree.specs.Shapes.{Sort, Terminal, Shape, Fits, Listed, Behind, Se
 use Rattle.bz_tree.specs.Legal.{IsSort}
 use Rattle.bz_items.specs.Characters.{comma}
 use Rattle.bz_value.specs.Frames.{Frame, row, sequence, frame, lead}
+use Rattle.bz_value.specs.LineShapes.{line_shape}
 use Rattle.bz_value.specs.Roots.{mark, each_with_comma, row_in}
 
 pub record SameRoot (x y : Part) : Type 0 where
@@ -80,20 +81,24 @@ one_of_same (t ∷ ts) l = rw (one_terminal t l, one_of_same ts l) refl
 
 -- ---- rows with brackets and commas put back
 
-itself : (x : Part) → SameRoot x x
+pub itself : (x : Part) → SameRoot x x
 itself x = record { token = λ ts. refl; sort = λ q. refl }
 
-commas_same : (xs ys : List Part) (closer : Part) → Same xs ys → Same (each_with_comma xs ++ closer ∷ []) (each_with_comma ys ++ closer ∷ [])
-commas_same xs ys closer over = more closer closer [] [] (itself closer) over
-commas_same xs ys closer (more x y xs' ys' r w) = more x y _ _ r (more (mark comma) (mark comma) _ _ (itself (mark comma)) (commas_same xs' ys' closer w))
+pub same_itself : (xs : List Part) → Same xs xs
+same_itself [] = over
+same_itself (x ∷ xs) = more x x xs xs (itself x) (same_itself xs)
 
-behind_same_parts : (xs ys us vs : List Part) → Same xs ys → Same us vs → Same (xs ++ us) (ys ++ vs)
+pub commas_same : (xs ys back : List Part) → Same xs ys → Same (each_with_comma xs ++ back) (each_with_comma ys ++ back)
+commas_same xs ys back over = same_itself back
+commas_same xs ys back (more x y xs' ys' r w) = more x y _ _ r (more (mark comma) (mark comma) _ _ (itself (mark comma)) (commas_same xs' ys' back w))
+
+pub behind_same_parts : (xs ys us vs : List Part) → Same xs ys → Same us vs → Same (xs ++ us) (ys ++ vs)
 behind_same_parts xs ys us vs over i = i
 behind_same_parts xs ys us vs (more x y xs' ys' r w) i = more x y _ _ r (behind_same_parts xs' ys' us vs w i)
 
 pub row_same : (f : Frame) (xs ys us vs : List Part) → Same xs ys → Same us vs → Same (row_in f xs us) (row_in f ys vs)
 row_same row xs ys us vs h i = h
-row_same (sequence opener closer) xs ys us vs h i = behind_same_parts xs ys _ _ h (more (mark opener) (mark opener) _ _ (itself (mark opener)) (commas_same us vs (mark closer) i))
+row_same (sequence opener closer) xs ys us vs h i = behind_same_parts xs ys _ _ h (more (mark opener) (mark opener) _ _ (itself (mark opener)) (commas_same us vs (mark closer ∷ []) i))
 
 -- ---- a sequence fits with a comma behind each item
 
@@ -174,3 +179,12 @@ kind_fits k.Tuple ps h = tuple_fits ps h
 kind_fits k.List ps h = list_fits ps h
 kind_fits k.Dict ps h = dict_fits ps h
 kind_fits _ ps h = h
+
+-- the same by the grammar of the lines of .bzl files
+pub line_fits : (kind : Kind) (ps : List Part) → Fits IsSort (line_shape kind) ps → Fits IsSort (line_shape kind) (row_in (frame kind) (kept_parts (frame kind) kind ps) (kept_items (frame kind) kind ps))
+line_fits k.Call ps h = call_fits ps h
+line_fits k.Load ps h = load_fits ps h
+line_fits k.Tuple ps h = tuple_fits ps h
+line_fits k.List ps h = list_fits ps h
+line_fits k.Dict ps h = dict_fits ps h
+line_fits _ ps h = h

@@ -6,6 +6,7 @@ pub mod Exchanged
 pub mod Frames
 pub mod Gaps
 pub mod Indented
+pub mod LineShapes
 pub mod Proper
 pub mod Roots
 pub mod Worked

@@ -4,7 +4,8 @@ use Rattle.bz_token.specs.declared.class.Class.{Class}
 use Rattle.bz_token.specs.declared.class.Class.TheVariants as c
 use Rattle.bz_token.specs.Lexemes.{IsLexeme}
 use Rattle.bz_tree.specs.declared.tree.Part.{Part}
-use Rattle.bz_tree.specs.Shapes.{Fits, shape}
+use Rattle.bz_tree.specs.declared.kind.Kind.{Kind}
+use Rattle.bz_tree.specs.Shapes.{Shape, Fits, shape}
 use Rattle.bz_tree.specs.Legal.{IsSort}
 use Rattle.bz_tree.specs.Spots.{Spot, Begins, Within, role, behind_token, behind_node}
 use Rattle.bz_value.specs.declared.value.Expr.{Expr, Token, Form', Row_of-Expr, end_of-Expr, more_of-Expr}
@@ -82,34 +83,49 @@ abbrev pub in_frame : Frame → Type 0 → Type 0 → Type 0
 in_frame row as_row as_sequence = as_row
 in_frame (sequence opener closer) as_row as_sequence = as_sequence
 
--- An expression is proper at a spot where each node has the shape that the grammar gives its kind, with its brackets and
--- commas put back; each token is a lexeme of its class; only statements and the items of sequences have comments; a break
--- stands only behind an operator and inside brackets; only a comprehension is open.
-abbrev mutual
-  pub ProperExpr : Spot → Expr → Type 0
-  ProperExpr here (Token t) = IsLexeme t.class t.text × IsUtf8 t.text
-  ProperExpr here (Form' kind s parts s' items end_ split open_ comments) =
-      Fits IsSort (shape kind) (row_in (frame kind) (roots parts) (roots items))
-      × in_frame (frame kind)
-      (ProperRow (is_binary kind) here here parts × IsEmptyRow items × (end_ ≡ []) × (split ≡ false) × (open_ ≡ true → is_comprehension kind ≡ true))
-      (ProperHead here parts × ProperItems items × All IsComment end_ × (open_ ≡ false))
+-- By a grammar, which gives each kind its shape.
+module _ (grammar : Kind → Shape) where
+  -- An expression is proper at a spot where each node has the shape that the grammar gives its kind, with its brackets and
+  -- commas put back; each token is a lexeme of its class; only statements and the items of sequences have comments; a break
+  -- stands only behind an operator and inside brackets; only a comprehension is open.
+  abbrev mutual
+    pub ProperBy : Spot → Expr → Type 0
+    ProperBy here (Token t) = IsLexeme t.class t.text × IsUtf8 t.text
+    ProperBy here (Form' kind s parts s' items end_ split open_ comments) =
+        Fits IsSort (grammar kind) (row_in (frame kind) (roots parts) (roots items))
+        × in_frame (frame kind)
+        (ProperRowBy (is_binary kind) here here parts × IsEmptyRow items × (end_ ≡ []) × (split ≡ false) × (open_ ≡ true → is_comprehension kind ≡ true))
+        (ProperHeadBy here parts × ProperItemsBy items × All IsComment end_ × (open_ ≡ false))
 
-  -- the parts of a row, from one on that stands here
-  pub ProperRow : Bool → Spot → Spot → {m : _} → Row_of-Expr m → Type 0
-  ProperRow binary outer here end_of-Expr = Unit {0}
-  ProperRow binary outer here (more_of-Expr x rest) =
-      ProperExpr here x × (comments_of x ≡ no_comments)
-      × (has_break x ≡ true → ((binary && (is_operator x && not (begins_operator rest))) ≡ true) × (behind_expr outer here x ≡ Within))
-      × ProperRow binary outer (behind_expr outer here x) rest
+    -- the parts of a row, from one on that stands here
+    pub ProperRowBy : Bool → Spot → Spot → {m : _} → Row_of-Expr m → Type 0
+    ProperRowBy binary outer here end_of-Expr = Unit {0}
+    ProperRowBy binary outer here (more_of-Expr x rest) =
+        ProperBy here x × (comments_of x ≡ no_comments)
+        × (has_break x ≡ true → ((binary && (is_operator x && not (begins_operator rest))) ≡ true) × (behind_expr outer here x ≡ Within))
+        × ProperRowBy binary outer (behind_expr outer here x) rest
 
-  -- what stands before the opening bracket
-  pub ProperHead : Spot → {m : _} → Row_of-Expr m → Type 0
-  ProperHead here end_of-Expr = Unit {0}
-  ProperHead here (more_of-Expr x rest) = ProperExpr here x × IsBare x × ProperHead here rest
+    -- what stands before the opening bracket
+    pub ProperHeadBy : Spot → {m : _} → Row_of-Expr m → Type 0
+    ProperHeadBy here end_of-Expr = Unit {0}
+    ProperHeadBy here (more_of-Expr x rest) = ProperBy here x × IsBare x × ProperHeadBy here rest
 
-  pub ProperItems : {m : _} → Row_of-Expr m → Type 0
-  ProperItems end_of-Expr = Unit {0}
-  ProperItems (more_of-Expr x rest) = ProperExpr Within x × AreComments (comments_of x) × (has_break x ≡ false) × ProperItems rest
+    pub ProperItemsBy : {m : _} → Row_of-Expr m → Type 0
+    ProperItemsBy end_of-Expr = Unit {0}
+    ProperItemsBy (more_of-Expr x rest) = ProperBy Within x × AreComments (comments_of x) × (has_break x ≡ false) × ProperItemsBy rest
+
+-- by the grammar of BUILD files
+abbrev pub ProperExpr : Spot → Expr → Type 0
+ProperExpr here x = ProperBy shape here x
+
+abbrev pub ProperRow : Bool → Spot → Spot → {m : _} → Row_of-Expr m → Type 0
+ProperRow binary outer here r = ProperRowBy shape binary outer here r
+
+abbrev pub ProperHead : Spot → {m : _} → Row_of-Expr m → Type 0
+ProperHead here r = ProperHeadBy shape here r
+
+abbrev pub ProperItems : {m : _} → Row_of-Expr m → Type 0
+ProperItems r = ProperItemsBy shape r
 
 -- ---- files
 

@@ -17,6 +17,7 @@ use Rattle.bz_tree.specs.Legal.{IsSort}
 use Rattle.bz_tree.specs.Spots.{Spot, Within, onward, Role, opens, closes, ends, plain, role, behind_token, behind_node, behind_part}
 use Rattle.bz_tree.proofs.Balance.{no_such, same_class, inner_sort, not_file, not_lines}
 use Rattle.bz_value.specs.Frames.{is_binary, is_statement}
+use Rattle.bz_value.specs.LineShapes.{line_shape}
 use Rattle.bz_value.specs.Proper.{is_sign}
 
 -- ---- a test on shapes for a fact of all their parts
@@ -129,7 +130,7 @@ pub sort_inner : (a : Sort) (x : Part) → inner_sort a ≡ true → IsSort a x 
 sort_inner a (p.Leaf l) h i = tokens_inner (leaves_at a) l (leaves_inner a h) i
 sort_inner a (Node' kind z r) h i = sort_kind a kind h i
 
-kind_inner : (kind : Kind) → inner_kind kind ≡ true → every inner_tokens inner_sort (shape kind) ≡ true
+kind_inner : (kind : Kind) → inner_kind kind ≡ true → every inner_tokens inner_sort (line_shape kind) ≡ true
 kind_inner k.File h = no_such h
 kind_inner k.Line h = no_such h
 kind_inner k.Def h = no_such h
@@ -139,8 +140,8 @@ kind_inner k.Suite h = no_such h
 kind_inner _ h = refl
 
 -- so are all parts of a node inside a line
-pub inner_parts : (kind : Kind) → inner_kind kind ≡ true → (xs : List Part) → Fits IsSort (shape kind) xs → AllByRecursion (λ x. is_inner x ≡ true) xs
-inner_parts kind h xs i = every_part (λ x. is_inner x ≡ true) inner_tokens inner_sort token_inner sort_inner (shape kind) (kind_inner kind h) xs i
+pub inner_parts : (kind : Kind) → inner_kind kind ≡ true → (xs : List Part) → Fits IsSort (line_shape kind) xs → AllByRecursion (λ x. is_inner x ≡ true) xs
+inner_parts kind h xs i = every_part (λ x. is_inner x ≡ true) inner_tokens inner_sort token_inner sort_inner (line_shape kind) (kind_inner kind h) xs i
 
 -- ---- parts that neither open nor close brackets
 
@@ -235,7 +236,7 @@ abbrev begins_sort : Shape → Bool
 begins_sort (s.sub a r) = true
 begins_sort _ = false
 
-kind_binary : (kind : Kind) → is_binary kind ≡ true → (begins_sort (shape kind) && every plain_tokens inner_sort (shape kind)) ≡ true
+kind_binary : (kind : Kind) → is_binary kind ≡ true → (begins_sort (line_shape kind) && every plain_tokens inner_sort (line_shape kind)) ≡ true
 kind_binary k.Or h = refl
 kind_binary k.And h = refl
 kind_binary k.Compare h = refl
@@ -248,12 +249,12 @@ kind_binary k.Product h = refl
 kind_binary _ h = no_such h
 
 -- no part of one is a bracket
-pub binary_goes : (kind : Kind) → is_binary kind ≡ true → (xs : List Part) → Fits IsSort (shape kind) xs → AllByRecursion GoesOn xs
-binary_goes kind h xs i = every_part GoesOn plain_tokens inner_sort token_goes sort_goes (shape kind) (and_parts _ _ (kind_binary kind h)).1 xs i
+pub binary_goes : (kind : Kind) → is_binary kind ≡ true → (xs : List Part) → Fits IsSort (line_shape kind) xs → AllByRecursion GoesOn xs
+binary_goes kind h xs i = every_part GoesOn plain_tokens inner_sort token_goes sort_goes (line_shape kind) (and_parts _ _ (kind_binary kind h)).1 xs i
 
 -- and it begins with an operand
-pub binary_begins : (kind : Kind) → is_binary kind ≡ true → (x : Part) (xs : List Part) → Fits IsSort (shape kind) (x ∷ xs) → (a : Sort) × IsSort a x
-binary_begins kind h x xs i = front (shape kind) (and_parts _ _ (kind_binary kind h)).0 i
+pub binary_begins : (kind : Kind) → is_binary kind ≡ true → (x : Part) (xs : List Part) → Fits IsSort (line_shape kind) (x ∷ xs) → (a : Sort) × IsSort a x
+binary_begins kind h x xs i = front (line_shape kind) (and_parts _ _ (kind_binary kind h)).0 i
   where
     front : (r : Shape) → begins_sort r ≡ true → Fits IsSort r (x ∷ xs) → (a : Sort) × IsSort a x
     front (s.sub a r) b j = (a, j.0)

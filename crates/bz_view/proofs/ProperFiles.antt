@@ -19,7 +19,8 @@ use Rattle.bz_tree.specs.Spell.{leaves_part, leaves_row, leaves_of}
 use Rattle.bz_tree.specs.Shapes as s
 use Rattle.bz_tree.specs.Shapes.{Fits, Listed, Behind, Several, shape, tok, done}
 use Rattle.bz_tree.specs.Legal.{IsSort, LegalPart, Legal}
-use Rattle.bz_tree.specs.Spots.{Spot, Begins, onward, behind_part, behind_node, Stands, AtLeaves, AtParts, TokenStands, AreTokens}
+use Rattle.bz_tree.proofs.Build.{legal_by_lines}
+use Rattle.bz_tree.specs.Spots.{Spot, Begins, onward, behind_part, behind_node, BzlStands, AtLeaves, AtParts, TokenStands, AreTokens}
 use Rattle.bz_tree.proofs.Balance.{no_such, parts_of_row}
 use Rattle.bz_tree.proofs.Numbers.{same_kind}
 use Rattle.bz_tree.proofs.Trees.{parts_legal}
@@ -31,6 +32,9 @@ use Rattle.bz_value.specs.Gaps.{GapLine, lines_of, behind_first, groups_of, all_
 use Rattle.bz_value.specs.Proper.{IsComment, MaybeComment, AreComments, has_statement_kind, IsProperItem, IsProper}
 use Rattle.bz_value.proofs.Begun.{moved_expr}
 use Rattle.bz_value.proofs.GapComments.{AreFine, Group, Groups, all_joined, fine_lines, fine_behind, suffix_fine, groups_fine, groups_front, groups_last}
+use Rattle.bz_value.proofs.LegalBy.{of_build}
+use Rattle.bz_value.proofs.Rooted.{kind_fits}
+use Rattle.bz_value.proofs.Wider.{lines_wider}
 use Rattle.bz_view.specs.View.{Seen, seen, seen_row, node_in, first_gap, blocks, statement, statements_in, last_gap, line_items, file_items, view_of}
 use Rattle.bz_view.proofs.InnerParts.{ends_line, sort_inner, sort_goes, token_goes, small_statement}
 use Rattle.bz_view.proofs.SeenParts.{seen_rows, Told, AllTold, gap_told, all_parted, comments_made, row_told}
@@ -57,12 +61,12 @@ statement_made : (x : Part) (cs : HostComments) → IsSort s.small x → LegalPa
 statement_made (p.Leaf l) cs h legal = no_such h
 statement_made (Node' kind n r) cs h legal = node_statement kind (seen_row r) cs (frame kind) ∙ small_statement kind (items-the_row-Part _ r) legal.0 h
 
-statement_proper : (here : Spot) (x : Part) (above : List Bytes) (suffix : Option Bytes) → onward here ≡ onward Begins → IsSort s.small x → LegalPart x → Ready x → Told (seen x) → AtLeaves Stands here x → Group above → MaybeComment suffix →
+statement_proper : (here : Spot) (x : Part) (above : List Bytes) (suffix : Option Bytes) → onward here ≡ onward Begins → IsSort s.small x → LegalPart x → Ready shape x → Told (seen x) → AtLeaves BzlStands here x → Group above → MaybeComment suffix →
     IsProperItem (statement above suffix (seen x))
 statement_proper here x above suffix e h legal g t at_ a m =
     let cs : HostComments = record { before = above ++ (seen x).loose; suffix = suffix } in (
       statement_made x cs h legal,
-      moved_expr ((seen x).make cs false) here Begins e (g (sort_inner s.small x refl h) here at_ cs false),
+      moved_expr shape ((seen x).make cs false) here Begins e (g (sort_inner s.small x refl h) here at_ cs false),
       subst AreComments (sym (comments_made x cs false)) (All-from_recursion IsComment (above ++ (seen x).loose) (all_joined IsComment above (seen x).loose a t.loose), m),
     )
 
@@ -70,7 +74,7 @@ abbrev EndsLine : List Part → Type 0
 EndsLine xs = Fits IsSort (tok s.newline done) xs
 
 -- the statements of a line, from one on that stands here
-statements_proper : (outer here : Spot) (above : List Bytes) (xs : List Part) → onward here ≡ onward Begins → Listed (IsSort s.small) s.semicolon true EndsLine xs → AllByRecursion LegalPart xs → AllByRecursion Ready xs → AllTold (map seen xs) → AtParts Stands outer here xs → Group above →
+statements_proper : (outer here : Spot) (above : List Bytes) (xs : List Part) → onward here ≡ onward Begins → Listed (IsSort s.small) s.semicolon true EndsLine xs → AllByRecursion LegalPart xs → AllByRecursion (Ready shape) xs → AllTold (map seen xs) → AtParts BzlStands outer here xs → Group above →
     AreProper (statements_in above (map seen xs))
 statements_proper outer here above [] e h legal g t at_ a = tt
 statements_proper outer here above (x ∷ []) e h legal g t at_ a = tt
@@ -81,17 +85,17 @@ statements_proper outer here above (x ∷ y ∷ z ∷ u ∷ xs) e (h, inr (m, in
 statements_proper outer here above (x ∷ y ∷ z ∷ u ∷ xs) e (h, inr (m, inl j)) legal g t at_ a =
     let there : behind_part outer (behind_part outer here x) y ≡ onward here = token_goes s.semicolon y refl m outer (behind_part outer here x) ∙ (ap onward (sort_goes s.small x refl h outer here) ∙ on_twice here) in (
       statement_proper here x above None e h legal.0 g.0 t.0 at_.0 a tt,
-      statements_proper outer (onward here) [] (z ∷ u ∷ xs) (on_twice here ∙ e) j legal.1.1 g.1.1 t.1.1 (subst (λ q. AtParts Stands outer q (z ∷ u ∷ xs)) there at_.1.1) tt,
+      statements_proper outer (onward here) [] (z ∷ u ∷ xs) (on_twice here ∙ e) j legal.1.1 g.1.1 t.1.1 (subst (λ q. AtParts BzlStands outer q (z ∷ u ∷ xs)) there at_.1.1) tt,
     )
 
 -- ---- lines
 
-last_told : (ss : List Seen) → AllTold ss → IsUtf8 (last_gap ss)
+pub last_told : (ss : List Seen) → AllTold ss → IsUtf8 (last_gap ss)
 last_told [] h = IsUtf8-nil
 last_told (x ∷ []) h = h.0.coded
 last_told (x ∷ y ∷ ss) h = last_told (y ∷ ss) h.1
 
-line_proper : (lines : List GapLine) (xs : List Part) → AreFine lines → Fits IsSort (shape k.Line) xs → AllByRecursion LegalPart xs → AllByRecursion Ready xs → AllTold (map seen xs) → AtParts Stands Begins Begins xs → AreProper (line_items lines (map seen xs))
+line_proper : (lines : List GapLine) (xs : List Part) → AreFine lines → Fits IsSort (shape k.Line) xs → AllByRecursion LegalPart xs → AllByRecursion (Ready shape) xs → AllTold (map seen xs) → AtParts BzlStands Begins Begins xs → AreProper (line_items lines (map seen xs))
 line_proper lines xs f h legal g t at_ =
     let groups : Groups (groups_of lines) = groups_fine lines f in
     all_joined IsProperItem (blocks (all_but_last (groups_of lines))) (statements_in (last_group (groups_of lines)) (map seen xs))
@@ -106,7 +110,7 @@ Lines xs = Several (IsSort s.line) (Fits IsSort (tok s.end done)) xs
 both_fine : (left : List GapLine) (gap : Bytes) → AreFine left → IsUtf8 gap → AreFine (left ++ lines_of gap)
 both_fine left gap f u = all_joined (λ line. MaybeComment line.comment) left (lines_of gap) f (fine_lines gap u)
 
-lines_proper : (left : List GapLine) (xs : List Part) → AreFine left → Lines xs → AllByRecursion LegalPart xs → AllByRecursion IsLexed (flat_map leaves_part xs) → AllByRecursion IsCodedLeaf (flat_map leaves_part xs) → AtParts Stands Begins Begins xs →
+lines_proper : (left : List GapLine) (xs : List Part) → AreFine left → Lines xs → AllByRecursion LegalPart xs → AllByRecursion IsLexed (flat_map leaves_part xs) → AllByRecursion IsCodedLeaf (flat_map leaves_part xs) → AtParts BzlStands Begins Begins xs →
     AreProper (file_items left xs)
 lines_proper left [] f h g l c at_ = tt
 lines_proper left (p.Leaf leaf ∷ []) f (inl h) g l c at_ =
@@ -127,9 +131,9 @@ lines_proper left (Node' kind n r ∷ xs) f (inr h) g l c at_ =
     let lines : List GapLine = left ++ lines_of (first_gap (seen_row r)) in
     let fine : AreFine lines = both_fine left (first_gap (seen_row r)) f (gap_told (seen_row r) row) in
     let last : AreFine (behind_first (lines_of (last_gap (seen_row r)))) = fine_behind (lines_of (last_gap (seen_row r))) (fine_lines (last_gap (seen_row r)) (last_told (seen_row r) row)) in
-    let there : AtParts Stands Begins Begins xs = subst (λ kd. AtParts Stands Begins (behind_node kd Begins) xs) e at_.1 in
+    let there : AtParts BzlStands Begins Begins xs = subst (λ kd. AtParts BzlStands Begins (behind_node kd Begins) xs) e at_.1 in
     all_joined IsProperItem (line_items lines (seen_row r)) (file_items (behind_first (lines_of (last_gap (seen_row r)))) xs)
-    (subst (λ ss. AreProper (line_items lines ss)) (sym rows) (line_proper lines ys fine fits (parts_legal _ r g.0.1) (row_ready _ r g.0.1 v.0 w.0) told (parts_of_row Stands Begins Begins _ r at_.0)))
+    (subst (λ ss. AreProper (line_items lines ss)) (sym rows) (line_proper lines ys fine fits (parts_legal _ r g.0.1) (row_ready shape lines_wider kind_fits _ r (of_build (Node' kind n r) g.0).1 v.0 w.0) told (parts_of_row BzlStands Begins Begins _ r at_.0)))
     (lines_proper (behind_first (lines_of (last_gap (seen_row r)))) xs last h.1 g.1 v.1 w.1 there)
 
 -- ---- the leaves
@@ -139,11 +143,11 @@ lexed_in c.Newline token ls h e = no_such e
 lexed_in c.End token ls h e = no_such e
 lexed_in _ token ls h e = h.lexeme
 
-lexed : (ls : List Leaf) → AreTokens ls → AllByRecursion IsLexed ls
+pub lexed : (ls : List Leaf) → AreTokens ls → AllByRecursion IsLexed ls
 lexed [] h = tt
 lexed (l ∷ ls) h = (lexed_in l.class l.token ls h.0, lexed ls h.1)
 
 pub view_proper : (n : Node) → Legal n → IsProper (view_of n)
 view_proper n h =
     let fits : Fits IsSort (shape k.File) n.parts = subst (λ kd. Fits IsSort (shape kd) n.parts) h.file.root h.file.shapes.0 in
-    All-from_recursion IsProperItem (view_of n) (lines_proper [] n.parts tt fits h.file.shapes.1 (lexed (leaves_of n) h.tokens) h.coded h.gaps)
+    All-from_recursion IsProperItem (view_of n) (lines_proper [] n.parts tt fits h.file.shapes.1 (lexed (leaves_of n) h.tokens) h.coded ((legal_by_lines n).0 h).0.gaps)

@@ -5,41 +5,22 @@ use Rattle.std.proofs.lemmas.Bool.{and_parts, or_cases}
 use Rattle.bz_tree.specs.declared.kind.Kind.{Kind}
 use Rattle.bz_tree.specs.declared.tree.Part.{Part, Node'}
 use Rattle.bz_tree.specs.declared.tree.Part.TheVariants as p
-use Rattle.bz_tree.specs.Shapes.{Sort, Fits, shape}
+use Rattle.bz_tree.specs.Shapes.{Shape, Sort, Fits}
 use Rattle.bz_tree.specs.Legal.{IsSort}
-use Rattle.bz_tree.specs.Spots.{Spot, Begins, Within, Along, onward, behind_part, Stands, AtLeaves, AtParts}
+use Rattle.bz_tree.specs.Spots.{Spot, Begins, Within, Along, onward, behind_part, BzlStands, AtLeaves, AtParts}
 use Rattle.bz_tree.proofs.Balance.{no_such}
 use Rattle.bz_value.specs.Comments.{HostComments, no_comments}
 use Rattle.bz_value.specs.Frames.{frame, is_binary}
 use Rattle.bz_value.specs.Gaps.{has_newline}
-use Rattle.bz_value.specs.Proper.{is_operator, behind_expr, ProperExpr}
-use Rattle.bz_value.proofs.FormParts.{operator_first, AreParts}
+use Rattle.bz_value.specs.LineShapes.{line_shape}
+use Rattle.bz_value.specs.Proper.{is_operator, behind_expr, ProperBy}
+use Rattle.bz_value.proofs.FormParts.{operator_first, ArePartsBy}
+use Rattle.bz_value.proofs.Wider.{IsWider}
 use Rattle.bz_view.specs.View.{seen, seen_row, plain, first_gap, begins_operator, row_exprs}
 use Rattle.bz_view.proofs.InnerParts.{GoesOn, binary_goes, binary_begins, sort_unsigned}
 use Rattle.bz_view.proofs.SeenParts.{node_operator, comments_made, break_made, no_break_made, operator_made, behind_made, part_along}
 
--- the part is proper where it stands, for any comments and break
-abbrev pub Fit : Part → Type 0
-Fit x = (here : Spot) → AtLeaves Stands here x → (cs : HostComments) (b : Bool) → ProperExpr here ((seen x).make cs b)
-
-abbrev pub AllFit : List Part → Type 0
-AllFit xs = AllByRecursion Fit xs
-
--- ---- rows that aren't binary operations
-
-plain_row : (inside newline : Bool) (outer here : Spot) (xs : List Part) → AllFit xs → AtParts Stands outer here xs → AreParts false outer here (row_exprs false inside newline (map seen xs))
-plain_row inside newline outer here [] h at_ = tt
-plain_row inside newline outer here (x ∷ xs) h at_ = (
-  h.0 here at_.0 no_comments false,
-  comments_made x no_comments false,
-  λ b. no_such (sym (no_break_made x no_comments) ∙ b),
-  subst
-      (λ z. AreParts false outer z (row_exprs false false (if inside then newline else has_newline (seen x).gap) (map seen xs)))
-      (sym (behind_made outer here x no_comments false))
-      (plain_row false (if inside then newline else has_newline (seen x).gap) outer (behind_part outer here x) xs h.1 at_.1),
-)
-
--- ---- binary operations
+-- ---- where parts stand
 
 pub on_twice : (here : Spot) → onward (onward here) ≡ onward here
 on_twice Within = refl
@@ -51,15 +32,15 @@ within_by Begins b e f h = cc
 within_by Within b e f h = refl
 within_by Along b e f h = no_such (sym (f refl) ∙ h)
 
-part_within : (here : Spot) (x : Part) → onward here ≡ here → AtLeaves Stands here x → has_newline (seen x).gap ≡ true → here ≡ Within
-part_within here x e h n = within_by here (has_newline (seen x).gap) e (λ a. part_along x (subst (λ z. AtLeaves Stands z x) a h)) n
+part_within : (here : Spot) (x : Part) → onward here ≡ here → AtLeaves BzlStands here x → has_newline (seen x).gap ≡ true → here ≡ Within
+part_within here x e h n = within_by here (has_newline (seen x).gap) e (λ a. part_along x (subst (λ z. AtLeaves BzlStands z x) a h)) n
 
-before_within : (inside newline : Bool) (here : Spot) (x : Part) → onward here ≡ here → (inside ≡ true → newline ≡ true → here ≡ Within) → AtLeaves Stands here x →
+before_within : (inside newline : Bool) (here : Spot) (x : Part) → onward here ≡ here → (inside ≡ true → newline ≡ true → here ≡ Within) → AtLeaves BzlStands here x →
     (if inside then newline else has_newline (seen x).gap) ≡ true → here ≡ Within
 before_within true newline here x e w h n = w refl n
 before_within false newline here x e w h n = part_within here x e h n
 
-first_within : (outer here : Spot) (xs : List Part) → onward here ≡ here → AtParts Stands outer here xs → has_newline (first_gap (map seen xs)) ≡ true → here ≡ Within
+first_within : (outer here : Spot) (xs : List Part) → onward here ≡ here → AtParts BzlStands outer here xs → has_newline (first_gap (map seen xs)) ≡ true → here ≡ Within
 first_within outer here [] e h n = no_such n
 first_within outer here (x ∷ xs) e h n = part_within here x e h.0 n
 
@@ -67,57 +48,84 @@ first_operator : (binary inside newline : Bool) (xs : List Part) → operator_fi
 first_operator binary inside newline [] = refl
 first_operator binary inside newline (x ∷ xs) = operator_made x no_comments _
 
-behind_first : (inside newline : Bool) (outer here : Spot) → onward here ≡ here → (inside ≡ true → newline ≡ true → here ≡ Within) →
-    (xs : List Part) → AllFit xs → AllByRecursion GoesOn xs → AtParts Stands outer here xs → AreParts true outer here (row_exprs true inside newline (map seen xs))
-behind_first inside newline outer here e w [] h g at_ = tt
-behind_first inside newline outer here e w (x ∷ xs) h g at_ =
-    let sign : Bool = is_operator (plain (seen x)) in
-    let before : Bool = if inside then newline else has_newline (seen x).gap in
-    let after : Bool = has_newline (first_gap (map seen xs)) in
-    let ended : Bool = sign && not (begins_operator (map seen xs)) in
-    let broken : Bool = ended && (before || after) in
-    let there : behind_part outer here x ≡ here = g.0 outer here ∙ e in
-    let rest_at : AtParts Stands outer here xs = subst (λ z. AtParts Stands outer z xs) there at_.1 in
-    let made : behind_expr outer here ((seen x).make no_comments broken) ≡ here = behind_made outer here x no_comments broken ∙ there in
-    let by_before : before ≡ true → here ≡ Within = before_within inside newline here x e w at_.0 in
-    let by_both : (before || after) ≡ true → here ≡ Within = λ n. elim (or_cases before after n) [ inl i ↦ by_before i | inr i ↦ first_within outer here xs e rest_at i ] in
-    let same : (is_operator ((seen x).make no_comments broken) && not (operator_first (row_exprs true sign before (map seen xs)))) ≡ ended =
-    ap (λ z. z && not (operator_first (row_exprs true sign before (map seen xs)))) (operator_made x no_comments broken) ∙ ap (λ z. sign && not z) (first_operator true sign before xs) in (
-      h.0 here at_.0 no_comments broken,
-      comments_made x no_comments broken,
-      λ b. let v = and_parts ended (before || after) (break_made x no_comments broken b) in (same ∙ v.0, made ∙ by_both v.1),
-      subst (λ z. AreParts true outer z (row_exprs true sign before (map seen xs))) (sym made) (behind_first sign before outer here e (λ i n. by_before n) xs h.1 g.1 rest_at),
-    )
-
 part_unsigned : (a : Sort) (x : Part) → IsSort a x → is_operator (plain (seen x)) ≡ false
 part_unsigned a (p.Leaf l) h = sort_unsigned a l h
 part_unsigned a (Node' kind n r) h = node_operator kind (seen_row r) no_comments false (frame kind)
 
-binary_row : (kind : Kind) → is_binary kind ≡ true → (outer here : Spot) (xs : List Part) → Fits IsSort (shape kind) xs → AllFit xs → AtParts Stands outer here xs → AreParts true outer here (row_exprs true false false (map seen xs))
-binary_row kind k outer here [] f h at_ = tt
-binary_row kind k outer here (x ∷ xs) f h at_ =
-    let w = binary_begins kind k x xs f in
-    let g : AllByRecursion GoesOn (x ∷ xs) = binary_goes kind k (x ∷ xs) f in
-    let there : behind_part outer here x ≡ onward here = g.0 outer here in
-    begun (is_operator (plain (seen x))) (part_unsigned w.0 x w.1) (not (begins_operator (map seen xs))) (has_newline (seen x).gap || has_newline (first_gap (map seen xs))) (has_newline (seen x).gap)
-    (behind_made outer here x no_comments false ∙ there)
-    (behind_first false (has_newline (seen x).gap) outer (onward here) (on_twice here) (λ i n. no_such i) xs h.1 g.1 (subst (λ z. AtParts Stands outer z xs) there at_.1))
-  where
-    begun : (sign : Bool) → sign ≡ false → (last newline before : Bool) → behind_expr outer here ((seen x).make no_comments false) ≡ onward here →
-        AreParts true outer (onward here) (row_exprs true false before (map seen xs)) → AreParts true outer here ((seen x).make no_comments ((sign && last) && newline) ∷ row_exprs true sign before (map seen xs))
-    begun true e last newline before m rest = no_such (sym e)
-    begun false e last newline before m rest = (
-      h.0 here at_.0 no_comments false,
-      comments_made x no_comments false,
-      λ b. no_such (sym (no_break_made x no_comments) ∙ b),
-      subst (λ z. AreParts true outer z (row_exprs true false before (map seen xs))) (sym m) rest,
-    )
+-- ---- rows by a grammar, of which that of lines is the widest
 
--- the row of a node of any kind
-pub row_proper : (kind : Kind) (outer here : Spot) (xs : List Part) → Fits IsSort (shape kind) xs → AllFit xs → AtParts Stands outer here xs →
-    AreParts (is_binary kind) outer here (row_exprs (is_binary kind) false false (map seen xs))
-row_proper kind outer here xs f h at_ = either (is_binary kind) refl
-  where
-    either : (b : Bool) → is_binary kind ≡ b → AreParts b outer here (row_exprs b false false (map seen xs))
-    either true k = binary_row kind k outer here xs f h at_
-    either false k = plain_row false false outer here xs h at_
+module _ (grammar : Kind → Shape) where
+  -- the part is proper where it stands, for any comments and break
+  abbrev pub Fit : Part → Type 0
+  Fit x = (here : Spot) → AtLeaves BzlStands here x → (cs : HostComments) (b : Bool) → ProperBy grammar here ((seen x).make cs b)
+
+  abbrev pub AllFit : List Part → Type 0
+  AllFit xs = AllByRecursion Fit xs
+
+  -- ---- rows that aren't binary operations
+
+  plain_row : (inside newline : Bool) (outer here : Spot) (xs : List Part) → AllFit xs → AtParts BzlStands outer here xs → ArePartsBy grammar false outer here (row_exprs false inside newline (map seen xs))
+  plain_row inside newline outer here [] h at_ = tt
+  plain_row inside newline outer here (x ∷ xs) h at_ = (
+    h.0 here at_.0 no_comments false,
+    comments_made x no_comments false,
+    λ b. no_such (sym (no_break_made x no_comments) ∙ b),
+    subst
+        (λ z. ArePartsBy grammar false outer z (row_exprs false false (if inside then newline else has_newline (seen x).gap) (map seen xs)))
+        (sym (behind_made outer here x no_comments false))
+        (plain_row false (if inside then newline else has_newline (seen x).gap) outer (behind_part outer here x) xs h.1 at_.1),
+  )
+
+  -- ---- binary operations
+
+  behind_first : (inside newline : Bool) (outer here : Spot) → onward here ≡ here → (inside ≡ true → newline ≡ true → here ≡ Within) →
+      (xs : List Part) → AllFit xs → AllByRecursion GoesOn xs → AtParts BzlStands outer here xs → ArePartsBy grammar true outer here (row_exprs true inside newline (map seen xs))
+  behind_first inside newline outer here e w [] h g at_ = tt
+  behind_first inside newline outer here e w (x ∷ xs) h g at_ =
+      let sign : Bool = is_operator (plain (seen x)) in
+      let before : Bool = if inside then newline else has_newline (seen x).gap in
+      let after : Bool = has_newline (first_gap (map seen xs)) in
+      let ended : Bool = sign && not (begins_operator (map seen xs)) in
+      let broken : Bool = ended && (before || after) in
+      let there : behind_part outer here x ≡ here = g.0 outer here ∙ e in
+      let rest_at : AtParts BzlStands outer here xs = subst (λ z. AtParts BzlStands outer z xs) there at_.1 in
+      let made : behind_expr outer here ((seen x).make no_comments broken) ≡ here = behind_made outer here x no_comments broken ∙ there in
+      let by_before : before ≡ true → here ≡ Within = before_within inside newline here x e w at_.0 in
+      let by_both : (before || after) ≡ true → here ≡ Within = λ n. elim (or_cases before after n) [ inl i ↦ by_before i | inr i ↦ first_within outer here xs e rest_at i ] in
+      let same : (is_operator ((seen x).make no_comments broken) && not (operator_first (row_exprs true sign before (map seen xs)))) ≡ ended =
+      ap (λ z. z && not (operator_first (row_exprs true sign before (map seen xs)))) (operator_made x no_comments broken) ∙ ap (λ z. sign && not z) (first_operator true sign before xs) in (
+        h.0 here at_.0 no_comments broken,
+        comments_made x no_comments broken,
+        λ b. let v = and_parts ended (before || after) (break_made x no_comments broken b) in (same ∙ v.0, made ∙ by_both v.1),
+        subst (λ z. ArePartsBy grammar true outer z (row_exprs true sign before (map seen xs))) (sym made) (behind_first sign before outer here e (λ i n. by_before n) xs h.1 g.1 rest_at),
+      )
+
+  module _ (wider : IsWider grammar line_shape) where
+    binary_row : (kind : Kind) → is_binary kind ≡ true → (outer here : Spot) (xs : List Part) → Fits IsSort (grammar kind) xs → AllFit xs → AtParts BzlStands outer here xs → ArePartsBy grammar true outer here (row_exprs true false false (map seen xs))
+    binary_row kind k outer here [] f h at_ = tt
+    binary_row kind k outer here (x ∷ xs) f h at_ =
+        let w = binary_begins kind k x xs (wider kind (x ∷ xs) f) in
+        let g : AllByRecursion GoesOn (x ∷ xs) = binary_goes kind k (x ∷ xs) (wider kind (x ∷ xs) f) in
+        let there : behind_part outer here x ≡ onward here = g.0 outer here in
+        begun (is_operator (plain (seen x))) (part_unsigned w.0 x w.1) (not (begins_operator (map seen xs))) (has_newline (seen x).gap || has_newline (first_gap (map seen xs))) (has_newline (seen x).gap)
+        (behind_made outer here x no_comments false ∙ there)
+        (behind_first false (has_newline (seen x).gap) outer (onward here) (on_twice here) (λ i n. no_such i) xs h.1 g.1 (subst (λ z. AtParts BzlStands outer z xs) there at_.1))
+      where
+        begun : (sign : Bool) → sign ≡ false → (last newline before : Bool) → behind_expr outer here ((seen x).make no_comments false) ≡ onward here →
+            ArePartsBy grammar true outer (onward here) (row_exprs true false before (map seen xs)) → ArePartsBy grammar true outer here ((seen x).make no_comments ((sign && last) && newline) ∷ row_exprs true sign before (map seen xs))
+        begun true e last newline before m rest = no_such (sym e)
+        begun false e last newline before m rest = (
+          h.0 here at_.0 no_comments false,
+          comments_made x no_comments false,
+          λ b. no_such (sym (no_break_made x no_comments) ∙ b),
+          subst (λ z. ArePartsBy grammar true outer z (row_exprs true false before (map seen xs))) (sym m) rest,
+        )
+
+    -- the row of a node of any kind
+    pub row_proper : (kind : Kind) (outer here : Spot) (xs : List Part) → Fits IsSort (grammar kind) xs → AllFit xs → AtParts BzlStands outer here xs →
+        ArePartsBy grammar (is_binary kind) outer here (row_exprs (is_binary kind) false false (map seen xs))
+    row_proper kind outer here xs f h at_ = either (is_binary kind) refl
+      where
+        either : (b : Bool) → is_binary kind ≡ b → ArePartsBy grammar b outer here (row_exprs b false false (map seen xs))
+        either true k = binary_row kind k outer here xs f h at_
+        either false k = plain_row false false outer here xs h at_

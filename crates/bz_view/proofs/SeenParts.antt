@@ -11,7 +11,7 @@ use Rattle.bz_tree.specs.declared.tree.Part.{Part, Row_of-Part, end_of-Part, mor
 use Rattle.bz_tree.specs.declared.tree.Part.TheVariants as p
 use Rattle.bz_tree.specs.Shapes.{has_token, has_sort, leaves_at}
 use Rattle.bz_tree.specs.Spell.{leaves_part, leaves_row}
-use Rattle.bz_tree.specs.Spots.{Spot, Along, behind_node, behind_part, GapStands, Stands, AtLeaves, AtRow}
+use Rattle.bz_tree.specs.Spots.{Spot, Along, behind_node, behind_part, BzlGapStands, BzlStands, AtLeaves, AtRow}
 use Rattle.bz_tree.proofs.Balance.{no_such}
 use Rattle.bz_value.specs.Comments.{HostComments, no_comments}
 use Rattle.bz_value.specs.Frames.{Frame, row, sequence, frame, lead}
@@ -85,17 +85,17 @@ behind_made outer here (Node' kind n r) cs b = node_behind kind (seen_row r) cs 
 
 -- ---- no unescaped newline stands before a part along a line
 
-gap_along : (class : Class) (gap : Bytes) → GapStands class Along gap → has_newline gap ≡ false
+gap_along : (class : Class) (gap : Bytes) → BzlGapStands class Along gap → has_newline gap ≡ false
 gap_along c.Newline gap h = along_quiet h.0 gap h.1
 gap_along c.End gap h = absurd h
 gap_along _ gap h = along_quiet false gap h
 
 mutual
-  pub part_along : (x : Part) → AtLeaves Stands Along x → has_newline (seen x).gap ≡ false
+  pub part_along : (x : Part) → AtLeaves BzlStands Along x → has_newline (seen x).gap ≡ false
   part_along (p.Leaf l) h = gap_along l.class l.gap h
   part_along (Node' kind n r) h = ap has_newline (node_gap kind (seen_row r) (frame kind)) ∙ row_along _ r h
 
-  row_along : (m : _) (r : Row_of-Part m) → AtRow Stands Along Along r → has_newline (first_gap (seen_row r)) ≡ false
+  row_along : (m : _) (r : Row_of-Part m) → AtRow BzlStands Along Along r → has_newline (first_gap (seen_row r)) ≡ false
   row_along m end_of-Part h = refl
   row_along m (more_of-Part x rest) h = part_along x h.0
 
@@ -120,7 +120,7 @@ behind_told : (ss : List Seen) → AllTold ss → Group (loose_behind ss)
 behind_told [] h = tt
 behind_told (s ∷ ss) h = all_joined IsComment (all_in s.gap ++ s.loose) (loose_behind ss) (all_joined IsComment (all_in s.gap) s.loose (all_fine s.gap h.0.coded) h.0.loose) (behind_told ss h.1)
 
-in_told : (ss : List Seen) → AllTold ss → Group (loose_in ss)
+pub in_told : (ss : List Seen) → AllTold ss → Group (loose_in ss)
 in_told [] h = tt
 in_told (s ∷ ss) h = all_joined IsComment s.loose (loose_behind ss) h.0.loose (behind_told ss h.1)
 

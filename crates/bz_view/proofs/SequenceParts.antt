@@ -6,17 +6,18 @@ use Rattle.bz_tree.specs.declared.kind.Kind.{Kind}
 use Rattle.bz_tree.specs.declared.kind.Kind.TheVariants as k
 use Rattle.bz_tree.specs.declared.tree.Part.{Part}
 use Rattle.bz_tree.specs.Shapes as s
-use Rattle.bz_tree.specs.Shapes.{Sort, Terminal, Fits, Listed, shape, items, tok, done, has_token}
+use Rattle.bz_tree.specs.Shapes.{Sort, Terminal, Fits, Listed, Shape, items, tok, done, has_token}
 use Rattle.bz_tree.specs.Legal.{IsSort}
-use Rattle.bz_tree.specs.Spots.{Spot, Within, behind_part, Stands, AtLeaves, AtParts}
+use Rattle.bz_tree.specs.Spots.{Spot, Within, behind_part, BzlStands, AtLeaves, AtParts}
 use Rattle.bz_value.specs.declared.value.Expr.{Expr}
 use Rattle.bz_value.specs.Comments.{HostComments, no_comments}
 use Rattle.bz_value.specs.Frames.{Frame, row, sequence, frame, lead}
+use Rattle.bz_value.specs.LineShapes.{line_shape}
 use Rattle.bz_items.specs.Characters.{Bytes}
 use Rattle.bz_value.specs.Gaps.{suffix_in, others_in, all_in}
 use Rattle.bz_value.specs.Roots.{root}
 use Rattle.bz_value.specs.Proper.{IsComment, MaybeComment, AreComments, comments_of}
-use Rattle.bz_value.proofs.FormParts.{AreHead, AreItems}
+use Rattle.bz_value.proofs.FormParts.{AreHeadBy, AreItemsBy}
 use Rattle.bz_value.proofs.GapComments.{Group, all_joined, suffix_fine, others_fine, all_fine}
 use Rattle.bz_value.proofs.Rooted.{Same, over, more, places}
 use Rattle.bz_view.specs.View.{Seen, seen, plain, items_in}
@@ -54,25 +55,25 @@ module _ (close : List Terminal) where
 
 -- of the parts of a node that stands here: what is before the bracket, and what is behind it
 pub record SequenceStands (here : Spot) (kind : Kind) (xs : List Part) : Type 0 where
-  pub head : AllByRecursion (AtLeaves Stands here) (take (lead kind) xs)
-  pub body : AtParts Stands here Within (drop (suc (lead kind)) xs)
+  pub head : AllByRecursion (AtLeaves BzlStands here) (take (lead kind) xs)
+  pub body : AtParts BzlStands here Within (drop (suc (lead kind)) xs)
   pub alternate : Alternate (drop (suc (lead kind)) xs)
 
-call_stands : (here : Spot) (xs : List Part) → Fits IsSort (shape k.Call) xs → AtParts Stands here here xs → SequenceStands here k.Call xs
+call_stands : (here : Spot) (xs : List Part) → Fits IsSort (line_shape k.Call) xs → AtParts BzlStands here here xs → SequenceStands here k.Call xs
 call_stands here [] h at_ = absurd h
 call_stands here (x ∷ []) h at_ = absurd h.1
 call_stands here (x ∷ y ∷ xs) h at_ = record {
   head = (at_.0, tt);
-  body = subst (λ z. AtParts Stands here z xs) (token_opens s.open_round y here (behind_part here here x) refl h.1.0) at_.1.1;
+  body = subst (λ z. AtParts BzlStands here z xs) (token_opens s.open_round y here (behind_part here here x) refl h.1.0) at_.1.1;
   alternate = items_alternate s.close_round s.argument refl xs h.1.1;
 }
 
-load_stands : (here : Spot) (xs : List Part) → Fits IsSort (shape k.Load) xs → AtParts Stands here here xs → SequenceStands here k.Load xs
+load_stands : (here : Spot) (xs : List Part) → Fits IsSort (line_shape k.Load) xs → AtParts BzlStands here here xs → SequenceStands here k.Load xs
 load_stands here [] h at_ = absurd h
 load_stands here (x ∷ []) h at_ = absurd h.1
 load_stands here (x ∷ y ∷ xs) h at_ = record {
   head = (at_.0, tt);
-  body = subst (λ z. AtParts Stands here z xs) (token_opens s.open_round y here (behind_part here here x) refl h.1.0) at_.1.1;
+  body = subst (λ z. AtParts BzlStands here z xs) (token_opens s.open_round y here (behind_part here here x) refl h.1.0) at_.1.1;
   alternate = first xs h.1.1;
 }
   where
@@ -83,11 +84,11 @@ load_stands here (x ∷ y ∷ xs) h at_ = record {
     first (u ∷ v ∷ w ∷ xs) (i, inl j) = absurd j.1
     first (u ∷ v ∷ w ∷ xs) (i, inr j) = (token_goes s.string u refl i, token_goes s.comma v refl j.0, items_alternate s.close_round s.loaded refl (w ∷ xs) j.1)
 
-tuple_stands : (here : Spot) (xs : List Part) → Fits IsSort (shape k.Tuple) xs → AtParts Stands here here xs → SequenceStands here k.Tuple xs
+tuple_stands : (here : Spot) (xs : List Part) → Fits IsSort (line_shape k.Tuple) xs → AtParts BzlStands here here xs → SequenceStands here k.Tuple xs
 tuple_stands here [] h at_ = absurd h
 tuple_stands here (y ∷ xs) h at_ = record {
   head = tt;
-  body = subst (λ z. AtParts Stands here z xs) (token_opens s.open_round y here here refl h.0) at_.1;
+  body = subst (λ z. AtParts BzlStands here z xs) (token_opens s.open_round y here here refl h.0) at_.1;
   alternate = first xs h.1;
 }
   where
@@ -98,19 +99,19 @@ tuple_stands here (y ∷ xs) h at_ = record {
     first (u ∷ v ∷ []) (inr i) = tt
     first (u ∷ v ∷ w ∷ xs) (inr i) = (sort_goes s.test u refl i.0, token_goes s.comma v refl i.1.0, items_alternate s.close_round s.test refl (w ∷ xs) i.1.1)
 
-list_stands : (here : Spot) (xs : List Part) → Fits IsSort (shape k.List) xs → AtParts Stands here here xs → SequenceStands here k.List xs
+list_stands : (here : Spot) (xs : List Part) → Fits IsSort (line_shape k.List) xs → AtParts BzlStands here here xs → SequenceStands here k.List xs
 list_stands here [] h at_ = absurd h
 list_stands here (y ∷ xs) h at_ = record {
   head = tt;
-  body = subst (λ z. AtParts Stands here z xs) (token_opens s.open_square y here here refl h.0) at_.1;
+  body = subst (λ z. AtParts BzlStands here z xs) (token_opens s.open_square y here here refl h.0) at_.1;
   alternate = items_alternate s.close_square s.test refl xs h.1;
 }
 
-dict_stands : (here : Spot) (xs : List Part) → Fits IsSort (shape k.Dict) xs → AtParts Stands here here xs → SequenceStands here k.Dict xs
+dict_stands : (here : Spot) (xs : List Part) → Fits IsSort (line_shape k.Dict) xs → AtParts BzlStands here here xs → SequenceStands here k.Dict xs
 dict_stands here [] h at_ = absurd h
 dict_stands here (y ∷ xs) h at_ = record {
   head = tt;
-  body = subst (λ z. AtParts Stands here z xs) (token_opens s.open_curly y here here refl h.0) at_.1;
+  body = subst (λ z. AtParts BzlStands here z xs) (token_opens s.open_curly y here here refl h.0) at_.1;
   alternate = items_alternate s.close_curly s.entry refl xs h.1;
 }
 
@@ -118,7 +119,7 @@ abbrev SequenceIn : Frame → Spot → Kind → List Part → Type 0
 SequenceIn row here kind xs = Unit {0}
 SequenceIn (sequence opener closer) here kind xs = SequenceStands here kind xs
 
-kind_stands : (kind : Kind) (here : Spot) (xs : List Part) → Fits IsSort (shape kind) xs → AtParts Stands here here xs → SequenceIn (frame kind) here kind xs
+kind_stands : (kind : Kind) (here : Spot) (xs : List Part) → Fits IsSort (line_shape kind) xs → AtParts BzlStands here here xs → SequenceIn (frame kind) here kind xs
 kind_stands k.Call here xs h at_ = call_stands here xs h at_
 kind_stands k.Load here xs h at_ = load_stands here xs h at_
 kind_stands k.Tuple here xs h at_ = tuple_stands here xs h at_
@@ -126,16 +127,10 @@ kind_stands k.List here xs h at_ = list_stands here xs h at_
 kind_stands k.Dict here xs h at_ = dict_stands here xs h at_
 kind_stands _ here xs h at_ = tt
 
-pub sequence_stands : (kind : Kind) (opener closer : ℕ) (here : Spot) (xs : List Part) → frame kind ≡ sequence opener closer → Fits IsSort (shape kind) xs → AtParts Stands here here xs → SequenceStands here kind xs
+pub sequence_stands : (kind : Kind) (opener closer : ℕ) (here : Spot) (xs : List Part) → frame kind ≡ sequence opener closer → Fits IsSort (line_shape kind) xs → AtParts BzlStands here here xs → SequenceStands here kind xs
 sequence_stands kind opener closer here xs e h at_ = subst (λ f. SequenceIn f here kind xs) e (kind_stands kind here xs h at_)
 
 -- ---- what stands before the bracket
-
-pub head_proper : (here : Spot) (n : ℕ) (xs : List Part) → AllFit xs → AllByRecursion (AtLeaves Stands here) (take n xs) → AreHead here (map plain (take n (map seen xs)))
-head_proper here zero [] h at_ = tt
-head_proper here (suc n) [] h at_ = tt
-head_proper here zero (x ∷ xs) h at_ = tt
-head_proper here (suc n) (x ∷ xs) h at_ = (h.0 here at_.0 no_comments false, (comments_made x no_comments false, no_break_made x no_comments), head_proper here n xs h.1 at_.1)
 
 pub head_roots : (n : ℕ) (xs : List Part) → Same (take n xs) (map root (map plain (take n (map seen xs))))
 head_roots zero [] = over
@@ -152,30 +147,39 @@ host_fine : (above : List Bytes) (x : Part) (gap : Bytes) → Group above → To
 host_fine above x gap a h m =
     subst AreComments (sym (comments_made x (host above (seen x) gap) false)) (All-from_recursion IsComment (above ++ (seen x).loose) (all_joined IsComment above (seen x).loose a h.loose), m)
 
--- items, and the comments below the last one
-abbrev pub ItemsProper : List Expr × List Bytes → Type 0
-ItemsProper found = AreItems found.0 × Group found.1
-
-pub items_proper : (above : List Bytes) (outer : Spot) (xs : List Part) → Group above → AllTold (map seen xs) → AllFit xs → AtParts Stands outer Within xs → Alternate xs → ItemsProper (items_in above (map seen xs))
-items_proper above outer [] a t h at_ g = (tt, a)
-items_proper above outer (x ∷ []) a t h at_ g = (tt, a)
-items_proper above outer (x ∷ y ∷ []) a t h at_ g =
-    let gap : Bytes = (seen y).gap in (
-      (h.0 Within at_.0 (host above (seen x) gap) false, host_fine above x gap a t.0 (suffix_fine gap t.1.0.coded), no_break_made x (host above (seen x) gap), tt),
-      others_fine gap t.1.0.coded,
-    )
-items_proper above outer (x ∷ y ∷ z ∷ xs) a t h at_ g =
-    let gap : Bytes = (seen z).gap in
-    let next : List Bytes = all_in (seen y).gap ++ others_in gap in
-    let next_fine : Group next = all_joined IsComment (all_in (seen y).gap) (others_in gap) (all_fine (seen y).gap t.1.0.coded) (others_fine gap t.1.1.0.coded) in
-    let there : behind_part outer (behind_part outer Within x) y ≡ Within = ap (λ q. behind_part outer q y) (g.0 outer Within) ∙ g.1 outer Within in
-    let rest : ItemsProper (items_in next (map seen (z ∷ xs))) = items_proper next outer (z ∷ xs) next_fine t.1.1 h.1.1 (subst (λ q. AtParts Stands outer q (z ∷ xs)) there at_.1.1) g.2 in (
-      (h.0 Within at_.0 (host above (seen x) gap) false, host_fine above x gap a t.0 (suffix_fine gap t.1.1.0.coded), no_break_made x (host above (seen x) gap), rest.0),
-      rest.1,
-    )
-
 pub items_roots : (above : List Bytes) (xs : List Part) → Same (places xs) (map root (items_in above (map seen xs)).0)
 items_roots above [] = over
 items_roots above (x ∷ []) = over
 items_roots above (x ∷ y ∷ []) = more x _ _ _ (root_made x (host above (seen x) (seen y).gap) false) over
 items_roots above (x ∷ y ∷ z ∷ xs) = more x _ _ _ (root_made x (host above (seen x) (seen z).gap) false) (items_roots (all_in (seen y).gap ++ others_in (seen z).gap) (z ∷ xs))
+
+-- ---- by a grammar
+
+module _ (grammar : Kind → Shape) where
+  pub head_proper : (here : Spot) (n : ℕ) (xs : List Part) → AllFit grammar xs → AllByRecursion (AtLeaves BzlStands here) (take n xs) → AreHeadBy grammar here (map plain (take n (map seen xs)))
+  head_proper here zero [] h at_ = tt
+  head_proper here (suc n) [] h at_ = tt
+  head_proper here zero (x ∷ xs) h at_ = tt
+  head_proper here (suc n) (x ∷ xs) h at_ = (h.0 here at_.0 no_comments false, (comments_made x no_comments false, no_break_made x no_comments), head_proper here n xs h.1 at_.1)
+
+  -- items, and the comments below the last one
+  abbrev pub ItemsProper : List Expr × List Bytes → Type 0
+  ItemsProper found = AreItemsBy grammar found.0 × Group found.1
+
+  pub items_proper : (above : List Bytes) (outer : Spot) (xs : List Part) → Group above → AllTold (map seen xs) → AllFit grammar xs → AtParts BzlStands outer Within xs → Alternate xs → ItemsProper (items_in above (map seen xs))
+  items_proper above outer [] a t h at_ g = (tt, a)
+  items_proper above outer (x ∷ []) a t h at_ g = (tt, a)
+  items_proper above outer (x ∷ y ∷ []) a t h at_ g =
+      let gap : Bytes = (seen y).gap in (
+        (h.0 Within at_.0 (host above (seen x) gap) false, host_fine above x gap a t.0 (suffix_fine gap t.1.0.coded), no_break_made x (host above (seen x) gap), tt),
+        others_fine gap t.1.0.coded,
+      )
+  items_proper above outer (x ∷ y ∷ z ∷ xs) a t h at_ g =
+      let gap : Bytes = (seen z).gap in
+      let next : List Bytes = all_in (seen y).gap ++ others_in gap in
+      let next_fine : Group next = all_joined IsComment (all_in (seen y).gap) (others_in gap) (all_fine (seen y).gap t.1.0.coded) (others_fine gap t.1.1.0.coded) in
+      let there : behind_part outer (behind_part outer Within x) y ≡ Within = ap (λ q. behind_part outer q y) (g.0 outer Within) ∙ g.1 outer Within in
+      let rest : ItemsProper (items_in next (map seen (z ∷ xs))) = items_proper next outer (z ∷ xs) next_fine t.1.1 h.1.1 (subst (λ q. AtParts BzlStands outer q (z ∷ xs)) there at_.1.1) g.2 in (
+        (h.0 Within at_.0 (host above (seen x) gap) false, host_fine above x gap a t.0 (suffix_fine gap t.1.1.0.coded), no_break_made x (host above (seen x) gap), rest.0),
+        rest.1,
+      )

@@ -1,11 +1,10 @@
 -- What is drawn of a value is as deep as the value says.
-use Rattle.std.proofs.Common.{ℕ, zero, suc, max, Bool, true, false, not, ◌&&◌, ◌≡◌, ◌<◌, ◌≤◌, List, [], ◌∷◌, ◌++◌, ◌+◌, if◌then◌else◌, length, get_or, take, drop, map, refl, sym, ap, ◌∙◌, arith, add-one}
+use Rattle.std.proofs.Common.{ℕ, suc, max, Bool, true, false, not, ◌&&◌, ◌≡◌, ◌<◌, List, [], ◌∷◌, ◌++◌, ◌+◌, if◌then◌else◌, length, get_or, drop, map, refl, ap, ◌∙◌, arith}
 use Rattle.std.specs.Prelude.{Option, None, nat_eq}
 use Rattle.std.proofs.lemmas.List.{drop_more}
 use Rattle.bz_tree.specs.declared.kind.Kind.{Kind}
 use Rattle.bz_tree.specs.declared.kind.Kind.TheVariants as k
 use Rattle.bz_tree.specs.declared.tree.Part.{Part}
-use Rattle.bz_tree.specs.declared.tree.Part.TheVariants as p
 use Rattle.bz_tree.specs.Spell.{depth_part, deepest, depth_of}
 use Rattle.bz_tree.proofs.Spells.{depth_Node}
 use Rattle.bz_value.specs.declared.value.Form.{Form}
@@ -23,18 +22,18 @@ use Rattle.bz_write.specs.Written.{comment_lines}
 use Rattle.bz_write.specs.Depths.{depth_in, depth_expr, depth_exprs, deepest_of, depth_inside, depth_items}
 use Rattle.bz_write.proofs.Made.{parts_row, items_row, parts_of_row, items_of_row, two}
 
-abbrev Drawing : Type 0
+abbrev pub Drawing : Type 0
 Drawing = Expr × (Bytes → ℕ → Part)
 
 -- what is drawn of each expression is as deep as it says
-abbrev AsDeep : List Drawing → Type 0
+abbrev pub AsDeep : List Drawing → Type 0
 AsDeep [] = Unit {0}
 AsDeep (x ∷ xs) = ((gap : Bytes) (m : ℕ) → depth_part (x.1 gap m) ≡ depth_expr x.0) × AsDeep xs
 
-abbrev depth_pieces : List (Piece (Bytes → ℕ → Part)) → ℕ
+abbrev pub depth_pieces : List (Piece (Bytes → ℕ → Part)) → ℕ
 depth_pieces ps = deepest (map piece_part ps)
 
-rowed_depth : (kind : Kind) (open_ : Bool) (m : ℕ) (gap : Bytes) (n : ℕ) (xs : List Drawing) → AsDeep xs → depth_pieces (rowed kind open_ m gap n xs) ≡ deepest_of (firsts xs)
+pub rowed_depth : (kind : Kind) (open_ : Bool) (m : ℕ) (gap : Bytes) (n : ℕ) (xs : List Drawing) → AsDeep xs → depth_pieces (rowed kind open_ m gap n xs) ≡ deepest_of (firsts xs)
 rowed_depth kind open_ m gap n [] h = refl
 rowed_depth kind open_ m gap n (x ∷ xs) h = two max (h.0 gap n) (rowed_depth kind open_ m (gap_behind kind open_ m x.0 (firsts xs)) (margin_behind open_ m x.0) xs h.1)
 
@@ -61,7 +60,7 @@ stacked_depth m suffix closer end_ (x ∷ xs) h =
     let more : depth_pieces (stacked m (comments_of x.0).suffix closer end_ xs) ≡ deepest_of (firsts xs) = stacked_depth m (comments_of x.0).suffix closer end_ xs h.1 in
     two max (h.0 _ (m + 4)) (omega (arith, more))
 
-body_depth : (b one : Bool) (m : ℕ) (closer : ℕ) (end_ : List Bytes) (xs : List Drawing) → AsDeep xs → depth_pieces (if b then stacked m None closer end_ xs else joined m [] closer one xs) ≡ deepest_of (firsts xs)
+pub body_depth : (b one : Bool) (m : ℕ) (closer : ℕ) (end_ : List Bytes) (xs : List Drawing) → AsDeep xs → depth_pieces (if b then stacked m None closer end_ xs else joined m [] closer one xs) ≡ deepest_of (firsts xs)
 body_depth true one m closer end_ xs h = stacked_depth m None closer end_ xs h
 body_depth false one m closer end_ xs h = joined_depth m [] closer one xs h
 

@@ -12,12 +12,13 @@ use Rattle.bz_tree.specs.declared.kind.Kind.TheVariants as k
 use Rattle.bz_tree.specs.declared.tree.Part.{Part, Node'}
 use Rattle.bz_tree.specs.declared.tree.Part.TheVariants as p
 use Rattle.bz_tree.specs.Shapes as s
-use Rattle.bz_tree.specs.Shapes.{Sort, Terminal, Shape, Fits, shape, has_sort, has_token, is_one_of, is_terminal}
+use Rattle.bz_tree.specs.Shapes.{Sort, Terminal, Shape, Fits, has_sort, has_token, is_one_of, is_terminal}
 use Rattle.bz_tree.specs.Legal.{IsSort}
 use Rattle.bz_tree.specs.Spots.{opens, role}
 use Rattle.bz_tree.proofs.Balance.{same_class, no_such}
 use Rattle.bz_items.specs.Characters.{comma}
 use Rattle.bz_value.specs.Frames.{Frame, row, sequence, frame, has_brackets, is_comprehension}
+use Rattle.bz_value.specs.LineShapes.{line_shape}
 use Rattle.bz_value.specs.Proper.{in_frame}
 use Rattle.bz_value.specs.Roots.{mark, each_with_comma, row_in}
 use Rattle.bz_write.specs.Spaces.{is_value}
@@ -32,12 +33,12 @@ is_so : (a : Element) (x : Part) → Is a x → is a x ≡ true
 is_so (T ts) x h = h
 is_so (S a) x h = h
 
-abbrev any_last : Element → Bool
+abbrev pub any_last : Element → Bool
 any_last a = true
 
 -- ---- a part that no element of the shape is, does not stand in it
 
-abbrev other_than : Part → Element → Element → Bool
+abbrev pub other_than : Part → Element → Element → Bool
 other_than m a b = not (is b m)
 
 none_behind : (m x : Part) (ps rest : List Part) → Links (other_than m) any_last x (ps ++ (m ∷ rest)) → ⊥
@@ -61,7 +62,7 @@ valued_part (S a) x i h = value_of a x i
 abbrev pub AreValues : List Part → Type 0
 AreValues xs = AllByRecursion (λ x. is_value x ≡ true) xs
 
-abbrev before_comma : Element → Element → Bool
+abbrev pub before_comma : Element → Element → Bool
 before_comma a b = valued a || not (is b (mark comma))
 
 value_before : (x : Part) → Pair before_comma any_last x (mark comma) → is_value x ≡ true
@@ -79,14 +80,17 @@ behind_head : (x : Part) (ps : List Part) (m : Part) (rest : List Part) → Link
 behind_head x [] m rest h = h.1
 behind_head x (y ∷ ps) m rest h = behind_head y ps m rest h.1
 
+-- the items between brackets in a row, with what stands behind the last comma
+pub enclosed_values : (r : Shape) → passes before_comma any_last None r ≡ true → (o : ℕ) (parts items rest : List Part) → Fits IsSort r (parts ++ (mark o ∷ (each_with_comma items ++ rest))) → AreValues items
+enclosed_values r t o [] items rest h = item_values (mark o) items rest (links before_comma any_last r None (mark o) tt t (mark o ∷ (each_with_comma items ++ rest)) h)
+enclosed_values r t o (x ∷ parts) items rest h =
+    item_values (mark o) items rest (behind_head x parts (mark o) (each_with_comma items ++ rest) (links before_comma any_last r None x tt t (x ∷ (parts ++ (mark o ∷ (each_with_comma items ++ rest)))) h))
+
 in_brackets : (r : Shape) (f : Frame) → (has_brackets f ≡ true → passes before_comma any_last None r ≡ true) → (parts items : List Part) → Fits IsSort r (row_in f parts items) → in_frame f (Unit {0}) (AreValues items)
 in_brackets r row t parts items h = tt
-in_brackets r (sequence o e) t [] items h =
-    item_values (mark o) items (mark e ∷ []) (links before_comma any_last r None (mark o) tt (t refl) (mark o ∷ (each_with_comma items ++ (mark e ∷ []))) h)
-in_brackets r (sequence o e) t (x ∷ parts) items h =
-    item_values (mark o) items (mark e ∷ []) (behind_head x parts (mark o) (each_with_comma items ++ (mark e ∷ [])) (links before_comma any_last r None x tt (t refl) (x ∷ (parts ++ (mark o ∷ (each_with_comma items ++ (mark e ∷ []))))) h))
+in_brackets r (sequence o e) t parts items h = enclosed_values r (t refl) o parts items (mark e ∷ []) h
 
-brackets_pass : (kind : Kind) → has_brackets (frame kind) ≡ true → passes before_comma any_last None (shape kind) ≡ true
+brackets_pass : (kind : Kind) → has_brackets (frame kind) ≡ true → passes before_comma any_last None (line_shape kind) ≡ true
 brackets_pass k.Call h = refl
 brackets_pass k.Load h = refl
 brackets_pass k.Tuple h = refl
@@ -95,8 +99,8 @@ brackets_pass k.Dict h = refl
 brackets_pass _ h = no_such h
 
 -- the items of each sequence
-pub items_values : (kind : Kind) (parts items : List Part) → Fits IsSort (shape kind) (row_in (frame kind) parts items) → in_frame (frame kind) (Unit {0}) (AreValues items)
-items_values kind parts items h = in_brackets (shape kind) (frame kind) (brackets_pass kind) parts items h
+pub items_values : (kind : Kind) (parts items : List Part) → Fits IsSort (line_shape kind) (row_in (frame kind) parts items) → in_frame (frame kind) (Unit {0}) (AreValues items)
+items_values kind parts items h = in_brackets (line_shape kind) (frame kind) (brackets_pass kind) parts items h
 
 -- ---- comprehensions: an opening bracket, and then no tokens of their row but the last
 
@@ -135,7 +139,7 @@ opening : (t : List ℕ) → role c.Mark t ≡ opens → (x : Part) → has_toke
 opening t o (p.Leaf l) h = let w = this_leaf c.Mark t l h in subst (λ z. role z l.token ≡ opens) (sym w.0) (subst (λ z. role c.Mark z ≡ opens) (sym w.1) o)
 opening t o (Node' kind z r) h = no_such h
 
-pub comprehension : (kind : Kind) → is_comprehension kind ≡ true → (xs : List Part) → Fits IsSort (shape kind) xs → Opened xs
+pub comprehension : (kind : Kind) → is_comprehension kind ≡ true → (xs : List Part) → Fits IsSort (line_shape kind) xs → Opened xs
 comprehension k.ListComp o [] h = absurd h
 comprehension k.ListComp o (x ∷ xs) h = (opening (codes "[") refl x h.0, behind_opening (s.sub s.test (s.sub s.first_clause (s.each s.clause (s.tok s.close_square s.done)))) refl xs h.1)
 comprehension k.DictComp o [] h = absurd h
@@ -144,8 +148,11 @@ comprehension _ o xs h = no_such o
 
 -- ---- no node is empty, and one without a newline and an end is no line and no file
 
-pub some_part : (kind : Kind) → Fits IsSort (shape kind) [] → ⊥
+pub some_part : (kind : Kind) → Fits IsSort (line_shape kind) [] → ⊥
 some_part k.File h = h
+some_part k.Param (inl h) = h
+some_part k.Param (inr (inl h)) = h
+some_part k.Param (inr (inr h)) = h
 some_part _ h = absurd h
 
 abbrev pub in_line_class : Class → Bool
@@ -191,9 +198,9 @@ no_line : (r : Shape) → passes any_two line_last None r ≡ true → (Fits IsS
 no_line r t e [] h i = e h
 no_line r t e (x ∷ xs) h i = last_ends x xs (links any_two line_last r None x tt t (x ∷ xs) h) i
 
-pub within_line : (kind : Kind) (xs : List Part) → Fits IsSort (shape kind) xs → InLine xs → in_a_line kind ≡ true
-within_line k.File xs h i = absurd (no_line (shape k.File) refl (some_part k.File) xs h i)
-within_line k.Line xs h i = absurd (no_line (shape k.Line) refl (some_part k.Line) xs h i)
+pub within_line : (kind : Kind) (xs : List Part) → Fits IsSort (line_shape kind) xs → InLine xs → in_a_line kind ≡ true
+within_line k.File xs h i = absurd (no_line (line_shape k.File) refl (some_part k.File) xs h i)
+within_line k.Line xs h i = absurd (no_line (line_shape k.Line) refl (some_part k.Line) xs h i)
 within_line k.Def xs h i = absurd h
 within_line k.IfStmt xs h i = absurd h
 within_line k.ForStmt xs h i = absurd h

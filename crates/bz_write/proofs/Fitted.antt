@@ -8,7 +8,7 @@ use Rattle.bz_tree.specs.declared.kind.Kind.{Kind}
 use Rattle.bz_tree.specs.declared.tree.Part.{Part}
 use Rattle.bz_tree.specs.declared.tree.Part.TheVariants as p
 use Rattle.bz_tree.specs.Shapes as s
-use Rattle.bz_tree.specs.Shapes.{Sort, Terminal, Shape, Fits, Listed, Several, Times, no_more, once_more, has_sort, has_token, is_one_of, is_terminal, leaves_at, shape}
+use Rattle.bz_tree.specs.Shapes.{Sort, Terminal, Shape, Fits, Listed, Several, Times, no_more, once_more, has_sort, has_token, is_one_of, is_terminal, leaves_at}
 use Rattle.bz_tree.specs.Legal.{IsSort}
 use Rattle.bz_value.specs.declared.value.Expr.{Expr, Token, Form', Row_of-Expr, end_of-Expr, more_of-Expr}
 use Rattle.bz_items.specs.Characters.{Bytes, comma}
@@ -17,8 +17,8 @@ use Rattle.bz_value.specs.Proper.{comments_of, roots}
 use Rattle.bz_value.specs.Roots.{root, mark as bare_mark, each_with_comma, row_in}
 use Rattle.bz_write.specs.Layout.{Piece, mark, is_broken, is_tuple, gap_behind, margin_behind, firsts, rowed, headed, joined, stacked, laid_in, laid}
 use Rattle.bz_value.specs.Empty.{is_empty}
-use Rattle.bz_write.specs.Drawn.{piece_part, part_of, parts_of}
-use Rattle.bz_write.proofs.Joined.{row_joined, without_last, fits_joined}
+use Rattle.bz_write.specs.Drawn.{piece_part, part_of, parts_of, drawings}
+use Rattle.bz_write.proofs.Joined.{row_joined, without_last, HasSequences, fits_joined}
 
 -- ---- the table sees no difference
 
@@ -106,6 +106,12 @@ pub root_same : (x : Expr) (gap : Bytes) (m : ℕ) → Same (root x) (part_of x 
 root_same (Token t) gap m = leaf_same t.class [] gap t.text
 root_same (Form' kind z parts z' items end_ split open_ comments) gap m = record { sort = λ a. refl; token = λ ts. refl }
 
+pub same_append : (xs ys us vs : List Part) → AllSame xs ys → AllSame us vs → AllSame (xs ++ us) (ys ++ vs)
+same_append [] [] us vs h i = i
+same_append [] (y ∷ ys) us vs h i = absurd h
+same_append (x ∷ xs) [] us vs h i = absurd h
+same_append (x ∷ xs) (y ∷ ys) us vs h i = (h.0, same_append xs ys us vs h.1 i)
+
 -- ---- the ways to lay parts
 
 -- an expression with its reading as a part
@@ -126,15 +132,15 @@ AreRooted xs = AllByRecursion IsRooted xs
 abbrev pub Pieces : Type 0
 Pieces = List (Piece (Bytes → ℕ → Part))
 
-rowed_same : (kind : Kind) (open_ : Bool) (m : ℕ) (gap : Bytes) (n : ℕ) (xs : List Child) → AreRooted xs → AllSame (rooted xs) (map piece_part (rowed kind open_ m gap n xs))
+pub rowed_same : (kind : Kind) (open_ : Bool) (m : ℕ) (gap : Bytes) (n : ℕ) (xs : List Child) → AreRooted xs → AllSame (rooted xs) (map piece_part (rowed kind open_ m gap n xs))
 rowed_same kind open_ m gap n [] h = tt
 rowed_same kind open_ m gap n (x ∷ xs) h = (h.0 gap n, rowed_same kind open_ m (gap_behind kind open_ m x.0 (firsts xs)) (margin_behind open_ m x.0) xs h.1)
 
-headed_same : (m : ℕ) (gap : Bytes) (opener : ℕ) (xs : List Child) (after : Pieces) (rest : List Part) → AreRooted xs → AllSame rest (map piece_part after) → AllSame (rooted xs ++ (bare_mark opener ∷ rest)) (map piece_part (headed m gap opener xs after))
+pub headed_same : (m : ℕ) (gap : Bytes) (opener : ℕ) (xs : List Child) (after : Pieces) (rest : List Part) → AreRooted xs → AllSame rest (map piece_part after) → AllSame (rooted xs ++ (bare_mark opener ∷ rest)) (map piece_part (headed m gap opener xs after))
 headed_same m gap opener [] after rest h i = (leaf_same c.Mark [] gap (opener ∷ []), i)
 headed_same m gap opener (x ∷ xs) after rest h i = (h.0 gap m, headed_same m [] opener xs after rest h.1 i)
 
-stacked_same : (m : ℕ) (suffix : Option Bytes) (closer : ℕ) (end_ : List Bytes) (xs : List Child) → AreRooted xs → AllSame (each_with_comma (rooted xs) ++ (bare_mark closer ∷ [])) (map piece_part (stacked m suffix closer end_ xs))
+pub stacked_same : (m : ℕ) (suffix : Option Bytes) (closer : ℕ) (end_ : List Bytes) (xs : List Child) → AreRooted xs → AllSame (each_with_comma (rooted xs) ++ (bare_mark closer ∷ [])) (map piece_part (stacked m suffix closer end_ xs))
 stacked_same m suffix closer end_ [] h = (leaf_same c.Mark [] _ (closer ∷ []), tt)
 stacked_same m suffix closer end_ (x ∷ xs) h = (h.0 _ (m + 4), (leaf_same c.Mark [] [] (comma ∷ []), stacked_same m (comments_of x.0).suffix closer end_ xs h.1))
 
@@ -147,7 +153,7 @@ none_rooted : (xs : List Child) → is_empty (rooted xs) ≡ is_empty xs
 none_rooted [] = refl
 none_rooted (x ∷ xs) = refl
 
-joined_same : (m : ℕ) (gap : Bytes) (closer : ℕ) (one : Bool) (xs : List Child) → AreRooted xs → AllSame (without_last one (bare_mark closer) (rooted xs)) (map piece_part (joined m gap closer one xs))
+pub joined_same : (m : ℕ) (gap : Bytes) (closer : ℕ) (one : Bool) (xs : List Child) → AreRooted xs → AllSame (without_last one (bare_mark closer) (rooted xs)) (map piece_part (joined m gap closer one xs))
 joined_same m gap closer one [] h = (leaf_same c.Mark [] [] (closer ∷ []), tt)
 joined_same m gap closer one (x ∷ xs) h = (
   h.0 gap m,
@@ -176,11 +182,12 @@ as_many [] = refl
 as_many (x ∷ xs) = ap suc (as_many xs)
 
 -- what is laid of a form has the shape of its kind where its roots have it
-pub laid_fits : (kind : Kind) (split open_ : Bool) (gap : Bytes) (m : ℕ) (parts items : List Child) (end_ : List Bytes) → AreRooted parts → AreRooted items →
-    Fits IsSort (shape kind) (row_in (frame kind) (rooted parts) (rooted items)) → Fits IsSort (shape kind) (map piece_part (laid kind split open_ gap m parts items end_))
-laid_fits kind split open_ gap m parts items end_ h i g =
-    fits_in (shape kind) m gap parts items h i (frame kind) kind split open_ end_ g
-    (subst (λ n. Fits IsSort (shape kind) (row_joined (frame kind) (is_tuple kind && nat_eq n 1) (rooted parts) (rooted items))) (as_many items) (fits_joined kind (rooted parts) (rooted items) g))
+module _ (grammar : Kind → Shape) (sequences : HasSequences grammar) where
+  pub laid_fits : (kind : Kind) (split open_ : Bool) (gap : Bytes) (m : ℕ) (parts items : List Child) (end_ : List Bytes) → AreRooted parts → AreRooted items →
+      Fits IsSort (grammar kind) (row_in (frame kind) (rooted parts) (rooted items)) → Fits IsSort (grammar kind) (map piece_part (laid kind split open_ gap m parts items end_))
+  laid_fits kind split open_ gap m parts items end_ h i g =
+      fits_in (grammar kind) m gap parts items h i (frame kind) kind split open_ end_ g
+      (subst (λ n. Fits IsSort (grammar kind) (row_joined (frame kind) (is_tuple kind && nat_eq n 1) (rooted parts) (rooted items))) (as_many items) (fits_joined grammar sequences kind (rooted parts) (rooted items) g))
 
 -- ---- rows of expressions
 
@@ -191,3 +198,13 @@ row_rooted m (more_of-Expr x rest) = (root_same x, row_rooted _ rest)
 pub roots_of_row : (m : _) (r : Row_of-Expr m) → rooted (parts_of r) ≡ roots r
 roots_of_row m end_of-Expr = refl
 roots_of_row m (more_of-Expr x rest) = ap (λ t. root x ∷ t) (roots_of_row _ rest)
+
+-- ---- lists of expressions
+
+pub list_rooted : (xs : List Expr) → AreRooted (drawings xs)
+list_rooted [] = tt
+list_rooted (x ∷ xs) = (root_same x, list_rooted xs)
+
+pub roots_of_list : (xs : List Expr) → rooted (drawings xs) ≡ map root xs
+roots_of_list [] = refl
+roots_of_list (x ∷ xs) = ap (λ t. root x ∷ t) (roots_of_list xs)

@@ -67,7 +67,7 @@ settled false false false false n = refl
 
 module _ {X : Type 0} where
   -- the flags settled, the reading as it is
-  abbrev flagged : Expr × X → Expr × X
+  abbrev pub flagged : Expr × X → Expr × X
   flagged x = (with_flags x.0, x.1)
 
   same_empty : (xs : List (Expr × X)) → is_empty (map flagged xs) ≡ is_empty xs
@@ -105,7 +105,7 @@ module _ {X : Type 0} where
       two (λ b e. if open_ then line (if e then m else m + 4) else (if b then line (m + 4) else (if is_spaced kind (root (with_flags x)) (root (with_flags y.0)) then space ∷ [] else []))) (same_break x) (same_no_value ys) ∙
       two (λ r q. if open_ then line (if is_empty (firsts ys) then m else m + 4) else (if has_break x then line (m + 4) else (if is_spaced kind r q then space ∷ [] else []))) (same_root x) (same_root y.0)
 
-  same_rowed : (kind : Kind) (open_ : Bool) (m : ℕ) (g : Bytes) (n : ℕ) (xs : List (Expr × X)) → rowed kind open_ m g n (map flagged xs) ≡ rowed kind open_ m g n xs
+  pub same_rowed : (kind : Kind) (open_ : Bool) (m : ℕ) (g : Bytes) (n : ℕ) (xs : List (Expr × X)) → rowed kind open_ m g n (map flagged xs) ≡ rowed kind open_ m g n xs
   same_rowed kind open_ m g n [] = refl
   same_rowed kind open_ m g n (x ∷ xs) =
       two (λ z w. part g n x.1 ∷ rowed kind open_ m z w (map flagged xs)) (same_gap kind open_ m x.0 xs) (same_margin open_ m x.0) ∙
@@ -125,7 +125,7 @@ module _ {X : Type 0} where
   same_stacked m suffix closer end_ (x ∷ xs) =
       rw (same_comments x.0) (ap (λ ps. part (behind suffix ++ (line (m + 4) ++ above (m + 4) (comments_of x.0).before)) (m + 4) x.1 ∷ mark [] (comma ∷ []) ∷ ps) (same_stacked m (comments_of x.0).suffix closer end_ xs))
 
-  same_body : (b one : Bool) (m : ℕ) (closer : ℕ) (end_ : List Bytes) (xs : List (Expr × X)) →
+  pub same_body : (b one : Bool) (m : ℕ) (closer : ℕ) (end_ : List Bytes) (xs : List (Expr × X)) →
       (if b then stacked m None closer end_ (map flagged xs) else joined m [] closer one (map flagged xs)) ≡ (if b then stacked m None closer end_ xs else joined m [] closer one xs)
   same_body true one m closer end_ xs = same_stacked m None closer end_ xs
   same_body false one m closer end_ xs = same_joined m [] closer one xs
@@ -156,7 +156,7 @@ abbrev pub made : Kind → List Expr → List Expr → List Bytes → Bool → B
 made kind parts items end_ split open_ comments = record { kind = kind; parts = parts; seq = record { items = items; end_ = end_; split = split }; open_ = open_; comments = comments }
 
 mutual
-  text_flags : (a : Expr) → text_of (with_flags a) ≡ text_of a
+  pub text_flags : (a : Expr) → text_of (with_flags a) ≡ text_of a
   text_flags (Token t) = refl
   text_flags (Form' kind s parts s' items end_ split open_ comments) =
       fun_ext
@@ -192,7 +192,7 @@ same_item : (x : Item) → item_text (item_with_flags x) ≡ item_text x
 same_item (i.Block texts) = refl
 same_item (i.Stmt x) = rw (same_comments x, text_flags x) refl
 
-same_between : (x y : Item) → between (item_with_flags x) (item_with_flags y) ≡ between x y
+pub same_between : (x y : Item) → between (item_with_flags x) (item_with_flags y) ≡ between x y
 same_between (i.Block texts) y = refl
 same_between (i.Stmt x) (i.Block texts) = refl
 same_between (i.Stmt x) (i.Stmt y) = rw (same_load x, same_load y, same_assign x, same_assign y, same_comments y) refl

@@ -1,7 +1,7 @@
--- What the shape of a kind says of a row of parts: that it has a part, where its signs stand, and how many parts stand
--- before an opening bracket.
-use Rattle.std.proofs.Common.{◌≡◌, ℕ, suc, Bool, true, false, not, ◌&&◌, List, [], ◌∷◌, ◌++◌, inl, inr, refl, sym, ap, ◌∙◌, true≢false}
-use Rattle.std.specs.Prelude.{length, codes}
+-- What the shape of a kind in the lines of a file says of a row of parts: that it has a part, and where its signs stand.
+use Rattle.std.proofs.Common.{◌≡◌, ℕ, Bool, true, false, ◌&&◌, List, [], ◌∷◌, inl, inr, refl, sym, ap, ◌∙◌, true≢false}
+use Rattle.std.specs.Prelude.{codes}
+use Rattle.std.proofs.lemmas.Bool.{and_parts}
 use Rattle.bz_token.specs.declared.class.Class.{Class}
 use Rattle.bz_token.specs.declared.class.Class.TheVariants as c
 use Rattle.bz_tree.specs.declared.kind.Kind.{Kind}
@@ -9,11 +9,11 @@ use Rattle.bz_tree.specs.declared.kind.Kind.TheVariants as k
 use Rattle.bz_tree.specs.declared.tree.Part.{Part, Node'}
 use Rattle.bz_tree.specs.declared.tree.Part.TheVariants as p
 use Rattle.bz_tree.specs.Shapes as s
-use Rattle.bz_tree.specs.Shapes.{Sort, Terminal, Shape, Fits, Listed, Behind, Several, shape, flat, has_token, has_sort, is_one_of, is_terminal, simple}
+use Rattle.bz_tree.specs.Shapes.{Sort, Terminal, Shape, Fits, Listed, Behind, Several, flat, has_token, has_sort, is_one_of, is_terminal, simple}
 use Rattle.bz_tree.specs.Legal.{IsSort}
-use Rattle.bz_value.specs.Frames.{frame, lead, is_binary, is_comprehension}
-use Rattle.bz_value.specs.Proper.{is_sign, in_frame}
-use Rattle.bz_value.specs.Roots.{mark, row_in}
+use Rattle.bz_value.specs.Frames.{is_binary, is_comprehension}
+use Rattle.bz_value.specs.LineShapes.{line_shape}
+use Rattle.bz_value.specs.Proper.{is_sign}
 use Rattle.bz_value.specs.Empty.{is_empty}
 
 abbrev pub is_sign_part : Part → Bool
@@ -51,24 +51,19 @@ needs_part (s.list sort separators last then_) = true
 needs_part (s.each sort then_) = needs_part then_
 needs_part (s.times group then_) = false
 
-both_true : (a b : Bool) → (a && b) ≡ true → (a ≡ true) × (b ≡ true)
-both_true true true e = (refl, refl)
-both_true true false e = absurd (true≢false (sym e))
-both_true false b e = absurd (true≢false (sym e))
-
 has_part : (shape : Shape) (xs : List Part) → needs_part shape ≡ true → Fits IsSort shape xs → is_empty xs ≡ false
 has_part shape (x ∷ xs) n h = refl
 has_part s.none [] n h = absurd h
 has_part s.done [] n h = absurd (true≢false (sym n))
 has_part (s.tok terminals then_) [] n h = absurd h
 has_part (s.sub sort then_) [] n h = absurd h
-has_part (s.alt left right) [] n (inl h) = has_part left [] (both_true _ _ n).0 h
-has_part (s.alt left right) [] n (inr h) = has_part right [] (both_true _ _ n).1 h
+has_part (s.alt left right) [] n (inl h) = has_part left [] (and_parts _ _ n).0 h
+has_part (s.alt left right) [] n (inr h) = has_part right [] (and_parts _ _ n).1 h
 has_part (s.list sort separators last then_) [] n h = absurd h
 has_part (s.each sort then_) [] n h = has_part then_ [] n h
 has_part (s.times group then_) [] n h = absurd (true≢false (sym n))
 
-each_needs_part : (kind : Kind) → needs_part (shape kind) ≡ true
+each_needs_part : (kind : Kind) → needs_part (line_shape kind) ≡ true
 each_needs_part k.File = refl
 each_needs_part _ = refl
 
@@ -102,7 +97,7 @@ flat_row n operators (x ∷ []) h = absurd h.1
 flat_row n operators (x ∷ y ∷ []) h = absurd h.1.1
 flat_row n operators (x ∷ y ∷ z ∷ zs) h = record { first = operand n x h.0; last = listed_end n operators (z ∷ zs) h.1.1 }
 
-compare_row : (xs : List Part) → Fits IsSort (shape k.Compare) xs → Operation xs
+compare_row : (xs : List Part) → Fits IsSort (line_shape k.Compare) xs → Operation xs
 compare_row [] h = absurd h
 compare_row (x ∷ []) (h, inl e) = absurd e
 compare_row (x ∷ []) (h, inr e) = absurd e
@@ -119,9 +114,9 @@ and_false : (b : Bool) → (b && false) ≡ false
 and_false true = refl
 and_false false = refl
 
-operation_row : (kind : Kind) (xs : List Part) → Fits IsSort (shape kind) xs → is_comprehension kind ≡ false → Operation xs → RowShape kind xs
+operation_row : (kind : Kind) (xs : List Part) → Fits IsSort (line_shape kind) xs → is_comprehension kind ≡ false → Operation xs → RowShape kind xs
 operation_row kind xs h n w = record {
-  full = has_part (shape kind) xs (each_needs_part kind) h;
+  full = has_part (line_shape kind) xs (each_needs_part kind) h;
   first = ap (λ z. is_binary kind && z) w.first ∙ and_false (is_binary kind);
   last = ap (λ z. is_binary kind && z) w.last ∙ and_false (is_binary kind);
   second = λ e. absurd (true≢false (sym e ∙ n));
@@ -132,16 +127,16 @@ second_part sort terminals then_ [] h = absurd h
 second_part sort terminals then_ (x ∷ []) h = absurd h.1
 second_part sort terminals then_ (x ∷ y ∷ ys) h = refl
 
-comprehension_row : (kind : Kind) (sort : Sort) (terminals : List Terminal) (then_ : Shape) (xs : List Part) → Fits IsSort (shape kind) xs → is_binary kind ≡ false →
+comprehension_row : (kind : Kind) (sort : Sort) (terminals : List Terminal) (then_ : Shape) (xs : List Part) → Fits IsSort (line_shape kind) xs → is_binary kind ≡ false →
     Fits IsSort (s.tok terminals (s.sub sort then_)) xs → RowShape kind xs
 comprehension_row kind sort terminals then_ xs h n w = record {
-  full = has_part (shape kind) xs (each_needs_part kind) h;
+  full = has_part (line_shape kind) xs (each_needs_part kind) h;
   first = ap (λ z. z && begins_sign xs) n;
   last = ap (λ z. z && ends_sign xs) n;
   second = λ e. second_part sort terminals then_ xs w;
 }
 
-pub row_shape : (kind : Kind) (xs : List Part) → Fits IsSort (shape kind) xs → RowShape kind xs
+pub row_shape : (kind : Kind) (xs : List Part) → Fits IsSort (line_shape kind) xs → RowShape kind xs
 row_shape k.Or xs h = operation_row k.Or xs h refl (flat_row 10 (s.keyword (codes "or")) xs h)
 row_shape k.And xs h = operation_row k.And xs h refl (flat_row 9 (s.keyword (codes "and")) xs h)
 row_shape k.Compare xs h = operation_row k.Compare xs h refl (compare_row xs h)
@@ -153,92 +148,4 @@ row_shape k.Sum xs h = operation_row k.Sum xs h refl (flat_row 2 s.sums xs h)
 row_shape k.Product xs h = operation_row k.Product xs h refl (flat_row 1 s.products xs h)
 row_shape k.ListComp xs h = comprehension_row k.ListComp s.test s.open_square (s.sub s.first_clause (s.each s.clause (s.tok s.close_square s.done))) xs h refl h
 row_shape k.DictComp xs h = comprehension_row k.DictComp s.entry s.open_curly (s.sub s.first_clause (s.each s.clause (s.tok s.close_curly s.done))) xs h refl h
-row_shape kind xs h = record { full = has_part (shape kind) xs (each_needs_part kind) h; first = refl; last = refl; second = λ e. absurd (true≢false (sym e)) }
-
--- ---- what stands before an opening bracket
-
-abbrev lacks_mark : ℕ → List Terminal → Bool
-lacks_mark o terminals = not (has_token terminals (mark o))
-
--- no token of the shape is this mark
-abbrev lacks : ℕ → Shape → Bool
-lacks o s.none = true
-lacks o s.done = true
-lacks o (s.tok terminals then_) = lacks_mark o terminals && lacks o then_
-lacks o (s.sub sort then_) = lacks o then_
-lacks o (s.alt left right) = lacks o left && lacks o right
-lacks o (s.list sort separators last then_) = lacks_mark o separators && lacks o then_
-lacks o (s.each sort then_) = lacks o then_
-lacks o (s.times group then_) = false
-
-no_token : (b : Bool) → not b ≡ true → b ≡ true → ⊥
-no_token true e h = true≢false (sym e)
-no_token false e h = true≢false (sym h)
-
--- a mark by itself has no sort
-mark_sort : (sort : Sort) (o : ℕ) → has_sort sort (mark o) ≡ false
-mark_sort (s.level n) o = refl
-mark_sort _ o = refl
-
-no_sort : (sort : Sort) (o : ℕ) → IsSort sort (mark o) → ⊥
-no_sort sort o h = true≢false (sym h ∙ mark_sort sort o)
-
-module _ (o : ℕ) (ys : List Part) where
-  -- what K holds of has the mark nowhere
-  abbrev Free : (List Part → Type 0) → Type 0
-  Free K = (xs : List Part) → K (xs ++ (mark o ∷ ys)) → ⊥
-
-  mutual
-    listed_free : (sort : Sort) (separators : List Terminal) (last : Bool) (K : List Part → Type 0) → lacks_mark o separators ≡ true → Free K → (xs : List Part) → Listed (IsSort sort) separators last K (xs ++ (mark o ∷ ys)) → ⊥
-    listed_free sort separators last K n f [] h = no_sort sort o h.0
-    listed_free sort separators last K n f (x ∷ xs) h = behind_free sort separators last K n f xs h.1
-
-    behind_free : (sort : Sort) (separators : List Terminal) (last : Bool) (K : List Part → Type 0) → lacks_mark o separators ≡ true → Free K → (xs : List Part) → Behind (IsSort sort) separators last K (xs ++ (mark o ∷ ys)) → ⊥
-    behind_free sort separators last K n f [] (inl h) = f [] h
-    behind_free sort separators last K n f [] (inr (e, h)) = no_token _ n e
-    behind_free sort separators last K n f (x ∷ xs) (inl h) = f (x ∷ xs) h
-    behind_free sort separators last K n f (x ∷ xs) (inr (e, inl h)) = listed_free sort separators last K n f xs h
-    behind_free sort separators last K n f (x ∷ xs) (inr (e, inr h)) = f xs h.1
-
-  several_free : (sort : Sort) (K : List Part → Type 0) → Free K → (xs : List Part) → Several (IsSort sort) K (xs ++ (mark o ∷ ys)) → ⊥
-  several_free sort K f [] (inl h) = f [] h
-  several_free sort K f [] (inr h) = no_sort sort o h.0
-  several_free sort K f (x ∷ xs) (inl h) = f (x ∷ xs) h
-  several_free sort K f (x ∷ xs) (inr h) = several_free sort K f xs h.1
-
-  fits_free : (shape : Shape) → lacks o shape ≡ true → Free (Fits IsSort shape)
-  fits_free s.none n xs h = h
-  fits_free s.done n [] h = h
-  fits_free s.done n (x ∷ xs) h = h
-  fits_free (s.tok terminals then_) n [] h = no_token _ (both_true _ _ n).0 h.0
-  fits_free (s.tok terminals then_) n (x ∷ xs) h = fits_free then_ (both_true _ _ n).1 xs h.1
-  fits_free (s.sub sort then_) n [] h = no_sort sort o h.0
-  fits_free (s.sub sort then_) n (x ∷ xs) h = fits_free then_ n xs h.1
-  fits_free (s.alt left right) n xs (inl h) = fits_free left (both_true _ _ n).0 xs h
-  fits_free (s.alt left right) n xs (inr h) = fits_free right (both_true _ _ n).1 xs h
-  fits_free (s.list sort separators last then_) n xs h = listed_free sort separators last (Fits IsSort then_) (both_true _ _ n).0 (fits_free then_ (both_true _ _ n).1) xs h
-  fits_free (s.each sort then_) n xs h = several_free sort (Fits IsSort then_) (fits_free then_ n) xs h
-  fits_free (s.times group then_) n xs h = true≢false (sym n)
-
-  -- the bracket comes first
-  none_before : (terminals : List Terminal) (then_ : Shape) → lacks o then_ ≡ true → (xs : List Part) → Fits IsSort (s.tok terminals then_) (xs ++ (mark o ∷ ys)) → length xs ≡ 0
-  none_before terminals then_ n [] h = refl
-  none_before terminals then_ n (x ∷ xs) h = absurd (fits_free then_ n xs h.1)
-
-  -- one part, and then the bracket
-  one_before : (sort : Sort) (terminals : List Terminal) (then_ : Shape) → lacks o then_ ≡ true → (xs : List Part) → Fits IsSort (s.sub sort (s.tok terminals then_)) (xs ++ (mark o ∷ ys)) → length xs ≡ 1
-  one_before sort terminals then_ n [] h = absurd (no_sort sort o h.0)
-  one_before sort terminals then_ n (x ∷ xs) h = ap suc (none_before terminals then_ n xs h.1)
-
-  -- one word, and then the bracket
-  word_before : (word terminals : List Terminal) (then_ : Shape) → lacks_mark o word ≡ true → lacks o then_ ≡ true → (xs : List Part) → Fits IsSort (s.tok word (s.tok terminals then_)) (xs ++ (mark o ∷ ys)) → length xs ≡ 1
-  word_before word terminals then_ w n [] h = absurd (no_token _ w h.0)
-  word_before word terminals then_ w n (x ∷ xs) h = ap suc (none_before terminals then_ n xs h.1)
-
-pub lead_before : (kind : Kind) (xs ys : List Part) → Fits IsSort (shape kind) (row_in (frame kind) xs ys) → in_frame (frame kind) (Unit {0}) (length xs ≡ lead kind)
-lead_before k.Call xs ys h = one_before 40 _ s.primary s.open_round (s.items s.argument s.close_round) refl xs h
-lead_before k.Load xs ys h = word_before 40 _ (s.keyword (codes "load")) s.open_round (s.tok s.string (s.alt (s.tok s.close_round s.done) (s.tok s.comma (s.items s.loaded s.close_round)))) refl refl xs h
-lead_before k.Tuple xs ys h = none_before 40 _ s.open_round (s.alt (s.tok s.close_round s.done) (s.sub s.test (s.tok s.comma (s.items s.test s.close_round)))) refl xs h
-lead_before k.List xs ys h = none_before 91 _ s.open_square (s.items s.test s.close_square) refl xs h
-lead_before k.Dict xs ys h = none_before 123 _ s.open_curly (s.items s.entry s.close_curly) refl xs h
-lead_before _ xs ys h = tt
+row_shape kind xs h = record { full = has_part (line_shape kind) xs (each_needs_part kind) h; first = refl; last = refl; second = λ e. absurd (true≢false (sym e)) }

@@ -24,11 +24,11 @@ comments_told (text ∷ texts) = ap (λ z. text ∷ z) (comments_told texts)
 
 -- ---- comments
 
-abbrev OneLine : Bytes → Type 0
+abbrev pub OneLine : Bytes → Type 0
 OneLine w = AllByRecursion (λ c. c ≢ line_feed) w
 
 -- behind its sign a comment has no newline
-words_of : (text : Bytes) (h : IsComment text) → OneLine h.begins.0
+pub words_of : (text : Bytes) (h : IsComment text) → OneLine h.begins.0
 words_of text h = let own : OneLine (number_sign ∷ h.begins.0) = subst (λ z. OneLine z) h.begins.1 (recursion_from_All (λ (c : ℕ). c ≢ line_feed) text h.one_line) in own.1
 
 words_before_newline : (w rest : Bytes) → OneLine w → in_comment (w ++ (line_feed ∷ rest)) ≡ record { words = w; newline = true; lines = lines_of rest }

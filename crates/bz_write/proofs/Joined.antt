@@ -1,6 +1,6 @@
 -- A sequence that fits with a comma behind each item fits without the last comma, but for a tuple of one; and at most one
 -- part stands before its bracket.
-use Rattle.std.proofs.Common.{◌≡◌, Bool, true, false, not, ◌&&◌, List, [], ◌∷◌, ◌++◌, inl, inr, if◌then◌else◌, length, refl}
+use Rattle.std.proofs.Common.{◌≡◌, Bool, true, false, not, ◌&&◌, List, [], ◌∷◌, ◌++◌, inl, inr, if◌then◌else◌, length, refl, sym, subst, append-nil}
 use Rattle.std.specs.Prelude.{nat_eq}
 use Rattle.std.proofs.lemmas.Bool.{both_ways}
 use Rattle.bz_tree.specs.declared.kind.Kind.{Kind}
@@ -11,7 +11,8 @@ use Rattle.bz_tree.specs.Shapes.{Sort, Terminal, Shape, Fits, Listed, shape, has
 use Rattle.bz_tree.specs.Legal.{IsSort}
 use Rattle.bz_tree.proofs.Balance.{no_such}
 use Rattle.bz_items.specs.Characters.{comma}
-use Rattle.bz_value.specs.Frames.{Frame, row, sequence, frame}
+use Rattle.bz_value.specs.Frames.{Frame, row, sequence, frame, has_brackets}
+use Rattle.bz_value.specs.LineShapes.{line_shape}
 use Rattle.bz_value.specs.Proper.{in_frame}
 use Rattle.bz_value.specs.Roots.{mark, each_with_comma, row_in}
 use Rattle.bz_write.specs.Layout.{is_tuple}
@@ -24,21 +25,26 @@ abbrev pub without_last : Bool → Part → List Part → List Part
 without_last one e [] = e ∷ []
 without_last one e (x ∷ xs) = x ∷ ((if is_empty xs && not one then [] else (mark comma ∷ [])) ++ without_last false e xs)
 
-module _ (a : Sort) (close : List Terminal) (e : Part) (no_comma : has_token close (mark comma) ≡ false) (no_item : has_sort a e ≡ false) where
+-- What may be enclosed and has the shape r behind it, which no comma begins. (e: the closing bracket; rest: what stands behind it)
+module _ (a : Sort) (close : List Terminal) (r : Shape) (e : Part) (rest : List Part)
+    (no_comma : has_token close (mark comma) ≡ false) (no_item : has_sort a e ≡ false) (no_more : (xs : List Part) → Fits IsSort r (mark comma ∷ xs) → ⊥) where
   abbrev Closed : List Part → Type 0
-  Closed xs = Listed (IsSort a) s.comma true (Fits IsSort (s.tok close s.done)) xs
+  Closed xs = Listed (IsSort a) s.comma true (Fits IsSort (s.tok close r)) xs
 
-  listed : (x : Part) (xs : List Part) → Closed (x ∷ mark comma ∷ (each_with_comma xs ++ (e ∷ []))) → Closed (without_last false e (x ∷ xs))
+  listed : (x : Part) (xs : List Part) → Closed (x ∷ mark comma ∷ (each_with_comma xs ++ (e ∷ rest))) → Closed (without_last false e (x ∷ xs) ++ rest)
   listed x xs (g, inl h) = absurd (both_ways (has_token close (mark comma)) no_comma h.0)
   listed x [] (g, inr (m, inl h)) = absurd (both_ways (has_sort a e) no_item h.0)
   listed x (y ∷ ys) (g, inr (m, inl h)) = (g, inr (m, inl (listed y ys h)))
   listed x [] (g, inr (m, inr (l, h))) = (g, inl h)
-  listed x (y ∷ ys) (g, inr (m, inr (l, h))) = absurd h.1
+  listed x (y ∷ ys) (g, inr (m, inr (l, h))) = absurd (no_more _ h.1)
 
-  items_fit : (xs : List Part) → Fits IsSort (items a close) (each_with_comma xs ++ (e ∷ [])) → Fits IsSort (items a close) (without_last false e xs)
-  items_fit [] h = h
-  items_fit (x ∷ xs) (inl h) = absurd h.1
-  items_fit (x ∷ xs) (inr h) = inr (listed x xs h)
+  pub enclosed_fit : (xs : List Part) → Fits IsSort (s.enclosed a close r) (each_with_comma xs ++ (e ∷ rest)) → Fits IsSort (s.enclosed a close r) (without_last false e xs ++ rest)
+  enclosed_fit [] h = h
+  enclosed_fit (x ∷ xs) (inl h) = absurd (no_more _ h.1)
+  enclosed_fit (x ∷ xs) (inr h) = inr (listed x xs h)
+
+items_fit : (a : Sort) (close : List Terminal) (e : Part) → has_token close (mark comma) ≡ false → has_sort a e ≡ false → (xs : List Part) → Fits IsSort (items a close) (each_with_comma xs ++ (e ∷ [])) → Fits IsSort (items a close) (without_last false e xs)
+items_fit a close e n i xs h = subst (Fits IsSort (items a close)) (append-nil (without_last false e xs)) (enclosed_fit a close s.done e [] n i (λ ys g. g) xs h)
 
 -- ---- the kinds of sequences
 
@@ -70,7 +76,7 @@ abbrev one_of : Kind → List Part → Bool
 one_of kind xs = is_tuple kind && nat_eq (length xs) 1
 
 abbrev Drops : Kind → List Part → List Part → Type 0
-Drops kind parts xs = Fits IsSort (shape kind) (row_in (frame kind) parts xs) → Fits IsSort (shape kind) (row_joined (frame kind) (one_of kind xs) parts xs)
+Drops kind parts xs = Fits IsSort (line_shape kind) (row_in (frame kind) parts xs) → Fits IsSort (line_shape kind) (row_joined (frame kind) (one_of kind xs) parts xs)
 
 drops_call : (parts xs : List Part) → Drops k.Call parts xs
 drops_call [] xs h = no_such h.0
@@ -95,13 +101,40 @@ drops_dict [] xs h = (h.0, items_fit s.entry s.close_curly (mark 125) refl refl 
 drops_dict (x ∷ ps) xs h = absurd (none_is (mark 123) (items s.entry s.close_curly) (T s.open_curly) x h.0 refl ps (each_with_comma xs ++ (mark 125 ∷ [])) h.1)
 
 -- each kind fits with its last comma dropped
-pub fits_joined : (kind : Kind) (parts xs : List Part) → Fits IsSort (shape kind) (row_in (frame kind) parts xs) → Fits IsSort (shape kind) (row_joined (frame kind) (is_tuple kind && nat_eq (length xs) 1) parts xs)
-fits_joined k.Call parts xs h = drops_call parts xs h
-fits_joined k.Load parts xs h = drops_load parts xs h
-fits_joined k.Tuple parts xs h = drops_tuple parts xs h
-fits_joined k.List parts xs h = drops_list parts xs h
-fits_joined k.Dict parts xs h = drops_dict parts xs h
-fits_joined _ parts xs h = h
+line_joined : (kind : Kind) (parts xs : List Part) → Fits IsSort (line_shape kind) (row_in (frame kind) parts xs) → Fits IsSort (line_shape kind) (row_joined (frame kind) (is_tuple kind && nat_eq (length xs) 1) parts xs)
+line_joined k.Call parts xs h = drops_call parts xs h
+line_joined k.Load parts xs h = drops_load parts xs h
+line_joined k.Tuple parts xs h = drops_tuple parts xs h
+line_joined k.List parts xs h = drops_list parts xs h
+line_joined k.Dict parts xs h = drops_dict parts xs h
+line_joined _ parts xs h = h
+
+-- a grammar in which sequences have the shapes that they have in lines
+abbrev pub HasSequences : (Kind → Shape) → Type 0
+HasSequences grammar = (kind : Kind) → has_brackets (frame kind) ≡ true → grammar kind ≡ line_shape kind
+
+-- in such a grammar each kind does so
+module _ (grammar : Kind → Shape) (sequences : HasSequences grammar) where
+  by_frame : (f : Frame) (one : Bool) (r r' : Shape) → (has_brackets f ≡ true → r ≡ r') → (parts xs : List Part) → (Fits IsSort r' (row_in f parts xs) → Fits IsSort r' (row_joined f one parts xs)) →
+      Fits IsSort r (row_in f parts xs) → Fits IsSort r (row_joined f one parts xs)
+  by_frame row one r r' e parts xs g h = h
+  by_frame (sequence opener closer) one r r' e parts xs g h =
+      subst (λ z. Fits IsSort z (row_joined (sequence opener closer) one parts xs)) (sym (e refl)) (g (subst (λ z. Fits IsSort z (row_in (sequence opener closer) parts xs)) (e refl) h))
+
+  pub fits_joined : (kind : Kind) (parts xs : List Part) → Fits IsSort (grammar kind) (row_in (frame kind) parts xs) → Fits IsSort (grammar kind) (row_joined (frame kind) (is_tuple kind && nat_eq (length xs) 1) parts xs)
+  fits_joined kind parts xs h = by_frame (frame kind) (is_tuple kind && nat_eq (length xs) 1) (grammar kind) (line_shape kind) (sequences kind) parts xs (line_joined kind parts xs) h
+
+-- the grammars of lines and of BUILD files
+pub line_sequences : HasSequences line_shape
+line_sequences kind h = refl
+
+pub build_sequences : HasSequences shape
+build_sequences k.Call h = refl
+build_sequences k.Load h = refl
+build_sequences k.Tuple h = refl
+build_sequences k.List h = refl
+build_sequences k.Dict h = refl
+build_sequences _ h = no_such h
 
 -- ---- what stands before the bracket
 
@@ -110,29 +143,29 @@ AtMostOne [] = Unit {0}
 AtMostOne (x ∷ []) = Unit {0}
 AtMostOne (x ∷ y ∷ ys) = ⊥
 
-head_call : (parts rest : List Part) → Fits IsSort (shape k.Call) (parts ++ (mark 40 ∷ rest)) → AtMostOne parts
+head_call : (parts rest : List Part) → Fits IsSort (line_shape k.Call) (parts ++ (mark 40 ∷ rest)) → AtMostOne parts
 head_call [] rest h = tt
 head_call (x ∷ []) rest h = tt
 head_call (x ∷ y ∷ ps) rest h = absurd (none_is (mark 40) (items s.argument s.close_round) (T s.open_round) y h.1.0 refl ps rest h.1.1)
 
-head_load : (parts rest : List Part) → Fits IsSort (shape k.Load) (parts ++ (mark 40 ∷ rest)) → AtMostOne parts
+head_load : (parts rest : List Part) → Fits IsSort (line_shape k.Load) (parts ++ (mark 40 ∷ rest)) → AtMostOne parts
 head_load [] rest h = tt
 head_load (x ∷ []) rest h = tt
 head_load (x ∷ y ∷ ps) rest h = absurd (none_is (mark 40) loads (T s.open_round) y h.1.0 refl ps rest h.1.1)
 
-head_tuple : (parts rest : List Part) → Fits IsSort (shape k.Tuple) (parts ++ (mark 40 ∷ rest)) → AtMostOne parts
+head_tuple : (parts rest : List Part) → Fits IsSort (line_shape k.Tuple) (parts ++ (mark 40 ∷ rest)) → AtMostOne parts
 head_tuple [] rest h = tt
 head_tuple (x ∷ ps) rest h = absurd (none_is (mark 40) tuples (T s.open_round) x h.0 refl ps rest h.1)
 
-head_list : (parts rest : List Part) → Fits IsSort (shape k.List) (parts ++ (mark 91 ∷ rest)) → AtMostOne parts
+head_list : (parts rest : List Part) → Fits IsSort (line_shape k.List) (parts ++ (mark 91 ∷ rest)) → AtMostOne parts
 head_list [] rest h = tt
 head_list (x ∷ ps) rest h = absurd (none_is (mark 91) (items s.test s.close_square) (T s.open_square) x h.0 refl ps rest h.1)
 
-head_dict : (parts rest : List Part) → Fits IsSort (shape k.Dict) (parts ++ (mark 123 ∷ rest)) → AtMostOne parts
+head_dict : (parts rest : List Part) → Fits IsSort (line_shape k.Dict) (parts ++ (mark 123 ∷ rest)) → AtMostOne parts
 head_dict [] rest h = tt
 head_dict (x ∷ ps) rest h = absurd (none_is (mark 123) (items s.entry s.close_curly) (T s.open_curly) x h.0 refl ps rest h.1)
 
-pub head_fits : (kind : Kind) (parts xs : List Part) → Fits IsSort (shape kind) (row_in (frame kind) parts xs) → in_frame (frame kind) (Unit {0}) (AtMostOne parts)
+pub head_fits : (kind : Kind) (parts xs : List Part) → Fits IsSort (line_shape kind) (row_in (frame kind) parts xs) → in_frame (frame kind) (Unit {0}) (AtMostOne parts)
 head_fits k.Call parts xs h = head_call parts (each_with_comma xs ++ (mark 41 ∷ [])) h
 head_fits k.Load parts xs h = head_load parts (each_with_comma xs ++ (mark 41 ∷ [])) h
 head_fits k.Tuple parts xs h = head_tuple parts (each_with_comma xs ++ (mark 41 ∷ [])) h

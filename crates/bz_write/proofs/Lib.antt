@@ -1,6 +1,7 @@
 pub mod Neighbours
 pub mod Stops
 pub mod Spacing
+pub mod Terminals
 pub mod Touching
 pub mod Deep
 pub mod Elements
@@ -22,6 +23,7 @@ pub mod LegalParts
 pub mod LegalFiles
 pub mod Flagged
 pub mod FlaggedProper
+pub mod FirstGaps
 pub mod Framed
 pub mod Gapped
 pub mod Measured
@@ -29,6 +31,7 @@ pub mod LinesBack
 pub mod Loops
 pub mod Made
 pub mod ReadBack
+pub mod PlainRows
 pub mod PutParts
 pub mod Readable
 pub mod Spelled

@@ -18,6 +18,7 @@ use Rattle.bz_value.specs.Comments.{HostComments}
 use Rattle.bz_value.specs.Gaps.{GapLine, lines_of, first_comment, behind_first, groups_of, all_but_last, last_group, suffix_in}
 use Rattle.bz_value.specs.Proper.{IsComment, comments_of, has_break, has_statement_kind, IsProperItem, IsProper}
 use Rattle.bz_view.specs.View.{Seen, seen, first_gap, last_gap, blocks, statement, line_items, file_items, view_of}
+use Rattle.bz_value.proofs.Wider.{line_expr}
 use Rattle.bz_write.specs.Layout.{behind}
 use Rattle.bz_write.specs.Written.{comment_lines}
 use Rattle.bz_write.specs.Drawn.{part_of, line_part, before_next, lines_from, drawn}
@@ -37,7 +38,7 @@ items_behind left ss xs = line_items (left ++ lines_of (first_gap ss)) ss ++ fil
 items_Node : (left : List GapLine) (n : Node) (xs : List Part) → file_items left (p.Node n ∷ xs) ≡ items_behind left (map seen n.parts) xs
 items_Node left n xs = ap (λ z. items_behind left z xs) (seen_rows _ (row_of n).1 ∙ ap (map seen) (items_of_row n))
 
-suffix_behind : (suffix : Option Bytes) → first_comment (suffix_line suffix) ≡ suffix
+pub suffix_behind : (suffix : Option Bytes) → first_comment (suffix_line suffix) ≡ suffix
 suffix_behind None = refl
 suffix_behind (Some text) = refl
 
@@ -73,7 +74,7 @@ statement_line x h gap ls bs xs lines waits =
     let before : Bytes = comment_lines own.before in
     let s : Seen = seen (part_of x (gap ++ before) 0) in
     let t : Seen = seen (p.Leaf (record { class = c.Newline; gap = behind own.suffix; token = line_feed ∷ [] })) in
-    let back : SeenAs (x, part_of x) = expr_back x (readable Begins x h.1) in
+    let back : SeenAs (x, part_of x) = expr_back x (readable Begins x (line_expr Begins x h.1)) in
     let suffix : lines_of (behind own.suffix) ≡ suffix_line own.suffix = lines_behind own.suffix h.2.1 in
     let read : lines_of (gap ++ before) ≡ ls ++ told own.before = whole_lines (gap ++ before) (ls ++ told own.before) (lines_append gap before ls (told own.before) lines (comments_are_lines own.before (recursion_from_All IsComment own.before h.2.0))) in
     let stated : List Bytes → Option Bytes → List Item = λ z w. statement z w s ∷ [] in

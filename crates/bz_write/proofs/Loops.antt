@@ -58,7 +58,7 @@ joined_next parts m gap closer one xs k d h =
 
 -- ---- rows
 
-values_drawings : (xs : List Expr) → firsts (drawings xs) ≡ xs
+pub values_drawings : (xs : List Expr) → firsts (drawings xs) ≡ xs
 values_drawings [] = refl
 values_drawings (x ∷ xs) = ap (λ ys. x ∷ ys) (values_drawings xs)
 

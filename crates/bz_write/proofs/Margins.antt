@@ -8,7 +8,7 @@ use Rattle.bz_token.specs.declared.class.Class.{Class}
 use Rattle.bz_token.specs.declared.class.Class.TheVariants as c
 use Rattle.bz_lex.specs.Gaps.{IsOneLine, IsGap, nothing, blank, escaped, escaped_return, unescaped, comment, last_comment, is_flush}
 use Rattle.bz_tree.specs.declared.kind.Kind.{Kind}
-use Rattle.bz_tree.specs.Spots.{Spot, Begins, Within, Along, GapStands}
+use Rattle.bz_tree.specs.Spots.{Spot, Begins, Within, Along, BzlGapStands}
 use Rattle.bz_tree.proofs.Balance.{no_such}
 use Rattle.bz_value.specs.declared.value.Expr.{Expr}
 use Rattle.bz_items.specs.Characters.{Bytes, line_feed, space}
@@ -20,21 +20,22 @@ use Rattle.bz_value.specs.Empty.{is_empty}
 use Rattle.bz_write.specs.Written.{comment_lines}
 use Rattle.bz_write.proofs.Elements.{in_line_class}
 
--- what may stand before a token of a line: a gap, which is a text of characters
+-- What may stand before a token of a line: a gap, which is a text of characters. (The same may stand before the first token
+-- of a line as inside brackets.)
 abbrev pub FitsAt : Spot → Bytes → Type 0
-FitsAt Begins gap = IsGap true false gap × (is_flush gap ≡ true) × IsUtf8 gap
+FitsAt Begins gap = IsGap true false gap × IsUtf8 gap
 FitsAt Within gap = IsGap true false gap × IsUtf8 gap
 FitsAt Along gap = IsGap false false gap × IsUtf8 gap
 
-pub gap_stands : (class : Class) (here : Spot) (gap : Bytes) → in_line_class class ≡ true → FitsAt here gap → GapStands class here gap
+pub gap_stands : (class : Class) (here : Spot) (gap : Bytes) → in_line_class class ≡ true → FitsAt here gap → BzlGapStands class here gap
 gap_stands c.Newline here gap h g = no_such h
 gap_stands c.End here gap h g = no_such h
-gap_stands _ Begins gap h g = (g.0, g.1)
+gap_stands _ Begins gap h g = g.0
 gap_stands _ Within gap h g = g.0
 gap_stands _ Along gap h g = g.0
 
 pub gap_coded : (here : Spot) (gap : Bytes) → FitsAt here gap → IsUtf8 gap
-gap_coded Begins gap g = g.2
+gap_coded Begins gap g = g.1
 gap_coded Within gap g = g.1
 gap_coded Along gap g = g.1
 
@@ -65,16 +66,16 @@ IsGap-append n u a b (last_comment w i o k) h = no_such k
 pub inner_nothing : FitsAt Within []
 inner_nothing = (nothing refl, IsUtf8-nil)
 
-inner_append : (a b : Bytes) → FitsAt Within a → FitsAt Within b → FitsAt Within (a ++ b)
+pub inner_append : (a b : Bytes) → FitsAt Within a → FitsAt Within b → FitsAt Within (a ++ b)
 inner_append a b g h = (IsGap-append true false a b g.0 h.0, IsUtf8-append a b g.1 h.1)
 
-inner_blank : (g : Bytes) → FitsAt Within g → FitsAt Within (space ∷ g)
+pub inner_blank : (g : Bytes) → FitsAt Within g → FitsAt Within (space ∷ g)
 inner_blank g h = (blank space g refl refl h.0, coded_first space g (omega arith) h.1)
 
 pub inner_space : FitsAt Within (space ∷ [])
 inner_space = inner_blank [] inner_nothing
 
-inner_spaces : (n : ℕ) → FitsAt Within (replicate n space)
+pub inner_spaces : (n : ℕ) → FitsAt Within (replicate n space)
 inner_spaces zero = inner_nothing
 inner_spaces (suc n) = inner_blank (replicate n space) (inner_spaces n)
 
@@ -97,15 +98,15 @@ pub inner_comment : (text rest : Bytes) → IsComment text → FitsAt Within res
 inner_comment text rest h g =
     (comment h.begins.0 rest (ap (λ z. z ++ (line_feed ∷ rest)) h.begins.1) (rest_one_line text h) refl g.0, IsUtf8-append text (line_feed ∷ rest) h.coded (coded_first line_feed rest (omega arith) g.1))
 
-inner_above : (m : ℕ) (texts : List Bytes) → AllByRecursion IsComment texts → FitsAt Within (above m texts)
+pub inner_above : (m : ℕ) (texts : List Bytes) → AllByRecursion IsComment texts → FitsAt Within (above m texts)
 inner_above m [] h = inner_nothing
 inner_above m (text ∷ texts) h = inner_comment text (replicate m space ++ above m texts) h.0 (inner_append (replicate m space) (above m texts) (inner_spaces m) (inner_above m texts h.1))
 
-inner_suffix : (suffix : Option Bytes) (g : Bytes) → MaybeComment suffix → FitsAt Within g → FitsAt Within (behind suffix ++ (line_feed ∷ g))
+pub inner_suffix : (suffix : Option Bytes) (g : Bytes) → MaybeComment suffix → FitsAt Within g → FitsAt Within (behind suffix ++ (line_feed ∷ g))
 inner_suffix None g h i = inner_newline g i
 inner_suffix (Some text) g h i = inner_blank (space ∷ (text ++ (line_feed ∷ g))) (inner_blank (text ++ (line_feed ∷ g)) (inner_comment text g h i))
 
-inner_ended : (m : ℕ) (texts : List Bytes) → AllByRecursion IsComment texts → (g : Bytes) × (ended m texts ≡ line_feed ∷ g) × FitsAt Within g
+pub inner_ended : (m : ℕ) (texts : List Bytes) → AllByRecursion IsComment texts → (g : Bytes) × (ended m texts ≡ line_feed ∷ g) × FitsAt Within g
 inner_ended m [] h = (replicate m space, refl, inner_spaces m)
 inner_ended m (text ∷ texts) h =
     let w = inner_ended m texts h.1 in (
@@ -133,12 +134,12 @@ none_fits Begins h = no_such (sym h)
 none_fits Within h = inner_nothing
 none_fits Along h = (nothing refl, IsUtf8-nil)
 
-space_fits : (here : Spot) → is_begins here ≡ false → FitsAt here (space ∷ [])
+pub space_fits : (here : Spot) → is_begins here ≡ false → FitsAt here (space ∷ [])
 space_fits Begins h = no_such (sym h)
 space_fits Within h = inner_space
 space_fits Along h = (blank space [] refl refl (nothing refl), coded_byte space (omega arith))
 
-row_fits : (o b d : Bool) (j k : ℕ) (here : Spot) → is_begins here ≡ false → ((o || b) ≡ true → here ≡ Within) → FitsAt here (if o then line j else (if b then line k else (if d then space ∷ [] else [])))
+pub row_fits : (o b d : Bool) (j k : ℕ) (here : Spot) → is_begins here ≡ false → ((o || b) ≡ true → here ≡ Within) → FitsAt here (if o then line j else (if b then line k else (if d then space ∷ [] else [])))
 row_fits true b d j k here h w = subst (λ z. FitsAt z (line j)) (sym (w refl)) (inner_line j)
 row_fits false true d j k here h w = subst (λ z. FitsAt z (line k)) (sym (w refl)) (inner_line k)
 row_fits false false true j k here h w = space_fits here h
@@ -164,21 +165,22 @@ flush_line [] b h = flush_first line_feed b refl h
 flush_line (x ∷ []) b h = flush_first line_feed b refl h
 flush_line (x ∷ y ∷ a) b h = flush_line (y ∷ a) b h
 
-pub first_append : (a b : Bytes) → FitsAt Begins a → FitsAt Begins b → FitsAt Begins (a ++ b)
-first_append a b h k = (IsGap-append true false a b h.0 k.0, flush_append a b h.1 k.1, IsUtf8-append a b h.2 k.2)
+-- what may stand before the first token of a line of a BUILD file: no space and no tab stands right before the token
+abbrev pub FitsFlush : Bytes → Type 0
+FitsFlush gap = FitsAt Begins gap × (is_flush gap ≡ true)
 
-pub first_nothing : FitsAt Begins []
-first_nothing = (nothing refl, refl, IsUtf8-nil)
+pub first_append : (a b : Bytes) → FitsFlush a → FitsFlush b → FitsFlush (a ++ b)
+first_append a b h k = (inner_append a b h.0 k.0, flush_append a b h.1 k.1)
 
-pub first_blank : FitsAt Begins (line_feed ∷ [])
-first_blank = (unescaped [] refl refl (nothing refl), refl, coded_byte line_feed (omega arith))
+pub first_nothing : FitsFlush []
+first_nothing = (inner_nothing, refl)
 
-first_comments : (texts : List Bytes) → AllByRecursion IsComment texts → FitsAt Within (comment_lines texts) × (is_flush (comment_lines texts) ≡ true)
-first_comments [] h = (inner_nothing, refl)
-first_comments (text ∷ texts) h = let more = first_comments texts h.1 in (inner_comment text (comment_lines texts) h.0 more.0, flush_line text (comment_lines texts) more.1)
+pub first_blank : FitsFlush (line_feed ∷ [])
+first_blank = (inner_newline [] inner_nothing, refl)
 
-pub lines_fit : (texts : List Bytes) → AllByRecursion IsComment texts → FitsAt Begins (comment_lines texts)
-lines_fit texts h = let w = first_comments texts h in (w.0.0, w.1, w.0.1)
+pub lines_fit : (texts : List Bytes) → AllByRecursion IsComment texts → FitsFlush (comment_lines texts)
+lines_fit [] h = first_nothing
+lines_fit (text ∷ texts) h = let more = lines_fit texts h.1 in (inner_comment text (comment_lines texts) h.0 more.0, flush_line text (comment_lines texts) more.1)
 
 -- ---- before a newline
 

@@ -7,9 +7,10 @@ use Rattle.bz_tree.specs.declared.kind.Kind.{Kind}
 use Rattle.bz_tree.specs.declared.kind.Kind.TheVariants as k
 use Rattle.bz_tree.specs.declared.tree.Part.{Part}
 use Rattle.bz_tree.specs.Shapes as s
-use Rattle.bz_tree.specs.Shapes.{Sort, Terminal, Shape, Fits, Listed, Several, shape, has_token}
+use Rattle.bz_tree.specs.Shapes.{Sort, Terminal, Shape, Fits, Listed, Several, has_token}
 use Rattle.bz_tree.specs.Legal.{IsSort}
 use Rattle.bz_tree.specs.Reading.{starts}
+use Rattle.bz_value.specs.LineShapes.{line_shape}
 use Rattle.bz_write.specs.Spaces.{from_table, lone, dotted, space_behind, space_before}
 
 -- what stands at a place of a shape
@@ -161,11 +162,11 @@ is_primary (s.level n) = nat_eq n 0
 is_primary _ = false
 
 -- Neighbours that may touch: anything before a bracket, a comma or a colon; a primary that is no number before a dot; and
--- behind brackets, commas and colons anything, behind signs and stars a part, behind a dot a name.
+-- behind brackets, commas and colons anything, behind signs and stars a part or a word, behind a dot a name.
 abbrev pub safe : Element → Element → Bool
 safe (S a) (T us) = all_in lone us || (all_in dotted us && is_primary a)
 safe (T ts) (S a) = all_in lone ts || (all_in prefixed ts && all_in well (starts a))
-safe (T ts) (T us) = all_in lone us || (all_in lone ts || (all_in dotted ts && all_in named us))
+safe (T ts) (T us) = all_in lone us || (all_in lone ts || ((all_in dotted ts && all_in named us) || (all_in prefixed ts && all_in well us)))
 safe (S a) (S b) = false
 
 abbrev pub neighbours : Kind → Element → Element → Bool
@@ -194,7 +195,11 @@ in_a_line k.Suite = false
 in_a_line _ = true
 
 -- So it is in each row of the table.
-pub all_pass : (kind : Kind) → in_a_line kind ≡ true → passes (neighbours kind) (finals kind) None (shape kind) ≡ true
+pub all_pass : (kind : Kind) → in_a_line kind ≡ true → passes (neighbours kind) (finals kind) None (line_shape kind) ≡ true
 all_pass k.File h = absurd (both_ways false refl h)
 all_pass k.Line h = absurd (both_ways false refl h)
+all_pass k.Def h = absurd (both_ways false refl h)
+all_pass k.IfStmt h = absurd (both_ways false refl h)
+all_pass k.ForStmt h = absurd (both_ways false refl h)
+all_pass k.Suite h = absurd (both_ways false refl h)
 all_pass _ h = refl

@@ -1,6 +1,5 @@
 -- Forms that wait, and the steps of the loops that measure rows and sequences.
 use Rattle.std.proofs.Common.{ℕ, suc, Bool, true, false, ◌≡◌, ◌<◌, List, [], ◌∷◌, ◌++◌, ◌+◌, length, get_or, drop, refl, ap, ◌∙◌, arith}
-use mathlib.Core.Former.{Count}
 use Rattle.std.proofs.lemmas.List.{drop_more}
 use Rattle.bz_tree.specs.declared.kind.Kind.{Kind}
 use Rattle.bz_value.specs.declared.value.Form.{Form}

@@ -1,6 +1,7 @@
 -- What is drawn of an expression reads back as the expression with its flags settled.
 use Rattle.std.proofs.Common.{◌≡◌, ℕ, suc, Bool, true, false, ◌&&◌, List, [], ◌∷◌, ◌++◌, refl, sym, ap, ◌∙◌, subst, map, take, drop, length, true≢false}
 use Rattle.std.specs.Prelude.{nat_eq}
+use Rattle.std.specs.List.{AllByRecursion}
 use Rattle.bz_tree.specs.declared.kind.Kind.{Kind}
 use Rattle.bz_tree.specs.declared.tree.Node.{Node}
 use Rattle.bz_tree.specs.declared.tree.Part.{Part, Row_of-Part, end_of-Part, more_of-Part, items-the_row-Part}
@@ -16,7 +17,7 @@ use Rattle.bz_value.specs.Proper.{in_frame, is_operator}
 use Rattle.bz_view.specs.View.{Seen, seen, seen_row, plain, first_gap, loose_in, loose_behind, node_in, sequence_form, items_in, is_split, is_open}
 use Rattle.bz_write.specs.Layout.{laid, laid_in, rowed, headed, is_broken, is_tuple, gap_behind, margin_behind, firsts}
 use Rattle.bz_value.specs.Empty.{is_empty}
-use Rattle.bz_write.specs.Drawn.{part_of, parts_of}
+use Rattle.bz_write.specs.Drawn.{part_of, parts_of, drawings}
 use Rattle.bz_write.specs.Flags.{with_flags, each_with_flags, settled_split}
 use Rattle.bz_write.proofs.Made.{two}
 use Rattle.bz_write.proofs.Readable.{Readable, EachReadable, IsRow, IsSequence}
@@ -136,3 +137,13 @@ mutual
   row_read : (n : _) (r : Row_of-Expr n) → EachReadable r → Reads (parts_of r)
   row_read n end_of-Expr f = tt
   row_read n (more_of-Expr x rest) f = (expr_back x f.0, row_read _ rest f.1)
+
+-- ---- lists of expressions
+
+pub list_read : (xs : List Expr) → AllByRecursion Readable xs → Reads (drawings xs)
+list_read [] f = tt
+list_read (x ∷ xs) f = (expr_back x f.0, list_read xs f.1)
+
+pub settled_list : (xs : List Expr) → settled (drawings xs) ≡ map with_flags xs
+settled_list [] = refl
+settled_list (x ∷ xs) = ap (λ t. with_flags x ∷ t) (settled_list xs)

@@ -4,16 +4,18 @@ use Rattle.std.specs.List.{AllByRecursion}
 use Rattle.std.proofs.lemmas.List.Elements.{recursion_from_All}
 use Rattle.bz_tree.specs.declared.kind.Kind.{Kind}
 use Rattle.bz_tree.specs.Legal.{IsSort}
-use Rattle.bz_tree.specs.Shapes.{Fits, shape}
+use Rattle.bz_tree.specs.Shapes.{Fits}
 use Rattle.bz_tree.specs.Spots.{Spot, Within}
 use Rattle.bz_value.specs.declared.value.Expr.{Expr, Token, Form', Row_of-Expr, end_of-Expr, more_of-Expr, items-the_row-Expr}
 use Rattle.bz_value.specs.Comments.{no_comments}
 use Rattle.bz_value.specs.Frames.{Frame, row, sequence, frame, lead, is_binary, is_comprehension}
 use Rattle.bz_items.specs.Characters.{Bytes}
-use Rattle.bz_value.specs.Proper.{IsComment, MaybeComment, comments_of, has_break, is_operator, begins_operator, roots, behind_expr, IsEmptyRow, in_frame, ProperExpr, ProperRow, ProperHead, ProperItems}
+use Rattle.bz_value.specs.LineShapes.{line_shape}
+use Rattle.bz_value.specs.Proper.{IsComment, MaybeComment, comments_of, has_break, is_operator, begins_operator, roots, behind_expr, IsEmptyRow, in_frame, ProperBy, ProperRowBy, ProperHeadBy, ProperItemsBy}
 use Rattle.bz_value.specs.Roots.{root, row_in}
 use Rattle.bz_value.specs.Empty.{is_empty}
-use Rattle.bz_write.proofs.Framed.{RowShape, row_shape, lead_before, is_sign_part, begins_sign, ends_sign, behind_first}
+use Rattle.bz_value.proofs.LeadParts.{lead_before}
+use Rattle.bz_write.proofs.Framed.{RowShape, row_shape, is_sign_part, begins_sign, ends_sign, behind_first}
 use Rattle.bz_write.proofs.Made.{roots_row}
 
 abbrev pub begins : List Expr → Bool
@@ -106,16 +108,16 @@ pub begins_row : (m : _) (r : Row_of-Expr m) → begins_operator r ≡ begins (i
 begins_row m end_of-Expr = refl
 begins_row m (more_of-Expr x rest) = refl
 
-parts_list : (binary : Bool) (outer here : Spot) (m : _) (r : Row_of-Expr m) → ProperRow binary outer here r → AreParts binary (items-the_row-Expr m r)
+pub parts_list : (binary : Bool) (outer here : Spot) (m : _) (r : Row_of-Expr m) → ProperRowBy line_shape binary outer here r → AreParts binary (items-the_row-Expr m r)
 parts_list binary outer here m end_of-Expr h = tt
 parts_list binary outer here m (more_of-Expr x rest) h =
     (h.1, λ b. ap (λ z. binary && (is_operator x && not z)) (sym (begins_row _ rest)) ∙ (h.2 b).0, parts_list binary outer (behind_expr outer here x) _ rest h.3)
 
-heads_list : (here : Spot) (m : _) (r : Row_of-Expr m) → ProperHead here r → AreHeads (items-the_row-Expr m r)
+pub heads_list : (here : Spot) (m : _) (r : Row_of-Expr m) → ProperHeadBy line_shape here r → AreHeads (items-the_row-Expr m r)
 heads_list here m end_of-Expr h = tt
 heads_list here m (more_of-Expr x rest) h = (h.1.0, h.1.1, heads_list here _ rest h.2)
 
-items_list : (m : _) (r : Row_of-Expr m) → ProperItems r → AreItems (items-the_row-Expr m r)
+pub items_list : (m : _) (r : Row_of-Expr m) → ProperItemsBy line_shape r → AreItems (items-the_row-Expr m r)
 items_list m end_of-Expr h = tt
 items_list m (more_of-Expr x rest) h = (recursion_from_All IsComment (comments_of x).before h.1.0, h.1.1, h.2, items_list _ rest h.3)
 
@@ -129,20 +131,20 @@ both_frames : (f : Frame) (A B C : Type 0) → (A → C) → (B → C) → in_fr
 both_frames row A B C a b h = a h
 both_frames (sequence o closer) A B C a b h = b h
 
-by_frame : (kind : Kind) (f : Frame) (split open_ : Bool) (ps is : List Expr) (end_ : List Bytes) (A B : Type 0) → Fits IsSort (shape kind) (row_in f (map root ps) (map root is)) →
+by_frame : (kind : Kind) (f : Frame) (split open_ : Bool) (ps is : List Expr) (end_ : List Bytes) (A B : Type 0) → Fits IsSort (line_shape kind) (row_in f (map root ps) (map root is)) →
     in_frame f (Unit {0}) (length (map root ps) ≡ lead kind) → (RowShape kind (map root ps) → A → IsRow kind split open_ ps is end_) → (length (map root ps) ≡ lead kind → B → IsSequence kind open_ ps is end_) →
     in_frame f A B → in_frame f (IsRow kind split open_ ps is end_) (IsSequence kind open_ ps is end_)
 by_frame kind row split open_ ps is end_ A B fits leads a b h = a (row_shape kind (map root ps) fits) h
 by_frame kind (sequence o closer) split open_ ps is end_ A B fits leads a b h = b leads h
 
 mutual
-  pub readable : (here : Spot) (x : Expr) → ProperExpr here x → Readable x
+  pub readable : (here : Spot) (x : Expr) → ProperBy line_shape here x → Readable x
   readable here (Token t) h = tt
   readable here (Form' kind s parts s' items end_ split open_ comments) h =
       let ps : List Expr = items-the_row-Expr _ parts in
       let is : List Expr = items-the_row-Expr _ items in
-      let fits : Fits IsSort (shape kind) (row_in (frame kind) (map root ps) (map root is)) =
-      subst (λ z. Fits IsSort (shape kind) (row_in (frame kind) z (map root is))) (roots_row _ parts) (subst (λ z. Fits IsSort (shape kind) (row_in (frame kind) (roots parts) z)) (roots_row _ items) h.0) in (
+      let fits : Fits IsSort (line_shape kind) (row_in (frame kind) (map root ps) (map root is)) =
+      subst (λ z. Fits IsSort (line_shape kind) (row_in (frame kind) z (map root is))) (roots_row _ parts) (subst (λ z. Fits IsSort (line_shape kind) (row_in (frame kind) (roots parts) z)) (roots_row _ items) h.0) in (
         by_frame kind (frame kind) split open_ ps is end_ _ _ fits (lead_before kind (map root ps) (map root is) fits)
             (λ w k. record {
               full = sym (empty_same ps) ∙ w.full;
@@ -167,15 +169,15 @@ mutual
         both_frames (frame kind) _ _ (EachReadable items) (λ k. none_readable _ items k.1) (λ k. items_readable _ items k.1) h.1,
       )
 
-  row_readable : (binary : Bool) (outer here : Spot) (m : _) (r : Row_of-Expr m) → ProperRow binary outer here r → EachReadable r
+  pub row_readable : (binary : Bool) (outer here : Spot) (m : _) (r : Row_of-Expr m) → ProperRowBy line_shape binary outer here r → EachReadable r
   row_readable binary outer here m end_of-Expr h = tt
   row_readable binary outer here m (more_of-Expr x rest) h = (readable here x h.0, row_readable binary outer (behind_expr outer here x) _ rest h.3)
 
-  head_readable : (here : Spot) (m : _) (r : Row_of-Expr m) → ProperHead here r → EachReadable r
+  pub head_readable : (here : Spot) (m : _) (r : Row_of-Expr m) → ProperHeadBy line_shape here r → EachReadable r
   head_readable here m end_of-Expr h = tt
   head_readable here m (more_of-Expr x rest) h = (readable here x h.0, head_readable here _ rest h.2)
 
-  items_readable : (m : _) (r : Row_of-Expr m) → ProperItems r → EachReadable r
+  pub items_readable : (m : _) (r : Row_of-Expr m) → ProperItemsBy line_shape r → EachReadable r
   items_readable m end_of-Expr h = tt
   items_readable m (more_of-Expr x rest) h = (readable Within x h.0, items_readable _ rest h.3)
 

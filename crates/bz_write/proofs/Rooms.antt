@@ -1,5 +1,5 @@
 -- How long gaps are, and the steps of the loops that count them.
-use Rattle.std.proofs.Common.{ℕ, ◌≡◌, ◌<◌, ◌+◌, List, [], ◌∷◌, ◌++◌, length, get_or, drop, ap, ◌∙◌, arith, length-append}
+use Rattle.std.proofs.Common.{ℕ, ◌≡◌, ◌<◌, ◌+◌, List, ◌∷◌, ◌++◌, length, get_or, drop, ap, ◌∙◌, arith, length-append}
 use Rattle.std.proofs.lemmas.List.{drop_more, length-replicate}
 use Rattle.bz_items.specs.Characters.{Bytes, space}
 use Rattle.bz_write.specs.Layout.{line, above, ended}

@@ -89,7 +89,7 @@ row_between kind open_ m x gap n n' (y ∷ ys) g h = (
   row_between kind open_ m y (gap_behind kind open_ m x.0 (firsts (y ∷ ys))) n' (margin_behind open_ m y.0) ys h.0 h.1,
 )
 
-row_apart : (kind : Kind) (open_ : Bool) (m : ℕ) (gap : Bytes) (n : ℕ) (xs : List Child) → AreBehind xs → Apart kind (map piece_part (rowed kind open_ m gap n xs))
+pub row_apart : (kind : Kind) (open_ : Bool) (m : ℕ) (gap : Bytes) (n : ℕ) (xs : List Child) → AreBehind xs → Apart kind (map piece_part (rowed kind open_ m gap n xs))
 row_apart kind open_ m gap n [] h = tt
 row_apart kind open_ m gap n (x ∷ xs) h = row_between kind open_ m x gap n (margin_behind open_ m x.0) xs h.0 h.1
 
@@ -124,14 +124,14 @@ value_before kind (p.Leaf l) h = by_class l.class l.token h
 touches_opener : (kind : Kind) (x y : Part) → behind kind x ≡ false → is_value x ≡ false → is_value y ≡ true → apart kind x y ≡ false
 touches_opener kind x y h i j = rw (h, i, value_before kind y j) refl
 
-abbrev mark_part : Bytes → ℕ → Part
+abbrev pub mark_part : Bytes → ℕ → Part
 mark_part gap m = p.Leaf (record { class = c.Mark; gap = gap; token = m ∷ [] })
 
 -- what is drawn of an item is a value, behind the gap that it is given
-abbrev IsItem : (Bytes → ℕ → Part) → Type 0
+abbrev pub IsItem : (Bytes → ℕ → Part) → Type 0
 IsItem f = Starts f × ((gap : Bytes) (m : ℕ) → is_value (f gap m) ≡ true)
 
-abbrev AreItems : List Child → Type 0
+abbrev pub AreItems : List Child → Type 0
 AreItems xs = AllByRecursion (λ x. IsItem x.1) xs
 
 opens_suffix : (suffix : Option Bytes) (t : Bytes) → Opens (suffix_text suffix ++ (10 ∷ t))
@@ -143,17 +143,27 @@ opens_ended None m [] = refl
 opens_ended None m (text ∷ texts) = refl
 opens_ended (Some text) m end_ = refl
 
-record IsBracket (n : ℕ) : Type 0 where
-  alone : lone (s.this c.Mark (n ∷ [])) ≡ true
-  no_dot : (gap : Bytes) → has_token s.dot (mark_part gap n) ≡ false
+-- a bracket, a comma or a colon
+pub record IsLone (n : ℕ) : Type 0 where
+  pub alone : lone (s.this c.Mark (n ∷ [])) ≡ true
+  pub no_dot : (gap : Bytes) → has_token s.dot (mark_part gap n) ≡ false
 
-module _ (kind : Kind) (closer : ℕ) (closes : IsBracket closer) where
-  -- anything before the closing bracket, or a comma
-  before_bracket : (n : ℕ) → IsBracket n → (x : Part) → Fine kind x (mark_part [] n)
-  before_bracket n b x = inr (refl, touches_lone kind x (mark_part [] n) b.alone, λ d. both_ways (has_token s.dot (mark_part [] n)) (b.no_dot []) d.1)
+-- anything before such a mark
+pub before_lone : (kind : Kind) (n : ℕ) → IsLone n → (x : Part) → Fine kind x (mark_part [] n)
+before_lone kind n b x = inr (refl, touches_lone kind x (mark_part [] n) b.alone, λ d. both_ways (has_token s.dot (mark_part [] n)) (b.no_dot []) d.1)
 
+between_then : (kind : Kind) (n : ℕ) → IsLone n → (x : Part) (xs ys : List Part) → Between kind x xs → Between kind (mark_part [] n) ys → Between kind x (xs ++ (mark_part [] n ∷ ys))
+between_then kind n b x [] ys h i = (before_lone kind n b x, i)
+between_then kind n b x (y ∷ xs) ys h i = (h.0, between_then kind n b y xs ys h.1 i)
+
+-- parts, then such a mark, and what follows it
+pub apart_then : (kind : Kind) (n : ℕ) → IsLone n → (xs ys : List Part) → Apart kind xs → Apart kind (mark_part [] n ∷ ys) → Apart kind (xs ++ (mark_part [] n ∷ ys))
+apart_then kind n b [] ys h i = i
+apart_then kind n b (x ∷ xs) ys h i = between_then kind n b x xs ys h i
+
+module _ (kind : Kind) (closer : ℕ) (closes : IsLone closer) where
   before_comma : (x : Part) → Fine kind x (mark_part [] comma)
-  before_comma x = before_bracket comma (record { alone = refl; no_dot = λ gap. refl }) x
+  before_comma x = before_lone kind comma (record { alone = refl; no_dot = λ gap. refl }) x
 
   behind_space : (x : Part) (m : ℕ) (f : Bytes → ℕ → Part) → IsItem f → Fine kind x (f (space ∷ []) m)
   behind_space x m f h = inl (opens_at f (space ∷ []) m h.0 refl)
@@ -163,7 +173,7 @@ module _ (kind : Kind) (closer : ℕ) (closes : IsBracket closer) where
   maybe_comma false x after h k = (before_comma x, k)
 
   joined_between : (m : ℕ) (gap : Bytes) (one : Bool) (xs : List Child) (x : Part) → ((f : Bytes → ℕ → Part) → IsItem f → Fine kind x (f gap m)) → AreItems xs → Between kind x (map piece_part (joined m gap closer one xs))
-  joined_between m gap one [] x first h = (before_bracket closer closes x, tt)
+  joined_between m gap one [] x first h = (before_lone kind closer closes x, tt)
   joined_between m gap one (y ∷ ys) x first h = (
     first y.1 h.0,
     maybe_comma (is_empty ys && not one) (y.1 gap m) (joined m (space ∷ []) closer false ys)
@@ -179,29 +189,32 @@ module _ (kind : Kind) (closer : ℕ) (closes : IsBracket closer) where
         (before_comma (y.1 gap (m + 4)), stacked_between m (comments_of y.0).suffix end_ ys (mark_part [] comma) h.1),
       )
 
-  module _ (opener : ℕ) (opens : IsBracket opener) (quiet : space_behind kind (s.this c.Mark (opener ∷ [])) ≡ false) where
+  module _ (opener : ℕ) (opens : IsLone opener) (quiet : space_behind kind (s.this c.Mark (opener ∷ [])) ≡ false) where
     behind_opener : (gap : Bytes) (m : ℕ) (f : Bytes → ℕ → Part) → IsItem f → Fine kind (mark_part gap opener) (f [] m)
     behind_opener gap m f h = inr (bare_at f m h.0, touches_opener kind (mark_part gap opener) (f [] m) quiet refl (h.1 [] m), λ d. no_such d.0)
 
     -- what stands behind the opening bracket, broken or not
-    body_between : (broken one : Bool) (gap : Bytes) (m : ℕ) (end_ : List Bytes) (xs : List Child) → AreItems xs → Between kind (mark_part gap opener) (map piece_part (if broken then stacked m None closer end_ xs else joined m [] closer one xs))
+    pub body_between : (broken one : Bool) (gap : Bytes) (m : ℕ) (end_ : List Bytes) (xs : List Child) → AreItems xs → Between kind (mark_part gap opener) (map piece_part (if broken then stacked m None closer end_ xs else joined m [] closer one xs))
     body_between true one gap m end_ xs h = stacked_between m None end_ xs (mark_part gap opener) h
     body_between false one gap m end_ xs h = joined_between m [] one xs (mark_part gap opener) (behind_opener gap m) h
 
     -- with at most one part before the bracket
-    headed_apart : (broken one : Bool) (gap : Bytes) (m : ℕ) (end_ : List Bytes) (head xs : List Child) → AtMostOne (rooted head) → AreItems xs →
+    pub headed_apart : (broken one : Bool) (gap : Bytes) (m : ℕ) (end_ : List Bytes) (head xs : List Child) → AtMostOne (rooted head) → AreItems xs →
         Apart kind (map piece_part (headed m gap opener head (if broken then stacked m None closer end_ xs else joined m [] closer one xs)))
     headed_apart broken one gap m end_ [] xs o h = body_between broken one gap m end_ xs h
-    headed_apart broken one gap m end_ (x ∷ []) xs o h = (before_bracket opener opens (x.1 gap m), body_between broken one [] m end_ xs h)
+    headed_apart broken one gap m end_ (x ∷ []) xs o h = (before_lone kind opener opens (x.1 gap m), body_between broken one [] m end_ xs h)
     headed_apart broken one gap m end_ (x ∷ y ∷ ys) xs o h = absurd o
 
 -- ---- all kinds
 
 abbrev Bracketed : Kind → Frame → Type 0
 Bracketed kind row = Unit {0}
-Bracketed kind (sequence opener closer) = IsBracket opener × IsBracket closer × (space_behind kind (s.this c.Mark (opener ∷ [])) ≡ false)
+Bracketed kind (sequence opener closer) = IsLone opener × IsLone closer × (space_behind kind (s.this c.Mark (opener ∷ [])) ≡ false)
 
-round : IsBracket 40 × IsBracket 41
+pub colon_alone : IsLone 58
+colon_alone = record { alone = refl; no_dot = λ gap. refl }
+
+pub round : IsLone 40 × IsLone 41
 round = (record { alone = refl; no_dot = λ gap. refl }, record { alone = refl; no_dot = λ gap. refl })
 
 bracketed : (kind : Kind) → Bracketed kind (frame kind)
@@ -212,7 +225,7 @@ bracketed k.List = (record { alone = refl; no_dot = λ gap. refl }, record { alo
 bracketed k.Dict = (record { alone = refl; no_dot = λ gap. refl }, record { alone = refl; no_dot = λ gap. refl }, refl)
 bracketed _ = tt
 
-items_of : (xs : List Child) → AreBehind xs → AreValues (rooted xs) → AreItems xs
+pub items_of : (xs : List Child) → AreBehind xs → AreValues (rooted xs) → AreItems xs
 items_of [] h i = tt
 items_of (x ∷ xs) h i = ((h.0.starts, λ gap m. sym (h.0.spaced_as gap m).value ∙ i.0), items_of xs h.1 i.1)
 

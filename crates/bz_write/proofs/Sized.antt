@@ -10,9 +10,8 @@ use Rattle.bz_items.specs.Characters.{Bytes, comma, space}
 use Rattle.bz_value.specs.Frames.{Frame, row, sequence, frame}
 use Rattle.bz_value.specs.Proper.{comments_of}
 use Rattle.bz_write.specs.Layout.{Piece, mark, line, above, ended, behind, stacked, joined, rowed, headed, laid_in, is_broken, is_tuple, gap_behind, margin_behind, firsts}
-use Rattle.bz_value.specs.Empty.{is_empty}
 use Rattle.bz_write.specs.Written.{piece_text, text_of}
-use Rattle.bz_write.specs.Sizes.{row_size, head_size, comma_size, joined_size, stacked_item_size, stacked_size, body_size, size_in, form_size}
+use Rattle.bz_write.specs.Sizes.{row_size, head_size, joined_size, stacked_size, body_size, size_in, form_size}
 use Rattle.bz_write.specs.Writings.{writings, row_text, joined_text, stacked_text, body_text}
 use Rattle.bz_write.proofs.Loops.{stacked_behind, stacked_so}
 use Rattle.bz_write.proofs.Made.{text_Form}

@@ -17,28 +17,30 @@ use Rattle.bz_value.specs.declared.value.Item.TheVariants as i
 use Rattle.bz_items.specs.Characters.{Bytes, comma, line_feed, space}
 use Rattle.bz_value.specs.Frames.{Frame, row, sequence, frame}
 use Rattle.bz_value.specs.Proper.{IsProperItem, IsProper, in_frame, comments_of}
+use Rattle.bz_value.proofs.Wider.{line_expr}
 use Rattle.bz_write.specs.Layout.{Piece, mark, laid_in, rowed, headed, joined, stacked, is_broken, is_tuple, gap_behind, margin_behind, behind, firsts}
 use Rattle.bz_value.specs.Empty.{is_empty}
 use Rattle.bz_write.specs.Written.{text_of, texts_of, piece_text, comment_lines, behind_item, item_text, layout}
-use Rattle.bz_write.specs.Drawn.{part_of, parts_of, piece_part, before_next, line_part, lines_from, drawn}
+use Rattle.bz_write.specs.Writings.{writings}
+use Rattle.bz_write.specs.Drawn.{part_of, parts_of, drawings, piece_part, before_next, line_part, lines_from, drawn}
 use Rattle.bz_write.proofs.Readable.{Readable, EachReadable, IsRow, IsSequence, readable}
 
 -- the two readings of the same expressions, each spelling the other behind its gap
-data Agree : List (Expr × (Bytes → ℕ → Part)) → List (Expr × (ℕ → Bytes)) → Type 0 where
+pub data Agree : List (Expr × (Bytes → ℕ → Part)) → List (Expr × (ℕ → Bytes)) → Type 0 where
   over : Agree [] []
   more : (v : Expr) (x : Bytes → ℕ → Part) (y : ℕ → Bytes) (xs : List (Expr × (Bytes → ℕ → Part))) (ys : List (Expr × (ℕ → Bytes))) →
       ((g : Bytes) (m : ℕ) → spell_part (x g m) ≡ g ++ y m) → Agree xs ys → Agree ((v, x) ∷ xs) ((v, y) ∷ ys)
 
-abbrev spelled : List (Piece (Bytes → ℕ → Part)) → Bytes
+abbrev pub spelled : List (Piece (Bytes → ℕ → Part)) → Bytes
 spelled ps = flat_map spell_part (map piece_part ps)
 
-abbrev written : List (Piece (ℕ → Bytes)) → Bytes
+abbrev pub written : List (Piece (ℕ → Bytes)) → Bytes
 written ps = flat_map piece_text ps
 
-both : {a b c d : Bytes} → a ≡ b → c ≡ d → a ++ c ≡ b ++ d
+pub both : {a b c d : Bytes} → a ≡ b → c ≡ d → a ++ c ≡ b ++ d
 both {a} {b} {c} {d} e f = ap (λ t. t ++ c) e ∙ ap (λ t. b ++ t) f
 
-same_values : (xs : _) (ys : _) → Agree xs ys → firsts xs ≡ firsts ys
+pub same_values : (xs : _) (ys : _) → Agree xs ys → firsts xs ≡ firsts ys
 same_values xs ys over = refl
 same_values xs ys (more v x y xs' ys' e a) = ap (λ t. v ∷ t) (same_values xs' ys' a)
 
@@ -50,7 +52,7 @@ same_length : (xs : _) (ys : _) → Agree xs ys → length xs ≡ length ys
 same_length xs ys over = refl
 same_length xs ys (more v x y xs' ys' e a) = ap suc (same_length xs' ys' a)
 
-same_rowed : (kind : Kind) (open_ : Bool) (m : ℕ) (g : Bytes) (n : ℕ) (xs : _) (ys : _) → Agree xs ys → spelled (rowed kind open_ m g n xs) ≡ written (rowed kind open_ m g n ys)
+pub same_rowed : (kind : Kind) (open_ : Bool) (m : ℕ) (g : Bytes) (n : ℕ) (xs : _) (ys : _) → Agree xs ys → spelled (rowed kind open_ m g n xs) ≡ written (rowed kind open_ m g n ys)
 same_rowed kind open_ m g n xs ys over = refl
 same_rowed kind open_ m g n xs ys (more v x y xs' ys' e a) =
     both (e g n)
@@ -65,16 +67,16 @@ same_comma : (b : Bool) (p : _) (q : _) → spelled p ≡ written q → spelled 
 same_comma true p q e = e
 same_comma false p q e = ap (λ t. comma ∷ t) e
 
-same_joined : (m : ℕ) (g : Bytes) (closer : ℕ) (one : Bool) (xs : _) (ys : _) → Agree xs ys → spelled (joined m g closer one xs) ≡ written (joined m g closer one ys)
+pub same_joined : (m : ℕ) (g : Bytes) (closer : ℕ) (one : Bool) (xs : _) (ys : _) → Agree xs ys → spelled (joined m g closer one xs) ≡ written (joined m g closer one ys)
 same_joined m g closer one xs ys over = refl
 same_joined m g closer one xs ys (more v x y xs' ys' e a) =
     both (e g m) (rw (same_empty xs' ys' a) (same_comma (is_empty ys' && not one) _ _ (same_joined m (space ∷ []) closer false xs' ys' a)))
 
-same_stacked : (m : ℕ) (suffix : Option Bytes) (closer : ℕ) (end_ : List Bytes) (xs : _) (ys : _) → Agree xs ys → spelled (stacked m suffix closer end_ xs) ≡ written (stacked m suffix closer end_ ys)
+pub same_stacked : (m : ℕ) (suffix : Option Bytes) (closer : ℕ) (end_ : List Bytes) (xs : _) (ys : _) → Agree xs ys → spelled (stacked m suffix closer end_ xs) ≡ written (stacked m suffix closer end_ ys)
 same_stacked m suffix closer end_ xs ys over = refl
 same_stacked m suffix closer end_ xs ys (more v x y xs' ys' e a) = both (e _ (m + 4)) (ap (λ t. comma ∷ t) (same_stacked m _ closer end_ xs' ys' a))
 
-same_body : (b one : Bool) (m : ℕ) (closer : ℕ) (end_ : List Bytes) (xs : _) (ys : _) → Agree xs ys →
+pub same_body : (b one : Bool) (m : ℕ) (closer : ℕ) (end_ : List Bytes) (xs : _) (ys : _) → Agree xs ys →
     spelled (if b then stacked m None closer end_ xs else joined m [] closer one xs) ≡ written (if b then stacked m None closer end_ ys else joined m [] closer one ys)
 same_body true one m closer end_ xs ys a = same_stacked m None closer end_ xs ys a
 same_body false one m closer end_ xs ys a = same_joined m [] closer one xs ys a
@@ -93,10 +95,13 @@ abbrev Starts : {X : Type 0} → Frame → List X → Type 0
 Starts row xs = is_empty xs ≡ false
 Starts (sequence opener closer) xs = Unit {0}
 
+pub row_gap : (kind : Kind) (open_ : Bool) (g : Bytes) (m n : ℕ) (xs : List (Expr × (ℕ → Bytes))) → is_empty xs ≡ false → written (rowed kind open_ m g n xs) ≡ g ++ written (rowed kind open_ m [] n xs)
+row_gap kind open_ g m n [] s = absurd (true≢false s)
+row_gap kind open_ g m n (x ∷ xs) s = append_assoc g _ _
+
 first_gap : (f : Frame) (kind : Kind) (split open_ : Bool) (g : Bytes) (m : ℕ) (hs xs : List (Expr × (ℕ → Bytes))) (end_ : List Bytes) → Starts f hs →
     written (laid_in f kind split open_ g m hs xs end_) ≡ g ++ written (laid_in f kind split open_ [] m hs xs end_)
-first_gap row kind split open_ g m [] xs end_ s = absurd (true≢false s)
-first_gap row kind split open_ g m (h ∷ hs) xs end_ s = append_assoc g _ _
+first_gap row kind split open_ g m hs xs end_ s = row_gap kind open_ g m m hs s
 first_gap (sequence opener closer) kind split open_ g m [] xs end_ s = append_assoc g _ _
 first_gap (sequence opener closer) kind split open_ g m (h ∷ hs) xs end_ s = append_assoc g _ _
 
@@ -120,9 +125,14 @@ mutual
       spell_made kind _ ∙
       (same_laid (frame kind) kind split open_ g m _ _ _ _ end_ (agree _ parts f.1) (agree _ items f.2) ∙ first_gap (frame kind) kind split open_ g m _ _ end_ (starts (frame kind) kind split open_ _ parts _ end_ f.0))
 
-  agree : (n : _) (r : Row_of-Expr n) → EachReadable r → Agree (parts_of r) (texts_of r)
+  pub agree : (n : _) (r : Row_of-Expr n) → EachReadable r → Agree (parts_of r) (texts_of r)
   agree n end_of-Expr f = over
   agree n (more_of-Expr x rest) f = more x _ _ _ _ (spell_expr x f.0) (agree _ rest f.1)
+
+-- the same of lists
+pub agree_all : (xs : List Expr) → AllByRecursion Readable xs → Agree (drawings xs) (writings xs)
+agree_all [] f = over
+agree_all (x ∷ xs) f = more x _ _ _ _ (spell_expr x f.0) (agree_all xs f.1)
 
 -- ---- the file
 
@@ -147,7 +157,7 @@ spell_lines (i.Block texts ∷ xs) h gap =
     (append_assoc (gap ++ lines) next (layout xs) ∙ (ap (λ t. (gap ++ lines) ++ t) (next_behind (i.Block texts) xs) ∙ append_assoc gap lines (behind_item (i.Block texts) xs)))
 spell_lines (i.Stmt x ∷ xs) h gap =
     let next : Bytes = before_next (i.Stmt x) xs in
-    both (spell_line gap x (readable Begins x h.0.1)) (spell_lines xs h.1 next ∙ next_behind (i.Stmt x) xs) ∙ append_assoc gap (item_text (i.Stmt x)) (behind_item (i.Stmt x) xs)
+    both (spell_line gap x (readable Begins x (line_expr Begins x h.0.1))) (spell_lines xs h.1 next ∙ next_behind (i.Stmt x) xs) ∙ append_assoc gap (item_text (i.Stmt x)) (behind_item (i.Stmt x) xs)
 
 -- the tree of the layout of a proper file value spells its text
 pub drawn_spelled : (items : List Item) → IsProper items → spell_node (drawn items) ≡ layout items

@@ -6,14 +6,15 @@ use Rattle.bz_token.specs.declared.class.Class.TheVariants as c
 use Rattle.bz_token.specs.Lexemes.{IsLexeme}
 use Rattle.bz_tree.specs.declared.kind.Kind.{Kind}
 use Rattle.bz_tree.specs.declared.kind.Kind.TheVariants as k
-use Rattle.bz_tree.specs.Shapes.{Fits, shape}
+use Rattle.bz_tree.specs.Shapes.{Shape, Fits}
 use Rattle.bz_tree.specs.Legal.{IsSort}
 use Rattle.bz_tree.specs.Spots.{Spot, Begins, Within, Along, onward, opens, closes, plain, role, behind_token, behind_node}
 use Rattle.bz_tree.proofs.Balance.{no_such}
 use Rattle.bz_value.specs.declared.value.Expr.{Expr, Token, Form', Row_of-Expr, end_of-Expr, more_of-Expr}
 use Rattle.bz_value.specs.Frames.{Frame, row, sequence, frame, has_brackets, is_binary, is_comprehension}
 use Rattle.bz_items.specs.Characters.{Bytes}
-use Rattle.bz_value.specs.Proper.{IsComment, has_break, behind_expr, roots, IsEmptyRow, in_frame, ProperExpr, ProperRow, ProperHead, ProperItems}
+use Rattle.bz_value.specs.LineShapes.{line_shape}
+use Rattle.bz_value.specs.Proper.{IsComment, has_break, behind_expr, roots, IsEmptyRow, in_frame, ProperBy, ProperRowBy, ProperHeadBy, ProperItemsBy}
 use Rattle.bz_value.specs.Roots.{root, row_in}
 use Rattle.bz_write.specs.Spaces.{is_value, is_word}
 use Rattle.bz_write.specs.Layout.{firsts}
@@ -31,11 +32,11 @@ lexeme_in_line c.Newline t h = absurd h
 lexeme_in_line c.End t h = absurd h
 lexeme_in_line _ t h = refl
 
-root_in_line : (here : Spot) (x : Expr) → ProperExpr here x → in_line_part (root x) ≡ true
+pub root_in_line : (here : Spot) (x : Expr) → ProperBy line_shape here x → in_line_part (root x) ≡ true
 root_in_line here (Token t) h = lexeme_in_line t.class t.text h.0
 root_in_line here (Form' kind z parts z' items end_ split open_ comments) h = refl
 
-row_in_line : (binary : Bool) (outer here : Spot) (m : _) (r : Row_of-Expr m) → ProperRow binary outer here r → InLine (roots r)
+pub row_in_line : (binary : Bool) (outer here : Spot) (m : _) (r : Row_of-Expr m) → ProperRowBy line_shape binary outer here r → InLine (roots r)
 row_in_line binary outer here m end_of-Expr h = tt
 row_in_line binary outer here m (more_of-Expr x rest) h = (root_in_line here x h.0, row_in_line binary outer (behind_expr outer here x) _ rest h.3)
 
@@ -48,15 +49,16 @@ brackets_in_line k.ForStmt h = no_such h
 brackets_in_line k.Suite h = no_such h
 brackets_in_line _ h = refl
 
--- what a proper form says of its row; of its head, its items and its end comments
-abbrev pub AsRow : Kind → Spot → {m n : _} → Row_of-Expr m → Row_of-Expr n → List Bytes → Bool → Bool → Type 0
-AsRow kind here parts items end_ split open_ = ProperRow (is_binary kind) here here parts × IsEmptyRow items × (end_ ≡ []) × (split ≡ false) × (open_ ≡ true → is_comprehension kind ≡ true)
+-- what a form that is proper by a grammar says of its row; of its head, its items and its end comments
+module _ (grammar : Kind → Shape) where
+  abbrev pub AsRow : Kind → Spot → {m n : _} → Row_of-Expr m → Row_of-Expr n → List Bytes → Bool → Bool → Type 0
+  AsRow kind here parts items end_ split open_ = ProperRowBy grammar (is_binary kind) here here parts × IsEmptyRow items × (end_ ≡ []) × (split ≡ false) × (open_ ≡ true → is_comprehension kind ≡ true)
 
-abbrev pub AsSequence : Spot → {m n : _} → Row_of-Expr m → Row_of-Expr n → List Bytes → Bool → Type 0
-AsSequence here parts items end_ open_ = ProperHead here parts × ProperItems items × All IsComment end_ × (open_ ≡ false)
+  abbrev pub AsSequence : Spot → {m n : _} → Row_of-Expr m → Row_of-Expr n → List Bytes → Bool → Type 0
+  AsSequence here parts items end_ open_ = ProperHeadBy grammar here parts × ProperItemsBy grammar items × All IsComment end_ × (open_ ≡ false)
 
 in_line_by : (f : Frame) (kind : Kind) (here : Spot) (m n : _) (parts : Row_of-Expr m) (items : Row_of-Expr n) (end_ : List Bytes) (split open_ : Bool) → (has_brackets f ≡ true → in_a_line kind ≡ true) →
-    Fits IsSort (shape kind) (row_in f (roots parts) (roots items)) → in_frame f (AsRow kind here parts items end_ split open_) (AsSequence here parts items end_ open_) → in_a_line kind ≡ true
+    Fits IsSort (line_shape kind) (row_in f (roots parts) (roots items)) → in_frame f (AsRow line_shape kind here parts items end_ split open_) (AsSequence line_shape here parts items end_ open_) → in_a_line kind ≡ true
 in_line_by row kind here m n parts items end_ split open_ b h i = within_line kind (roots parts) h (row_in_line (is_binary kind) here here m parts i.0)
 in_line_by (sequence opener closer) kind here m n parts items end_ split open_ b h i = b refl
 
@@ -65,13 +67,13 @@ NoLine (Token t) = Unit {0}
 NoLine (Form' kind z parts z' items end_ split open_ comments) = in_a_line kind ≡ true
 
 -- a proper form is no line and no file
-pub no_line : (here : Spot) (x : Expr) → ProperExpr here x → NoLine x
+pub no_line : (here : Spot) (x : Expr) → ProperBy line_shape here x → NoLine x
 no_line here (Token t) h = tt
 no_line here (Form' kind z parts z' items end_ split open_ comments) h = in_line_by (frame kind) kind here _ _ parts items end_ split open_ (brackets_in_line kind) h.0 h.1
 
 -- ---- where what follows stands
 
-token_goes_on : (class : Class) (text : Bytes) (outer here : Spot) → in_line_class class ≡ true → is_begins (behind_token (role class text) outer here) ≡ false
+pub token_goes_on : (class : Class) (text : Bytes) (outer here : Spot) → in_line_class class ≡ true → is_begins (behind_token (role class text) outer here) ≡ false
 token_goes_on c.Newline text outer here h = no_such h
 token_goes_on c.End text outer here h = no_such h
 token_goes_on c.Mark text outer here h = by_turn _ _ outer here
@@ -88,7 +90,7 @@ token_goes_on _ text outer Within h = refl
 token_goes_on _ text outer Begins h = refl
 token_goes_on _ text outer Along h = refl
 
-node_goes_on : (kind : Kind) (here : Spot) → in_a_line kind ≡ true → is_begins (behind_node kind here) ≡ false
+pub node_goes_on : (kind : Kind) (here : Spot) → in_a_line kind ≡ true → is_begins (behind_node kind here) ≡ false
 node_goes_on k.Line here h = no_such h
 node_goes_on k.Def here h = no_such h
 node_goes_on k.IfStmt here h = no_such h
@@ -98,12 +100,12 @@ node_goes_on _ Within h = refl
 node_goes_on _ Begins h = refl
 node_goes_on _ Along h = refl
 
-goes_on_by : (outer here : Spot) (x : Expr) → ProperExpr here x → NoLine x → is_begins (behind_expr outer here x) ≡ false
+goes_on_by : (outer here : Spot) (x : Expr) → ProperBy line_shape here x → NoLine x → is_begins (behind_expr outer here x) ≡ false
 goes_on_by outer here (Token t) h i = token_goes_on t.class t.text outer here (lexeme_in_line t.class t.text h.0)
 goes_on_by outer here (Form' kind z parts z' items end_ split open_ comments) h i = node_goes_on kind here i
 
 -- no line begins behind a proper expression
-pub goes_on : (outer here : Spot) (x : Expr) → ProperExpr here x → is_begins (behind_expr outer here x) ≡ false
+pub goes_on : (outer here : Spot) (x : Expr) → ProperBy line_shape here x → is_begins (behind_expr outer here x) ≡ false
 goes_on outer here x h = goes_on_by outer here x h (no_line here x h)
 
 word_within : (class : Class) (text : Bytes) (outer : Spot) → is_word class ≡ true → behind_token (role class text) outer Within ≡ Within
@@ -125,7 +127,7 @@ within_by outer (Token t) h i = word_within t.class t.text outer i
 within_by outer (Form' kind z parts z' items end_ split open_ comments) h i = node_within kind h
 
 -- behind a value inside brackets it goes on inside brackets
-pub value_within : (outer here : Spot) (x : Expr) → ProperExpr here x → is_value (root x) ≡ true → behind_expr outer Within x ≡ Within
+pub value_within : (outer here : Spot) (x : Expr) → ProperBy line_shape here x → is_value (root x) ≡ true → behind_expr outer Within x ≡ Within
 value_within outer here x h i = within_by outer x (no_line here x h) i
 
 opening_within : (outer here : Spot) (x : Expr) → IsOpening (root x) → behind_expr outer here x ≡ Within
@@ -146,7 +148,7 @@ breaks_by : (open_ : Bool) (outer here : Spot) (x : Child) (xs : List Child) →
 breaks_by true outer here x xs b o e n = o refl n
 breaks_by false outer here x xs b o e n = b e
 
-later_breaks : (binary open_ : Bool) (outer here : Spot) (m : _) (r : Row_of-Expr m) → ProperRow binary outer here r → (open_ ≡ true → here ≡ Within) → (open_ ≡ true → Inside (roots r)) → RowBreaks open_ outer here (parts_of r)
+later_breaks : (binary open_ : Bool) (outer here : Spot) (m : _) (r : Row_of-Expr m) → ProperRowBy line_shape binary outer here r → (open_ ≡ true → here ≡ Within) → (open_ ≡ true → Inside (roots r)) → RowBreaks open_ outer here (parts_of r)
 later_breaks binary open_ outer here m end_of-Expr h w i = tt
 later_breaks binary open_ outer here m (more_of-Expr x end_of-Expr) h w i = (breaks_by open_ outer here (x, part_of x) [] (λ e. (h.2 e).1) (λ e n. no_such (sym n)), tt)
 later_breaks binary open_ outer here m (more_of-Expr x (more_of-Expr y rest)) h w i =
@@ -156,7 +158,7 @@ later_breaks binary open_ outer here m (more_of-Expr x (more_of-Expr y rest)) h 
     )
 
 -- in an open row an opening bracket stands first
-pub row_breaks : (binary open_ : Bool) (outer here : Spot) (m : _) (r : Row_of-Expr m) → ProperRow binary outer here r → (open_ ≡ true → Opened (roots r)) → RowBreaks open_ outer here (parts_of r)
+pub row_breaks : (binary open_ : Bool) (outer here : Spot) (m : _) (r : Row_of-Expr m) → ProperRowBy line_shape binary outer here r → (open_ ≡ true → Opened (roots r)) → RowBreaks open_ outer here (parts_of r)
 row_breaks binary open_ outer here m end_of-Expr h i = tt
 row_breaks binary open_ outer here m (more_of-Expr x rest) h i =
     let inside : open_ ≡ true → behind_expr outer here x ≡ Within = λ o. opening_within outer here x (i o).0 in (

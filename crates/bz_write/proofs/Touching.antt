@@ -1,5 +1,5 @@
 -- A tree whose leaves hold lexemes, with a space or a newline where the kinds of its nodes ask for one, holds tokens.
-use Rattle.std.proofs.Common.{◌≡◌, ℕ, ◌≤◌, Bool, true, false, not, List, [], ◌∷◌, ◌++◌, ◌⊎◌, inl, inr, None, refl, sym, ap, ◌∙◌, subst, append_assoc, arith}
+use Rattle.std.proofs.Common.{◌≡◌, ℕ, ◌≤◌, Bool, true, false, not, ◌&&◌, List, [], ◌∷◌, ◌++◌, ◌⊎◌, inl, inr, None, refl, sym, ap, ◌∙◌, subst, append_assoc, arith}
 use Rattle.std.specs.Prelude.{nat_eq, nat_le}
 use Rattle.std.specs.List.{AllByRecursion, flat_map}
 use Rattle.std.proofs.lemmas.Bool.{and_parts, or_cases, cases_Bool, both_ways, not-true, eqb-true, eq-eqb, leb-true, and_from}
@@ -17,16 +17,18 @@ use Rattle.bz_tree.specs.declared.tree.Part.{Part, Row_of-Part, end_of-Part, mor
 use Rattle.bz_tree.specs.declared.tree.Part.TheVariants as p
 use Rattle.bz_tree.specs.Spell.{leaves_part, leaves_row, depth_part}
 use Rattle.bz_tree.specs.Shapes as s
-use Rattle.bz_tree.specs.Shapes.{Sort, Terminal, Shape, Fits, shape, has_token, is_one_of, is_terminal}
-use Rattle.bz_tree.specs.Legal.{IsSort, LegalPart, LegalRow}
+use Rattle.bz_tree.specs.Shapes.{Sort, Terminal, Shape, Fits, has_token, is_one_of, is_terminal}
+use Rattle.bz_tree.specs.Legal.{IsSort}
 use Rattle.bz_tree.specs.Reading.{starts, starts_with}
 use Rattle.bz_tree.proofs.Levels.{begins}
-use Rattle.bz_tree.proofs.Build.{wide_part}
-use Rattle.bz_tree.proofs.Balance.{same_class, no_such}
-use Rattle.bz_write.specs.Spaces.{from_table, brackets_and_separators, lone, dotted, apart, is_number, is_number_leaf}
-use Rattle.bz_write.proofs.Neighbours.{Element, T, S, Is, Pair, Final, Links, links, all_in, fronts, prefixed, well, well_text, named, spaced, is_primary, safe, neighbours, is_primary_kind, no_number, finals, in_a_line, all_pass}
+use Rattle.bz_tree.proofs.Balance.{no_such}
+use Rattle.bz_value.specs.LineShapes.{line_shape}
+use Rattle.bz_value.proofs.LegalBy.{LegalBy, each_legal, as_bzl}
+use Rattle.bz_write.specs.Spaces.{brackets_and_separators, lone, dotted, apart, is_number, is_number_leaf}
+use Rattle.bz_write.proofs.Neighbours.{Element, T, S, Is, Pair, Final, Links, passes, links, all_in, fronts, prefixed, well_text, named, spaced, is_primary, safe, neighbours, is_primary_kind, finals, in_a_line, all_pass}
 use Rattle.bz_write.proofs.Spacing.{spaced_apart}
-use Rattle.bz_write.proofs.Stops.{is_stop, stop_before, dot_before, lone_before, front_before, dot_before_name, is_mark_class, begins_well}
+use Rattle.bz_write.proofs.Terminals.{table_leaf, well_leaf, named_leaf, plain_leaf}
+use Rattle.bz_write.proofs.Stops.{is_stop, stop_before, dot_before, lone_before, front_before, dot_before_name}
 
 -- ---- tokens of leaves before a text
 
@@ -45,7 +47,7 @@ IsLex l = IsLexeme l.class l.token
 abbrev pub Lexed : List Leaf → Type 0
 Lexed ls = AllByRecursion IsLex ls
 
-lexed_parts : (a b : List Leaf) → Lexed (a ++ b) → Lexed a × Lexed b
+pub lexed_parts : (a b : List Leaf) → Lexed (a ++ b) → Lexed a × Lexed b
 lexed_parts [] b h = (tt, h)
 lexed_parts (l ∷ a) b h = let w = lexed_parts a b h.1 in ((h.0, w.0), w.1)
 
@@ -102,65 +104,6 @@ abbrev mutual
   AiryRow end_of-Part = Unit {0}
   AiryRow (more_of-Part x rest) = Airy x × AiryRow rest
 
--- ---- leaves of terminals
-
-table_terminal : (us : List (List ℕ)) (t : Terminal) (l : Leaf) → from_table us t ≡ true → is_terminal t l ≡ true → (l.class ≡ c.Mark) × (in_table l.token us ≡ true)
-table_terminal us (s.this c.Mark t) l h i =
-    let w = and_parts _ _ i in
-    (same_class l.class c.Mark w.0, subst (λ z. in_table z us ≡ true) (sym ((bytes_eq-Decides l.token t).0 w.1)) h)
-table_terminal us (s.this _ t) l h i = no_such h
-table_terminal us (s.any class) l h i = no_such h
-
-table_leaf : (us : List (List ℕ)) (ts : List Terminal) (l : Leaf) → all_in (from_table us) ts ≡ true → is_one_of ts l ≡ true → (l.class ≡ c.Mark) × (in_table l.token us ≡ true)
-table_leaf us [] l h i = no_such i
-table_leaf us (t ∷ ts) l h i =
-    let w = and_parts (from_table us t) _ h in
-    elim (or_cases (is_terminal t l) (is_one_of ts l) i) [ inl e ↦ table_terminal us t l w.0 e | inr e ↦ table_leaf us ts l w.1 e ]
-
-well_class : (class : Class) (l : Leaf) → well (s.any class) ≡ true → l.class ≡ class → IsLex l → well_text l.token ≡ true
-well_class c.Name l h e i = begins_well l.class l.token i (ap is_mark_class e)
-well_class c.Number l h e i = begins_well l.class l.token i (ap is_mark_class e)
-well_class c.String l h e i = begins_well l.class l.token i (ap is_mark_class e)
-well_class _ l h e i = no_such h
-
-well_terminal : (t : Terminal) (l : Leaf) → well t ≡ true → is_terminal t l ≡ true → IsLex l → well_text l.token ≡ true
-well_terminal (s.any class) l h i x = well_class class l h (same_class l.class class i) x
-well_terminal (s.this class t) l h i x = subst (λ z. well_text z ≡ true) (sym ((bytes_eq-Decides l.token t).0 (and_parts _ _ i).1)) h
-
-well_leaf : (ts : List Terminal) (l : Leaf) → all_in well ts ≡ true → is_one_of ts l ≡ true → IsLex l → well_text l.token ≡ true
-well_leaf [] l h i x = no_such i
-well_leaf (t ∷ ts) l h i x =
-    let w = and_parts (well t) _ h in
-    elim (or_cases (is_terminal t l) (is_one_of ts l) i) [ inl e ↦ well_terminal t l w.0 e x | inr e ↦ well_leaf ts l w.1 e x ]
-
-named_leaf : (us : List Terminal) (l : Leaf) → all_in named us ≡ true → is_one_of us l ≡ true → l.class ≡ c.Name
-named_leaf [] l h i = no_such i
-named_leaf (t ∷ us) l h i =
-    let w = and_parts (named t) _ h in
-    elim (or_cases (is_terminal t l) (is_one_of us l) i) [ inl e ↦ of_name t l w.0 e | inr e ↦ named_leaf us l w.1 e ]
-  where
-    of_name : (t : Terminal) (l : Leaf) → named t ≡ true → is_terminal t l ≡ true → l.class ≡ c.Name
-    of_name (s.any c.Name) l h i = same_class l.class c.Name i
-    of_name _ l h i = no_such h
-
-plain_class : (class : Class) (l : Leaf) → no_number (s.any class) ≡ true → l.class ≡ class → is_number l.class ≡ false
-plain_class c.Number l h e = no_such h
-plain_class _ l h e = ap is_number e
-
-plain_this : (class : Class) (t : List ℕ) (l : Leaf) → no_number (s.this class t) ≡ true → l.class ≡ class → is_number l.class ≡ false
-plain_this c.Number t l h e = no_such h
-plain_this _ t l h e = ap is_number e
-
-plain_terminal : (t : Terminal) (l : Leaf) → no_number t ≡ true → is_terminal t l ≡ true → is_number l.class ≡ false
-plain_terminal (s.any class) l h i = plain_class class l h (same_class l.class class i)
-plain_terminal (s.this class t) l h i = plain_this class t l h (same_class l.class class (and_parts _ _ i).0)
-
-plain_leaf : (us : List Terminal) (l : Leaf) → all_in no_number us ≡ true → is_one_of us l ≡ true → is_number l.class ≡ false
-plain_leaf [] l h i = no_such i
-plain_leaf (t ∷ us) l h i =
-    let w = and_parts (no_number t) _ h in
-    elim (or_cases (is_terminal t l) (is_one_of us l) i) [ inl e ↦ plain_terminal t l w.0 e | inr e ↦ plain_leaf us l w.1 e ]
-
 -- ---- the text behind a part
 
 abbrev Text : Leaf → List ℕ → List ℕ → List ℕ
@@ -192,7 +135,7 @@ dot_text t h = elim (or_cases _ _ h) [ inl e ↦ (bytes_eq-Decides t (46 ∷ [])
 -- ---- one part and the next
 
 abbrev pub Will : Part → Type 0
-Will x = LegalPart x → Lexed (leaves_part x) → Airy x → (rest : List ℕ) → Follows x rest → Toks (leaves_part x) rest
+Will x = LegalBy line_shape x → Lexed (leaves_part x) → Airy x → (rest : List ℕ) → Follows x rest → Toks (leaves_part x) rest
 
 -- a part that may end with a dot behind it
 primary_plain : (a : Sort) (x : Part) → is_primary a ≡ true → IsSort a x → is_number_leaf x ≡ false → ends_plain x ≡ true
@@ -206,23 +149,35 @@ primary_plain (s.level n) (Node' kind z r) h i o =
 primary_plain _ x h i o = no_such h
 
 -- the first leaf of a part is one with which its sort begins
-first_leaf : (a : Sort) (y : Part) (l : Leaf) (ls : List Leaf) → leaves_part y ≡ l ∷ ls → IsSort a y → LegalPart y → is_one_of (starts a) l ≡ true
-first_leaf a y l ls e i g = subst (λ z. starts_with (starts a) (z ++ []) ≡ true) e (begins (depth_part y) a y [] (i, (wide_part y g).0, omega arith))
+first_leaf : (a : Sort) (y : Part) (l : Leaf) (ls : List Leaf) → leaves_part y ≡ l ∷ ls → IsSort a y → LegalBy line_shape y → is_one_of (starts a) l ≡ true
+first_leaf a y l ls e i g = subst (λ z. starts_with (starts a) (z ++ []) ≡ true) e (begins (depth_part y) a y [] (i, as_bzl y g, omega arith))
 
 well_front : (t l more rest : List ℕ) → in_table t fronts ≡ true → well_text l ≡ true → IsToken c.Mark t ((l ++ more) ++ rest)
 well_front t [] more rest h i = no_such i
 well_front t (b ∷ l) more rest h i = front_before t ((l ++ more) ++ rest) b h i
 
+-- a sign or a star right before such a text
+before_well : (ts : List Terminal) (leaf l : Leaf) → all_in prefixed ts ≡ true → is_one_of ts leaf ≡ true → l.gap ≡ [] → well_text l.token ≡ true → (more rest : List ℕ) → IsToken leaf.class leaf.token (Text l more rest)
+before_well ts leaf l h i n w more rest =
+    let t = table_leaf fronts ts leaf h i in
+    subst (λ z. IsToken z leaf.token (Text l more rest)) (sym t.0) (bare_token c.Mark leaf.token l more rest n (well_front leaf.token l.token more rest t.1 w))
+
+-- a dot right before a name
+before_name : (ts : List Terminal) (leaf l : Leaf) → all_in dotted ts ≡ true → is_one_of ts leaf ≡ true → l.gap ≡ [] → IsLexeme c.Name l.token → (more rest : List ℕ) → IsToken leaf.class leaf.token (Text l more rest)
+before_name ts leaf l h i n lex more rest =
+    let t = table_leaf ((46 ∷ []) ∷ []) ts leaf h i in
+    subst (λ z. IsToken z leaf.token (Text l more rest)) (sym t.0)
+    (bare_token c.Mark leaf.token l more rest n
+    (subst (λ z. IsToken c.Mark z ((l.token ++ more) ++ rest)) (sym (dot_text leaf.token t.1))
+    (subst (λ z. IsToken c.Mark (46 ∷ []) z) (sym (append_assoc l.token more rest)) (dot_before_name l.token (more ++ rest) lex))))
+
 -- a mark or a word in front of a part
-behind_token : (kind : Kind) (ts : List Terminal) (leaf : Leaf) (y : Part) (b : Element) → is_one_of ts leaf ≡ true → Is b y → safe (T ts) b ≡ true → LegalPart y → IsLex leaf →
+behind_token : (kind : Kind) (ts : List Terminal) (leaf : Leaf) (y : Part) (b : Element) → is_one_of ts leaf ≡ true → Is b y → safe (T ts) b ≡ true → LegalBy line_shape y → IsLex leaf →
     (l : Leaf) (ls : List Leaf) → leaves_part y ≡ l ∷ ls → l.gap ≡ [] → IsLex l → (more rest : List ℕ) → IsToken leaf.class leaf.token (Text l more rest)
 behind_token kind ts leaf y (S a) i j o g x l ls e n w more rest =
     elim (or_cases (all_in lone ts) _ o) [
       | inl f ↦ let t = table_leaf brackets_and_separators ts leaf f i in subst (λ z. IsToken z leaf.token (Text l more rest)) (sym t.0) (lone_before leaf.token (Text l more rest) t.1)
-      | inr f ↦ let v = and_parts (all_in prefixed ts) _ f in
-          let t = table_leaf fronts ts leaf v.0 i in
-          subst (λ z. IsToken z leaf.token (Text l more rest)) (sym t.0)
-          (bare_token c.Mark leaf.token l more rest n (well_front leaf.token l.token more rest t.1 (well_leaf (starts a) l v.1 (first_leaf a y l ls e j g) w)))
+      | inr f ↦ let v = and_parts (all_in prefixed ts) _ f in before_well ts leaf l v.0 i n (well_leaf (starts a) l v.1 (first_leaf a y l ls e j g) w) more rest
     ]
 behind_token kind ts leaf (Node' _ z r) (T us) i j o g x l ls e n w more rest = no_such j
 behind_token kind ts leaf (p.Leaf m) (T us) i j o g x l ls e n w more rest =
@@ -234,14 +189,14 @@ behind_token kind ts leaf (p.Leaf m) (T us) i j o g x l ls e n w more rest =
       | inr f ↦
           elim (or_cases (all_in lone ts) _ f) [
             | inl d ↦ let t = table_leaf brackets_and_separators ts leaf d i in subst (λ z. IsToken z leaf.token (Text l more rest)) (sym t.0) (lone_before leaf.token (Text l more rest) t.1)
-            | inr d ↦ let v = and_parts (all_in dotted ts) _ d in
-                let t = table_leaf ((46 ∷ []) ∷ []) ts leaf v.0 i in
-                let name : l.class ≡ c.Name = subst (λ z. z.class ≡ c.Name) same (named_leaf us m v.1 j) in
-                let lex : IsLexeme c.Name l.token = subst (λ z. IsLexeme z l.token) name w in
-                subst (λ z. IsToken z leaf.token (Text l more rest)) (sym t.0)
-                (bare_token c.Mark leaf.token l more rest n
-                (subst (λ z. IsToken c.Mark z ((l.token ++ more) ++ rest)) (sym (dot_text leaf.token t.1))
-                (subst (λ z. IsToken c.Mark (46 ∷ []) z) (sym (append_assoc l.token more rest)) (dot_before_name l.token (more ++ rest) lex))))
+            | inr d ↦
+                elim (or_cases (all_in dotted ts && all_in named us) _ d) [
+                  | inl q ↦ let v = and_parts (all_in dotted ts) _ q in
+                      let name : l.class ≡ c.Name = subst (λ z. z.class ≡ c.Name) same (named_leaf us m v.1 j) in
+                      before_name ts leaf l v.0 i n (subst (λ z. IsLexeme z l.token) name w) more rest
+                  | inr q ↦ let v = and_parts (all_in prefixed ts) _ q in
+                      before_well ts leaf l v.0 i n (well_leaf us l v.1 (subst (λ z. is_one_of us z ≡ true) same j) w) more rest
+                ]
           ]
     ]
   where
@@ -259,7 +214,7 @@ behind_token kind ts leaf (p.Leaf m) (T us) i j o g x l ls e n w more rest =
 is_dot : (m : Leaf) → m.class ≡ c.Mark → m.token ≡ 46 ∷ [] → has_token s.dot (p.Leaf m) ≡ true
 is_dot m e i = rw (e, i) refl
 
-touching : (kind : Kind) (x y : Part) (a b : Element) → Is a x → Is b y → safe a b ≡ true → LegalPart y → Lexed (leaves_part x) → (NumberDot x y → ⊥) → ((rest : List ℕ) → Follows x rest → Toks (leaves_part x) rest) →
+touching : (kind : Kind) (x y : Part) (a b : Element) → Is a x → Is b y → safe a b ≡ true → LegalBy line_shape y → Lexed (leaves_part x) → (NumberDot x y → ⊥) → ((rest : List ℕ) → Follows x rest → Toks (leaves_part x) rest) →
     (l : Leaf) (ls : List Leaf) → leaves_part y ≡ l ∷ ls → l.gap ≡ [] → IsLex l → (more rest : List ℕ) → Toks (leaves_part x) (Text l more rest)
 touching kind x y (S a) (S b) i j o g h d w l ls e n u more rest = no_such o
 touching kind x (Node' _ z r) (S a) (T us) i j o g h d w l ls e n u more rest = no_such j
@@ -280,7 +235,7 @@ touching kind x (p.Leaf m) (S a) (T us) i j o g h d w l ls e n u more rest =
 touching kind (Node' _ z r) y (T ts) b i j o g h d w l ls e n u more rest = no_such i
 touching kind (p.Leaf leaf) y (T ts) b i j o g h d w l ls e n u more rest = (behind_token kind ts leaf y b i j o g h.0 l ls e n u more rest, tt)
 
-pair : (kind : Kind) (x y : Part) → Pair (neighbours kind) (finals kind) x y → LegalPart y → Lexed (leaves_part x) → Lexed (leaves_part y) → ((rest : List ℕ) → Follows x rest → Toks (leaves_part x) rest) →
+pair : (kind : Kind) (x y : Part) → Pair (neighbours kind) (finals kind) x y → LegalBy line_shape y → Lexed (leaves_part x) → Lexed (leaves_part y) → ((rest : List ℕ) → Follows x rest → Toks (leaves_part x) rest) →
     (ls : List Leaf) → leaves_part y ≡ ls → (OpensAt ls ⊎ (BareAt ls × (apart kind x y ≡ false) × (NumberDot x y → ⊥))) → (more : List Leaf) (rest : List ℕ) → Toks (leaves_part x) (spell_leaves (ls ++ more) ++ rest)
 pair kind x y t g h i w [] e (inl f) more rest = absurd f
 pair kind x y t g h i w [] e (inr f) more rest = absurd f.0
@@ -300,13 +255,13 @@ final_follows kind x (S a, i, o) (b ∷ rest) (inr f) = absurd (both_ways (is_pr
 
 -- ---- rows and parts
 
-abbrev Legals : List Part → Type 0
-Legals xs = AllByRecursion LegalPart xs
+abbrev pub Legals : List Part → Type 0
+Legals xs = AllByRecursion (LegalBy line_shape) xs
 
-abbrev Wills : List Part → Type 0
+abbrev pub Wills : List Part → Type 0
 Wills xs = AllByRecursion Will xs
 
-abbrev Airys : List Part → Type 0
+abbrev pub Airys : List Part → Type 0
 Airys xs = AllByRecursion Airy xs
 
 row_toks : (kind : Kind) (x : Part) (xs : List Part) → Links (neighbours kind) (finals kind) x xs → Between kind x xs → Wills (x ∷ xs) → Legals (x ∷ xs) → Lexed (flat_map leaves_part (x ∷ xs)) → Airys (x ∷ xs) →
@@ -321,17 +276,15 @@ row_toks kind x (y ∷ ys) t d w g h a rest f =
     (pair kind x y t.0 g.1.0 lex.0 lex'.0 (w.0 g.0 lex.0 a.0) (leaves_part y) refl d.0 (flat_map leaves_part ys) rest)
     (row_toks kind y ys t.1 d.1 w.1 g.1 lex.1 a.1 rest f)
 
-some_row : (kind : Kind) → in_a_line kind ≡ true → (xs : List Part) → Fits IsSort (shape kind) xs → Apart kind xs → Wills xs → Legals xs → Lexed (flat_map leaves_part xs) → Airys xs → (rest : List ℕ) → FollowsAs (is_primary_kind kind) rest → Toks (flat_map leaves_part xs) rest
-some_row kind o [] t d w g h a rest f = tt
-some_row kind o (x ∷ xs) t d w g h a rest f = row_toks kind x xs (links (neighbours kind) (finals kind) (shape kind) None x tt (all_pass kind o) (x ∷ xs) t) d w g h a rest f
+-- a row that fits a shape whose neighbours and last part pass
+some_row : (kind : Kind) (r : Shape) → passes (neighbours kind) (finals kind) None r ≡ true → (xs : List Part) → Fits IsSort r xs → Apart kind xs → Wills xs → Legals xs → Lexed (flat_map leaves_part xs) → Airys xs →
+    (rest : List ℕ) → FollowsAs (is_primary_kind kind) rest → Toks (flat_map leaves_part xs) rest
+some_row kind r o [] t d w g h a rest f = tt
+some_row kind r o (x ∷ xs) t d w g h a rest f = row_toks kind x xs (links (neighbours kind) (finals kind) r None x tt o (x ∷ xs) t) d w g h a rest f
 
 leaves_rows : (m : _) (r : Row_of-Part m) → leaves_row r ≡ flat_map leaves_part (items-the_row-Part m r)
 leaves_rows m end_of-Part = refl
 leaves_rows m (more_of-Part x rest) = ap (λ t. leaves_part x ++ t) (leaves_rows _ rest)
-
-legal_row : (m : _) (r : Row_of-Part m) → LegalRow r → Legals (items-the_row-Part m r)
-legal_row m end_of-Part h = tt
-legal_row m (more_of-Part x rest) h = (h.0, legal_row _ rest h.1)
 
 airy_row : (m : _) (r : Row_of-Part m) → AiryRow r → Airys (items-the_row-Part m r)
 airy_row m end_of-Part h = tt
@@ -348,8 +301,17 @@ mutual
   tokens (Node' kind z r) g h a rest f =
       let e = leaves_rows _ r in
       subst (λ ls. Toks ls rest) (sym e)
-      (some_row kind a.0 (items-the_row-Part _ r) g.0 a.1 (token_rows _ r) (legal_row _ r g.1) (subst Lexed e h) (airy_row _ r a.2) rest f)
+      (some_row kind (line_shape kind) (all_pass kind a.0) (items-the_row-Part _ r) g.0 a.1 (token_rows _ r) (each_legal line_shape _ r g.1) (subst Lexed e h) (airy_row _ r a.2) rest f)
 
   token_rows : (m : _) (r : Row_of-Part m) → Wills (items-the_row-Part m r)
   token_rows m end_of-Part = tt
   token_rows m (more_of-Part x rest) = (tokens x, token_rows _ rest)
+
+-- so do the parts of a row that fits such a shape: of a header, say
+pub row_tokens : (kind : Kind) (r : Shape) → passes (neighbours kind) (finals kind) None r ≡ true → (xs : List Part) → Fits IsSort r xs → Apart kind xs → Legals xs → Lexed (flat_map leaves_part xs) → Airys xs →
+    (rest : List ℕ) → FollowsAs (is_primary_kind kind) rest → Toks (flat_map leaves_part xs) rest
+row_tokens kind r o xs t d g h a rest f = some_row kind r o xs t d (all_will xs) g h a rest f
+  where
+    all_will : (xs : List Part) → Wills xs
+    all_will [] = tt
+    all_will (x ∷ xs) = (tokens x, all_will xs)

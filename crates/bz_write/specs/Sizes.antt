@@ -1,5 +1,5 @@
 -- How many bytes the layout's text has, without writing it, as the private functions that measure it state them.
-use Rattle.std.specs.Prelude.{ℕ, Bool, true, false, ◌&&◌, List, [], ◌∷◌, ◌+◌, length, nat_eq, if◌then◌else◌}
+use Rattle.std.specs.Prelude.{ℕ, Bool, false, ◌&&◌, List, [], ◌∷◌, ◌+◌, length, nat_eq, if◌then◌else◌}
 use Rattle.bz_tree.specs.declared.kind.Kind.{Kind}
 use Rattle.bz_value.specs.declared.value.Expr.{Expr}
 use Rattle.bz_value.specs.declared.value.Form.{Form}

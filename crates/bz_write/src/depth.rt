@@ -31,7 +31,7 @@ fn is_inside_within(form: &Form, depth: usize) -> bool
 /// Whether what is drawn of each of the expressions has at most this depth.
 #[cycle(within)]
 #[tactic(auto, using(crate::proofs::Deep::deepest_next))]
-fn are_within(exprs: &[Expr], depth: usize) -> bool
+pub fn are_within(exprs: &[Expr], depth: usize) -> bool
     ensures { IsTrue result ↔ (deepest_of exprs.now ≤ depth) }
 {
     for expr in exprs {

@@ -21,6 +21,7 @@ mod taken;
 mod texts;
 
 pub use breaks::is_broken;
+pub use depth::{are_within, is_within};
 pub use gaps::{deeper, push_behind, push_comments};
 pub use laws::{
     flags_keep_layout, layout_is_accepted, layout_reads_back, redrawn_has_length, worked_rows,

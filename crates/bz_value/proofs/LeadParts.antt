@@ -6,17 +6,18 @@ use Rattle.bz_tree.specs.declared.kind.Kind.{Kind}
 use Rattle.bz_tree.specs.declared.kind.Kind.TheVariants as k
 use Rattle.bz_tree.specs.declared.tree.Part.{Part}
 use Rattle.bz_tree.specs.Shapes as s
-use Rattle.bz_tree.specs.Shapes.{Sort, Terminal, Shape, Fits, Listed, Behind, Several, shape, has_token, has_sort}
+use Rattle.bz_tree.specs.Shapes.{Sort, Terminal, Shape, Fits, Listed, Behind, Several, has_token, has_sort}
 use Rattle.bz_tree.specs.Legal.{IsSort}
 use Rattle.bz_value.specs.Frames.{frame, lead}
+use Rattle.bz_value.specs.LineShapes.{line_shape}
 use Rattle.bz_value.specs.Proper.{in_frame}
 use Rattle.bz_value.specs.Roots.{mark, row_in}
 
-abbrev lacks_mark : ℕ → List Terminal → Bool
+abbrev pub lacks_mark : ℕ → List Terminal → Bool
 lacks_mark o terminals = not (has_token terminals (mark o))
 
 -- no token of the shape is this mark
-abbrev lacks : ℕ → Shape → Bool
+abbrev pub lacks : ℕ → Shape → Bool
 lacks o s.none = true
 lacks o s.done = true
 lacks o (s.tok terminals then_) = lacks_mark o terminals && lacks o then_
@@ -40,7 +41,7 @@ no_sort sort o h = true≢false (sym h ∙ mark_sort sort o)
 
 module _ (o : ℕ) (ys : List Part) where
   -- what K holds of has the mark nowhere
-  abbrev Free : (List Part → Type 0) → Type 0
+  abbrev pub Free : (List Part → Type 0) → Type 0
   Free K = (xs : List Part) → K (xs ++ (mark o ∷ ys)) → ⊥
 
   mutual
@@ -61,7 +62,7 @@ module _ (o : ℕ) (ys : List Part) where
   several_free sort K f (x ∷ xs) (inl h) = f (x ∷ xs) h
   several_free sort K f (x ∷ xs) (inr h) = several_free sort K f xs h.1
 
-  fits_free : (shape : Shape) → lacks o shape ≡ true → Free (Fits IsSort shape)
+  pub fits_free : (shape : Shape) → lacks o shape ≡ true → Free (Fits IsSort shape)
   fits_free s.none n xs h = h
   fits_free s.done n [] h = h
   fits_free s.done n (x ∷ xs) h = h
@@ -90,7 +91,7 @@ module _ (o : ℕ) (ys : List Part) where
   word_before word terminals then_ w n [] h = absurd (no_token _ w h.0)
   word_before word terminals then_ w n (x ∷ xs) h = ap suc (none_before terminals then_ n xs h.1)
 
-pub lead_before : (kind : Kind) (xs ys : List Part) → Fits IsSort (shape kind) (row_in (frame kind) xs ys) → in_frame (frame kind) (Unit {0}) (length xs ≡ lead kind)
+pub lead_before : (kind : Kind) (xs ys : List Part) → Fits IsSort (line_shape kind) (row_in (frame kind) xs ys) → in_frame (frame kind) (Unit {0}) (length xs ≡ lead kind)
 lead_before k.Call xs ys h = one_before 40 _ s.primary s.open_round (s.items s.argument s.close_round) refl xs h
 lead_before k.Load xs ys h = word_before 40 _ (s.keyword (codes "load")) s.open_round (s.tok s.string (s.alt (s.tok s.close_round s.done) (s.tok s.comma (s.items s.loaded s.close_round)))) refl refl xs h
 lead_before k.Tuple xs ys h = none_before 40 _ s.open_round (s.alt (s.tok s.close_round s.done) (s.sub s.test (s.tok s.comma (s.items s.test s.close_round)))) refl xs h

@@ -1,0 +1,84 @@
+-- Parts that are legal by a grammar: every node has the shape that the grammar gives its kind.
+use Rattle.std.proofs.Common.{List, sym, subst}
+use Rattle.std.specs.List.{AllByRecursion}
+use Rattle.bz_tree.specs.declared.kind.Kind.{Kind}
+use Rattle.bz_tree.specs.declared.kind.Kind.TheVariants as k
+use Rattle.bz_tree.specs.declared.tree.Node.{Node}
+use Rattle.bz_tree.specs.declared.tree.Part.{Part, Row_of-Part, end_of-Part, more_of-Part, Node', items-the_row-Part}
+use Rattle.bz_tree.specs.declared.tree.Part.TheVariants as p
+use Rattle.bz_tree.specs.Shapes.{Shape, Fits, shape, bzl_shape}
+use Rattle.bz_tree.specs.Legal.{IsSort, LegalPart, LegalRow, LegalBzlPart, LegalBzlRow}
+use Rattle.bz_tree.proofs.Nested.{row_of, items_of_row}
+use Rattle.bz_value.specs.LineShapes.{line_shape}
+use Rattle.bz_value.proofs.Wider.{IsWider}
+
+module _ (grammar : Kind → Shape) where
+  abbrev mutual
+    pub LegalBy : Part → Type 0
+    LegalBy (p.Leaf l) = Unit {0}
+    LegalBy (Node' kind size row) = Fits IsSort (grammar kind) (items-the_row-Part _ row) × LegalRowBy row
+
+    pub LegalRowBy : {m : _} → Row_of-Part m → Type 0
+    LegalRowBy end_of-Part = Unit {0}
+    LegalRowBy (more_of-Part x rest) = LegalBy x × LegalRowBy rest
+
+  pub row_legal : (m : _) (r : Row_of-Part m) → AllByRecursion LegalBy (items-the_row-Part m r) → LegalRowBy r
+  row_legal m end_of-Part h = tt
+  row_legal m (more_of-Part x rest) h = (h.0, row_legal _ rest h.1)
+
+  pub each_legal : (m : _) (r : Row_of-Part m) → LegalRowBy r → AllByRecursion LegalBy (items-the_row-Part m r)
+  each_legal m end_of-Part h = tt
+  each_legal m (more_of-Part x rest) h = (h.0, each_legal _ rest h.1)
+
+  -- a node by its list of parts
+  pub node_legal : (n : Node) → Fits IsSort (grammar n.kind) n.parts → AllByRecursion LegalBy n.parts → LegalBy (p.Node n)
+  node_legal n h i =
+      (subst (Fits IsSort (grammar n.kind)) (sym (items_of_row n)) h, row_legal _ (row_of n).1 (subst (AllByRecursion LegalBy) (sym (items_of_row n)) i))
+
+module _ (narrow wide : Kind → Shape) (wider : IsWider narrow wide) where
+  mutual
+    pub wider_part : (x : Part) → LegalBy narrow x → LegalBy wide x
+    wider_part (p.Leaf l) h = tt
+    wider_part (Node' kind size row) h = (wider kind _ h.0, wider_parts _ row h.1)
+
+    wider_parts : (m : _) (r : Row_of-Part m) → LegalRowBy narrow r → LegalRowBy wide r
+    wider_parts m end_of-Part h = tt
+    wider_parts m (more_of-Part x rest) h = (wider_part x h.0, wider_parts _ rest h.1)
+
+-- ---- BUILD files
+
+mutual
+  pub as_build : (x : Part) → LegalBy shape x → LegalPart x
+  as_build (p.Leaf l) h = tt
+  as_build (Node' kind size row) h = (h.0, as_build_row _ row h.1)
+
+  as_build_row : (m : _) (r : Row_of-Part m) → LegalRowBy shape r → LegalRow r
+  as_build_row m end_of-Part h = tt
+  as_build_row m (more_of-Part x rest) h = (as_build x h.0, as_build_row _ rest h.1)
+
+mutual
+  pub of_build : (x : Part) → LegalPart x → LegalBy shape x
+  of_build (p.Leaf l) h = tt
+  of_build (Node' kind size row) h = (h.0, of_build_row _ row h.1)
+
+  of_build_row : (m : _) (r : Row_of-Part m) → LegalRow r → LegalRowBy shape r
+  of_build_row m end_of-Part h = tt
+  of_build_row m (more_of-Part x rest) h = (of_build x h.0, of_build_row _ rest h.1)
+
+-- ---- .bzl files
+
+bzl_wider : (kind : Kind) (xs : List Part) → Fits IsSort (line_shape kind) xs → Fits IsSort (bzl_shape kind) xs
+bzl_wider k.Def xs h = absurd h
+bzl_wider k.IfStmt xs h = absurd h
+bzl_wider k.ForStmt xs h = absurd h
+bzl_wider k.Suite xs h = absurd h
+bzl_wider _ xs h = h
+
+mutual
+  pub as_bzl : (x : Part) → LegalBy line_shape x → LegalBzlPart x
+  as_bzl (p.Leaf l) h = tt
+  as_bzl (Node' kind size row) h = (bzl_wider kind _ h.0, as_bzl_row _ row h.1)
+
+  as_bzl_row : (m : _) (r : Row_of-Part m) → LegalRowBy line_shape r → LegalBzlRow r
+  as_bzl_row m end_of-Part h = tt
+  as_bzl_row m (more_of-Part x rest) h = (as_bzl x h.0, as_bzl_row _ rest h.1)
