@@ -26,8 +26,8 @@ use Rattle.bz_view.proofs.QuietGaps.{Silent}
 use Rattle.bz_view.proofs.SeenParts.{all_parted}
 use Rattle.bz_view.proofs.Sums.{gap_amount, part_amount}
 use Rattle.bz_suite.specs.View.{Stated, stated, branches, with_suite, head, def_head, row_head, lines_before, comments_of}
-use Rattle.bz_suite.proofs.KeptGaps.{NoColon, token_plain, colon_is}
-use Rattle.bz_suite.proofs.KeptHeads.{Headed, Any, None_before, Named, colon_headed, test_headed, for_headed, def_headed}
+use Rattle.bz_suite.proofs.KeptGaps.{colon_is}
+use Rattle.bz_suite.proofs.HeadParts.{Headed, InHeader, None_before, Named, FitsHeader, token_in, colon_headed, test_headed, for_headed, def_headed}
 use Rattle.bz_suite.proofs.KeptValues.{stated_amount, branch_amount, lines_amount, indented_amount}
 use Rattle.bz_suite.proofs.Parts.{part_of}
 
@@ -36,11 +36,11 @@ Lines = List IndentedGapLine
 
 -- ---- the parts of a header, up to its colon
 
-skipped : (kind : Kind) (ps : List Seen) (above : List Bytes) (left : Lines) (hs : List Part) (ys : List Stated) (after : Lines) → AllByRecursion NoColon hs
+skipped : (kind : Kind) (ps : List Seen) (above : List Bytes) (left : Lines) (hs : List Part) (ys : List Stated) (after : Lines) → AllByRecursion InHeader hs
     → branches kind ps above left (map stated hs ++ ys) after ≡ branches kind (ps ++ map seen hs) above left ys after
 skipped kind ps above left [] ys after h = ap (λ t. branches kind t above left ys after) (sym (append-nil ps))
 skipped kind ps above left (x ∷ hs) ys after h =
-    cond-false (stated x).is_colon _ _ h.0
+    cond-false (stated x).is_colon _ _ h.0.0
     ∙ (skipped kind (ps ++ (stated x).part ∷ []) above left hs ys after h.1
     ∙ ap (λ t. branches kind t above left ys after) (append_assoc ps ((stated x).part ∷ []) (map seen hs) ∙ ap (λ t. ps ++ t ∷ map seen hs) (part_of x)))
 
@@ -48,12 +48,29 @@ at_colon : (kind : Kind) (ps : List Seen) (above : List Bytes) (left : Lines) (m
     → branches kind ps above left (mark ∷ ys) after ≡ with_suite kind ps above left ys after
 at_colon kind ps above left mark ys after h = cond-true mark.is_colon _ _ h
 
-header_ends : (kind : Kind) (above : List Bytes) (left : Lines) (hs : List Part) (mark own : Part) (back : List Part) (after : Lines) → AllByRecursion NoColon hs → (stated mark).is_colon ≡ true
+pub header_ends : (kind : Kind) (above : List Bytes) (left : Lines) (hs : List Part) (mark own : Part) (back : List Part) (after : Lines) → AllByRecursion InHeader hs → (stated mark).is_colon ≡ true
     → branches kind [] above left (map stated (hs ++ mark ∷ own ∷ back)) after ≡ with_suite kind (map seen hs) above left (stated own ∷ map stated back) after
 header_ends kind above left hs mark own back after h i =
     ap (λ t. branches kind [] above left t after) (map-append stated hs (mark ∷ own ∷ back))
     ∙ (skipped kind [] above left hs (stated mark ∷ stated own ∷ map stated back) after h
     ∙ at_colon kind (map seen hs) above left (stated mark) (stated own ∷ map stated back) after i)
+
+-- ---- the alternatives of an if
+
+abbrev pub elif_word : List Terminal
+elif_word = s.keyword (codes "elif")
+
+abbrev pub else_word : List Terminal
+else_word = s.keyword (codes "else")
+
+abbrev pub Elif : List Part → Type 0
+Elif xs = Fits IsSort (tok elif_word (sub s.test owned)) xs
+
+abbrev pub Else : List Part → Type 0
+Else xs = Fits IsSort (s.alt (tok else_word owned) done) xs
+
+pub behind_word : (ts : List Terminal) (x : Part) (xs : List Part) → plain_tokens ts ≡ true → has_token ts x ≡ true → AtParts BzlStands Begins Begins (x ∷ xs) → AtParts BzlStands Begins Along xs
+behind_word ts x xs h i at_ = subst (λ z. AtParts BzlStands Begins z xs) (token_goes ts x h i Begins Begins) at_.1
 
 module _ (number : Bytes → ℕ) where
   -- ---- headers
@@ -110,7 +127,7 @@ module _ (number : Bytes → ℕ) where
   silent_mark : (mark : Part) → has_token s.colon mark ≡ true → Silent BzlStands mark → AtLeaves BzlStands Along mark → part_amount number mark ≡ 0
   silent_mark mark h i at_ = token_part number mark (token s.colon mark h) ∙ ap (total number) (i (token_inner s.colon mark refl h) at_)
 
-  one_header : (kind : Kind) (x : Part) (hs : List Part) (mark own : Part) (back : List Part) → HeadKept kind (x ∷ hs) → AllByRecursion NoColon (x ∷ hs) → (stated mark).is_colon ≡ true → part_amount number mark ≡ 0
+  one_header : (kind : Kind) (x : Part) (hs : List Part) (mark own : Part) (back : List Part) → HeadKept kind (x ∷ hs) → AllByRecursion InHeader (x ∷ hs) → (stated mark).is_colon ≡ true → part_amount number mark ≡ 0
       → SuiteKept own → BranchesKept kind back → HeadersKept kind x (hs ++ mark ∷ own ∷ back)
   one_header kind x hs mark own back w n c m o b above left after =
       let lines : Lines = lines_before (map stated back) after in
@@ -138,7 +155,7 @@ module _ (number : Bytes → ℕ) where
       let c = all_parted _ xs ys g.suites in
       (record { kept = a.0; silent = b.0; suites = c.0 }, record { kept = a.1; silent = b.1; suites = c.1 })
 
-  headed_kept : (kind : Kind) (P : List Part → Type 0) (x : Part) (back xs : List Part) (h : Headed P back xs) → NoColon x → Known (x ∷ xs) → (AllKept number (x ∷ h.front) → HeadKept kind (x ∷ h.front)) → BranchesKept kind back → HeadersKept kind x xs
+  headed_kept : (kind : Kind) (P : List Part → Type 0) (x : Part) (back xs : List Part) (h : Headed P back xs) → InHeader x → Known (x ∷ xs) → (AllKept number (x ∷ h.front) → HeadKept kind (x ∷ h.front)) → BranchesKept kind back → HeadersKept kind x xs
   headed_kept kind P x back xs h n g w b =
       let all = known_parts h.front (h.mark ∷ h.own ∷ back) (subst Known h.cut (known_rest x xs g)) in
       subst (λ zs. HeadersKept kind x zs) (sym h.cut)
@@ -156,31 +173,16 @@ module _ (number : Bytes → ℕ) where
 
   -- ---- if, elif, else
 
-  if_kept : (word x mark own : Part) (back : List Part) → NoColon word → IsSort s.test x → has_token s.colon mark ≡ true → IsSort s.suite own → Known (word ∷ x ∷ mark ∷ own ∷ back) → AtParts BzlStands Begins Along (x ∷ mark ∷ own ∷ back)
+  if_kept : (word x mark own : Part) (back : List Part) → InHeader word → IsSort s.test x → has_token s.colon mark ≡ true → IsSort s.suite own → Known (word ∷ x ∷ mark ∷ own ∷ back) → AtParts BzlStands Begins Along (x ∷ mark ∷ own ∷ back)
       → BranchesKept k.IfStmt back → HeadersKept k.IfStmt word (x ∷ mark ∷ own ∷ back)
   if_kept word x mark own back n h i j g at_ b =
-      let headed : Headed Any back (x ∷ mark ∷ own ∷ back) = test_headed x mark own back h i j at_ in
-      headed_kept k.IfStmt Any word back (x ∷ mark ∷ own ∷ back) headed n g (λ w. row_head_kept k.IfStmt (word ∷ headed.front) w) b
+      let headed : Headed (FitsHeader (sub s.test (tok s.colon done))) back (x ∷ mark ∷ own ∷ back) = test_headed x mark own back h i j at_ in
+      headed_kept k.IfStmt (FitsHeader (sub s.test (tok s.colon done))) word back (x ∷ mark ∷ own ∷ back) headed n g (λ w. row_head_kept k.IfStmt (word ∷ headed.front) w) b
 
-  else_kept : (word mark own : Part) → NoColon word → has_token s.colon mark ≡ true → IsSort s.suite own → Known (word ∷ mark ∷ own ∷ []) → AtParts BzlStands Begins Along (mark ∷ own ∷ []) → HeadersKept k.IfStmt word (mark ∷ own ∷ [])
+  else_kept : (word mark own : Part) → InHeader word → has_token s.colon mark ≡ true → IsSort s.suite own → Known (word ∷ mark ∷ own ∷ []) → AtParts BzlStands Begins Along (mark ∷ own ∷ []) → HeadersKept k.IfStmt word (mark ∷ own ∷ [])
   else_kept word mark own n h i g at_ =
       let headed : Headed None_before [] (mark ∷ own ∷ []) = colon_headed mark own [] h i at_ in
       headed_kept k.IfStmt None_before word [] (mark ∷ own ∷ []) headed n g (λ w. row_head_kept k.IfStmt (word ∷ headed.front) w) (none_left k.IfStmt)
-
-  abbrev elif_word : List Terminal
-  elif_word = s.keyword (codes "elif")
-
-  abbrev else_word : List Terminal
-  else_word = s.keyword (codes "else")
-
-  abbrev Elif : List Part → Type 0
-  Elif xs = Fits IsSort (tok elif_word (sub s.test owned)) xs
-
-  abbrev Else : List Part → Type 0
-  Else xs = Fits IsSort (s.alt (tok else_word owned) done) xs
-
-  behind_word : (ts : List Terminal) (x : Part) (xs : List Part) → plain_tokens ts ≡ true → has_token ts x ≡ true → AtParts BzlStands Begins Begins (x ∷ xs) → AtParts BzlStands Begins Along xs
-  behind_word ts x xs h i at_ = subst (λ z. AtParts BzlStands Begins z xs) (token_goes ts x h i Begins Begins) at_.1
 
   last_kept : (xs : List Part) → Else xs → Known xs → AtParts BzlStands Begins Begins xs → BranchesKept k.IfStmt xs
   last_kept [] h g at_ = none_left k.IfStmt
@@ -188,7 +190,7 @@ module _ (number : Bytes → ℕ) where
   last_kept (x ∷ []) (inl h) g at_ = absurd h.1
   last_kept (x ∷ mark ∷ []) (inl h) g at_ = absurd h.1.1
   last_kept (x ∷ mark ∷ own ∷ []) (inl h) g at_ =
-      further k.IfStmt x (mark ∷ own ∷ []) (else_kept x mark own (token_plain else_word x refl h.0) h.1.0 h.1.1.0 g (behind_word else_word x (mark ∷ own ∷ []) refl h.0 at_))
+      further k.IfStmt x (mark ∷ own ∷ []) (else_kept x mark own (token_in else_word x refl refl h.0) h.1.0 h.1.1.0 g (behind_word else_word x (mark ∷ own ∷ []) refl h.0 at_))
   last_kept (x ∷ mark ∷ own ∷ y ∷ xs) (inl h) g at_ = absurd h.1.1.1
 
   branches_kept : (xs : List Part) → Times Elif Else xs → Known xs → AtParts BzlStands Begins Begins xs → BranchesKept k.IfStmt xs
@@ -203,7 +205,7 @@ module _ (number : Bytes → ℕ) where
       let known : Known zs = subst Known e g in
       let there : AtParts BzlStands Begins Along (x ∷ mark ∷ own ∷ back) = behind_word elif_word word (x ∷ mark ∷ own ∷ back) refl h.0 (subst (AtParts BzlStands Begins Begins) e at_) in
       let rest : BranchesKept k.IfStmt back = branches_kept back t (known_parts (word ∷ x ∷ mark ∷ own ∷ []) back known).1 (test_headed x mark own back h.1.0 h.1.1.0 h.1.1.1.0 there).behind in
-      subst (BranchesKept k.IfStmt) (sym e) (further k.IfStmt word (x ∷ mark ∷ own ∷ back) (if_kept word x mark own back (token_plain elif_word word refl h.0) h.1.0 h.1.1.0 h.1.1.1.0 known there rest))
+      subst (BranchesKept k.IfStmt) (sym e) (further k.IfStmt word (x ∷ mark ∷ own ∷ back) (if_kept word x mark own back (token_in elif_word word refl refl h.0) h.1.0 h.1.1.0 h.1.1.1.0 known there rest))
 
   -- ---- statements with suites
 
@@ -219,19 +221,28 @@ module _ (number : Bytes → ℕ) where
   if_statement (word ∷ x ∷ mark ∷ own ∷ back) h g at_ =
       let there : AtParts BzlStands Begins Along (x ∷ mark ∷ own ∷ back) = behind_word (s.keyword (codes "if")) word (x ∷ mark ∷ own ∷ back) refl h.0 at_ in
       let rest : BranchesKept k.IfStmt back = branches_kept back h.1.1.1.1 (known_parts (word ∷ x ∷ mark ∷ own ∷ []) back g).1 (test_headed x mark own back h.1.0 h.1.1.0 h.1.1.1.0 there).behind in
-      if_kept word x mark own back (token_plain (s.keyword (codes "if")) word refl h.0) h.1.0 h.1.1.0 h.1.1.1.0 g there rest
+      if_kept word x mark own back (token_in (s.keyword (codes "if")) word refl refl h.0) h.1.0 h.1.1.0 h.1.1.1.0 g there rest
+
+  abbrev ForParts : List Part → Type 0
+  ForParts front = FitsHeader (s.list s.primary s.comma false (tok (s.keyword (codes "in")) (sub s.expr (tok s.colon done)))) front
 
   for_statement : (xs : List Part) → Fits IsSort (bzl_shape k.ForStmt) xs → Known xs → AtParts BzlStands Begins Begins xs → Compound_kept k.ForStmt xs
   for_statement [] h g at_ = absurd h
   for_statement (word ∷ xs) h g at_ =
-      let headed : Headed Any [] xs = for_headed xs h.1 (behind_word (s.keyword (codes "for")) word xs refl h.0 at_) in
-      headed_kept k.ForStmt Any word [] xs headed (token_plain (s.keyword (codes "for")) word refl h.0) g (λ w. row_head_kept k.ForStmt (word ∷ headed.front) w) (none_left k.ForStmt)
+      let headed : Headed ForParts [] xs = for_headed xs h.1 (behind_word (s.keyword (codes "for")) word xs refl h.0 at_) in
+      headed_kept k.ForStmt ForParts word [] xs headed (token_in (s.keyword (codes "for")) word refl refl h.0) g (λ w. row_head_kept k.ForStmt (word ∷ headed.front) w) (none_left k.ForStmt)
+
+  bracket_at : (front : List Part) → Named front → TokenAt 1 front
+  bracket_at front w = subst (TokenAt 1) (sym w.cut) (token s.open_round w.opener w.opens)
+
+  parameters_paired : (front : List Part) → Named front → Paired (drop 2 front)
+  parameters_paired front w = subst (λ zs. Paired (drop 2 zs)) (sym w.cut) w.parameters.paired
 
   def_statement : (xs : List Part) → Fits IsSort (bzl_shape k.Def) xs → Known xs → AtParts BzlStands Begins Begins xs → Compound_kept k.Def xs
   def_statement [] h g at_ = absurd h
   def_statement (word ∷ xs) h g at_ =
       let headed : Headed Named [] xs = def_headed xs h.1 (behind_word (s.keyword (codes "def")) word xs refl h.0 at_) in
-      headed_kept k.Def Named word [] xs headed (token_plain (s.keyword (codes "def")) word refl h.0) g (λ w. def_head_kept (word ∷ headed.front) w headed.such.0 headed.such.1) (none_left k.Def)
+      headed_kept k.Def Named word [] xs headed (token_in (s.keyword (codes "def")) word refl refl h.0) g (λ w. def_head_kept (word ∷ headed.front) w (bracket_at headed.front headed.such) (parameters_paired headed.front headed.such)) (none_left k.Def)
 
   pub compound_kept : (kind : Kind) (xs : List Part) → has_kind s.stmt kind ≡ true → is_kind kind k.Line ≡ false → Fits IsSort (bzl_shape kind) xs → Known xs → AtParts BzlStands Begins Begins xs → Compound_kept kind xs
   compound_kept k.Def xs h i f g at_ = def_statement xs f g at_

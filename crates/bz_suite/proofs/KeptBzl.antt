@@ -21,7 +21,7 @@ use Rattle.bz_suite.specs.declared.value.BzlItem.TheVariants as b
 use Rattle.bz_suite.specs.Kept.{bzl_item_amount, BzlCommentsKept}
 use Rattle.bz_suite.specs.View.{Read, stated, lines_before, block_items, bzl_items}
 use Rattle.bz_suite.proofs.KeptBranches.{before_amount}
-use Rattle.bz_suite.proofs.KeptHeads.{behind_stmt}
+use Rattle.bz_suite.proofs.HeadParts.{behind_stmt}
 use Rattle.bz_suite.proofs.KeptSuites.{AsStatement, part_read}
 use Rattle.bz_suite.proofs.KeptValues.{lines_amount, indented_amount, block_amount, statements_as_items}
 use Rattle.bz_suite.proofs.Lined.{plain_lines}

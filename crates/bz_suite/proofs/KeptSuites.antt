@@ -30,7 +30,7 @@ use Rattle.bz_suite.specs.Kept.{statement_amount}
 use Rattle.bz_suite.specs.View.{Read, SuiteRead, stated, stated_row, lines_before, line_read, behind_first, walked, margin_of, suite_read, suite_in, suffix_before, only_comment, statement_read, compound_read, branches, comments_of, end_comments, behind_end, is_taken}
 use Rattle.bz_suite.proofs.KeptBranches.{Lines, Known, AsSuite, before_amount, Compound_kept, compound_kept}
 use Rattle.bz_suite.proofs.KeptGaps.{parts_silent, parts_kept, newline_comment, newline_ends}
-use Rattle.bz_suite.proofs.KeptHeads.{behind_stmt}
+use Rattle.bz_suite.proofs.HeadParts.{behind_stmt}
 use Rattle.bz_suite.proofs.KeptValues.{stated_amount, compound_amount, simple_amount, lines_amount, lines_append, indented_amount, behind_amount}
 use Rattle.bz_suite.proofs.Parts.{part_of, parts_seen, stated_rows}
 

@@ -20,6 +20,11 @@ use Rattle.bz_suite.specs.Kept.{statement_amount, branches_amount, statements_am
 use Rattle.bz_suite.specs.View.{comments_of, behind_first, simple, bzl_item, block_items}
 use Rattle.bz_suite.proofs.Lined.{plain_lines, lines_are}
 
+-- the row of the headers of a statement
+abbrev pub branches_in : Statement → (m : Count) × Row_of-Branch m
+branches_in (Simple x) = (_, end_of-Branch)
+branches_in (Compound' size branches) = (_, branches)
+
 module _ (number : Bytes → ℕ) where
   -- ---- statements and headers
 
@@ -40,10 +45,6 @@ module _ (number : Bytes → ℕ) where
       let own = statements_total _ statements ∙ ap stated_amount (sym (items_shown-the_row-Statement-0 size statements)) in
       let more = branches_total _ rest in
       omega arith
-
-  abbrev branches_in : Statement → (m : Count) × Row_of-Branch m
-  branches_in (Simple x) = (_, end_of-Branch)
-  branches_in (Compound' size branches) = (_, branches)
 
   pub compound_amount : (xs : List Branch) → statement_amount number (s.Compound xs) ≡ total branch_amount xs
   compound_amount xs =

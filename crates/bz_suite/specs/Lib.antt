@@ -1,2 +1,4 @@
 pub mod Kept
+pub mod Laws
+pub mod Proper
 pub mod View

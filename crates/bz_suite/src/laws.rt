@@ -1,8 +1,14 @@
 //! Facts about the definitions, for readers and for the proofs of other crates: the functions do nothing.
 
 ghost use Rattle.bz_suite.specs.Kept.{BzlCommentsKept};
+ghost use Rattle.bz_suite.specs.Laws.{BzlViewIsProper};
 
 /// Each comment of the legal tree of a .bzl file stands in what the file says as often as in the tree's gaps: none is lost or doubled.
 pub fn bzl_comments_kept()
     ensures { BzlCommentsKept }
+{}
+
+/// What the legal tree of a .bzl file says is a proper value: the layout can write it, and the grammar reads it back.
+pub fn bzl_view_is_proper()
+    ensures { BzlViewIsProper }
 {}
