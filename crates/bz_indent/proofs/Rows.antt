@@ -1,10 +1,10 @@
 -- What the layout and the pass make of statements with suites, told of lists.
-use Rattle.std.proofs.Common.{ℕ, ◌≡◌, List, [], ◌∷◌, ◌++◌, ◌+◌, map, refl, sym, ap, ◌∙◌}
+use Rattle.std.proofs.Common.{ℕ, ◌≡◌, List, ◌∷◌, ◌++◌, ◌+◌, map, refl, sym, ap, ◌∙◌}
 use mathlib.Core.Former.{Count}
 use Rattle.bz_suite.specs.declared.value.Statement.{Statement, Simple, Compound', Row_of-Branch, end_of-Branch, more_of-Branch, Row_of-Statement, end_of-Statement, more_of-Statement, items-the_row-Branch, items-the_row-Statement, items_hidden-the_row-Branch-1, items_shown-the_row-Statement-0}
 use Rattle.bz_suite.specs.declared.value.Statement.TheVariants as s
 use Rattle.bz_suite.specs.declared.value.Branch.{Branch}
-use Rattle.bz_indent.specs.Layout.{statement_text, branches_text, branch_text, statements_text, all_branches, all_statements, header_text, lines_at}
+use Rattle.bz_indent.specs.Layout.{statement_text, branches_text, statements_text, all_branches, all_statements, header_text, lines_at}
 use Rattle.bz_indent.specs.Level.{level_statement, level_branch, each_branch, each_statement, level_head}
 
 both : {X Y Z : Type 0} (f : X → Y → Z) {h h' : X} {i i' : Y} → h ≡ h' → i ≡ i' → f h i ≡ f h' i'
@@ -12,11 +12,11 @@ both f {h} {h'} {i} {i'} d e = ap (λ z. f z i) d ∙ ap (λ z. f h' z) e
 
 -- ---- the row of a statement
 
-abbrev branches_behind : Statement → (n : Count) × Row_of-Branch n
+abbrev pub branches_behind : Statement → (n : Count) × Row_of-Branch n
 branches_behind (Simple x) = (_, end_of-Branch)
 branches_behind (Compound' size own) = (_, own)
 
-branches_are : (own : List Branch) → items-the_row-Branch (branches_behind (s.Compound own)).0 (branches_behind (s.Compound own)).1 ≡ own
+pub branches_are : (own : List Branch) → items-the_row-Branch (branches_behind (s.Compound own)).0 (branches_behind (s.Compound own)).1 ≡ own
 branches_are own = items_hidden-the_row-Branch-1 own
 
 -- ---- the layout

@@ -3,13 +3,11 @@ use Rattle.std.proofs.Common.{◌≡◌, Bool, true, false, List, [], ◌∷◌,
 use Rattle.std.specs.Prelude.{if◌then◌else◌}
 use Rattle.bz_value.specs.declared.value.Expr.{Expr}
 use Rattle.bz_value.specs.declared.value.Form.{Form}
-use Rattle.bz_items.specs.Characters.{Bytes}
 use Rattle.bz_write.specs.Flags.{with_flags}
 use Rattle.bz_write.specs.Layout.{is_broken}
 use Rattle.bz_tidy.specs.Laws.{FlagsSettle}
 use Rattle.bz_suite.specs.declared.value.Statement.{Statement, Simple, Compound', Row_of-Branch, end_of-Branch, more_of-Branch, Row_of-Statement, end_of-Statement, more_of-Statement}
 use Rattle.bz_suite.specs.declared.value.Statement.TheVariants as s
-use Rattle.bz_suite.specs.declared.value.Branch.{Branch}
 use Rattle.bz_suite.specs.declared.value.BzlItem.{BzlItem}
 use Rattle.bz_suite.specs.declared.value.BzlItem.TheVariants as b
 use Rattle.bz_indent.specs.Layout.{is_def}

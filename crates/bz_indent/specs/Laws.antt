@@ -1,8 +1,14 @@
 -- Laws of the pass over a .bzl file.
-use Rattle.std.specs.Prelude.{◌≡◌, List}
+use Rattle.std.specs.Prelude.{◌≡◌, ◌≤◌, ◌<◌, List, length}
+use Rattle.bz_tree.specs.Legal.{ReadsBzl, NoBzlTree}
+use Rattle.bz_tree.specs.Spell.{depth_of, limit, depth_limit}
 use Rattle.bz_items.specs.Characters.{Bytes}
 use Rattle.bz_suite.specs.declared.value.BzlItem.{BzlItem}
 use Rattle.bz_suite.specs.Kept.{bzl_times}
+use Rattle.bz_suite.specs.Proper.{IsProperBzl}
+use Rattle.bz_suite.specs.View.{bzl_view_of}
+use Rattle.bz_indent.specs.Drawn.{bzl_drawn}
+use Rattle.bz_indent.specs.Layout.{bzl_layout}
 use Rattle.bz_indent.specs.Level.{level}
 
 -- What is level stays as it is.
@@ -12,3 +18,19 @@ LevelStays = (items : List BzlItem) → level (level items) ≡ level items
 -- Each comment stands in what is level as often as before.
 abbrev pub LevelKeepsComments : Type 0
 LevelKeepsComments = (text : Bytes) (items : List BzlItem) → bzl_times text (level items) ≡ bzl_times text items
+
+-- What is level is laid out as before, and is proper where that was.
+abbrev pub LevelKeepsLayout : Type 0
+LevelKeepsLayout = (items : List BzlItem) → (bzl_layout (level items) ≡ bzl_layout items) × (IsProperBzl items → IsProperBzl (level items))
+
+-- The layout of a proper value reads as its tree, where it is within the limits of length and depth.
+abbrev pub BzlLayoutIsAccepted : Type 0
+BzlLayoutIsAccepted = (items : List BzlItem) → IsProperBzl items → length (bzl_layout items) ≤ limit → depth_of (bzl_drawn items) ≤ depth_limit → ReadsBzl (bzl_layout items) (bzl_drawn items)
+
+-- No tree is read of the layout of a proper value whose own tree is too deep.
+abbrev pub BzlLayoutIsTooDeep : Type 0
+BzlLayoutIsTooDeep = (items : List BzlItem) → IsProperBzl items → depth_limit < depth_of (bzl_drawn items) → NoBzlTree (bzl_layout items)
+
+-- What the tree of the layout of a proper value says is the value, levelled.
+abbrev pub BzlLayoutReadsBack : Type 0
+BzlLayoutReadsBack = (items : List BzlItem) → IsProperBzl items → bzl_view_of (bzl_drawn items) ≡ level items

@@ -1,5 +1,5 @@
 -- The layout of a .bzl file: headers at their margin, the statements of a suite four further, no blank lines inside.
-use Rattle.std.specs.Prelude.{ℕ, Bool, true, false, List, [], ◌∷◌, ◌++◌, ◌+◌, codes, replicate, if◌then◌else◌}
+use Rattle.std.specs.Prelude.{ℕ, Bool, List, [], ◌∷◌, ◌++◌, ◌+◌, codes, replicate, if◌then◌else◌}
 use Rattle.std.specs.List.{flat_map}
 use Rattle.bz_tree.specs.declared.kind.Kind.TheVariants as k
 use Rattle.bz_tree.specs.Shapes.{is_kind}

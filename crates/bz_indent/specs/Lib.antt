@@ -1,3 +1,5 @@
-pub mod Layout
+pub mod Depths
+pub mod Drawn
 pub mod Laws
+pub mod Layout
 pub mod Level

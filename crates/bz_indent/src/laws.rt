@@ -1,5 +1,5 @@
 //! Facts about the definitions, for readers and for the proofs of other crates: the functions do nothing.
-ghost use Rattle.bz_indent.specs.Laws.{LevelKeepsComments, LevelStays};
+ghost use Rattle.bz_indent.specs.Laws.{BzlLayoutIsAccepted, BzlLayoutIsTooDeep, BzlLayoutReadsBack, LevelKeepsComments, LevelKeepsLayout, LevelStays};
 
 use bz_tidy::flags_settle;
 
@@ -16,3 +16,25 @@ pub fn level_keeps_comments()
 {
     flags_settle();
 }
+
+/// What is level is laid out as before, and is proper where that was.
+pub fn level_keeps_layout()
+    ensures { LevelKeepsLayout }
+{
+    flags_settle();
+}
+
+/// The layout of a proper value reads as its tree, where it is within the limits of length and depth.
+pub fn bzl_layout_is_accepted()
+    ensures { BzlLayoutIsAccepted }
+{}
+
+/// No tree is read of the layout of a proper value whose own tree is too deep.
+pub fn bzl_layout_is_too_deep()
+    ensures { BzlLayoutIsTooDeep }
+{}
+
+/// What the tree of the layout of a proper value says is the value, levelled.
+pub fn bzl_layout_reads_back()
+    ensures { BzlLayoutReadsBack }
+{}

@@ -1,14 +1,16 @@
 //! The layout of what a .bzl file says: its statements with their suites by their indents.
 #![tactic(auto)]
 
+mod depth;
 mod laws;
 mod leveling;
 mod measure;
-mod same;
+mod setting;
 mod writing;
 
-pub use laws::{level_keeps_comments, level_stays};
+pub use laws::{
+    bzl_layout_is_accepted, bzl_layout_is_too_deep, bzl_layout_reads_back, level_keeps_comments,
+    level_keeps_layout, level_stays,
+};
 pub use leveling::level;
-pub use measure::is_layout_within;
-pub use same::is_same;
-pub use writing::layout_text;
+pub use setting::set_bzl;

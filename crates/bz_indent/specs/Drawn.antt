@@ -1,0 +1,93 @@
+-- The layout of a .bzl file as a tree.
+use Rattle.std.specs.Prelude.{ℕ, List, [], ◌∷◌, ◌++◌, ◌+◌, Option, map, replicate, if◌then◌else◌}
+use Rattle.bz_token.specs.declared.class.Class.TheVariants as c
+use Rattle.bz_tree.specs.declared.kind.Kind.{Kind}
+use Rattle.bz_tree.specs.declared.kind.Kind.TheVariants as k
+use Rattle.bz_tree.specs.declared.tree.Node.{Node}
+use Rattle.bz_tree.specs.declared.tree.Part.{Part}
+use Rattle.bz_tree.specs.declared.tree.Part.TheVariants as p
+use Rattle.bz_value.specs.declared.value.Expr.{Expr}
+use Rattle.bz_value.specs.declared.value.Form.{Form}
+use Rattle.bz_items.specs.Characters.{Bytes, line_feed, space}
+use Rattle.bz_value.specs.Proper.{comments_of}
+use Rattle.bz_write.specs.Layout.{rowed, behind}
+use Rattle.bz_write.specs.Drawn.{part_of, piece_part, drawings, body}
+use Rattle.bz_suite.specs.declared.value.Statement.{Statement, Simple, Compound', Row_of-Branch, end_of-Branch, more_of-Branch, Row_of-Statement, end_of-Statement, more_of-Statement}
+use Rattle.bz_suite.specs.declared.value.BzlItem.{BzlItem}
+use Rattle.bz_suite.specs.declared.value.BzlItem.TheVariants as b
+use Rattle.bz_indent.specs.Layout.{lines_at, is_def, before_others}
+
+-- ---- gaps
+
+-- the gap before the first token of what stands at a margin: lines, its comments, and its margin
+abbrev pub gap_to_margin : ℕ → Bytes → List Bytes → Bytes
+gap_to_margin m lines texts = lines ++ (lines_at m texts ++ replicate m space)
+
+-- the newline behind a suffix
+abbrev pub newline_part : Option Bytes → Part
+newline_part suffix = p.Leaf (record { class = c.Newline; gap = behind suffix; token = line_feed ∷ [] })
+
+-- ---- headers
+
+abbrev pub mark_part : ℕ → Part
+mark_part character = p.Leaf (record { class = c.Mark; gap = []; token = character ∷ [] })
+
+-- the parts of a header up to its colon, and that, behind a gap: of a Def its parameters stand in brackets
+abbrev pub header_parts : ℕ → Bytes → Form → List Part
+header_parts m gap f =
+    map piece_part (rowed f.kind f.open_ m gap m (drawings f.parts)) ++ ((if is_def f then mark_part 40 ∷ map piece_part (body f m 41) else []) ++ mark_part 58 ∷ [])
+
+-- ---- the lines that are left behind a statement: the end comments of its last suites, which stand in the gap of what follows
+
+abbrev mutual
+  pub left_behind : ℕ → Statement → Bytes
+  left_behind m (Simple x) = []
+  left_behind m (Compound' size own) = left_branches m [] own
+
+  pub left_branches : ℕ → Bytes → {n : _} → Row_of-Branch n → Bytes
+  left_branches m lines end_of-Branch = lines
+  left_branches m lines (more_of-Branch head size statements end_ rest) = left_branches m (left_statements (m + 4) [] statements ++ lines_at (m + 4) end_) rest
+
+  pub left_statements : ℕ → Bytes → {n : _} → Row_of-Statement n → Bytes
+  left_statements m lines end_of-Statement = lines
+  left_statements m lines (more_of-Statement x rest) = left_statements m (left_behind m x) rest
+
+-- ---- statements, behind these lines
+
+-- a simple statement on a line of its own: its suffix stands in the gap of the Newline
+abbrev pub simple_part : ℕ → Bytes → Expr → Part
+simple_part m lines x = p.Node (record { kind = k.Line; parts = part_of x (gap_to_margin m lines (comments_of x).before) m ∷ newline_part (comments_of x).suffix ∷ [] })
+
+-- a statement has the kind of its first header
+abbrev pub first_kind : {n : _} → Row_of-Branch n → Kind
+first_kind end_of-Branch = k.IfStmt
+first_kind (more_of-Branch head size statements end_ rest) = head.kind
+
+abbrev mutual
+  pub statement_part : ℕ → Bytes → Statement → Part
+  statement_part m lines (Simple x) = simple_part m lines x
+  statement_part m lines (Compound' size own) = p.Node (record { kind = first_kind own; parts = branch_parts m lines own })
+
+  -- each header with its suite
+  pub branch_parts : ℕ → Bytes → {n : _} → Row_of-Branch n → List Part
+  branch_parts m lines end_of-Branch = []
+  branch_parts m lines (more_of-Branch head size statements end_ rest) =
+      header_parts m (gap_to_margin m lines head.comments.before) head
+      ++ (p.Node (record { kind = k.Suite; parts = newline_part head.comments.suffix ∷ statement_parts (m + 4) [] statements })
+      ∷ branch_parts m (left_statements (m + 4) [] statements ++ lines_at (m + 4) end_) rest)
+
+  pub statement_parts : ℕ → Bytes → {n : _} → Row_of-Statement n → List Part
+  statement_parts m lines end_of-Statement = []
+  statement_parts m lines (more_of-Statement x rest) = statement_part m lines x ∷ statement_parts m (left_behind m x) rest
+
+-- ---- the file
+
+-- the items, the first behind these lines: a Block's lines stand in the gap of what follows
+abbrev pub bzl_lines : Bytes → List BzlItem → List Part
+bzl_lines lines [] = p.Leaf (record { class = c.End; gap = lines; token = [] }) ∷ []
+bzl_lines lines (b.Block texts ∷ items) = bzl_lines ((lines ++ lines_at 0 texts) ++ before_others (b.Block texts) items) items
+bzl_lines lines (b.Statement x ∷ items) = statement_part 0 lines x ∷ bzl_lines (left_behind 0 x ++ before_others (b.Statement x) items) items
+
+-- the tree of the layout
+abbrev pub bzl_drawn : List BzlItem → Node
+bzl_drawn items = record { kind = k.File; parts = bzl_lines [] items }
