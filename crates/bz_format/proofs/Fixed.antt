@@ -7,9 +7,10 @@ use Rattle.bz_items.specs.Characters.{Bytes}
 use Rattle.bz_suite.specs.Kept.{BzlCommentsKept, bzl_times}
 use Rattle.bz_suite.specs.View.{bzl_view_of}
 use Rattle.bz_indent.specs.Laws.{LevelKeepsComments, LevelStays}
+use Rattle.bz_indent.specs.Drawn.{bzl_drawn}
 use Rattle.bz_indent.specs.Layout.{bzl_layout}
 use Rattle.bz_indent.specs.Level.{level}
-use Rattle.bz_format.specs.Formatted.{BzlFixedPoint, bzl_formatted, Lasts}
+use Rattle.bz_format.specs.Formatted.{BzlFixedPoint, bzl_formatted, formatted_tree, Lasts}
 
 -- What the layers below promise: of reading, of what a tree says, and of the pass.
 pub record LayersHold : Type 0 where
@@ -22,16 +23,18 @@ pub formatted_again : LayersHold → BzlFixedPoint
 formatted_again layers text formatted formats =
     let tree : Node = formats.0 in
     let lasts : Lasts tree = formats.4 in
-    let new : Node = lasts.0 in
-    let said : bzl_view_of new ≡ level (bzl_view_of tree) = lasts.2 in
-    let reads : ReadsBzl formatted new = subst (λ (t : Bytes). ReadsBzl t new) (sym formats.2) lasts.1 in
+    let new : Node = formatted_tree tree in
+    let said : bzl_view_of new ≡ level (bzl_view_of tree) = lasts.1 in
+    let reads : ReadsBzl formatted new = subst (λ (t : Bytes). ReadsBzl t new) (sym formats.2) lasts.0 in
     let stays : level (bzl_view_of new) ≡ bzl_view_of new = ap level said ∙ layers.level_stays (bzl_view_of tree) ∙ sym said in
     let same : formatted ≡ bzl_formatted new = formats.2 ∙ sym (ap bzl_layout (stays ∙ said)) in
+    let drawn : formatted_tree new ≡ new = ap bzl_drawn (stays ∙ said) in
+    let lasts_again : Lasts new = (subst (λ (n : Node). ReadsBzl (bzl_formatted new) n) (sym drawn) (subst (λ (t : Bytes). ReadsBzl t new) same reads), ap bzl_view_of drawn ∙ sym stays) in
     let valued : (t u : Node) → ReadsBzl text t → ReadsBzl formatted u → bzl_view_of u ≡ level (bzl_view_of t) =
     λ t u h i. ap bzl_view_of (layers.one formatted u new i reads) ∙ said ∙ ap (λ (n : Node). level (bzl_view_of n)) (layers.one text tree t formats.1 h) in
     record {
       given = formats;
-      again = (new, reads, same, formats.3, (new, subst (λ (t : Bytes). ReadsBzl t new) same reads, sym stays));
+      again = (new, reads, same, formats.3, lasts_again);
       value = valued;
       comments = λ t u h i comment.
           sym (layers.kept u i.0 comment) ∙ ap (bzl_times comment) (valued t u h i) ∙ layers.level_keeps comment (bzl_view_of t) ∙ layers.kept t h.0 comment;

@@ -1,2 +1,3 @@
 pub mod Fixed
+pub mod PastLimits
 pub mod Unread

@@ -1,17 +1,18 @@
 -- The formatted text of a .bzl file.
-use Rattle.std.specs.Prelude.{◌≡◌, ◌≢◌, ◌≤◌, ◌<◌, List, length, Result, Ok, Err}
+use Rattle.std.specs.Prelude.{◌≡◌, ◌≤◌, ◌<◌, List, length, Result, Ok, Err}
 use Rattle.bz_tree.specs.declared.tree.Node.{Node}
 use Rattle.bz_tree.specs.Legal.{ReadsBzl, NoBzlTree}
-use Rattle.bz_tree.specs.Spell.{limit}
+use Rattle.bz_tree.specs.Spell.{depth_of, limit, depth_limit}
 use Rattle.bz_items.specs.Characters.{Bytes}
 use Rattle.bz_view.specs.Kept.{occurrences}
 use Rattle.bz_suite.specs.declared.value.BzlItem.{BzlItem}
 use Rattle.bz_suite.specs.View.{bzl_view_of}
+use Rattle.bz_indent.specs.Drawn.{bzl_drawn}
 use Rattle.bz_indent.specs.Layout.{bzl_layout}
 use Rattle.bz_indent.specs.Level.{level}
 use Rattle.bz_journal.specs.Faults.{IsFaultOf}
 use Rattle.bz_journal.specs.declared.formatter.FormatFault.{FormatFault}
-use Rattle.bz_journal.specs.declared.formatter.FormatFault.TheVariants.{Unread, TooLarge, TooDeep, Unsettled, Memory}
+use Rattle.bz_journal.specs.declared.formatter.FormatFault.TheVariants.{Unread, TooLarge, TooDeep, Memory}
 
 -- What a text says where it reads as the tree of a .bzl file; of every other text a fault is told. Memory may be refused at each.
 abbrev pub Says : Bytes → Result (List BzlItem) FormatFault → Type 0
@@ -19,25 +20,27 @@ Says text (Ok items) = (tree : Node) × ReadsBzl text tree × (items ≡ bzl_vie
 Says text (Err (Unread fault)) = NoBzlTree text × IsFaultOf text fault
 Says text (Err TooLarge) = ⊥
 Says text (Err TooDeep) = ⊥
-Says text (Err Unsettled) = ⊥
 Says text (Err Memory) = Unit {0}
 
 -- the layout of what the tree of a .bzl file says, levelled
 abbrev pub bzl_formatted : Node → Bytes
 bzl_formatted tree = bzl_layout (level (bzl_view_of tree))
 
--- It lasts where it reads as a tree that says the same.
-abbrev pub Lasts : Node → Type 0
-Lasts tree = (new : Node) × ReadsBzl (bzl_formatted tree) new × (bzl_view_of new ≡ level (bzl_view_of tree))
+-- its tree
+abbrev pub formatted_tree : Node → Node
+formatted_tree tree = bzl_drawn (level (bzl_view_of tree))
 
--- A text that reads as the tree of a .bzl file is formatted to the layout of what it says, where that is within the limits of a
--- text and lasts.
+-- It reads as this tree, which says the same.
+abbrev pub Lasts : Node → Type 0
+Lasts tree = ReadsBzl (bzl_formatted tree) (formatted_tree tree) × (bzl_view_of (formatted_tree tree) ≡ level (bzl_view_of tree))
+
+-- A text that reads as the tree of a .bzl file is formatted to the layout of what it says, which lasts, where that is within the
+-- limits of length and depth.
 abbrev pub FormatsBzlTo : Bytes → Result Bytes FormatFault → Type 0
 FormatsBzlTo text (Ok formatted) = (tree : Node) × ReadsBzl text tree × (formatted ≡ bzl_formatted tree) × (length formatted ≤ limit) × Lasts tree
 FormatsBzlTo text (Err (Unread fault)) = NoBzlTree text × IsFaultOf text fault
 FormatsBzlTo text (Err TooLarge) = (tree : Node) × ReadsBzl text tree × (limit < length (bzl_formatted tree))
-FormatsBzlTo text (Err TooDeep) = (tree : Node) × ReadsBzl text tree × (length (bzl_formatted tree) ≤ limit) × NoBzlTree (bzl_formatted tree)
-FormatsBzlTo text (Err Unsettled) = (tree : Node) × ReadsBzl text tree × (length (bzl_formatted tree) ≤ limit) × (Lasts tree → ⊥)
+FormatsBzlTo text (Err TooDeep) = (tree : Node) × ReadsBzl text tree × (length (bzl_formatted tree) ≤ limit) × (depth_limit < depth_of (formatted_tree tree)) × NoBzlTree (bzl_formatted tree)
 FormatsBzlTo text (Err Memory) = Unit {0}
 
 -- The formatted text of a text: formatting gives it, formatting it gives it again, it says what the text says, levelled, and each

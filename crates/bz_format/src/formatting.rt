@@ -1,18 +1,15 @@
 //! Formatting a text.
-ghost use Rattle.std.specs.Prelude.{◌≡◌, ◌≢◌, ◌⊎◌, IfOk, IfErr, OnOk, Ok, Err};
-ghost use Rattle.bz_tree.specs.declared.tree.Node.{Node};
-ghost use Rattle.bz_tree.specs.Legal.{ReadsBzl, NoBzlTree};
-ghost use Rattle.bz_suite.specs.View.{bzl_view_of};
+ghost use Rattle.std.specs.Prelude.{◌≡◌, ◌≢◌, ◌⊎◌, IfOk, IfErr, Ok, Err};
 ghost use Rattle.bz_format.specs.Formatted.{FormatsBzlTo, IsFormattedBzl, Says};
 
 use crate::laws::formatted_bzl_once;
-use bz_indent::{is_layout_within, is_same, layout_text, level};
+use bz_indent::{level, level_keeps_layout, level_stays, set_bzl};
 use bz_items::Text;
 use bz_journal::FormatFault;
 use bz_parse::parse_bzl;
-use bz_suite::{BzlFile, view_bzl};
-use bz_tree::laws::one_bzl_reading;
-use bz_tree::{LENGTH_LIMIT, ReadFault};
+use bz_suite::{BzlFile, bzl_view_is_proper, view_bzl};
+use bz_tree::ReadFault;
+use bz_write::SetFault;
 use std::alloc::Global;
 
 /// What is told of a text that is not read.
@@ -40,54 +37,40 @@ fn said(alloc: Global, text: &[u8]) -> Result<BzlFile, FormatFault>
     }
 }
 
-/// Whether a text reads as a tree that says this.
-fn check_lasting(alloc: Global, text: &[u8], file: &BzlFile) -> Result<(), FormatFault>
-    ensures ok { OnOk result ((new : Node) × ReadsBzl text.now new × (bzl_view_of new ≡ file.now.items)) }
-    ensures err { IfErr result (λ fault. ((fault ≡ FormatFault.TooDeep) × NoBzlTree text.now)
-        ⊎ ((fault ≡ FormatFault.Unsettled) × ((new : Node) → ReadsBzl text.now new → bzl_view_of new ≡ file.now.items → ⊥))
-        ⊎ (fault ≡ FormatFault.Memory)) }
+/// What is told where the layout is past a limit, or memory was refused.
+fn unset(fault: SetFault) -> FormatFault
+    ensures large { (fault ≡ SetFault.TooLarge) → (result ≡ FormatFault.TooLarge) }
+    ensures deep { (fault ≡ SetFault.TooDeep) → (result ≡ FormatFault.TooDeep) }
+    ensures memory { (fault ≡ SetFault.Memory) → (result ≡ FormatFault.Memory) }
 {
-    one_bzl_reading();
-    let again = match said(alloc, text) {
-        Ok(again) => again,
-        Err(FormatFault::Unread(ReadFault::TooDeep { .. })) => return Err(FormatFault::TooDeep),
-        Err(FormatFault::Unread(_)) => return Err(FormatFault::Unsettled),
-        Err(_) => return Err(FormatFault::Memory),
-    };
-    if is_same(&again, file) {
-        Ok(())
-    } else {
-        Err(FormatFault::Unsettled)
+    match fault {
+        SetFault::TooLarge => FormatFault::TooLarge,
+        SetFault::TooDeep => FormatFault::TooDeep,
+        SetFault::Memory => FormatFault::Memory,
     }
 }
 
-/// The layout of what a text says, levelled, where it reads as a tree that says the same.
+/// The layout of what a text says, levelled.
 fn formatted(alloc: Global, text: &[u8]) -> Result<Text, FormatFault>
     ensures { FormatsBzlTo text.now result }
 {
+    bzl_view_is_proper();
+    level_keeps_layout();
+    level_stays();
     let mut file = match said(alloc, text) {
         Ok(file) => file,
         Err(fault) => return Err(fault),
     };
     level(&mut file);
-    match is_layout_within(alloc, &file, LENGTH_LIMIT) {
-        Ok(true) => {}
-        Ok(false) => return Err(FormatFault::TooLarge),
-        Err(_) => return Err(FormatFault::Memory),
-    }
-    let Ok(formatted) = layout_text(alloc, &file) else {
-        return Err(FormatFault::Memory);
-    };
-    match check_lasting(alloc, formatted.as_slice(), &file) {
-        Ok(()) => Ok(formatted),
-        Err(fault) => Err(fault),
+    match set_bzl(alloc, &file) {
+        Ok(formatted) => Ok(formatted),
+        Err(fault) => Err(unset(fault)),
     }
 }
 
-/// The formatted text of a .bzl text: what it says, levelled and laid out. It is read again before it is given: it says the same,
-/// and to format it once more gives it again. Errors: `Unread` where the text is not accepted, with the fault of reading it;
-/// `TooLarge` and `TooDeep` where the formatted text would be past a limit; `Unsettled` where it would not say the same;
-/// `Memory`: a growth was refused.
+/// The formatted text of a .bzl text: what it says, levelled and laid out. It says the same, and to format it once more gives it
+/// again. Errors: `Unread` where the text is not accepted, with the fault of reading it; `TooLarge` and `TooDeep` where the
+/// formatted text would be past a limit; `Memory`: a growth was refused.
 pub fn format_bzl(alloc: Global, text: &[u8]) -> Result<Text, FormatFault>
     ensures formats { FormatsBzlTo text.now result }
     ensures fixed { IfOk result (λ formatted. IsFormattedBzl text.now formatted) }

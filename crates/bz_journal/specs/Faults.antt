@@ -9,7 +9,7 @@ use Rattle.bz_items.specs.Characters.{Bytes}
 use Rattle.bz_attribute.specs.declared.refusal.Refusal.TheVariants as r
 use Rattle.bz_journal.specs.Meaning.{gives, refuses, Formats}
 use Rattle.bz_journal.specs.declared.formatter.FormatFault.{FormatFault}
-use Rattle.bz_journal.specs.declared.formatter.FormatFault.TheVariants.{Unread, TooLarge, TooDeep, Unsettled, Memory}
+use Rattle.bz_journal.specs.declared.formatter.FormatFault.TheVariants.{Unread, TooLarge, TooDeep, Memory}
 
 -- A fault of the text: TooLarge and NotUtf8 exactly where it is that.
 pub record IsFaultOf (text : Bytes) (fault : ReadFault) : Type 0 where
@@ -24,5 +24,4 @@ FormatsTo text (Ok formatted) = Formats text (gives formatted None)
 FormatsTo text (Err (Unread fault)) = (Accepted text → ⊥) × IsFaultOf text fault
 FormatsTo text (Err TooLarge) = Formats text (refuses r.TooLarge)
 FormatsTo text (Err TooDeep) = Formats text (refuses r.TooDeep)
-FormatsTo text (Err Unsettled) = ⊥
 FormatsTo text (Err Memory) = Unit {0}

@@ -24,9 +24,6 @@ pub enum FormatFault {
     /// The tree of the formatted text would be deeper than `DEPTH_LIMIT`.
     #[error("TooDeep")]
     TooDeep,
-    /// The formatted text would not say what the text says. No BUILD file is refused so.
-    #[error("Unsettled")]
-    Unsettled,
     /// A growth was refused.
     #[error("Memory")]
     Memory,

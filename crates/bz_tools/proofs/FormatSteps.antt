@@ -38,7 +38,6 @@ pub refused_quiet : (name : List ℕ) (fault : FormatFault) → IsQuiet (refused
 refused_quiet name (f.Unread fault) = record { stays = refl; nothing = refl }
 refused_quiet name f.TooLarge = record { stays = refl; nothing = refl }
 refused_quiet name f.TooDeep = record { stays = refl; nothing = refl }
-refused_quiet name f.Unsettled = record { stays = refl; nothing = refl }
 refused_quiet name f.Memory = record { stays = refl; nothing = refl }
 
 pub rewrites_quiet : (name text new : List ℕ) (folder after : Folder) (effect : Effect) → Rewrites name text new folder effect after → IsQuiet effect
@@ -70,13 +69,11 @@ longer false all long (f.Unread fault) of_front =
     ((λ accepted. let le = within_limit all accepted in omega (arith, le, long)), fault_of_front all fault long of_front.1)
 longer false all long f.TooLarge of_front = absurd (long_front all long of_front.1.2)
 longer false all long f.TooDeep of_front = absurd (long_front all long of_front.1.2)
-longer false all long f.Unsettled of_front = absurd of_front
 longer false all long f.Memory of_front = tt
 longer true all long (f.Unread fault) of_front =
     ((λ tree reads. let le : length all ≤ limit = reads.2 in omega (arith, le, long)), fault_of_front all fault long of_front.1)
 longer true all long f.TooLarge of_front = absurd (long_front all long of_front.1.2)
 longer true all long f.TooDeep of_front = absurd (long_front all long of_front.1.2)
-longer true all long f.Unsettled of_front = absurd (long_front all long of_front.1.2)
 longer true all long f.Memory of_front = tt
 
 pub err_of_front : (bzl : Bool) (known : Option (List ℕ)) (front : List ℕ) (fault : FormatFault) → IfSome known (λ all. front ≡ take (limit + 1) all) → FormatsAs bzl front (Err fault)

@@ -55,7 +55,6 @@ abbrev pub refused : Bytes → FormatFault → Effect
 refused name (f.Unread fault) = told (fault_line name fault) 1 c.Whole
 refused name f.TooLarge = told (named_line name (codes "TooLarge")) 3 c.Whole
 refused name f.TooDeep = told (named_line name (codes "TooDeep")) 3 c.Whole
-refused name f.Unsettled = told (named_line name (codes "Unsettled")) 3 c.Whole
 refused name f.Memory = wanting name
 
 -- ---- the modes

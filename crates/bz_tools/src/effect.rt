@@ -121,7 +121,6 @@ pub(crate) fn refused<E: Sink>(err: &mut E, name: &str, fault: &FormatFault) -> 
         }
         FormatFault::TooLarge => fail(err, name, "TooLarge", Cut::Whole),
         FormatFault::TooDeep => fail(err, name, "TooDeep", Cut::Whole),
-        FormatFault::Unsettled => fail(err, name, "Unsettled", Cut::Whole),
         FormatFault::Memory => fail(err, name, "Memory", Cut::Memory),
     }
 }

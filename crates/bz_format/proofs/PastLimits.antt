@@ -1,0 +1,50 @@
+-- What is told where the layout of what a text says is past a limit, or memory was refused.
+use Rattle.std.proofs.Common.{◌≡◌, ◌≤◌, ◌<◌, List, length, Result, Ok, Err, refl, sym, subst}
+use Rattle.bz_tree.specs.declared.tree.Node.{Node}
+use Rattle.bz_tree.specs.Legal.{ReadsBzl, NoBzlTree}
+use Rattle.bz_tree.specs.Spell.{depth_of, limit, depth_limit}
+use Rattle.bz_items.specs.Characters.{Bytes}
+use Rattle.bz_write.specs.declared.setting.SetFault.{SetFault}
+use Rattle.bz_write.specs.declared.setting.SetFault.TheVariants as s
+use Rattle.bz_suite.specs.declared.value.BzlItem.{BzlItem}
+use Rattle.bz_suite.specs.Laws.{BzlViewIsProper}
+use Rattle.bz_suite.specs.Proper.{IsProperBzl}
+use Rattle.bz_suite.specs.View.{bzl_view_of}
+use Rattle.bz_indent.specs.Drawn.{bzl_drawn}
+use Rattle.bz_indent.specs.Laws.{LevelKeepsLayout}
+use Rattle.bz_indent.specs.Layout.{bzl_layout}
+use Rattle.bz_indent.specs.Level.{level}
+use Rattle.bz_journal.specs.declared.formatter.FormatFault.{FormatFault}
+use Rattle.bz_journal.specs.declared.formatter.FormatFault.TheVariants as f
+use Rattle.bz_format.specs.Formatted.{FormatsBzlTo, Says}
+
+-- what a text says is proper, levelled too
+level_proper : BzlViewIsProper → LevelKeepsLayout → (text : Bytes) (tree : Node) → ReadsBzl text tree → IsProperBzl (level (bzl_view_of tree))
+level_proper proper keeps text tree reads = (keeps (bzl_view_of tree)).1 (proper tree reads.0)
+
+module _ (A : Type 0) (proper : BzlViewIsProper) (keeps : LevelKeepsLayout) (text : Bytes) where
+  past_limits : (tree : Node) → ReadsBzl text tree → (fault : SetFault) (told : FormatFault)
+      → (fault ≡ s.TooLarge → told ≡ f.TooLarge) → (fault ≡ s.TooDeep → told ≡ f.TooDeep) → (fault ≡ s.Memory → told ≡ f.Memory)
+      → (◌≡◌ {A = Result A SetFault} (Err fault) (Err s.TooLarge) → limit < length (bzl_layout (level (bzl_view_of tree))))
+      → (◌≡◌ {A = Result A SetFault} (Err fault) (Err s.TooDeep) → (length (bzl_layout (level (bzl_view_of tree))) ≤ limit) × (depth_limit < depth_of (bzl_drawn (level (bzl_view_of tree)))))
+      → (◌≡◌ {A = Result A SetFault} (Err fault) (Err s.TooDeep) → IsProperBzl (level (bzl_view_of tree)) → NoBzlTree (bzl_layout (level (bzl_view_of tree))))
+      → FormatsBzlTo text (Err told)
+  past_limits tree reads s.Memory told a b c large deep unread = subst (λ t. FormatsBzlTo text (Err t)) (sym (c refl)) tt
+  past_limits tree reads s.TooLarge told a b c large deep unread = subst (λ t. FormatsBzlTo text (Err t)) (sym (a refl)) (tree, reads, large refl)
+  past_limits tree reads s.TooDeep told a b c large deep unread =
+      subst (λ t. FormatsBzlTo text (Err t)) (sym (b refl)) (tree, reads, (deep refl).0, (deep refl).1, unread refl (level_proper proper keeps text tree reads))
+
+  -- told of the value that was read, and of the same levelled
+  pub limits_told : (items leveled : List BzlItem) → Says text (Ok items) → leveled ≡ level items → (fault : SetFault) (told : FormatFault)
+      → (fault ≡ s.TooLarge → told ≡ f.TooLarge) → (fault ≡ s.TooDeep → told ≡ f.TooDeep) → (fault ≡ s.Memory → told ≡ f.Memory)
+      → (◌≡◌ {A = Result A SetFault} (Err fault) (Err s.TooLarge) → limit < length (bzl_layout leveled))
+      → (◌≡◌ {A = Result A SetFault} (Err fault) (Err s.TooDeep) → (length (bzl_layout leveled) ≤ limit) × (depth_limit < depth_of (bzl_drawn leveled)))
+      → (◌≡◌ {A = Result A SetFault} (Err fault) (Err s.TooDeep) → IsProperBzl leveled → NoBzlTree (bzl_layout leveled))
+      → FormatsBzlTo text (Err told)
+  limits_told items leveled says same fault told a b c large deep unread =
+      let tree : Node = says.0 in
+      let made : leveled ≡ level (bzl_view_of tree) = subst (λ z. leveled ≡ level z) says.2 same in
+      past_limits tree says.1 fault told a b c
+      (subst (λ z. ◌≡◌ {A = Result A SetFault} (Err fault) (Err s.TooLarge) → limit < length (bzl_layout z)) made large)
+      (subst (λ z. ◌≡◌ {A = Result A SetFault} (Err fault) (Err s.TooDeep) → (length (bzl_layout z) ≤ limit) × (depth_limit < depth_of (bzl_drawn z))) made deep)
+      (subst (λ z. ◌≡◌ {A = Result A SetFault} (Err fault) (Err s.TooDeep) → IsProperBzl z → NoBzlTree (bzl_layout z)) made unread)
