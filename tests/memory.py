@@ -110,7 +110,7 @@ ROWS = {
         [
             Left(2, b"", refused("print deps") + told_of("print", "NoTarget (41)")),
             Left(2, b"[:x]\na t\n" + X, refused("delete")),
-            Left(2, b"[:x]\n", refused("print")),
+            # the last command takes no memory: it looks at a file of no rules, and no step copies its command
             Left(2, b"", UNREAD + told_of("print", "NoTarget (41)")),
         ],
         [refused("print deps", "delete", "print"), refused("delete", "print")],

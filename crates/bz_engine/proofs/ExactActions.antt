@@ -4,8 +4,8 @@ use Rattle.bz_tree.specs.Laws.{OneReading}
 use Rattle.bz_items.specs.Characters.{Bytes}
 use Rattle.bz_value.specs.declared.value.Item.{Item}
 use Rattle.bz_attribute.specs.declared.refusal.Refusal.{Refusal}
-use Rattle.bz_journal.specs.declared.action.Action.{Action}
-use Rattle.bz_journal.specs.declared.action.Action.TheVariants.{Do, Format, Undo, Redo}
+use Rattle.bz_journal.specs.Actions.{Action}
+use Rattle.bz_journal.specs.Actions.{Do, Format, Undo, Redo}
 use Rattle.bz_journal.specs.Meaning.{Meaning, EffectMeans, Formats}
 use Rattle.bz_journal.specs.History.{History, Answer, Makes, Leads, after_meaning, present}
 use Rattle.bz_engine.specs.Run.{LeadsBy}

@@ -1,5 +1,6 @@
 //! One step.
 ghost use Rattle.std.specs.Prelude.{◌≡◌, ◌≢◌, ◌⊎◌, ◌++◌, [], ◌∷◌, ℕ, List, Option, Some, None, Ok, Err, true, IsSome, IfOk, OnOk, OnErr};
+ghost use Rattle.bz_journal.specs.Actions.{action_in};
 ghost use Rattle.bz_journal.specs.History.{History, Answer, Leads};
 ghost use Rattle.bz_journal.specs.Listing.{listing};
 ghost use Rattle.bz_journal.specs.declared.action.Reply.TheVariants as Reply;
@@ -101,11 +102,17 @@ pub(crate) fn refuse<E: Sink>(
 }
 
 // Does an action in the open file of the package with this number: what it prints is kept, and a refusal is told.
-fn act_at<E: Sink>(run: &mut Run, place: usize, action: &Action, command: &str, err: &mut E) -> Cut
+fn act_at<E: Sink>(
+    run: &mut Run,
+    place: usize,
+    action: &Action<'_>,
+    command: &str,
+    err: &mut E,
+) -> Cut
     requires { IsSome (file_at place run.old.workspace) }
     ensures kinds { (result ≡ Cut.Whole) ⊎ (result ≡ Cut.Memory) }
     ensures whole { result ≡ Cut.Whole → (file : Opened) × (answer : Answer) × (history : History) × (file_at place run.old.workspace ≡ Some file)
-        × Leads action.now command.now file.history answer history × (state_in run.new ≡ answered place file answer history (state_in run.old))
+        × Leads (action_in action.now) command.now file.history answer history × (state_in run.new ≡ answered place file answer history (state_in run.old))
         × Tells (E.faults err.old) (E.faults err.new) (E.contents err.old) (E.contents err.new) (told_of file.name command.now answer) }
 {
     match run.workspace.act(place, action, command) {
@@ -156,9 +163,8 @@ fn act_on<E: Sink>(
         × Tells (E.faults err.old) (E.faults err.new) (E.contents err.old) (E.contents err.new) lines }
 {
     match action_of(&asking.verb, target) {
-        Ok(Some(action)) => act_at(run, place, &action, asking.text, err),
-        Ok(None) => list_at(alloc, run, place, asking.text, err),
-        Err(_) => refuse(run, place, asking.text, Refusal::Memory, err),
+        Some(action) => act_at(run, place, &action, asking.text, err),
+        None => list_at(alloc, run, place, asking.text, err),
     }
 }
 

@@ -59,7 +59,7 @@ fn leave<E: Sink>(run: &mut Run, place: usize, fault: PairFault, err: &mut E) ->
 fn keep_at<F: Files, E: Sink>(
     run: &mut Run,
     place: usize,
-    action: &Action,
+    action: &Action<'_>,
     command: &str,
     files: &mut F,
     err: &mut E,
@@ -101,9 +101,8 @@ fn keep_on<F: Files, E: Sink>(
         return Cut::Whole;
     }
     match action_of(&asking.verb, target) {
-        Ok(Some(action)) => keep_at(run, place, &action, asking.text, files, err),
-        Ok(None) => list_at(alloc, run, place, asking.text, err),
-        Err(_) => refuse(run, place, asking.text, Refusal::Memory, err),
+        Some(action) => keep_at(run, place, &action, asking.text, files, err),
+        None => list_at(alloc, run, place, asking.text, err),
     }
 }
 

@@ -1,47 +1,26 @@
 //! Commands and targets as a session takes them.
-ghost use Rattle.std.specs.Prelude.{◌≡◌, IfOk, map};
+ghost use Rattle.std.specs.Prelude.{◌≡◌, map, option_map};
 ghost use Rattle.std.specs.List.{list_any};
 ghost use Rattle.bz_line.specs.Paths.{HasPath};
+ghost use Rattle.bz_journal.specs.Actions.{action_in};
 ghost use Rattle.bz_line.specs.Shown.{asked_in};
 ghost use Rattle.bz_engine.specs.Steps as s;
 ghost use Rattle.bz_engine.specs.Shown.{names_in, shows_in, shown_in};
 ghost use Rattle.bz_engine.specs.Steps.{is_of_input, names_input, shows_input, all_steps};
 
-use bz_items::Memory;
 use bz_journal::Action;
-use bz_label::{Target, Which};
+use bz_label::Target;
 use bz_line::{Asked, Asking, Verb};
 
-fn copy_which(which: &Which) -> Result<Which, Memory>
-    ensures { IfOk result (λ copy. copy ≡ which.now) }
-{
-    Ok(match which {
-        Which::All => Which::All,
-        Which::Kind(kind) => Which::Kind(kind.copy()?),
-        Which::Line(line) => Which::Line(*line),
-        Which::Package => Which::Package,
-        Which::Name(name) => Which::Name(name.copy()?),
-    })
-}
-
-fn copy_target(target: &Target) -> Result<Target, Memory>
-    ensures { IfOk result (λ copy. copy ≡ target.now) }
-{
-    Ok(Target {
-        package: target.package.copy()?,
-        which: copy_which(&target.which)?,
-    })
-}
-
-/// What the session of the target's file is asked to do; to list its texts is no action. The error: memory was refused.
-pub(crate) fn action_of(verb: &Verb, target: &Target) -> Result<Option<Action>, Memory>
-    ensures { IfOk result (λ action. action ≡ s.action_of target.now verb.now) }
+/// What the session of the target's file is asked to do; to list its texts is no action.
+pub(crate) fn action_of<'a>(verb: &'a Verb, target: &'a Target) -> Option<Action<'a>>
+    ensures { option_map action_in result ≡ s.action_of target.entry.now verb.entry.now }
 {
     match verb {
-        Verb::Do(command) => Ok(Some(Action::Do(command.copy()?, copy_target(target)?))),
-        Verb::Undo(count) => Ok(Some(Action::Undo(*count))),
-        Verb::Redo(count) => Ok(Some(Action::Redo(*count))),
-        Verb::Journal => Ok(None),
+        Verb::Do(command) => Some(Action::Do(command, target)),
+        Verb::Undo(count) => Some(Action::Undo(*count)),
+        Verb::Redo(count) => Some(Action::Redo(*count)),
+        Verb::Journal => None,
     }
 }
 

@@ -3,8 +3,8 @@ use Rattle.std.proofs.Common.{◌≡◌, ◌-◌, ◌+◌, ℕ, List, [], ◌∷
 use Rattle.std.specs.Prelude.{◌==◌, bytes_eq}
 use Rattle.bz_items.specs.Characters.{Bytes}
 use Rattle.bz_attribute.specs.declared.refusal.Refusal.TheVariants.{TooFar, Full}
-use Rattle.bz_journal.specs.declared.action.Action.{Action}
-use Rattle.bz_journal.specs.declared.action.Action.TheVariants.{Do, Format, Undo, Redo}
+use Rattle.bz_journal.specs.Actions.{Action}
+use Rattle.bz_journal.specs.Actions.{Do, Format, Undo, Redo}
 use Rattle.bz_journal.specs.declared.action.Reply.TheVariants.{Changed, Moved}
 use Rattle.bz_journal.specs.Meaning.{Meaning, gives, refuses}
 use Rattle.bz_journal.specs.History.{History, Answer, Acts, IsFree, Makes, Runs, after_meaning, changed, most_steps, moved, present, unchanged}

@@ -17,7 +17,7 @@ use Rattle.bz_command.specs.Effect.{effect, printed}
 use Rattle.bz_attribute.specs.declared.refusal.Refusal.{Refusal}
 use Rattle.bz_attribute.specs.declared.refusal.Refusal.TheVariants.{Memory}
 use Rattle.bz_redraw.specs.Redrawn.{IsWritten}
-use Rattle.bz_journal.specs.declared.action.Action.TheVariants.{Do}
+use Rattle.bz_journal.specs.Actions.{Do}
 use Rattle.bz_journal.specs.declared.action.Reply.{Reply}
 use Rattle.bz_journal.specs.Meaning.{gives, refuses, told, written, EffectMeans}
 use Rattle.bz_journal.specs.History.{History, Answer, present, unchanged, after_meaning, MakesOrWants}

@@ -5,8 +5,8 @@ use Rattle.std.proofs.lemmas.List.{get_or-take, get_or_append_left, length-take-
 use Rattle.bz_keep.specs.Resuming.{Follows}
 use Rattle.bz_items.specs.Characters.{Bytes}
 use Rattle.bz_attribute.specs.declared.refusal.Refusal.TheVariants.{TooFar, Full}
-use Rattle.bz_journal.specs.declared.action.Action.{Action}
-use Rattle.bz_journal.specs.declared.action.Action.TheVariants.{Do, Format, Undo, Redo}
+use Rattle.bz_journal.specs.Actions.{Action}
+use Rattle.bz_journal.specs.Actions.{Do, Format, Undo, Redo}
 use Rattle.bz_journal.specs.declared.action.Reply.{Reply}
 use Rattle.bz_journal.specs.declared.action.Reply.TheVariants.{Changed, Moved}
 use Rattle.bz_journal.specs.Meaning.{Meaning, gives, refuses}

@@ -20,7 +20,7 @@ use Rattle.bz_tidy.specs.Laws.{ProperStays, TidySettles, TidyStays, CommentsStay
 use Rattle.bz_tidy.specs.Passes.{tidied}
 use Rattle.bz_write.specs.Written.{layout}
 use Rattle.bz_attribute.specs.declared.refusal.Refusal.TheVariants.{Full, TooLarge, TooDeep}
-use Rattle.bz_journal.specs.declared.action.Action.TheVariants.{Format}
+use Rattle.bz_journal.specs.Actions.{Format}
 use Rattle.bz_journal.specs.declared.action.Reply.{Reply}
 use Rattle.bz_journal.specs.declared.action.Reply.TheVariants.{Changed}
 use Rattle.bz_journal.specs.Meaning.{Meaning, gives, refuses, written, Formats}

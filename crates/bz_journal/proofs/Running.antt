@@ -1,7 +1,9 @@
 -- A run that goes on.
-use Rattle.std.proofs.Common.{◌++◌, ◌∷◌, [], List, refl, subst}
+use Rattle.std.proofs.Common.{ℕ, suc, ◌≡◌, ◌+◌, ◌<◌, ◌++◌, ◌∷◌, [], List, length, map, take, get_or, refl, sym, ap, subst, ◌∙◌}
+use Rattle.std.proofs.lemmas.List.{map-append, take_more}
 use Rattle.bz_journal.specs.History.{History, Answer, Acts, Runs}
-use Rattle.bz_journal.specs.declared.action.Action.{Action}
+use Rattle.bz_journal.specs.Actions.{Action, action_in}
+use Rattle.bz_journal.specs.declared.action.Action as d
 
 -- by one action
 pub run_more : (h : History) (actions : List Action) (answers : List Answer) (mid : History) (action : Action) (answer : Answer) (after : History)
@@ -10,3 +12,13 @@ run_more h [] [] mid action answer after run act = (after, subst (λ (m : Histor
 run_more h [] (x ∷ answers) mid action answer after run act = absurd run
 run_more h (a ∷ actions) [] mid action answer after run act = absurd run
 run_more h (a ∷ actions) (x ∷ answers) mid action answer after run act = (run.0, run.1, run_more run.0 actions answers mid action answer after run.2 act)
+
+-- the same of actions that borrow, up to one of a list
+pub run_turn : (h : History) (xs : List d.Action) (k : ℕ) (x : d.Action) (answers : List Answer) (mid : History) (answer : Answer) (after : History)
+    → k < length xs → x ≡ get_or xs k x → Runs h (map action_in (take k xs)) answers mid → Acts (action_in x) [] mid answer after
+    → Runs h (map action_in (take (k + 1) xs)) (answers ++ answer ∷ []) after
+run_turn h xs k x answers mid answer after l is run act =
+    let next : map action_in (take (k + 1) xs) ≡ map action_in (take k xs) ++ action_in x ∷ [] =
+    ap (map action_in) (take_more xs k x l ∙ ap (λ (y : d.Action). take k xs ++ y ∷ []) (sym is)) ∙ map-append action_in (take k xs) (x ∷ []) in
+    subst (λ (actions : List Action). Runs h actions (answers ++ answer ∷ []) after) (sym next)
+    (run_more h (map action_in (take k xs)) answers mid (action_in x) answer after run act)

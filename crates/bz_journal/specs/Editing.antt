@@ -14,8 +14,8 @@ use Rattle.bz_words.specs.declared.command.Operation.{Operation}
 use Rattle.bz_words.specs.Proper.{IsProperCommand}
 use Rattle.bz_names.specs.Index.{Index, IsIndexOf}
 use Rattle.bz_redraw.specs.Redrawn.{IsWritten}
-use Rattle.bz_journal.specs.declared.action.Action.{Action}
-use Rattle.bz_journal.specs.declared.action.Action.TheVariants.{Do, Format, Undo, Redo}
+use Rattle.bz_journal.specs.Actions.{Action}
+use Rattle.bz_journal.specs.Actions.{Do, Format, Undo, Redo}
 use Rattle.bz_journal.specs.declared.action.Reply.{Reply}
 use Rattle.bz_journal.specs.declared.action.Reply.TheVariants.{Changed}
 use Rattle.bz_journal.specs.Meaning.{written}

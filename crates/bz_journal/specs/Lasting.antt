@@ -6,7 +6,7 @@ use Rattle.bz_items.specs.Characters.{Bytes}
 use Rattle.bz_resume.specs.declared.fault.ResumeFault.{ResumeFault}
 use Rattle.bz_resume.specs.declared.fault.ResumeFault.TheVariants as f
 use Rattle.bz_resume.specs.Journals.{Journal, AreSmall, journal_text, stands}
-use Rattle.bz_journal.specs.declared.action.Action.{Action}
+use Rattle.bz_journal.specs.Actions.{Action}
 use Rattle.bz_journal.specs.History.{History, Answer, Runs}
 use Rattle.bz_journal.specs.Shown.{history_of}
 use Rattle.bz_journal.specs.State.{State, trail_of}

@@ -1,3 +1,4 @@
+pub mod Actions
 pub mod Editing
 pub mod Faults
 pub mod Fixed

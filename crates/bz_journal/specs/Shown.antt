@@ -4,8 +4,8 @@ use Rattle.bz_trail.specs.Trails.{Trail, behind, ahead, are_even}
 use Rattle.bz_trail.specs.Shown.{texts_of}
 use Rattle.bz_journal.specs.History.{History}
 use Rattle.bz_journal.specs.State.{State, trail_of}
-use Rattle.bz_journal.specs.declared.action.Action.{Action}
-use Rattle.bz_journal.specs.declared.action.Action.TheVariants.{Do, Format, Undo, Redo}
+use Rattle.bz_journal.specs.Actions.{Action}
+use Rattle.bz_journal.specs.Actions.{Do, Format, Undo, Redo}
 
 -- the history that a session keeps
 abbrev pub history_of : State → History

@@ -3,11 +3,11 @@ use bz_items::Text;
 use bz_label::Target;
 use bz_words::Command;
 
-/// What a session is asked to do.
-#[derive(Debug, Drop)]
-pub enum Action {
+/// What a session is asked to do. It borrows its command and target, so that one command serves all targets with no copy.
+#[derive(Clone, Copy, Debug)]
+pub enum Action<'a> {
     /// The command, on the rules of the present text that the target means.
-    Do(Command, Target),
+    Do(&'a Command, &'a Target),
     /// The whole file is tidied and laid out.
     Format,
     /// Back by so many steps.

@@ -7,11 +7,11 @@ ghost use Rattle.bz_view.specs.View.{view_of};
 ghost use Rattle.bz_attribute.specs.declared.refusal.Refusal.{Refusal};
 ghost use Rattle.bz_command.specs.Effect.{effect, printed};
 ghost use Rattle.bz_names.specs.Index.{IsIndexOf};
-ghost use Rattle.bz_journal.specs.declared.action.Action.{Action};
+ghost use Rattle.bz_journal.specs.Actions as a;
 ghost use Rattle.bz_journal.specs.History.{Acts, MakesOrWants};
 ghost use Rattle.bz_journal.specs.Shown.{history_of};
 
-use crate::action::{Action, Reply};
+use crate::action::Reply;
 use crate::beside::{FEWEST, kept, lines_for, value_of};
 use crate::digests::OptionalDigests;
 use crate::meaning::{reads_back, told};
@@ -66,7 +66,7 @@ fn answer_of(
 ) -> Option<Result<Reply, Refusal>>
     requires value { file.now ≡ view_of session.now.tree }
     requires names { IfSome names (λ index. IsIndexOf index.now file.now) }
-    ensures { IfSome result (λ answer. (note : Bytes) → MakesOrWants (Action.Do command.now target.now) note (history_of session.now) answer (history_of session.now)) }
+    ensures { IfSome result (λ answer. (note : Bytes) → MakesOrWants (a.Do command.now target.now) note (history_of session.now) answer (history_of session.now)) }
 {
     let alloc = session.alloc();
     let here = session.present();
@@ -120,15 +120,13 @@ pub(crate) fn answer_noted(
     session: &Session<OptionalDigests>,
     value: &mut Option<File>,
     names: &mut Option<Names>,
-    action: &Action,
     command: &Command,
     target: &Target,
     note: &str,
 ) -> Option<Result<Reply, Refusal>>
     requires value { IfSome value.old (λ items. items ≡ view_of session.now.tree) }
     requires names { IfSome names.old (λ index. IsIndexOf index (view_of session.now.tree)) }
-    requires action { action.now ≡ Action.Do command.now target.now }
-    ensures acts { IfSome result (λ answer. Acts action.now note.now (history_of session.now) answer (history_of session.now)) }
+    ensures acts { IfSome result (λ answer. Acts (a.Do command.now target.now) note.now (history_of session.now) answer (history_of session.now)) }
     ensures value { IfSome value.new (λ items. items ≡ view_of session.now.tree) }
     ensures names { IfSome names.new (λ index. IsIndexOf index (view_of session.now.tree)) }
 {

@@ -15,14 +15,14 @@ ghost use Rattle.bz_command.specs.Effect.{effect, printed};
 ghost use Rattle.bz_trail.specs.Trails.{IsSmall};
 ghost use Rattle.bz_redraw.specs.Redrawn.{IsWritten};
 ghost use Rattle.bz_attribute.specs.declared.refusal.Refusal.{Refusal};
-ghost use Rattle.bz_journal.specs.declared.action.Action.{Action};
+ghost use Rattle.bz_journal.specs.Actions as a;
 ghost use Rattle.bz_journal.specs.History.{after_meaning, note_limit, present, MakesOrWants};
 ghost use Rattle.bz_journal.specs.Lines.{AreLinesOf};
 ghost use Rattle.bz_journal.specs.Meaning.{gives, refuses, told, written};
 ghost use Rattle.bz_journal.specs.Shown.{history_of};
 ghost use Rattle.bz_journal.specs.State.{trail_of};
 
-use crate::action::{Action, Reply};
+use crate::action::Reply;
 use crate::digests::OptionalDigests;
 use crate::laws::written_is_drawn;
 use crate::lines::Lines;
@@ -411,7 +411,7 @@ pub(crate) fn edit_beside(
     requires long { length (spell_node session.old.tree) ≤ long.old }
     requires value { IfSome value.old (λ items. items ≡ view_of session.old.tree) }
     requires written { IsWritten (view_of session.old.tree) session.old.tree }
-    ensures makes { MakesOrWants (Action.Do command.now target.now) note.now (history_of session.old) result (history_of session.new) }
+    ensures makes { MakesOrWants (a.Do command.now target.now) note.now (history_of session.old) result (history_of session.new) }
     ensures unmoved { OnErr result (session.new ≡ session.old) }
     ensures small { IsSmall (trail_of session.old) → IsSmall (trail_of session.new) }
     ensures value { IfSome value.new (λ items. items ≡ view_of session.new.tree) }

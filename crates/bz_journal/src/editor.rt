@@ -12,7 +12,8 @@ ghost use Rattle.bz_view.specs.View.{view_of};
 ghost use Rattle.bz_redraw.specs.Redrawn.{IsWritten};
 ghost use Rattle.bz_keep.specs.declared.fault.PairFault.{PairFault};
 ghost use Rattle.bz_attribute.specs.declared.refusal.Refusal.{Refusal};
-ghost use Rattle.bz_journal.specs.declared.action.Action.{Action};
+ghost use Rattle.bz_journal.specs.Actions as a;
+ghost use Rattle.bz_journal.specs.Actions.{action_in};
 ghost use Rattle.bz_journal.specs.declared.action.Reply.{Reply};
 ghost use Rattle.bz_journal.specs.Editing.{IsCommandDone};
 ghost use Rattle.bz_journal.specs.Fixed.{IsFormatted};
@@ -81,10 +82,10 @@ fn is_changed(reply: &Result<Reply, Refusal>) -> bool
 }
 
 /// Whether this is the answer to a command that changed the text.
-fn is_command_done(action: &Action, reply: &Result<Reply, Refusal>) -> bool
-    ensures { result ≡ true → IsCommandDone action.now reply.now }
+fn is_command_done(action: &Action<'_>, reply: &Result<Reply, Refusal>) -> bool
+    ensures { result ≡ true → IsCommandDone (action_in action.now) reply.now }
 {
-    match action {
+    match *action {
         Action::Do(command, _) => {
             // What is read of the command, so that its words are known to be proper.
             let _operation = &command.operation;
@@ -98,16 +99,16 @@ fn is_command_done(action: &Action, reply: &Result<Reply, Refusal>) -> bool
 /// how many bytes it has at most.
 fn act_by_session(
     session: &mut Session<OptionalDigests>,
-    action: &Action,
+    action: &Action<'_>,
     note: &str,
     written: &mut bool,
     long: &mut usize,
 ) -> Result<Reply, Refusal>
-    ensures acts { Acts action.now note.now (history_of session.old) result (history_of session.new) }
-    ensures formatted { OnOk result (IsFormat action.now → IsFormatted (present (history_of session.old)) (present (history_of session.new))) }
+    ensures acts { Acts (action_in action.now) note.now (history_of session.old) result (history_of session.new) }
+    ensures formatted { OnOk result (IsFormat (action_in action.now) → IsFormatted (present (history_of session.old)) (present (history_of session.new))) }
     ensures err { OnErr result (history_of session.new ≡ history_of session.old) }
     ensures unmoved { OnErr result (session.new ≡ session.old) }
-    ensures even { length note.now ≤ note_limit → IsOverEven action.now (trail_of session.old) → IsOk result }
+    ensures even { length note.now ≤ note_limit → IsOverEven (action_in action.now) (trail_of session.old) → IsOk result }
     ensures small { IsSmall (trail_of session.old) → IsSmall (trail_of session.new) }
     ensures written { written.new ≡ true → IsWritten (view_of session.new.tree) session.new.tree }
     ensures long { length (spell_node session.new.tree) ≤ long.new }
@@ -126,7 +127,6 @@ fn edit_noted(
     session: &mut Session<OptionalDigests>,
     value: &mut Option<File>,
     long: &mut usize,
-    action: &Action,
     command: &Command,
     target: &Target,
     note: &str,
@@ -134,8 +134,7 @@ fn edit_noted(
     requires value { IfSome value.old (λ items. items ≡ view_of session.old.tree) }
     requires long { length (spell_node session.old.tree) ≤ long.old }
     requires written { IsWritten (view_of session.old.tree) session.old.tree }
-    requires action { action.now ≡ Action.Do command.now target.now }
-    ensures acts { Acts action.now note.now (history_of session.old) result (history_of session.new) }
+    ensures acts { Acts (a.Do command.now target.now) note.now (history_of session.old) result (history_of session.new) }
     ensures unmoved { OnErr result (session.new ≡ session.old) }
     ensures small { IsSmall (trail_of session.old) → IsSmall (trail_of session.new) }
     ensures value { IfSome value.new (λ items. items ≡ view_of session.new.tree) }
@@ -212,22 +211,21 @@ impl Editor {
     /// Does an action with a note, as `Session::act_noted` does. Behind a command that changed the text the next ones cost what
     /// they change: the value is kept, and only the lines of the statements that were exchanged are drawn. The errors are those of
     /// `Session::act_noted`.
-    pub fn act_noted(&mut self, action: &Action, note: &str) -> Result<Reply, Refusal>
-        ensures acts { Acts action.now note.now (history_of self.old) result (history_of self.new) }
-        ensures formatted { OnOk result (IsFormat action.now → IsFormatted (present (history_of self.old)) (present (history_of self.new))) }
+    pub fn act_noted(&mut self, action: &Action<'_>, note: &str) -> Result<Reply, Refusal>
+        ensures acts { Acts (action_in action.now) note.now (history_of self.old) result (history_of self.new) }
+        ensures formatted { OnOk result (IsFormat (action_in action.now) → IsFormatted (present (history_of self.old)) (present (history_of self.new))) }
         ensures err { OnErr result (history_of self.new ≡ history_of self.old) }
         ensures unmoved { OnErr result (self.new ≡ self.old) }
-        ensures even { length note.now ≤ note_limit → IsOverEven action.now (trail_of self.old) → IsOk result }
+        ensures even { length note.now ≤ note_limit → IsOverEven (action_in action.now) (trail_of self.old) → IsOk result }
         ensures small { IsSmall (trail_of self.old) → IsSmall (trail_of self.new) }
     {
-        if let Action::Do(command, target) = action {
+        if let Action::Do(command, target) = *action {
             let asks = command.prints();
             if asks && (self.written || self.asked) {
                 if let Some(answer) = answer_noted(
                     &self.session,
                     &mut self.value,
                     &mut self.names,
-                    action,
                     command,
                     target,
                     note,
@@ -242,7 +240,6 @@ impl Editor {
                     &mut self.session,
                     &mut self.value,
                     &mut self.long,
-                    action,
                     command,
                     target,
                     note,
@@ -263,12 +260,12 @@ impl Editor {
     /// Does an action with a note and keeps it, as `Session::keep_noted` does. The errors are those.
     pub fn keep_noted<F: Files>(
         &mut self,
-        action: &Action,
+        action: &Action<'_>,
         note: &str,
         file: &str,
         files: &mut F,
     ) -> Result<Reply, KeepFault>
-        ensures keeps { Keeps action.now note.now (history_of self.old) result (history_of self.new) }
+        ensures keeps { Keeps (action_in action.now) note.now (history_of self.old) result (history_of self.new) }
         ensures refused { IfErr result (λ fault. IsRefused fault → (self.new ≡ self.old) × (files.new ≡ files.old)) }
         ensures small { IsSmall (trail_of self.old) → IsSmall (trail_of self.new) }
 

@@ -4,6 +4,7 @@ ghost use Rattle.bz_files.specs.Faults.{Rises};
 ghost use Rattle.bz_files.specs.Folder.{Elapses, Folder};
 ghost use Rattle.bz_keep.specs.Resuming.{Follows, Holds, OthersStay, Resumes, Survives};
 ghost use Rattle.bz_trail.specs.Trails.{IsSmall};
+ghost use Rattle.bz_journal.specs.Actions.{action_in};
 ghost use Rattle.bz_journal.specs.History.{History, present};
 ghost use Rattle.bz_journal.specs.Keeping.{IsRefused, IsWriteOrOpen, Keeps};
 ghost use Rattle.bz_journal.specs.Lasting.{IsSaved, saved};
@@ -31,11 +32,11 @@ impl<D: Digests + Drop> Session<D> {
     /// Does an action with an empty note, and keeps it, as `keep_noted` does.
     pub fn keep<F: Files>(
         &mut self,
-        action: &Action,
+        action: &Action<'_>,
         file: &str,
         files: &mut F,
     ) -> Result<Reply, KeepFault>
-        ensures keeps { Keeps action.now [] (history_of self.old) result (history_of self.new) }
+        ensures keeps { Keeps (action_in action.now) [] (history_of self.old) result (history_of self.new) }
         ensures refused { IfErr result (λ fault. IsRefused fault → (self.new ≡ self.old) × (files.new ≡ files.old)) }
         ensures small { IsSmall (trail_of self.old) → IsSmall (trail_of self.new) }
 
@@ -72,12 +73,12 @@ impl<D: Digests + Drop> Session<D> {
     /// read, and at these nothing was replaced at any moment; `Write`: one of the two could not be replaced.
     pub fn keep_noted<F: Files>(
         &mut self,
-        action: &Action,
+        action: &Action<'_>,
         note: &str,
         file: &str,
         files: &mut F,
     ) -> Result<Reply, KeepFault>
-        ensures keeps { Keeps action.now note.now (history_of self.old) result (history_of self.new) }
+        ensures keeps { Keeps (action_in action.now) note.now (history_of self.old) result (history_of self.new) }
         ensures refused { IfErr result (λ fault. IsRefused fault → (self.new ≡ self.old) × (files.new ≡ files.old)) }
         ensures small { IsSmall (trail_of self.old) → IsSmall (trail_of self.new) }
 

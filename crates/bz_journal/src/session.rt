@@ -9,7 +9,8 @@ ghost use Rattle.bz_edit.specs.Steps.{weight as weight_held};
 ghost use Rattle.bz_trail.specs.Trails.{IsSmall, are_even, behind, ahead};
 ghost use Rattle.bz_attribute.specs.declared.refusal.Refusal.{Refusal};
 ghost use Rattle.bz_journal.specs.declared.action.Reply.{Reply};
-ghost use Rattle.bz_journal.specs.declared.action.Action.{Action};
+ghost use Rattle.bz_journal.specs.Actions as a;
+ghost use Rattle.bz_journal.specs.Actions.{action_in};
 ghost use Rattle.bz_journal.specs.History.{present, opened, changed, after_text, unchanged, most_steps, note_limit, IsFormat, Acts, MakesOrWants, Runs};
 ghost use Rattle.bz_journal.specs.Fixed.{IsFormatted};
 ghost use Rattle.bz_journal.specs.State.{trail_of};
@@ -196,12 +197,12 @@ impl<D: Digests + Drop> Session<D> {
     }
 
     /// Does an action with an empty note, as `act_noted` does.
-    pub fn act(&mut self, action: &Action) -> Result<Reply, Refusal>
-        ensures acts { Acts action.now [] (history_of self.old) result (history_of self.new) }
-        ensures formatted { OnOk result (IsFormat action.now → IsFormatted (present (history_of self.old)) (present (history_of self.new))) }
+    pub fn act(&mut self, action: &Action<'_>) -> Result<Reply, Refusal>
+        ensures acts { Acts (action_in action.now) [] (history_of self.old) result (history_of self.new) }
+        ensures formatted { OnOk result (IsFormat (action_in action.now) → IsFormatted (present (history_of self.old)) (present (history_of self.new))) }
         ensures err { OnErr result (history_of self.new ≡ history_of self.old) }
         ensures unmoved { OnErr result (self.new ≡ self.old) }
-        ensures even { IsOverEven action.now (trail_of self.old) → IsOk result }
+        ensures even { IsOverEven (action_in action.now) (trail_of self.old) → IsOk result }
         ensures small { IsSmall (trail_of self.old) → IsSmall (trail_of self.new) }
     {
         self.act_noted(action, "")
@@ -213,12 +214,12 @@ impl<D: Digests + Drop> Session<D> {
     /// which is 100,000 steps from the first; `Memory`: a growth was refused, never at undo and redo by no step or by steps whose
     /// edits hold as many parts as they cover. After formatting the present text is formatted: to format it once more leaves it
     /// as it is.
-    pub fn act_noted(&mut self, action: &Action, note: &str) -> Result<Reply, Refusal>
-        ensures acts { Acts action.now note.now (history_of self.old) result (history_of self.new) }
-        ensures formatted { OnOk result (IsFormat action.now → IsFormatted (present (history_of self.old)) (present (history_of self.new))) }
+    pub fn act_noted(&mut self, action: &Action<'_>, note: &str) -> Result<Reply, Refusal>
+        ensures acts { Acts (action_in action.now) note.now (history_of self.old) result (history_of self.new) }
+        ensures formatted { OnOk result (IsFormat (action_in action.now) → IsFormatted (present (history_of self.old)) (present (history_of self.new))) }
         ensures err { OnErr result (history_of self.new ≡ history_of self.old) }
         ensures unmoved { OnErr result (self.new ≡ self.old) }
-        ensures even { length note.now ≤ note_limit → IsOverEven action.now (trail_of self.old) → IsOk result }
+        ensures even { length note.now ≤ note_limit → IsOverEven (action_in action.now) (trail_of self.old) → IsOk result }
         ensures small { IsSmall (trail_of self.old) → IsSmall (trail_of self.new) }
     {
         if note.len() > MOST_NOTE {
@@ -228,19 +229,19 @@ impl<D: Digests + Drop> Session<D> {
     }
 
     /// Does an action whose note isn't too long.
-    fn do_action(&mut self, action: &Action, note: &str) -> Result<Reply, Refusal>
+    fn do_action(&mut self, action: &Action<'_>, note: &str) -> Result<Reply, Refusal>
         requires { length note.now ≤ note_limit }
-        ensures makes { MakesOrWants action.now note.now (history_of self.old) result (history_of self.new) }
-        ensures formatted { OnOk result (IsFormat action.now → IsFormatted (present (history_of self.old)) (present (history_of self.new))) }
+        ensures makes { MakesOrWants (action_in action.now) note.now (history_of self.old) result (history_of self.new) }
+        ensures formatted { OnOk result (IsFormat (action_in action.now) → IsFormatted (present (history_of self.old)) (present (history_of self.new))) }
         ensures unmoved { OnErr result (self.new ≡ self.old) }
-        ensures even { IsOverEven action.now (trail_of self.old) → IsOk result }
+        ensures even { IsOverEven (action_in action.now) (trail_of self.old) → IsOk result }
         ensures small { IsSmall (trail_of self.old) → IsSmall (trail_of self.new) }
     {
-        match action {
+        match *action {
             Action::Do(command, target) => self.edit(command, target, note),
             Action::Format => self.format(note),
-            Action::Undo(n) => self.undo(*n),
-            Action::Redo(n) => self.redo(*n),
+            Action::Undo(n) => self.undo(n),
+            Action::Redo(n) => self.redo(n),
         }
     }
 
@@ -335,7 +336,7 @@ impl<D: Digests + Drop> Session<D> {
     /// Does a command on the present text.
     fn edit(&mut self, command: &Command, target: &Target, note: &str) -> Result<Reply, Refusal>
         requires { length note.now ≤ note_limit }
-        ensures makes { MakesOrWants (Action.Do command.now target.now) note.now (history_of self.old) result (history_of self.new) }
+        ensures makes { MakesOrWants (a.Do command.now target.now) note.now (history_of self.old) result (history_of self.new) }
         ensures unmoved { OnErr result (self.new ≡ self.old) }
         ensures small { IsSmall (trail_of self.old) → IsSmall (trail_of self.new) }
     {
@@ -359,7 +360,7 @@ impl<D: Digests + Drop> Session<D> {
     /// Formats the present text.
     fn format(&mut self, note: &str) -> Result<Reply, Refusal>
         requires { length note.now ≤ note_limit }
-        ensures makes { MakesOrWants Action.Format note.now (history_of self.old) result (history_of self.new) }
+        ensures makes { MakesOrWants a.Format note.now (history_of self.old) result (history_of self.new) }
         ensures formatted { OnOk result (IsFormatted (present (history_of self.old)) (present (history_of self.new))) }
         ensures unmoved { OnErr result (self.new ≡ self.old) }
         ensures small { IsSmall (trail_of self.old) → IsSmall (trail_of self.new) }
@@ -374,7 +375,7 @@ impl<D: Digests + Drop> Session<D> {
 
     /// Goes back by n steps.
     fn undo(&mut self, n: u32) -> Result<Reply, Refusal>
-        ensures makes { (note : List ℕ) → MakesOrWants (Action.Undo n) note (history_of self.old) result (history_of self.new) }
+        ensures makes { (note : List ℕ) → MakesOrWants (a.Undo n) note (history_of self.old) result (history_of self.new) }
         ensures unmoved { OnErr result (self.new ≡ self.old) }
         ensures even { n ≤ self.old.cursor → are_even (take n (behind (trail_of self.old))) ≡ true → IsOk result }
         ensures small { IsSmall (trail_of self.old) → IsSmall (trail_of self.new) }
@@ -393,7 +394,7 @@ impl<D: Digests + Drop> Session<D> {
 
     /// Goes forward by n steps.
     fn redo(&mut self, n: u32) -> Result<Reply, Refusal>
-        ensures makes { (note : List ℕ) → MakesOrWants (Action.Redo n) note (history_of self.old) result (history_of self.new) }
+        ensures makes { (note : List ℕ) → MakesOrWants (a.Redo n) note (history_of self.old) result (history_of self.new) }
         ensures unmoved { OnErr result (self.new ≡ self.old) }
         ensures even { self.old.cursor + n ≤ length self.old.steps → are_even (take n (ahead (trail_of self.old))) ≡ true → IsOk result }
         ensures small { IsSmall (trail_of self.old) → IsSmall (trail_of self.new) }
@@ -456,11 +457,11 @@ impl<D: Digests + Drop> Session<D> {
     /// Room for all replies is taken first, unless it is there. The error: it was refused; no action has then run.
     pub fn run(
         &mut self,
-        actions: &[Action],
+        actions: &[Action<'_>],
         replies: &mut Vec<Result<Reply, Refusal>>,
     ) -> Result<(), Memory>
         ensures ok { OnOk result ((added : List (Result Reply Refusal)) × (replies.new.items ≡ replies.old.items ++ added)
-            × Runs (history_of self.old) actions.now added (history_of self.new)) }
+            × Runs (history_of self.old) (map action_in actions.now) added (history_of self.new)) }
         ensures err { OnErr result ((replies.new.items ≡ replies.old.items) × (history_of self.new ≡ history_of self.old)) }
         ensures room { vec_len replies.old + length actions.now ≤ vec_capacity replies.old → IsOk result }
         ensures small { IsSmall (trail_of self.old) → IsSmall (trail_of self.new) }

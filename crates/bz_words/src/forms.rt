@@ -27,10 +27,11 @@ pub(crate) fn given(holds: bool, operation: Operation) -> Read
     ensures { result ≡ c.given holds operation }
 {
     if holds {
-        Ok(operation)
-    } else {
-        Err(CommandFault::Arguments)
+        return Ok(operation);
     }
+    // By a call: let go of here, each form of it would be a path of this function's proof.
+    drop(operation);
+    Err(CommandFault::Arguments)
 }
 
 /// Whether the word is an identifier.

@@ -2,7 +2,6 @@
 #![tactic(auto)]
 
 mod command;
-mod copy;
 mod dicts;
 mod fault;
 mod fixing;

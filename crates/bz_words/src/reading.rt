@@ -288,7 +288,11 @@ fn too_long(alloc: Global, name: &Text) -> CommandFault
     ensures { (words : List Bytes) → c.command_in false (name.now ∷ words) ≡ Err result }
 {
     match known(name, Vec::new(alloc)) {
-        Some(_read) => CommandFault::Arguments,
+        Some(read) => {
+            // By a call: let go of here, each form of a command would be a path of this function's proof.
+            drop(read);
+            CommandFault::Arguments
+        }
         None => CommandFault::Unknown,
     }
 }

@@ -2,6 +2,7 @@
 ghost use Rattle.std.specs.Prelude.{◌≡◌, ◌<◌, ◌≤◌, map, length, Some, IsSome, string_bytes};
 ghost use Rattle.std.specs.Option.{option_map};
 ghost use Rattle.bz_files.specs.Faults.{Rises};
+ghost use Rattle.bz_journal.specs.Actions.{action_in};
 ghost use Rattle.bz_journal.specs.History.{History, Acts};
 ghost use Rattle.bz_journal.specs.Keeping.{IsWriteOrOpen, Keeps};
 ghost use Rattle.bz_journal.specs.Shown.{history_of};
@@ -47,11 +48,11 @@ impl Opened {
     /// Does an action, and keeps the journal and the file where the text is another one then.
     fn keep<F: Files>(
         &mut self,
-        action: &Action,
+        action: &Action<'_>,
         note: &str,
         files: &mut F,
     ) -> Result<Reply, KeepFault>
-        ensures keeps { (history : History) × Keeps action.now note.now (opened_in self.old).history result history
+        ensures keeps { (history : History) × Keeps (action_in action.now) note.now (opened_in self.old).history result history
             × (opened_in self.new ≡ record (opened_in self.old) { history = history }) }
         ensures cause { IsWriteOrOpen result → Rises (F.faults files.old) (F.faults files.new) }
         ensures rest { (IsWriteOrOpen result → ⊥) → F.faults files.new ≡ F.faults files.old }
@@ -99,10 +100,10 @@ pub(crate) fn place_of_open(place: usize, used: &Used) -> Option<usize>
 }
 
 /// Does an action with a note in the file, which is open.
-fn act_in(used: &mut Used, action: &Action, note: &str) -> Result<Reply, Refusal>
+fn act_in(used: &mut Used, action: &Action<'_>, note: &str) -> Result<Reply, Refusal>
     requires { IsSome used.old.file }
     ensures { (file : p.Opened) × (history : History) × ((used_in used.old).file ≡ Some file)
-        × Acts action.now note.now file.history result history
+        × Acts (action_in action.now) note.now file.history result history
         × (used_in used.new ≡ record (used_in used.old) { file = Some (record file { history = history }) }) }
 {
     match &mut used.file {
@@ -115,12 +116,12 @@ fn act_in(used: &mut Used, action: &Action, note: &str) -> Result<Reply, Refusal
 pub(crate) fn act_at(
     used: &mut Vec<Used>,
     place: usize,
-    action: &Action,
+    action: &Action<'_>,
     note: &str,
 ) -> Result<Reply, Refusal>
     requires within { place < length used.old.items }
     requires there { IsSome (file_at place (map used_in used.old.items)) }
-    ensures { ActsAt place action.now note.now (map used_in used.old.items) result (map used_in used.new.items) }
+    ensures { ActsAt place (action_in action.now) note.now (map used_in used.old.items) result (map used_in used.new.items) }
 {
     act_in(&mut used[place], action, note)
 }
@@ -128,13 +129,13 @@ pub(crate) fn act_at(
 /// Does an action with a note in the file, which is open, and keeps its journal and it.
 fn keep_in<F: Files>(
     used: &mut Used,
-    action: &Action,
+    action: &Action<'_>,
     note: &str,
     files: &mut F,
 ) -> Result<Reply, KeepFault>
     requires { IsSome used.old.file }
     ensures keeps { (file : p.Opened) × (history : History) × ((used_in used.old).file ≡ Some file)
-        × Keeps action.now note.now file.history result history
+        × Keeps (action_in action.now) note.now file.history result history
         × (used_in used.new ≡ record (used_in used.old) { file = Some (record file { history = history }) }) }
     ensures cause { IsWriteOrOpen result → Rises (F.faults files.old) (F.faults files.new) }
     ensures rest { (IsWriteOrOpen result → ⊥) → F.faults files.new ≡ F.faults files.old }
@@ -151,13 +152,13 @@ fn keep_in<F: Files>(
 pub(crate) fn keep_at<F: Files>(
     used: &mut Vec<Used>,
     place: usize,
-    action: &Action,
+    action: &Action<'_>,
     note: &str,
     files: &mut F,
 ) -> Result<Reply, KeepFault>
     requires within { place < length used.old.items }
     requires there { IsSome (file_at place (map used_in used.old.items)) }
-    ensures keeps { KeepsAt place action.now note.now (map used_in used.old.items) result (map used_in used.new.items) }
+    ensures keeps { KeepsAt place (action_in action.now) note.now (map used_in used.old.items) result (map used_in used.new.items) }
     ensures cause { IsWriteOrOpen result → Rises (F.faults files.old) (F.faults files.new) }
     ensures rest { (IsWriteOrOpen result → ⊥) → F.faults files.new ≡ F.faults files.old }
     ensures count { F.faults files.old ≤ F.faults files.new }

@@ -7,6 +7,7 @@ ghost use Rattle.bz_ports.specs.Faults.{Rises};
 ghost use Rattle.bz_ports.specs.Outputs.{Counts, Tells};
 ghost use Rattle.bz_workspace.specs.Found.{found_in, found_at, second_name};
 ghost use Rattle.bz_workspace.specs.Kept.{texts_of_keys, packages_of};
+ghost use Rattle.bz_journal.specs.Actions.{action_in};
 ghost use Rattle.bz_journal.specs.Keeping.{IsWriteOrOpen};
 ghost use Rattle.bz_workspace.specs.Opens.{ActsAt, KeepsAt, Opens, Takes};
 ghost use Rattle.bz_workspace.specs.Packages as p;
@@ -390,9 +391,9 @@ impl Workspace {
 
     /// Does an action with a note in the open file of the package with this number. Errors: those of `Session::act_noted`; the
     /// file is then as before.
-    pub fn act(&mut self, place: usize, action: &Action, note: &str) -> Result<Reply, Refusal>
+    pub fn act(&mut self, place: usize, action: &Action<'_>, note: &str) -> Result<Reply, Refusal>
         requires { IsSome (file_at place self.old) }
-        ensures { ActsAt place action.now note.now self.old result self.new }
+        ensures { ActsAt place (action_in action.now) note.now self.old result self.new }
     {
         act_at(&mut self.used, place, action, note)
     }
@@ -402,12 +403,12 @@ impl Workspace {
     pub fn keep<F: Files>(
         &mut self,
         place: usize,
-        action: &Action,
+        action: &Action<'_>,
         note: &str,
         files: &mut F,
     ) -> Result<Reply, KeepFault>
         requires { IsSome (file_at place self.old) }
-        ensures keeps { KeepsAt place action.now note.now self.old result self.new }
+        ensures keeps { KeepsAt place (action_in action.now) note.now self.old result self.new }
         ensures cause { IsWriteOrOpen result → Rises (F.faults files.old) (F.faults files.new) }
         ensures rest { (IsWriteOrOpen result → ⊥) → F.faults files.new ≡ F.faults files.old }
         ensures count { F.faults files.old ≤ F.faults files.new }

@@ -39,31 +39,18 @@ impl CommandQuery {
     }
 }
 
-/// Whether there is memory for a copy of a command, which is let go again.
-fn can_copy(command: &Command) -> Result<(), Memory> {
-    match command.copy() {
-        Ok(_) => Ok(()),
-        Err(refused) => Err(refused),
-    }
-}
-
-/// The same of a command that is let go too, in the one place where it is: each further one costs the check much.
-fn copied(command: Command) -> Result<(), Memory> {
-    can_copy(&command)
-}
-
-/// What `Command::read` makes of the text is copied; of both nothing has to be known here.
-fn read_and_copied(alloc: Global, text: &str) -> Result<(), CommandFault> {
+/// `Command::read`, of which nothing has to be known here; the command is let go again.
+fn read(alloc: Global, text: &str) -> Result<(), CommandFault> {
     match Command::read(alloc, text) {
-        Ok(command) => Ok(copied(command)?),
+        Ok(_) => Ok(()),
         Err(fault) => Err(fault),
     }
 }
 
-/// Whether the text is read as a command and copied, or its fault.
+/// Whether the text is read as a command, or its fault.
 fn told(alloc: Global, text: &str) -> Result<String, Memory> {
-    match read_and_copied(alloc, text) {
-        Ok(()) => String::from_str(alloc, "read and copied"),
+    match read(alloc, text) {
+        Ok(()) => String::from_str(alloc, "read"),
         Err(CommandFault::Memory) => Err(AllocError),
         Err(fault) => {
             let number = fault.number();

@@ -10,8 +10,20 @@ use std::alloc::Global;
 /// behind; then whether all copies are equal to what was copied, and to nothing else.
 pub(crate) fn answer(case: &Case, page: &mut Page) -> Result<(), CaseFault> {
     let form = form_of(case.alloc, case.bytes(0)?, case.bytes(1)?)?;
-    page.answer(shown_copy(case.alloc, &form)?.as_slice())?;
-    let answer: &[u8] = if is_copied(form)? {
+    let item = Item::Stmt(Expr::Form(form));
+    let answered = answer_of(case.alloc, &item, page);
+    // By a call: by the end of its scope, each form of the item would be a path of this proof.
+    drop(item);
+    answered
+}
+
+/// Writes a copy of the form that is an item, and whether all copies of it are equal to it.
+fn answer_of(alloc: Global, item: &Item, page: &mut Page) -> Result<(), CaseFault> {
+    let Item::Stmt(Expr::Form(form)) = item else {
+        return Err(CaseFault::Sheet("no form"));
+    };
+    page.answer(shown_copy(alloc, form)?.as_slice())?;
+    let answer: &[u8] = if is_copied(form)? && is_item_copied(item)? {
         b"copied"
     } else {
         b"another copy"
@@ -28,11 +40,12 @@ fn comments_of(alloc: Global, gap: &[u8], behind: &[u8]) -> Result<Comments, Mem
 }
 
 fn token_of(alloc: Global, gap: &[u8], behind: &[u8]) -> Result<Token, Memory> {
+    let comments = comments_of(alloc, gap, behind)?;
     Ok(Token {
         class: Class::Name,
         text: Text::from_slice(alloc, b"f")?,
         break_: true,
-        comments: comments_of(alloc, gap, behind)?,
+        comments,
     })
 }
 
@@ -40,6 +53,7 @@ fn token_of(alloc: Global, gap: &[u8], behind: &[u8]) -> Result<Token, Memory> {
 fn form_of(alloc: Global, gap: &[u8], behind: &[u8]) -> Result<Form, Memory> {
     let mut items = Items::new(alloc);
     items.push(Expr::Token(token_of(alloc, gap, behind)?))?;
+    let comments = comments_of(alloc, gap, behind)?;
     let mut end_ = Items::new(alloc);
     end_.push(Text::from_slice(alloc, b"# end")?)?;
     Ok(Form {
@@ -51,25 +65,32 @@ fn form_of(alloc: Global, gap: &[u8], behind: &[u8]) -> Result<Form, Memory> {
             split: true,
         },
         open_: true,
-        comments: comments_of(alloc, gap, behind)?,
+        comments,
     })
 }
 
 fn shown_copy(alloc: Global, form: &Form) -> Result<Vec<u8>, Memory> {
+    let copy = form.copy()?;
     let mut shown = Vec::new(alloc);
-    show_form(alloc, &form.copy()?, &mut shown)?;
+    let answered = show_form(alloc, &copy, &mut shown);
+    drop(copy);
+    answered?;
     Ok(shown)
 }
 
-/// Whether the form and the item of it are equal to their copies, its sequence is copied, and its comments are not none.
-fn is_copied(form: Form) -> Result<bool, Memory> {
-    let is_form_copied = form.copy()?.equals(&form);
+/// Whether a form is equal to its copy, its sequence is copied, and its comments are not none.
+fn is_copied(form: &Form) -> Result<bool, Memory> {
+    let copy = form.copy()?;
+    let is_form_copied = copy.equals(form);
+    drop(copy);
     let has_comments = !Comments::none().equals(&form.comments);
-    let is_seq_copied = form.seq.copy().is_ok();
-    let item = Item::Stmt(Expr::Form(form));
-    Ok(is_form_copied && has_comments && is_seq_copied && is_item_copied(&item)?)
+    drop(form.seq.copy()?);
+    Ok(is_form_copied && has_comments)
 }
 
 fn is_item_copied(item: &Item) -> Result<bool, Memory> {
-    Ok(item.copy()?.equals(item))
+    let copy = item.copy()?;
+    let is_same = copy.equals(item);
+    drop(copy);
+    Ok(is_same)
 }

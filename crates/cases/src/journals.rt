@@ -1,5 +1,5 @@
 //! Journals: what a session saves after actions with notes, and that it goes on from there.
-use crate::sessions::{action_of, opened, show_reply};
+use crate::sessions::{opened, request_of, show_reply};
 use crate::trees::told;
 use bz_files::{Files, MemoryFiles};
 use bz_items::Memory;
@@ -56,15 +56,15 @@ fn keep_line(
     Ok(show_reply(alloc, &reply, page)?)
 }
 
-/// What keeping the action that a line names answers. An action is let go here, and nothing else is, so that this can be checked.
+/// What keeping the action that a line names answers. The request is let go here, and nothing else is, so that this can be checked.
 fn kept_line(
     alloc: Global,
     session: &mut Session,
     line: &str,
     files: &mut MemoryFiles,
 ) -> Result<Result<Reply, bz_attribute::Refusal>, CaseFault> {
-    let action = action_of(alloc, line)?;
-    kept(session, &action, line, files)
+    let request = request_of(alloc, line)?;
+    kept(session, &request.action(), line, files)
 }
 
 /// Gives the file its first text.
@@ -78,7 +78,7 @@ fn write(files: &mut MemoryFiles, text: &[u8]) -> Result<(), CaseFault> {
 /// What keeping an action answers. The error: memory was refused.
 fn kept(
     session: &mut Session,
-    action: &Action,
+    action: &Action<'_>,
     note: &str,
     files: &mut MemoryFiles,
 ) -> Result<Result<Reply, bz_attribute::Refusal>, CaseFault> {

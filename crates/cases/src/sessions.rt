@@ -31,13 +31,19 @@ fn played(case: &Case) -> Result<Result<Finished, ReadFault>, CaseFault> {
         Ok(session) => session,
         Err(fault) => return Ok(Err(fault)),
     };
-    let mut actions = Vec::new(case.alloc);
-    for place in 0..names.len() {
-        let action = action_of(case.alloc, case.text(place)?)?;
-        actions.push(action).map_err(Memory::from)?;
-    }
-    let replies = replies_of(case.alloc, &mut session, actions.as_slice())?;
+    let requests = requests_of(case, names.len())?;
+    let replies = replies_of(case.alloc, &mut session, requests.as_slice())?;
     Ok(Ok(Finished { session, replies }))
+}
+
+/// What the first texts of a case ask for.
+fn requests_of(case: &Case, count: usize) -> Result<Vec<Request>, CaseFault> {
+    let mut requests = Vec::with_capacity(case.alloc, count)?;
+    for place in 0..count {
+        requests.reserve(1)?;
+        requests.push_reserved(request_of(case.alloc, case.text(place)?)?);
+    }
+    Ok(requests)
 }
 
 /// Writes the answers to the actions, which all texts but the last one name; then where the session stands, and its text.
@@ -72,18 +78,38 @@ pub(crate) fn opened(
     apart(Session::open(alloc, current, text))
 }
 
-/// The action that a line names: a command and behind it, as the last word, its target.
-pub(crate) fn action_of(alloc: Global, line: &str) -> Result<Action, CaseFault> {
+/// What a line asks a session for: the command and the target of an action are its own.
+#[derive(Drop)]
+pub(crate) enum Request {
+    Do(Command, Target),
+    Format,
+    Undo(u32),
+    Redo(u32),
+}
+
+impl Request {
+    pub(crate) fn action(&self) -> Action<'_> {
+        match self {
+            Request::Do(command, target) => Action::Do(command, target),
+            Request::Format => Action::Format,
+            Request::Undo(steps) => Action::Undo(*steps),
+            Request::Redo(steps) => Action::Redo(*steps),
+        }
+    }
+}
+
+/// What a line asks for: a command and behind it, as the last word, its target.
+pub(crate) fn request_of(alloc: Global, line: &str) -> Result<Request, CaseFault> {
     if line == "format" {
-        return Ok(Action::Format);
+        return Ok(Request::Format);
     }
     let Some((command, word)) = line.rsplit_once(' ') else {
         return Err(CaseFault::Sheet("no such action"));
     };
     match command {
-        "undo" => Ok(Action::Undo(steps_of(word)?)),
-        "redo" => Ok(Action::Redo(steps_of(word)?)),
-        _ => Ok(Action::Do(command_of(alloc, command)?, target_of(alloc, word)?)),
+        "undo" => Ok(Request::Undo(steps_of(word)?)),
+        "redo" => Ok(Request::Redo(steps_of(word)?)),
+        _ => Ok(Request::Do(command_of(alloc, command)?, target_of(alloc, word)?)),
     }
 }
 
@@ -112,14 +138,18 @@ fn target_of(alloc: Global, text: &str) -> Result<Target, CaseFault> {
     }
 }
 
-/// `Session::run`, of which nothing has to be known here.
+/// `Session::run` of these, of which nothing has to be known here.
 fn replies_of(
     alloc: Global,
     session: &mut Session,
-    actions: &[Action],
+    requests: &[Request],
 ) -> Result<Vec<Result<Reply, Refusal>>, Memory> {
+    let mut actions = Vec::with_capacity(alloc, requests.len())?;
+    for request in requests {
+        actions.push(request.action())?;
+    }
     let mut replies = Vec::new(alloc);
-    session.run(actions, &mut replies)?;
+    session.run(actions.as_slice(), &mut replies)?;
     Ok(replies)
 }
 

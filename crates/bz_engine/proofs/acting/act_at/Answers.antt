@@ -1,4 +1,5 @@
 use Rattle.std.proofs.Common.{Err}
+use Rattle.bz_journal.specs.Actions.{action_in}
 use Rattle.bz_workspace.specs.Opens.{ActsAt}
 use Rattle.bz_workspace.specs.Packages.{Opened}
 use Rattle.bz_engine.specs.Shown.{state_in}
@@ -8,13 +9,13 @@ use Rattle.bz_engine.proofs.acting.act_at.Goals as goal
 pub returns-clause-whole : goal.returns-clause-whole
 returns-clause-whole g c = λ whole.
     let refusal = c.in-Err.refusal in
-    let done : ActsAt c.args.place c.args.action.now c.args.command.now c.args.run.now.workspace (Err refusal) c.act.new.self = c.in-Err.ensures in
+    let done : ActsAt c.args.place (action_in c.args.action.now) c.args.command.now c.args.run.now.workspace (Err refusal) c.act.new.self = c.in-Err.ensures in
     let new : Opened = record done.file { history = done.history } in (
       done.file,
       Err refusal,
       done.history,
       done.there,
-      led_to done.file.history done.history c.args.action.now c.args.command.now refusal done.acts (c.refuse-in-Err.ensures.whole whole),
+      led_to done.file.history done.history (action_in c.args.action.now) c.args.command.now refusal done.acts (c.refuse-in-Err.ensures.whole whole),
       was_refused c.args.place done.file refusal done.history (state_in c.args.run.now) (state_in c.refuse-in-Err.new.run) c.act.new.self
           c.refuse-in-Err.ensures.state done.kept,
       c.refuse-in-Err.ensures.told new

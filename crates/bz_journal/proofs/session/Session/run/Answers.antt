@@ -1,7 +1,6 @@
 use Rattle.std.proofs.Common.{◌≡◌, ◌++◌, ◌∷◌, [], rules, arith, ap, ◌∙◌, append_assoc}
-use Rattle.std.proofs.lemmas.List.{take_more}
 use Rattle.std.proofs.lemmas.Grind.{common_steps}
-use Rattle.bz_journal.proofs.Running.{run_more}
+use Rattle.bz_journal.proofs.Running.{run_turn}
 use Rattle.bz_journal.proofs.session.Session.run.Goals as goal
 
 pub loop-action-preserved : goal.loop-action-preserved
@@ -12,7 +11,7 @@ loop-action-preserved g c =
     record {
       added = so_far.added ++ replied;
       replies = pushed ∙ ap (λ xs. xs ++ replied) so_far.replies ∙ append_assoc c.args.replies.now.items so_far.added replied;
-      runs = rw (take_more c.args.actions.now c.loop-action.action-index c.action-item.result c.loop-action-test.true, ← c.action-item.is) (run_more _ _ _ _ _ _ _ so_far.runs c.act-reply.ensures.acts);
+      runs = run_turn _ c.args.actions.now c.loop-action.action-index c.action-item.result _ _ _ _ c.loop-action-test.true c.action-item.is so_far.runs c.act-reply.ensures.acts;
       small = λ h. c.act-reply.ensures.small (so_far.small h);
       room = grind (arith, common_steps);
     }

@@ -1,5 +1,6 @@
-use Rattle.std.proofs.Common.{◌≡◌, ◌≤◌, ◌+◌, ◌-◌, ◌++◌, List, take, length, vec_len, vec_capacity, Result}
+use Rattle.std.proofs.Common.{◌≡◌, ◌≤◌, ◌+◌, ◌-◌, ◌++◌, List, map, take, length, vec_len, vec_capacity, Result}
 use Rattle.bz_attribute.specs.declared.refusal.Refusal.{Refusal}
+use Rattle.bz_journal.specs.Actions.{action_in}
 use Rattle.bz_journal.specs.History.{Runs}
 use Rattle.bz_trail.specs.Trails.{IsSmall}
 use Rattle.bz_journal.specs.Shown.{history_of}
@@ -12,7 +13,7 @@ abbrev pub invariant-loop-action : goal.invariant-loop-action
 invariant-loop-action g l = record {
   added : List (Result Reply Refusal);
   replies : l.replies.items ≡ l.fn.replies.items ++ added;
-  runs : Runs (history_of l.fn.self) (take l.action-index l.actions) added (history_of l.self);
+  runs : Runs (history_of l.fn.self) (map action_in (take l.action-index l.actions)) added (history_of l.self);
   small : IsSmall (trail_of l.fn.self) → IsSmall (trail_of l.self);
   room : vec_len l.replies + (length l.actions - l.action-index) ≤ vec_capacity l.replies;
 }

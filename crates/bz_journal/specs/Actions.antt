@@ -1,0 +1,20 @@
+-- What a session is asked to do.
+use Rattle.std.specs.Prelude.{ℕ}
+use Rattle.bz_label.specs.declared.target.Target.{Target}
+use Rattle.bz_words.specs.declared.command.Operation.{Operation}
+use Rattle.bz_journal.specs.declared.action.Action as d
+use Rattle.bz_journal.specs.declared.action.Action.TheVariants as v
+
+-- a command on the rules that a target means, formatting, so many steps back, and so many forward
+pub data Action : Type 0 where
+  Do : Operation → Target → Action
+  Format : Action
+  Undo : ℕ → Action
+  Redo : ℕ → Action
+
+-- the same, of one that borrows its command and its target
+abbrev pub action_in : d.Action → Action
+action_in (v.Do command target) = Do command.now target.now
+action_in v.Format = Format
+action_in (v.Undo n) = Undo n
+action_in (v.Redo n) = Redo n
