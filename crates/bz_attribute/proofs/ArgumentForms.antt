@@ -1,9 +1,10 @@
 -- A named argument with another value: its name, and its value once more changed.
-use Rattle.std.proofs.Common.{◌≡◌, Bool, true, false, ◌||◌, List, [], ◌∷◌, refl, sym, ap, ◌∙◌, true≢false, inl, inr}
+use Rattle.std.proofs.Common.{◌≡◌, ℕ, Bool, true, false, ◌||◌, List, [], ◌∷◌, ◌++◌, length, take, drop, arith, refl, sym, ap, ◌∙◌, true≢false, inl, inr}
 use Rattle.std.specs.Prelude.{Option, Some, None, is_some, if◌then◌else◌}
-use Rattle.std.specs.List.{list_any}
+use Rattle.std.specs.List.{list_any, slice_index_or}
 use Rattle.std.specs.Option.{option_and_then}
 use Rattle.std.proofs.lemmas.Bool.{cases_Bool}
+use Rattle.std.proofs.lemmas.Grind.{common_steps}
 use Rattle.bz_tree.specs.declared.kind.Kind.{Kind}
 use Rattle.bz_tree.specs.declared.kind.Kind.TheVariants as k
 use Rattle.bz_tree.specs.Shapes.{is_kind}
@@ -37,6 +38,17 @@ row_Form kind change f =
     ap (λ (x : Expr). if is_kind f.kind kind then x else e.Form f)
     (ap (λ xs. with_parts (change xs) (e.Form f)) (parts_Form f) ∙ with_parts_Form (change f.parts) f)
 
+-- ---- a form whose row is taken out, changed and put back
+
+-- a form of the kind with its row changed
+pub row_changed : (kind : Kind) (change : List Expr → List Expr) (f : Form) (ps : List Expr) → is_kind f.kind kind ≡ true → ps ≡ change f.parts → in_form f ps f.seq.items ≡ on_row kind change (e.Form f)
+row_changed kind change f ps is row =
+    ap (λ xs. in_form f xs f.seq.items) row ∙ sym (row_Form kind change f ∙ if_true (is_kind f.kind kind) (in_form f (change f.parts) f.seq.items) (e.Form f) is)
+
+-- a vector of so many elements into which as many were written
+pub written_back : {X : Type 0} (n : ℕ) (new now items : List X) → length new ≡ length now → now ≡ items → length now ≡ n → take n (new ++ drop (length new) items) ≡ new
+written_back n new now items as_long same many = grind (arith, common_steps)
+
 -- ---- a named argument with other parts
 
 abbrev behind : Bytes → Option Form → Option Expr
@@ -60,6 +72,25 @@ value_of_parts name ps (Form' kind s parts s' items end_ split open_ comments) i
 pub own_value : (name : Bytes) (x : Expr) → has_kind k.Named x ≡ true → value_named name x ≡ value_behind name (parts_of x)
 own_value name (Token t) is = absurd (true≢false (sym is))
 own_value name (Form' kind s parts s' items end_ split open_ comments) is = ap (behind name) (if_true (is_kind kind k.Named) _ None is)
+
+-- ---- the value of a named argument
+
+some_of : (b : Bool) (x : Expr) → is_some (if b then Some x else None) ≡ true → Some x ≡ (if b then Some x else None)
+some_of true x some = refl
+some_of false x some = absurd (true≢false (sym some))
+
+third_behind : (name : Bytes) (ps : List Expr) (other : Expr) → is_some (value_behind name ps) ≡ true → Some (slice_index_or ps 2 other) ≡ value_behind name ps
+third_behind name [] other some = absurd (true≢false (sym some))
+third_behind name (x ∷ []) other some = absurd (true≢false (sym some))
+third_behind name (x ∷ y ∷ []) other some = absurd (true≢false (sym some))
+third_behind name (x ∷ y ∷ z ∷ []) other some = some_of (is_text name (text_in c.Name x)) z some
+third_behind name (x ∷ y ∷ z ∷ w ∷ rest) other some = absurd (true≢false (sym some))
+
+-- where a form is an attribute of the name, its value is its third part
+pub value_taken : (name : Bytes) (f : Form) (x other : Expr) → x ≡ e.Form f → is_kind f.kind k.Named ≡ true → is_attribute name x ≡ true → Some (slice_index_or f.parts 2 other) ≡ value_named name x
+value_taken name f x other same is some =
+    let own : value_named name x ≡ value_behind name f.parts = ap (value_named name) same ∙ value_Form name f is in
+    third_behind name f.parts other (ap is_some (sym own) ∙ some) ∙ sym own
 
 -- ---- a named argument with another value
 

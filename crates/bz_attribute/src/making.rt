@@ -1,4 +1,5 @@
-//! New parts of a file value: no comments, no sequence split, no break.
+//! New parts of a file value: no comments, no sequence split, no break. Where memory is refused, what a function was given is handed
+//! to `drop`: let go of by the end of its scope, each form of it would be a path of that function's proof.
 ghost use Rattle.std.specs.Prelude.{◌≡◌, IfOk, [], ◌∷◌, ◌++◌, nat_eq, nat_lt, codes, position, length, ◌<◌, IfSome};
 ghost use Rattle.std.specs.List.{slice_split};
 ghost use Rattle.std.specs.Option.{option_map_or};
@@ -13,7 +14,7 @@ use bz_label::bytes::{is_label_attribute, shortened};
 use bz_tree::{Class, Kind};
 use bz_value::{Comments, Expr, Form, Item, Seq, Token};
 use bz_words::quoted;
-use std::alloc::Global;
+use std::alloc::{AllocError, Global};
 
 /// A token of this class and text.
 pub fn token(class: Class, text: Text) -> Expr
@@ -167,11 +168,29 @@ fn binds_looser(x: &Expr) -> bool
     }
 }
 
+/// The texts of two tokens.
+fn both(alloc: Global, one: &[u8], other: &[u8]) -> Result<(Text, Text), Memory>
+    ensures { IfOk result (λ texts. (texts.0 ≡ one.now) × (texts.1 ≡ other.now)) }
+{
+    let first = Text::from_slice(alloc, one)?;
+    let second = Text::from_slice(alloc, other)?;
+    Ok((first, second))
+}
+
 /// The expression between brackets.
 fn bracketed(alloc: Global, x: Expr) -> Result<Expr, Memory>
     ensures { IfOk result (λ y. y ≡ node k.Paren (mark (codes "(") ∷ x ∷ mark (codes ")") ∷ [])) }
 {
-    let parts = row(alloc, mark(alloc, b"(")?, x, mark(alloc, b")")?)?;
+    let Ok((open, close)) = both(alloc, b"(", b")") else {
+        drop(x);
+        return Err(AllocError);
+    };
+    let parts = row(
+        alloc,
+        token(Class::Mark, open),
+        x,
+        token(Class::Mark, close),
+    )?;
     Ok(node(alloc, Kind::Paren, parts))
 }
 
@@ -185,20 +204,45 @@ fn operand(alloc: Global, x: Expr) -> Result<Expr, Memory>
     Ok(x)
 }
 
+/// The sum of an operand and a list.
+fn row_with_plus(alloc: Global, value: Expr, list: Expr) -> Result<Expr, Memory>
+    ensures { IfOk result (λ x. x ≡ node k.Sum (value ∷ mark (codes "+") ∷ list ∷ [])) }
+{
+    let Ok(plus) = Text::from_slice(alloc, b"+") else {
+        drop(value);
+        drop(list);
+        return Err(AllocError);
+    };
+    let parts = row(alloc, value, token(Class::Mark, plus), list)?;
+    Ok(node(alloc, Kind::Sum, parts))
+}
+
 /// The sum of a value that is no sum and a list.
 fn sum_of(alloc: Global, value: Expr, list: Expr) -> Result<Expr, Memory>
     ensures { IfOk result (λ x. x ≡ node k.Sum (operand value ∷ mark (codes "+") ∷ list ∷ [])) }
 {
-    let parts = row(alloc, operand(alloc, value)?, mark(alloc, b"+")?, list)?;
-    Ok(node(alloc, Kind::Sum, parts))
+    match operand(alloc, value) {
+        Ok(value) => row_with_plus(alloc, value, list),
+        Err(fault) => {
+            drop(list);
+            Err(fault)
+        }
+    }
 }
 
 /// A sum with a further operand behind a sign.
 fn with_operand(mut sum: Form, sign: Expr, value: Expr) -> Result<Form, Memory>
     ensures { IfOk result (λ more. more ≡ record sum { parts = sum.parts ++ sign ∷ value ∷ [] }) }
 {
-    sum.parts.push(sign)?;
-    sum.parts.push(value)?;
+    if sum.parts.push(sign).is_err() {
+        drop(value);
+        drop(sum);
+        return Err(AllocError);
+    }
+    if sum.parts.push(value).is_err() {
+        drop(sum);
+        return Err(AllocError);
+    }
     Ok(sum)
 }
 
@@ -213,7 +257,11 @@ pub fn plus(alloc: Global, value: Expr, list: Expr) -> Result<Expr, Memory>
             if form.kind != Kind::Sum {
                 return sum_of(alloc, Expr::Form(form), list);
             }
-            let sign = mark(alloc, b"+")?;
+            let Ok(sign) = mark(alloc, b"+") else {
+                drop(form);
+                drop(list);
+                return Err(AllocError);
+            };
             let sum = with_operand(form, sign, list)?;
             Ok(Expr::Form(sum))
         }
@@ -243,7 +291,16 @@ fn cut(text: &[u8]) -> (&[u8], Option<&[u8]>)
 fn dotted(alloc: Global, front: Expr, text: &[u8]) -> Result<Expr, Memory>
     ensures { IfOk result (λ x. x ≡ node k.Dot (front ∷ mark (codes ".") ∷ name text.now ∷ [])) }
 {
-    let parts = row(alloc, front, mark(alloc, b".")?, name(alloc, text)?)?;
+    let Ok((dot, name)) = both(alloc, b".", text) else {
+        drop(front);
+        return Err(AllocError);
+    };
+    let parts = row(
+        alloc,
+        front,
+        token(Class::Mark, dot),
+        token(Class::Name, name),
+    )?;
     Ok(node(alloc, Kind::Dot, parts))
 }
 
@@ -265,7 +322,16 @@ pub fn function_of(alloc: Global, kind: &[u8]) -> Result<Expr, Memory>
 pub fn argument_of(alloc: Global, attribute: &[u8], value: Expr) -> Result<Expr, Memory>
     ensures { IfOk result (λ x. x ≡ argument_of attribute.now value) }
 {
-    let parts = row(alloc, name(alloc, attribute)?, mark(alloc, b"=")?, value)?;
+    let Ok((name, equals)) = both(alloc, attribute, b"=") else {
+        drop(value);
+        return Err(AllocError);
+    };
+    let parts = row(
+        alloc,
+        token(Class::Name, name),
+        token(Class::Mark, equals),
+        value,
+    )?;
     Ok(node(alloc, Kind::Named, parts))
 }
 
@@ -273,10 +339,12 @@ pub fn argument_of(alloc: Global, attribute: &[u8], value: Expr) -> Result<Expr,
 pub fn rule_made(alloc: Global, kind: &[u8], word: &[u8]) -> Result<Item, Memory>
     ensures { IfOk result (λ item. item ≡ rule_made kind.now word.now) }
 {
-    let text = quoted(alloc, word)?;
-    let argument = argument_of(alloc, b"name", token(Class::String, text))?;
     let function = alone(alloc, function_of(alloc, kind)?)?;
-    let call = sequence(alloc, Kind::Call, function, alone(alloc, argument)?);
-    let statement = node(alloc, Kind::Bare, alone(alloc, call)?);
-    Ok(Item::Stmt(statement))
+    let text = quoted(alloc, word)?;
+    let argument = alone(
+        alloc,
+        argument_of(alloc, b"name", token(Class::String, text))?,
+    )?;
+    let call = alone(alloc, sequence(alloc, Kind::Call, function, argument))?;
+    Ok(Item::Stmt(node(alloc, Kind::Bare, call)))
 }

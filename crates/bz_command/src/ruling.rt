@@ -40,8 +40,13 @@ fn change_item(
         return Ok(true);
     }
     let before = item.copy()?;
-    on_one(alloc, operation, current, found, item)?;
-    Ok(item.equals(&before))
+    let answer = match on_one(alloc, operation, current, found, item) {
+        Ok(()) => Ok(item.equals(&before)),
+        Err(refusal) => Err(refusal),
+    };
+    // By a call: by the end of its scope, each form of the item would be a path of this proof.
+    drop(before);
+    answer
 }
 
 /// What an operation makes of the items that are marked. Whether all are the same then. The first that refuses decides.

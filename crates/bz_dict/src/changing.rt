@@ -31,7 +31,11 @@ fn push_entry(
     ensures places { OnOk result (AreIndexed places.new items.new.items) }
 {
     let x = entry_made(alloc, current, name, entry)?;
-    put_place(alloc, &x, items.len(), places)?;
+    if let Err(fault) = put_place(alloc, &x, items.len(), places) {
+        // By a call: let go of here, each form of it would be a path of this proof.
+        drop(x);
+        return Err(fault);
+    }
     items.push(x)?;
     Ok(())
 }

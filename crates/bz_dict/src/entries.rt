@@ -56,10 +56,11 @@ pub(crate) fn entry_made(
 ) -> Result<Expr, Memory>
     ensures { IfOk result (λ x. x ≡ entry_made current.now name.now entry.now) }
 {
-    let key = token(Class::String, quoted(alloc, entry.key.as_slice())?);
-    let colon = token(Class::Mark, Text::from_slice(alloc, b":")?);
+    let key = quoted(alloc, entry.key.as_slice())?;
+    let colon = Text::from_slice(alloc, b":")?;
     let value = string_of(alloc, current, name, entry.value.as_slice())?;
-    let parts = Vec::from_array(alloc, [key, colon, value])?;
+    let key = token(Class::String, key);
+    let parts = Vec::from_array(alloc, [key, token(Class::Mark, colon), value])?;
     Ok(node(
         alloc,
         Kind::Entry,

@@ -8,6 +8,7 @@ pub mod BackLines
 pub mod BackProper
 pub mod BackStatements
 pub mod BackSuites
+pub mod Bounds
 pub mod Depths
 pub mod Followed
 pub mod HeaderGaps
@@ -19,6 +20,7 @@ pub mod Keeping
 pub mod Lengths
 pub mod LevelLayout
 pub mod LevelProper
+pub mod Remaining
 pub mod Rows
 pub mod Settling
 pub mod Shaped
@@ -26,3 +28,4 @@ pub mod Spelled
 pub mod StatementGaps
 pub mod StatementTokens
 pub mod TooDeep
+pub mod Visits

@@ -1,4 +1,5 @@
-//! Items that are added to the lists of an attribute: words, or items that come from another attribute.
+//! Items that are added to the lists of an attribute: words, or items that come from another attribute. An expression that is not
+//! needed is handed to `drop`: let go of by the end of its scope, each form of it would be a path of that function's proof.
 ghost use Rattle.std.specs.Prelude.{◌≡◌, ◌⊎◌, ◌++◌, ◌∷◌, [], List, ℕ, Ok, Err, IfOk, OnOk, IfErr, map};
 ghost use Rattle.std.specs.List.{position};
 ghost use Rattle.bz_tree.specs.declared.kind.Kind.TheVariants as kinds;
@@ -105,12 +106,16 @@ fn shorter_text(
 fn travelled(alloc: Global, current: &[u8], name: &[u8], mut x: Expr) -> Result<Expr, Memory>
     ensures { IfOk result (λ there. there ≡ as_travelled current.now name.now x) }
 {
-    match shorter_text(alloc, current, name, &x)? {
-        Some(text) => {
+    match shorter_text(alloc, current, name, &x) {
+        Ok(Some(text)) => {
             set_text(text, &mut x);
             Ok(x)
         }
-        None => Ok(x),
+        Ok(None) => Ok(x),
+        Err(fault) => {
+            drop(x);
+            Err(fault)
+        }
     }
 }
 
@@ -126,10 +131,21 @@ fn push_item(
     ensures { (rest : List Value) → OnOk result (items.new.items ++ items_new current.now name.now (asked known.new) rest
         ≡ items.old.items ++ items_new current.now name.now (asked known.old) (x ∷ rest)) }
 {
-    if known.has_item(&x)? {
-        return Ok(());
+    match known.has_item(&x) {
+        Ok(false) => {}
+        Ok(true) => {
+            drop(x);
+            return Ok(());
+        }
+        Err(fault) => {
+            drop(x);
+            return Err(fault);
+        }
     }
-    known.insert_item(&x)?;
+    if let Err(fault) = known.insert_item(&x) {
+        drop(x);
+        return Err(fault);
+    }
     items.push(travelled(alloc, current, name, x)?)?;
     Ok(())
 }
@@ -274,8 +290,17 @@ fn grown(
 ) -> Result<Expr, Memory>
     ensures { IfOk result (λ new. new ≡ with_more (added_by current.now name.now added.entry (items_in value)) value) }
 {
-    let mut more = added_beside(alloc, current, name, added, &value)?;
-    append_to_value(&mut more, &mut value)?;
+    let mut more = match added_beside(alloc, current, name, added, &value) {
+        Ok(more) => more,
+        Err(fault) => {
+            drop(value);
+            return Err(fault);
+        }
+    };
+    if let Err(fault) = append_to_value(&mut more, &mut value) {
+        drop(value);
+        return Err(fault);
+    }
     Ok(value)
 }
 
@@ -289,9 +314,13 @@ fn joined(
 ) -> Result<Expr, Memory>
     ensures { IfOk result (λ new. new ≡ sum_made value (list_made (added_by current.now name.now added.entry []))) }
 {
-    let list = added_alone(alloc, current, name, added)?;
-    let sum = plus(alloc, value, list)?;
-    Ok(sum)
+    match added_alone(alloc, current, name, added) {
+        Ok(list) => plus(alloc, value, list),
+        Err(fault) => {
+            drop(value);
+            Err(fault)
+        }
+    }
 }
 
 /// A value with the items that are added.
@@ -310,6 +339,7 @@ fn value_with(
         return Ok(new);
     }
     if is_no_list(&value) {
+        drop(value);
         return Err(Refusal::NotAList);
     }
     let new = joined(alloc, current, name, added, value)?;

@@ -33,11 +33,15 @@ fn put_apart(
     ensures left { (rest : List Value) → OnOk result (left.new.items ++ filter (is_left chosen.now) rest ≡ left.old.items ++ filter (is_left chosen.now) (x ∷ rest)) }
     ensures taken { (rest : List Value) → OnOk result (taken.new.items ++ filter (chooses chosen.now) rest ≡ taken.old.items ++ filter (chooses chosen.now) (x ∷ rest)) }
 {
-    if chosen.has(&x)? {
-        taken.push(x)?;
-        return Ok(());
+    match chosen.has(&x) {
+        Ok(true) => taken.push(x)?,
+        Ok(false) => left.push(x)?,
+        Err(fault) => {
+            // By a call: let go of here, each form of it would be a path of this proof.
+            drop(x);
+            return Err(fault);
+        }
     }
-    left.push(x)?;
     Ok(())
 }
 
@@ -119,6 +123,7 @@ fn put_back(alloc: Global, name: &[u8], taken: &[Expr], value: Expr, arguments: 
     ensures { arguments.new ≡ put_back name.now (not (is_empty taken.now)) value arguments.old }
 {
     if !taken.is_empty() && is_empty_list(&value) {
+        drop(value);
         remove_first(name, arguments);
         return;
     }

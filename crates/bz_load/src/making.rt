@@ -51,10 +51,12 @@ fn token_of(alloc: Global, class: Class, text: &[u8]) -> Result<Expr, Memory>
 fn alias(alloc: Global, to: &[u8], from: &[u8]) -> Result<Expr, Memory>
     ensures { IfOk result (λ x. x ≡ node k.Alias (name to.now ∷ mark (codes "=") ∷ token c.String (quoted_of from.now) ∷ [])) }
 {
-    let left = token_of(alloc, Class::Name, to)?;
-    let sign = token_of(alloc, Class::Mark, b"=")?;
-    let right = string(alloc, from)?;
-    let parts = Vec::from_array(alloc, [left, sign, right])?;
+    let to = Text::from_slice(alloc, to)?;
+    let sign = Text::from_slice(alloc, b"=")?;
+    let from = quoted(alloc, from)?;
+    let left = token(Class::Name, to);
+    let right = token(Class::String, from);
+    let parts = Vec::from_array(alloc, [left, token(Class::Mark, sign), right])?;
     Ok(sequence(
         alloc,
         Kind::Alias,

@@ -1,4 +1,5 @@
 pub mod Written
 pub mod Outputs
+pub mod Pieces
 pub mod Lines
 pub mod Least

@@ -1,8 +1,11 @@
 pub mod TextSteps
 pub mod FormSteps
+pub mod WalkSteps
+pub mod EachChanged
 pub mod Keeping
 pub mod Sorting
 pub mod Parts
+pub mod Passing
 pub mod Levels
 pub mod Composed
 pub mod Counts

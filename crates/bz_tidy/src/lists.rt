@@ -130,15 +130,11 @@ fn copy_suffix(comments: &Comments) -> Result<Option<Text>, Memory>
 fn set_above(alloc: Global, before: Items<Text>, x: &mut Expr) -> Result<(), Memory>
     ensures { OnOk result (x.new ≡ with_above before x.old) }
 {
+    let suffix = copy_suffix(x.comments())?;
+    let comments = Comments::new(alloc, before, suffix)?;
     match x {
-        Expr::Token(token) => {
-            let suffix = copy_suffix(&token.comments)?;
-            token.comments = Comments::new(alloc, before, suffix)?;
-        }
-        Expr::Form(form) => {
-            let suffix = copy_suffix(&form.comments)?;
-            form.comments = Comments::new(alloc, before, suffix)?;
-        }
+        Expr::Token(token) => token.comments = comments,
+        Expr::Form(form) => form.comments = comments,
     }
     Ok(())
 }

@@ -58,11 +58,14 @@ fn keep(kept: &mut Vec<Expr>, places: &mut Vec<usize>, x: Expr) -> Result<(), Me
 {
     begin_tie(kept.as_slice(), &x, places);
     if !stands(kept.as_slice(), places.as_slice(), text_of(&x)) {
-        places.push(kept.len())?;
+        let place = kept.len();
         kept.push(x)?;
+        places.push(place)?;
         return Ok(());
     }
     if has_no_comment(&x) {
+        // By a call: let go of here, each form of it would be a path of this proof.
+        drop(x);
         return Ok(());
     }
     kept.push(x)?;

@@ -59,6 +59,7 @@ fn change_items(
 }
 
 /// Changes a list; any other expression stays.
+#[tactic(auto, using(crate::proofs::FormSteps::sequence_Form))]
 fn change_list(alloc: Global, change: ListChange<'_>, x: &mut Expr) -> Result<(), Memory>
     ensures { OnOk result (x.new ≡ on_items k.List (list_change change.entry) x.old) }
 {
@@ -90,6 +91,7 @@ fn change_operands(
 }
 
 /// Changes the lists of a value.
+#[tactic(auto, using(crate::proofs::WalkSteps::lists_by_kind))]
 fn change_lists(alloc: Global, change: ListChange<'_>, x: &mut Expr) -> Result<(), Memory>
     ensures { OnOk result (x.new ≡ on_lists (list_change change.entry) x.old) }
 {

@@ -1,6 +1,6 @@
 -- Steps of the loops over the parts of a row.
-use Rattle.std.proofs.Common.{ℕ, zero, suc, Bool, false, ◌≡◌, List, [], ◌∷◌, ◌++◌, ◌<◌, ◌≤◌, ◌+◌, Option, refl, sym, ap, ◌∙◌, subst, map, take, drop, length, get_or, append_assoc, append-nil, length-drop, add-one, arith}
-use Rattle.std.proofs.lemmas.List.{length-map}
+use Rattle.std.proofs.Common.{ℕ, zero, suc, Bool, true, false, not, ◌&&◌, ◌||◌, if◌then◌else◌, ◌≡◌, List, [], ◌∷◌, ◌++◌, ◌<◌, ◌≤◌, ◌+◌, Option, refl, sym, ap, ◌∙◌, subst, map, take, drop, length, get_or, append_assoc, append-nil, length-drop, add-one, arith}
+use Rattle.std.proofs.lemmas.List.{length-map, drop_more}
 use Rattle.std.proofs.Math.ListN.{get_or-map}
 use Rattle.bz_tree.specs.declared.tree.Part.{Part}
 use Rattle.bz_value.specs.declared.value.Expr.{Expr}
@@ -8,8 +8,9 @@ use Rattle.bz_value.specs.declared.value.Seq.{Seq}
 use Rattle.bz_value.specs.Commented.{with_comments}
 use Rattle.bz_value.specs.Comments.{HostComments, no_comments}
 use Rattle.bz_items.specs.Characters.{Bytes}
-use Rattle.bz_value.specs.Gaps.{suffix_in, others_in, all_in}
-use Rattle.bz_view.specs.View.{Seen, seen, plain, is_split, first_gap, last_gap, items_in, loose_behind}
+use Rattle.bz_value.specs.Gaps.{suffix_in, others_in, all_in, has_newline}
+use Rattle.bz_value.specs.Proper.{is_operator}
+use Rattle.bz_view.specs.View.{Seen, seen, plain, begins_operator, row_exprs, is_split, first_gap, last_gap, items_in, loose_behind}
 use Rattle.bz_view.specs.Walks.{seq_in, loose_from, suffix_behind, above_behind}
 use Rattle.bz_view.proofs.NodeViews.{seen_comments}
 
@@ -80,6 +81,42 @@ pub gap_outside : (at : ℕ) (s : Seen) (old : List Bytes) (rest : List Seen) �
 gap_outside zero s old rest n = append_assoc old s.loose (loose_behind rest)
 gap_outside (suc at) s old rest n = absurd (omega arith)
 
+-- ---- the parts of a row
+
+pub part_here : (ps : List Part) (at : ℕ) (y : Part) → at < length ps → y ≡ get_or ps at y → map seen (drop at ps) ≡ seen y ∷ map seen (drop (at + 1) ps)
+part_here ps at y l i = ap (λ qs. map seen qs) (drop_more ps at y l ∙ ap (λ z. z ∷ drop (at + 1) ps) (sym i))
+
+-- the parts from an operator's token on, or from an operand on: `before`, whether a newline stands before the operator, is not asked for at an operand
+quiet_before : (binary operator before : Bool) (s : Seen) (ss : List Seen) →
+    s.make no_comments ((operator && not (begins_operator ss)) && (before || has_newline (first_gap ss))) ∷ row_exprs binary operator before ss
+    ≡ s.make no_comments ((operator && not (begins_operator ss)) && ((operator && before) || has_newline (first_gap ss))) ∷ row_exprs binary operator (operator && before) ss
+quiet_before binary true before s ss = refl
+quiet_before binary false before s [] = refl
+quiet_before binary false before s (t ∷ ss) = refl
+
+pub at_operator : (operator before : Bool) → operator ≡ true → before ≡ (operator && before)
+at_operator operator before h = sym (ap (λ o. o && before) h)
+
+pub at_operand : (operator before : Bool) → operator ≡ false → operator ≡ (operator && before)
+at_operand operator before h = h ∙ sym (ap (λ o. o && before) h)
+
+-- one more part of a row
+pub row_more : (binary inside newline operator newline' break : Bool) (s : Seen) (ss here : List Seen) (x : Expr) (es new all : List Expr) → here ≡ s ∷ ss → operator ≡ (binary && is_operator (plain s)) →
+    newline' ≡ (operator && (if inside then newline else has_newline (first_gap here))) → break ≡ ((operator && not (begins_operator ss)) && (newline' || has_newline (first_gap ss))) → x ≡ s.make no_comments break →
+    es ++ row_exprs binary inside newline here ≡ all → new ≡ es ++ x ∷ [] → new ++ row_exprs binary operator newline' ss ≡ all
+row_more binary inside newline operator newline' break s ss here x es new all h o n b e j k =
+    let sign : Bool = binary && is_operator (plain s) in
+    let before : Bool = if inside then newline else has_newline s.gap in
+    let newline_is : newline' ≡ (sign && before) = n ∙ (ap (λ z. z && (if inside then newline else has_newline (first_gap here))) o ∙ ap (λ ts. sign && (if inside then newline else has_newline (first_gap ts))) h) in
+    let break_is : break ≡ ((sign && not (begins_operator ss)) && ((sign && before) || has_newline (first_gap ss))) =
+    b ∙ (ap (λ z. (z && not (begins_operator ss)) && (newline' || has_newline (first_gap ss))) o ∙ ap (λ z. (sign && not (begins_operator ss)) && (z || has_newline (first_gap ss))) newline_is) in
+    let step : row_exprs binary inside newline here ≡ x ∷ row_exprs binary operator newline' ss =
+    ap (λ ts. row_exprs binary inside newline ts) h
+    ∙ (quiet_before binary sign before s ss
+    ∙ (ap (λ z. z ∷ row_exprs binary sign (sign && before) ss) (sym (e ∙ ap (λ z. s.make no_comments z) break_is))
+    ∙ (ap (λ z. x ∷ row_exprs binary sign z ss) (sym newline_is) ∙ ap (λ z. x ∷ row_exprs binary z newline' ss) (sym o)))) in
+    ap (λ t. t ++ row_exprs binary operator newline' ss) k ∙ (append_assoc es (x ∷ []) (row_exprs binary operator newline' ss) ∙ (ap (λ t. es ++ t) (sym step) ∙ j))
+
 -- ---- the parts before a bracket
 
 head_at : (ss : List Seen) (at lead : ℕ) (d : Seen) → at < length ss → at < lead → drop at (take lead ss) ≡ get_or ss at d ∷ drop (suc at) (take lead ss)
@@ -134,6 +171,21 @@ bracket_more ps at lead y old mid new all a l i gap e j =
     let here : old ++ loose_from lead (drop lead (take (suc lead) (map seen ps))) ≡ all = ap (λ n. old ++ loose_from n (drop n (take (suc lead) (map seen ps)))) (sym a) ∙ j in
     let more : new ++ loose_from (lead + 1) past ≡ all = loose_more lead (seen y) past _ old mid new all (head_here ps lead (suc lead) y l (omega arith) i) gap e here in
     sym (append-nil new) ∙ (ap (λ t. new ++ t) (sym (ap (loose_from (lead + 1)) none ∙ no_loose (lead + 1))) ∙ more)
+
+-- ---- behind the last part of a row
+
+none_left : (ps : List Part) (at : ℕ) → length ps ≤ at → drop at ps ≡ []
+none_left [] zero l = refl
+none_left [] (suc at) l = refl
+none_left (x ∷ ps) zero l = absurd (omega arith)
+none_left (x ∷ ps) (suc at) l = none_left ps at (omega arith)
+
+pub row_done : (ps : List Part) (at : ℕ) (binary inside newline : Bool) (es items all : List Expr) → length ps ≤ at → items ≡ es → es ++ row_exprs binary inside newline (map seen (drop at ps)) ≡ all → items ≡ all
+row_done ps at binary inside newline es items all l i j =
+    i ∙ (sym (append-nil es) ∙ (ap (λ qs. es ++ row_exprs binary inside newline (map seen qs)) (sym (none_left ps at l)) ∙ j))
+
+pub loose_done : (ps : List Part) (at : ℕ) (old all : List Bytes) → length ps ≤ at → old ++ loose_from at (map seen (drop at ps)) ≡ all → old ≡ all
+loose_done ps at old all l j = sym (append-nil old) ∙ (ap (λ t. old ++ t) (sym (ap (λ qs. loose_from at (map seen qs)) (none_left ps at l) ∙ no_loose at)) ∙ j)
 
 -- ---- the items of a sequence
 

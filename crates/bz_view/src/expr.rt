@@ -6,12 +6,11 @@ ghost use Rattle.bz_view.specs.View.{loose_in, plain, row_exprs, seen};
 ghost use Rattle.bz_view.specs.Walks.{form_in, loose_of, seq_in};
 
 use crate::before::{breaks_from, gap_at, is_operator_in};
+use crate::commented::commented;
 use crate::marks::{above_next, before_operator, breaks_behind, gap_behind, opens, push_gap};
 use bz_items::{Items, Memory, Text};
 use bz_tree::{Node, Part};
-use bz_value::{
-    Comments, Expr, Form, Seq, Token, is_binary, is_sequence, lead_of, push_all, suffix_in,
-};
+use bz_value::{Comments, Expr, Form, Seq, Token, is_binary, is_sequence, lead_of, push_all};
 use std::alloc::Global;
 
 /// The expression of a part without comments of its own; of a token with this break. What is loose in the part is appended
@@ -141,20 +140,20 @@ pub fn seq_of(alloc: Global, parts: &[Part], from: usize) -> Result<Seq, Memory>
     ensures { IfOk result (λ seq. seq ≡ seq_in (map seen (drop from parts.now))) }
 {
     let count = parts.len();
-    let mut items = Vec::with_capacity(alloc, count / 2)?;
+    let mut items = Items::from_vec(Vec::with_capacity(alloc, count / 2)?);
     // the comments above the next item; what is loose in the item goes there too
     let mut above = Items::new(alloc);
     push_all(alloc, gap_at(parts, from), &mut above)?;
     let mut at = from;
     while at + 1 < count {
         let expr = expr_of(alloc, &parts[at], false, &mut above)?;
-        let suffix = suffix_in(alloc, gap_behind(parts, at + 1))?;
-        items.push(expr.with_comments(Comments::new(alloc, above, suffix)?))?;
+        let host = commented(alloc, expr, above, gap_behind(parts, at + 1))?;
+        items.push(host)?;
         above = above_next(alloc, parts, at + 1)?;
         at += 2;
     }
     Ok(Seq {
-        items: Items::from_vec(items),
+        items,
         end_: above,
         split: breaks_from(parts, from),
     })

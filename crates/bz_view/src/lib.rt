@@ -2,6 +2,7 @@
 #![tactic(auto)]
 
 mod before;
+mod commented;
 mod expr;
 mod groups;
 mod laws;

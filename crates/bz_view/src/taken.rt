@@ -1,5 +1,7 @@
 //! The view of a tree that is given up.
-ghost use Rattle.std.specs.Prelude.{◌≡◌, [], IfOk};
+ghost use Rattle.std.specs.Prelude.{◌≡◌, ◌++◌, ◌∷◌, [], List, IfOk};
+ghost use Rattle.bz_tree.specs.declared.tree.Part.{Part};
+ghost use Rattle.bz_value.specs.Gaps.{lines_of};
 ghost use Rattle.bz_value.specs.Counted.{times};
 ghost use Rattle.bz_items.specs.Characters.{Bytes};
 ghost use Rattle.bz_view.specs.Kept.{occurrences};
@@ -30,8 +32,26 @@ fn into_items(alloc: Global, lines: Items<Part>) -> Result<Items<Item>, Memory>
     let mut items = Items::new(alloc);
     let mut left = Text::from_vec(Vec::new(alloc));
     for line in lines.into_vec() {
-        let rest = push_line(alloc, left.as_slice(), &line, &mut items)?;
-        left = Text::from_slice(alloc, rest)?;
+        left = push_last(alloc, left.as_slice(), line, &mut items)?;
     }
     Ok(items)
+}
+
+/// Appends the items of a line, or of the end, which is let go then, with the comment lines `left` before it. Returned: the gap
+/// whose lines stand before the next one. The error: memory was refused.
+fn push_last(
+    alloc: Global,
+    left: &[u8],
+    line: Part,
+    items: &mut Items<Item>,
+) -> Result<Text, Memory>
+    ensures { IfOk result (λ rest. (xs : List Part) → items.new ++ file_items (lines_of rest) xs ≡ items.old ++ file_items (lines_of left.now) (line ∷ xs)) }
+{
+    let rest = match push_line(alloc, left, &line, items) {
+        Ok(rest) => Text::from_slice(alloc, rest),
+        Err(fault) => Err(fault),
+    };
+    // By a call: by the end of its scope, each form of the line would be a path of this proof.
+    drop(line);
+    rest
 }

@@ -9,11 +9,12 @@ ghost use Rattle.bz_view.specs.View.{file_items, seen, statements_in, view_of};
 ghost use Rattle.bz_view.specs.Walks.{line_suffix};
 
 use crate::before::{gap_at, gap_of_last};
+use crate::commented::commented;
 use crate::expr::expr_of;
 use crate::groups::{push_all_groups, push_groups};
 use bz_items::{Items, Memory, Text};
 use bz_tree::{Part, Tree};
-use bz_value::{Comments, File, Item, behind_first_line, suffix_in};
+use bz_value::{File, Item, behind_first_line};
 use std::alloc::Global;
 
 /// The file value of a tree: its statements without gaps, each comment at its host, and as often in the value as in the tree's
@@ -77,9 +78,8 @@ pub fn push_statements(
     let mut at = 0;
     while at + 1 < count {
         let expr = expr_of(alloc, &parts[at], false, &mut before)?;
-        let suffix = suffix_in(alloc, suffix_gap(parts, at + 1))?;
-        let comments = Comments::new(alloc, before, suffix)?;
-        items.push(Item::Stmt(expr.with_comments(comments)))?;
+        let host = commented(alloc, expr, before, suffix_gap(parts, at + 1))?;
+        items.push(Item::Stmt(host))?;
         before = Items::new(alloc);
         at += 2;
     }

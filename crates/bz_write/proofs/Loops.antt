@@ -10,6 +10,7 @@ use Rattle.bz_value.specs.declared.value.Expr.{Expr}
 use Rattle.bz_value.specs.declared.value.Item.{Item}
 use Rattle.bz_value.specs.declared.value.Item.TheVariants as i
 use Rattle.bz_items.specs.Characters.{Bytes, comma, space}
+use Rattle.bz_value.specs.Comments.{HostComments}
 use Rattle.bz_value.specs.Frames.{Frame, row, sequence, frame}
 use Rattle.bz_value.specs.Proper.{comments_of}
 use Rattle.bz_write.specs.declared.brackets.Brackets.{Brackets}
@@ -55,6 +56,57 @@ joined_next parts m gap closer one xs k d h =
     ap (λ ys. parts ++ map piece_part (joined m gap closer one (drawings ys))) (drop_more xs k d h) ∙
     (ap (λ ps. parts ++ ps) (joined_first m gap closer one x rest) ∙
     (sym (append_assoc parts (part_of x gap m ∷ []) (comma ++ more)) ∙ sym (append_assoc (parts ++ part_of x gap m ∷ []) comma more)))
+
+-- a turn of the loop over items on one line: the part x is drawn of the expression y
+pub joined_turn : (parts there new : List Part) (m : ℕ) (gap : Bytes) (closer : ℕ) (one : Bool) (xs ys : List Expr) (k : ℕ) (y : Expr) (x : Part) (gap' : Bytes) (all : List Part) →
+    k < length xs → y ≡ get_or xs k y → x ≡ part_of y gap m → there ≡ parts ++ x ∷ [] → ys ≡ drop (k + 1) xs → new ≡ there ++ map piece_part (comma_behind (is_empty ys) one) → gap' ≡ space ∷ [] →
+    parts ++ map piece_part (joined m gap closer one (drawings (drop k xs))) ≡ all → new ++ map piece_part (joined m gap' closer false (drawings (drop (k + 1) xs))) ≡ all
+joined_turn parts there new m gap closer one xs ys k y x gap' all h is drawn pushed others comma_ behind_ before =
+    let rest : List Expr = drop (k + 1) xs in
+    rw (comma_, pushed, drawn, others, behind_)
+    (ap (λ z. ((parts ++ part_of z gap m ∷ []) ++ map piece_part (comma_behind (is_empty rest) one)) ++ map piece_part (joined m (space ∷ []) closer false (drawings rest))) is
+    ∙ (sym (joined_next parts m gap closer one xs k y h) ∙ before))
+
+-- a turn of the loop over what stands before a bracket
+pub head_turn : (parts new : List Part) (m : ℕ) (gap : Bytes) (opener : ℕ) (xs : List Expr) (k : ℕ) (y : Expr) (x : Part) (gap' : Bytes) (all : List Part) →
+    k < length xs → y ≡ get_or xs k y → x ≡ part_of y gap m → new ≡ parts ++ x ∷ [] → gap' ≡ [] →
+    parts ++ map piece_part (headed m gap opener (drawings (drop k xs)) []) ≡ all → new ++ map piece_part (headed m gap' opener (drawings (drop (k + 1) xs)) []) ≡ all
+head_turn parts new m gap opener xs k y x gap' all h is drawn pushed behind_ before =
+    let rest : List Expr = drop (k + 1) xs in
+    let first : drop k xs ≡ y ∷ rest = drop_more xs k y h ∙ ap (λ z. z ∷ rest) (sym is) in
+    rw (pushed, drawn, behind_)
+    (append_assoc parts (part_of y gap m ∷ []) (map piece_part (headed m [] opener (drawings rest) []))
+    ∙ (ap (λ ys. parts ++ map piece_part (headed m gap opener (drawings ys) [])) (sym first) ∙ before))
+
+stacked_step : (parts there new : List Part) (m : ℕ) (gap : Bytes) (closer : ℕ) (end_ : List Bytes) (xs : List Expr) (k : ℕ) (y : Expr) (x : Part) (gap1 gap2 gap' : Bytes) (n : ℕ) (all : List Part) →
+    k < length xs → y ≡ get_or xs k y → n ≡ m + 4 → gap1 ≡ gap ++ line n → gap2 ≡ gap1 ++ above n (comments_of y).before → x ≡ part_of y gap2 n →
+    there ≡ parts ++ x ∷ [] → new ≡ there ++ piece_part (mark [] (comma ∷ [])) ∷ [] → gap' ≡ behind (comments_of y).suffix →
+    parts ++ map piece_part (stacked_behind m gap closer end_ (drawings (drop k xs))) ≡ all → new ++ map piece_part (stacked_behind m gap' closer end_ (drawings (drop (k + 1) xs))) ≡ all
+stacked_step parts there new m gap closer end_ xs k y x gap1 gap2 gap' n all h is deeper_ line_ above_ drawn pushed comma_ behind_ before =
+    let rest : List Expr = drop (k + 1) xs in
+    let first : drop k xs ≡ y ∷ rest = drop_more xs k y h ∙ ap (λ z. z ∷ rest) (sym is) in
+    let bare : Part = piece_part (mark [] (comma ∷ [])) in
+    let tail : List Part = map piece_part (stacked_behind m (behind (comments_of y).suffix) closer end_ (drawings rest)) in
+    rw (comma_, pushed, drawn, above_, line_, behind_, deeper_)
+    (append_assoc (parts ++ part_of y ((gap ++ line (m + 4)) ++ above (m + 4) (comments_of y).before) (m + 4) ∷ []) (bare ∷ []) tail
+    ∙ (append_assoc parts (part_of y ((gap ++ line (m + 4)) ++ above (m + 4) (comments_of y).before) (m + 4) ∷ []) (bare ∷ tail)
+    ∙ (ap (λ g. parts ++ part_of y g (m + 4) ∷ bare ∷ tail) (append_assoc gap (line (m + 4)) (above (m + 4) (comments_of y).before))
+    ∙ (ap (λ ys. parts ++ map piece_part (stacked_behind m gap closer end_ (drawings ys))) (sym first) ∙ before))))
+
+-- a turn of the loop over items on lines of their own: `text` is the gap of the part x, `bare` the comma behind it
+pub stacked_turn : (parts there new : List Part) (m : ℕ) (gap : Bytes) (closer : ℕ) (end_ : List Bytes) (xs : List Expr) (k : ℕ) (y : Expr) (x bare : Part) (gap1 gap2 text none fresh gap' : Bytes) (n : ℕ)
+    (comments : HostComments) (texts : List Bytes) (suffix : Option Bytes) (all : List Part) →
+    k < length xs → y ≡ get_or xs k y → comments ≡ comments_of y → n ≡ m + 4 → gap1 ≡ gap ++ line n → texts ≡ comments.before → gap2 ≡ gap1 ++ above n texts → text ≡ gap2 → x ≡ part_of y text n →
+    there ≡ parts ++ x ∷ [] → none ≡ [] → bare ≡ piece_part (mark none (comma ∷ [])) → new ≡ there ++ bare ∷ [] → fresh ≡ [] → suffix ≡ comments.suffix → gap' ≡ fresh ++ behind suffix →
+    parts ++ map piece_part (stacked_behind m gap closer end_ (drawings (drop k xs))) ≡ all → new ++ map piece_part (stacked_behind m gap' closer end_ (drawings (drop (k + 1) xs))) ≡ all
+stacked_turn parts there new m gap closer end_ xs k y x bare gap1 gap2 text none fresh gap' n comments texts suffix all h is has deeper_ line_ texts_ above_ text_ drawn pushed none_ bare_ comma_ fresh_ suffix_ behind_ before =
+    stacked_step parts there new m gap closer end_ xs k y x gap1 gap2 gap' n all h is deeper_ line_
+    (above_ ∙ ap (λ ts. gap1 ++ above n ts) (texts_ ∙ ap (λ c. c.before) has))
+    (drawn ∙ ap (λ g. part_of y g n) text_)
+    pushed
+    (comma_ ∙ ap (λ z. there ++ z ∷ []) (bare_ ∙ ap (λ g. piece_part (mark g (comma ∷ []))) none_))
+    (behind_ ∙ (ap (λ g. g ++ behind suffix) fresh_ ∙ ap behind (suffix_ ∙ ap (λ c. c.suffix) has)))
+    before
 
 -- ---- rows
 

@@ -1,5 +1,5 @@
 -- Forms that wait, and the steps of the loops that measure rows and sequences.
-use Rattle.std.proofs.Common.{ℕ, suc, Bool, true, false, ◌≡◌, ◌<◌, List, [], ◌∷◌, ◌++◌, ◌+◌, length, get_or, drop, refl, ap, ◌∙◌, arith}
+use Rattle.std.proofs.Common.{ℕ, suc, Bool, true, false, ◌≡◌, ◌<◌, List, [], ◌∷◌, ◌++◌, ◌+◌, length, get_or, drop, refl, sym, ap, ◌∙◌, arith}
 use Rattle.std.proofs.lemmas.List.{drop_more}
 use Rattle.bz_tree.specs.declared.kind.Kind.{Kind}
 use Rattle.bz_value.specs.declared.value.Form.{Form}
@@ -54,6 +54,59 @@ joined_next m one xs k d h = ap (λ ys. joined_size m one ys) (drop_more xs k d 
 pub stacked_next : (m : ℕ) (end_ : List Bytes) (xs : List Expr) (k : ℕ) (d : Expr) → k < length xs →
     stacked_size m end_ (drop k xs) ≡ stacked_item_size m (get_or xs k d) + stacked_size m end_ (drop (k + 1) xs)
 stacked_next m end_ xs k d h = ap (λ ys. stacked_size m end_ ys) (drop_more xs k d h)
+
+-- ---- one turn of each loop
+
+pub forms_turn : (xs : List Expr) (k : ℕ) (x : Expr) (before here after : ℕ) → k < length xs → x ≡ get_or xs k x →
+    here + forms_in_all (drop k xs) ≡ before + forms_in_all xs → after ≡ here + forms_in x → after + forms_in_all (drop (k + 1) xs) ≡ before + forms_in_all xs
+forms_turn xs k x before here after h is sum more =
+    let next : forms_in_all (drop k xs) ≡ forms_in x + forms_in_all (drop (k + 1) xs) = forms_next xs k x h ∙ ap (λ y. forms_in y + forms_in_all (drop (k + 1) xs)) (sym is) in
+    omega (arith, next, sum, more)
+
+-- what was to be measured from here on is what the first of it takes, and the rest
+size_turn : (whole first rest here before left left' room pending pending' : ℕ) → here ≡ first + rest → whole + left + before ≡ room + pending + here →
+    first + left' + pending ≡ left + pending' → whole + left' + before ≡ room + pending' + rest
+size_turn whole first rest here before left left' room pending pending' next sum ok = omega (arith, next, sum, ok)
+
+pub row_turn : (kind : Kind) (open_ : Bool) (m n inner : ℕ) (xs others : List Expr) (k : ℕ) (x : Expr) (gap : Bytes) (whole before left middle left' room pending pending' : ℕ) →
+    k < length xs → x ≡ get_or xs k x → others ≡ drop (k + 1) xs → gap ≡ gap_behind kind open_ m x others → inner ≡ margin_behind open_ m x →
+    whole + left + before ≡ room + pending + row_size kind open_ m n (drop k xs) → length (text_of x n) + middle + pending ≡ left + pending' → length gap + left' ≡ middle →
+    whole + left' + before ≡ room + pending' + row_size kind open_ m inner (drop (k + 1) xs)
+row_turn kind open_ m n inner xs others k x gap whole before left middle left' room pending pending' h is o g i sum ok okk =
+    let rest : List Expr = drop (k + 1) xs in
+    let next : row_size kind open_ m n (drop k xs) ≡ length (text_of x n) + (length gap + row_size kind open_ m inner rest) =
+    row_next kind open_ m n xs k x h
+    ∙ (ap (λ y. length (text_of y n) + (length (gap_behind kind open_ m y rest) + row_size kind open_ m (margin_behind open_ m y) rest)) (sym is)
+    ∙ (ap (λ ys. length (text_of x n) + (length (gap_behind kind open_ m x ys) + row_size kind open_ m (margin_behind open_ m x) rest)) (sym o)
+    ∙ (ap (λ t. length (text_of x n) + (length t + row_size kind open_ m (margin_behind open_ m x) rest)) (sym g)
+    ∙ ap (λ q. length (text_of x n) + (length gap + row_size kind open_ m q rest)) (sym i)))) in
+    omega (arith, next, sum, ok, okk)
+
+pub head_turn : (m : ℕ) (xs : List Expr) (k : ℕ) (x : Expr) (whole before left left' room pending pending' : ℕ) → k < length xs → x ≡ get_or xs k x →
+    whole + left + before ≡ room + pending + head_size m (drop k xs) → length (text_of x m) + left' + pending ≡ left + pending' →
+    whole + left' + before ≡ room + pending' + head_size m (drop (k + 1) xs)
+head_turn m xs k x whole before left left' room pending pending' h is sum ok =
+    size_turn whole (length (text_of x m)) (head_size m (drop (k + 1) xs)) (head_size m (drop k xs)) before left left' room pending pending'
+    (head_next m xs k x h ∙ ap (λ y. length (text_of y m) + head_size m (drop (k + 1) xs)) (sym is)) sum ok
+
+pub joined_turn : (m : ℕ) (one : Bool) (xs others : List Expr) (k : ℕ) (x : Expr) (comma whole before left middle left' room pending pending' : ℕ) →
+    k < length xs → x ≡ get_or xs k x → others ≡ drop (k + 1) xs → comma ≡ comma_size one others →
+    whole + left + before ≡ room + pending + joined_size m one (drop k xs) → length (text_of x m) + middle + pending ≡ left + pending' → comma + left' ≡ middle →
+    whole + left' + before ≡ room + pending' + joined_size m false (drop (k + 1) xs)
+joined_turn m one xs others k x comma whole before left middle left' room pending pending' h is o g sum ok okk =
+    let rest : List Expr = drop (k + 1) xs in
+    let next : joined_size m one (drop k xs) ≡ length (text_of x m) + (comma + joined_size m false rest) =
+    joined_next m one xs k x h
+    ∙ (ap (λ y. length (text_of y m) + (comma_size one rest + joined_size m false rest)) (sym is)
+    ∙ ap (λ q. length (text_of x m) + (q + joined_size m false rest)) (ap (comma_size one) (sym o) ∙ sym g)) in
+    omega (arith, next, sum, ok, okk)
+
+pub stacked_turn : (m : ℕ) (end_ : List Bytes) (xs : List Expr) (k : ℕ) (x : Expr) (whole before left left' room pending pending' : ℕ) → k < length xs → x ≡ get_or xs k x →
+    whole + left + before ≡ room + pending + stacked_size m end_ (drop k xs) → stacked_item_size m x + left' + pending ≡ left + pending' →
+    whole + left' + before ≡ room + pending' + stacked_size m end_ (drop (k + 1) xs)
+stacked_turn m end_ xs k x whole before left left' room pending pending' h is sum ok =
+    size_turn whole (stacked_item_size m x) (stacked_size m end_ (drop (k + 1) xs)) (stacked_size m end_ (drop k xs)) before left left' room pending pending'
+    (stacked_next m end_ xs k x h ∙ ap (λ y. stacked_item_size m y + stacked_size m end_ (drop (k + 1) xs)) (sym is)) sum ok
 
 -- ---- forms by their frames
 

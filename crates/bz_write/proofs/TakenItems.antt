@@ -24,5 +24,12 @@ lines_turn parts gap above x xs =
     ap (λ t. parts ++ lines_from (gap ++ t) (x ∷ xs)) (before_first above x xs)
     ∙ (ap (λ ps. parts ++ ps) (lines_first here x xs) ∙ sym (append_assoc parts (own_lines here x) (lines_from (left_gap here x ++ before_item (Some x) xs) xs)))
 
+-- the same, by what a turn of the loop leaves
+pub loop_turn : (parts new : List Part) (gap gap' : Bytes) (above above' : Option Item) (x : Item) (xs here : List Item) (all : List Part) → here ≡ x ∷ xs → above' ≡ Some x →
+    gap' ≡ left_gap (gap ++ before_item above (x ∷ [])) x → new ≡ parts ++ own_lines (gap ++ before_item above (x ∷ [])) x →
+    parts ++ lines_from (gap ++ before_item above here) here ≡ all → new ++ lines_from (gap' ++ before_item above' xs) xs ≡ all
+loop_turn parts new gap gap' above above' x xs here all first above_ gap_ parts_ before =
+    rw (parts_, gap_, above_) (sym (lines_turn parts gap above x xs) ∙ (ap (λ ys. parts ++ lines_from (gap ++ before_item above ys) ys) (sym first) ∙ before))
+
 pub lines_end : (parts : List Part) (gap : Bytes) (above : Option Item) → parts ++ lines_from (gap ++ before_item above []) [] ≡ parts ++ lines_from gap []
 lines_end parts gap above = ap (λ t. parts ++ lines_from t []) (ap (λ t. gap ++ t) (before_none above) ∙ append-nil gap)

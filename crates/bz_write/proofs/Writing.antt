@@ -1,5 +1,5 @@
 -- The steps of the loops that write rows and sequences as text, and the text of a form by its frame.
-use Rattle.std.proofs.Common.{ℕ, Bool, true, false, ◌&&◌, ◌≡◌, ◌<◌, List, [], ◌∷◌, ◌++◌, ◌+◌, if◌then◌else◌, length, get_or, drop, refl, sym, ap, ◌∙◌, append_assoc}
+use Rattle.std.proofs.Common.{ℕ, zero, suc, Bool, true, false, ◌&&◌, ◌≡◌, ◌<◌, ◌≤◌, List, [], ◌∷◌, ◌++◌, ◌+◌, if◌then◌else◌, length, get_or, drop, refl, sym, ap, ◌∙◌, append_assoc, arith}
 use Rattle.std.specs.Prelude.{Option, None, Some, nat_eq}
 use Rattle.std.specs.List.{flat_map}
 use Rattle.std.proofs.lemmas.List.{drop_more}
@@ -9,6 +9,7 @@ use Rattle.bz_value.specs.declared.value.Form.{Form}
 use Rattle.bz_value.specs.declared.value.Expr.{Expr}
 use Rattle.bz_value.specs.declared.value.Expr.TheVariants as e
 use Rattle.bz_items.specs.Characters.{Bytes, comma}
+use Rattle.bz_value.specs.Comments.{HostComments}
 use Rattle.bz_value.specs.Frames.{Frame, row, sequence, frame}
 use Rattle.bz_value.specs.Proper.{comments_of}
 use Rattle.bz_write.specs.declared.brackets.Brackets.{Brackets}
@@ -60,6 +61,29 @@ pub joined_next : (m closer : ℕ) (one : Bool) (xs : List Expr) (k : ℕ) (d : 
     joined_text m closer one (drop k xs) ≡ text_of (get_or xs k d) m ++ (comma_text one (drop (k + 1) xs) ++ joined_text m closer false (drop (k + 1) xs))
 joined_next m closer one xs k d h = ap (λ ys. joined_text m closer one ys) (drop_more xs k d h) ∙ joined_first m closer one (get_or xs k d) (drop (k + 1) xs)
 
+-- a turn of the loop over what stands before a bracket
+pub head_turn : (out new : Bytes) (m : ℕ) (xs : List Expr) (k : ℕ) (y : Expr) (all : Bytes) → k < length xs → y ≡ get_or xs k y → new ≡ out ++ text_of y m →
+    out ++ head_text m (drop k xs) ≡ all → new ++ head_text m (drop (k + 1) xs) ≡ all
+head_turn out new m xs k y all h is written_ before =
+    let rest : List Expr = drop (k + 1) xs in
+    let first : drop k xs ≡ y ∷ rest = drop_more xs k y h ∙ ap (λ z. z ∷ rest) (sym is) in
+    ap (λ t. t ++ head_text m rest) written_ ∙
+    (append_assoc out (text_of y m) (head_text m rest) ∙
+    (ap (λ zs. out ++ head_text m zs) (sym first) ∙ before))
+
+-- a turn of the loop over items on one line
+pub joined_turn : (out there new : Bytes) (m closer : ℕ) (one : Bool) (xs ys : List Expr) (k : ℕ) (y : Expr) (all : Bytes) →
+    k < length xs → y ≡ get_or xs k y → there ≡ out ++ text_of y m → ys ≡ drop (k + 1) xs → new ≡ there ++ comma_text one ys →
+    out ++ joined_text m closer one (drop k xs) ≡ all → new ++ joined_text m closer false (drop (k + 1) xs) ≡ all
+joined_turn out there new m closer one xs ys k y all h is written_ others comma_ before =
+    let rest : List Expr = drop (k + 1) xs in
+    let tail : Bytes = joined_text m closer false rest in
+    let first : drop k xs ≡ y ∷ rest = drop_more xs k y h ∙ ap (λ z. z ∷ rest) (sym is) in
+    rw (comma_, written_, others)
+    (append_assoc (out ++ text_of y m) (comma_text one rest) tail ∙
+    (append_assoc out (text_of y m) (comma_text one rest ++ tail) ∙
+    (ap (λ t. out ++ t) (sym (ap (λ zs. joined_text m closer one zs) first ∙ joined_first m closer one y rest)) ∙ before)))
+
 -- three texts behind a first one
 behind_first : (a b c d : Bytes) → ((a ++ b) ++ c) ++ d ≡ a ++ ((b ++ c) ++ d)
 behind_first a b c d = ap (λ z. z ++ d) (append_assoc a b c) ∙ append_assoc a (b ++ c) d
@@ -93,6 +117,42 @@ stacked_turn out new m closer end_ xs k y all h is written_ before =
     ap (λ t. t ++ stacked_text m closer end_ rest) written_ ∙
     (append_assoc out (stacked_item_text m y) (stacked_text m closer end_ rest) ∙
     (ap (λ t. out ++ t) (sym (ap (λ zs. stacked_text m closer end_ zs) first ∙ stacked_first m closer end_ y rest)) ∙ before))
+
+-- ---- what is written one behind the other
+
+six_written : (a b d x y z : Bytes) → ((((a ++ b) ++ d) ++ x) ++ y) ++ z ≡ a ++ (b ++ (d ++ (x ++ (y ++ z))))
+six_written a b d x y z = append_assoc (((a ++ b) ++ d) ++ x) y z ∙ (append_assoc ((a ++ b) ++ d) x (y ++ z) ∙ (append_assoc (a ++ b) d (x ++ (y ++ z)) ∙ append_assoc a b (d ++ (x ++ (y ++ z)))))
+
+pub item_written : (out out1 out2 out3 out4 : Bytes) (m n : ℕ) (x : Expr) (comments : HostComments) (texts : List Bytes) (suffix : Option Bytes) → comments ≡ comments_of x → n ≡ m + 4 → out1 ≡ out ++ line n →
+    texts ≡ comments.before → out2 ≡ out1 ++ above n texts → out3 ≡ out2 ++ text_of x n → out4 ≡ out3 ++ comma ∷ [] → suffix ≡ comments.suffix → out4 ++ behind suffix ≡ out ++ stacked_item_text m x
+item_written out out1 out2 out3 out4 m n x comments texts suffix has deeper_ line_ texts_ above_ text_ comma_ suffix_ =
+    ap (λ t. t ++ behind suffix) (comma_ ∙ ap (λ t. t ++ comma ∷ []) (text_ ∙ ap (λ t. t ++ text_of x n) (above_ ∙ ap (λ t. t ++ above n texts) line_))) ∙
+    (six_written out (line n) (above n texts) (text_of x n) (comma ∷ []) (behind suffix) ∙
+    (ap (λ k. out ++ (line k ++ (above k texts ++ (text_of x k ++ (comma ∷ behind suffix))))) deeper_ ∙
+    (ap (λ ts. out ++ (line (m + 4) ++ (above (m + 4) ts ++ (text_of x (m + 4) ++ (comma ∷ behind suffix))))) (texts_ ∙ ap (λ z. z.before) has) ∙
+    ap (λ t. out ++ (line (m + 4) ++ (above (m + 4) (comments_of x).before ++ (text_of x (m + 4) ++ (comma ∷ behind t))))) (suffix_ ∙ ap (λ z. z.suffix) has))))
+
+pub sequence_written : (out out1 out2 body : Bytes) (m opener : ℕ) (xs ys : List Expr) → xs ≡ ys → out1 ≡ out ++ head_text m xs → out2 ≡ out1 ++ opener ∷ [] → out2 ++ body ≡ out ++ (head_text m ys ++ (opener ∷ body))
+sequence_written out out1 out2 body m opener xs ys is head_ opener_ =
+    ap (λ t. t ++ body) (opener_ ∙ ap (λ t. t ++ opener ∷ []) (head_ ∙ ap (λ zs. out ++ head_text m zs) is)) ∙
+    (append_assoc (out ++ head_text m ys) (opener ∷ []) body ∙ append_assoc out (head_text m ys) (opener ∷ body))
+
+-- behind the last item
+none_left : (xs : List Expr) (k : ℕ) → length xs ≤ k → drop k xs ≡ []
+none_left [] zero l = refl
+none_left [] (suc k) l = refl
+none_left (x ∷ xs) zero l = absurd (omega arith)
+none_left (x ∷ xs) (suc k) l = none_left xs k (omega arith)
+
+pub joined_end : (out new : Bytes) (m closer : ℕ) (one : Bool) (xs : List Expr) (k : ℕ) (all : Bytes) → length xs ≤ k → new ≡ out ++ closer ∷ [] → out ++ joined_text m closer one (drop k xs) ≡ all → new ≡ all
+joined_end out new m closer one xs k all l closer_ before = closer_ ∙ (ap (λ ys. out ++ joined_text m closer one ys) (sym (none_left xs k l)) ∙ before)
+
+pub stacked_end : (out out1 new : Bytes) (m closer : ℕ) (end_ : List Bytes) (xs : List Expr) (k : ℕ) (all : Bytes) → length xs ≤ k → out1 ≡ out ++ ended m end_ → new ≡ out1 ++ closer ∷ [] →
+    out ++ stacked_text m closer end_ (drop k xs) ≡ all → new ≡ all
+stacked_end out out1 new m closer end_ xs k all l ended_ closer_ before =
+    closer_ ∙ (ap (λ t. t ++ closer ∷ []) ended_ ∙
+    (append_assoc out (ended m end_) (closer ∷ []) ∙
+    (ap (λ t. out ++ t) (sym (append_assoc (ended m end_) (closer ∷ []) [])) ∙ (ap (λ ys. out ++ stacked_text m closer end_ ys) (sym (none_left xs k l)) ∙ before))))
 
 -- ---- forms by their frames
 

@@ -65,15 +65,17 @@ pub fn draw_line(alloc: Global, expr: &Expr, gap: Vec<u8>) -> Result<Part, Memor
     ensures { IfOk result (λ part. part ≡ line_part gap.items expr.now) }
 {
     let comments = expr.comments();
-    let mut gap = gap;
-    push_comments(&mut gap, comments.before())?;
-    let statement = draw(alloc, expr, Text::from_vec(gap), 0)?;
     let mut behind = Vec::new(alloc);
     push_behind(&mut behind, comments.suffix())?;
+    let token = Text::from_slice(alloc, b"\n")?;
+    let mut gap = gap;
+    push_comments(&mut gap, comments.before())?;
+    // The statement comes last: what stands when memory is refused is let go of at each place where that can be.
+    let statement = draw(alloc, expr, Text::from_vec(gap), 0)?;
     let newline = Part::Leaf(Leaf {
         class: Class::Newline,
         gap: Text::from_vec(behind),
-        token: Text::from_slice(alloc, b"\n")?,
+        token,
     });
     Ok(Part::Node(Node {
         kind: Kind::Line,

@@ -1,9 +1,9 @@
 //! The tree of the layout of a value that is used up.
-ghost use Rattle.std.specs.Prelude.{◌≡◌, ◌≢◌, ◌<◌, ◌≤◌, ◌++◌, ◌∷◌, [], length, IfErr, IfOk, OnOk};
+ghost use Rattle.std.specs.Prelude.{◌≡◌, ◌≢◌, ◌<◌, ◌≤◌, ◌++◌, ◌∷◌, [], length, Some, IfErr, IfOk, OnOk};
 ghost use Rattle.std.specs.Option.{option_copied};
 ghost use Rattle.bz_tree.specs.Spell.{spell_node, depth_of, limit, depth_limit};
 ghost use Rattle.bz_view.specs.View.{view_of};
-ghost use Rattle.bz_write.specs.Drawn.{drawn, lines_from};
+ghost use Rattle.bz_write.specs.Drawn.{drawn, left_gap, lines_from, own_lines};
 ghost use Rattle.bz_write.specs.Flags.{flags};
 ghost use Rattle.bz_write.specs.Taken.{before_item};
 ghost use Rattle.bz_write.specs.Written.{layout};
@@ -46,15 +46,55 @@ fn draw_each(alloc: Global, items: Items<Item>) -> Result<Items<Part>, Memory>
     ensures { IfOk result (λ parts. parts ≡ lines_from [] items) }
 {
     let mut parts = Items::new(alloc);
-    let mut gap = Vec::new(alloc);
-    let mut above = None;
+    let mut standing = Standing {
+        above: None,
+        gap: Vec::new(alloc),
+    };
     for item in items.into_vec() {
-        push_before(&mut gap, above.as_ref(), &item)?;
-        gap = draw_item(alloc, &item, gap, &mut parts)?;
-        above = Some(item);
+        standing = draw_next(alloc, standing, item, &mut parts)?;
     }
+    let Standing { above, gap } = standing;
+    drop(above);
     parts.push(end_behind(alloc, gap))?;
     Ok(parts)
+}
+
+/// The item that was drawn last, and the gap behind it.
+#[derive(Drop)]
+struct Standing {
+    above: Option<Item>,
+    gap: Vec<u8>,
+}
+
+/// Appends the line of an item behind the one that was drawn last, which is let go. The error: a growth was refused. Items are let
+/// go of by calls: by the end of its scope, each form of one would be a path of this proof.
+fn draw_next(
+    alloc: Global,
+    standing: Standing,
+    item: Item,
+    parts: &mut Items<Part>,
+) -> Result<Standing, Memory>
+    ensures above { IfOk result (λ next. next.above ≡ Some item) }
+    ensures gap { IfOk result (λ next. next.gap.items ≡ left_gap (standing.gap.items ++ before_item standing.above (item ∷ [])) item) }
+    ensures parts { OnOk result (parts.new ≡ parts.old ++ own_lines (standing.gap.items ++ before_item standing.above (item ∷ [])) item) }
+{
+    let Standing { above, mut gap } = standing;
+    let pushed = push_before(&mut gap, above.as_ref(), &item);
+    drop(above);
+    let drawn = match pushed {
+        Ok(()) => draw_item(alloc, &item, gap, parts),
+        Err(fault) => Err(fault),
+    };
+    match drawn {
+        Ok(gap) => Ok(Standing {
+            above: Some(item),
+            gap,
+        }),
+        Err(fault) => {
+            drop(item);
+            Err(fault)
+        }
+    }
 }
 
 /// Appends what stands between an item and the one above it, if there is one.

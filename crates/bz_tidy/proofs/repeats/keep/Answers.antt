@@ -11,8 +11,8 @@ returns-then-not-stands c = λ all rest k.
     let kept : List Value = c.args.kept.now.items in
     let places : List ℕ = tied_places kept c.args.x c.args.places.now.items in
     let f : stands_at kept places (text_of c.args.x) ≡ false = search rules in
-    let a : c.push-then-not-stands.new.self.items ≡ kept ++ c.args.x ∷ [] = search rules in
-    let b : c.push.new.self.items ≡ places ++ length kept ∷ [] = search rules in
+    let a : c.push.new.self.items ≡ kept ++ c.args.x ∷ [] = search rules in
+    let b : c.push-then-not-stands.new.self.items ≡ places ++ length kept ∷ [] = search rules in
     turned all _ _ _ _ rest a b (turn_new all kept c.args.places.now.items rest c.args.x f k)
 
 pub returns : goal.returns

@@ -1,10 +1,12 @@
-use Rattle.std.proofs.Common.{◌++◌, suc, sym, ap, ◌∙◌, drop, arith}
+use Rattle.std.proofs.Common.{◌≡◌, ◌&&◌, if◌then◌else◌, map, ◌++◌, suc, sym, ap, refl, ◌∙◌, drop, arith}
 use Rattle.bz_value.specs.declared.value.Expr.TheVariants as e
 use Rattle.bz_value.specs.Frames.{frame}
+use Rattle.bz_value.specs.Gaps.{has_newline}
+use Rattle.bz_view.specs.View.{first_gap, seen}
 use Rattle.bz_view.proofs.NodeViews.{made_of_node, loose_of_node, sequence_made}
-use Rattle.bz_view.proofs.RowSteps.{head_here, head_more, loose_more, bracket_more, no_bracket, item_more, items_done}
+use Rattle.bz_view.proofs.RowSteps.{part_here, at_operator, at_operand, row_more, row_done, loose_done, head_here, head_more, loose_more, bracket_more, no_bracket, item_more, items_done}
 use Rattle.bz_view.proofs.expr.+seen.Goals as goal
-use Rattle.bz_view.proofs.expr.+seen.Goals.{head_of-then-lead-parts+in_ok-push_gap-2+in_ok-push_loose, head_of-else-lead-parts}
+use Rattle.bz_view.proofs.expr.+seen.Goals.{row_of-then-operator, row_of-else-operator, head_of-then-lead-parts+in_ok-push_gap-2+in_ok-push_loose, head_of-else-lead-parts}
 
 pub expr_of-returns-in_ok-form_of-in-Node-clause-expr : goal.expr_of-returns-in_ok-form_of-in-Node-clause-expr
 expr_of-returns-in_ok-form_of-in-Node-clause-expr t c = ap e.Form c.in_ok-form_of-in-Node.ensures.form ∙ made_of_node c.args.part.now c.in-Node.node c.args.break_ c.in-Node.is
@@ -17,6 +19,25 @@ form_of-returns-clause-form t c =
     sequence_made (frame c.args.node.now.kind) c.args.node.now.kind c.args.node.now.parts _ _ _ _ _ (sym c.is_sequence.ensures ∙ c.if-not-is_sequence.false) c.as_slice-parts.ensures c.lead_of-lead.ensures.value
     c.in_ok-head_of.ensures.exprs c.in_ok-seq_of.ensures c.none-2.ensures
 
+pub row_of-loop-at-preserved : goal.row_of-loop-at-preserved
+row_of-loop-at-preserved t c =
+    let here = part_here c.args.parts.now c.loop-at.at c.index-parts-at.result c.loop-at-test.true c.index-parts-at.is in
+    let newline : c.if-operator.newline ≡ (c.is_operator_in-operator.result && (if c.loop-at.operator then c.loop-at.newline else has_newline (first_gap (map seen (drop c.loop-at.at c.args.parts.now))))) =
+    elim c.if-operator.branch [
+      | row_of-then-operator w ↦ w.newline-is ∙ (w.before_operator-newline.ensures ∙ at_operator c.is_operator_in-operator.result _ w.if-operator.true)
+      | row_of-else-operator w ↦ w.newline-is ∙ at_operand c.is_operator_in-operator.result _ w.if-operator.false
+    ] in
+    record {
+      exprs = row_more _ _ _ _ _ _ _ _ _ _ _ _ _ here c.is_operator_in-operator.ensures newline c.breaks_behind-break_.ensures c.in_ok-expr_of.ensures.expr c.loop-at.invariant.exprs c.in_ok-push.ensures.items;
+      loose = loose_more c.loop-at.at _ _ _ _ _ _ _ here c.in_ok-push_gap.ensures c.in_ok-expr_of.ensures.loose c.loop-at.invariant.loose;
+    }
+
+pub row_of-returns-clause-exprs : goal.row_of-returns-clause-exprs
+row_of-returns-clause-exprs t c = row_done c.args.parts.now c.loop-at.at _ _ _ _ _ _ (omega arith) c.from_vec.ensures c.loop-at.invariant.exprs
+
+pub row_of-returns-clause-loose : goal.row_of-returns-clause-loose
+row_of-returns-clause-loose t c = loose_done c.args.parts.now c.loop-at.at _ _ (omega arith) c.loop-at.invariant.loose
+
 pub head_of-loop-at-preserved : goal.head_of-loop-at-preserved
 head_of-loop-at-preserved t c =
     let ps = c.args.parts.now in
@@ -27,8 +48,8 @@ head_of-loop-at-preserved t c =
 
 pub seq_of-loop-at-preserved : goal.seq_of-loop-at-preserved
 seq_of-loop-at-preserved t c =
-    let w = item_more c.args.parts.now c.loop-at.at c.index-parts-at.result _ c.loop-at.above _ _ _ _ _ _ _ _ c.loop-at-test.true c.index-parts-at.is c.in_ok-expr.ensures.loose (c.in_ok-suffix.ensures ∙ c.gap_behind.ensures) c.in_ok-above.ensures
-    c.in_ok-expr.ensures.expr c.in_ok-new.ensures c.with_comments.ensures c.loop-at.invariant.items c.in_ok-push.ensures.items in
+    let w = item_more c.args.parts.now c.loop-at.at c.index-parts-at.result _ c.loop-at.above _ _ _ _ _ _ _ _ c.loop-at-test.true c.index-parts-at.is c.in_ok-expr.ensures.loose c.gap_behind.ensures c.in_ok-above.ensures
+    c.in_ok-expr.ensures.expr refl c.in_ok-host.ensures c.loop-at.invariant.items c.in_ok-push.ensures.ok in
     record { within = omega arith; items = w.0; end_ = w.1 ∙ c.loop-at.invariant.end_ }
 
 pub head_of-returns-clause-loose : goal.head_of-returns-clause-loose
@@ -44,4 +65,4 @@ push_loose-returns-in_ok-_form-in-Node t c = c.in_ok-_form-in-Node.ensures.loose
 
 pub seq_of-returns : goal.seq_of-returns
 seq_of-returns t c =
-    items_done c.args.parts.now (drop c.args.from c.args.parts.now) c.loop-at.at c.loop-at.above c.loop-at.items.items _ _ (omega arith) c.from_vec.ensures c.loop-at.invariant.items c.loop-at.invariant.end_ c.breaks_from.ensures
+    items_done c.args.parts.now (drop c.args.from c.args.parts.now) c.loop-at.at c.loop-at.above c.loop-at.items _ _ (omega arith) refl c.loop-at.invariant.items c.loop-at.invariant.end_ c.breaks_from.ensures

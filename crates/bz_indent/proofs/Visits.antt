@@ -1,0 +1,23 @@
+-- One turn of a loop that changes each element of a list in its place: those before are changed, the others are as they were.
+use Rattle.std.proofs.Common.{ℕ, ◌≡◌, ◌<◌, ◌≤◌, ◌+◌, List, [], ◌∷◌, ◌++◌, length, get_or, take, drop, set, map, sym, ap, ◌∙◌, arith, append_assoc, length-set, drop-set-lt, get_or-set_other}
+use Rattle.std.proofs.lemmas.List.{drop_more, take_more_set}
+
+module _ {A : Type 0} (f : A → A) where
+  -- before the turn and after it, the list is changed to the same
+  changed : (items : List A) (k : ℕ) (d y : A) → k < length items → y ≡ f (get_or items k d) →
+      take (k + 1) (set items k y) ++ map f (drop (k + 1) (set items k y)) ≡ take k items ++ map f (drop k items)
+  changed items k d y h is =
+      ap (λ front. front ++ map f (drop (k + 1) (set items k y))) (take_more_set items k y h)
+      ∙ (ap (λ rest. (take k items ++ y ∷ []) ++ map f rest) (drop-set-lt (k + 1) items k y (omega arith))
+      ∙ (append_assoc (take k items) (y ∷ []) (map f (drop (k + 1) items))
+      ∙ (ap (λ z. take k items ++ z ∷ map f (drop (k + 1) items)) is
+      ∙ ap (λ rest. take k items ++ map f rest) (sym (drop_more items k d h)))))
+
+  pub each_turn : (items whole target : List A) (k : ℕ) (d y : A) → k < length whole → y ≡ f (get_or items k d) →
+      ((length items ≡ length whole) × ((j : ℕ) (e : A) → k ≤ j → get_or items j e ≡ get_or whole j e)) × (take k items ++ map f (drop k items) ≡ target) →
+      ((length (set items k y) ≡ length whole) × ((j : ℕ) (e : A) → k + 1 ≤ j → get_or (set items k y) j e ≡ get_or whole j e))
+      × (take (k + 1) (set items k y) ++ map f (drop (k + 1) (set items k y)) ≡ target)
+  each_turn items whole target k d y h is before = (
+    (length-set items k y ∙ before.0.0, λ j e above. get_or-set_other items k j y e (omega (arith, above)) ∙ before.0.1 j e (omega (arith, above))),
+    changed items k d y (omega (arith, before.0.0, h)) is ∙ before.1,
+  )

@@ -1,0 +1,97 @@
+-- The moments of a keeping that reads the file first.
+use Rattle.std.proofs.Common.{◌≡◌, ◌≢◌, ◌⊎◌, inl, inr, refl, ℕ, List, Some, subst, ap}
+use Rattle.std.specs.Prelude.{Result, Ok, Err, OnOk, IfErr, IsOk, IsErr, IsErrOf}
+use Rattle.std.specs.FinMap.{get}
+use Rattle.bz_files.specs.Folder.{Elapses, Folder, SameBut, Text}
+use Rattle.bz_keep.specs.declared.fault.PairFault.{PairFault}
+use Rattle.bz_keep.specs.declared.fault.PairFault.TheVariants as p
+use Rattle.bz_keep.specs.Pair.{IsNew, IsKeeping, IsChecking, with_both}
+use Rattle.bz_keep.proofs.Elapsing.{Past, weakened, elapsed_on, each_since}
+use Rattle.bz_keep.proofs.Keeping.{at_start}
+
+module _ (standing journal : Text) (told : List ℕ) (file : Text) (text : List ℕ) (old : Folder) where
+  abbrev Was : Folder → Type 0
+  Was now = now ≡ old
+
+  -- only read
+  pub read_elapses : (a b : ℕ) (past since : Past) → Elapses a b past since Was → Elapses a b past since (IsChecking standing journal told file text old)
+  read_elapses a b past since one = weakened a b past since Was (IsChecking standing journal told file text old) (λ now is. inl is) one
+
+  pub read_each : (a b : ℕ) (past since : Past) → ((now : Folder) → past a now → now ≡ old) → Elapses a b past since Was
+      → (now : Folder) → since a now → now ≡ old
+  read_each a b past since only one = each_since a b past since Was one only
+
+  pub read_keeping : (a b : ℕ) (past since : Past) → ((now : Folder) → past a now → now ≡ old) → Elapses a b past since Was
+      → (now : Folder) → since a now → IsKeeping journal told file text old now
+  read_keeping a b past since only one now stood = at_start journal told file text old now (read_each a b past since only one now stood)
+
+  -- read, and then kept
+  module _ (mid : Folder) (same : mid ≡ old) where
+    of_start : (now : Folder) → IsKeeping journal told file text mid now → IsKeeping journal told file text old now
+    of_start now = subst (λ (f : Folder). IsKeeping journal told file text f now) same
+
+    pub kept_replaced : {T : Type 0} (r : Result T PairFault) (now : Folder) → OnOk r (SameBut (IsNew journal file) (with_both journal told file text mid) now)
+        → OnOk r (SameBut (IsNew journal file) (with_both journal told file text old) now)
+    kept_replaced r now = subst (λ (f : Folder). OnOk r (SameBut (IsNew journal file) (with_both journal told file text f) now)) same
+
+    pub kept_elapses : get old file ≡ Some standing → (a b c : ℕ) (past between since : Past) → Elapses a b past between Was
+        → Elapses b c between since (IsKeeping journal told file text mid) → Elapses a c past since (IsChecking standing journal told file text old)
+    kept_elapses there a b c past between since one two = elapsed_on a b c past between since (IsChecking standing journal told file text old) (IsKeeping journal told file text mid)
+        (λ now is. inr (there, of_start now is)) (read_elapses a b past between one) two
+
+    pub kept_each : (a b c : ℕ) (past between since : Past) → ((now : Folder) → past a now → now ≡ old) → Elapses a b past between Was
+        → Elapses b c between since (IsKeeping journal told file text mid) → (now : Folder) → since a now → IsKeeping journal told file text old now
+    kept_each a b c past between since only one two = each_since a c past since (IsKeeping journal told file text old)
+        (elapsed_on a b c past between since (IsKeeping journal told file text old) (IsKeeping journal told file text mid)
+        of_start (weakened a b past between Was (IsKeeping journal told file text old) (at_start journal told file text old) one) two)
+        (λ now stood. at_start journal told file text old now (only now stood))
+
+-- a value is no error
+pub never_err : {T E : Type 0} (x : T) (y : E) → IsErrOf {T = T} {E = E} (Ok x) y → ⊥
+never_err x y is = cc
+
+module _ {T : Type 0} where
+  -- the errors of what keeps both
+  abbrev IsKept : Result T PairFault → Type 0
+  IsKept r = IfErr r (λ fault. (fault ≡ p.Memory) ⊎ (fault ≡ p.Write))
+
+  pub but_write : {B : Type 0} (r : Result T PairFault) → IsKept r → (IsErrOf r p.Memory → B) → IfErr r (λ fault. fault ≢ p.Write → B)
+  but_write (Ok x) either memory = tt
+  but_write (Err fault) (inl is) memory = λ other. memory (ap Err is)
+  but_write (Err fault) (inr is) memory = λ other. absurd (other is)
+
+  pub never_changed : (r : Result T PairFault) → IsKept r → IsErrOf r p.Changed → ⊥
+  never_changed (Ok x) either is = cc
+  never_changed (Err fault) (inl a) is = cc
+  never_changed (Err fault) (inr a) is = cc
+
+  pub never_open : (r : Result T PairFault) → IsKept r → IsErrOf r p.Open → ⊥
+  never_open (Ok x) either is = cc
+  never_open (Err fault) (inl a) is = cc
+  never_open (Err fault) (inr a) is = cc
+
+  -- the errors of what only reads
+  pub other_fault : (fault : PairFault) → fault ≢ p.Write → IsErrOf {T = T} (Err fault) p.Changed ⊎ (IsErrOf {T = T} (Err fault) p.Open ⊎ IsErrOf {T = T} (Err fault) p.Memory)
+  other_fault p.Memory other = inr (inr refl)
+  other_fault p.Open other = inr (inl refl)
+  other_fault p.Changed other = inl refl
+  other_fault p.Write other = absurd (other refl)
+
+  pub never_write : (fault : PairFault) → fault ≢ p.Write → IsErrOf {T = T} (Err fault) p.Write → ⊥
+  never_write fault other is = let same : fault ≡ p.Write = cc in other same
+
+  -- the error of what keeps a pair
+  abbrev IsWritten : Result T PairFault → Type 0
+  IsWritten r = IfErr r (λ fault. fault ≡ p.Write)
+
+  pub only_write : (r : Result T PairFault) → IsWritten r → IsErrOf r p.Memory → ⊥
+  only_write (Ok x) is memory = cc
+  only_write (Err fault) is memory = cc
+
+  pub ok_but_write : (r : Result T PairFault) → IsWritten r → (IsErrOf r p.Write → ⊥) → IsOk r
+  ok_but_write (Ok x) is never = refl
+  ok_but_write (Err fault) is never = absurd (never (ap Err is))
+
+  pub err_of : (r : Result T PairFault) (fault : PairFault) → IsErrOf r fault → IsErr r
+  err_of (Ok x) fault is = cc
+  err_of (Err other) fault is = refl

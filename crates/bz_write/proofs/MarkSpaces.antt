@@ -1,0 +1,33 @@
+-- The space behind a mark, as the code tells it: a comma and a spaced colon have one, and of the others those that are not tight.
+use Rattle.std.proofs.Common.{◌≡◌, Bool, true, false, not, ◌&&◌, ◌||◌, refl, sym, ap, ◌∙◌}
+use Rattle.std.specs.Prelude.{codes, bytes_eq}
+use Rattle.bz_items.specs.Characters.{Bytes}
+use Rattle.bz_token.specs.declared.class.Class.TheVariants as c
+use Rattle.bz_lex.specs.declared.leaf.Leaf.{Leaf}
+use Rattle.bz_tree.specs.declared.kind.Kind.{Kind}
+use Rattle.bz_tree.specs.declared.tree.Part.{Part}
+use Rattle.bz_tree.specs.declared.tree.Part.TheVariants as p
+use Rattle.bz_tree.specs.Shapes as s
+use Rattle.bz_write.specs.Spaces.{lone, dotted, is_prefix, is_colon_spaced, space_behind, behind}
+
+-- a comma, or a colon with a space behind it
+abbrev pub is_separator : Kind → Bytes → Bool
+is_separator kind text = bytes_eq text (codes ",") || (bytes_eq text (codes ":") && is_colon_spaced kind)
+
+-- a mark without a space at either side
+abbrev pub is_tight : Kind → Bytes → Bool
+is_tight kind text = lone (s.this c.Mark text) || (dotted (s.this c.Mark text) || is_prefix kind text)
+
+not_first : (a b d : Bool) → (a || b) ≡ false → (a || (b || d)) ≡ d
+not_first true b d h = absurd cc
+not_first false true d h = absurd cc
+not_first false false d h = refl
+
+behind_mark : (kind : Kind) (x : Part) (l : Leaf) (text : Bytes) → x ≡ p.Leaf l → l.class ≡ c.Mark → text ≡ l.token →
+    behind kind x ≡ (bytes_eq text (codes ",") || ((bytes_eq text (codes ":") && is_colon_spaced kind) || not (is_tight kind text)))
+behind_mark kind x l text is mark has =
+    ap (λ y. behind kind y) is ∙ (ap (λ class. space_behind kind (s.this class l.token)) mark ∙ ap (λ t. space_behind kind (s.this c.Mark t)) (sym has))
+
+pub other_behind : (kind : Kind) (x : Part) (l : Leaf) (text : Bytes) (tight : Bool) → x ≡ p.Leaf l → l.class ≡ c.Mark → text ≡ l.token → is_separator kind text ≡ false → tight ≡ is_tight kind text → not tight ≡ behind kind x
+other_behind kind x l text tight is mark has h told =
+    ap not told ∙ sym (behind_mark kind x l text is mark has ∙ not_first (bytes_eq text (codes ",")) (bytes_eq text (codes ":") && is_colon_spaced kind) (not (is_tight kind text)) h)
