@@ -6,7 +6,7 @@ standard error (stderr) and the status. A file that is not there is empty, and t
 once, by rt try, with no proof: what the engine does is proved, and here it is seen that main hands it the words and the
 streams, and passes its status on. A line for each failure; the last one is 'N passed, M failed'.
 
-With a command after it, as 'tests/programs.py rt ci', that runs too, and the last line adds its last line's numbers; the
+With a command after it, as 'tests/programs.py rt ci', that runs beside, and the last line adds its last line's numbers; the
 programs that it built then run over real files: buildifier over single ones (tests/files.py), buildozer over packages
 (tests/workspace.py), both through the examples of README.md and the pages beside it (tests/readme.py) and through what contrib/ has
 for git, CI and editors (tests/contrib.py); the pages for man and the completions are compared with the code and tried in shells
@@ -27,6 +27,7 @@ import subprocess
 import sys
 import tempfile
 import time
+from concurrent.futures import ThreadPoolExecutor
 
 import asked
 import bazel
@@ -206,13 +207,21 @@ def given_away(before):
     return round(100 * taken / max(had + taken, 1))
 
 
+def run_programs():
+    """Runs both programs on their folders, and gives how many runs passed and failed."""
+    counts = [run_folders(program) for program in ("buildozer", "buildifier")]
+    passed, failed = map(sum, zip(*counts))
+    print(f"runs of the programs: {passed} passed, {failed} failed", flush=True)
+    return passed, failed
+
+
 def main():
     start, before = time.monotonic(), processor_times()
-    counts = [run_folders(program) for program in ("buildozer", "buildifier")]
-    if sys.argv[1:]:
-        print("runs of the programs: {} passed, {} failed".format(*map(sum, zip(*counts))), flush=True)
-        counts += run_gate(sys.argv[1:], start)
-    passed, failed = map(sum, zip(*counts))
+    # These runs take a processor or two for some minutes, and the first proofs leave as many.
+    with ThreadPoolExecutor(1) as beside:
+        runs = beside.submit(run_programs)
+        counts = run_gate(sys.argv[1:], start) if sys.argv[1:] else []
+        passed, failed = map(sum, zip(runs.result(), *counts))
     processors = len(os.sched_getaffinity(0))
     print(f"the whole: {minutes_since(start)} on {processors} processors, {given_away(before)} % of their time given to others")
     print(f"{passed} passed, {failed} failed")
