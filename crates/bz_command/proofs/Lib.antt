@@ -1,3 +1,4 @@
+pub mod CommandRows
 pub mod LawComments
 pub mod LinesMatter
 pub mod ProperEffects

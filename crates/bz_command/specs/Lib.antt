@@ -7,6 +7,7 @@ pub mod Looks
 pub mod Printing
 pub mod Renewed
 pub mod SmallValues
+pub mod Table
 pub mod Targets
 pub mod Worked
 pub mod WorkedAttributes

@@ -1,5 +1,6 @@
 //! Facts about the definitions, for readers: the functions do nothing.
 ghost use Rattle.bz_command.specs.Laws.{CommentsStay};
+ghost use Rattle.bz_command.specs.Table.{CommandsAreListed};
 ghost use Rattle.bz_command.specs.Worked.{WorkedEffects};
 ghost use Rattle.bz_command.specs.WorkedAttributes.{WorkedAttributes};
 ghost use Rattle.bz_command.specs.WorkedComments.{WorkedComments};
@@ -30,4 +31,10 @@ pub fn worked_commands()
 /// Commands that take nothing away lose no comment.
 pub fn comments_stay()
     ensures { CommentsStay }
+{}
+
+/// Each command that a text is read as is as one table says: what it works on, whether it prints, whether it looks at the rules
+/// that its target means, and whether it loses no comment.
+pub fn commands_are_listed()
+    ensures { CommandsAreListed }
 {}

@@ -13,7 +13,7 @@ mod running;
 mod statements;
 mod targets;
 
-pub use laws::{comments_stay, worked_commands, worked_effects};
+pub use laws::{commands_are_listed, comments_stay, worked_commands, worked_effects};
 pub use lines::{lines_matter, looks_at_lines};
 pub use outcome::{Outcome, Ran, Spliced};
 pub use proper_laws::effects_stay_proper;

@@ -106,6 +106,7 @@ fn call_effects() {
     bz_command::worked_commands();
     bz_command::effects_stay_proper();
     bz_command::lines_matter();
+    bz_command::commands_are_listed();
     bz_command::comments_stay();
 }
 

@@ -1,0 +1,193 @@
+-- What each command reads in its words is as the table says.
+use Rattle.std.proofs.Common.{◌≡◌, Bool, true, false, List, [], ◌∷◌, ◌&&◌, not, Option, Some, None, Ok, Err, refl, bytes_eq, option_map}
+use Rattle.std.specs.Prelude.{if◌then◌else◌}
+use Rattle.std.specs.Option.{ok_or, option_map_or}
+use Rattle.bz_items.specs.Characters.{Bytes}
+use Rattle.bz_words.specs.Words.{is_nonempty}
+use Rattle.bz_words.specs.Identifiers.{is_identifier, is_kind}
+use Rattle.bz_words.specs.Commands as c
+use Rattle.bz_words.specs.Commands.{Read}
+use Rattle.bz_words.specs.declared.command.Attributes.{Attributes}
+use Rattle.bz_words.specs.declared.command.Entry.{Entry}
+use Rattle.bz_words.specs.declared.command.Host.{Host}
+use Rattle.bz_words.specs.declared.command.Place.{Place}
+use Rattle.bz_words.specs.declared.command.Symbol.{Symbol}
+use Rattle.bz_words.specs.declared.command.Values.{Values}
+use Rattle.bz_words.specs.declared.command.Operation.{Operation}
+use Rattle.bz_words.specs.declared.command.Operation.TheVariants as w
+use Rattle.bz_words.specs.declared.command.RuleOperation.TheVariants as wr
+use Rattle.bz_words.specs.declared.command.AttributeOperation.TheVariants as wa
+use Rattle.bz_words.specs.declared.command.ValueOperation.TheVariants as wv
+use Rattle.bz_words.specs.declared.command.DictOperation.TheVariants as wd
+use Rattle.bz_words.specs.declared.command.LoadOperation.TheVariants as wl
+use Rattle.bz_words.specs.declared.command.CommentOperation.TheVariants as wc
+use Rattle.bz_words.specs.declared.fault.CommandFault.TheVariants.{Arguments}
+use Rattle.bz_command.specs.Table.{CommandRow, IsAsListed, ReadsAsListed, CommandsAreListed}
+
+-- ---- a command, where its words have the form that it asks for
+
+given_listed : (row : CommandRow) (holds : Bool) (operation : Operation) → IsAsListed row operation → ReadsAsListed row (c.given holds operation)
+given_listed row true operation h = h
+given_listed row false operation h = tt
+
+made_listed : {X : Type 0} (row : CommandRow) (make : X → Operation) (o : Option X) → ((x : X) → IsAsListed row (make x))
+    → ReadsAsListed row (ok_or (option_map make o) Arguments)
+made_listed row make (Some x) h = h x
+made_listed row make None h = tt
+
+if_listed : (row : CommandRow) (t : Bool) (one other : Read) → ReadsAsListed row one → ReadsAsListed row other
+    → ReadsAsListed row (if t then one else other)
+if_listed row true one other h k = h
+if_listed row false one other h k = k
+
+
+-- ---- each command, by a row that its operations are listed in
+
+new_listed : (row : CommandRow) → ((kind name : Bytes) (place : Place) → IsAsListed row (w.Rule (wr.New kind name place)))
+    → (words : List Bytes) → ReadsAsListed row (c.new_of words)
+new_listed row h [] = tt
+new_listed row h (kind ∷ []) = tt
+new_listed row h (kind ∷ name ∷ words) =
+    if_listed row (is_kind kind) _ _ (made_listed row (λ place. w.Rule (wr.New kind name place)) (c.place_of words) (h kind name)) tt
+
+delete_listed : (row : CommandRow) → IsAsListed row (w.Rule wr.Delete) → (words : List Bytes) → ReadsAsListed row (c.delete_of words)
+delete_listed row h [] = h
+delete_listed row h (word ∷ words) = tt
+
+set_kind_listed : (row : CommandRow) → ((kind : Bytes) → IsAsListed row (w.Rule (wr.SetKind kind))) → (words : List Bytes) → ReadsAsListed row (c.set_kind_of words)
+set_kind_listed row h [] = tt
+set_kind_listed row h (kind ∷ []) = given_listed row (is_kind kind) (w.Rule (wr.SetKind kind)) (h kind)
+set_kind_listed row h (kind ∷ more ∷ words) = tt
+
+set_listed : (row : CommandRow) → ((kind : Bytes) → IsAsListed row (w.Rule (wr.SetKind kind)))
+    → ((attribute : Bytes) (values : List Bytes) → IsAsListed row (w.Attribute (wa.Set attribute values)))
+    → (words : List Bytes) → ReadsAsListed row (c.set_of words)
+set_listed row g h [] = tt
+set_listed row g h (attribute ∷ values) =
+    if_listed row (c.is_word_kind attribute) _ _ (set_kind_listed row g values)
+    (given_listed row (is_identifier attribute && is_nonempty values) (w.Attribute (wa.Set attribute values)) (h attribute values))
+
+set_if_absent_listed : (row : CommandRow) → ((attribute : Bytes) (values : List Bytes) → IsAsListed row (w.Attribute (wa.SetIfAbsent attribute values)))
+    → (words : List Bytes) → ReadsAsListed row (c.set_if_absent_of words)
+set_if_absent_listed row h [] = tt
+set_if_absent_listed row h (attribute ∷ values) =
+    given_listed row (is_identifier attribute && not (c.is_word_kind attribute) && is_nonempty values) (w.Attribute (wa.SetIfAbsent attribute values)) (h attribute values)
+
+add_listed : (row : CommandRow) → ((attribute : Bytes) (values : List Bytes) → IsAsListed row (w.Value (wv.Add attribute values)))
+    → (words : List Bytes) → ReadsAsListed row (c.add_of words)
+add_listed row h [] = tt
+add_listed row h (attribute ∷ values) =
+    given_listed row (is_identifier attribute && is_nonempty values) (w.Value (wv.Add attribute values)) (h attribute values)
+
+remove_listed : (row : CommandRow) → ((attributes : Attributes) → IsAsListed row (w.Attribute (wa.Remove attributes)))
+    → ((attribute : Bytes) (values : List Bytes) → IsAsListed row (w.Value (wv.Remove attribute values)))
+    → (words : List Bytes) → ReadsAsListed row (c.remove_of words)
+remove_listed row g h [] = tt
+remove_listed row g h (attribute ∷ values) =
+    if_listed row (is_nonempty values) _ _ (given_listed row (is_identifier attribute) (w.Value (wv.Remove attribute values)) (h attribute values))
+    (made_listed row (λ attributes. w.Attribute (wa.Remove attributes)) (c.attributes_of attribute) g)
+
+replace_listed : (row : CommandRow) → ((attributes : Attributes) (old new : Bytes) → IsAsListed row (w.Value (wv.Replace attributes old new)))
+    → (words : List Bytes) → ReadsAsListed row (c.replace_of words)
+replace_listed row h [] = tt
+replace_listed row h (attribute ∷ []) = tt
+replace_listed row h (attribute ∷ old ∷ []) = tt
+replace_listed row h (attribute ∷ old ∷ new ∷ []) =
+    made_listed row (λ attributes. w.Value (wv.Replace attributes old new)) (c.attributes_of attribute) (λ attributes. h attributes old new)
+replace_listed row h (attribute ∷ old ∷ new ∷ more ∷ words) = tt
+
+substitute_listed : (row : CommandRow) → ((attributes : Attributes) (pattern template : Bytes) → IsAsListed row (w.Value (wv.Substitute attributes pattern template)))
+    → (words : List Bytes) → ReadsAsListed row (c.substitute_of words)
+substitute_listed row h [] = tt
+substitute_listed row h (attribute ∷ []) = tt
+substitute_listed row h (attribute ∷ pattern ∷ []) = tt
+substitute_listed row h (attribute ∷ pattern ∷ template ∷ []) =
+    made_listed row (λ attributes. w.Value (wv.Substitute attributes pattern template)) (c.attributes_of attribute) (λ attributes. h attributes pattern template)
+substitute_listed row h (attribute ∷ pattern ∷ template ∷ more ∷ words) = tt
+
+move_listed : (row : CommandRow) → ((from to : Bytes) (values : Values) → IsAsListed row (w.Value (wv.Move from to values)))
+    → (words : List Bytes) → ReadsAsListed row (c.move_of words)
+move_listed row h [] = tt
+move_listed row h (from ∷ []) = tt
+move_listed row h (from ∷ to ∷ values) =
+    given_listed row (is_identifier from && is_identifier to && is_nonempty values) (w.Value (wv.Move from to (c.values_of values))) (h from to (c.values_of values))
+
+rename_listed : (row : CommandRow) → ((from to : Bytes) → IsAsListed row (w.Attribute (wa.Rename from to)))
+    → (words : List Bytes) → ReadsAsListed row (c.rename_of words)
+rename_listed row h [] = tt
+rename_listed row h (from ∷ []) = tt
+rename_listed row h (from ∷ to ∷ []) = given_listed row (is_identifier from && is_identifier to) (w.Attribute (wa.Rename from to)) (h from to)
+rename_listed row h (from ∷ to ∷ more ∷ words) = tt
+
+copy_listed : (row : CommandRow) → ((attribute rule : Bytes) → IsAsListed row (w.Attribute (wa.Copy attribute rule)))
+    → (words : List Bytes) → ReadsAsListed row (c.copy_of words)
+copy_listed row h [] = tt
+copy_listed row h (attribute ∷ []) = tt
+copy_listed row h (attribute ∷ rule ∷ []) = given_listed row (is_identifier attribute) (w.Attribute (wa.Copy attribute rule)) (h attribute rule)
+copy_listed row h (attribute ∷ rule ∷ more ∷ words) = tt
+
+copy_no_overwrite_listed : (row : CommandRow) → ((attribute rule : Bytes) → IsAsListed row (w.Attribute (wa.CopyNoOverwrite attribute rule)))
+    → (words : List Bytes) → ReadsAsListed row (c.copy_no_overwrite_of words)
+copy_no_overwrite_listed row h [] = tt
+copy_no_overwrite_listed row h (attribute ∷ []) = tt
+copy_no_overwrite_listed row h (attribute ∷ rule ∷ []) =
+    given_listed row (is_identifier attribute) (w.Attribute (wa.CopyNoOverwrite attribute rule)) (h attribute rule)
+copy_no_overwrite_listed row h (attribute ∷ rule ∷ more ∷ words) = tt
+
+entries_listed : (row : CommandRow) (operation : Bytes → List Entry → Operation) → ((attribute : Bytes) (entries : List Entry) → IsAsListed row (operation attribute entries))
+    → (words : List Bytes) → ReadsAsListed row (c.entries_of operation words)
+entries_listed row operation h [] = tt
+entries_listed row operation h (attribute ∷ words) =
+    if_listed row (is_identifier attribute && is_nonempty words) _ _ (made_listed row (operation attribute) (c.each_of c.entry_of words) (h attribute)) tt
+
+dict_remove_listed : (row : CommandRow) → ((attribute : Bytes) (keys : List Bytes) → IsAsListed row (w.Dict (wd.Remove attribute keys)))
+    → (words : List Bytes) → ReadsAsListed row (c.dict_remove_of words)
+dict_remove_listed row h [] = tt
+dict_remove_listed row h (attribute ∷ keys) =
+    given_listed row (is_identifier attribute && is_nonempty keys) (w.Dict (wd.Remove attribute keys)) (h attribute keys)
+
+new_load_listed : (row : CommandRow) → ((path : Bytes) (symbols : List Symbol) → IsAsListed row (w.Load (wl.New path symbols)))
+    → (words : List Bytes) → ReadsAsListed row (c.new_load_of words)
+new_load_listed row h [] = tt
+new_load_listed row h (path ∷ words) =
+    if_listed row (is_nonempty words) _ _ (made_listed row (λ symbols. w.Load (wl.New path symbols)) (c.each_of c.symbol_of words) (h path)) tt
+
+-- a comment's words, by what stands before the last one and that one
+said_listed : (row : CommandRow) → ((host : Host) (text : Bytes) → IsAsListed row (w.Comment (wc.Add host text))) → (parts : Option (List Bytes × Bytes))
+    → ReadsAsListed row (option_map_or (λ (both : List Bytes × Bytes). if c.is_one_line both.1 then ok_or (option_map (λ host. w.Comment (wc.Add host both.1)) (c.host_of both.0)) Arguments else Err Arguments)
+    parts (Err Arguments))
+said_listed row h None = tt
+said_listed row h (Some both) =
+    if_listed row (c.is_one_line both.1) _ _ (made_listed row (λ host. w.Comment (wc.Add host both.1)) (c.host_of both.0) (λ host. h host both.1)) tt
+
+comment_listed : (row : CommandRow) → ((host : Host) (text : Bytes) → IsAsListed row (w.Comment (wc.Add host text)))
+    → (words : List Bytes) → ReadsAsListed row (c.comment_of words)
+comment_listed row h words = said_listed row h (c.split_last words)
+
+-- ---- the table
+
+-- All of a row is computed.
+pub commands_are_listed : CommandsAreListed
+commands_are_listed =
+    (refl, new_listed _ (λ kind name place. (refl, refl, refl, refl)),
+    (refl, delete_listed _ (refl, refl, refl, refl),
+    (refl, set_listed _ (λ kind. (refl, refl, refl, refl)) (λ attribute values. (refl, refl, refl, refl)),
+    (refl, set_if_absent_listed _ (λ attribute values. (refl, refl, refl, refl)),
+    (refl, add_listed _ (λ attribute values. (refl, refl, refl, refl)),
+    (refl, remove_listed _ (λ attributes. (refl, refl, refl, refl)) (λ attribute values. (refl, refl, refl, refl)),
+    (refl, replace_listed _ (λ attributes old new. (refl, refl, refl, refl)),
+    (refl, substitute_listed _ (λ attributes pattern template. (refl, refl, refl, refl)),
+    (refl, move_listed _ (λ from to values. (refl, refl, refl, refl)),
+    (refl, rename_listed _ (λ from to. (refl, refl, refl, refl)),
+    (refl, copy_listed _ (λ attribute rule. (refl, refl, refl, refl)),
+    (refl, copy_no_overwrite_listed _ (λ attribute rule. (refl, refl, refl, refl)),
+    (refl, entries_listed _ (λ attribute entries. w.Dict (wd.Add attribute entries)) (λ attribute entries. (refl, refl, refl, refl)),
+    (refl, entries_listed _ (λ attribute entries. w.Dict (wd.Set attribute entries)) (λ attribute entries. (refl, refl, refl, refl)),
+    (refl, dict_remove_listed _ (λ attribute keys. (refl, refl, refl, refl)),
+    (refl, new_load_listed _ (λ path symbols. (refl, refl, refl, refl)),
+    (refl, comment_listed _ (λ host text. (refl, refl, refl, refl)),
+    (refl, (λ words. made_listed _ (λ host. w.Comment (wc.Print host)) (c.host_of words) (λ host. (refl, refl, refl, refl))),
+    (refl, (λ words. made_listed _ (λ host. w.Comment (wc.Remove host)) (c.host_of words) (λ host. (refl, refl, refl, refl))),
+    (refl, (λ words. made_listed _ (λ fixes. w.Load (wl.Fix fixes)) (c.fixes_of words) (λ fixes. (refl, refl, refl, refl))),
+    (refl, (λ words. made_listed _ (λ fields. w.Print fields) (c.fields_of words) (λ fields. (refl, refl, refl, refl))),
+    tt)))))))))))))))))))))
