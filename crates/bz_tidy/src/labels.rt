@@ -8,7 +8,6 @@ use bz_items::{Items, Memory};
 use bz_tree::Class;
 use bz_value::Expr;
 use std::alloc::Global;
-use std::mem;
 
 fn shorten_label(alloc: Global, x: &mut Expr) -> Result<(), Memory>
     ensures { OnOk result (x.new ≡ labelled x.old) }
@@ -24,19 +23,17 @@ fn shorten_label(alloc: Global, x: &mut Expr) -> Result<(), Memory>
     }
 }
 
-/// Takes a repeated name off each label among the items of a list. The error: memory was refused; the items are then lost.
+/// Takes a repeated name off each label among the items of a list. The error: memory was refused; some items are then changed.
 pub(crate) fn shorten_labels(alloc: Global, items: &mut Items<Expr>) -> Result<(), Memory>
     ensures { OnOk result (items.new ≡ map labelled items.old) }
 {
-    let mut all = mem::replace(items, Items::new(alloc)).into_vec();
-    for x in all.iter_mut() {
+    for x in items.as_mut_slice().iter_mut() {
         shorten_label(alloc, x)?;
     }
-    *items = Items::from_vec(all);
     Ok(())
 }
 
-/// Takes repeated names off the labels of a rule. The error: memory was refused; part of the statement is then lost.
+/// Takes repeated names off the labels of a rule. The error: memory was refused; part of the statement is then changed.
 pub(crate) fn shorten_in(alloc: Global, x: &mut Expr) -> Result<(), Memory>
     ensures { OnOk result (x.new ≡ labels_in x.old) }
 {

@@ -16,7 +16,6 @@ use bz_rule::{first_text, is_dotted, is_named, only};
 use bz_tree::Kind;
 use bz_value::Expr;
 use std::alloc::Global;
-use std::mem;
 
 /// What is done to the items of a list.
 #[derive(Clone, Copy)]
@@ -82,11 +81,9 @@ fn change_operands(
 ) -> Result<(), Memory>
     ensures { OnOk result (operands.new ≡ map (on_items k.List (list_change change.entry)) operands.old) }
 {
-    let mut all = mem::replace(operands, Items::new(alloc)).into_vec();
-    for x in all.iter_mut() {
+    for x in operands.as_mut_slice().iter_mut() {
         change_list(alloc, change, x)?;
     }
-    *operands = Items::from_vec(all);
     Ok(())
 }
 
@@ -116,11 +113,9 @@ fn change_third(
 ) -> Result<(), Memory>
     ensures { OnOk result (parts.new ≡ on_third (on_lists (list_change change.entry)) parts.old) }
 {
-    let mut all = mem::replace(parts, Items::new(alloc)).into_vec();
-    if let Some(value) = all.get_mut(2) {
+    if let [_, _, value, ..] = parts.as_mut_slice() {
         change_lists(alloc, change, value)?;
     }
-    *parts = Items::from_vec(all);
     Ok(())
 }
 
@@ -180,11 +175,9 @@ fn change_attributes(
 ) -> Result<(), Memory>
     ensures { OnOk result (arguments.new ≡ map (on_attribute (value_change change kind.now)) arguments.old) }
 {
-    let mut all = mem::replace(arguments, Items::new(alloc)).into_vec();
-    for x in all.iter_mut() {
+    for x in arguments.as_mut_slice().iter_mut() {
         change_attribute(alloc, change, kind, x)?;
     }
-    *arguments = Items::from_vec(all);
     Ok(())
 }
 
@@ -240,11 +233,9 @@ fn change_call(alloc: Global, change: RuleChange, x: &mut Expr) -> Result<(), Me
 fn change_first(alloc: Global, change: RuleChange, parts: &mut Items<Expr>) -> Result<(), Memory>
     ensures { OnOk result (parts.new ≡ on_first (on_call (rule_change change)) parts.old) }
 {
-    let mut all = mem::replace(parts, Items::new(alloc)).into_vec();
-    if let Some(call) = all.first_mut() {
+    if let Some(call) = parts.as_mut_slice().first_mut() {
         change_call(alloc, change, call)?;
     }
-    *parts = Items::from_vec(all);
     Ok(())
 }
 
