@@ -8,7 +8,6 @@ use bz_items::Items;
 use bz_tree::Kind;
 use bz_value::{Expr, Form, is_sequence};
 use bz_write::is_broken;
-use std::mem;
 
 /// Whether a sequence is broken; what has no sequence keeps its flag.
 #[tactic(auto, using(crate::proofs::FormSteps::split_by_kind))]
@@ -53,10 +52,7 @@ fn settle_parts(kind: Kind, parts: &mut Items<Expr>)
 fn settle_each(exprs: &mut Items<Expr>)
     ensures { exprs.new ≡ map with_flags exprs.old }
 {
-    let empty = Items::new(exprs.alloc());
-    let mut all = mem::replace(exprs, empty).into_vec();
-    for x in all.iter_mut() {
+    for x in exprs.as_mut_slice().iter_mut() {
         settle(x);
     }
-    *exprs = Items::from_vec(all);
 }

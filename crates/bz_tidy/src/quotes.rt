@@ -8,10 +8,9 @@ use bz_items::{Items, Memory};
 use bz_tree::{Class, Kind};
 use bz_value::Expr;
 use std::alloc::Global;
-use std::mem;
 
 /// Gives every string of an expression double quote marks, where it may have them. The error: memory was refused; part of
-/// the expression is then lost.
+/// the expression is then changed.
 #[cycle(quote)]
 #[tactic(auto, using(crate::proofs::FormSteps::quoted_Form))]
 pub(crate) fn quote(alloc: Global, x: &mut Expr) -> Result<(), Memory>
@@ -47,10 +46,8 @@ fn quote_parts(alloc: Global, kind: Kind, parts: &mut Items<Expr>) -> Result<(),
 fn quote_each(alloc: Global, exprs: &mut Items<Expr>) -> Result<(), Memory>
     ensures { OnOk result (exprs.new ≡ map quoted exprs.old) }
 {
-    let mut all = mem::replace(exprs, Items::new(alloc)).into_vec();
-    for x in all.iter_mut() {
+    for x in exprs.as_mut_slice().iter_mut() {
         quote(alloc, x)?;
     }
-    *exprs = Items::from_vec(all);
     Ok(())
 }
