@@ -11,7 +11,6 @@ use bz_rule::local_name;
 use bz_value::Expr;
 use std::alloc::Global;
 use std::cmp::Ordering;
-use std::mem;
 
 fn symbol_order(x: &Expr, y: &Expr) -> Ordering
     ensures { result ≡ bytes_order (name_in_file x.now) (name_in_file y.now) }
@@ -36,13 +35,11 @@ fn sort_rest(alloc: Global, items: &mut [Expr]) -> Result<(), Memory>
 }
 
 /// Sorts the items of a load behind its path by local name; equal ones stay in their old order. The error: a growth was
-/// refused; the items are then lost.
+/// refused; the items are then as before.
 pub(crate) fn sort_symbols(items: &mut Items<Expr>) -> Result<(), Memory>
     ensures { OnOk result (items.new ≡ behind_first (sort_by symbol_precedes) items.old) }
 {
     let alloc = items.alloc();
-    let mut all = mem::replace(items, Items::new(alloc)).into_vec();
-    sort_rest(alloc, all.as_mut_slice())?;
-    *items = Items::from_vec(all);
+    sort_rest(alloc, items.as_mut_slice())?;
     Ok(())
 }

@@ -17,7 +17,6 @@ use bz_items::{Items, Memory};
 use bz_tree::Kind;
 use bz_value::{Expr, File, Item};
 use std::alloc::Global;
-use std::mem;
 
 /// The mark of a statement that stays as it is.
 const LEAVE_ALONE: &[u8] = b"buildifier: leave-alone";
@@ -66,11 +65,9 @@ pub(crate) fn change_item(alloc: Global, item: &mut Item) -> Result<(), Memory>
 fn change_all(alloc: Global, items: &mut Items<Item>) -> Result<(), Memory>
     ensures { OnOk result (items.new ≡ on_taken changed items.old) }
 {
-    let mut all = mem::replace(items, Items::new(alloc)).into_vec();
-    for item in all.iter_mut() {
+    for item in items.as_mut_slice().iter_mut() {
         change_item(alloc, item)?;
     }
-    *items = Items::from_vec(all);
     Ok(())
 }
 
@@ -83,14 +80,12 @@ pub(crate) fn settle_item(item: &mut Item)
     }
 }
 
-fn settle_all(alloc: Global, items: &mut Items<Item>)
+fn settle_all(items: &mut Items<Item>)
     ensures { items.new ≡ flags items.old }
 {
-    let mut all = mem::replace(items, Items::new(alloc)).into_vec();
-    for item in all.iter_mut() {
+    for item in items.as_mut_slice().iter_mut() {
         settle_item(item);
     }
-    *items = Items::from_vec(all);
 }
 
 /// The passes over items that stand alone. The error: memory was refused; some of the items are then lost.
@@ -99,7 +94,7 @@ pub(crate) fn tidy_items(alloc: Global, items: &mut Items<Item>) -> Result<(), M
 {
     change_all(alloc, items)?;
     sort_loads(items)?;
-    settle_all(alloc, items);
+    settle_all(items);
     Ok(())
 }
 
