@@ -10,7 +10,6 @@ use bz_tidy::settle;
 use bz_tree::Kind;
 use bz_value::{Expr, Form};
 use bz_write::is_broken;
-use std::mem;
 
 /// Whether a header is one of a function.
 pub fn is_def(head: &Form) -> bool
@@ -32,12 +31,9 @@ fn head_split(head: &Form) -> bool
 fn level_exprs(exprs: &mut Items<Expr>)
     ensures { exprs.new ≡ map with_flags exprs.old }
 {
-    let empty = Items::new(exprs.alloc());
-    let mut all = mem::replace(exprs, empty).into_vec();
-    for x in all.iter_mut() {
+    for x in exprs.as_mut_slice().iter_mut() {
         settle(x);
     }
-    *exprs = Items::from_vec(all);
 }
 
 fn level_head(head: &mut Form)
@@ -63,12 +59,9 @@ fn level_statement(statement: &mut Statement)
 fn level_branches(branches: &mut Items<Branch>)
     ensures { branches.new ≡ map spec.level_branch branches.old }
 {
-    let empty = Items::new(branches.alloc());
-    let mut all = mem::replace(branches, empty).into_vec();
-    for branch in all.iter_mut() {
+    for branch in branches.as_mut_slice().iter_mut() {
         level_branch(branch);
     }
-    *branches = Items::from_vec(all);
 }
 
 #[cycle(level)]
@@ -83,12 +76,9 @@ fn level_branch(branch: &mut Branch)
 fn level_statements(statements: &mut Items<Statement>)
     ensures { statements.new ≡ map spec.level_statement statements.old }
 {
-    let empty = Items::new(statements.alloc());
-    let mut all = mem::replace(statements, empty).into_vec();
-    for statement in all.iter_mut() {
+    for statement in statements.as_mut_slice().iter_mut() {
         level_statement(statement);
     }
-    *statements = Items::from_vec(all);
 }
 
 fn level_item(item: &mut BzlItem)
@@ -105,10 +95,7 @@ fn level_item(item: &mut BzlItem)
 pub fn level(file: &mut BzlFile)
     ensures { file.new.items ≡ spec.level file.old.items }
 {
-    let empty = Items::new(file.items.alloc());
-    let mut all = mem::replace(&mut file.items, empty).into_vec();
-    for item in all.iter_mut() {
+    for item in file.items.as_mut_slice().iter_mut() {
         level_item(item);
     }
-    file.items = Items::from_vec(all);
 }
