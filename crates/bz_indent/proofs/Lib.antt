@@ -28,4 +28,3 @@ pub mod Spelled
 pub mod StatementGaps
 pub mod StatementTokens
 pub mod TooDeep
-pub mod Visits

@@ -1,28 +1,23 @@
--- One turn of a loop that changes each item of a list in its place.
-use Rattle.std.proofs.Common.{ℕ, ◌≡◌, ◌+◌, ◌<◌, ◌≤◌, List, [], ◌∷◌, ◌++◌, length, take, drop, map, get_or, sym, ap, ◌∙◌, arith, append_assoc}
-use Rattle.std.proofs.Math.ListN.{set}
-use Rattle.std.proofs.lemmas.List.{take_more, drop_more, take-set, drop-set-lt, length-set, get_or-set_same, get_or-set_other}
+-- One turn of a loop that changes each item of a list in its place: those before are changed, the others are as they were.
+use Rattle.std.proofs.Common.{ℕ, ◌≡◌, ◌<◌, ◌≤◌, ◌+◌, List, [], ◌∷◌, ◌++◌, length, get_or, take, drop, set, map, sym, ap, ◌∙◌, arith, append_assoc, length-set, drop-set-lt, get_or-set_other}
+use Rattle.std.proofs.lemmas.List.{drop_more, take_more_set}
 
-module _ {X : Type 0} where
-  pub changed_turn : (f : X → X) (items xs : List X) (i : ℕ) (d y : X) → i < length items → y ≡ f (get_or items i d)
-      → take i items ++ map f (drop i items) ≡ map f xs → take (i + 1) (set items i y) ++ map f (drop (i + 1) (set items i y)) ≡ map f xs
-  changed_turn f items xs i d y h is before =
-      let front : take (i + 1) (set items i y) ≡ take i items ++ (y ∷ []) =
-      take_more (set items i y) i d (omega (arith, h, length-set items i y))
-      ∙ (ap (λ (t : List X). t ++ (get_or (set items i y) i d ∷ [])) (take-set items i y)
-      ∙ ap (λ (z : X). take i items ++ (z ∷ [])) (get_or-set_same items i y d h)) in
-      let rest : drop (i + 1) (set items i y) ≡ drop (i + 1) items = drop-set-lt (i + 1) items i y (omega arith) in
-      ap (λ (t : List X). t ++ map f (drop (i + 1) (set items i y))) front
-      ∙ (ap (λ (r : List X). (take i items ++ (y ∷ [])) ++ map f r) rest
-      ∙ (append_assoc (take i items) (y ∷ []) (map f (drop (i + 1) items))
-      ∙ (ap (λ (z : X). take i items ++ (z ∷ map f (drop (i + 1) items))) is
-      ∙ (ap (λ (l : List X). take i items ++ map f l) (sym (drop_more items i d h))
-      ∙ before))))
+module _ {A : Type 0} (f : A → A) where
+  -- before the turn and after it, the list is changed to the same
+  changed : (items : List A) (k : ℕ) (d y : A) → k < length items → y ≡ f (get_or items k d) →
+      take (k + 1) (set items k y) ++ map f (drop (k + 1) (set items k y)) ≡ take k items ++ map f (drop k items)
+  changed items k d y h is =
+      ap (λ front. front ++ map f (drop (k + 1) (set items k y))) (take_more_set items k y h)
+      ∙ (ap (λ rest. (take k items ++ y ∷ []) ++ map f rest) (drop-set-lt (k + 1) items k y (omega arith))
+      ∙ (append_assoc (take k items) (y ∷ []) (map f (drop (k + 1) items))
+      ∙ (ap (λ z. take k items ++ z ∷ map f (drop (k + 1) items)) is
+      ∙ ap (λ rest. take k items ++ map f rest) (sym (drop_more items k d h)))))
 
-  -- what is not visited yet is as it was
-  pub unvisited_turn : (items start : List X) (i : ℕ) (y : X) → (length items ≡ length start) × ((k : ℕ) (d : X) → i ≤ k → get_or items k d ≡ get_or start k d)
-      → (length (set items i y) ≡ length start) × ((k : ℕ) (d : X) → i + 1 ≤ k → get_or (set items i y) k d ≡ get_or start k d)
-  unvisited_turn items start i y before = (
-    length-set items i y ∙ before.0,
-    λ k d le. get_or-set_other items i k y d (λ same. omega (arith, same, le)) ∙ before.1 k d (omega (arith, le)),
+  pub each_turn : (items whole target : List A) (k : ℕ) (d y : A) → k < length whole → y ≡ f (get_or items k d) →
+      ((length items ≡ length whole) × ((j : ℕ) (e : A) → k ≤ j → get_or items j e ≡ get_or whole j e)) × (take k items ++ map f (drop k items) ≡ target) →
+      ((length (set items k y) ≡ length whole) × ((j : ℕ) (e : A) → k + 1 ≤ j → get_or (set items k y) j e ≡ get_or whole j e))
+      × (take (k + 1) (set items k y) ++ map f (drop (k + 1) (set items k y)) ≡ target)
+  each_turn items whole target k d y h is before = (
+    (length-set items k y ∙ before.0.0, λ j e above. get_or-set_other items k j y e (omega (arith, above)) ∙ before.0.1 j e (omega (arith, above))),
+    changed items k d y (omega (arith, before.0.0, h)) is ∙ before.1,
   )

@@ -1,5 +1,5 @@
 use Rattle.bz_indent.specs.Level.{level_branch, level_statement}
-use Rattle.bz_indent.proofs.Visits.{each_turn}
+use Rattle.bz_tidy.proofs.EachChanged.{each_turn}
 use Rattle.bz_indent.proofs.leveling.+level.Goals as goal
 
 pub level_branches-loop-branch-preserved : goal.level_branches-loop-branch-preserved
