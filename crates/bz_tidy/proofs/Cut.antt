@@ -1,5 +1,7 @@
 -- Runs: what no item passes cuts a list, and each piece is sorted by itself.
-use Rattle.std.proofs.Common.{Bool, true, false, ◌&&◌, List, [], ◌∷◌, ◌++◌, ◌≡◌, refl, sym, ap, ◌∙◌, subst, inl, inr, if◌then◌else◌, append_assoc}
+use Rattle.std.proofs.Common.{ℕ, suc, ◌+◌, ◌-◌, ◌<◌, ◌≤◌, Bool, true, false, ◌&&◌, List, [], ◌∷◌, ◌++◌, ◌≡◌, refl, sym, ap, ap₂, ◌∙◌, subst, inl, inr, if◌then◌else◌, arith, length, take, drop, get_or, slice_range, append_assoc, drop-drop, drop_at, length-append, length-take-le, take-append-drop, take_at}
+use Rattle.std.proofs.lemmas.List.{drop_more}
+use Rattle.std.proofs.lemmas.List.Edits.{between_more, length-between}
 use Rattle.std.specs.List.{AllByRecursion}
 use Rattle.std.proofs.lemmas.Bool.{cases_Bool, and_right, and_left}
 use Rattle.bz_tidy.specs.Orders.{insert_by, sort_by}
@@ -15,6 +17,17 @@ module _ {X : Type 0} (lt : X → X → Bool) where
   sort_all : (P : X → Type 0) (xs : List X) → AllByRecursion P xs → AllByRecursion P (sort_by lt xs)
   sort_all P [] h = tt
   sort_all P (x ∷ xs) h = insert_all P x (sort_by lt xs) h.0 (sort_all P xs h.1)
+
+  insert_length : (x : X) (xs : List X) → length (insert_by lt x xs) ≡ suc (length xs)
+  insert_length x [] = refl
+  insert_length x (y ∷ ys) = elim (cases_Bool (lt y x)) [
+    | inl t ↦ rw t (ap suc (insert_length x ys))
+    | inr f ↦ rw f refl
+  ]
+
+  pub sort_length : (xs : List X) → length (sort_by lt xs) ≡ length xs
+  sort_length [] = refl
+  sort_length (x ∷ xs) = insert_length x (sort_by lt xs) ∙ ap suc (sort_length xs)
 
 module _ {X : Type 0} (lt : X → X → Bool) (bar : X) (before : (x : X) → lt bar x ≡ false) (behind : (x : X) → lt x bar ≡ false) where
   insert_bar : (ys : List X) → insert_by lt bar ys ≡ bar ∷ ys
@@ -47,19 +60,42 @@ module _ {X : Type 0} (p : X → Bool) (lt : X → X → Bool) where
   run_sorted [] h = refl
   run_sorted (x ∷ xs) h = ap (insert_by compared x) (run_sorted xs h.1) ∙ inserted x (sort_by lt xs) h.0 (sort_all lt (λ y. p y ≡ true) xs h.1)
 
-  -- the loop takes an item that ends the run
-  pub turn_out : (sorted run rest left behind last all : List X) (x : X) → p x ≡ false → rest ≡ x ∷ left
-      → behind ≡ sorted ++ sort_by compared run → last ≡ behind ++ x ∷ []
-      → sorted ++ sort_by compared (run ++ rest) ≡ all → last ++ sort_by compared left ≡ all
-  turn_out sorted run rest left behind last all x f r b l h =
+  all_more : (Q : X → Type 0) (xs : List X) (x : X) → AllByRecursion Q xs → Q x → AllByRecursion Q (xs ++ x ∷ [])
+  all_more Q [] x h q = (q, tt)
+  all_more Q (y ∷ ys) x h q = (h.0, all_more Q ys x h.1 q)
+
+  pub none_yet : (items : List X) (at : ℕ) → AllByRecursion (λ y. p y ≡ true) (slice_range items at at)
+  none_yet items at = let none : 0 ≡ at - at = omega arith in subst (λ n. AllByRecursion (λ y. p y ≡ true) (take n (drop at items))) none tt
+
+  -- the item behind a run goes on with it
+  pub run_longer : (items : List X) (from at : ℕ) (x : X) → from ≤ at → at < length items → x ≡ get_or items at x → p x ≡ true
+      → AllByRecursion (λ y. p y ≡ true) (slice_range items from at) → AllByRecursion (λ y. p y ≡ true) (slice_range items from (at + 1))
+  run_longer items from at x a b is t h =
+      subst (AllByRecursion (λ y. p y ≡ true)) (sym (between_more items from at x a b ∙ ap (λ z. slice_range items from at ++ z ∷ []) (sym is)))
+      (all_more (λ y. p y ≡ true) (slice_range items from at) x h t)
+
+  -- the item behind a run ends it, and the run was sorted
+  pub run_out : (items new whole : List X) (from at : ℕ) (x : X) → from ≤ at → at < length items → x ≡ get_or items at x → p x ≡ false
+      → new ≡ take from items ++ sort_by compared (slice_range items from at) ++ drop at items
+      → take from items ++ sort_by compared (drop from items) ≡ whole → take (at + 1) new ++ sort_by compared (drop (at + 1) new) ≡ whole
+  run_out items new whole from at x a b is f n h =
+      let run : List X = slice_range items from at in
+      let left : List X = drop (at + 1) items in
+      let sorted : List X = sort_by compared run in
+      let front : List X = (take from items ++ sorted) ++ x ∷ [] in
       let first : (y : X) → compared x y ≡ false = λ y. and_left (p x && p y) (lt x y) (and_left (p x) (p y) f) in
       let second : (y : X) → compared y x ≡ false = λ y. and_left (p y && p x) (lt y x) (and_right (p y) (p x) f) in
-      let cut : sort_by compared (run ++ rest) ≡ sort_by compared run ++ x ∷ sort_by compared left =
-      ap (λ z. sort_by compared (run ++ z)) r ∙ sort_cut compared x first second run left in
-      ap (λ z. z ++ sort_by compared left) (l ∙ ap (λ z. z ++ x ∷ []) b)
-      ∙ (append_assoc (sorted ++ sort_by compared run) (x ∷ []) (sort_by compared left)
-      ∙ (append_assoc sorted (sort_by compared run) (x ∷ sort_by compared left)
-      ∙ (ap (λ z. sorted ++ z) (sym cut) ∙ h)))
-
-  pub in_run_none : (run : List X) → run ≡ [] → AllByRecursion (λ y. p y ≡ true) run
-  in_run_none run e = subst (AllByRecursion (λ y. p y ≡ true)) (sym e) tt
+      let rest : drop at items ≡ x ∷ left = drop_more items at x b ∙ ap (λ z. z ∷ left) (sym is) in
+      let sum : from + (at - from) ≡ at = omega (arith, a) in
+      let cut : drop from items ≡ run ++ x ∷ left =
+      sym (take-append-drop (at - from) (drop from items)) ∙ ap (λ z. run ++ z) (drop-drop (at - from) from items ∙ (ap (λ k. drop k items) sum ∙ rest)) in
+      let before : length (take from items) ≡ from = length-take-le from items (omega (arith, a, b)) in
+      let many : length front ≡ at + 1 =
+      omega (arith, sum, before, length-append (take from items ++ sorted) (x ∷ []), length-append (take from items) sorted, sort_length compared run, length-between items from at (omega (arith, b))) in
+      let parts : new ≡ front ++ left =
+      n ∙ (ap (λ z. take from items ++ sorted ++ z) rest ∙ sym (append_assoc (take from items ++ sorted) (x ∷ []) left)) in
+      ap (λ z. take (at + 1) z ++ sort_by compared (drop (at + 1) z)) parts
+      ∙ (ap₂ (λ z zs. z ++ sort_by compared zs) (take_at front left (at + 1) many) (drop_at front left (at + 1) many)
+      ∙ (append_assoc (take from items ++ sorted) (x ∷ []) (sort_by compared left)
+      ∙ (append_assoc (take from items) sorted (x ∷ sort_by compared left)
+      ∙ (ap (λ z. take from items ++ z) (sym (ap (sort_by compared) cut ∙ sort_cut compared x first second run left)) ∙ h))))

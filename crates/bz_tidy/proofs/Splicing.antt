@@ -1,8 +1,7 @@
 -- A window that no load is sorted into or out of is tidied by itself: an item that is not sorted cuts the file, and each piece is
 -- tidied apart.
-use Rattle.std.proofs.Common.{ℕ, suc, ◌+◌, ◌-◌, ◌≤◌, Bool, false, ◌&&◌, List, [], ◌∷◌, ◌++◌, ◌≡◌, length, take, drop, refl, sym, ap, ◌∙◌, subst, inl, inr, arith}
+use Rattle.std.proofs.Common.{ℕ, ◌+◌, ◌-◌, ◌≤◌, false, ◌&&◌, List, [], ◌∷◌, ◌++◌, ◌≡◌, length, take, drop, refl, sym, ap, ◌∙◌, subst, arith}
 use Rattle.std.proofs.Common.{append_assoc, append-nil, drop-drop, drop_at, length-append, length-drop, length-take-le, take-append-drop, take-take, take_at}
-use Rattle.std.proofs.lemmas.Bool.{cases_Bool}
 use Rattle.std.proofs.lemmas.List.{length-map, map-append}
 use Rattle.std.proofs.lemmas.List.Elements.{All-append, All-drop, All-take}
 use Rattle.bz_tree.specs.declared.kind.Kind.TheVariants as k
@@ -16,11 +15,10 @@ use Rattle.bz_rule.specs.Values.{above}
 use Rattle.bz_tidy.specs.Changes.{changed}
 use Rattle.bz_tidy.specs.Exchanged.{item_tidied}
 use Rattle.bz_tidy.specs.Marks.{any_marked, leave_alone}
-use Rattle.bz_tidy.specs.Orders.{insert_by, sort_by}
 use Rattle.bz_tidy.specs.Passes.{arguments_in, is_run_load, labels_in, lists_in, load_precedes, loads, on_statement, on_taken, quoted, symbols_in, taken, tidied}
 use Rattle.bz_tidy.specs.Spliced.{StandsApart, begins_with_load, ends_with_load, tidied_within}
 use Rattle.bz_tidy.proofs.Composed.{SameAbove, arguments_above, composed_above, either_above, five_composed, labels_above, lists_above, quoted_above, symbols_above}
-use Rattle.bz_tidy.proofs.Cut.{sort_cut}
+use Rattle.bz_tidy.proofs.Cut.{sort_cut, sort_length}
 use Rattle.bz_tidy.proofs.Exchanging.{never_before, never_behind, taken_kept}
 use Rattle.bz_tidy.proofs.Keeping.{both}
 use Rattle.bz_tidy.proofs.ProperPasses.{tidied_proper}
@@ -82,18 +80,6 @@ in_three : (front middle back : List Item) → ends_with_load front ≡ false �
 in_three front middle back n m = cut_first (front ++ middle) back m ∙ ap (λ z. z ++ tidied back) (cut_last front middle n)
 
 -- ---- no item is lost
-
-module _ {X : Type 0} (lt : X → X → Bool) where
-  insert_length : (x : X) (xs : List X) → length (insert_by lt x xs) ≡ suc (length xs)
-  insert_length x [] = refl
-  insert_length x (y ∷ ys) = elim (cases_Bool (lt y x)) [
-    | inl t ↦ rw t (ap suc (insert_length x ys))
-    | inr f ↦ rw f refl
-  ]
-
-  sort_length : (xs : List X) → length (sort_by lt xs) ≡ length xs
-  sort_length [] = refl
-  sort_length (x ∷ xs) = insert_length x (sort_by lt xs) ∙ ap suc (sort_length xs)
 
 tidied_length : (items : List Item) → length (tidied items) ≡ length items
 tidied_length items =

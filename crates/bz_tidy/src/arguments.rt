@@ -48,7 +48,7 @@ impl InRuns for Expr {
 }
 
 /// Sorts each unbroken run of named arguments by priority, then by name; equal ones stay in their old order. The error: a
-/// growth was refused; the arguments are then lost.
+/// growth was refused; some of the runs are then in their order.
 pub(crate) fn sort_arguments(items: &mut Items<Expr>) -> Result<(), Memory>
     ensures { OnOk result (items.new ≡ sort_by argument_precedes items.old) }
 {

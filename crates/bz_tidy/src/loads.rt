@@ -81,7 +81,7 @@ fn path_of_item(item: &Item) -> &[u8]
 }
 
 /// Sorts each unbroken run of loads without comments above by path; equal ones stay in their old order. The error: a growth
-/// was refused; the items are then lost.
+/// was refused; some of the runs are then in their order.
 pub(crate) fn sort_loads(items: &mut Items<Item>) -> Result<(), Memory>
     ensures { OnOk result (items.new ≡ sort_by load_precedes items.old) }
 {

@@ -1,5 +1,5 @@
 //! Sorting each unbroken run of comparable items by itself.
-ghost use Rattle.std.specs.Prelude.{◌≡◌, [], ◌++◌, ◌&&◌, Bool, true, OnOk};
+ghost use Rattle.std.specs.Prelude.{◌≡◌, ◌≤◌, ◌++◌, ◌&&◌, Bool, true, length, take, drop, slice_range, OnOk};
 ghost use Rattle.std.specs.Cmp.{IsStrictWeakOrder};
 ghost use Rattle.std.specs.List.{AllByRecursion};
 ghost use Rattle.std.specs.Ordering.{is_lt};
@@ -7,8 +7,8 @@ ghost use Rattle.std.specs.declared.cmp.Ordering.{Ordering as Answer};
 ghost use Rattle.bz_tidy.specs.Orders.{sort_by};
 
 use bz_items::{Items, Memory};
+use std::alloc::Global;
 use std::cmp::Ordering;
-use std::mem;
 
 /// Items of which some are compared with one another: the unbroken runs of these are sorted.
 pub(crate) trait InRuns: Drop {
@@ -27,35 +27,51 @@ pub(crate) trait InRuns: Drop {
     ghost ranks: { IsStrictWeakOrder (λ (x y : Self). is_lt (order x y)) };
 }
 
-/// Moves a run behind what is sorted already, in its order.
-fn push_sorted<T: InRuns>(run: &mut Vec<T>, sorted: &mut Vec<T>) -> Result<(), Memory>
-    requires { AllByRecursion (λ x. T.compares x ≡ true) run.old.items }
-    ensures sorts { OnOk result (sorted.new.items ≡ sorted.old.items ++ sort_by (λ x y. T.compares x && T.compares y && is_lt (T.order x y)) run.old.items) }
-    ensures empties { OnOk result (run.new.items ≡ []) }
+/// Sorts items that are all compared, equal ones in their old order. The error: a growth was refused.
+fn sort_run<T: InRuns>(alloc: Global, run: &mut [T]) -> Result<(), Memory>
+    requires { AllByRecursion (λ x. T.compares x ≡ true) run.old }
+    ensures { OnOk result (run.new ≡ sort_by (λ x y. T.compares x && T.compares y && is_lt (T.order x y)) run.old) }
 {
-    run.sort_by(|x, y| x.compare(y))?;
-    sorted.append(run)?;
+    run.sort_by(alloc, |x, y| x.compare(y))?;
     Ok(())
 }
 
-/// Each unbroken run of comparable items in its order, equal ones in their old order. The error: a growth was refused; the
-/// items are then lost.
+/// The same for the items between two places.
+fn sort_part<T: InRuns>(
+    alloc: Global,
+    items: &mut [T],
+    from: usize,
+    to: usize,
+) -> Result<(), Memory>
+    requires order { from ≤ to }
+    requires within { to ≤ length items.old }
+    requires comparable { AllByRecursion (λ x. T.compares x ≡ true) (slice_range items.old from to) }
+    ensures { OnOk result (items.new ≡ take from items.old ++ sort_by (λ x y. T.compares x && T.compares y && is_lt (T.order x y)) (slice_range items.old from to) ++ drop to items.old) }
+{
+    sort_run(alloc, &mut items[from..to])
+}
+
+fn sort_each_run<T: InRuns>(alloc: Global, items: &mut [T]) -> Result<(), Memory>
+    ensures { OnOk result (items.new ≡ sort_by (λ x y. T.compares x && T.compares y && is_lt (T.order x y)) items.old) }
+{
+    let mut from = 0;
+    for at in 0..items.len() {
+        if items[at].is_comparable() {
+            continue;
+        }
+        sort_part(alloc, items, from, at)?;
+        from = at + 1;
+    }
+    let end = items.len();
+    sort_part(alloc, items, from, end)
+}
+
+/// Each unbroken run of comparable items in its order, equal ones in their old order. The error: a growth was refused; some
+/// of the runs are then in their order.
 pub(crate) fn sort_runs<T: InRuns>(items: &mut Items<T>) -> Result<(), Memory>
     ensures { OnOk result (items.new ≡ sort_by (λ x y. T.compares x && T.compares y && is_lt (T.order x y)) items.old) }
 {
     let alloc = items.alloc();
-    let all = mem::replace(items, Items::new(alloc)).into_vec();
-    let mut sorted = Vec::with_capacity(alloc, all.len())?;
-    let mut run = Vec::new(alloc);
-    for x in all {
-        if x.is_comparable() {
-            run.push(x)?;
-        } else {
-            push_sorted(&mut run, &mut sorted)?;
-            sorted.push(x)?;
-        }
-    }
-    push_sorted(&mut run, &mut sorted)?;
-    *items = Items::from_vec(sorted);
+    sort_each_run(alloc, items.as_mut_slice())?;
     Ok(())
 }

@@ -88,7 +88,7 @@ fn settle_all(items: &mut Items<Item>)
     }
 }
 
-/// The passes over items that stand alone. The error: memory was refused; some of the items are then lost.
+/// The passes over items that stand alone. The error: memory was refused; part of an item may then be lost.
 pub(crate) fn tidy_items(alloc: Global, items: &mut Items<Item>) -> Result<(), Memory>
     ensures { OnOk result (items.new ≡ tidied items.old) }
 {
