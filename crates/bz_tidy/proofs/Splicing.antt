@@ -120,11 +120,6 @@ module _ {X : Type 0} where
     pub put_length : length (take from xs ++ new ++ drop (from + come) xs) ≡ length xs
     put_length = omega (arith, length-append (take from xs ++ new) (drop (from + come) xs), both_length, length-drop (from + come) xs, within)
 
-  -- others once more in the same place
-  pub put_again : (from come : ℕ) (xs there new : List X) → from + come ≤ length xs → length there ≡ come
-      → take from (take from xs ++ there ++ drop (from + come) xs) ++ new ++ drop (from + come) (take from xs ++ there ++ drop (from + come) xs) ≡ take from xs ++ new ++ drop (from + come) xs
-  put_again from come xs there new within many = both (λ z zs. z ++ new ++ zs) (put_front from come xs there within many) (put_behind from come xs there within many)
-
 -- ---- a window by itself
 
 sides_stay : (front middle back : List Item) → ends_with_load front ≡ false → begins_with_load back ≡ false

@@ -7,11 +7,12 @@ ghost use Rattle.bz_tidy.specs.Ranks.{name_ranks};
 ghost use Rattle.bz_rule.specs.Values.{has_kind};
 
 use crate::runs::{InRuns, sort_runs};
-use bz_items::{Items, Memory};
+use bz_items::Memory;
 use bz_label::bytes::priority;
 use bz_rule::first_text;
 use bz_tree::Kind;
 use bz_value::Expr;
+use std::alloc::Global;
 use std::cmp::Ordering;
 
 /// Of a named argument, its name.
@@ -49,8 +50,8 @@ impl InRuns for Expr {
 
 /// Sorts each unbroken run of named arguments by priority, then by name; equal ones stay in their old order. The error: a
 /// growth was refused; some of the runs are then in their order.
-pub(crate) fn sort_arguments(items: &mut Items<Expr>) -> Result<(), Memory>
+pub(crate) fn sort_arguments(alloc: Global, items: &mut [Expr]) -> Result<(), Memory>
     ensures { OnOk result (items.new ≡ sort_by argument_precedes items.old) }
 {
-    sort_runs(items)
+    sort_runs(alloc, items)
 }

@@ -5,10 +5,11 @@ ghost use Rattle.bz_tidy.specs.Passes.{is_loose_load as is_loose, is_run_load, l
 ghost use Rattle.bz_tidy.specs.Ranks.{path_ranks};
 
 use crate::runs::{InRuns, sort_runs};
-use bz_items::{Items, Memory};
+use bz_items::Memory;
 use bz_rule::{between, first_text};
 use bz_tree::Kind;
 use bz_value::{Expr, Item};
+use std::alloc::Global;
 use std::cmp::Ordering;
 
 /// Where a path stands by what it begins with: a repository, a package, a file of the same package, anything else.
@@ -82,8 +83,8 @@ fn path_of_item(item: &Item) -> &[u8]
 
 /// Sorts each unbroken run of loads without comments above by path; equal ones stay in their old order. The error: a growth
 /// was refused; some of the runs are then in their order.
-pub(crate) fn sort_loads(items: &mut Items<Item>) -> Result<(), Memory>
+pub(crate) fn sort_loads(alloc: Global, items: &mut [Item]) -> Result<(), Memory>
     ensures { OnOk result (items.new ≡ sort_by load_precedes items.old) }
 {
-    sort_runs(items)
+    sort_runs(alloc, items)
 }

@@ -6,7 +6,7 @@ ghost use Rattle.std.specs.Ordering.{is_lt};
 ghost use Rattle.std.specs.declared.cmp.Ordering.{Ordering as Answer};
 ghost use Rattle.bz_tidy.specs.Orders.{sort_by};
 
-use bz_items::{Items, Memory};
+use bz_items::Memory;
 use std::alloc::Global;
 use std::cmp::Ordering;
 
@@ -51,7 +51,9 @@ fn sort_part<T: InRuns>(
     sort_run(alloc, &mut items[from..to])
 }
 
-fn sort_each_run<T: InRuns>(alloc: Global, items: &mut [T]) -> Result<(), Memory>
+/// Each unbroken run of comparable items in its order, equal ones in their old order. The error: a growth was refused; some
+/// of the runs are then in their order.
+pub(crate) fn sort_runs<T: InRuns>(alloc: Global, items: &mut [T]) -> Result<(), Memory>
     ensures { OnOk result (items.new ≡ sort_by (λ x y. T.compares x && T.compares y && is_lt (T.order x y)) items.old) }
 {
     let mut from = 0;
@@ -64,14 +66,4 @@ fn sort_each_run<T: InRuns>(alloc: Global, items: &mut [T]) -> Result<(), Memory
     }
     let end = items.len();
     sort_part(alloc, items, from, end)
-}
-
-/// Each unbroken run of comparable items in its order, equal ones in their old order. The error: a growth was refused; some
-/// of the runs are then in their order.
-pub(crate) fn sort_runs<T: InRuns>(items: &mut Items<T>) -> Result<(), Memory>
-    ensures { OnOk result (items.new ≡ sort_by (λ x y. T.compares x && T.compares y && is_lt (T.order x y)) items.old) }
-{
-    let alloc = items.alloc();
-    sort_each_run(alloc, items.as_mut_slice())?;
-    Ok(())
 }

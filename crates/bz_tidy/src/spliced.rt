@@ -83,42 +83,31 @@ fn widened(file: &File, from: usize, come: usize) -> Window
     }
 }
 
-/// So many items that say nothing: they stand in the place of others for a while. The error: memory was refused.
-fn empty_items(alloc: Global, count: usize) -> Result<Items<Item>, Memory>
-    ensures { IfOk result (λ items. length items ≡ count) }
-{
-    let mut items = Items::from_vec(Vec::with_capacity(alloc, count)?);
-    for _ in 0..count {
-        items.push(Item::Block(Items::new(alloc)))?;
-    }
-    Ok(items)
-}
-
-/// The items, those of a window tidied as if they stood alone. The others are not touched. The error: memory was refused.
-fn tidied_apart(
+/// Tidies the items of a window as if they stood alone. The others are not touched. The error: memory was refused; part of an
+/// item may then be lost.
+fn tidy_between(
     alloc: Global,
-    mut items: Items<Item>,
+    items: &mut Items<Item>,
     from: usize,
     come: usize,
-) -> Result<Items<Item>, Memory>
-    requires { from + come ≤ length items }
-    ensures { IfOk result (λ new. new ≡ tidied_within from come items) }
+) -> Result<(), Memory>
+    requires { from + come ≤ length items.old }
+    ensures { OnOk result (items.new ≡ tidied_within from come items.old) }
 {
-    let mut window = empty_items(alloc, come)?;
-    items.splice(from, come, &mut window)?;
-    tidy_items(alloc, &mut window)?;
-    items.splice(from, come, &mut window)?;
-    Ok(items)
+    let all = items.as_mut_slice();
+    tidy_items(alloc, &mut all[from..from + come])?;
+    Ok(())
 }
 
-/// Tidies the items of a window as if they stood alone. The error: memory was refused; the file has no items then.
+/// The same in a file. The error: memory was refused; the file has no items then.
 #[tactic(auto, using(crate::proofs::Splicing::within_proper))]
 fn tidy_window(alloc: Global, file: &mut File, from: usize, come: usize) -> Result<(), Memory>
     requires { from + come ≤ length file.old }
     ensures { OnOk result (file.new ≡ tidied_within from come file.old) }
 {
-    let items = mem::replace(&mut file.items, Items::new(alloc));
-    file.items = tidied_apart(alloc, items, from, come)?;
+    let mut items = mem::replace(&mut file.items, Items::new(alloc));
+    tidy_between(alloc, &mut items, from, come)?;
+    file.items = items;
     Ok(())
 }
 

@@ -62,10 +62,10 @@ pub(crate) fn change_item(alloc: Global, item: &mut Item) -> Result<(), Memory>
     }
 }
 
-fn change_all(alloc: Global, items: &mut Items<Item>) -> Result<(), Memory>
+fn change_all(alloc: Global, items: &mut [Item]) -> Result<(), Memory>
     ensures { OnOk result (items.new ≡ on_taken changed items.old) }
 {
-    for item in items.as_mut_slice().iter_mut() {
+    for item in items.iter_mut() {
         change_item(alloc, item)?;
     }
     Ok(())
@@ -80,21 +80,28 @@ pub(crate) fn settle_item(item: &mut Item)
     }
 }
 
-fn settle_all(items: &mut Items<Item>)
+fn settle_all(items: &mut [Item])
     ensures { items.new ≡ flags items.old }
 {
-    for item in items.as_mut_slice().iter_mut() {
+    for item in items.iter_mut() {
         settle_item(item);
     }
 }
 
 /// The passes over items that stand alone. The error: memory was refused; part of an item may then be lost.
-pub(crate) fn tidy_items(alloc: Global, items: &mut Items<Item>) -> Result<(), Memory>
+pub(crate) fn tidy_items(alloc: Global, items: &mut [Item]) -> Result<(), Memory>
     ensures { OnOk result (items.new ≡ tidied items.old) }
 {
     change_all(alloc, items)?;
-    sort_loads(items)?;
+    sort_loads(alloc, items)?;
     settle_all(items);
+    Ok(())
+}
+
+fn tidy_all(alloc: Global, items: &mut Items<Item>) -> Result<(), Memory>
+    ensures { OnOk result (items.new ≡ tidied items.old) }
+{
+    tidy_items(alloc, items.as_mut_slice())?;
     Ok(())
 }
 
@@ -108,6 +115,6 @@ pub fn tidy(alloc: Global, file: File) -> Result<File, Memory>
     ensures comments { IfOk result (λ new. (text : Bytes) → times text new ≡ times text file) }
 {
     let File { mut items } = file;
-    tidy_items(alloc, &mut items)?;
+    tidy_all(alloc, &mut items)?;
     Ok(File { items })
 }

@@ -191,7 +191,7 @@ fn change_arguments(
 {
     match change {
         RuleChange::Values(values) => change_attributes(alloc, values, kind, arguments),
-        RuleChange::Order => sort_arguments(arguments),
+        RuleChange::Order => sort_arguments(alloc, arguments.as_mut_slice()),
     }
 }
 

@@ -4,4 +4,4 @@ use Rattle.bz_tidy.specs.Changes.{changed}
 use Rattle.bz_tidy.proofs.tidying.change_all.Given as goal
 
 abbrev pub invariant-loop-item : goal.invariant-loop-item
-invariant-loop-item l = take l.item-index l.item-items ++ map (on_statement (taken changed)) (drop l.item-index l.item-items) ≡ map (on_statement (taken changed)) l.fn.items
+invariant-loop-item l = take l.item-index l.items ++ map (on_statement (taken changed)) (drop l.item-index l.items) ≡ map (on_statement (taken changed)) l.fn.items

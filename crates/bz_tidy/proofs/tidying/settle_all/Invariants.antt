@@ -3,4 +3,4 @@ use Rattle.bz_write.specs.Flags.{item_with_flags}
 use Rattle.bz_tidy.proofs.tidying.settle_all.Given as goal
 
 abbrev pub invariant-loop-item : goal.invariant-loop-item
-invariant-loop-item l = take l.item-index l.item-items ++ map item_with_flags (drop l.item-index l.item-items) ≡ map item_with_flags l.fn.items
+invariant-loop-item l = take l.item-index l.items ++ map item_with_flags (drop l.item-index l.items) ≡ map item_with_flags l.fn.items

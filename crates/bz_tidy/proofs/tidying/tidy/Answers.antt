@@ -16,17 +16,17 @@ of_file file items new made view_is = made ∙ ap tidied view_is
 
 pub invariant_of-result : goal.invariant_of-result
 invariant_of-result c =
-    subst (λ (items : List Item). IsProper items) (sym (of_file _ _ _ c.in_ok-tidy_items.ensures c.file.view_is))
+    subst (λ (items : List Item). IsProper items) (sym (of_file _ _ _ c.in_ok-tidy_all.ensures c.file.view_is))
     (tidied_proper c.args.file (subst (λ (items : List Item). IsProper items) c.file.view_is c.file.invariant))
 
 pub returns-clause-tidied : goal.returns-clause-tidied
-returns-clause-tidied c = of_file _ _ _ c.in_ok-tidy_items.ensures c.file.view_is
+returns-clause-tidied c = of_file _ _ _ c.in_ok-tidy_all.ensures c.file.view_is
 
 pub returns-clause-settled : goal.returns-clause-settled
-returns-clause-settled c = let made = of_file _ _ _ c.in_ok-tidy_items.ensures c.file.view_is in ap flags made ∙ (flags_settled _ ∙ sym made)
+returns-clause-settled c = let made = of_file _ _ _ c.in_ok-tidy_all.ensures c.file.view_is in ap flags made ∙ (flags_settled _ ∙ sym made)
 
 pub returns-clause-again : goal.returns-clause-again
-returns-clause-again c = let made = of_file _ _ _ c.in_ok-tidy_items.ensures c.file.view_is in ap tidied made ∙ (tidy_stays c.args.file ∙ sym made)
+returns-clause-again c = let made = of_file _ _ _ c.in_ok-tidy_all.ensures c.file.view_is in ap tidied made ∙ (tidy_stays c.args.file ∙ sym made)
 
 pub returns-clause-comments : goal.returns-clause-comments
-returns-clause-comments c = λ text. ap (times text) (of_file _ _ _ c.in_ok-tidy_items.ensures c.file.view_is) ∙ comments_stay text c.args.file
+returns-clause-comments c = λ text. ap (times text) (of_file _ _ _ c.in_ok-tidy_all.ensures c.file.view_is) ∙ comments_stay text c.args.file

@@ -1,7 +1,7 @@
 use Rattle.std.proofs.Common.{◌+◌, Bool, arith, rules}
 use Rattle.std.specs.Ordering.{is_lt}
 use Rattle.bz_tidy.proofs.Cut.{none_yet, run_out}
-use Rattle.bz_tidy.proofs.runs.sort_each_run.Goals as goal
+use Rattle.bz_tidy.proofs.runs.sort_runs.Goals as goal
 
 pub loop-at-preserved : goal.loop-at-preserved
 loop-at-preserved g c =

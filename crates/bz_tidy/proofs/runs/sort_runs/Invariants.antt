@@ -2,7 +2,7 @@ use Rattle.std.proofs.Common.{◌≡◌, ◌≤◌, ◌++◌, ◌&&◌, true, ta
 use Rattle.std.specs.List.{AllByRecursion}
 use Rattle.std.specs.Ordering.{is_lt}
 use Rattle.bz_tidy.specs.Orders.{sort_by}
-use Rattle.bz_tidy.proofs.runs.sort_each_run.Given as goal
+use Rattle.bz_tidy.proofs.runs.sort_runs.Given as goal
 
 -- what stands before the run is in order, and with the rest sorted it is the whole
 abbrev pub invariant-loop-at : goal.invariant-loop-at
