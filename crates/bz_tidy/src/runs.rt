@@ -11,7 +11,7 @@ use std::alloc::Global;
 use std::cmp::Ordering;
 
 /// Items of which some are compared with one another: the unbroken runs of these are sorted.
-pub(crate) trait InRuns: Drop {
+pub(crate) trait InRuns {
     ghost compares: { Self → Bool };
 
     ghost order: { Self → Self → Answer };
