@@ -242,24 +242,13 @@ fn first_list(operands: &[Expr]) -> Option<usize>
 }
 
 /// The same for the first list among the operands of a sum.
-fn append_to_first(more: &mut Vec<Expr>, operands: &mut [Expr]) -> Result<(), Memory>
+fn append_to_first(more: &mut Vec<Expr>, operands: &mut Items<Expr>) -> Result<(), Memory>
     ensures { OnOk result (operands.new ≡ on_first_that (is_of kinds.List) (on_items kinds.List (λ items. items ++ more.old.items)) operands.old) }
 {
-    let Some(at) = first_list(operands) else {
+    let Some(at) = first_list(operands.as_slice()) else {
         return Ok(());
     };
-    append_to_list(more, &mut operands[at])?;
-    Ok(())
-}
-
-/// The same for operands that can grow.
-fn append_to_operands(more: &mut Vec<Expr>, operands: &mut Items<Expr>) -> Result<(), Memory>
-    ensures { OnOk result (operands.new ≡ on_first_that (is_of kinds.List) (on_items kinds.List (λ items. items ++ more.old.items)) operands.old) }
-{
-    let alloc = operands.alloc();
-    let mut all = mem::replace(operands, Items::new(alloc)).into_vec();
-    append_to_first(more, all.as_mut_slice())?;
-    *operands = Items::from_vec(all);
+    append_to_list(more, operands.at_mut(at))?;
     Ok(())
 }
 
@@ -271,7 +260,7 @@ fn append_to_value(more: &mut Vec<Expr>, value: &mut Expr) -> Result<(), Memory>
         Expr::Token(_) => Ok(()),
         Expr::Form(form) => {
             if form.kind == Kind::Sum {
-                append_to_operands(more, &mut form.parts)?;
+                append_to_first(more, &mut form.parts)?;
             } else if form.kind == Kind::List {
                 append(more, &mut form.seq.items)?;
             }

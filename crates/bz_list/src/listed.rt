@@ -89,12 +89,9 @@ fn take_from_operands(
     ensures left { OnOk result (operands.new ≡ map (on_items kinds.List (filter (is_left chosen.now))) operands.old) }
     ensures taken { OnOk result (taken.new.items ≡ taken.old.items ++ filter (chooses chosen.now) (flat_map listed operands.old)) }
 {
-    let alloc = operands.alloc();
-    let mut all = mem::replace(operands, Items::new(alloc)).into_vec();
-    for x in all.iter_mut() {
+    for x in operands.as_mut_slice().iter_mut() {
         take_from_list(chosen, x, taken)?;
     }
-    *operands = Items::from_vec(all);
     Ok(())
 }
 

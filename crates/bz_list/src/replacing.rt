@@ -17,7 +17,6 @@ use bz_tree::Kind;
 use bz_value::Expr;
 use bz_words::Attributes;
 use std::alloc::Global;
-use std::mem;
 
 /// What is done to an item, in the current package.
 #[derive(Clone, Copy)]
@@ -118,11 +117,9 @@ fn change_items(
 ) -> Result<(), Memory>
     ensures { OnOk result (items.new ≡ map (item_changed_by change.entry name.now) items.old) }
 {
-    let mut all = mem::replace(items, Items::new(alloc)).into_vec();
-    for x in all.iter_mut() {
+    for x in items.as_mut_slice().iter_mut() {
         change_item(alloc, change, name, x)?;
     }
-    *items = Items::from_vec(all);
     Ok(())
 }
 
@@ -155,11 +152,9 @@ fn change_in_operands(
 ) -> Result<(), Memory>
     ensures { OnOk result (operands.new ≡ map (on_items kinds.List (map (item_changed_by change.entry name.now))) operands.old) }
 {
-    let mut all = mem::replace(operands, Items::new(alloc)).into_vec();
-    for x in all.iter_mut() {
+    for x in operands.as_mut_slice().iter_mut() {
         change_in_list(alloc, change, name, x)?;
     }
-    *operands = Items::from_vec(all);
     Ok(())
 }
 
@@ -208,11 +203,9 @@ fn change_third(
 ) -> Result<(), Memory>
     ensures { OnOk result (parts.new ≡ on_third (value_changed_by change.entry name.now) parts.old) }
 {
-    let mut all = mem::replace(parts, Items::new(alloc)).into_vec();
-    if let Some(value) = all.get_mut(2) {
+    if let [_, _, value, ..] = parts.as_mut_slice() {
         change_value(alloc, change, name, value)?;
     }
-    *parts = Items::from_vec(all);
     Ok(())
 }
 
@@ -258,11 +251,9 @@ fn change_in_all(
 ) -> Result<(), Memory>
     ensures { OnOk result (arguments.new ≡ map (other_changed_by change.entry) arguments.old) }
 {
-    let mut all = mem::replace(arguments, Items::new(alloc)).into_vec();
-    for x in all.iter_mut() {
+    for x in arguments.as_mut_slice().iter_mut() {
         change_in_other(alloc, change, x)?;
     }
-    *arguments = Items::from_vec(all);
     Ok(())
 }
 
