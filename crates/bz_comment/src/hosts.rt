@@ -16,19 +16,18 @@ use bz_tree::Kind;
 use bz_value::Expr;
 use bz_words::Host;
 use std::alloc::Global;
-use std::mem;
 
 /// Changes the comments of the first argument of this name.
 fn change_named(
     alloc: Global,
     name: &[u8],
     change: Change<'_>,
-    arguments: &mut [Expr],
+    arguments: &mut Items<Expr>,
 ) -> Result<(), Memory>
     ensures { OnOk result (arguments.new ≡ on_first_that (is_attribute name.now) (changed_by change.entry) arguments.old) }
 {
-    if let Some(at) = place_of(name, arguments) {
-        change_own(alloc, change, &mut arguments[at])?;
+    if let Some(at) = place_of(name, arguments.as_slice()) {
+        change_own(alloc, change, arguments.at_mut(at))?;
     }
     Ok(())
 }
@@ -46,9 +45,7 @@ fn change_attribute(
     if !has_attribute(name, arguments.as_slice()) {
         return Err(Refusal::NoAttribute);
     }
-    let mut all = mem::replace(arguments, Items::new(alloc)).into_vec();
-    change_named(alloc, name, change, all.as_mut_slice())?;
-    *arguments = Items::from_vec(all);
+    change_named(alloc, name, change, arguments)?;
     Ok(())
 }
 
@@ -57,28 +54,13 @@ fn change_first(
     alloc: Global,
     sought: Sought<'_>,
     change: Change<'_>,
-    items: &mut [Expr],
-) -> Result<(), Memory>
-    ensures { OnOk result (items.new ≡ on_first_that (is_sought sought.entry) (changed_by change.entry) items.old) }
-{
-    if let Some(at) = place_of_item(sought, items) {
-        change_own(alloc, change, &mut items[at])?;
-    }
-    Ok(())
-}
-
-/// The same in a list that can grow.
-fn change_in_items(
-    alloc: Global,
-    sought: Sought<'_>,
-    change: Change<'_>,
     items: &mut Items<Expr>,
 ) -> Result<(), Memory>
     ensures { OnOk result (items.new ≡ on_first_that (is_sought sought.entry) (changed_by change.entry) items.old) }
 {
-    let mut all = mem::replace(items, Items::new(alloc)).into_vec();
-    change_first(alloc, sought, change, all.as_mut_slice())?;
-    *items = Items::from_vec(all);
+    if let Some(at) = place_of_item(sought, items.as_slice()) {
+        change_own(alloc, change, items.at_mut(at))?;
+    }
     Ok(())
 }
 
@@ -95,7 +77,7 @@ fn change_in_list(
         Expr::Token(_) => Ok(()),
         Expr::Form(form) => {
             if form.kind == Kind::List {
-                change_in_items(alloc, sought, change, &mut form.seq.items)?;
+                change_first(alloc, sought, change, &mut form.seq.items)?;
             }
             Ok(())
         }
@@ -107,28 +89,13 @@ fn change_first_list(
     alloc: Global,
     sought: Sought<'_>,
     change: Change<'_>,
-    operands: &mut [Expr],
-) -> Result<(), Memory>
-    ensures { OnOk result (operands.new ≡ on_first_that (has_item (is_sought sought.entry)) (on_items kinds.List (on_first_that (is_sought sought.entry) (changed_by change.entry))) operands.old) }
-{
-    if let Some(at) = place_of_list(sought, operands) {
-        change_in_list(alloc, sought, change, &mut operands[at])?;
-    }
-    Ok(())
-}
-
-/// The same of a sum's row.
-fn change_in_operands(
-    alloc: Global,
-    sought: Sought<'_>,
-    change: Change<'_>,
     operands: &mut Items<Expr>,
 ) -> Result<(), Memory>
     ensures { OnOk result (operands.new ≡ on_first_that (has_item (is_sought sought.entry)) (on_items kinds.List (on_first_that (is_sought sought.entry) (changed_by change.entry))) operands.old) }
 {
-    let mut all = mem::replace(operands, Items::new(alloc)).into_vec();
-    change_first_list(alloc, sought, change, all.as_mut_slice())?;
-    *operands = Items::from_vec(all);
+    if let Some(at) = place_of_list(sought, operands.as_slice()) {
+        change_in_list(alloc, sought, change, operands.at_mut(at))?;
+    }
     Ok(())
 }
 
@@ -145,9 +112,9 @@ fn change_in_value(
         Expr::Token(_) => Ok(()),
         Expr::Form(form) => {
             if form.kind == Kind::Sum {
-                change_in_operands(alloc, sought, change, &mut form.parts)?;
+                change_first_list(alloc, sought, change, &mut form.parts)?;
             } else if form.kind == Kind::List {
-                change_in_items(alloc, sought, change, &mut form.seq.items)?;
+                change_first(alloc, sought, change, &mut form.seq.items)?;
             }
             Ok(())
         }
