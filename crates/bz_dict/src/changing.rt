@@ -51,7 +51,7 @@ fn set_entry(
     ensures { OnOk result (x.new ≡ d.with_entry_value current.now name.now entry.now x.old) }
 {
     let value = string_of(alloc, current, name, entry.value.as_slice())?;
-    entries::set_value(alloc, value, x);
+    entries::set_value(value, x);
     Ok(())
 }
 

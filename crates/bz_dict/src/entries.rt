@@ -83,34 +83,32 @@ pub(crate) fn key_of(x: &Expr) -> Option<&[u8]>
 }
 
 /// Exchanges an expression for the value behind the colon.
-fn swap_third(other: &mut Expr, parts: &mut [Expr])
+fn swap_third(other: &mut Expr, parts: &mut Items<Expr>)
     ensures { parts.new ≡ on_third (λ old. other.old) parts.old }
 {
-    if let [_, _, third, ..] = parts {
+    if let [_, _, third, ..] = parts.as_mut_slice() {
         mem::swap(third, other);
     }
 }
 
 /// Exchanges an expression for the value of an entry.
-fn swap_value(alloc: Global, other: &mut Expr, x: &mut Expr)
+fn swap_value(other: &mut Expr, x: &mut Expr)
     ensures { x.new ≡ on_row kinds.Entry (on_third (λ old. other.old)) x.old }
 {
     match x {
         Expr::Token(_) => {}
         Expr::Form(form) => {
             if form.kind == Kind::Entry {
-                let mut parts = mem::replace(&mut form.parts, Items::new(alloc)).into_vec();
-                swap_third(other, parts.as_mut_slice());
-                form.parts = Items::from_vec(parts);
+                swap_third(other, &mut form.parts);
             }
         }
     }
 }
 
 /// The value of an entry becomes this one.
-pub(crate) fn set_value(alloc: Global, value: Expr, x: &mut Expr)
+pub(crate) fn set_value(value: Expr, x: &mut Expr)
     ensures { x.new ≡ on_row kinds.Entry (on_third (λ old. value)) x.old }
 {
     let mut old = value;
-    swap_value(alloc, &mut old, x);
+    swap_value(&mut old, x);
 }
