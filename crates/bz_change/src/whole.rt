@@ -97,10 +97,10 @@ pub(crate) fn remove(attributes: &Attributes, arguments: &mut Items<Expr>) -> Re
 }
 
 /// The text becomes that of the first part.
-fn set_first_text(alloc: Global, text: &[u8], parts: &mut [Expr]) -> Result<(), Memory>
+fn set_first_text(alloc: Global, text: &[u8], parts: &mut Items<Expr>) -> Result<(), Memory>
     ensures { OnOk result (parts.new ≡ on_first (with_text text.now) parts.old) }
 {
-    match parts {
+    match parts.as_mut_slice() {
         [] => Ok(()),
         [first, ..] => {
             set_text(Text::from_slice(alloc, text)?, first);
@@ -117,9 +117,7 @@ fn set_name(alloc: Global, name: &[u8], argument: &mut Expr) -> Result<(), Memor
         Expr::Token(_) => Ok(()),
         Expr::Form(form) => {
             if form.kind == Kind::Named {
-                let mut parts = mem::replace(&mut form.parts, Items::new(alloc)).into_vec();
-                set_first_text(alloc, name, parts.as_mut_slice())?;
-                form.parts = Items::from_vec(parts);
+                set_first_text(alloc, name, &mut form.parts)?;
             }
             Ok(())
         }
@@ -127,13 +125,18 @@ fn set_name(alloc: Global, name: &[u8], argument: &mut Expr) -> Result<(), Memor
 }
 
 /// The first attribute of a name gets another one.
-fn rename_in(alloc: Global, from: &[u8], to: &[u8], arguments: &mut [Expr]) -> Result<(), Memory>
+fn rename_in(
+    alloc: Global,
+    from: &[u8],
+    to: &[u8],
+    arguments: &mut Items<Expr>,
+) -> Result<(), Memory>
     ensures { OnOk result (arguments.new ≡ on_first_that (is_attribute from.now) (on_row kinds.Named (on_first (with_text to.now))) arguments.old) }
 {
-    let Some(at) = place_of(from, arguments) else {
+    let Some(at) = place_of(from, arguments.as_slice()) else {
         return Ok(());
     };
-    set_name(alloc, to, &mut arguments[at])?;
+    set_name(alloc, to, arguments.at_mut(at))?;
     Ok(())
 }
 
@@ -153,9 +156,7 @@ pub(crate) fn rename(
     if has_attribute(to, arguments.as_slice()) {
         return Err(Refusal::AttributeExists);
     }
-    let mut all = mem::replace(arguments, Items::new(alloc)).into_vec();
-    rename_in(alloc, from, to, all.as_mut_slice())?;
-    *arguments = Items::from_vec(all);
+    rename_in(alloc, from, to, arguments)?;
     Ok(())
 }
 

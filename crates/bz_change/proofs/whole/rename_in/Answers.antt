@@ -1,4 +1,6 @@
 use Rattle.std.proofs.Common.{sym, ap, ◌∙◌, slice_set}
+use Rattle.std.specs.List.{position}
+use Rattle.std.proofs.lemmas.Option.{get_or_from_slice_get}
 use Rattle.bz_tree.specs.declared.kind.Kind.TheVariants as kinds
 use Rattle.bz_rule.specs.Values.{on_first, on_row, with_text}
 use Rattle.bz_attribute.specs.Attributes.{is_attribute}
@@ -9,13 +11,13 @@ pub returns-in_default : goal.returns-in_default
 returns-in_default c =
     let test = is_attribute c.args.from.now in
     let xs = c.args.arguments.now in
-    sym (unchanged test (on_row kinds.Named (on_first (with_text c.args.to.now))) xs (none_passes test xs c.in_default.ensures))
+    sym (unchanged test (on_row kinds.Named (on_first (with_text c.args.to.now))) xs (none_passes test xs (c.in_default.ensures ∙ ap (position test) c.as_slice.ensures)))
 
 pub returns : goal.returns
 returns c =
     let test = is_attribute c.args.from.now in
     let xs = c.args.arguments.now in
-    let x = c.index-arguments-at.result in
+    let x = c.at_mut.result.now in
     let change = on_row kinds.Named (on_first (with_text c.args.to.now)) in
-    ap (slice_set xs c.in-Some.at) c.in_ok-set_name.ensures
-    ∙ sym (changed_at test change xs c.in-Some.at x (is_first test xs c.in-Some.at x c.in-Some.ensures))
+    ap (slice_set xs c.in-Some.at) (c.in_ok-set_name.ensures ∙ ap change (sym (get_or_from_slice_get xs c.in-Some.at x x c.at_mut.ensures.value)))
+    ∙ sym (changed_at test change xs c.in-Some.at x (is_first test xs c.in-Some.at x (c.in-Some.ensures ∙ ap (position test) c.as_slice.ensures)))
