@@ -58,9 +58,10 @@ fn place_of_load(path: &[u8], items: &[Item]) -> Option<usize>
 }
 
 /// Appends all of `more`.
-fn append(alloc: Global, more: &mut Vec<Expr>, items: &mut Items<Expr>) -> Result<(), Memory>
+fn append(more: &mut Vec<Expr>, items: &mut Items<Expr>) -> Result<(), Memory>
     ensures { OnOk result (items.new ≡ items.old ++ more.old.items) }
 {
+    let alloc = items.alloc();
     let mut all = mem::replace(items, Items::new(alloc)).into_vec();
     all.append(more)?;
     *items = Items::from_vec(all);
@@ -68,26 +69,26 @@ fn append(alloc: Global, more: &mut Vec<Expr>, items: &mut Items<Expr>) -> Resul
 }
 
 /// Appends items to a load; any other expression stays.
-fn append_to_load(alloc: Global, more: &mut Vec<Expr>, x: &mut Expr) -> Result<(), Memory>
+fn append_to_load(more: &mut Vec<Expr>, x: &mut Expr) -> Result<(), Memory>
     ensures { OnOk result (x.new ≡ on_items k.Load (λ items. items ++ more.old.items) x.old) }
 {
     match x {
         Expr::Token(_) => Ok(()),
         Expr::Form(form) => {
             if form.kind == Kind::Load {
-                append(alloc, more, &mut form.seq.items)?;
+                append(more, &mut form.seq.items)?;
             }
             Ok(())
         }
     }
 }
 
-fn append_to_item(alloc: Global, more: &mut Vec<Expr>, item: &mut Item) -> Result<(), Memory>
+fn append_to_item(more: &mut Vec<Expr>, item: &mut Item) -> Result<(), Memory>
     ensures { OnOk result (item.new ≡ with_more more.old.items item.old) }
 {
     match item {
         Item::Block(_) => Ok(()),
-        Item::Stmt(x) => append_to_load(alloc, more, x),
+        Item::Stmt(x) => append_to_load(more, x),
     }
 }
 
@@ -113,7 +114,7 @@ fn put(
     match place_of_load(path, all.as_slice()) {
         Some(at) => {
             let same = are_none(more.as_slice());
-            append_to_item(alloc, more, &mut all[at])?;
+            append_to_item(more, &mut all[at])?;
             Ok(WithLoad {
                 items: Items::from_vec(all),
                 same,

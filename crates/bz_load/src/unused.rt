@@ -82,23 +82,24 @@ fn keep_path_and_used(names: &UsedNames, items: &mut Vec<Expr>) -> Result<(), Me
     Ok(())
 }
 
-fn keep_in_items(alloc: Global, names: &UsedNames, items: &mut Items<Expr>) -> Result<(), Memory>
+fn keep_in_items(names: &UsedNames, items: &mut Items<Expr>) -> Result<(), Memory>
     ensures { OnOk result (items.new ≡ behind_first (filter (stays_by (has_name names.now))) items.old) }
 {
+    let alloc = items.alloc();
     let mut all = mem::replace(items, Items::new(alloc)).into_vec();
     keep_path_and_used(names, &mut all)?;
     *items = Items::from_vec(all);
     Ok(())
 }
 
-fn keep_in_load(alloc: Global, names: &UsedNames, x: &mut Expr) -> Result<(), Memory>
+fn keep_in_load(names: &UsedNames, x: &mut Expr) -> Result<(), Memory>
     ensures { OnOk result (x.new ≡ on_items k.Load (behind_first (filter (stays_by (has_name names.now)))) x.old) }
 {
     match x {
         Expr::Token(_) => Ok(()),
         Expr::Form(form) => {
             if form.kind == Kind::Load {
-                keep_in_items(alloc, names, &mut form.seq.items)?;
+                keep_in_items(names, &mut form.seq.items)?;
             }
             Ok(())
         }
@@ -106,29 +107,29 @@ fn keep_in_load(alloc: Global, names: &UsedNames, x: &mut Expr) -> Result<(), Me
 }
 
 /// A load without comments of its own keeps the symbols that are to stay.
-fn keep_in_expr(alloc: Global, names: &UsedNames, x: &mut Expr) -> Result<(), Memory>
+fn keep_in_expr(names: &UsedNames, x: &mut Expr) -> Result<(), Memory>
     ensures { OnOk result (x.new ≡ used_in (has_name names.now) x.old) }
 {
     if has_own_comments(x) {
         return Ok(());
     }
-    keep_in_load(alloc, names, x)
+    keep_in_load(names, x)
 }
 
-fn keep_in_item(alloc: Global, names: &UsedNames, item: &mut Item) -> Result<(), Memory>
+fn keep_in_item(names: &UsedNames, item: &mut Item) -> Result<(), Memory>
     ensures { OnOk result (item.new ≡ alone (has_name names.now) item.old) }
 {
     match item {
         Item::Block(_) => Ok(()),
-        Item::Stmt(x) => keep_in_expr(alloc, names, x),
+        Item::Stmt(x) => keep_in_expr(names, x),
     }
 }
 
-fn keep_in_each(alloc: Global, names: &UsedNames, items: &mut Vec<Item>) -> Result<(), Memory>
+fn keep_in_each(names: &UsedNames, items: &mut Vec<Item>) -> Result<(), Memory>
     ensures { OnOk result (items.new.items ≡ map (alone (has_name names.now)) items.old.items) }
 {
     for item in items.iter_mut() {
-        keep_in_item(alloc, names, item)?;
+        keep_in_item(names, item)?;
     }
     Ok(())
 }
@@ -167,6 +168,6 @@ pub(crate) fn drop_unused(alloc: Global, items: &mut Vec<Item>) -> Result<(), Me
 {
     let names = used_names(alloc, items.as_slice())?;
     drop_emptied(&names, items);
-    keep_in_each(alloc, &names, items)?;
+    keep_in_each(&names, items)?;
     Ok(())
 }
