@@ -34,23 +34,24 @@ fn keep_others(chosen: &BTreeSet<Vec<u8>>, items: &mut Vec<Expr>)
 }
 
 /// The same for items that can grow.
-fn remove_items(alloc: Global, chosen: &BTreeSet<Vec<u8>>, items: &mut Items<Expr>)
+fn remove_items(chosen: &BTreeSet<Vec<u8>>, items: &mut Items<Expr>)
     ensures { items.new ≡ filter (λ x. not (has_chosen chosen.now x)) items.old }
 {
+    let alloc = items.alloc();
     let mut all = mem::replace(items, Items::new(alloc)).into_vec();
     keep_others(chosen, &mut all);
     *items = Items::from_vec(all);
 }
 
 /// The same of a dict; any other expression stays.
-fn remove_from(alloc: Global, chosen: &BTreeSet<Vec<u8>>, x: &mut Expr)
+fn remove_from(chosen: &BTreeSet<Vec<u8>>, x: &mut Expr)
     ensures { x.new ≡ on_items kinds.Dict (filter (λ x. not (has_chosen chosen.now x))) x.old }
 {
     match x {
         Expr::Token(_) => {}
         Expr::Form(form) => {
             if form.kind == Kind::Dict {
-                remove_items(alloc, chosen, &mut form.seq.items);
+                remove_items(chosen, &mut form.seq.items);
             }
         }
     }
@@ -75,7 +76,7 @@ fn remove_chosen(
     let Some(mut value) = take_value(alloc, name, arguments) else {
         return;
     };
-    remove_from(alloc, chosen, &mut value);
+    remove_from(chosen, &mut value);
     if has_no_items(&value) {
         remove_first(name, arguments);
         return;
