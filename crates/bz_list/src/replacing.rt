@@ -2,14 +2,14 @@
 ghost use Rattle.std.specs.Prelude.{◌≡◌, ◌⊎◌, Ok, Err, IfOk, OnOk, IfErr, map};
 ghost use Rattle.std.specs.Option.{option_map_or};
 ghost use Rattle.bz_tree.specs.declared.kind.Kind.TheVariants as kinds;
-ghost use Rattle.bz_rule.specs.Values.{first_text as first_text_of, parts_of, on_items, on_lists, on_third, with_text};
+ghost use Rattle.bz_rule.specs.Values.{on_items, on_lists, on_third, with_text};
 ghost use Rattle.bz_attribute.specs.Attributes.{is_attribute, on_first_that, on_value};
 ghost use Rattle.bz_list.specs.Changes.{in_attributes, replaced_item, replace, substituted_item, substitute};
 ghost use Rattle.bz_list.specs.Replacing.{item_changed_by, value_changed_by, other_changed_by};
 
 use bz_attribute::{
-    Refusal, body_of, first_text, is_item, is_other_attribute, set_text, set_value, string_text,
-    take_value,
+    Refusal, body_of, first_text, is_item, is_other_attribute, parts_of, place_of, set_text,
+    string_text,
 };
 use bz_items::{Items, Memory, Text};
 use bz_pattern::Pattern;
@@ -209,24 +209,20 @@ fn change_third(
     Ok(())
 }
 
-/// The same in the attribute that has this name and this value.
-fn change_in_parts(alloc: Global, change: Change<'_>, parts: &mut Items<Expr>) -> Result<(), Memory>
-    ensures { OnOk result (parts.new ≡ on_third (value_changed_by change.entry (first_text_of parts.old)) parts.old) }
-{
-    let name = Text::from_slice(alloc, first_text(parts.as_slice()))?;
-    change_third(alloc, change, name.as_slice(), parts)?;
-    Ok(())
-}
-
 /// The same of the value of a named argument; any other argument stays.
-fn change_in_argument(alloc: Global, change: Change<'_>, x: &mut Expr) -> Result<(), Memory>
-    ensures { OnOk result (x.new ≡ on_value (value_changed_by change.entry (first_text_of (parts_of x.old))) x.old) }
+fn change_in_argument(
+    alloc: Global,
+    change: Change<'_>,
+    name: &[u8],
+    x: &mut Expr,
+) -> Result<(), Memory>
+    ensures { OnOk result (x.new ≡ on_value (value_changed_by change.entry name.now) x.old) }
 {
     match x {
         Expr::Token(_) => Ok(()),
         Expr::Form(form) => {
             if form.kind == Kind::Named {
-                change_in_parts(alloc, change, &mut form.parts)?;
+                change_third(alloc, change, name, &mut form.parts)?;
             }
             Ok(())
         }
@@ -237,9 +233,11 @@ fn change_in_argument(alloc: Global, change: Change<'_>, x: &mut Expr) -> Result
 fn change_in_other(alloc: Global, change: Change<'_>, x: &mut Expr) -> Result<(), Memory>
     ensures { OnOk result (x.new ≡ other_changed_by change.entry x.old) }
 {
-    if is_other_attribute(x) {
-        change_in_argument(alloc, change, x)?;
+    if !is_other_attribute(x) {
+        return Ok(());
     }
+    let name = Text::from_slice(alloc, first_text(parts_of(x)))?;
+    change_in_argument(alloc, change, name.as_slice(), x)?;
     Ok(())
 }
 
@@ -266,11 +264,10 @@ fn change_in_named(
 ) -> Result<(), Memory>
     ensures { OnOk result (arguments.new ≡ on_first_that (is_attribute name.now) (on_value (value_changed_by change.entry name.now)) arguments.old) }
 {
-    let Some(mut value) = take_value(alloc, name, arguments) else {
+    let Some(at) = place_of(name, arguments.as_slice()) else {
         return Ok(());
     };
-    change_value(alloc, change, name, &mut value)?;
-    set_value(alloc, name, value, arguments);
+    change_in_argument(alloc, change, name, arguments.at_mut(at))?;
     Ok(())
 }
 

@@ -1,23 +1,22 @@
-use Rattle.std.proofs.Common.{◌≡◌, sym, ap, ◌∙◌, rules}
-use Rattle.std.specs.Prelude.{Some, None}
-use Rattle.bz_value.specs.declared.value.Expr.{Expr}
-use Rattle.bz_rule.specs.Rules.{attribute}
-use Rattle.bz_attribute.specs.Attributes.{on_value, with_value}
+use Rattle.std.proofs.Common.{sym, ap, ◌∙◌, slice_set}
+use Rattle.std.specs.List.{position}
+use Rattle.std.proofs.lemmas.Option.{get_or_from_slice_get}
+use Rattle.bz_attribute.specs.Attributes.{is_attribute, on_value}
+use Rattle.bz_attribute.proofs.ArgumentPlaces.{is_first, none_passes, changed_at, unchanged}
 use Rattle.bz_list.specs.Replacing.{value_changed_by}
-use Rattle.bz_attribute.proofs.ArgumentValues.{value_changed, value_absent}
 use Rattle.bz_list.proofs.replacing.change_in_named.Goals as goal
 
 pub returns-in_default : goal.returns-in_default
 returns-in_default c =
-    let none : attribute c.args.name.now c.args.arguments.now ≡ None = search rules in
-    let same : c.take_value.new.arguments ≡ c.args.arguments.now = search rules in
-    same ∙ sym (value_absent c.args.name.now (on_value (value_changed_by c.args.change c.args.name.now)) c.args.arguments.now none)
+    let test = is_attribute c.args.name.now in
+    let xs = c.args.arguments.now in
+    sym (unchanged test (on_value (value_changed_by c.args.change c.args.name.now)) xs (none_passes test xs (c.in_default.ensures ∙ ap (position test) c.as_slice.ensures)))
 
 pub returns : goal.returns
 returns c =
-    let name = c.args.name.now in
-    let own : attribute name c.args.arguments.now ≡ Some c.in-Some.value = search rules in
-    c.set_value.ensures
-    ∙ (c.in-Some.ensures.place c.change_value.new.value
-    ∙ (ap (λ (value : Expr). with_value name value c.args.arguments.now) c.in_ok-change_value.ensures
-    ∙ sym (value_changed name (value_changed_by c.args.change name) c.in-Some.value c.args.arguments.now own)))
+    let test = is_attribute c.args.name.now in
+    let change = on_value (value_changed_by c.args.change c.args.name.now) in
+    let xs = c.args.arguments.now in
+    let x = c.at_mut.result.now in
+    ap (slice_set xs c.in-Some.at) (c.in_ok-change_in_argument.ensures ∙ ap change (sym (get_or_from_slice_get xs c.in-Some.at x x c.at_mut.ensures.value)))
+    ∙ sym (changed_at test change xs c.in-Some.at x (is_first test xs c.in-Some.at x (c.in-Some.ensures ∙ ap (position test) c.as_slice.ensures)))
