@@ -1,5 +1,5 @@
 -- What each command reads in its words is as the table says.
-use Rattle.std.proofs.Common.{◌≡◌, Bool, true, false, List, [], ◌∷◌, ◌&&◌, not, Option, Some, None, Ok, Err, refl, bytes_eq, option_map}
+use Rattle.std.proofs.Common.{◌≡◌, ℕ, Bool, true, false, List, [], ◌∷◌, ◌&&◌, not, get_or, Option, Some, None, Ok, Err, refl, option_map}
 use Rattle.std.specs.Prelude.{if◌then◌else◌}
 use Rattle.std.specs.Option.{ok_or, option_map_or}
 use Rattle.bz_items.specs.Characters.{Bytes}
@@ -22,7 +22,7 @@ use Rattle.bz_words.specs.declared.command.DictOperation.TheVariants as wd
 use Rattle.bz_words.specs.declared.command.LoadOperation.TheVariants as wl
 use Rattle.bz_words.specs.declared.command.CommentOperation.TheVariants as wc
 use Rattle.bz_words.specs.declared.fault.CommandFault.TheVariants.{Arguments}
-use Rattle.bz_command.specs.Table.{CommandRow, IsAsListed, ReadsAsListed, CommandsAreListed}
+use Rattle.bz_command.specs.Table.{CommandRow, command_rows, IsAsListed, ReadsAsListed, CommandsAreListed}
 
 -- ---- a command, where its words have the form that it asks for
 
@@ -166,28 +166,32 @@ comment_listed row h words = said_listed row h (c.split_last words)
 
 -- ---- the table
 
+-- a row of the table by its place
+abbrev row_at : ℕ → CommandRow
+row_at place = get_or command_rows place (record { name = []; subjects = []; is_printing = false; is_on_rules = false; is_keeping = false })
+
 -- All of a row is computed.
 pub commands_are_listed : CommandsAreListed
 commands_are_listed =
-    (refl, new_listed _ (λ kind name place. (refl, refl, refl, refl)),
-    (refl, delete_listed _ (refl, refl, refl, refl),
-    (refl, set_listed _ (λ kind. (refl, refl, refl, refl)) (λ attribute values. (refl, refl, refl, refl)),
-    (refl, set_if_absent_listed _ (λ attribute values. (refl, refl, refl, refl)),
-    (refl, add_listed _ (λ attribute values. (refl, refl, refl, refl)),
-    (refl, remove_listed _ (λ attributes. (refl, refl, refl, refl)) (λ attribute values. (refl, refl, refl, refl)),
-    (refl, replace_listed _ (λ attributes old new. (refl, refl, refl, refl)),
-    (refl, substitute_listed _ (λ attributes pattern template. (refl, refl, refl, refl)),
-    (refl, move_listed _ (λ from to values. (refl, refl, refl, refl)),
-    (refl, rename_listed _ (λ from to. (refl, refl, refl, refl)),
-    (refl, copy_listed _ (λ attribute rule. (refl, refl, refl, refl)),
-    (refl, copy_no_overwrite_listed _ (λ attribute rule. (refl, refl, refl, refl)),
-    (refl, entries_listed _ (λ attribute entries. w.Dict (wd.Add attribute entries)) (λ attribute entries. (refl, refl, refl, refl)),
-    (refl, entries_listed _ (λ attribute entries. w.Dict (wd.Set attribute entries)) (λ attribute entries. (refl, refl, refl, refl)),
-    (refl, dict_remove_listed _ (λ attribute keys. (refl, refl, refl, refl)),
-    (refl, new_load_listed _ (λ path symbols. (refl, refl, refl, refl)),
-    (refl, comment_listed _ (λ host text. (refl, refl, refl, refl)),
-    (refl, (λ words. made_listed _ (λ host. w.Comment (wc.Print host)) (c.host_of words) (λ host. (refl, refl, refl, refl))),
-    (refl, (λ words. made_listed _ (λ host. w.Comment (wc.Remove host)) (c.host_of words) (λ host. (refl, refl, refl, refl))),
-    (refl, (λ words. made_listed _ (λ fixes. w.Load (wl.Fix fixes)) (c.fixes_of words) (λ fixes. (refl, refl, refl, refl))),
-    (refl, (λ words. made_listed _ (λ fields. w.Print fields) (c.fields_of words) (λ fields. (refl, refl, refl, refl))),
+    (refl, new_listed (row_at 0) (λ kind name place. (refl, refl, refl, refl)),
+    (refl, delete_listed (row_at 1) (refl, refl, refl, refl),
+    (refl, set_listed (row_at 2) (λ kind. (refl, refl, refl, refl)) (λ attribute values. (refl, refl, refl, refl)),
+    (refl, set_if_absent_listed (row_at 3) (λ attribute values. (refl, refl, refl, refl)),
+    (refl, add_listed (row_at 4) (λ attribute values. (refl, refl, refl, refl)),
+    (refl, remove_listed (row_at 5) (λ attributes. (refl, refl, refl, refl)) (λ attribute values. (refl, refl, refl, refl)),
+    (refl, replace_listed (row_at 6) (λ attributes old new. (refl, refl, refl, refl)),
+    (refl, substitute_listed (row_at 7) (λ attributes pattern template. (refl, refl, refl, refl)),
+    (refl, move_listed (row_at 8) (λ from to values. (refl, refl, refl, refl)),
+    (refl, rename_listed (row_at 9) (λ from to. (refl, refl, refl, refl)),
+    (refl, copy_listed (row_at 10) (λ attribute rule. (refl, refl, refl, refl)),
+    (refl, copy_no_overwrite_listed (row_at 11) (λ attribute rule. (refl, refl, refl, refl)),
+    (refl, entries_listed (row_at 12) (λ attribute entries. w.Dict (wd.Add attribute entries)) (λ attribute entries. (refl, refl, refl, refl)),
+    (refl, entries_listed (row_at 13) (λ attribute entries. w.Dict (wd.Set attribute entries)) (λ attribute entries. (refl, refl, refl, refl)),
+    (refl, dict_remove_listed (row_at 14) (λ attribute keys. (refl, refl, refl, refl)),
+    (refl, new_load_listed (row_at 15) (λ path symbols. (refl, refl, refl, refl)),
+    (refl, comment_listed (row_at 16) (λ host text. (refl, refl, refl, refl)),
+    (refl, (λ words. made_listed (row_at 17) (λ host. w.Comment (wc.Print host)) (c.host_of words) (λ host. (refl, refl, refl, refl))),
+    (refl, (λ words. made_listed (row_at 18) (λ host. w.Comment (wc.Remove host)) (c.host_of words) (λ host. (refl, refl, refl, refl))),
+    (refl, (λ words. made_listed (row_at 19) (λ fixes. w.Load (wl.Fix fixes)) (c.fixes_of words) (λ fixes. (refl, refl, refl, refl))),
+    (refl, (λ words. made_listed (row_at 20) (λ fields. w.Print fields) (c.fields_of words) (λ fields. (refl, refl, refl, refl))),
     tt)))))))))))))))))))))
