@@ -15,7 +15,6 @@ use bz_value::Expr;
 use bz_words::Entry;
 use std::alloc::Global;
 use std::collections::BTreeMap;
-use std::mem;
 
 /// A new entry goes last.
 fn push_entry(
@@ -24,11 +23,11 @@ fn push_entry(
     name: &[u8],
     entry: &Entry,
     places: &mut BTreeMap<Vec<u8>, usize>,
-    items: &mut Vec<Expr>,
+    items: &mut Items<Expr>,
 ) -> Result<(), Memory>
-    requires { AreIndexed places.old items.old.items }
-    ensures items { OnOk result (items.new.items ≡ items.old.items ++ d.entry_made current.now name.now entry.now ∷ []) }
-    ensures places { OnOk result (AreIndexed places.new items.new.items) }
+    requires { AreIndexed places.old items.old }
+    ensures items { OnOk result (items.new ≡ items.old ++ d.entry_made current.now name.now entry.now ∷ []) }
+    ensures places { OnOk result (AreIndexed places.new items.new) }
 {
     let x = entry_made(alloc, current, name, entry)?;
     if let Err(fault) = put_place(alloc, &x, items.len(), places) {
@@ -63,11 +62,11 @@ fn put_entry(
     name: &[u8],
     entry: &Entry,
     places: &mut BTreeMap<Vec<u8>, usize>,
-    items: &mut Vec<Expr>,
+    items: &mut Items<Expr>,
 ) -> Result<(), Memory>
-    requires { AreIndexed places.old items.old.items }
-    ensures items { OnOk result (items.new.items ≡ entry_put change current.now name.now entry.now items.old.items) }
-    ensures places { OnOk result (AreIndexed places.new items.new.items) }
+    requires { AreIndexed places.old items.old }
+    ensures items { OnOk result (items.new ≡ entry_put change current.now name.now entry.now items.old) }
+    ensures places { OnOk result (AreIndexed places.new items.new) }
 {
     let Some(at) = place_at(places, entry.key.as_slice()) else {
         push_entry(alloc, current, name, entry, places, items)?;
@@ -76,7 +75,7 @@ fn put_entry(
     match change {
         Change::Add => Ok(()),
         Change::Set => {
-            set_entry(alloc, current, name, entry, &mut items[at])?;
+            set_entry(alloc, current, name, entry, items.at_mut(at))?;
             Ok(())
         }
     }
@@ -89,31 +88,14 @@ fn put_entries(
     current: &[u8],
     name: &[u8],
     entries: &[Entry],
-    items: &mut Vec<Expr>,
+    items: &mut Items<Expr>,
 ) -> Result<(), Memory>
-    ensures { OnOk result (items.new.items ≡ entries_put change current.now name.now entries.now items.old.items) }
+    ensures { OnOk result (items.new ≡ entries_put change current.now name.now entries.now items.old) }
 {
     let mut places = places_of(alloc, items.as_slice())?;
     for entry in entries {
         put_entry(alloc, change, current, name, entry, &mut places, items)?;
     }
-    Ok(())
-}
-
-/// The same for items that can grow.
-fn put_into_items(
-    alloc: Global,
-    change: Change,
-    current: &[u8],
-    name: &[u8],
-    entries: &[Entry],
-    items: &mut Items<Expr>,
-) -> Result<(), Memory>
-    ensures { OnOk result (items.new ≡ entries_put change current.now name.now entries.now items.old) }
-{
-    let mut all = mem::replace(items, Items::new(alloc)).into_vec();
-    put_entries(alloc, change, current, name, entries, &mut all)?;
-    *items = Items::from_vec(all);
     Ok(())
 }
 
@@ -132,7 +114,7 @@ fn put_into_dict(
         Expr::Token(_) => Ok(()),
         Expr::Form(form) => {
             if form.kind == Kind::Dict {
-                put_into_items(alloc, change, current, name, entries, &mut form.seq.items)?;
+                put_entries(alloc, change, current, name, entries, &mut form.seq.items)?;
             }
             Ok(())
         }
@@ -149,9 +131,9 @@ fn new_dict(
 ) -> Result<Expr, Memory>
     ensures { IfOk result (λ dict. dict ≡ d.dict_of (entries_put change current.now name.now entries.now [])) }
 {
-    let mut items = Vec::new(alloc);
+    let mut items = Items::new(alloc);
     put_entries(alloc, change, current, name, entries, &mut items)?;
-    Ok(dict_of(alloc, Items::from_vec(items)))
+    Ok(dict_of(alloc, items))
 }
 
 /// A value with the entries, where it is a dict.
