@@ -1,7 +1,7 @@
 -- Statements, suites and headers as the reader's functions read them.
 use Rattle.std.proofs.Common.{◌≡◌, ℕ, zero, suc, ◌+◌, ◌-◌, ◌≤◌, max, Bool, true, false, cond, ◌&&◌, List, [], ◌∷◌, ◌++◌, length, take, drop, Option, Some, None, Result, Ok, Err, refl, sym, ap, ◌∙◌, append_assoc, arith, codes, bytes_eq}
 use Rattle.std.specs.Result.{IfOk}
-use Rattle.bz_parse.specs.declared.token.Halt.{Halt}
+use Rattle.bz_states.specs.declared.token.ParseHalt.{ParseHalt}
 use Rattle.std.proofs.lemmas.Bool.{and_parts, and_from, cond-true, cond-false, both_ways}
 use Rattle.std.proofs.lemmas.Option.{same_Some, none-some}
 use Rattle.std.specs.Prelude.{IsTrue, ◌↔◌}
@@ -13,7 +13,7 @@ use Rattle.bz_tree.specs.declared.kind.Kind.TheVariants as k
 use Rattle.bz_tree.specs.declared.tree.Node.{Node}
 use Rattle.bz_tree.specs.declared.tree.Part.{Part}
 use Rattle.bz_tree.specs.declared.tree.Part.TheVariants as v
-use Rattle.bz_parse.specs.declared.state.State.{State}
+use Rattle.bz_states.specs.declared.state.NodeState.{NodeState}
 use Rattle.bz_parse.specs.declared.indented.Header.{Header}
 use Rattle.bz_parse.specs.declared.indented.Header.TheVariants as h
 use Rattle.bz_tree.specs.Spell.{depth_part, deepest}
@@ -21,8 +21,9 @@ use Rattle.bz_tree.specs.Shapes.{Terminal, is_one_of, Sort, line, stmt, end, new
 use Rattle.bz_tree.specs.Indents.{first_indent}
 use Rattle.bz_tree.specs.Reading.{◌>>=◌, Plan, starts_with, starts, put, run, wrap, node, token_of, reading}
 use Rattle.bz_tree.specs.Suites.{test_header, stands_at, begins_at, is_deeper, put_all, alone, while_next, with_suite, branches_of, statement, suite_of, if_all, read_file}
-use Rattle.bz_parse.specs.Words.{token_at, part_at, found_by, Pushes}
-use Rattle.bz_parse.specs.States.{plan_at, found_at}
+use Rattle.bz_states.specs.Tokens.{token_at}
+use Rattle.bz_parse.specs.Words.{part_at, found_by, Pushes, found_from}
+use Rattle.bz_states.specs.States.{plan_at}
 use Rattle.bz_parse.specs.Rows.{PutsAll, plan_of_header, header_at, owner_at, suite_at, statement_at, statements_at, branches_at, if_at}
 use Rattle.bz_parse.proofs.Deepest.{deepest_push, made_depth}
 use Rattle.bz_parse.proofs.Climbs.{part_depth}
@@ -35,8 +36,8 @@ use Rattle.bz_parse.proofs.Deepest.{leaf_depth}
 
 -- ---- headers
 
-pub header_begins : (d : ℕ) (header : Header) (state : State) (from : ℕ) (ps : List Part) (ts : List Leaf) → from ≡ length ps → plan_at state ≡ plan_of_header header → found_at d (drop from ps) state ts ≡ found_by d [] (plan_of_header header) ts
-unfolding found_at
+pub header_begins : (d : ℕ) (header : Header) (state : NodeState) (from : ℕ) (ps : List Part) (ts : List Leaf) → from ≡ length ps → plan_at state ≡ plan_of_header header → found_from d (drop from ps) state ts ≡ found_by d [] (plan_of_header header) ts
+unfolding found_from
 header_begins d header state from ps ts e p = ap (λ (qs : List Part). found_by d qs (plan_at state) ts) (begins_last from ps e).0 ∙ ap (λ (z : Plan). found_by d [] z ts) p
 
 -- the parts from a place on
@@ -159,7 +160,7 @@ pub put_nothing : (o : Option (List Part × List Leaf)) → put_all [] o ≡ o
 put_nothing None = refl
 put_nothing (Some y) = refl
 
-pub part_within : (result : Result ℕ Halt) (d : ℕ) (sort : Sort) (ts : List Leaf) (front all : List Part) (new : List Leaf) → IfOk result (λ deep. Pushes (part_at d sort ts) front all new deep) → IfOk result (λ deep. deep ≤ d)
+pub part_within : (result : Result ℕ ParseHalt) (d : ℕ) (sort : Sort) (ts : List Leaf) (front all : List Part) (new : List Leaf) → IfOk result (λ deep. Pushes (part_at d sort ts) front all new deep) → IfOk result (λ deep. deep ≤ d)
 part_within (Ok deep) d sort ts front all new w = omega (arith, w.3, part_depth d sort ts new w.0 w.1)
 part_within (Err e) d sort ts front all new w = tt
 

@@ -3,33 +3,35 @@ use Rattle.std.proofs.Common.{◌≡◌, ℕ, zero, suc, ◌≤◌, ◌<◌, ◌
 use Rattle.std.proofs.lemmas.Bool.{cases_Bool, cond-true, cond-false, le-leb}
 use Rattle.std.specs.Result.{IsErrAnd}
 use Rattle.std.proofs.lemmas.Option.{same_Some}
-use Rattle.bz_parse.specs.declared.token.Halt.{Halt}
+use Rattle.bz_states.specs.declared.token.ParseHalt.{ParseHalt}
 use Rattle.bz_lex.specs.declared.leaf.Leaf.{Leaf}
 use Rattle.bz_tree.specs.declared.kind.Kind.{Kind}
 use Rattle.bz_tree.specs.declared.kind.Kind.TheVariants as k
 use Rattle.bz_tree.specs.declared.tree.Part.{Part, items-the_row-Part}
 use Rattle.bz_tree.specs.declared.tree.Part as p
 use Rattle.bz_tree.specs.Spell.{depth_part}
-use Rattle.bz_parse.specs.declared.token.Token.{Token}
-use Rattle.bz_parse.specs.declared.token.Token.TheVariants as t
-use Rattle.bz_parse.specs.declared.state.Sort.{Sort as Place}
-use Rattle.bz_parse.specs.declared.state.Sort.TheVariants as q
-use Rattle.bz_parse.specs.declared.state.Rung.{Rung}
-use Rattle.bz_parse.specs.declared.state.Rung.TheVariants as g
-use Rattle.bz_parse.specs.declared.state.State.{State}
-use Rattle.bz_parse.specs.declared.state.State.TheVariants as s
-use Rattle.bz_parse.specs.declared.state.Rest.TheVariants as in_rest
-use Rattle.bz_parse.specs.declared.state.ItemsAt.TheVariants as items_at
-use Rattle.bz_parse.specs.declared.state.Items.TheVariants as items_row
-use Rattle.bz_parse.specs.declared.state.StarredAt.TheVariants as starred_at
+use Rattle.bz_states.specs.declared.token.TokenSet.{TokenSet}
+use Rattle.bz_states.specs.declared.token.TokenSet.TheVariants as t
+use Rattle.bz_states.specs.declared.state.PartSort.{PartSort as Place}
+use Rattle.bz_states.specs.declared.state.PartSort.TheVariants as q
+use Rattle.bz_states.specs.declared.state.Rung.{Rung}
+use Rattle.bz_states.specs.declared.state.Rung.TheVariants as g
+use Rattle.bz_states.specs.declared.state.NodeState.{NodeState}
+use Rattle.bz_states.specs.declared.state.NodeState.TheVariants as s
+use Rattle.bz_states.specs.declared.state.Tail.TheVariants as in_rest
+use Rattle.bz_states.specs.declared.state.ItemsAt.TheVariants as items_at
+use Rattle.bz_states.specs.declared.state.ListedItems.TheVariants as items_row
+use Rattle.bz_states.specs.declared.state.StarredAt.TheVariants as starred_at
 use Rattle.bz_parse.specs.declared.indented.Header.{Header}
-use Rattle.bz_parse.specs.declared.state.RoundAt.TheVariants as round_at
-use Rattle.bz_parse.specs.declared.state.SuffixAt.TheVariants as suffix_at
-use Rattle.bz_parse.specs.declared.state.StatementAt.TheVariants as statement_at
+use Rattle.bz_states.specs.declared.state.RoundAt.TheVariants as round_at
+use Rattle.bz_states.specs.declared.state.SuffixAt.TheVariants as suffix_at
+use Rattle.bz_states.specs.declared.state.StatementAt.TheVariants as statement_at
 use Rattle.bz_tree.specs.Shapes.{Terminal, has_token, Sort, level, argument, entry, clause, first_clause, loaded, small, line, param, Shape, done, tok, list, starred, bzl_shape, name, simple, string, equals, stars, products, sums, shifts, comma, open_round, open_square, open_curly}
 use Rattle.bz_tree.specs.Reading.{◌>>=◌, Read, starts_with, first, put, run, finish, first_of, Found, as_kind, put_found, follow, node, wrap, wrap_found, infix_at, fits_in, suffixes, climb, named_tail, param_tail, token_of, reading, round, square, curly, suffix, clause_plan, small_plan}
-use Rattle.bz_parse.specs.Words.{terminals_of, token_at, part_at, with_found, found_by, Halts, Fails}
-use Rattle.bz_parse.specs.States.{sort_of, compare_tail, cond_tail, found_at, begun_at, level_at, rung_of, climbed, suffixes_at, atom_at, argument_at, param_at}
+use Rattle.bz_states.specs.Tokens.{terminals_of, token_at, Halts, Fails}
+use Rattle.bz_parse.specs.Words.{part_at, with_found, found_by, found_from}
+use Rattle.bz_states.specs.States.{sort_of, compare_tail, cond_tail, rung_of}
+use Rattle.bz_parse.specs.Ranks.{begun_at, level_at, climbed, suffixes_at, atom_at, argument_at, param_at}
 use Rattle.bz_parse.specs.Rows.{plan_of_header, header_at, shape_of_header}
 use Rattle.bz_tree.proofs.Nested.{items_of_row}
 use Rattle.bz_tree.proofs.Terminals.{full_front}
@@ -61,10 +63,10 @@ found_one a (Some x) = refl
 
 -- ---- results handed on
 
-pub row_same : (d : ℕ) (state : State) (ts : List Leaf) (ps ps' : List Part) → ps ≡ ps' → found_at d ps' state ts ≡ found_at d ps state ts
-row_same d state ts ps ps' e = ap (λ (z : List Part). found_at d z state ts) (sym e)
+pub row_same : (d : ℕ) (state : NodeState) (ts : List Leaf) (ps ps' : List Part) → ps ≡ ps' → found_from d ps' state ts ≡ found_from d ps state ts
+row_same d state ts ps ps' e = ap (λ (z : List Part). found_from d z state ts) (sym e)
 
-pub handed_on : {X Y Y' : Type 0} (e : Halt) (result : Result X Halt) (o : Option Y) (all : Option Y') → IsErrAnd result (λ f. f ≡ e) → Halts e o → (o ≡ None → all ≡ None) → Fails result all
+pub handed_on : {X Y Y' : Type 0} (e : ParseHalt) (result : Result X ParseHalt) (o : Option Y) (all : Option Y') → IsErrAnd result (λ f. f ≡ e) → Halts e o → (o ≡ None → all ≡ None) → Fails result all
 handed_on e (Ok x) o all is w f = tt
 handed_on e (Err g) o all is w f = let is' : g ≡ e = is in rw is' (halts e o all w f)
 
@@ -78,28 +80,28 @@ pub argument_is : (d : ℕ) (ts : List Leaf) → part_at (suc d) argument ts ≡
 unfolding part_at argument_at
 argument_is d ts = refl
 
-pub entry_is : (d : ℕ) (ts : List Leaf) → part_at (suc d) entry ts ≡ found_at d [] s.Entry ts
-unfolding part_at found_at found_by
+pub entry_is : (d : ℕ) (ts : List Leaf) → part_at (suc d) entry ts ≡ found_from d [] s.Entry ts
+unfolding part_at found_from found_by
 entry_is d ts = wrapped k.Entry (run (reading d) (bzl_shape k.Entry) ts)
 
-pub clause_is : (d : ℕ) (ts : List Leaf) → part_at (suc d) clause ts ≡ found_at d [] s.Clause ts
-unfolding part_at found_at found_by
+pub clause_is : (d : ℕ) (ts : List Leaf) → part_at (suc d) clause ts ≡ found_from d [] s.Clause ts
+unfolding part_at found_from found_by
 clause_is d ts = found_plain (follow (reading d) clause_plan ts)
 
-pub first_clause_is : (d : ℕ) (ts : List Leaf) → part_at (suc d) first_clause ts ≡ found_at d [] s.For ts
-unfolding part_at found_at found_by
+pub first_clause_is : (d : ℕ) (ts : List Leaf) → part_at (suc d) first_clause ts ≡ found_from d [] s.For ts
+unfolding part_at found_from found_by
 first_clause_is d ts = wrapped k.For (run (reading d) (bzl_shape k.For) ts)
 
-pub small_is : (d : ℕ) (ts : List Leaf) → part_at (suc d) small ts ≡ found_at d [] (s.Statement statement_at.Begin) ts
-unfolding part_at found_at found_by
+pub small_is : (d : ℕ) (ts : List Leaf) → part_at (suc d) small ts ≡ found_from d [] (s.Statement statement_at.Begin) ts
+unfolding part_at found_from found_by
 small_is d ts = found_plain (follow (reading d) small_plan ts)
 
-pub line_is : (d : ℕ) (ts : List Leaf) → part_at (suc d) line ts ≡ found_at d [] (s.Items items_row.Statements items_at.Part) ts
-unfolding part_at found_at found_by
+pub line_is : (d : ℕ) (ts : List Leaf) → part_at (suc d) line ts ≡ found_from d [] (s.Items items_row.Statements items_at.Part) ts
+unfolding part_at found_from found_by
 line_is d ts = wrapped k.Line (run (reading d) (bzl_shape k.Line) ts)
 
-pub alias_is : (d : ℕ) (ts : List Leaf) → starts_with name ts ≡ true → part_at (suc d) loaded ts ≡ found_at d [] s.Alias ts
-unfolding part_at found_at found_by
+pub alias_is : (d : ℕ) (ts : List Leaf) → starts_with name ts ≡ true → part_at (suc d) loaded ts ≡ found_from d [] s.Alias ts
+unfolding part_at found_from found_by
 alias_is d ts h = cond-true (starts_with name ts) _ _ h ∙ wrapped k.Alias (run (reading d) (bzl_shape k.Alias) ts)
 
 pub loaded_is : (d : ℕ) (ts : List Leaf) → starts_with name ts ≡ false → part_at (suc d) loaded ts ≡ token_at string ts
@@ -140,7 +142,7 @@ abbrev tail_of : ℕ → List Terminal → Shape
 tail_of n operators = tok operators (list (level n) operators false done)
 
 pub level_step : (d n : ℕ) (ts : List Leaf) → level_at d (suc n) ts ≡ climbed d (rung_of n) (level_at d n) ts
-unfolding level_at begun_at found_at
+unfolding level_at begun_at found_from
 level_step d zero ts = prefix_is d k.Unary (bzl_shape k.Unary) 0 ts
 level_step d (suc zero) ts = infix_is d k.Product (tail_of 1 products) 1 ts
 level_step d (suc (suc zero)) ts = infix_is d k.Sum (tail_of 2 sums) 2 ts
@@ -164,24 +166,24 @@ module _ (d n : ℕ) (ts : List Leaf) (h : n ≡ 0 → ⊥) where
   pub level_same : g.Same ≡ rung_of (n - 1) → level_at d n ts ≡ level_at d (n - 1) ts
   level_same e = climb_by g.Same e
 
-  pub level_prefix : (token : Token) (state : State) → g.Prefix token state ≡ rung_of (n - 1) → starts_with (terminals_of token) ts ≡ true → level_at d n ts ≡ found_at d [] state ts
+  pub level_prefix : (token : TokenSet) (state : NodeState) → g.Prefix token state ≡ rung_of (n - 1) → starts_with (terminals_of token) ts ≡ true → level_at d n ts ≡ found_from d [] state ts
   level_prefix token state e b = climb_by (g.Prefix token state) e ∙ cond-true (starts_with (terminals_of token) ts) _ _ b
 
-  pub level_other : (token : Token) (state : State) → g.Prefix token state ≡ rung_of (n - 1) → starts_with (terminals_of token) ts ≡ false → level_at d n ts ≡ level_at d (n - 1) ts
+  pub level_other : (token : TokenSet) (state : NodeState) → g.Prefix token state ≡ rung_of (n - 1) → starts_with (terminals_of token) ts ≡ false → level_at d n ts ≡ level_at d (n - 1) ts
   level_other token state e b = climb_by (g.Prefix token state) e ∙ cond-false (starts_with (terminals_of token) ts) _ _ b
 
-  pub level_none : (token : Token) (state : State) → g.Infix token state ≡ rung_of (n - 1) → level_at d (n - 1) ts ≡ None → level_at d n ts ≡ None
+  pub level_none : (token : TokenSet) (state : NodeState) → g.Infix token state ≡ rung_of (n - 1) → level_at d (n - 1) ts ≡ None → level_at d n ts ≡ None
   level_none token state e b = climb_by (g.Infix token state) e ∙ ap (λ (o : Option (Part × List Leaf)). o >>= λ a. begun_at d token state a.0 a.1) b
 
-  pub level_begun : (token : Token) (state : State) (a : Part) (rest : List Leaf) → g.Infix token state ≡ rung_of (n - 1) → level_at d (n - 1) ts ≡ Some (a, rest) → level_at d n ts ≡ begun_at d token state a rest
+  pub level_begun : (token : TokenSet) (state : NodeState) (a : Part) (rest : List Leaf) → g.Infix token state ≡ rung_of (n - 1) → level_at d (n - 1) ts ≡ Some (a, rest) → level_at d n ts ≡ begun_at d token state a rest
   level_begun token state a rest e b = climb_by (g.Infix token state) e ∙ ap (λ (o : Option (Part × List Leaf)). o >>= λ a. begun_at d token state a.0 a.1) b
 
-module _ (d : ℕ) (token : Token) (state : State) (a : Part) (ts : List Leaf) where
+module _ (d : ℕ) (token : TokenSet) (state : NodeState) (a : Part) (ts : List Leaf) where
   pub begun_stays : starts_with (terminals_of token) ts ≡ false → begun_at d token state a ts ≡ Some (a, ts)
   unfolding begun_at
   begun_stays h = cond-false (starts_with (terminals_of token) ts) _ _ h
 
-  pub begun_goes : starts_with (terminals_of token) ts ≡ true → fits_in d a ≡ true → begun_at d token state a ts ≡ found_at d (a ∷ []) state ts
+  pub begun_goes : starts_with (terminals_of token) ts ≡ true → fits_in d a ≡ true → begun_at d token state a ts ≡ found_from d (a ∷ []) state ts
   unfolding begun_at
   begun_goes h f = cond-true (starts_with (terminals_of token) ts) _ _ h ∙ cond-true (fits_in d a) _ _ f
 
@@ -192,16 +194,16 @@ module _ (d : ℕ) (token : Token) (state : State) (a : Part) (ts : List Leaf) w
 -- ---- atoms
 
 module _ (d : ℕ) (ts : List Leaf) where
-  pub atom_round : starts_with open_round ts ≡ true → atom_at d ts ≡ found_at d [] (s.Round round_at.Open) ts
-  unfolding atom_at found_at found_by
+  pub atom_round : starts_with open_round ts ≡ true → atom_at d ts ≡ found_from d [] (s.Round round_at.Open) ts
+  unfolding atom_at found_from found_by
   atom_round h = cond-true (starts_with open_round ts) _ _ h ∙ found_plain (follow (reading d) round ts)
 
-  pub atom_square : starts_with open_round ts ≡ false → starts_with open_square ts ≡ true → atom_at d ts ≡ found_at d [] s.Square ts
-  unfolding atom_at found_at found_by
+  pub atom_square : starts_with open_round ts ≡ false → starts_with open_square ts ≡ true → atom_at d ts ≡ found_from d [] s.Square ts
+  unfolding atom_at found_from found_by
   atom_square g h = cond-false (starts_with open_round ts) _ _ g ∙ cond-true (starts_with open_square ts) _ _ h ∙ found_plain (follow (reading d) square ts)
 
-  pub atom_curly : starts_with open_round ts ≡ false → starts_with open_square ts ≡ false → starts_with open_curly ts ≡ true → atom_at d ts ≡ found_at d [] s.Curly ts
-  unfolding atom_at found_at found_by
+  pub atom_curly : starts_with open_round ts ≡ false → starts_with open_square ts ≡ false → starts_with open_curly ts ≡ true → atom_at d ts ≡ found_from d [] s.Curly ts
+  unfolding atom_at found_from found_by
   atom_curly f g h = cond-false (starts_with open_round ts) _ _ f ∙ cond-false (starts_with open_square ts) _ _ g ∙ cond-true (starts_with open_curly ts) _ _ h ∙ found_plain (follow (reading d) curly ts)
 
   pub atom_leaf : starts_with open_round ts ≡ false → starts_with open_square ts ≡ false → starts_with open_curly ts ≡ false → atom_at d ts ≡ token_at simple ts
@@ -242,8 +244,8 @@ suffixes_same d (suc n) (suc m) a ts g h =
     (bind_same (suffixed d a ts) (λ x. suffixes n d (reading d) x.0 x.1) (λ x. suffixes m d (reading d) x.0 x.1)
     (λ x e. suffixes_same d n m x.0 x.1 (omega (arith, suffixed_takes d a ts x e)) (omega (arith, suffixed_takes d a ts x e))))
 
-suffix_is : (d : ℕ) (a : Part) (ts : List Leaf) → found_at d (a ∷ []) (s.Suffix suffix_at.Begin) ts ≡ suffixed d a ts
-unfolding found_at found_by
+suffix_is : (d : ℕ) (a : Part) (ts : List Leaf) → found_from d (a ∷ []) (s.Suffix suffix_at.Begin) ts ≡ suffixed d a ts
+unfolding found_from found_by
 suffix_is d a ts = sym (found_one a (follow (reading d) suffix ts))
 
 suffix_step : (d : ℕ) (a : Part) (ts : List Leaf) → suffixes_at d a ts ≡ cond (starts_with (first_of suffix) ts) (cond (fits_in d a) (suffixed d a ts >>= λ x. suffixes_at d x.0 x.1) None) (Some (a, ts))
@@ -261,30 +263,30 @@ module _ (d : ℕ) (a : Part) (ts : List Leaf) where
   pub suffix_unfit : starts_with (terminals_of t.Suffixes) ts ≡ true → cond (fits_in d a) (Some a) None ≡ None → suffixes_at d a ts ≡ None
   suffix_unfit h f = suffix_step d a ts ∙ cond-true (starts_with (first_of suffix) ts) _ _ h ∙ unfit (fits_in d a) a _ f
 
-  suffix_reads : starts_with (terminals_of t.Suffixes) ts ≡ true → fits_in d a ≡ true → suffixes_at d a ts ≡ (found_at d (a ∷ []) (s.Suffix suffix_at.Begin) ts >>= λ x. suffixes_at d x.0 x.1)
+  suffix_reads : starts_with (terminals_of t.Suffixes) ts ≡ true → fits_in d a ≡ true → suffixes_at d a ts ≡ (found_from d (a ∷ []) (s.Suffix suffix_at.Begin) ts >>= λ x. suffixes_at d x.0 x.1)
   suffix_reads h f = suffix_step d a ts ∙ cond-true (starts_with (first_of suffix) ts) _ _ h ∙ cond-true (fits_in d a) _ _ f ∙ ap (λ (o : Option (Part × List Leaf)). o >>= λ x. suffixes_at d x.0 x.1) (sym (suffix_is d a ts))
 
-  pub suffix_goes : (x : Part) (rest : List Leaf) → starts_with (terminals_of t.Suffixes) ts ≡ true → fits_in d a ≡ true → found_at d (a ∷ []) (s.Suffix suffix_at.Begin) ts ≡ Some (x, rest) → suffixes_at d x rest ≡ suffixes_at d a ts
+  pub suffix_goes : (x : Part) (rest : List Leaf) → starts_with (terminals_of t.Suffixes) ts ≡ true → fits_in d a ≡ true → found_from d (a ∷ []) (s.Suffix suffix_at.Begin) ts ≡ Some (x, rest) → suffixes_at d x rest ≡ suffixes_at d a ts
   suffix_goes x rest h f e = sym (suffix_reads h f ∙ ap (λ (o : Option (Part × List Leaf)). o >>= λ x. suffixes_at d x.0 x.1) e)
 
-  pub suffix_none : starts_with (terminals_of t.Suffixes) ts ≡ true → fits_in d a ≡ true → found_at d (a ∷ []) (s.Suffix suffix_at.Begin) ts ≡ None → suffixes_at d a ts ≡ None
+  pub suffix_none : starts_with (terminals_of t.Suffixes) ts ≡ true → fits_in d a ≡ true → found_from d (a ∷ []) (s.Suffix suffix_at.Begin) ts ≡ None → suffixes_at d a ts ≡ None
   suffix_none h f e = suffix_reads h f ∙ ap (λ (o : Option (Part × List Leaf)). o >>= λ x. suffixes_at d x.0 x.1) e
 
-  pub suffix_shorter : (x : Part) (rest : List Leaf) → found_at d (a ∷ []) (s.Suffix suffix_at.Begin) ts ≡ Some (x, rest) → length rest < length ts
+  pub suffix_shorter : (x : Part) (rest : List Leaf) → found_from d (a ∷ []) (s.Suffix suffix_at.Begin) ts ≡ Some (x, rest) → length rest < length ts
   suffix_shorter x rest e = let w = suffixed_takes d a ts (x, rest) (sym (suffix_is d a ts) ∙ e) in omega (arith, w)
 
 -- ---- arguments
 
 module _ (d : ℕ) (ts : List Leaf) where
-  pub star_is : starts_with stars ts ≡ true → argument_at d ts ≡ found_at d [] (s.Rest k.Star (in_rest.TokenPart t.Stars (q.Level 13))) ts
-  unfolding argument_at found_at found_by
+  pub star_is : starts_with stars ts ≡ true → argument_at d ts ≡ found_from d [] (s.Rest k.Star (in_rest.TokenPart t.Stars (q.Level 13))) ts
+  unfolding argument_at found_from found_by
   star_is h = cond-true (starts_with stars ts) _ _ h ∙ wrapped k.Star (run (reading d) (bzl_shape k.Star) ts)
 
   abbrev named : Read Part
-  named us = level_at d 13 us >>= λ a. cond (starts_with equals a.1) (cond (has_token name a.0) (found_at d (a.0 ∷ []) (s.Rest k.Named (in_rest.TokenPart t.Equals (q.Level 13))) a.1) None) (Some a)
+  named us = level_at d 13 us >>= λ a. cond (starts_with equals a.1) (cond (has_token name a.0) (found_from d (a.0 ∷ []) (s.Rest k.Named (in_rest.TokenPart t.Equals (q.Level 13))) a.1) None) (Some a)
 
   named_is : starts_with stars ts ≡ false → argument_at d ts ≡ named ts
-  unfolding argument_at found_at found_by level_at
+  unfolding argument_at found_from found_by level_at
   named_is h =
       cond-false (starts_with stars ts) _ _ h ∙
       bind_same (climb d (reading d) 13 ts) (λ a. cond (starts_with equals a.1) (cond (has_token name a.0) (wrap k.Named (put a.0 (run (reading d) named_tail a.1))) None) (Some a))
@@ -317,15 +319,15 @@ unfolding part_at param_at
 param_is d ts = refl
 
 module _ (d : ℕ) (ts : List Leaf) where
-  pub starred_is : starts_with stars ts ≡ true → param_at d ts ≡ found_at d [] (s.Starred starred_at.Begin) ts
-  unfolding param_at found_at found_by
+  pub starred_is : starts_with stars ts ≡ true → param_at d ts ≡ found_from d [] (s.Starred starred_at.Begin) ts
+  unfolding param_at found_from found_by
   starred_is h = cond-true (starts_with stars ts) _ _ h ∙ wrapped k.Param (run (reading d) starred ts)
 
   abbrev valued : Read Part
-  valued us = token_at name us >>= λ a. cond (starts_with equals a.1) (cond (has_token name a.0) (found_at d (a.0 ∷ []) (s.Rest k.Param (in_rest.TokenPart t.Equals (q.Level 13))) a.1) None) (Some a)
+  valued us = token_at name us >>= λ a. cond (starts_with equals a.1) (cond (has_token name a.0) (found_from d (a.0 ∷ []) (s.Rest k.Param (in_rest.TokenPart t.Equals (q.Level 13))) a.1) None) (Some a)
 
   valued_is : starts_with stars ts ≡ false → param_at d ts ≡ valued ts
-  unfolding param_at found_at found_by token_at
+  unfolding param_at found_from found_by token_at
   valued_is h =
       cond-false (starts_with stars ts) _ _ h ∙
       bind_same (token_of name ts) (λ a. cond (starts_with equals a.1) (cond (has_token name a.0) (wrap k.Param (put a.0 (run (reading d) param_tail a.1))) None) (Some a))

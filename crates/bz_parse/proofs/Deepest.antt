@@ -6,7 +6,7 @@ use Rattle.bz_tree.specs.declared.tree.Node.{Node}
 use Rattle.bz_tree.specs.declared.tree.Part.{Part}
 use Rattle.bz_tree.specs.Shapes.{Terminal}
 use Rattle.bz_tree.specs.Reading.{node}
-use Rattle.bz_parse.specs.Words.{token_at}
+use Rattle.bz_states.specs.Tokens.{token_at}
 use Rattle.bz_tree.proofs.Spells.{depth_Node}
 use Rattle.bz_parse.proofs.Steps.{token_parts}
 use Rattle.bz_tree.specs.Spell.{depth_part, deepest}

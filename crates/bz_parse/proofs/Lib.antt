@@ -6,6 +6,4 @@ pub mod Climbs
 pub mod Accepts
 pub mod Rises
 pub mod Pushed
-mod Told
-pub mod Cutting
 pub mod Blocks

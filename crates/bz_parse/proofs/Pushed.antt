@@ -7,16 +7,17 @@ use Rattle.std.proofs.Math.Seq.{drop-append_seam, take-append_seam, drop-length,
 use Rattle.std.specs.Result.{IfOk}
 use Rattle.bz_lex.specs.declared.leaf.Leaf.{Leaf}
 use Rattle.bz_tree.specs.declared.tree.Part.{Part}
-use Rattle.bz_parse.specs.declared.token.Token.{Token}
-use Rattle.bz_parse.specs.declared.token.Token.TheVariants as t
-use Rattle.bz_parse.specs.declared.token.Halt.{Halt}
-use Rattle.bz_parse.specs.declared.state.State.{State}
-use Rattle.bz_parse.specs.declared.state.State.TheVariants as s
-use Rattle.bz_parse.specs.declared.state.SuffixAt.TheVariants as suffix_at
+use Rattle.bz_states.specs.declared.token.TokenSet.{TokenSet}
+use Rattle.bz_states.specs.declared.token.TokenSet.TheVariants as t
+use Rattle.bz_states.specs.declared.token.ParseHalt.{ParseHalt}
+use Rattle.bz_states.specs.declared.state.NodeState.{NodeState}
+use Rattle.bz_states.specs.declared.state.NodeState.TheVariants as s
+use Rattle.bz_states.specs.declared.state.SuffixAt.TheVariants as suffix_at
 use Rattle.bz_tree.specs.Spell.{depth_part, deepest}
 use Rattle.bz_tree.specs.Reading.{Read, starts_with, fits_in}
-use Rattle.bz_parse.specs.Words.{terminals_of, Pushes, Fails}
-use Rattle.bz_parse.specs.States.{found_at, fitted_at, begun_at, suffixes_at}
+use Rattle.bz_states.specs.Tokens.{terminals_of, Fails}
+use Rattle.bz_parse.specs.Words.{Pushes, found_from}
+use Rattle.bz_parse.specs.Ranks.{fitted_at, begun_at, suffixes_at}
 use Rattle.bz_parse.proofs.Deepest.{deepest_push}
 use Rattle.bz_parse.proofs.Steps.{fails}
 use Rattle.bz_parse.proofs.Moves.{Adds}
@@ -28,11 +29,11 @@ Back = Option (Part × List Leaf)
 pub pushed_as : (o o' : Back) (front front' all : List Part) (new : List Leaf) (deep : ℕ) → o ≡ o' → front' ≡ front → Pushes o' front' all new deep → Pushes o front all new deep
 pushed_as o o' front front' all new deep e f w = (w.0, e ∙ w.1, w.2 ∙ ap (λ (ps : List Part). ps ++ (w.0 ∷ [])) f, w.3)
 
-pub carry_ok : (result : Result ℕ Halt) (o o' : Back) (front front' all : List Part) (new : List Leaf) → o ≡ o' → front' ≡ front → IfOk result (λ deep. Pushes o' front' all new deep) → IfOk result (λ deep. Pushes o front all new deep)
+pub carry_ok : (result : Result ℕ ParseHalt) (o o' : Back) (front front' all : List Part) (new : List Leaf) → o ≡ o' → front' ≡ front → IfOk result (λ deep. Pushes o' front' all new deep) → IfOk result (λ deep. Pushes o front all new deep)
 carry_ok (Ok deep) o o' front front' all new e f h = pushed_as o o' front front' all new deep e f h
 carry_ok (Err x) o o' front front' all new e f h = tt
 
-pub carry_err : (result : Result ℕ Halt) (o o' : Back) → o ≡ o' → Fails result o' → Fails result o
+pub carry_err : (result : Result ℕ ParseHalt) (o o' : Back) → o ≡ o' → Fails result o' → Fails result o
 carry_err result o o' e h = fails result o' o h (λ n. e ∙ n)
 
 -- ---- the parts from a place on
@@ -87,25 +88,25 @@ stays_last from ps a deep o e f g = (a, g, sym (take-append-drop from ps) ∙ ap
 
 -- ---- nodes that go on with a part
 
-pub fits : (d deep : ℕ) (ps : List Part) (state : State) (ts : List Leaf) → deep ≤ d → fitted_at d deep ps state ts ≡ found_at d ps state ts
+pub fits : (d deep : ℕ) (ps : List Part) (state : NodeState) (ts : List Leaf) → deep ≤ d → fitted_at d deep ps state ts ≡ found_from d ps state ts
 unfolding fitted_at
 fits d deep ps state ts h = cond-true (nat_le deep d) _ _ (le-leb deep d h)
 
-pub unfit : (d deep : ℕ) (ps : List Part) (state : State) (ts : List Leaf) → d < deep → fitted_at d deep ps state ts ≡ None
+pub unfit : (d deep : ℕ) (ps : List Part) (state : NodeState) (ts : List Leaf) → d < deep → fitted_at d deep ps state ts ≡ None
 unfolding fitted_at
 unfit d deep ps state ts h = cond-false (nat_le deep d) _ _ (lt-leb deep d h)
 
-pub fitted_begun : (d deep : ℕ) (a : Part) (ps : List Part) (token : Token) (state : State) (ts : List Leaf) → ps ≡ a ∷ [] → deep ≡ depth_part a → starts_with (terminals_of token) ts ≡ true → begun_at d token state a ts ≡ fitted_at d deep ps state ts
+pub fitted_begun : (d deep : ℕ) (a : Part) (ps : List Part) (token : TokenSet) (state : NodeState) (ts : List Leaf) → ps ≡ a ∷ [] → deep ≡ depth_part a → starts_with (terminals_of token) ts ≡ true → begun_at d token state a ts ≡ fitted_at d deep ps state ts
 unfolding fitted_at begun_at
 fitted_begun d deep a ps token state ts e f h =
-    cond-true (starts_with (terminals_of token) ts) _ _ h ∙ ap (λ (n : ℕ). cond (nat_le n d) (found_at d (a ∷ []) state ts) None) (sym f) ∙ ap (λ (qs : List Part). cond (nat_le deep d) (found_at d qs state ts) None) (sym e)
+    cond-true (starts_with (terminals_of token) ts) _ _ h ∙ ap (λ (n : ℕ). cond (nat_le n d) (found_from d (a ∷ []) state ts) None) (sym f) ∙ ap (λ (qs : List Part). cond (nat_le deep d) (found_from d qs state ts) None) (sym e)
 
-pub fitted_some : (d deep : ℕ) (a : Part) (ps : List Part) (state : State) (ts : List Leaf) (y : Part × List Leaf) → ps ≡ a ∷ [] → deep ≡ depth_part a → fitted_at d deep ps state ts ≡ Some y → (fits_in d a ≡ true) × (found_at d (a ∷ []) state ts ≡ Some y)
+pub fitted_some : (d deep : ℕ) (a : Part) (ps : List Part) (state : NodeState) (ts : List Leaf) (y : Part × List Leaf) → ps ≡ a ∷ [] → deep ≡ depth_part a → fitted_at d deep ps state ts ≡ Some y → (fits_in d a ≡ true) × (found_from d (a ∷ []) state ts ≡ Some y)
 unfolding fitted_at
 fitted_some d deep a ps state ts y e f h = some_of (nat_le deep d) refl h
   where
-    some_of : (b : Bool) → nat_le deep d ≡ b → cond b (found_at d ps state ts) None ≡ Some y → (fits_in d a ≡ true) × (found_at d (a ∷ []) state ts ≡ Some y)
-    some_of true g k = (ap (λ (n : ℕ). nat_le n d) (sym f) ∙ g, ap (λ (qs : List Part). found_at d qs state ts) (sym e) ∙ k)
+    some_of : (b : Bool) → nat_le deep d ≡ b → cond b (found_from d ps state ts) None ≡ Some y → (fits_in d a ≡ true) × (found_from d (a ∷ []) state ts ≡ Some y)
+    some_of true g k = (ap (λ (n : ℕ). nat_le n d) (sym f) ∙ g, ap (λ (qs : List Part). found_from d qs state ts) (sym e) ∙ k)
     some_of false g k = absurd (none-some y k)
 
 -- what is not read behind a primary
@@ -113,6 +114,6 @@ pub suffix_fails : (d deep : ℕ) (a : Part) (ps : List Part) (ts : List Leaf) �
 unfolding fitted_at
 suffix_fails d deep a ps ts e f h n = none_of (nat_le deep d) refl n
   where
-    none_of : (b : Bool) → nat_le deep d ≡ b → cond b (found_at d ps (s.Suffix suffix_at.Begin) ts) None ≡ None → suffixes_at d a ts ≡ None
-    none_of true g k = suffix_none d a ts h (ap (λ (n : ℕ). nat_le n d) (sym f) ∙ g) (ap (λ (qs : List Part). found_at d qs (s.Suffix suffix_at.Begin) ts) (sym e) ∙ k)
+    none_of : (b : Bool) → nat_le deep d ≡ b → cond b (found_from d ps (s.Suffix suffix_at.Begin) ts) None ≡ None → suffixes_at d a ts ≡ None
+    none_of true g k = suffix_none d a ts h (ap (λ (n : ℕ). nat_le n d) (sym f) ∙ g) (ap (λ (qs : List Part). found_from d qs (s.Suffix suffix_at.Begin) ts) (sym e) ∙ k)
     none_of false g k = let b : fits_in d a ≡ false = ap (λ (n : ℕ). nat_le n d) (sym f) ∙ g in suffix_unfit d a ts h (cond-false (fits_in d a) (Some a) None b)

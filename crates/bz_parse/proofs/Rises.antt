@@ -3,14 +3,15 @@ use Rattle.std.proofs.Common.{◌≡◌, ℕ, zero, suc, ◌+◌, ◌-◌, ◌�
 use Rattle.std.proofs.lemmas.Bool.{cond-false, cases_lt, and_parts, leb-true, le-leb}
 use Rattle.bz_lex.specs.declared.leaf.Leaf.{Leaf}
 use Rattle.bz_tree.specs.declared.tree.Part.{Part}
-use Rattle.bz_parse.specs.declared.token.Token.{Token}
-use Rattle.bz_parse.specs.declared.token.Token.TheVariants as t
-use Rattle.bz_parse.specs.declared.state.State.{State}
-use Rattle.bz_parse.specs.declared.state.Rung.{Rung}
-use Rattle.bz_parse.specs.declared.state.Rung.TheVariants as g
+use Rattle.bz_states.specs.declared.token.TokenSet.{TokenSet}
+use Rattle.bz_states.specs.declared.token.TokenSet.TheVariants as t
+use Rattle.bz_states.specs.declared.state.NodeState.{NodeState}
+use Rattle.bz_states.specs.declared.state.Rung.{Rung}
+use Rattle.bz_states.specs.declared.state.Rung.TheVariants as g
 use Rattle.bz_tree.specs.Reading.{◌>>=◌, Read, starts_with}
-use Rattle.bz_parse.specs.Words.{terminals_of}
-use Rattle.bz_parse.specs.States.{rung_of, climbed, level_at, begun_at, bound, bound_at, binds, binds_at, rising, risen_at}
+use Rattle.bz_states.specs.Tokens.{terminals_of}
+use Rattle.bz_states.specs.States.{rung_of, binds, binds_at}
+use Rattle.bz_parse.specs.Ranks.{climbed, level_at, begun_at, bound, bound_at, rising, risen_at}
 use Rattle.bz_tree.proofs.Terminals.{disjoint, disjoint_at}
 use Rattle.bz_parse.proofs.Climbs.{level_step, begun_stays}
 
@@ -78,7 +79,7 @@ pub bound_stays : (d k : ℕ) (a : Part) (ts : List Leaf) → binds_at k ts ≡ 
 unfolding bound_at
 bound_stays d k a ts h = stays d (rung_of k) a ts h
 
-pub bound_infix : (d k : ℕ) (a : Part) (ts : List Leaf) (token : Token) (state : State) → g.Infix token state ≡ rung_of k → bound_at d k a ts ≡ begun_at d token state a ts
+pub bound_infix : (d k : ℕ) (a : Part) (ts : List Leaf) (token : TokenSet) (state : NodeState) → g.Infix token state ≡ rung_of k → bound_at d k a ts ≡ begun_at d token state a ts
 unfolding bound_at
 bound_infix d k a ts token state e = ap (λ (r : Rung). bound d r a ts) (sym e)
 
@@ -124,7 +125,7 @@ passed d k r n a ts h f =
 
 -- ---- leaves behind which an expression ends in which no comma binds
 
-apart : (token : Token) (ts : List Leaf) → disjoint (terminals_of t.Ends) (terminals_of token) ≡ true → starts_with (terminals_of t.Ends) ts ≡ true → starts_with (terminals_of token) ts ≡ false
+apart : (token : TokenSet) (ts : List Leaf) → disjoint (terminals_of t.Ends) (terminals_of token) ≡ true → starts_with (terminals_of t.Ends) ts ≡ true → starts_with (terminals_of token) ts ≡ false
 apart token ts e h = disjoint_at (terminals_of t.Ends) (terminals_of token) ts e h
 
 pub ends_pass : (j : ℕ) (ts : List Leaf) → starts_with (terminals_of t.Ends) ts ≡ true → j < 13 → binds_at j ts ≡ false

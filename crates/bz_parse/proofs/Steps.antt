@@ -8,9 +8,9 @@ use Rattle.bz_tree.specs.declared.tree.Part.TheVariants as v
 use Rattle.bz_tree.specs.Spell.{leaves_part}
 use Rattle.bz_tree.specs.Shapes.{Terminal, is_one_of, Sort, level, stmt, suite, Shape, tok, list, each}
 use Rattle.bz_tree.specs.Reading.{◌>>=◌, Read, starts_with, starts, first, put, behind, listed, several, run, reading}
-use Rattle.bz_parse.specs.Words.{token_at, Halts, Fails}
-use Rattle.bz_parse.specs.declared.token.Halt.{Halt}
-use Rattle.bz_parse.specs.declared.token.Halt.TheVariants as h
+use Rattle.bz_states.specs.Tokens.{token_at, Halts, Fails}
+use Rattle.bz_states.specs.declared.token.ParseHalt.{ParseHalt}
+use Rattle.bz_states.specs.declared.token.ParseHalt.TheVariants as h
 use Rattle.bz_tree.proofs.Terminals.{full_front}
 use Rattle.bz_tree.proofs.Trees.{At}
 use Rattle.bz_tree.proofs.Levels.{begins}
@@ -132,11 +132,11 @@ token_run inner s r (t ∷ ts) = elim (cases_Bool (is_one_of s t)) [ inl h ↦ r
 
 -- ---- what a halt says, carried along
 
-pub halts : {Y Y' : Type 0} (e : Halt) (o : Option Y) (all : Option Y') → Halts e o → (o ≡ None → all ≡ None) → Halts e all
+pub halts : {Y Y' : Type 0} (e : ParseHalt) (o : Option Y) (all : Option Y') → Halts e o → (o ≡ None → all ≡ None) → Halts e all
 halts h.Memory o all w f = tt
 halts h.Unexpected o all w f = f w
 
-pub fails : {X Y Y' : Type 0} (r : Result X Halt) (o : Option Y) (all : Option Y') → Fails r o → (o ≡ None → all ≡ None) → Fails r all
+pub fails : {X Y Y' : Type 0} (r : Result X ParseHalt) (o : Option Y) (all : Option Y') → Fails r o → (o ≡ None → all ≡ None) → Fails r all
 fails (Ok x) o all w f = tt
 fails (Err e) o all w f = halts e o all w f
 

@@ -1,4 +1,3 @@
 pub mod Words
-pub mod Symbols
-pub mod States
+pub mod Ranks
 pub mod Rows

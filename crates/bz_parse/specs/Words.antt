@@ -1,82 +1,15 @@
--- Reading as words that do not unfold by themselves: one for each function of the parser.
-use Rattle.std.specs.Prelude.{◌≡◌, ℕ, List, [], ◌∷◌, ◌++◌, Option, Some, None, Result, Ok, Err, codes}
-use Rattle.bz_token.specs.declared.class.Class.{Class}
+-- Reading as words that do not unfold by themselves: a part, and a node by what is left of its plan.
+use Rattle.std.specs.Prelude.{◌≡◌, ℕ, List, [], ◌∷◌, ◌++◌, Option, Some, None, if◌then◌else◌}
 use Rattle.bz_lex.specs.declared.leaf.Leaf.{Leaf}
 use Rattle.bz_tree.specs.declared.tree.Part.{Part}
-use Rattle.bz_parse.specs.declared.token.Token.{Token}
-use Rattle.bz_parse.specs.declared.token.Token.TheVariants as t
-use Rattle.bz_parse.specs.declared.token.Halt.{Halt}
-use Rattle.bz_parse.specs.declared.token.Halt.TheVariants as h
+use Rattle.bz_states.specs.declared.state.NodeState.{NodeState}
+use Rattle.bz_states.specs.declared.state.Move.{Move}
+use Rattle.bz_states.specs.declared.state.Move.TheVariants as m
 use Rattle.bz_tree.specs.Spell.{depth_part}
-use Rattle.bz_tree.specs.Shapes.{Terminal, Sort, name, string, simple, newline, end, open_round, close_round, open_square, close_square, open_curly, close_curly, comma, colon, semicolon, dot, equals, assigns, stars, signs, orders, shifts, sums, products, flows, mark, keyword, clause, stmt, expr}
-use Rattle.bz_tree.specs.Reading.{Read, token_of, starts, reading, Plan, Found, follow, wrap_found, first_of, suffix}
-
-abbrev pub terminals_of : Token → List Terminal
-terminals_of t.Name = name
-terminals_of t.String = string
-terminals_of t.Simple = simple
-terminals_of t.Newline = newline
-terminals_of t.End = end
-terminals_of t.OpenRound = open_round
-terminals_of t.CloseRound = close_round
-terminals_of t.OpenSquare = open_square
-terminals_of t.CloseSquare = close_square
-terminals_of t.OpenCurly = open_curly
-terminals_of t.CloseCurly = close_curly
-terminals_of t.Comma = comma
-terminals_of t.Colon = colon
-terminals_of t.Semicolon = semicolon
-terminals_of t.Dot = dot
-terminals_of t.Equals = equals
-terminals_of t.Assigns = assigns
-terminals_of t.Stars = stars
-terminals_of t.Signs = signs
-terminals_of t.Orders = orders
-terminals_of t.Compares = orders ++ keyword (codes "not")
-terminals_of t.Suffixes = first_of suffix
-terminals_of t.Bar = mark (codes "|")
-terminals_of t.Caret = mark (codes "^")
-terminals_of t.Ampersand = mark (codes "&")
-terminals_of t.Shifts = shifts
-terminals_of t.Sums = sums
-terminals_of t.Products = products
-terminals_of t.Clauses = starts clause
-terminals_of t.Statements = starts stmt
-terminals_of t.Expressions = starts expr
-terminals_of t.SliceStops = close_square ++ colon
-terminals_of t.Ends = comma ++ (close_round ++ (close_square ++ (close_curly ++ (colon ++ (equals ++ (semicolon ++ newline))))))
-terminals_of t.Star = mark (codes "*")
-terminals_of t.DoubleStar = mark (codes "**")
-terminals_of t.Flow = flows
-terminals_of t.Def = keyword (codes "def")
-terminals_of t.Elif = keyword (codes "elif")
-terminals_of t.Lambda = keyword (codes "lambda")
-terminals_of t.Return = keyword (codes "return")
-terminals_of t.Load = keyword (codes "load")
-terminals_of t.If = keyword (codes "if")
-terminals_of t.Else = keyword (codes "else")
-terminals_of t.Or = keyword (codes "or")
-terminals_of t.And = keyword (codes "and")
-terminals_of t.Not = keyword (codes "not")
-terminals_of t.In = keyword (codes "in")
-terminals_of t.For = keyword (codes "for")
-
--- a token without its gap, which no terminal asks for
-abbrev pub bare : Class → List ℕ → Leaf
-bare class token = record { class = class; gap = []; token = token }
-
--- what a halt says of what was to be read: nothing where memory was refused
-abbrev pub Halts : {X : Type 0} → Halt → Option X → Type 0
-Halts h.Memory read = Unit {0}
-Halts h.Unexpected read = read ≡ None
-
-abbrev pub Fails : {X Y : Type 0} → Result X Halt → Option Y → Type 0
-Fails (Ok x) read = Unit {0}
-Fails (Err e) read = Halts e read
-
--- one of these tokens
-unfoldable pub token_at : List Terminal → Read Part
-token_at terminals ts = token_of terminals ts
+use Rattle.bz_tree.specs.Shapes.{Sort}
+use Rattle.bz_tree.specs.Reading.{◌>>=◌, Read, starts_with, reading, Plan, Found, follow, wrap_found, node}
+use Rattle.bz_states.specs.Tokens.{terminals_of, token_at}
+use Rattle.bz_states.specs.States.{sort_of, plan_at}
 
 -- a part of a sort of at most that depth
 unfoldable pub part_at : ℕ → Sort → Read Part
@@ -94,3 +27,14 @@ found_by d front plan ts = wrap_found (with_found front (follow (reading d) plan
 -- What was read is put behind other parts, and how deep it is.
 abbrev pub Pushes : Option (Part × List Leaf) → List Part → List Part → List Leaf → ℕ → Type 0
 Pushes read front all new deep = (x : Part) × (read ≡ Some (x, new)) × (all ≡ front ++ (x ∷ [])) × (deep ≡ depth_part x)
+
+-- a node of which front was read before
+unfoldable pub found_from : ℕ → List Part → NodeState → Read Part
+found_from d front state ts = found_by d front (plan_at state) ts
+
+-- what a move reads
+abbrev pub read_by_move : ℕ → List Part → Move → Read Part
+read_by_move d front (m.Finish kind) ts = Some (node kind front, ts)
+read_by_move d front (m.Take token state) ts = token_at (terminals_of token) ts >>= λ x. found_from d (front ++ (x.0 ∷ [])) state x.1
+read_by_move d front (m.Read place state) ts = part_at d (sort_of place) ts >>= λ x. found_from d (front ++ (x.0 ∷ [])) state x.1
+read_by_move d front (m.Choose token left right) ts = if starts_with (terminals_of token) ts then found_from d front left ts else found_from d front right ts

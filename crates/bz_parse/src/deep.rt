@@ -1,8 +1,7 @@
 //! Where a text nests too deep. It is told with the fault; no clause speaks of the place.
 ghost use Rattle.std.specs.Prelude.{◌≡◌};
 
-use crate::state::{LAMBDA, NOT, Rung, Sort, UNARY, rung_at};
-use crate::token::{Leaves, Token};
+use bz_states::{LAMBDA, Leaves, NOT, PartSort, Rung, TokenSet, UNARY, rung_at};
 use bz_tree::{Part, first_of};
 
 /// Marks where the part, right before the next leaf, holds the first node inside more than so many levels.
@@ -34,7 +33,7 @@ pub(crate) fn deeper_at(parts: &[Part], limit: u32) -> Option<usize> {
 }
 
 /// Marks the next leaf where it begins a node of this sort, for which there is no room.
-pub(crate) fn mark_next(sort: Sort, leaves: &mut Leaves)
+pub(crate) fn mark_next(sort: PartSort, leaves: &mut Leaves)
     ensures { leaves.new ≡ leaves.old }
 {
     if let Some(at) = leaves.next_at()
@@ -81,45 +80,45 @@ fn first_gap(parts: &[Part]) -> usize {
 }
 
 /// Whether a node of this sort begins with the next leaf and not with a leaf of it.
-fn begins_node(sort: Sort, leaves: &Leaves) -> bool {
+fn begins_node(sort: PartSort, leaves: &Leaves) -> bool {
     match sort {
-        Sort::Level(n) => begins_level(n, leaves),
-        Sort::Argument => leaves.starts(Token::Stars) || begins_level(LAMBDA, leaves),
-        Sort::Loaded => leaves.starts(Token::Name),
-        Sort::Entry => leaves.starts(Token::Simple) || begins_level(LAMBDA, leaves),
-        Sort::Clause => leaves.starts(Token::Clauses),
-        Sort::FirstClause => leaves.starts(Token::For),
-        Sort::Small | Sort::Line => leaves.starts(Token::Statements),
-        Sort::Param => leaves.starts(Token::Stars),
+        PartSort::Level(n) => begins_level(n, leaves),
+        PartSort::Argument => leaves.next_is(TokenSet::Stars) || begins_level(LAMBDA, leaves),
+        PartSort::Loaded => leaves.next_is(TokenSet::Name),
+        PartSort::Entry => leaves.next_is(TokenSet::Simple) || begins_level(LAMBDA, leaves),
+        PartSort::Clause => leaves.next_is(TokenSet::Clauses),
+        PartSort::FirstClause => leaves.next_is(TokenSet::For),
+        PartSort::Small | PartSort::Line => leaves.next_is(TokenSet::Statements),
+        PartSort::Param => leaves.next_is(TokenSet::Stars),
     }
 }
 
 fn begins_level(n: u8, leaves: &Leaves) -> bool {
-    leaves.starts(Token::OpenRound)
-        || leaves.starts(Token::OpenSquare)
-        || leaves.starts(Token::OpenCurly)
-        || (n >= UNARY && leaves.starts(Token::Signs))
-        || (n >= NOT && leaves.starts(Token::Not))
-        || (n >= LAMBDA && leaves.starts(Token::Lambda))
+    leaves.next_is(TokenSet::OpenRound)
+        || leaves.next_is(TokenSet::OpenSquare)
+        || leaves.next_is(TokenSet::OpenCurly)
+        || (n >= UNARY && leaves.next_is(TokenSet::Signs))
+        || (n >= NOT && leaves.next_is(TokenSet::Not))
+        || (n >= LAMBDA && leaves.next_is(TokenSet::Lambda))
 }
 
 /// Whether a node of this sort goes on with the next leaf behind a leaf of it.
-pub(crate) fn goes_on(sort: Sort, leaves: &Leaves) -> bool {
+pub(crate) fn goes_on(sort: PartSort, leaves: &Leaves) -> bool {
     match sort {
-        Sort::Level(n) => level_goes_on(n, leaves),
-        Sort::Argument => leaves.starts(Token::Equals) || level_goes_on(LAMBDA, leaves),
-        Sort::Param => leaves.starts(Token::Equals),
+        PartSort::Level(n) => level_goes_on(n, leaves),
+        PartSort::Argument => leaves.next_is(TokenSet::Equals) || level_goes_on(LAMBDA, leaves),
+        PartSort::Param => leaves.next_is(TokenSet::Equals),
         _ => false,
     }
 }
 
 fn level_goes_on(n: u8, leaves: &Leaves) -> bool {
-    if leaves.starts(Token::Suffixes) {
+    if leaves.next_is(TokenSet::Suffixes) {
         return true;
     }
     for rank in 0..n {
         if let Rung::Infix(token, _) = rung_at(rank)
-            && leaves.starts(token)
+            && leaves.next_is(token)
         {
             return true;
         }

@@ -1,17 +1,19 @@
 //! The parser: nodes by the table of states, expressions by their ranks.
 ghost use Rattle.std.specs.Prelude.{◌≡◌, ◌∷◌, ◌≤◌, ◌*◌, [], ℕ, IfOk, length, take, drop};
 ghost use Rattle.bz_tree.specs.Spell.{deepest, depth_limit};
-ghost use Rattle.bz_parse.specs.Words.{terminals_of, part_at, Pushes, Fails};
-ghost use Rattle.bz_parse.specs.States.{sort_of, found_at, fitted_at, bound_at, level_at, Rises, atom_at, argument_at, param_at};
+ghost use Rattle.bz_states.specs.Tokens.{terminals_of, Fails};
+ghost use Rattle.bz_parse.specs.Words.{part_at, Pushes, found_from};
+ghost use Rattle.bz_states.specs.States.{sort_of};
+ghost use Rattle.bz_parse.specs.Ranks.{fitted_at, bound_at, level_at, RisesFrom, atom_at, argument_at, param_at};
 ghost use Rattle.bz_tree.specs.declared.tree.Part.{Part};
 
 use crate::deep::{goes_on, mark_next, mark_part};
 use crate::row::{Stack, deeper};
-use crate::state::{
-    Items, ItemsAt, LAMBDA, LambdaAt, Move, NOT, PRIMARY, Rest, RoundAt, Rung, Sort, StarredAt,
-    State, StatementAt, SuffixAt, TEST, UNARY, rung_at,
+use bz_states::{
+    ItemsAt, LAMBDA, LambdaAt, Leaves, ListedItems, Move, NOT, NodeState, PRIMARY, ParseHalt,
+    PartSort, RoundAt, Rung, StarredAt, StatementAt, SuffixAt, TEST, Tail, TokenSet, UNARY,
+    rung_at,
 };
-use crate::token::{Halt, Leaves, Token};
 use bz_tree::Kind;
 
 /// What is left to read in a state of a node whose parts stand on the stack from a place on. Tells how deep the node is.
@@ -19,22 +21,22 @@ use bz_tree::Kind;
 fn follow(
     from: usize,
     deep: u32,
-    state: State,
+    state: NodeState,
     depth: u32,
     stack: &mut Stack,
     leaves: &mut Leaves,
-) -> Result<u32, Halt>
+) -> Result<u32, ParseHalt>
     requires from { from ≤ length stack.old }
     requires deep { deep ≡ deepest (drop from stack.old) }
     requires within { deep ≤ depth }
     requires small { depth ≤ 2 * depth_limit }
-    ensures ok { IfOk result (λ deep. Pushes (found_at depth (drop from stack.old) state leaves.old) (take from stack.old) stack.new leaves.new deep) }
-    ensures err { Fails result (found_at depth (drop from stack.old) state leaves.old) }
+    ensures ok { IfOk result (λ deep. Pushes (found_from depth (drop from stack.old) state leaves.old) (take from stack.old) stack.new leaves.new deep) }
+    ensures err { Fails result (found_from depth (drop from stack.old) state leaves.old) }
 {
     let mut deep = deep;
     let mut state = state;
     'moves: loop {
-        match state.next() {
+        match state.next_move() {
             Move::Finish(kind) => {
                 stack.close(kind, from)?;
                 return Ok(deep + 1);
@@ -48,7 +50,7 @@ fn follow(
                 state = next;
             }
             Move::Choose(token, one, other) => {
-                state = if leaves.starts(token) { one } else { other };
+                state = if leaves.next_is(token) { one } else { other };
             }
         }
     }
@@ -56,10 +58,15 @@ fn follow(
 
 /// A node from its first part on.
 #[cycle(parser)]
-fn begin(state: State, depth: u32, stack: &mut Stack, leaves: &mut Leaves) -> Result<u32, Halt>
+fn begin(
+    state: NodeState,
+    depth: u32,
+    stack: &mut Stack,
+    leaves: &mut Leaves,
+) -> Result<u32, ParseHalt>
     requires small { depth ≤ 2 * depth_limit }
-    ensures ok { IfOk result (λ deep. Pushes (found_at depth [] state leaves.old) stack.old stack.new leaves.new deep) }
-    ensures err { Fails result (found_at depth [] state leaves.old) }
+    ensures ok { IfOk result (λ deep. Pushes (found_from depth [] state leaves.old) stack.old stack.new leaves.new deep) }
+    ensures err { Fails result (found_from depth [] state leaves.old) }
 {
     let from = stack.len();
     follow(from, 0, state, depth, stack, leaves)
@@ -70,11 +77,11 @@ fn begin(state: State, depth: u32, stack: &mut Stack, leaves: &mut Leaves) -> Re
 fn go_on(
     from: usize,
     deep: u32,
-    state: State,
+    state: NodeState,
     depth: u32,
     stack: &mut Stack,
     leaves: &mut Leaves,
-) -> Result<u32, Halt>
+) -> Result<u32, ParseHalt>
     requires from { from ≤ length stack.old }
     requires deep { deep ≡ deepest (drop from stack.old) }
     requires small { depth ≤ 2 * depth_limit }
@@ -85,7 +92,7 @@ fn go_on(
         if let Some(part) = stack.get(from) {
             mark_part(part, depth, leaves);
         }
-        return Err(Halt::Unexpected);
+        return Err(ParseHalt::Unexpected);
     }
     follow(from, deep, state, depth, stack, leaves)
 }
@@ -93,11 +100,11 @@ fn go_on(
 /// A part of this sort that is at most so deep. Tells how deep it is.
 #[cycle(parser)]
 pub(crate) fn part(
-    sort: Sort,
+    sort: PartSort,
     depth: u32,
     stack: &mut Stack,
     leaves: &mut Leaves,
-) -> Result<u32, Halt>
+) -> Result<u32, ParseHalt>
     requires small { depth ≤ 2 * depth_limit }
     ensures ok { IfOk result (λ deep. Pushes (part_at depth (sort_of sort) leaves.old) stack.old stack.new leaves.new deep) }
     ensures err { Fails result (part_at depth (sort_of sort) leaves.old) }
@@ -107,40 +114,45 @@ pub(crate) fn part(
     }
     let inner = depth - 1;
     match sort {
-        Sort::Level(n) => expression(n, inner, stack, leaves),
-        Sort::Argument => argument(inner, stack, leaves),
-        Sort::Loaded => {
-            if leaves.starts(Token::Name) {
-                begin(State::Alias, inner, stack, leaves)
+        PartSort::Level(n) => expression(n, inner, stack, leaves),
+        PartSort::Argument => argument(inner, stack, leaves),
+        PartSort::Loaded => {
+            if leaves.next_is(TokenSet::Name) {
+                begin(NodeState::Alias, inner, stack, leaves)
             } else {
-                stack.take(Token::String, leaves)
+                stack.take(TokenSet::String, leaves)
             }
         }
-        Sort::Entry => begin(State::Entry, inner, stack, leaves),
-        Sort::Clause => begin(State::Clause, inner, stack, leaves),
-        Sort::FirstClause => begin(State::For, inner, stack, leaves),
-        Sort::Small => begin(State::Statement(StatementAt::Begin), inner, stack, leaves),
-        Sort::Line => {
-            let statements = State::Items(Items::Statements, ItemsAt::Part);
+        PartSort::Entry => begin(NodeState::Entry, inner, stack, leaves),
+        PartSort::Clause => begin(NodeState::Clause, inner, stack, leaves),
+        PartSort::FirstClause => begin(NodeState::For, inner, stack, leaves),
+        PartSort::Small => begin(
+            NodeState::Statement(StatementAt::Begin),
+            inner,
+            stack,
+            leaves,
+        ),
+        PartSort::Line => {
+            let statements = NodeState::Items(ListedItems::Statements, ItemsAt::Part);
             begin(statements, inner, stack, leaves)
         }
-        Sort::Param => param(inner, stack, leaves),
+        PartSort::Param => param(inner, stack, leaves),
     }
 }
 
 /// A leaf of this sort.
-#[tactic(auto, unfolding(crate::specs::Words::token_at, crate::specs::Words::part_at))]
-fn leaf_of(sort: Sort, stack: &mut Stack, leaves: &mut Leaves) -> Result<u32, Halt>
+#[tactic(auto, unfolding(bz_states::specs::Tokens::token_at, crate::specs::Words::part_at))]
+fn leaf_of(sort: PartSort, stack: &mut Stack, leaves: &mut Leaves) -> Result<u32, ParseHalt>
     ensures ok { IfOk result (λ deep. Pushes (part_at 0 (sort_of sort) leaves.old) stack.old stack.new leaves.new deep) }
     ensures err { Fails result (part_at 0 (sort_of sort) leaves.old) }
 {
     mark_next(sort, leaves);
     let at = leaves.next_at();
     let deep = match sort {
-        Sort::Level(_) | Sort::Argument => stack.take(Token::Simple, leaves)?,
-        Sort::Loaded => stack.take(Token::String, leaves)?,
-        Sort::Param => stack.take(Token::Name, leaves)?,
-        _ => return Err(Halt::Unexpected),
+        PartSort::Level(_) | PartSort::Argument => stack.take(TokenSet::Simple, leaves)?,
+        PartSort::Loaded => stack.take(TokenSet::String, leaves)?,
+        PartSort::Param => stack.take(TokenSet::Name, leaves)?,
+        _ => return Err(ParseHalt::Unexpected),
     };
     if let Some(at) = at
         && goes_on(sort, leaves)
@@ -153,7 +165,7 @@ fn leaf_of(sort: Sort, stack: &mut Stack, leaves: &mut Leaves) -> Result<u32, Ha
 /// An expression of this rank or a lower one, of which the parts are at most so deep: what it begins with, and then the
 /// operators behind it, from those that bind tightest on.
 #[cycle(parser)]
-fn expression(n: u8, depth: u32, stack: &mut Stack, leaves: &mut Leaves) -> Result<u32, Halt>
+fn expression(n: u8, depth: u32, stack: &mut Stack, leaves: &mut Leaves) -> Result<u32, ParseHalt>
     requires small { depth ≤ 2 * depth_limit }
     ensures ok { IfOk result (λ deep. Pushes (level_at depth n leaves.old) stack.old stack.new leaves.new deep) }
     ensures err { Fails result (level_at depth n leaves.old) }
@@ -178,24 +190,27 @@ struct Begun {
 
 /// What an expression of this rank begins with: a lambda, the node of `not` or of a sign, or a primary.
 #[cycle(parser)]
-fn operand(n: u8, depth: u32, stack: &mut Stack, leaves: &mut Leaves) -> Result<Begun, Halt>
+fn operand(n: u8, depth: u32, stack: &mut Stack, leaves: &mut Leaves) -> Result<Begun, ParseHalt>
     requires small { depth ≤ 2 * depth_limit }
-    ensures ok { IfOk result (λ first. Rises depth first.rank n leaves.old leaves.new stack.old stack.new first.deep) }
+    ensures ok { IfOk result (λ first. RisesFrom depth first.rank n leaves.old leaves.new stack.old stack.new first.deep) }
     ensures err { Fails result (level_at depth n leaves.old) }
 {
-    if leaves.starts_from(LAMBDA, n, Token::Lambda) {
-        let deep = begin(State::Lambda(LambdaAt::Begin), depth, stack, leaves)?;
+    if leaves.starts_from(LAMBDA, n, TokenSet::Lambda) {
+        let deep = begin(NodeState::Lambda(LambdaAt::Begin), depth, stack, leaves)?;
         return Ok(Begun { rank: LAMBDA, deep });
     }
-    if leaves.starts_from(NOT, n, Token::Not) {
-        let state = State::Rest(Kind::Not, Rest::TokenPart(Token::Not, Sort::Level(NOT)));
+    if leaves.starts_from(NOT, n, TokenSet::Not) {
+        let state = NodeState::Rest(
+            Kind::Not,
+            Tail::TokenPart(TokenSet::Not, PartSort::Level(NOT)),
+        );
         let deep = begin(state, depth, stack, leaves)?;
         return Ok(Begun { rank: NOT, deep });
     }
-    if leaves.starts_from(UNARY, n, Token::Signs) {
-        let state = State::Rest(
+    if leaves.starts_from(UNARY, n, TokenSet::Signs) {
+        let state = NodeState::Rest(
             Kind::Unary,
-            Rest::TokenPart(Token::Signs, Sort::Level(UNARY)),
+            Tail::TokenPart(TokenSet::Signs, PartSort::Level(UNARY)),
         );
         let deep = begin(state, depth, stack, leaves)?;
         return Ok(Begun { rank: UNARY, deep });
@@ -216,7 +231,7 @@ fn raised(
     depth: u32,
     stack: &mut Stack,
     leaves: &mut Leaves,
-) -> Result<u32, Halt>
+) -> Result<u32, ParseHalt>
     requires from { from ≤ length stack.old }
     requires deep { deep ≡ deepest (drop from stack.old) }
     requires small { depth ≤ 2 * depth_limit }
@@ -225,7 +240,7 @@ fn raised(
 {
     match rung_at(rank) {
         Rung::Infix(token, state) => {
-            if leaves.starts(token) {
+            if leaves.next_is(token) {
                 go_on(from, deep, state, depth, stack, leaves)
             } else {
                 Ok(deep)
@@ -238,18 +253,18 @@ fn raised(
 
 /// A name, a number, a string or what stands in brackets, and what stands behind it.
 #[cycle(parser)]
-fn primary(depth: u32, stack: &mut Stack, leaves: &mut Leaves) -> Result<u32, Halt>
+fn primary(depth: u32, stack: &mut Stack, leaves: &mut Leaves) -> Result<u32, ParseHalt>
     requires small { depth ≤ 2 * depth_limit }
     ensures ok { IfOk result (λ deep. Pushes (level_at depth 0 leaves.old) stack.old stack.new leaves.new deep) }
     ensures err { Fails result (level_at depth 0 leaves.old) }
 {
     let from = stack.len();
     let mut deep = atom(depth, stack, leaves)?;
-    'suffixes: while leaves.starts(Token::Suffixes) {
+    'suffixes: while leaves.next_is(TokenSet::Suffixes) {
         deep = go_on(
             from,
             deep,
-            State::Suffix(SuffixAt::Begin),
+            NodeState::Suffix(SuffixAt::Begin),
             depth,
             stack,
             leaves,
@@ -260,60 +275,60 @@ fn primary(depth: u32, stack: &mut Stack, leaves: &mut Leaves) -> Result<u32, Ha
 
 /// A name, a number, a string or what stands in brackets.
 #[cycle(parser)]
-fn atom(depth: u32, stack: &mut Stack, leaves: &mut Leaves) -> Result<u32, Halt>
+fn atom(depth: u32, stack: &mut Stack, leaves: &mut Leaves) -> Result<u32, ParseHalt>
     requires small { depth ≤ 2 * depth_limit }
     ensures ok { IfOk result (λ deep. Pushes (atom_at depth leaves.old) stack.old stack.new leaves.new deep) }
     ensures err { Fails result (atom_at depth leaves.old) }
 {
-    if leaves.starts(Token::OpenRound) {
-        begin(State::Round(RoundAt::Open), depth, stack, leaves)
-    } else if leaves.starts(Token::OpenSquare) {
-        begin(State::Square, depth, stack, leaves)
-    } else if leaves.starts(Token::OpenCurly) {
-        begin(State::Curly, depth, stack, leaves)
+    if leaves.next_is(TokenSet::OpenRound) {
+        begin(NodeState::Round(RoundAt::Open), depth, stack, leaves)
+    } else if leaves.next_is(TokenSet::OpenSquare) {
+        begin(NodeState::Square, depth, stack, leaves)
+    } else if leaves.next_is(TokenSet::OpenCurly) {
+        begin(NodeState::Curly, depth, stack, leaves)
     } else {
-        stack.take(Token::Simple, leaves)
+        stack.take(TokenSet::Simple, leaves)
     }
 }
 
 /// An argument of a call.
 #[cycle(parser)]
-fn argument(depth: u32, stack: &mut Stack, leaves: &mut Leaves) -> Result<u32, Halt>
+fn argument(depth: u32, stack: &mut Stack, leaves: &mut Leaves) -> Result<u32, ParseHalt>
     requires small { depth ≤ 2 * depth_limit }
     ensures ok { IfOk result (λ deep. Pushes (argument_at depth leaves.old) stack.old stack.new leaves.new deep) }
     ensures err { Fails result (argument_at depth leaves.old) }
 {
-    if leaves.starts(Token::Stars) {
-        let star = State::Rest(Kind::Star, Rest::TokenPart(Token::Stars, TEST));
+    if leaves.next_is(TokenSet::Stars) {
+        let star = NodeState::Rest(Kind::Star, Tail::TokenPart(TokenSet::Stars, TEST));
         return begin(star, depth, stack, leaves);
     }
     let from = stack.len();
     let deep = expression(LAMBDA, depth, stack, leaves)?;
-    if !leaves.starts(Token::Equals) {
+    if !leaves.next_is(TokenSet::Equals) {
         return Ok(deep);
     }
-    if !stack.has_name(from) {
-        return Err(Halt::Unexpected);
+    if !stack.is_name_at(from) {
+        return Err(ParseHalt::Unexpected);
     }
-    let named = State::Rest(Kind::Named, Rest::TokenPart(Token::Equals, TEST));
+    let named = NodeState::Rest(Kind::Named, Tail::TokenPart(TokenSet::Equals, TEST));
     go_on(from, deep, named, depth, stack, leaves)
 }
 
 /// A parameter.
 #[cycle(parser)]
-fn param(depth: u32, stack: &mut Stack, leaves: &mut Leaves) -> Result<u32, Halt>
+fn param(depth: u32, stack: &mut Stack, leaves: &mut Leaves) -> Result<u32, ParseHalt>
     requires small { depth ≤ 2 * depth_limit }
     ensures ok { IfOk result (λ deep. Pushes (param_at depth leaves.old) stack.old stack.new leaves.new deep) }
     ensures err { Fails result (param_at depth leaves.old) }
 {
-    if leaves.starts(Token::Stars) {
-        return begin(State::Starred(StarredAt::Begin), depth, stack, leaves);
+    if leaves.next_is(TokenSet::Stars) {
+        return begin(NodeState::Starred(StarredAt::Begin), depth, stack, leaves);
     }
     let from = stack.len();
-    let deep = stack.take(Token::Name, leaves)?;
-    if !leaves.starts(Token::Equals) {
+    let deep = stack.take(TokenSet::Name, leaves)?;
+    if !leaves.next_is(TokenSet::Equals) {
         return Ok(deep);
     }
-    let valued = State::Rest(Kind::Param, Rest::TokenPart(Token::Equals, TEST));
+    let valued = NodeState::Rest(Kind::Param, Tail::TokenPart(TokenSet::Equals, TEST));
     go_on(from, deep, valued, depth, stack, leaves)
 }

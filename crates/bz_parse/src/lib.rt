@@ -6,8 +6,5 @@ mod grammar;
 mod indented;
 mod parsing;
 mod row;
-mod state;
-mod symbol;
-mod token;
 
 pub use parsing::{parse, parse_bzl, unexpected_at};

@@ -10,8 +10,8 @@ ghost use Rattle.bz_tree.specs.Faults.{IsOfText, IsOther};
 use crate::deep::deeper_at;
 use crate::indented::{file, read_so_far};
 use crate::row::Stack;
-use crate::token::{Halt, Leaves};
 use bz_lex::{DEPTH_LIMIT, LENGTH_LIMIT, ReadFault, fault_at, place_of};
+use bz_states::{Leaves, ParseHalt};
 use bz_tree::{BzlTree, Kind, Tree};
 use std::alloc::Global;
 use std::str::from_utf8;
@@ -75,7 +75,7 @@ fn build_tree_of(alloc: Global, text: &[u8]) -> Result<Tree, ReadFault>
         Ok(parts) => parts,
         Err(fault) => return Err(fault),
     };
-    if parts.is_newer() {
+    if parts.holds_newer() {
         return Err(newer_fault(alloc, text));
     }
     Ok(Tree {
@@ -111,8 +111,8 @@ fn parts_of(alloc: Global, dialect: Dialect, text: &[u8]) -> Result<Stack, ReadF
     let mut leaves = Leaves::new(alloc, text);
     match file(alloc, &mut leaves) {
         Ok(parts) => Ok(parts),
-        Err(Halt::Memory) => Err(ReadFault::Memory),
-        Err(Halt::Unexpected) => Err(fault_before(alloc, dialect, text, &leaves)),
+        Err(ParseHalt::Memory) => Err(ReadFault::Memory),
+        Err(ParseHalt::Unexpected) => Err(fault_before(alloc, dialect, text, &leaves)),
     }
 }
 
@@ -158,7 +158,7 @@ fn first_newer(alloc: Global, text: &[u8], until: usize) -> Option<usize>
 /// The byte at which the first node begins that is too deep, by a reading with room for twice the depth: what stands behind a
 /// node may put it deeper. Where the text is no file further on, the lines in front of that place tell. The error, `Memory`
 /// alone: a growth was refused.
-fn first_too_deep(alloc: Global, text: &[u8]) -> Result<Option<usize>, Halt>
+fn first_too_deep(alloc: Global, text: &[u8]) -> Result<Option<usize>, ParseHalt>
     requires { length text.now ≤ limit }
 {
     let mut leaves = Leaves::new(alloc, text);

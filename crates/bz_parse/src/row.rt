@@ -7,11 +7,12 @@ ghost use Rattle.bz_tree.specs.declared.tree.Part.TheVariants as p;
 ghost use Rattle.bz_tree.specs.Legal.{IsBuildPart};
 ghost use Rattle.bz_tree.specs.Shapes.{name, has_token};
 ghost use Rattle.bz_tree.specs.Reading.{node};
-ghost use Rattle.bz_parse.specs.Words.{terminals_of, token_at, Pushes, Fails};
+ghost use Rattle.bz_states.specs.Tokens.{terminals_of, token_at, Fails};
+ghost use Rattle.bz_parse.specs.Words.{Pushes};
 
-use crate::token::{Halt, Leaves, Token};
 use bz_items::{Items, Memory};
 use bz_lex::{Class, Leaf};
+use bz_states::{Leaves, ParseHalt, TokenSet};
 use bz_tree::{Kind, Node, Part, have_newer};
 use std::alloc::Global;
 use std::marker::Model;
@@ -75,7 +76,7 @@ impl Stack {
     }
 
     /// Whether the part at a place is a name.
-    pub fn has_name(&self, at: usize) -> bool
+    pub fn is_name_at(&self, at: usize) -> bool
         ensures { (x : Part) → slice_get self.now at ≡ Some x → result ≡ has_token name x }
     {
         match self.parts.get(at) {
@@ -85,7 +86,7 @@ impl Stack {
     }
 
     /// Whether a node is of a kind that no BUILD file has, among the parts or inside them.
-    pub fn is_newer(&self) -> bool
+    pub fn holds_newer(&self) -> bool
         ensures found { IsTrue result → AllByRecursion IsBuildPart self.now → ⊥ }
         ensures none { (result ≡ false) → AllByRecursion IsBuildPart self.now }
     {
@@ -124,11 +125,11 @@ impl Stack {
     }
 
     /// The next leaf, where it is this token. Tells how deep it is: not at all.
-    pub fn take(&mut self, token: Token, leaves: &mut Leaves) -> Result<u32, Halt>
+    pub fn take(&mut self, token: TokenSet, leaves: &mut Leaves) -> Result<u32, ParseHalt>
         ensures ok { IfOk result (λ deep. Pushes (token_at (terminals_of token) leaves.old) self.old self.new leaves.new deep) }
         ensures err { Fails result (token_at (terminals_of token) leaves.old) }
     {
-        let leaf = leaves.take(token)?;
+        let leaf = leaves.take_next(token)?;
         self.push(leaf)?;
         Ok(0)
     }

@@ -1,14 +1,15 @@
 use Rattle.std.proofs.Common.{sym, ap, refl, ◌∙◌, List, [], ◌∷◌, ◌++◌, drop, arith}
 use Rattle.bz_tree.specs.declared.tree.Part.{Part}
 use Rattle.bz_tree.specs.declared.kind.Kind.TheVariants as k
-use Rattle.bz_parse.specs.declared.token.Token.TheVariants as token
-use Rattle.bz_parse.specs.declared.state.Sort.TheVariants as q
-use Rattle.bz_parse.specs.declared.state.State.TheVariants as s
-use Rattle.bz_parse.specs.declared.state.Rest.TheVariants as in_rest
-use Rattle.bz_parse.specs.declared.state.LambdaAt.TheVariants as lambda_at
+use Rattle.bz_states.specs.declared.token.TokenSet.TheVariants as token
+use Rattle.bz_states.specs.declared.state.PartSort.TheVariants as q
+use Rattle.bz_states.specs.declared.state.NodeState.TheVariants as s
+use Rattle.bz_states.specs.declared.state.Tail.TheVariants as in_rest
+use Rattle.bz_states.specs.declared.state.LambdaAt.TheVariants as lambda_at
 use Rattle.bz_tree.specs.Reading.{node}
-use Rattle.bz_parse.specs.Words.{terminals_of, token_at, part_at}
-use Rattle.bz_parse.specs.States.{sort_of, found_at}
+use Rattle.bz_states.specs.Tokens.{terminals_of, token_at}
+use Rattle.bz_parse.specs.Words.{part_at, found_from}
+use Rattle.bz_states.specs.States.{sort_of}
 use Rattle.bz_parse.proofs.Deepest.{made_depth, leaf_depth}
 use Rattle.bz_parse.proofs.Moves.{finishes, takes, takes_none, reads, reads_none, chooses_left, chooses_right, fewer_taken, fewer_read, fewer_left, fewer_right}
 use Rattle.bz_parse.proofs.Climbs.{handed_on, inside, level_is, argument_is, entry_is, clause_is, first_clause_is, small_is, line_is, alias_is, loaded_is, part_depth, level_prefix, atom_round, atom_square, atom_curly, atom_leaf, primary_atom, primary_none, suffix_stops, suffix_goes, suffix_shorter, star_is, argument_none, argument_odd, argument_stays, argument_named, param_is, starred_is, param_none, param_stays, param_valued}
@@ -58,68 +59,68 @@ part-returns-in-Argument-clause-ok t c = carry_ok _ _ _ _ _ _ _ (inside _ _ _ _ 
 pub part-returns-in-Argument-clause-err : goal.part-returns-in-Argument-clause-err
 part-returns-in-Argument-clause-err t c = carry_err _ _ _ (inside _ _ _ _ _ c.in-Argument.is c.if-depth-eq0.false (argument_is _ _)) c.argument.ensures.err
 
-pub part-returns-then-starts-clause-ok : goal.part-returns-then-starts-clause-ok
-part-returns-then-starts-clause-ok t c = carry_ok _ _ _ _ _ _ _ (inside _ _ _ _ _ c.in-Loaded.is c.if-depth-eq0.false (alias_is _ _ (sym c.starts.ensures ∙ c.if-starts.true))) (refl) c.begin.ensures.ok
+pub part-returns-then-next_is-clause-ok : goal.part-returns-then-next_is-clause-ok
+part-returns-then-next_is-clause-ok t c = carry_ok _ _ _ _ _ _ _ (inside _ _ _ _ _ c.in-Loaded.is c.if-depth-eq0.false (alias_is _ _ (sym c.next_is.ensures ∙ c.if-next_is.true))) (refl) c.begin.ensures.ok
 
-pub part-returns-then-starts-clause-err : goal.part-returns-then-starts-clause-err
-part-returns-then-starts-clause-err t c = carry_err _ _ _ (inside _ _ _ _ _ c.in-Loaded.is c.if-depth-eq0.false (alias_is _ _ (sym c.starts.ensures ∙ c.if-starts.true))) c.begin.ensures.err
+pub part-returns-then-next_is-clause-err : goal.part-returns-then-next_is-clause-err
+part-returns-then-next_is-clause-err t c = carry_err _ _ _ (inside _ _ _ _ _ c.in-Loaded.is c.if-depth-eq0.false (alias_is _ _ (sym c.next_is.ensures ∙ c.if-next_is.true))) c.begin.ensures.err
 
-pub part-returns-else-starts-clause-ok : goal.part-returns-else-starts-clause-ok
-part-returns-else-starts-clause-ok t c = carry_ok _ _ _ _ _ _ _ (inside _ _ _ _ _ c.in-Loaded.is c.if-depth-eq0.false (loaded_is _ _ (sym c.starts.ensures ∙ c.if-starts.false))) (refl) c.take.ensures.ok
+pub part-returns-else-next_is-clause-ok : goal.part-returns-else-next_is-clause-ok
+part-returns-else-next_is-clause-ok t c = carry_ok _ _ _ _ _ _ _ (inside _ _ _ _ _ c.in-Loaded.is c.if-depth-eq0.false (loaded_is _ _ (sym c.next_is.ensures ∙ c.if-next_is.false))) (refl) c.take.ensures.ok
 
-pub part-returns-else-starts-clause-err : goal.part-returns-else-starts-clause-err
-part-returns-else-starts-clause-err t c = carry_err _ _ _ (inside _ _ _ _ _ c.in-Loaded.is c.if-depth-eq0.false (loaded_is _ _ (sym c.starts.ensures ∙ c.if-starts.false))) c.take.ensures.err
+pub part-returns-else-next_is-clause-err : goal.part-returns-else-next_is-clause-err
+part-returns-else-next_is-clause-err t c = carry_err _ _ _ (inside _ _ _ _ _ c.in-Loaded.is c.if-depth-eq0.false (loaded_is _ _ (sym c.next_is.ensures ∙ c.if-next_is.false))) c.take.ensures.err
 
-pub atom-returns-then-starts-clause-ok : goal.atom-returns-then-starts-clause-ok
-atom-returns-then-starts-clause-ok t c = carry_ok _ _ _ _ _ _ _ (atom_round _ _ (sym c.starts.ensures ∙ c.if-starts.true)) (refl) c.begin.ensures.ok
+pub atom-returns-then-next_is-clause-ok : goal.atom-returns-then-next_is-clause-ok
+atom-returns-then-next_is-clause-ok t c = carry_ok _ _ _ _ _ _ _ (atom_round _ _ (sym c.next_is.ensures ∙ c.if-next_is.true)) (refl) c.begin.ensures.ok
 
-pub atom-returns-then-starts-clause-err : goal.atom-returns-then-starts-clause-err
-atom-returns-then-starts-clause-err t c = carry_err _ _ _ (atom_round _ _ (sym c.starts.ensures ∙ c.if-starts.true)) c.begin.ensures.err
+pub atom-returns-then-next_is-clause-err : goal.atom-returns-then-next_is-clause-err
+atom-returns-then-next_is-clause-err t c = carry_err _ _ _ (atom_round _ _ (sym c.next_is.ensures ∙ c.if-next_is.true)) c.begin.ensures.err
 
-pub atom-returns-then-starts-2-clause-ok : goal.atom-returns-then-starts-2-clause-ok
-atom-returns-then-starts-2-clause-ok t c = carry_ok _ _ _ _ _ _ _ (atom_square _ _ (sym c.starts.ensures ∙ c.if-starts.false) (sym c.starts-else-starts.ensures ∙ c.if-starts-2.true)) (refl) c.begin-then-starts-2.ensures.ok
+pub atom-returns-then-next_is-2-clause-ok : goal.atom-returns-then-next_is-2-clause-ok
+atom-returns-then-next_is-2-clause-ok t c = carry_ok _ _ _ _ _ _ _ (atom_square _ _ (sym c.next_is.ensures ∙ c.if-next_is.false) (sym c.next_is-else-next_is.ensures ∙ c.if-next_is-2.true)) (refl) c.begin-then-next_is-2.ensures.ok
 
-pub atom-returns-then-starts-2-clause-err : goal.atom-returns-then-starts-2-clause-err
-atom-returns-then-starts-2-clause-err t c = carry_err _ _ _ (atom_square _ _ (sym c.starts.ensures ∙ c.if-starts.false) (sym c.starts-else-starts.ensures ∙ c.if-starts-2.true)) c.begin-then-starts-2.ensures.err
+pub atom-returns-then-next_is-2-clause-err : goal.atom-returns-then-next_is-2-clause-err
+atom-returns-then-next_is-2-clause-err t c = carry_err _ _ _ (atom_square _ _ (sym c.next_is.ensures ∙ c.if-next_is.false) (sym c.next_is-else-next_is.ensures ∙ c.if-next_is-2.true)) c.begin-then-next_is-2.ensures.err
 
-pub atom-returns-then-starts-3-clause-ok : goal.atom-returns-then-starts-3-clause-ok
-atom-returns-then-starts-3-clause-ok t c = carry_ok _ _ _ _ _ _ _ (atom_curly _ _ (sym c.starts.ensures ∙ c.if-starts.false) (sym c.starts-else-starts.ensures ∙ c.if-starts-2.false) (sym c.starts-else-starts-2.ensures ∙ c.if-starts-3.true)) (refl) c.begin-then-starts-3.ensures.ok
+pub atom-returns-then-next_is-3-clause-ok : goal.atom-returns-then-next_is-3-clause-ok
+atom-returns-then-next_is-3-clause-ok t c = carry_ok _ _ _ _ _ _ _ (atom_curly _ _ (sym c.next_is.ensures ∙ c.if-next_is.false) (sym c.next_is-else-next_is.ensures ∙ c.if-next_is-2.false) (sym c.next_is-else-next_is-2.ensures ∙ c.if-next_is-3.true)) (refl) c.begin-then-next_is-3.ensures.ok
 
-pub atom-returns-then-starts-3-clause-err : goal.atom-returns-then-starts-3-clause-err
-atom-returns-then-starts-3-clause-err t c = carry_err _ _ _ (atom_curly _ _ (sym c.starts.ensures ∙ c.if-starts.false) (sym c.starts-else-starts.ensures ∙ c.if-starts-2.false) (sym c.starts-else-starts-2.ensures ∙ c.if-starts-3.true)) c.begin-then-starts-3.ensures.err
+pub atom-returns-then-next_is-3-clause-err : goal.atom-returns-then-next_is-3-clause-err
+atom-returns-then-next_is-3-clause-err t c = carry_err _ _ _ (atom_curly _ _ (sym c.next_is.ensures ∙ c.if-next_is.false) (sym c.next_is-else-next_is.ensures ∙ c.if-next_is-2.false) (sym c.next_is-else-next_is-2.ensures ∙ c.if-next_is-3.true)) c.begin-then-next_is-3.ensures.err
 
-pub atom-returns-else-starts-3-clause-ok : goal.atom-returns-else-starts-3-clause-ok
-atom-returns-else-starts-3-clause-ok t c = carry_ok _ _ _ _ _ _ _ (atom_leaf _ _ (sym c.starts.ensures ∙ c.if-starts.false) (sym c.starts-else-starts.ensures ∙ c.if-starts-2.false) (sym c.starts-else-starts-2.ensures ∙ c.if-starts-3.false)) (refl) c.take.ensures.ok
+pub atom-returns-else-next_is-3-clause-ok : goal.atom-returns-else-next_is-3-clause-ok
+atom-returns-else-next_is-3-clause-ok t c = carry_ok _ _ _ _ _ _ _ (atom_leaf _ _ (sym c.next_is.ensures ∙ c.if-next_is.false) (sym c.next_is-else-next_is.ensures ∙ c.if-next_is-2.false) (sym c.next_is-else-next_is-2.ensures ∙ c.if-next_is-3.false)) (refl) c.take.ensures.ok
 
-pub atom-returns-else-starts-3-clause-err : goal.atom-returns-else-starts-3-clause-err
-atom-returns-else-starts-3-clause-err t c = carry_err _ _ _ (atom_leaf _ _ (sym c.starts.ensures ∙ c.if-starts.false) (sym c.starts-else-starts.ensures ∙ c.if-starts-2.false) (sym c.starts-else-starts-2.ensures ∙ c.if-starts-3.false)) c.take.ensures.err
+pub atom-returns-else-next_is-3-clause-err : goal.atom-returns-else-next_is-3-clause-err
+atom-returns-else-next_is-3-clause-err t c = carry_err _ _ _ (atom_leaf _ _ (sym c.next_is.ensures ∙ c.if-next_is.false) (sym c.next_is-else-next_is.ensures ∙ c.if-next_is-2.false) (sym c.next_is-else-next_is-2.ensures ∙ c.if-next_is-3.false)) c.take.ensures.err
 
-pub argument-returns-then-starts-clause-ok : goal.argument-returns-then-starts-clause-ok
-argument-returns-then-starts-clause-ok t c = carry_ok _ _ _ _ _ _ _ (star_is _ _ (sym c.starts.ensures ∙ c.if-starts.true)) (refl) c.begin.ensures.ok
+pub argument-returns-then-next_is-clause-ok : goal.argument-returns-then-next_is-clause-ok
+argument-returns-then-next_is-clause-ok t c = carry_ok _ _ _ _ _ _ _ (star_is _ _ (sym c.next_is.ensures ∙ c.if-next_is.true)) (refl) c.begin.ensures.ok
 
-pub argument-returns-then-starts-clause-err : goal.argument-returns-then-starts-clause-err
-argument-returns-then-starts-clause-err t c = carry_err _ _ _ (star_is _ _ (sym c.starts.ensures ∙ c.if-starts.true)) c.begin.ensures.err
+pub argument-returns-then-next_is-clause-err : goal.argument-returns-then-next_is-clause-err
+argument-returns-then-next_is-clause-err t c = carry_err _ _ _ (star_is _ _ (sym c.next_is.ensures ∙ c.if-next_is.true)) c.begin.ensures.err
 
 pub argument-returns-in_err-deep-clause-err : goal.argument-returns-in_err-deep-clause-err
-argument-returns-in_err-deep-clause-err t c = handed_on _ _ _ _ c.from_residual.ensures.1 c.in_err-deep.ensures.err (λ n. argument_none _ _ (sym c.starts.ensures ∙ c.if-starts.false) n)
+argument-returns-in_err-deep-clause-err t c = handed_on _ _ _ _ c.from_residual.ensures.1 c.in_err-deep.ensures.err (λ n. argument_none _ _ (sym c.next_is.ensures ∙ c.if-next_is.false) n)
 
-pub argument-returns-then-not-starts-clause-ok : goal.argument-returns-then-not-starts-clause-ok
-argument-returns-then-not-starts-clause-ok t c = (c.in_ok-deep.ensures.ok.0, argument_stays _ _ _ _ (sym c.starts.ensures ∙ c.if-starts.false) c.in_ok-deep.ensures.ok.1 (sym c.starts-2.ensures ∙ c.if-not-starts.true), c.in_ok-deep.ensures.ok.2, c.in_ok-deep.ensures.ok.3)
+pub argument-returns-then-not-next_is-clause-ok : goal.argument-returns-then-not-next_is-clause-ok
+argument-returns-then-not-next_is-clause-ok t c = (c.in_ok-deep.ensures.ok.0, argument_stays _ _ _ _ (sym c.next_is.ensures ∙ c.if-next_is.false) c.in_ok-deep.ensures.ok.1 (sym c.next_is-2.ensures ∙ c.if-not-next_is.true), c.in_ok-deep.ensures.ok.2, c.in_ok-deep.ensures.ok.3)
 
-pub argument-returns-then-not-has_name-clause-err : goal.argument-returns-then-not-has_name-clause-err
-argument-returns-then-not-has_name-clause-err t c = argument_odd _ _ _ _ (sym c.starts.ensures ∙ c.if-starts.false) c.in_ok-deep.ensures.ok.1 (sym c.starts-2.ensures ∙ c.if-not-starts.false) (sym (c.has_name.ensures c.in_ok-deep.ensures.ok.0 (get_last _ _ _ _ c.in_ok-deep.ensures.ok.2 c.len-from.ensures)) ∙ c.if-not-has_name.true)
+pub argument-returns-then-not-is_name_at-clause-err : goal.argument-returns-then-not-is_name_at-clause-err
+argument-returns-then-not-is_name_at-clause-err t c = argument_odd _ _ _ _ (sym c.next_is.ensures ∙ c.if-next_is.false) c.in_ok-deep.ensures.ok.1 (sym c.next_is-2.ensures ∙ c.if-not-next_is.false) (sym (c.is_name_at.ensures c.in_ok-deep.ensures.ok.0 (get_last _ _ _ _ c.in_ok-deep.ensures.ok.2 c.len-from.ensures)) ∙ c.if-not-is_name_at.true)
 
 pub argument-returns-clause-ok : goal.argument-returns-clause-ok
-argument-returns-clause-ok t c = carry_ok _ _ _ _ _ _ _ (argument_named _ _ _ _ (sym c.starts.ensures ∙ c.if-starts.false) c.in_ok-deep.ensures.ok.1 (sym (c.has_name.ensures c.in_ok-deep.ensures.ok.0 (get_last _ _ _ _ c.in_ok-deep.ensures.ok.2 c.len-from.ensures)) ∙ c.if-not-has_name.false) ∙ fitted_begun _ _ _ _ _ _ _ (drop_last _ _ _ _ c.in_ok-deep.ensures.ok.2 c.len-from.ensures) c.in_ok-deep.ensures.ok.3 (sym c.starts-2.ensures ∙ c.if-not-starts.false)) (take_last _ _ _ _ c.in_ok-deep.ensures.ok.2 c.len-from.ensures) c.go_on.ensures.ok
+argument-returns-clause-ok t c = carry_ok _ _ _ _ _ _ _ (argument_named _ _ _ _ (sym c.next_is.ensures ∙ c.if-next_is.false) c.in_ok-deep.ensures.ok.1 (sym (c.is_name_at.ensures c.in_ok-deep.ensures.ok.0 (get_last _ _ _ _ c.in_ok-deep.ensures.ok.2 c.len-from.ensures)) ∙ c.if-not-is_name_at.false) ∙ fitted_begun _ _ _ _ _ _ _ (drop_last _ _ _ _ c.in_ok-deep.ensures.ok.2 c.len-from.ensures) c.in_ok-deep.ensures.ok.3 (sym c.next_is-2.ensures ∙ c.if-not-next_is.false)) (take_last _ _ _ _ c.in_ok-deep.ensures.ok.2 c.len-from.ensures) c.go_on.ensures.ok
 
 pub argument-returns-clause-err : goal.argument-returns-clause-err
-argument-returns-clause-err t c = carry_err _ _ _ (argument_named _ _ _ _ (sym c.starts.ensures ∙ c.if-starts.false) c.in_ok-deep.ensures.ok.1 (sym (c.has_name.ensures c.in_ok-deep.ensures.ok.0 (get_last _ _ _ _ c.in_ok-deep.ensures.ok.2 c.len-from.ensures)) ∙ c.if-not-has_name.false) ∙ fitted_begun _ _ _ _ _ _ _ (drop_last _ _ _ _ c.in_ok-deep.ensures.ok.2 c.len-from.ensures) c.in_ok-deep.ensures.ok.3 (sym c.starts-2.ensures ∙ c.if-not-starts.false)) c.go_on.ensures.err
+argument-returns-clause-err t c = carry_err _ _ _ (argument_named _ _ _ _ (sym c.next_is.ensures ∙ c.if-next_is.false) c.in_ok-deep.ensures.ok.1 (sym (c.is_name_at.ensures c.in_ok-deep.ensures.ok.0 (get_last _ _ _ _ c.in_ok-deep.ensures.ok.2 c.len-from.ensures)) ∙ c.if-not-is_name_at.false) ∙ fitted_begun _ _ _ _ _ _ _ (drop_last _ _ _ _ c.in_ok-deep.ensures.ok.2 c.len-from.ensures) c.in_ok-deep.ensures.ok.3 (sym c.next_is-2.ensures ∙ c.if-not-next_is.false)) c.go_on.ensures.err
 
 pub begin-returns-clause-ok : goal.begin-returns-clause-ok
-begin-returns-clause-ok t c = carry_ok _ _ _ _ _ _ _ (ap (λ (ps : List Part). found_at c.args.depth ps c.args.state c.args.leaves.now) (sym (begins_last _ _ c.len-from.ensures).0)) ((begins_last _ _ c.len-from.ensures).1) c.follow.ensures.ok
+begin-returns-clause-ok t c = carry_ok _ _ _ _ _ _ _ (ap (λ (ps : List Part). found_from c.args.depth ps c.args.state c.args.leaves.now) (sym (begins_last _ _ c.len-from.ensures).0)) ((begins_last _ _ c.len-from.ensures).1) c.follow.ensures.ok
 
 pub begin-returns-clause-err : goal.begin-returns-clause-err
-begin-returns-clause-err t c = carry_err _ _ _ (ap (λ (ps : List Part). found_at c.args.depth ps c.args.state c.args.leaves.now) (sym (begins_last _ _ c.len-from.ensures).0)) c.follow.ensures.err
+begin-returns-clause-err t c = carry_err _ _ _ (ap (λ (ps : List Part). found_from c.args.depth ps c.args.state c.args.leaves.now) (sym (begins_last _ _ c.len-from.ensures).0)) c.follow.ensures.err
 
 pub go_on-returns-in-Some-clause-err : goal.go_on-returns-in-Some-clause-err
 go_on-returns-in-Some-clause-err t c = unfit _ _ _ _ _ (omega arith)
@@ -166,17 +167,17 @@ follow-moves-preserved-in-Read t c = record {
   within = omega (arith, c.moves.invariant.within, c.deeper-deep-in-Read.ensures, (c.in_ok-part-in-Read.ensures.ok).3, part_depth _ _ _ _ _ (c.in_ok-part-in-Read.ensures.ok).1);
 }
 
-pub follow-moves-smaller-then-starts : goal.follow-moves-smaller-then-starts
-follow-moves-smaller-then-starts t c = fewer_left _ _ _ _ _ c.in-Choose.ensures.asks
+pub follow-moves-smaller-then-next_is : goal.follow-moves-smaller-then-next_is
+follow-moves-smaller-then-next_is t c = fewer_left _ _ _ _ _ c.in-Choose.ensures.asks
 
 pub follow-moves-smaller : goal.follow-moves-smaller
 follow-moves-smaller t c = fewer_right _ _ _ _ _ c.in-Choose.ensures.asks
 
-pub follow-moves-preserved-then-starts : goal.follow-moves-preserved-then-starts
-follow-moves-preserved-then-starts t c = record { rest = chooses_left _ _ _ _ _ _ _ c.in-Choose.ensures.asks (sym c.starts.ensures ∙ c.if-starts.true) ∙ c.moves.invariant.rest; below = c.moves.invariant.below; from = c.moves.invariant.from; deep = c.moves.invariant.deep; within = c.moves.invariant.within }
+pub follow-moves-preserved-then-next_is : goal.follow-moves-preserved-then-next_is
+follow-moves-preserved-then-next_is t c = record { rest = chooses_left _ _ _ _ _ _ _ c.in-Choose.ensures.asks (sym c.next_is.ensures ∙ c.if-next_is.true) ∙ c.moves.invariant.rest; below = c.moves.invariant.below; from = c.moves.invariant.from; deep = c.moves.invariant.deep; within = c.moves.invariant.within }
 
 pub follow-moves-preserved : goal.follow-moves-preserved
-follow-moves-preserved t c = record { rest = chooses_right _ _ _ _ _ _ _ c.in-Choose.ensures.asks (sym c.starts.ensures ∙ c.if-starts.false) ∙ c.moves.invariant.rest; below = c.moves.invariant.below; from = c.moves.invariant.from; deep = c.moves.invariant.deep; within = c.moves.invariant.within }
+follow-moves-preserved t c = record { rest = chooses_right _ _ _ _ _ _ _ c.in-Choose.ensures.asks (sym c.next_is.ensures ∙ c.if-next_is.false) ∙ c.moves.invariant.rest; below = c.moves.invariant.below; from = c.moves.invariant.from; deep = c.moves.invariant.deep; within = c.moves.invariant.within }
 
 pub primary-returns-in_err-deep-clause-err : goal.primary-returns-in_err-deep-clause-err
 primary-returns-in_err-deep-clause-err t c = handed_on _ _ _ _ c.from_residual.ensures.1 c.in_err-deep.ensures.err (λ n. primary_none _ _ n)
@@ -185,25 +186,25 @@ pub primary-suffixes-init : goal.primary-suffixes-init
 primary-suffixes-init t c = record { from = c.len-from.ensures; goes = (c.in_ok-deep.ensures.ok.0, primary_atom _ _ _ _ c.in_ok-deep.ensures.ok.1, c.in_ok-deep.ensures.ok.2, c.in_ok-deep.ensures.ok.3) }
 
 pub primary-returns-in_err-deep-2-clause-err : goal.primary-returns-in_err-deep-2-clause-err
-primary-returns-in_err-deep-2-clause-err t c = handed_on _ _ _ _ c.from_residual-in_err-deep-2.ensures.1 c.in_err-deep-2.ensures.err (λ n. sym c.suffixes.invariant.goes.1 ∙ suffix_fails _ _ _ _ _ (drop_last _ _ _ _ c.suffixes.invariant.goes.2 c.suffixes.invariant.from) c.suffixes.invariant.goes.3 (sym c.starts.ensures ∙ c.suffixes-test.true) n)
+primary-returns-in_err-deep-2-clause-err t c = handed_on _ _ _ _ c.from_residual-in_err-deep-2.ensures.1 c.in_err-deep-2.ensures.err (λ n. sym c.suffixes.invariant.goes.1 ∙ suffix_fails _ _ _ _ _ (drop_last _ _ _ _ c.suffixes.invariant.goes.2 c.suffixes.invariant.from) c.suffixes.invariant.goes.3 (sym c.next_is.ensures ∙ c.suffixes-test.true) n)
 
 pub primary-suffixes-smaller : goal.primary-suffixes-smaller
 primary-suffixes-smaller t c = suffix_shorter _ _ _ _ _ (fitted_some _ _ _ _ _ _ _ (drop_last _ _ _ _ c.suffixes.invariant.goes.2 c.suffixes.invariant.from) c.suffixes.invariant.goes.3 c.in_ok-deep-2.ensures.ok.1).1
 
 pub primary-suffixes-preserved : goal.primary-suffixes-preserved
-primary-suffixes-preserved t c = record { from = c.suffixes.invariant.from; goes = (c.in_ok-deep-2.ensures.ok.0, suffix_goes _ _ _ _ _ (sym c.starts.ensures ∙ c.suffixes-test.true) (fitted_some _ _ _ _ _ _ _ (drop_last _ _ _ _ c.suffixes.invariant.goes.2 c.suffixes.invariant.from) c.suffixes.invariant.goes.3 c.in_ok-deep-2.ensures.ok.1).0 (fitted_some _ _ _ _ _ _ _ (drop_last _ _ _ _ c.suffixes.invariant.goes.2 c.suffixes.invariant.from) c.suffixes.invariant.goes.3 c.in_ok-deep-2.ensures.ok.1).1 ∙ c.suffixes.invariant.goes.1, c.in_ok-deep-2.ensures.ok.2 ∙ ap (λ (ps : List Part). ps ++ (c.in_ok-deep-2.ensures.ok.0 ∷ [])) (take_last _ _ _ _ c.suffixes.invariant.goes.2 c.suffixes.invariant.from), c.in_ok-deep-2.ensures.ok.3) }
+primary-suffixes-preserved t c = record { from = c.suffixes.invariant.from; goes = (c.in_ok-deep-2.ensures.ok.0, suffix_goes _ _ _ _ _ (sym c.next_is.ensures ∙ c.suffixes-test.true) (fitted_some _ _ _ _ _ _ _ (drop_last _ _ _ _ c.suffixes.invariant.goes.2 c.suffixes.invariant.from) c.suffixes.invariant.goes.3 c.in_ok-deep-2.ensures.ok.1).0 (fitted_some _ _ _ _ _ _ _ (drop_last _ _ _ _ c.suffixes.invariant.goes.2 c.suffixes.invariant.from) c.suffixes.invariant.goes.3 c.in_ok-deep-2.ensures.ok.1).1 ∙ c.suffixes.invariant.goes.1, c.in_ok-deep-2.ensures.ok.2 ∙ ap (λ (ps : List Part). ps ++ (c.in_ok-deep-2.ensures.ok.0 ∷ [])) (take_last _ _ _ _ c.suffixes.invariant.goes.2 c.suffixes.invariant.from), c.in_ok-deep-2.ensures.ok.3) }
 
 pub primary-returns-clause-ok : goal.primary-returns-clause-ok
-primary-returns-clause-ok t c = (c.suffixes.invariant.goes.0, sym c.suffixes.invariant.goes.1 ∙ suffix_stops _ _ _ (sym c.starts.ensures ∙ c.suffixes-test.false), c.suffixes.invariant.goes.2, c.suffixes.invariant.goes.3)
+primary-returns-clause-ok t c = (c.suffixes.invariant.goes.0, sym c.suffixes.invariant.goes.1 ∙ suffix_stops _ _ _ (sym c.next_is.ensures ∙ c.suffixes-test.false), c.suffixes.invariant.goes.2, c.suffixes.invariant.goes.3)
 
-pub raised-returns-then-starts-clause-ok : goal.raised-returns-then-starts-clause-ok
-raised-returns-then-starts-clause-ok t c a e = carry_ok _ _ _ _ _ _ _ (bound_infix _ _ _ _ _ _ c.in-Infix.ensures ∙ fitted_begun _ _ _ _ _ _ _ e (depth_one _ _ _ e c.requires.deep) (sym c.starts.ensures ∙ c.if-starts.true)) refl c.go_on.ensures.ok
+pub raised-returns-then-next_is-clause-ok : goal.raised-returns-then-next_is-clause-ok
+raised-returns-then-next_is-clause-ok t c a e = carry_ok _ _ _ _ _ _ _ (bound_infix _ _ _ _ _ _ c.in-Infix.ensures ∙ fitted_begun _ _ _ _ _ _ _ e (depth_one _ _ _ e c.requires.deep) (sym c.next_is.ensures ∙ c.if-next_is.true)) refl c.go_on.ensures.ok
 
-pub raised-returns-then-starts-clause-err : goal.raised-returns-then-starts-clause-err
-raised-returns-then-starts-clause-err t c a e = carry_err _ _ _ (bound_infix _ _ _ _ _ _ c.in-Infix.ensures ∙ fitted_begun _ _ _ _ _ _ _ e (depth_one _ _ _ e c.requires.deep) (sym c.starts.ensures ∙ c.if-starts.true)) c.go_on.ensures.err
+pub raised-returns-then-next_is-clause-err : goal.raised-returns-then-next_is-clause-err
+raised-returns-then-next_is-clause-err t c a e = carry_err _ _ _ (bound_infix _ _ _ _ _ _ c.in-Infix.ensures ∙ fitted_begun _ _ _ _ _ _ _ e (depth_one _ _ _ e c.requires.deep) (sym c.next_is.ensures ∙ c.if-next_is.true)) c.go_on.ensures.err
 
-pub raised-returns-else-starts-clause-ok : goal.raised-returns-else-starts-clause-ok
-raised-returns-else-starts-clause-ok t c a e = stays_last _ _ _ _ _ e c.requires.deep (bound_other _ _ _ _ _ c.in-Infix.ensures (sym c.starts.ensures ∙ c.if-starts.false))
+pub raised-returns-else-next_is-clause-ok : goal.raised-returns-else-next_is-clause-ok
+raised-returns-else-next_is-clause-ok t c a e = stays_last _ _ _ _ _ e c.requires.deep (bound_other _ _ _ _ _ c.in-Infix.ensures (sym c.next_is.ensures ∙ c.if-next_is.false))
 
 pub raised-returns-in-Prefix-clause-ok : goal.raised-returns-in-Prefix-clause-ok
 raised-returns-in-Prefix-clause-ok t c a e = stays_last _ _ _ _ _ e c.requires.deep (bound_other _ _ _ _ _ c.in-Prefix.ensures refl)
@@ -253,20 +254,20 @@ part-returns-in-Param-clause-ok t c = carry_ok _ _ _ _ _ _ _ (inside _ _ _ _ _ c
 pub part-returns-in-Param-clause-err : goal.part-returns-in-Param-clause-err
 part-returns-in-Param-clause-err t c = carry_err _ _ _ (inside _ _ _ _ _ c.in-Param.is c.if-depth-eq0.false (param_is _ _)) c.param.ensures.err
 
-pub param-returns-then-starts-clause-ok : goal.param-returns-then-starts-clause-ok
-param-returns-then-starts-clause-ok t c = carry_ok _ _ _ _ _ _ _ (starred_is _ _ (sym c.starts.ensures ∙ c.if-starts.true)) (refl) c.begin.ensures.ok
+pub param-returns-then-next_is-clause-ok : goal.param-returns-then-next_is-clause-ok
+param-returns-then-next_is-clause-ok t c = carry_ok _ _ _ _ _ _ _ (starred_is _ _ (sym c.next_is.ensures ∙ c.if-next_is.true)) (refl) c.begin.ensures.ok
 
-pub param-returns-then-starts-clause-err : goal.param-returns-then-starts-clause-err
-param-returns-then-starts-clause-err t c = carry_err _ _ _ (starred_is _ _ (sym c.starts.ensures ∙ c.if-starts.true)) c.begin.ensures.err
+pub param-returns-then-next_is-clause-err : goal.param-returns-then-next_is-clause-err
+param-returns-then-next_is-clause-err t c = carry_err _ _ _ (starred_is _ _ (sym c.next_is.ensures ∙ c.if-next_is.true)) c.begin.ensures.err
 
 pub param-returns-in_err-deep-clause-err : goal.param-returns-in_err-deep-clause-err
-param-returns-in_err-deep-clause-err t c = handed_on _ _ _ _ c.from_residual.ensures.1 c.in_err-deep.ensures.err (λ n. param_none _ _ (sym c.starts.ensures ∙ c.if-starts.false) n)
+param-returns-in_err-deep-clause-err t c = handed_on _ _ _ _ c.from_residual.ensures.1 c.in_err-deep.ensures.err (λ n. param_none _ _ (sym c.next_is.ensures ∙ c.if-next_is.false) n)
 
-pub param-returns-then-not-starts-clause-ok : goal.param-returns-then-not-starts-clause-ok
-param-returns-then-not-starts-clause-ok t c = (c.in_ok-deep.ensures.ok.0, param_stays _ _ _ _ (sym c.starts.ensures ∙ c.if-starts.false) c.in_ok-deep.ensures.ok.1 (sym c.starts-2.ensures ∙ c.if-not-starts.true), c.in_ok-deep.ensures.ok.2, c.in_ok-deep.ensures.ok.3)
+pub param-returns-then-not-next_is-clause-ok : goal.param-returns-then-not-next_is-clause-ok
+param-returns-then-not-next_is-clause-ok t c = (c.in_ok-deep.ensures.ok.0, param_stays _ _ _ _ (sym c.next_is.ensures ∙ c.if-next_is.false) c.in_ok-deep.ensures.ok.1 (sym c.next_is-2.ensures ∙ c.if-not-next_is.true), c.in_ok-deep.ensures.ok.2, c.in_ok-deep.ensures.ok.3)
 
 pub param-returns-clause-ok : goal.param-returns-clause-ok
-param-returns-clause-ok t c = carry_ok _ _ _ _ _ _ _ (param_valued _ _ _ _ (sym c.starts.ensures ∙ c.if-starts.false) c.in_ok-deep.ensures.ok.1 ∙ fitted_begun _ _ _ _ _ _ _ (drop_last _ _ _ _ c.in_ok-deep.ensures.ok.2 c.len-from.ensures) c.in_ok-deep.ensures.ok.3 (sym c.starts-2.ensures ∙ c.if-not-starts.false)) (take_last _ _ _ _ c.in_ok-deep.ensures.ok.2 c.len-from.ensures) c.go_on.ensures.ok
+param-returns-clause-ok t c = carry_ok _ _ _ _ _ _ _ (param_valued _ _ _ _ (sym c.next_is.ensures ∙ c.if-next_is.false) c.in_ok-deep.ensures.ok.1 ∙ fitted_begun _ _ _ _ _ _ _ (drop_last _ _ _ _ c.in_ok-deep.ensures.ok.2 c.len-from.ensures) c.in_ok-deep.ensures.ok.3 (sym c.next_is-2.ensures ∙ c.if-not-next_is.false)) (take_last _ _ _ _ c.in_ok-deep.ensures.ok.2 c.len-from.ensures) c.go_on.ensures.ok
 
 pub param-returns-clause-err : goal.param-returns-clause-err
-param-returns-clause-err t c = carry_err _ _ _ (param_valued _ _ _ _ (sym c.starts.ensures ∙ c.if-starts.false) c.in_ok-deep.ensures.ok.1 ∙ fitted_begun _ _ _ _ _ _ _ (drop_last _ _ _ _ c.in_ok-deep.ensures.ok.2 c.len-from.ensures) c.in_ok-deep.ensures.ok.3 (sym c.starts-2.ensures ∙ c.if-not-starts.false)) c.go_on.ensures.err
+param-returns-clause-err t c = carry_err _ _ _ (param_valued _ _ _ _ (sym c.next_is.ensures ∙ c.if-next_is.false) c.in_ok-deep.ensures.ok.1 ∙ fitted_begun _ _ _ _ _ _ _ (drop_last _ _ _ _ c.in_ok-deep.ensures.ok.2 c.len-from.ensures) c.in_ok-deep.ensures.ok.3 (sym c.next_is-2.ensures ∙ c.if-not-next_is.false)) c.go_on.ensures.err

@@ -1,7 +1,9 @@
 use Rattle.std.proofs.Common.{◌≡◌, ◌+◌, ◌*◌, ◌-◌, ◌≤◌, ◌++◌, ◌∷◌, [], length, take, drop}
 use Rattle.bz_tree.specs.declared.tree.Part.{Part}
 use Rattle.bz_tree.specs.Spell.{depth_part, deepest}
-use Rattle.bz_parse.specs.States.{plan_at, choices, found_at, suffixes_at, level_at, Rises}
+use Rattle.bz_states.specs.States.{plan_at, choices}
+use Rattle.bz_parse.specs.Words.{found_from}
+use Rattle.bz_parse.specs.Ranks.{suffixes_at, level_at, RisesFrom}
 use Rattle.bz_parse.proofs.grammar.+parser.Given as goal
 
 -- each part inside is one deeper; the functions of one depth in the order in which they call each other
@@ -40,7 +42,7 @@ decreases-param l = 20 * l.depth + 7
 
 abbrev pub invariant-follow-moves : goal.invariant-follow-moves
 invariant-follow-moves l = record {
-  rest : found_at l.depth (drop l.from l.stack) l.state l.leaves ≡ found_at l.fn.depth (drop l.fn.from l.fn.stack) l.fn.state l.fn.leaves;
+  rest : found_from l.depth (drop l.from l.stack) l.state l.leaves ≡ found_from l.fn.depth (drop l.fn.from l.fn.stack) l.fn.state l.fn.leaves;
   below : take l.from l.stack ≡ take l.fn.from l.fn.stack;
   from : l.from ≤ length l.stack;
   deep : l.deep ≡ deepest (drop l.from l.stack);
@@ -54,7 +56,7 @@ decreases-follow-moves l = 8 * length l.leaves + choices (plan_at l.state)
 abbrev pub invariant-expression-ranks : goal.invariant-expression-ranks
 invariant-expression-ranks l = record {
   from : l.from ≡ length l.fn.stack;
-  rises : Rises l.depth l.rank l.n l.fn.leaves l.leaves l.fn.stack l.stack l.deep;
+  rises : RisesFrom l.depth l.rank l.n l.fn.leaves l.leaves l.fn.stack l.stack l.deep;
 }
 
 abbrev pub decreases-expression-ranks : goal.decreases-expression-ranks

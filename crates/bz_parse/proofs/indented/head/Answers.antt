@@ -1,7 +1,8 @@
 use Rattle.std.proofs.Common.{sym, ap, ◌∙◌, drop, arith}
 use Rattle.bz_tree.specs.Spell.{deepest}
-use Rattle.bz_parse.specs.Words.{terminals_of, token_at, part_at}
-use Rattle.bz_parse.specs.States.{sort_of}
+use Rattle.bz_states.specs.Tokens.{terminals_of, token_at}
+use Rattle.bz_parse.specs.Words.{part_at}
+use Rattle.bz_states.specs.States.{sort_of}
 use Rattle.bz_parse.proofs.Deepest.{leaf_depth}
 use Rattle.bz_parse.proofs.Moves.{finishes, takes, takes_none, reads, reads_none, chooses_left, chooses_right, fewer_taken, fewer_read, fewer_left, fewer_right}
 use Rattle.bz_parse.proofs.Climbs.{handed_on, part_depth, header_some, header_none}
@@ -42,17 +43,17 @@ moves-preserved-in-Read c = record {
   within = omega (arith, c.moves.invariant.within, c.deeper-deep-in-Read.ensures, (c.in_ok-part-in-Read.ensures.ok).3, part_depth _ _ _ _ _ (c.in_ok-part-in-Read.ensures.ok).1);
 }
 
-pub moves-smaller-then-starts : goal.moves-smaller-then-starts
-moves-smaller-then-starts c = fewer_left _ _ _ _ _ c.in-Choose.ensures.asks
+pub moves-smaller-then-next_is : goal.moves-smaller-then-next_is
+moves-smaller-then-next_is c = fewer_left _ _ _ _ _ c.in-Choose.ensures.asks
 
 pub moves-smaller : goal.moves-smaller
 moves-smaller c = fewer_right _ _ _ _ _ c.in-Choose.ensures.asks
 
-pub moves-preserved-then-starts : goal.moves-preserved-then-starts
-moves-preserved-then-starts c = record { rest = chooses_left _ _ _ _ _ _ _ c.in-Choose.ensures.asks (sym c.starts.ensures ∙ c.if-starts.true) ∙ c.moves.invariant.rest; below = c.moves.invariant.below; from = c.moves.invariant.from; deep = c.moves.invariant.deep; within = c.moves.invariant.within }
+pub moves-preserved-then-next_is : goal.moves-preserved-then-next_is
+moves-preserved-then-next_is c = record { rest = chooses_left _ _ _ _ _ _ _ c.in-Choose.ensures.asks (sym c.next_is.ensures ∙ c.if-next_is.true) ∙ c.moves.invariant.rest; below = c.moves.invariant.below; from = c.moves.invariant.from; deep = c.moves.invariant.deep; within = c.moves.invariant.within }
 
 pub moves-preserved : goal.moves-preserved
-moves-preserved c = record { rest = chooses_right _ _ _ _ _ _ _ c.in-Choose.ensures.asks (sym c.starts.ensures ∙ c.if-starts.false) ∙ c.moves.invariant.rest; below = c.moves.invariant.below; from = c.moves.invariant.from; deep = c.moves.invariant.deep; within = c.moves.invariant.within }
+moves-preserved c = record { rest = chooses_right _ _ _ _ _ _ _ c.in-Choose.ensures.asks (sym c.next_is.ensures ∙ c.if-next_is.false) ∙ c.moves.invariant.rest; below = c.moves.invariant.below; from = c.moves.invariant.from; deep = c.moves.invariant.deep; within = c.moves.invariant.within }
 
 pub moves-init : goal.moves-init
 moves-init c = record {

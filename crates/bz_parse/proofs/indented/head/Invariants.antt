@@ -1,13 +1,13 @@
 use Rattle.std.proofs.Common.{◌≡◌, ◌+◌, ◌*◌, ◌≤◌, [], length, take, drop}
 use Rattle.bz_tree.specs.Spell.{deepest}
-use Rattle.bz_parse.specs.Words.{found_by}
-use Rattle.bz_parse.specs.States.{plan_at, choices, found_at}
+use Rattle.bz_parse.specs.Words.{found_by, found_from}
+use Rattle.bz_states.specs.States.{plan_at, choices}
 use Rattle.bz_parse.specs.Rows.{plan_of_header}
 use Rattle.bz_parse.proofs.indented.head.Given as goal
 
 abbrev pub invariant-moves : goal.invariant-moves
 invariant-moves l = record {
-  rest : found_at l.depth (drop l.from l.stack) l.state l.leaves ≡ found_by l.fn.depth [] (plan_of_header l.fn.which) l.fn.leaves;
+  rest : found_from l.depth (drop l.from l.stack) l.state l.leaves ≡ found_by l.fn.depth [] (plan_of_header l.fn.which) l.fn.leaves;
   below : take l.from l.stack ≡ l.fn.stack;
   from : l.from ≤ length l.stack;
   deep : l.deep ≡ deepest (drop l.from l.stack);

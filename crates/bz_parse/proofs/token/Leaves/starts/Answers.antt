@@ -1,7 +1,0 @@
-use Rattle.std.proofs.Common.{ap, ◌∙◌}
-use Rattle.bz_tree.specs.Reading.{starts_with}
-use Rattle.bz_parse.specs.Words.{terminals_of}
-use Rattle.bz_parse.proofs.token.Leaves.starts.Goals as goal
-
-pub returns : goal.returns
-returns c = c.is.ensures ∙ c.self.invariant.1 c.args.token ∙ ap (starts_with (terminals_of c.args.token)) c.self.view_is

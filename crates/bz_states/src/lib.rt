@@ -1,0 +1,13 @@
+//! What the grammar asks for: its tokens, the leaves of a text of which the next one is told, and the states in which a node is read.
+#![tactic(auto)]
+
+mod state;
+mod symbol;
+mod token;
+
+pub use state::{
+    BracketsAt, ClausesAt, HeaderAt, ItemsAt, LAMBDA, LambdaAt, ListedItems, Move, NOT, NamesAt,
+    NodeState, Operands, OperandsAt, PRIMARY, PartSort, RoundAt, Rung, SliceAt, SquareOrCurly,
+    StarredAt, StatementAt, SuffixAt, TEST, Tail, UNARY, rung_at,
+};
+pub use token::{Leaves, ParseHalt, TokenSet};

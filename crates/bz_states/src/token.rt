@@ -1,0 +1,547 @@
+//! The tokens that the grammar asks for, and the leaves of a text, of which the next one is told.
+ghost use Rattle.std.specs.Prelude.{◌≡◌, ◌↔◌, ◌≤◌, ◌<◌, ◌&&◌, ◌∷◌, [], ℕ, nat_le, false, Some, None, length, drop, MatchOption, IfOk, IsTrue};
+ghost use Rattle.bz_tree.specs.Shapes.{is_one_of};
+ghost use Rattle.bz_tree.specs.Reading.{starts_with};
+ghost use Rattle.bz_tree.specs.Indents.{first_indent};
+ghost use Rattle.bz_tree.specs.Suites.{stands_at};
+ghost use Rattle.bz_lex.specs.Gaps.{indent};
+ghost use Rattle.bz_states.specs.declared.token.TokenSet.TheVariants as t;
+ghost use Rattle.bz_tree.specs.declared.tree.Part.TheVariants as p;
+ghost use Rattle.bz_tree.specs.Spell.{limit};
+ghost use Rattle.bz_lex.proofs.Coming.{to_come};
+ghost use Rattle.bz_lex.specs.Fronts.{TellsFront};
+ghost use Rattle.bz_states.specs.Symbols.{example, TellsFirst};
+ghost use Rattle.bz_states.specs.Tokens.{terminals_of, token_at, Fails};
+ghost use Rattle.bz_states.specs.States.{binds_at};
+
+use crate::state::LAMBDA;
+use crate::symbol::Symbol;
+use bz_lex::{Class, Front, Leaf, Place, Reason, Stop, leaf_front};
+use bz_token::opens_string;
+use std::alloc::{AllocError, AllocFailed, Global};
+use std::marker::Model;
+
+/// Why the leaves are no file.
+#[derive(Drop)]
+pub enum ParseHalt {
+    /// A growth was refused.
+    Memory,
+    /// No file goes on with the next leaf.
+    Unexpected,
+}
+
+impl From<AllocError> for ParseHalt {
+    ghost use Rattle.std.specs.Prelude.{◌≡◌};
+    ghost use Rattle.bz_states.specs.declared.token.ParseHalt.TheVariants as h;
+
+    ghost from_gives = { λ _ halt. halt ≡ h.Memory };
+
+    fn from(_refused: AllocError) -> ParseHalt {
+        ParseHalt::Memory
+    }
+}
+
+impl<T: Drop> From<AllocFailed<T>> for ParseHalt {
+    ghost use Rattle.std.specs.Prelude.{◌≡◌};
+    ghost use Rattle.bz_states.specs.declared.token.ParseHalt.TheVariants as h;
+
+    ghost from_gives = { λ _ halt. halt ≡ h.Memory };
+
+    fn from(_refused: AllocFailed<T>) -> ParseHalt {
+        ParseHalt::Memory
+    }
+}
+
+/// The tokens that the grammar asks for, one or several.
+#[derive(Clone, Copy)]
+pub enum TokenSet {
+    Name,
+    String,
+    /// A name, a number or a string.
+    Simple,
+    Newline,
+    End,
+    OpenRound,
+    CloseRound,
+    OpenSquare,
+    CloseSquare,
+    OpenCurly,
+    CloseCurly,
+    Comma,
+    Colon,
+    Semicolon,
+    Dot,
+    Equals,
+    /// `=` or an augmented form.
+    Assigns,
+    /// `*` or `**`.
+    Stars,
+    /// `+`, `-` or `~`.
+    Signs,
+    /// `==`, `!=`, `<`, `>`, `<=`, `>=` or `in`.
+    Orders,
+    /// What an order begins with, or `not`.
+    Compares,
+    /// What stands behind a primary: `.`, `(` or `[`.
+    Suffixes,
+    /// `for` or `if`.
+    Clauses,
+    /// What a statement begins with.
+    Statements,
+    /// What an expression begins with.
+    Expressions,
+    /// `]` or `:`.
+    SliceStops,
+    /// What an expression ends before, where no comma binds in it: a comma, a closing bracket, `:`, `=`, `;` or a newline.
+    Ends,
+    Bar,
+    Caret,
+    Ampersand,
+    /// `<<` or `>>`.
+    Shifts,
+    /// `+` or `-`.
+    Sums,
+    /// `*`, `/`, `//` or `%`.
+    Products,
+    Star,
+    DoubleStar,
+    /// `break`, `continue` or `pass`.
+    Flow,
+    Def,
+    Elif,
+    Lambda,
+    Return,
+    Load,
+    If,
+    Else,
+    Or,
+    And,
+    Not,
+    In,
+    For,
+}
+
+impl TokenSet {
+    /// Whether a token is one of these.
+    #[inline(always)]
+    fn is(self, symbol: Symbol) -> bool
+        ensures { result ≡ is_one_of (terminals_of self) (example symbol) }
+    {
+        match self {
+            TokenSet::Name => matches!(symbol, Symbol::Name),
+            TokenSet::String => matches!(symbol, Symbol::String),
+            TokenSet::Simple => matches!(symbol, Symbol::Name | Symbol::Number | Symbol::String),
+            TokenSet::Newline => matches!(symbol, Symbol::Newline),
+            TokenSet::End => matches!(symbol, Symbol::End),
+            TokenSet::OpenRound => matches!(symbol, Symbol::OpenRound),
+            TokenSet::CloseRound => matches!(symbol, Symbol::CloseRound),
+            TokenSet::OpenSquare => matches!(symbol, Symbol::OpenSquare),
+            TokenSet::CloseSquare => matches!(symbol, Symbol::CloseSquare),
+            TokenSet::OpenCurly => matches!(symbol, Symbol::OpenCurly),
+            TokenSet::CloseCurly => matches!(symbol, Symbol::CloseCurly),
+            TokenSet::Comma => matches!(symbol, Symbol::Comma),
+            TokenSet::Colon => matches!(symbol, Symbol::Colon),
+            TokenSet::Semicolon => matches!(symbol, Symbol::Semicolon),
+            TokenSet::Dot => matches!(symbol, Symbol::Dot),
+            TokenSet::Equals => matches!(symbol, Symbol::Equals),
+            TokenSet::Assigns => matches!(symbol, Symbol::Equals | Symbol::Augmented),
+            TokenSet::Stars => matches!(symbol, Symbol::Star | Symbol::DoubleStar),
+            TokenSet::Signs => matches!(symbol, Symbol::Plus | Symbol::Minus | Symbol::Tilde),
+            TokenSet::Orders => matches!(symbol, Symbol::Order | Symbol::In),
+            TokenSet::Compares => matches!(symbol, Symbol::Order | Symbol::In | Symbol::Not),
+            TokenSet::Suffixes => matches!(
+                symbol,
+                Symbol::Dot | Symbol::OpenRound | Symbol::OpenSquare
+            ),
+            TokenSet::Clauses => matches!(symbol, Symbol::For | Symbol::If),
+            TokenSet::Statements => symbol.begins_statement(),
+            TokenSet::Expressions => symbol.begins_expression(),
+            TokenSet::SliceStops => matches!(symbol, Symbol::CloseSquare | Symbol::Colon),
+            TokenSet::Ends => symbol.ends_expression(),
+            TokenSet::Bar => matches!(symbol, Symbol::Bar),
+            TokenSet::Caret => matches!(symbol, Symbol::Caret),
+            TokenSet::Ampersand => matches!(symbol, Symbol::Ampersand),
+            TokenSet::Shifts => matches!(symbol, Symbol::Shift),
+            TokenSet::Sums => matches!(symbol, Symbol::Plus | Symbol::Minus),
+            TokenSet::Products => matches!(symbol, Symbol::Star | Symbol::Slash | Symbol::Percent),
+            TokenSet::Star => matches!(symbol, Symbol::Star),
+            TokenSet::DoubleStar => matches!(symbol, Symbol::DoubleStar),
+            TokenSet::Flow => matches!(symbol, Symbol::Flow),
+            TokenSet::Def => matches!(symbol, Symbol::Def),
+            TokenSet::Elif => matches!(symbol, Symbol::Elif),
+            TokenSet::Lambda => matches!(symbol, Symbol::Lambda),
+            TokenSet::Return => matches!(symbol, Symbol::Return),
+            TokenSet::Load => matches!(symbol, Symbol::Load),
+            TokenSet::If => matches!(symbol, Symbol::If),
+            TokenSet::Else => matches!(symbol, Symbol::Else),
+            TokenSet::Or => matches!(symbol, Symbol::Or),
+            TokenSet::And => matches!(symbol, Symbol::And),
+            TokenSet::Not => matches!(symbol, Symbol::Not),
+            TokenSet::In => matches!(symbol, Symbol::In),
+            TokenSet::For => matches!(symbol, Symbol::For),
+        }
+    }
+}
+
+impl Symbol {
+    fn begins_statement(self) -> bool
+        ensures { result ≡ is_one_of (terminals_of t.Statements) (example self) }
+    {
+        matches!(
+            self,
+            Symbol::Load | Symbol::Return | Symbol::Flow | Symbol::Def | Symbol::If | Symbol::For
+        ) || self.begins_expression()
+    }
+
+    fn begins_expression(self) -> bool
+        ensures { result ≡ is_one_of (terminals_of t.Expressions) (example self) }
+    {
+        matches!(
+            self,
+            Symbol::Lambda
+                | Symbol::Not
+                | Symbol::Plus
+                | Symbol::Minus
+                | Symbol::Tilde
+                | Symbol::Name
+                | Symbol::Number
+                | Symbol::String
+                | Symbol::OpenRound
+                | Symbol::OpenSquare
+                | Symbol::OpenCurly
+        )
+    }
+
+    fn ends_expression(self) -> bool
+        ensures { result ≡ is_one_of (terminals_of t.Ends) (example self) }
+    {
+        matches!(
+            self,
+            Symbol::Comma
+                | Symbol::CloseRound
+                | Symbol::CloseSquare
+                | Symbol::CloseCurly
+                | Symbol::Colon
+                | Symbol::Equals
+                | Symbol::Semicolon
+                | Symbol::Newline
+        )
+    }
+}
+
+/// Where a node begins that is nested too deep, and the byte behind which the leaves can't go on for that reason.
+#[derive(Clone, Copy, Drop)]
+struct TooDeep {
+    at: usize,
+    until: usize,
+}
+
+/// The leaves of a text that are not in the tree yet. Each is cut off the text when it is taken; of the next one alone is
+/// known what it is. A contract sees the list of leaves that come, up to where no leaf stands.
+#[derive(Drop)]
+pub struct Leaves<'a> {
+    alloc: Global,
+    /// The text from the gap of the next leaf on, and where that stands in a file.
+    rest: &'a [u8],
+    place: Place,
+    next: Result<Front, Stop>,
+    symbol: Symbol,
+    /// How many bytes of the text are not left, and how many stand before the last token that was taken.
+    offset: usize,
+    last: usize,
+    too_deep: Option<TooDeep>,
+    /// How many bytes were not left when the next leaf stood at an indent at which a statement may begin.
+    at_indent: Option<usize>,
+}
+
+impl<'a> Model for Leaves<'a> {
+    ghost use Rattle.std.specs.Prelude.{◌<◌, ◌+◌, ◌^◌, List, length};
+    ghost use Rattle.std.specs.Coded.{coded_list};
+    ghost use Rattle.bz_lex.specs.declared.leaf.Leaf.{Leaf};
+    ghost use Rattle.bz_lex.specs.contracts.leaf.Leaf as e;
+    ghost use Rattle.bz_lex.specs.Places.{open_brackets};
+    ghost use Rattle.bz_lex.specs.Fronts.{TellsFront};
+    ghost use Rattle.bz_lex.proofs.Coming.{to_come};
+    ghost use Rattle.bz_states.specs.Symbols.{TellsFirst};
+
+    ghost Value = { List Leaf };
+
+    ghost coded = { coded_list e.the_row.coded };
+
+    ghost view = { λ leaves. to_come leaves.place leaves.rest.now };
+
+    ghost invariant = { λ leaves. TellsFront leaves.place leaves.rest.now leaves.next × TellsFirst leaves.symbol (to_come leaves.place leaves.rest.now) × (open_brackets leaves.place + length leaves.rest.now < 2 ^ 64) };
+}
+
+impl<'a> Leaves<'a> {
+    /// The leaves of a text, from its first byte on, up to where no leaf stands.
+    pub fn new(alloc: Global, text: &'a [u8]) -> Leaves<'a>
+        requires { length text.now ≤ limit }
+        ensures { result ≡ to_come Place.Fresh text.now }
+    {
+        let next = leaf_front(text, Place::Fresh);
+        Leaves {
+            alloc,
+            rest: text,
+            place: Place::Fresh,
+            next,
+            symbol: symbol_at(next, text, Place::Fresh),
+            offset: 0,
+            last: 0,
+            too_deep: None,
+            at_indent: None,
+        }
+    }
+
+    /// Whether no leaf comes: all of them were taken, or none stands where the last one ends.
+    pub fn is_empty(&self) -> bool
+        ensures { IsTrue result ↔ (self.now ≡ []) }
+    {
+        match self.next {
+            Ok(_) => false,
+            Err(_) => true,
+        }
+    }
+
+    /// Whether there is a next leaf and it is one of these tokens.
+    #[inline(always)]
+    pub fn next_is(&self, token: TokenSet) -> bool
+        ensures { result ≡ starts_with (terminals_of token) self.now }
+    {
+        token.is(self.symbol)
+    }
+
+    /// The spaces and tabs right before the token of the next leaf; none where no leaf comes.
+    pub fn next_indent(&self) -> &'a [u8]
+        ensures { result.now ≡ first_indent self.now }
+    {
+        indent_at(self.next, self.rest, self.place)
+    }
+
+    /// Whether the next leaf is one of these tokens, at this indent.
+    pub fn next_stands_at(&self, token: TokenSet, indent: &[u8]) -> bool
+        ensures { result ≡ stands_at (terminals_of token) indent.now self.now }
+    {
+        self.next_is(token) && self.next_indent() == indent
+    }
+
+    /// Whether the next leaf is one of these tokens, and a rank is no lower than the least.
+    pub fn starts_from(&self, least: u8, rank: u8, token: TokenSet) -> bool
+        ensures { result ≡ (nat_le least rank && starts_with (terminals_of token) self.now) }
+    {
+        least <= rank && self.next_is(token)
+    }
+
+    /// The next rank, from this one on, in which the next leaf may bind as an operator: in none that is passed does it bind.
+    pub fn next_rank(&self, rank: u8) -> u8
+        ensures above { rank ≤ result }
+        ensures passes { (j : ℕ) → rank ≤ j → j < result → binds_at j self.now ≡ false }
+    {
+        if rank < LAMBDA && self.next_is(TokenSet::Ends) {
+            LAMBDA
+        } else {
+            rank
+        }
+    }
+
+    /// Keeps that a node begins at this byte of the text which would be nested too deep if it went on with the next leaf. The leaves
+    /// stay as they are.
+    pub fn mark_too_deep(&mut self, at: usize)
+        ensures { self.new ≡ self.old }
+    {
+        self.too_deep = Some(TooDeep {
+            at,
+            until: self.offset,
+        });
+    }
+
+    /// Keeps that the next leaf begins a node which would be nested too deep. The leaves stay as they are.
+    pub fn mark_next_too_deep(&mut self)
+        ensures { self.new ≡ self.old }
+    {
+        if let Some(at) = self.next_at() {
+            self.mark_too_deep(at);
+        }
+    }
+
+    /// Keeps whether the next leaf stands at this indent, at which a statement may begin. The leaves stay as they are.
+    pub fn mark_indent(&mut self, indent: &[u8])
+        ensures { self.new ≡ self.old }
+    {
+        if self.next_indent() == indent {
+            self.at_indent = Some(self.offset);
+        }
+    }
+
+    /// The byte at which the node begins that keeps the next leaf from being read, since it is nested too deep.
+    pub fn too_deep_at(&self) -> Option<usize> {
+        match self.too_deep {
+            Some(TooDeep { at, until }) if until == self.offset => Some(at),
+            _ => None,
+        }
+    }
+
+    /// How many bytes of the text the leaves spell that were taken.
+    pub fn offset(&self) -> usize {
+        self.offset
+    }
+
+    /// The byte of the text at which the token of the next leaf begins; None where no leaf comes.
+    pub fn next_at(&self) -> Option<usize> {
+        match self.next {
+            Ok(front) => Some(self.offset.saturating_add(front.gap)),
+            Err(_) => None,
+        }
+    }
+
+    /// Why the next leaf is no part of a file, and the byte of the whole text at which that shows: no leaf stands there, or
+    /// it is a string that is not closed, from its prefix on, or it stands where no file goes on with it.
+    pub fn stopped_at(&self, text: &[u8]) -> Stop {
+        let (reason, at) = match self.next {
+            Ok(front) => (self.reason(), self.offset.saturating_add(front.gap)),
+            Err(stop) => (stop.reason, self.offset.saturating_add(stop.at)),
+        };
+        let begins_here = matches!(reason, Reason::OpenString) && at == self.offset;
+        if begins_here && opens_string(from(text, self.last)) {
+            return Stop {
+                reason,
+                at: self.last,
+            };
+        }
+        if matches!(reason, Reason::Unexpected | Reason::Indented) && opens_string(from(text, at)) {
+            return Stop {
+                reason: Reason::OpenString,
+                at,
+            };
+        }
+        Stop { reason, at }
+    }
+
+    /// Why no file goes on with the next leaf: the first token of a line stands at a wrong indent where no statement may begin
+    /// at that one. At a right indent, the token is the fault.
+    fn reason(&self) -> Reason {
+        let is_first = matches!(self.place, Place::Fresh) && !self.next_is(TokenSet::End);
+        let is_at_indent = self.at_indent == Some(self.offset);
+        if is_first && !is_at_indent {
+            Reason::Indented
+        } else {
+            Reason::Unexpected
+        }
+    }
+
+    /// The byte at which the first token begins that no BUILD file has, among those that begin in so many bytes of the text
+    /// of these leaves.
+    pub fn newer_within(&mut self, until: usize) -> Option<usize> {
+        for _ in 0..until {
+            if self.offset >= until || self.is_empty() {
+                return None;
+            }
+            if self.starts_newer() {
+                return self.next_at();
+            }
+            self.skip();
+        }
+        None
+    }
+
+    /// Whether no BUILD file has the next leaf here: a keyword of the newer kinds, or one that begins a line for which it has
+    /// no statement.
+    fn starts_newer(&self) -> bool {
+        match self.symbol {
+            Symbol::Def | Symbol::Elif | Symbol::Lambda | Symbol::Return | Symbol::Flow => true,
+            Symbol::If | Symbol::For | Symbol::Else => matches!(self.place, Place::Fresh),
+            _ => false,
+        }
+    }
+
+    /// Passes over the next leaf, if there is one.
+    #[inline(always)]
+    fn skip(&mut self)
+        ensures { self.new ≡ drop 1 self.old }
+    {
+        if let Ok(front) = self.next {
+            let place = self.place.behind(front.class, front.token_of(self.rest));
+            let rest = front.rest_of(self.rest);
+            self.last = self.offset.saturating_add(front.gap);
+            self.offset = self.last.saturating_add(front.token);
+            self.next = leaf_front(rest, place);
+            self.symbol = symbol_at(self.next, rest, place);
+            self.place = place;
+            self.rest = rest;
+        }
+    }
+
+    /// Cuts off the next leaf, if there is one. The error: a growth was refused; the leaves are then as before.
+    #[inline(always)]
+    fn cut(&mut self) -> Result<Option<Leaf>, AllocError>
+        ensures { IfOk result (λ leaf. MatchOption leaf (self.old ≡ []) (λ leaf. self.old ≡ leaf ∷ self.new)) }
+    {
+        let front = match self.next {
+            Ok(front) => front,
+            Err(_) => return Ok(None),
+        };
+        let leaf = front.leaf(self.alloc, self.rest)?;
+        self.skip();
+        Ok(Some(leaf))
+    }
+
+    /// The next leaf, where it is one of these tokens. On an error the leaves are as before.
+    ///
+    /// Errors: `Unexpected` where no leaf comes or it is another token; `Memory` where a growth was refused.
+    #[inline(always)]
+    #[tactic(auto, unfolding(crate::specs::Tokens::token_at))]
+    pub fn take_next(&mut self, token: TokenSet) -> Result<Leaf, ParseHalt>
+        ensures ok { IfOk result (λ leaf. token_at (terminals_of token) self.old ≡ Some (p.Leaf leaf, self.new)) }
+        ensures err { Fails result (token_at (terminals_of token) self.old) }
+    {
+        if !self.next_is(token) {
+            return Err(ParseHalt::Unexpected);
+        }
+        match self.cut()? {
+            Some(leaf) => Ok(leaf),
+            None => Err(ParseHalt::Unexpected),
+        }
+    }
+}
+
+/// What the token of the next leaf is, where a text goes on so at a place.
+fn symbol_at(next: Result<Front, Stop>, rest: &[u8], place: Place) -> Symbol
+    requires { TellsFront place rest.now next }
+    ensures { TellsFirst result (to_come place rest.now) }
+{
+    match next {
+        Ok(front) => Symbol::of(front.class, front.token_of(rest)),
+        Err(_) => Symbol::Nothing,
+    }
+}
+
+/// The indent of the next leaf, where a text goes on so at a place.
+fn indent_at(next: Result<Front, Stop>, rest: &[u8], place: Place) -> &[u8]
+    requires { TellsFront place rest.now next }
+    ensures { result.now ≡ first_indent (to_come place rest.now) }
+{
+    match next {
+        Ok(front) => indent_of(rest.split_at(front.gap).0),
+        Err(_) => rest.split_at(0).0,
+    }
+}
+
+/// The spaces and tabs at the end of a gap.
+fn indent_of(gap: &[u8]) -> &[u8]
+    ensures { result.now ≡ indent gap.now }
+{
+    let mut at = gap.len();
+    'blanks: while at > 0 {
+        let byte = gap[at - 1];
+        if byte != b' ' && byte != b'\t' {
+            return gap.split_at(at).1;
+        }
+        at -= 1;
+    }
+    gap
+}
+
+/// What stands from a byte of a text on.
+fn from(text: &[u8], at: usize) -> &[u8] {
+    text.split_at(at.min(text.len())).1
+}
