@@ -1,7 +1,8 @@
 -- Statements, suites and headers as the reader's functions read them.
-use Rattle.std.proofs.Common.{◌≡◌, ℕ, zero, suc, ◌+◌, ◌-◌, ◌≤◌, max, Bool, true, false, cond, ◌&&◌, List, [], ◌∷◌, ◌++◌, length, take, drop, Option, Some, None, Result, Ok, Err, refl, sym, ap, ◌∙◌, append_assoc, arith, codes, bytes_eq}
-use Rattle.std.specs.Result.{IfOk}
+use Rattle.std.proofs.Common.{◌≡◌, ℕ, zero, suc, ◌-◌, ◌≤◌, Bool, true, false, cond, ◌&&◌, List, [], ◌∷◌, ◌++◌, length, take, drop, Option, Some, None, Result, Ok, Err, refl, sym, ap, ◌∙◌, append_assoc, arith, codes, bytes_eq}
+use Rattle.std.specs.Prelude.{OnOk, IfErr}
 use Rattle.bz_states.specs.declared.token.ParseHalt.{ParseHalt}
+use Rattle.bz_states.specs.declared.token.ParseHalt.TheVariants as halt
 use Rattle.std.proofs.lemmas.Bool.{and_parts, and_from, cond-true, cond-false, both_ways}
 use Rattle.std.proofs.lemmas.Option.{same_Some, none-some}
 use Rattle.std.specs.Prelude.{IsTrue, ◌↔◌}
@@ -16,23 +17,18 @@ use Rattle.bz_tree.specs.declared.tree.Part.TheVariants as v
 use Rattle.bz_states.specs.declared.state.NodeState.{NodeState}
 use Rattle.bz_parse.specs.declared.indented.Header.{Header}
 use Rattle.bz_parse.specs.declared.indented.Header.TheVariants as h
-use Rattle.bz_tree.specs.Spell.{depth_part, deepest}
-use Rattle.bz_tree.specs.Shapes.{Terminal, is_one_of, Sort, line, stmt, end, newline, keyword, tok, done}
+use Rattle.bz_tree.specs.Shapes.{Terminal, is_one_of, line, stmt, end, newline, keyword, tok, done}
 use Rattle.bz_tree.specs.Indents.{first_indent}
 use Rattle.bz_tree.specs.Reading.{◌>>=◌, Plan, starts_with, starts, put, run, wrap, node, token_of, reading}
 use Rattle.bz_tree.specs.Suites.{test_header, stands_at, begins_at, is_deeper, put_all, alone, while_next, with_suite, branches_of, statement, suite_of, if_all, read_file}
-use Rattle.bz_states.specs.Tokens.{token_at}
+use Rattle.bz_states.specs.Tokens.{token_at, Fails}
 use Rattle.bz_parse.specs.Words.{part_at, found_by, Pushes, found_from}
 use Rattle.bz_states.specs.States.{plan_at}
-use Rattle.bz_parse.specs.Rows.{PutsAll, plan_of_header, header_at, owner_at, suite_at, statement_at, statements_at, branches_at, if_at}
-use Rattle.bz_parse.proofs.Deepest.{deepest_push, made_depth}
-use Rattle.bz_parse.proofs.Climbs.{part_depth}
+use Rattle.bz_parse.specs.Rows.{PutsAll, PutsOne, plan_of_header, header_at, owner_at, suite_at, statement_at, statements_at, branches_at, if_at}
 use Rattle.bz_parse.proofs.Steps.{bind_same}
 use Rattle.bz_parse.proofs.Pushed.{begins_last}
 use Rattle.bz_tree.proofs.Suites.{statement_takes, owner_takes, same_text, text_same}
-use Rattle.bz_tree.proofs.Trees.{deepest_both}
 use Rattle.bz_tree.proofs.Exact.{if_some}
-use Rattle.bz_parse.proofs.Deepest.{leaf_depth}
 
 -- ---- headers
 
@@ -46,14 +42,11 @@ puts_from from ps all e = sym (take-append-drop from all) ∙ ap (λ (qs : List 
 
 -- ---- a header and its suite
 
-pub deepest_last : (xs : List Part) (x : Part) (m n : ℕ) → m ≡ deepest xs → n ≡ depth_part x → max m n ≡ deepest (xs ++ x ∷ [])
-deepest_last xs x m n e f = ap (λ (z : ℕ). max z n) e ∙ ap (λ (z : ℕ). max (deepest xs) z) f ∙ sym (deepest_push xs x)
-
 module _ (d : ℕ) (header : Header) (i : List ℕ) (ts : List Leaf) where
-  pub owner_puts : (front all all' : List Part) (new new' : List Leaf) (m n deep : ℕ) → PutsAll (header_at d header ts) front all new m → Pushes (suite_at d i new) all all' new' n → deep ≡ max m n → PutsAll (owner_at d header i ts) front all' new' deep
+  pub owner_puts : {X : Type 0} (result : Result X ParseHalt) (front all all' : List Part) (new new' : List Leaf) → PutsAll (header_at d header ts) front all new → OnOk result (PutsOne (suite_at d i new) all all' new') → OnOk result (PutsAll (owner_at d header i ts) front all' new')
   unfolding owner_at header_at suite_at
-  owner_puts front all all' new new' m n deep w u e =
-      (w.0 ++ u.0 ∷ [], rw (w.1, u.1) refl, u.2 ∙ ap (λ (qs : List Part). qs ++ u.0 ∷ []) w.2 ∙ append_assoc front w.0 (u.0 ∷ []), e ∙ deepest_last w.0 u.0 m n w.3 u.3)
+  owner_puts (Ok x) front all all' new new' w u = (w.0 ++ u.0 ∷ [], rw (w.1, u.1) refl, u.2 ∙ ap (λ (qs : List Part). qs ++ u.0 ∷ []) w.2 ∙ append_assoc front w.0 (u.0 ∷ []))
+  owner_puts (Err x) front all all' new new' w u = tt
 
   pub no_header : header_at d header ts ≡ None → owner_at d header i ts ≡ None
   unfolding owner_at header_at
@@ -63,13 +56,26 @@ module _ (d : ℕ) (header : Header) (i : List ℕ) (ts : List Leaf) where
   unfolding owner_at header_at suite_at
   no_suite xs new e f = rw (e, f) refl
 
+-- ---- what a call left, told of what called it
+
+pub one_carried : {X : Type 0} (result : Result X ParseHalt) (o o' : Option (Part × List Leaf)) (front all : List Part) (new : List Leaf) → o ≡ o' → OnOk result (PutsOne o' front all new) → OnOk result (PutsOne o front all new)
+one_carried (Ok x) o o' front all new e w = (w.0, e ∙ w.1, w.2)
+one_carried (Err x) o o' front all new e w = tt
+
+pub memory_fails : {X Y : Type 0} (result : Result X ParseHalt) (o : Option Y) → IfErr result (λ e. e ≡ halt.Memory) → Fails result o
+memory_fails (Ok x) o h = tt
+memory_fails (Err halt.Memory) o h = tt
+memory_fails (Err halt.Unexpected) o h = absurd cc
+
 -- ---- nodes of what was put
 
-pub closed : (kind : Kind) (o : Option (List Part × List Leaf)) (front all all' : List Part) (new : List Leaf) (deep from : ℕ) → PutsAll o front all new deep → from ≡ length front → all' ≡ take from all ++ node kind (drop from all) ∷ [] → Pushes (wrap kind o) front all' new (deep + 1)
-closed kind o front all all' new deep from w e f =
+pub closed : {X : Type 0} (result : Result X ParseHalt) (kind : Kind) (o : Option (List Part × List Leaf)) (o' : Option (Part × List Leaf)) (front all all' : List Part) (new : List Leaf) (from : ℕ)
+    → o' ≡ wrap kind o → PutsAll o front all new → from ≡ length front → OnOk result (all' ≡ take from all ++ node kind (drop from all) ∷ []) → OnOk result (PutsOne o' front all' new)
+closed (Err x) kind o o' front all all' new from g w e f = tt
+closed (Ok x) kind o o' front all all' new from g w e f =
     let front_is : take from all ≡ front = ap (λ (n : ℕ). take n all) e ∙ ap (take (length front)) w.2 ∙ take-append_seam front w.0 in
     let back_is : drop from all ≡ w.0 = ap (λ (n : ℕ). drop n all) e ∙ ap (drop (length front)) w.2 ∙ drop-append_seam front w.0 in
-    (node kind w.0, rw w.1 refl, f ∙ ap (λ (qs : List Part). qs ++ node kind (drop from all) ∷ []) front_is ∙ ap (λ (qs : List Part). front ++ node kind qs ∷ []) back_is, made_depth kind w.0 w.0 deep refl w.3)
+    (node kind w.0, g ∙ rw w.1 refl, f ∙ ap (λ (qs : List Part). qs ++ node kind (drop from all) ∷ []) front_is ∙ ap (λ (qs : List Part). front ++ node kind qs ∷ []) back_is)
 
 pub wrap_none : (kind : Kind) (o : Option (List Part × List Leaf)) → o ≡ None → wrap kind o ≡ None
 wrap_none kind o e = rw e refl
@@ -160,10 +166,6 @@ pub put_nothing : (o : Option (List Part × List Leaf)) → put_all [] o ≡ o
 put_nothing None = refl
 put_nothing (Some y) = refl
 
-pub part_within : (result : Result ℕ ParseHalt) (d : ℕ) (sort : Sort) (ts : List Leaf) (front all : List Part) (new : List Leaf) → IfOk result (λ deep. Pushes (part_at d sort ts) front all new deep) → IfOk result (λ deep. deep ≤ d)
-part_within (Ok deep) d sort ts front all new w = omega (arith, w.3, part_depth d sort ts new w.0 w.1)
-part_within (Err e) d sort ts front all new w = tt
-
 pub rows_done : (d : ℕ) (i : List ℕ) (xs : List Part) (ts : List Leaf) → begins_at i ts ≡ false → put_all xs (statements_at d i ts) ≡ Some (xs, ts)
 rows_done d i xs ts e = ap (put_all xs) (rows_end d i ts e) ∙ ap (λ (qs : List Part). Some (qs, ts)) (append-nil xs)
 
@@ -218,17 +220,13 @@ module _ (d : ℕ) (i : List ℕ) (ts : List Leaf) (pos : d ≡ 0 → ⊥) where
     suite_no_statement g = suite_block ∙ cond-false (is_deeper i (first_indent us) && begins_at (first_indent us) us) _ _ (no_and (is_deeper i (first_indent us)) _ (ap (λ (b : Bool). b && bytes_eq (first_indent us) (first_indent us)) g))
 
 -- a token in front of parts
-pub token_put : (s : List Terminal) (ts us vs : List Leaf) (o : Option (List Part × List Leaf)) (front all all' : List Part) (m n : ℕ) (w : Pushes (token_at s ts) front all us m) → PutsAll o all all' vs n → PutsAll (put w.0 o) front all' vs n
-token_put s ts us vs o front all all' m n w u =
-    (w.0 ∷ u.0, ap (put w.0) u.1, u.2 ∙ ap (λ (qs : List Part). qs ++ u.0) w.2 ∙ append_assoc front (w.0 ∷ []) u.0, omega (arith, u.3, leaf_depth s ts us w.0 w.1))
+pub token_put : (s : List Terminal) (ts us vs : List Leaf) (o : Option (List Part × List Leaf)) (front all all' : List Part) (m : ℕ) (w : Pushes (token_at s ts) front all us m) → PutsAll o all all' vs → PutsAll (put w.0 o) front all' vs
+token_put s ts us vs o front all all' m w u = (w.0 ∷ u.0, ap (put w.0) u.1, u.2 ∙ ap (λ (qs : List Part). qs ++ u.0) w.2 ∙ append_assoc front (w.0 ∷ []) u.0)
 
 pub put_none : (x : Part) (o : Option (List Part × List Leaf)) → o ≡ None → wrap k.Suite (put x o) ≡ None
 put_none x o e = ap (λ (z : Option (List Part × List Leaf)). wrap k.Suite (put x z)) e
 
 -- ---- elif and else
-
-pub deepest_two : (xs ys : List Part) (m n : ℕ) → m ≡ deepest xs → n ≡ deepest ys → max m n ≡ deepest (xs ++ ys)
-deepest_two xs ys m n e f = ap (λ (z : ℕ). max z n) e ∙ ap (λ (z : ℕ). max (deepest xs) z) f ∙ sym (deepest_both xs ys)
 
 module _ (d : ℕ) (i : List ℕ) where
   abbrev elif_with : List Leaf → Option (List Part × List Leaf)
@@ -289,6 +287,12 @@ module _ (d : ℕ) (i : List ℕ) where
 
   pub else_goes : (xs : List Part) (ts : List Leaf) (o : Option (List Part × List Leaf)) → stands_at (keyword (codes "elif")) i ts ≡ false → stands_at (keyword (codes "else")) i ts ≡ true → owner_at d h.Else i ts ≡ o → put_all xs (branches_at d i ts) ≡ put_all xs o
   else_goes xs ts o e f g = ap (put_all xs) (branches_last ts e f ∙ g)
+
+  pub else_puts : {X : Type 0} (result : Result X ParseHalt) (xs front stack all : List Part) (ts new : List Leaf) (o : Option (List Part × List Leaf)) → stack ≡ front ++ xs → put_all xs (branches_at d i ts) ≡ o →
+      stands_at (keyword (codes "elif")) i ts ≡ false → stands_at (keyword (codes "else")) i ts ≡ true → OnOk result (PutsAll (owner_at d h.Else i ts) stack all new) → OnOk result (PutsAll o front all new)
+  else_puts (Err x) xs front stack all ts new o s g e f w = tt
+  else_puts (Ok x) xs front stack all ts new o s g e f w =
+      (xs ++ w.0, sym g ∙ else_goes xs ts (Some (w.0, new)) e f w.1, w.2 ∙ ap (λ (qs : List Part). qs ++ w.0) s ∙ append_assoc front xs w.0)
 
   pub branches_done : (xs : List Part) (ts : List Leaf) → stands_at (keyword (codes "elif")) i ts ≡ false → stands_at (keyword (codes "else")) i ts ≡ false → put_all xs (branches_at d i ts) ≡ Some (xs, ts)
   branches_done xs ts e f = ap (put_all xs) (branches_none ts e f) ∙ ap (λ (qs : List Part). Some (qs, ts)) (append-nil xs)

@@ -1,11 +1,10 @@
 -- Statements and suites as words that do not unfold by themselves: one for each function that reads them.
-use Rattle.std.specs.Prelude.{◌≡◌, ℕ, List, ◌++◌, length, Option, Some, codes}
+use Rattle.std.specs.Prelude.{◌≡◌, ℕ, List, [], ◌∷◌, ◌++◌, length, Option, Some, codes}
 use Rattle.bz_lex.specs.declared.leaf.Leaf.{Leaf}
 use Rattle.bz_tree.specs.declared.kind.Kind.TheVariants as k
 use Rattle.bz_tree.specs.declared.tree.Part.{Part}
 use Rattle.bz_parse.specs.declared.indented.Header.{Header}
 use Rattle.bz_parse.specs.declared.indented.Header.TheVariants as h
-use Rattle.bz_tree.specs.Spell.{deepest}
 use Rattle.bz_tree.specs.Shapes.{Shape, keyword}
 use Rattle.bz_tree.specs.Reading.{◌>>=◌, Read, run, Plan, finish, reading}
 use Rattle.bz_tree.specs.Suites.{def_header, for_header, test_header, else_header, begins_at, put_all, while_next, with_suite, branches_of, statement, suite_of}
@@ -46,6 +45,10 @@ branches_at d i ts = branches_of (length ts) (run (reading d)) (suite_of d i) i 
 unfoldable pub if_at : ℕ → List ℕ → Read (List Part)
 if_at d i ts = owner_at d h.If i ts >>= λ x. put_all x.0 (branches_at d i x.1)
 
--- What was read is put behind other parts, and how deep the deepest of it is.
-abbrev pub PutsAll : Option (List Part × List Leaf) → List Part → List Part → List Leaf → ℕ → Type 0
-PutsAll read front all new deep = (xs : List Part) × (read ≡ Some (xs, new)) × (all ≡ front ++ xs) × (deep ≡ deepest xs)
+-- What was read is put behind other parts.
+abbrev pub PutsAll : Option (List Part × List Leaf) → List Part → List Part → List Leaf → Type 0
+PutsAll read front all new = (xs : List Part) × (read ≡ Some (xs, new)) × (all ≡ front ++ xs)
+
+-- the same of one part
+abbrev pub PutsOne : Option (Part × List Leaf) → List Part → List Part → List Leaf → Type 0
+PutsOne read front all new = (x : Part) × (read ≡ Some (x, new)) × (all ≡ front ++ x ∷ [])

@@ -1,18 +1,20 @@
 //! Statements and suites, by their indents.
-ghost use Rattle.std.specs.Prelude.{◌≡◌, ◌∷◌, ◌++◌, ◌≤◌, ◌*◌, [], ℕ, Some, None, Ok, Err, IfOk, length, take, drop};
+ghost use Rattle.std.specs.Prelude.{◌≡◌, ◌∷◌, ◌++◌, ◌≤◌, ◌*◌, [], ℕ, Some, None, Ok, Err, OnOk, IfOk, IfErr, length, take, drop};
 ghost use Rattle.bz_tree.specs.declared.tree.Node.{Node};
 ghost use Rattle.bz_tree.specs.declared.tree.Part.{Part};
 ghost use Rattle.bz_states.specs.declared.token.ParseHalt.TheVariants as h;
-ghost use Rattle.bz_tree.specs.Spell.{deepest, depth_limit};
+ghost use Rattle.bz_tree.specs.Spell.{depth_limit};
+ghost use Rattle.bz_tree.specs.Shapes.{line};
+ghost use Rattle.bz_tree.specs.Reading.{node};
 ghost use Rattle.bz_tree.specs.Legal.{IsFileOf};
 ghost use Rattle.bz_tree.specs.Suites.{file_of, read_file, is_deeper};
 ghost use Rattle.bz_states.specs.Tokens.{Fails};
-ghost use Rattle.bz_parse.specs.Words.{Pushes};
+ghost use Rattle.bz_parse.specs.Words.{part_at};
 ghost use Rattle.bz_states.specs.States.{plan_at};
-ghost use Rattle.bz_parse.specs.Rows.{PutsAll, plan_of_header, header_at, owner_at, suite_at, statement_at, statements_at, if_at};
+ghost use Rattle.bz_parse.specs.Rows.{PutsAll, PutsOne, plan_of_header, header_at, owner_at, suite_at, statement_at, statements_at, if_at};
 
 use crate::grammar::part;
-use crate::row::{Stack, deeper};
+use crate::row::Stack;
 use bz_lex::DEPTH_LIMIT;
 use bz_states::{HeaderAt, Leaves, Move, NodeState, ParseHalt, PartSort, TokenSet};
 use bz_tree::Kind;
@@ -35,7 +37,7 @@ fn whole(alloc: Global, depth: u32, leaves: &mut Leaves) -> Result<Stack, ParseH
     ensures err { Fails result (read_file depth leaves.old) }
 {
     let mut stack = Stack::new(alloc);
-    let _deep = statements(&[], depth, &mut stack, leaves)?;
+    statements(&[], depth, &mut stack, leaves)?;
     let _end = stack.take(TokenSet::End, leaves)?;
     if !leaves.is_empty() {
         return Err(ParseHalt::Unexpected);
@@ -79,25 +81,23 @@ impl Header {
     }
 }
 
-/// What stands before a suite. Tells how deep the deepest part is.
-fn head(which: Header, depth: u32, stack: &mut Stack, leaves: &mut Leaves) -> Result<u32, ParseHalt>
+/// What stands before a suite.
+fn head(which: Header, depth: u32, stack: &mut Stack, leaves: &mut Leaves) -> Result<(), ParseHalt>
     requires small { depth ≤ 2 * depth_limit }
-    ensures ok { IfOk result (λ deep. PutsAll (header_at depth which leaves.old) stack.old stack.new leaves.new deep) }
-    ensures within { IfOk result (λ deep. deep ≤ depth) }
+    ensures ok { OnOk result (PutsAll (header_at depth which leaves.old) stack.old stack.new leaves.new) }
     ensures err { Fails result (header_at depth which leaves.old) }
 {
     let from = stack.len();
-    let mut deep = 0;
     let mut state = which.state();
     'moves: loop {
         match state.next_move() {
-            Move::Finish(_) => return Ok(deep),
+            Move::Finish(_) => return Ok(()),
             Move::Take(token, next) => {
-                deep = deeper(deep, stack.take(token, leaves)?);
+                stack.take(token, leaves)?;
                 state = next;
             }
             Move::Read(sort, next) => {
-                deep = deeper(deep, part(sort, depth, stack, leaves)?);
+                part(sort, depth, stack, leaves)?;
                 state = next;
             }
             Move::Choose(token, one, other) => {
@@ -107,7 +107,27 @@ fn head(which: Header, depth: u32, stack: &mut Stack, leaves: &mut Leaves) -> Re
     }
 }
 
-/// A header and its suite, of a statement at this indent. Tells how deep the deepest part is.
+/// A line that is at most so deep.
+fn one_line(depth: u32, stack: &mut Stack, leaves: &mut Leaves) -> Result<(), ParseHalt>
+    requires small { depth ≤ 2 * depth_limit }
+    ensures ok { OnOk result (PutsOne (part_at depth line leaves.old) stack.old stack.new leaves.new) }
+    ensures err { Fails result (part_at depth line leaves.old) }
+{
+    part(PartSort::Line, depth, stack, leaves)?;
+    Ok(())
+}
+
+/// Puts the parts from a place on into a node of this kind. The error, `Memory` alone: a growth was refused.
+fn close(kind: Kind, from: usize, stack: &mut Stack) -> Result<(), ParseHalt>
+    requires { from ≤ length stack.old }
+    ensures ok { OnOk result (stack.new ≡ take from stack.old ++ node kind (drop from stack.old) ∷ []) }
+    ensures err { IfErr result (λ halt. halt ≡ h.Memory) }
+{
+    stack.close(kind, from)?;
+    Ok(())
+}
+
+/// A header and its suite, of a statement at this indent.
 #[cycle(statements)]
 fn owner(
     which: Header,
@@ -115,52 +135,47 @@ fn owner(
     depth: u32,
     stack: &mut Stack,
     leaves: &mut Leaves,
-) -> Result<u32, ParseHalt>
+) -> Result<(), ParseHalt>
     requires small { depth ≤ 2 * depth_limit }
-    ensures ok { IfOk result (λ deep. PutsAll (owner_at depth which indent.now leaves.old) stack.old stack.new leaves.new deep) }
-    ensures within { IfOk result (λ deep. deep ≤ depth) }
+    ensures ok { OnOk result (PutsAll (owner_at depth which indent.now leaves.old) stack.old stack.new leaves.new) }
     ensures err { Fails result (owner_at depth which indent.now leaves.old) }
 {
-    let front = head(which, depth, stack, leaves)?;
-    let back = suite(indent, depth, stack, leaves)?;
-    Ok(deeper(front, back))
+    head(which, depth, stack, leaves)?;
+    suite(indent, depth, stack, leaves)
 }
 
-/// What stands in an IfStmt at this indent. Tells how deep the deepest part is.
+/// What stands in an IfStmt at this indent.
 #[cycle(statements)]
 fn branches(
     indent: &[u8],
     depth: u32,
     stack: &mut Stack,
     leaves: &mut Leaves,
-) -> Result<u32, ParseHalt>
+) -> Result<(), ParseHalt>
     requires small { depth ≤ 2 * depth_limit }
-    ensures ok { IfOk result (λ deep. PutsAll (if_at depth indent.now leaves.old) stack.old stack.new leaves.new deep) }
-    ensures within { IfOk result (λ deep. deep ≤ depth) }
+    ensures ok { OnOk result (PutsAll (if_at depth indent.now leaves.old) stack.old stack.new leaves.new) }
     ensures err { Fails result (if_at depth indent.now leaves.old) }
 {
-    let mut deep = owner(Header::If, indent, depth, stack, leaves)?;
+    owner(Header::If, indent, depth, stack, leaves)?;
     'branches: while leaves.next_stands_at(TokenSet::Elif, indent) {
-        deep = deeper(deep, owner(Header::Elif, indent, depth, stack, leaves)?);
+        owner(Header::Elif, indent, depth, stack, leaves)?;
     }
     if leaves.next_stands_at(TokenSet::Else, indent) {
-        let last = owner(Header::Else, indent, depth, stack, leaves)?;
-        return Ok(deeper(deep, last));
+        return owner(Header::Else, indent, depth, stack, leaves);
     }
-    Ok(deep)
+    Ok(())
 }
 
-/// A statement at this indent that is at most so deep. Tells how deep it is.
+/// A statement at this indent that is at most so deep.
 #[cycle(statements)]
 fn statement(
     indent: &[u8],
     depth: u32,
     stack: &mut Stack,
     leaves: &mut Leaves,
-) -> Result<u32, ParseHalt>
+) -> Result<(), ParseHalt>
     requires small { depth ≤ 2 * depth_limit }
-    ensures ok { IfOk result (λ deep. Pushes (statement_at depth indent.now leaves.old) stack.old stack.new leaves.new deep) }
-    ensures within { IfOk result (λ deep. deep ≤ depth) }
+    ensures ok { OnOk result (PutsOne (statement_at depth indent.now leaves.old) stack.old stack.new leaves.new) }
     ensures err { Fails result (statement_at depth indent.now leaves.old) }
 {
     if depth == 0 {
@@ -169,34 +184,25 @@ fn statement(
     }
     let from = stack.len();
     if leaves.next_is(TokenSet::Def) {
-        let deep = owner(Header::Def, indent, depth - 1, stack, leaves)?;
-        stack.close(Kind::Def, from)?;
-        return Ok(deep + 1);
+        owner(Header::Def, indent, depth - 1, stack, leaves)?;
+        return close(Kind::Def, from, stack);
     }
     if leaves.next_is(TokenSet::If) {
-        let deep = branches(indent, depth - 1, stack, leaves)?;
-        stack.close(Kind::IfStmt, from)?;
-        return Ok(deep + 1);
+        branches(indent, depth - 1, stack, leaves)?;
+        return close(Kind::IfStmt, from, stack);
     }
     if leaves.next_is(TokenSet::For) {
-        let deep = owner(Header::For, indent, depth - 1, stack, leaves)?;
-        stack.close(Kind::ForStmt, from)?;
-        return Ok(deep + 1);
+        owner(Header::For, indent, depth - 1, stack, leaves)?;
+        return close(Kind::ForStmt, from, stack);
     }
-    part(PartSort::Line, depth, stack, leaves)
+    one_line(depth, stack, leaves)
 }
 
-/// The suite of a statement at this indent, at most so deep. Tells how deep it is.
+/// The suite of a statement at this indent, at most so deep.
 #[cycle(statements)]
-fn suite(
-    indent: &[u8],
-    depth: u32,
-    stack: &mut Stack,
-    leaves: &mut Leaves,
-) -> Result<u32, ParseHalt>
+fn suite(indent: &[u8], depth: u32, stack: &mut Stack, leaves: &mut Leaves) -> Result<(), ParseHalt>
     requires small { depth ≤ 2 * depth_limit }
-    ensures ok { IfOk result (λ deep. Pushes (suite_at depth indent.now leaves.old) stack.old stack.new leaves.new deep) }
-    ensures within { IfOk result (λ deep. deep ≤ depth) }
+    ensures ok { OnOk result (PutsOne (suite_at depth indent.now leaves.old) stack.old stack.new leaves.new) }
     ensures err { Fails result (suite_at depth indent.now leaves.old) }
 {
     if depth == 0 {
@@ -204,10 +210,10 @@ fn suite(
         return Err(ParseHalt::Unexpected);
     }
     if !leaves.next_is(TokenSet::Newline) {
-        return part(PartSort::Line, depth, stack, leaves);
+        return one_line(depth, stack, leaves);
     }
     let from = stack.len();
-    let _newline = stack.take(TokenSet::Newline, leaves)?;
+    stack.take(TokenSet::Newline, leaves)?;
     let inner = leaves.next_indent();
     if !is_deeper(indent, inner) {
         return Err(ParseHalt::Unexpected);
@@ -216,30 +222,27 @@ fn suite(
         leaves.mark_indent(inner);
         return Err(ParseHalt::Unexpected);
     }
-    let deep = statements(inner, depth - 1, stack, leaves)?;
-    stack.close(Kind::Suite, from)?;
-    Ok(deep + 1)
+    statements(inner, depth - 1, stack, leaves)?;
+    close(Kind::Suite, from, stack)
 }
 
-/// The statements at this indent, each at most so deep. Tells how deep the deepest is.
+/// The statements at this indent, each at most so deep.
 #[cycle(statements)]
 fn statements(
     indent: &[u8],
     depth: u32,
     stack: &mut Stack,
     leaves: &mut Leaves,
-) -> Result<u32, ParseHalt>
+) -> Result<(), ParseHalt>
     requires small { depth ≤ 2 * depth_limit }
-    ensures ok { IfOk result (λ deep. PutsAll (statements_at depth indent.now leaves.old) stack.old stack.new leaves.new deep) }
-    ensures within { IfOk result (λ deep. deep ≤ depth) }
+    ensures ok { OnOk result (PutsAll (statements_at depth indent.now leaves.old) stack.old stack.new leaves.new) }
     ensures err { Fails result (statements_at depth indent.now leaves.old) }
 {
-    let mut deep = 0;
     'rows: while leaves.next_stands_at(TokenSet::Statements, indent) {
-        deep = deeper(deep, statement(indent, depth, stack, leaves)?);
+        statement(indent, depth, stack, leaves)?;
     }
     leaves.mark_indent(indent);
-    Ok(deep)
+    Ok(())
 }
 
 /// Whether an indent is another one followed by at least one character.

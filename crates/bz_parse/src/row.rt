@@ -79,9 +79,9 @@ impl Stack {
     pub fn is_name_at(&self, at: usize) -> bool
         ensures { (x : Part) → slice_get self.now at ≡ Some x → result ≡ has_token name x }
     {
-        match self.parts.get(at) {
-            Some(Part::Leaf(leaf)) => leaf.class == Class::Name,
-            _ => false,
+        match self.get(at) {
+            Some(part) => is_name(part),
+            None => false,
         }
     }
 
@@ -118,9 +118,11 @@ impl Stack {
         ensures { OnOk result (self.new ≡ take from self.old ++ node kind (drop from self.old) ∷ []) }
     {
         let _whole = self.parts.len();
+        // The room comes first: a push that fails gives the node back, and the proof that it is let go is long.
+        self.parts.reserve(1)?;
         let parts = Items::from_vec(self.parts.split_off(from)?);
         self.newer = self.newer || kind.is_newer();
-        self.parts.push(Part::Node(Node { kind, parts }))?;
+        self.parts.push_reserved(Part::Node(Node { kind, parts }));
         Ok(())
     }
 
@@ -132,6 +134,16 @@ impl Stack {
         let leaf = leaves.take_next(token)?;
         self.push(leaf)?;
         Ok(0)
+    }
+}
+
+/// Whether a part is a name.
+fn is_name(part: &Part) -> bool
+    ensures { result ≡ has_token name part.now }
+{
+    match part {
+        Part::Leaf(leaf) => leaf.class == Class::Name,
+        Part::Node(_) => false,
     }
 }
 

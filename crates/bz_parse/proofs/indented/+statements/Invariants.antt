@@ -1,6 +1,5 @@
-use Rattle.std.proofs.Common.{◌≡◌, ◌+◌, ◌*◌, ◌≤◌, ◌++◌, List, length}
+use Rattle.std.proofs.Common.{◌≡◌, ◌+◌, ◌*◌, ◌++◌, List, length}
 use Rattle.bz_tree.specs.declared.tree.Part.{Part}
-use Rattle.bz_tree.specs.Spell.{deepest}
 use Rattle.bz_tree.specs.Suites.{put_all}
 use Rattle.bz_parse.specs.Rows.{branches_at, if_at, statements_at}
 use Rattle.bz_parse.proofs.indented.+statements.Given as goal
@@ -22,19 +21,13 @@ abbrev pub decreases-branches : goal.decreases-branches
 decreases-branches l = 10 * l.depth + 3
 
 abbrev pub invariant-branches-branches : goal.invariant-branches-branches
-invariant-branches-branches l = record {
-  goes : (xs : List Part) × (l.stack ≡ l.fn.stack ++ xs) × (l.deep ≡ deepest xs) × (put_all xs (branches_at l.depth l.indent l.leaves) ≡ if_at l.fn.depth l.fn.indent l.fn.leaves);
-  within : l.deep ≤ l.depth;
-}
+invariant-branches-branches l = (xs : List Part) × (l.stack ≡ l.fn.stack ++ xs) × (put_all xs (branches_at l.depth l.indent l.leaves) ≡ if_at l.fn.depth l.fn.indent l.fn.leaves)
 
 abbrev pub decreases-branches-branches : goal.decreases-branches-branches
 decreases-branches-branches l = length l.leaves
 
 abbrev pub invariant-statements-rows : goal.invariant-statements-rows
-invariant-statements-rows l = record {
-  goes : (xs : List Part) × (l.stack ≡ l.fn.stack ++ xs) × (l.deep ≡ deepest xs) × (put_all xs (statements_at l.depth l.indent l.leaves) ≡ statements_at l.fn.depth l.fn.indent l.fn.leaves);
-  within : l.deep ≤ l.depth;
-}
+invariant-statements-rows l = (xs : List Part) × (l.stack ≡ l.fn.stack ++ xs) × (put_all xs (statements_at l.depth l.indent l.leaves) ≡ statements_at l.fn.depth l.fn.indent l.fn.leaves)
 
 abbrev pub decreases-statements-rows : goal.decreases-statements-rows
 decreases-statements-rows l = length l.leaves

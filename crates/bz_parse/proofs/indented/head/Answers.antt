@@ -1,17 +1,15 @@
-use Rattle.std.proofs.Common.{sym, ap, ◌∙◌, drop, arith}
-use Rattle.bz_tree.specs.Spell.{deepest}
+use Rattle.std.proofs.Common.{sym, ◌∙◌, drop, arith}
 use Rattle.bz_states.specs.Tokens.{terminals_of, token_at}
 use Rattle.bz_parse.specs.Words.{part_at}
 use Rattle.bz_states.specs.States.{sort_of}
-use Rattle.bz_parse.proofs.Deepest.{leaf_depth}
 use Rattle.bz_parse.proofs.Moves.{finishes, takes, takes_none, reads, reads_none, chooses_left, chooses_right, fewer_taken, fewer_read, fewer_left, fewer_right}
-use Rattle.bz_parse.proofs.Climbs.{handed_on, part_depth, header_some, header_none}
-use Rattle.bz_parse.proofs.Pushed.{added, take_push, within_push, deepest_more, begins_last}
+use Rattle.bz_parse.proofs.Climbs.{handed_on, header_some, header_none}
+use Rattle.bz_parse.proofs.Pushed.{added, take_push, within_push, begins_last}
 use Rattle.bz_parse.proofs.Blocks.{header_begins, puts_from}
 use Rattle.bz_parse.proofs.indented.head.Goals as goal
 
 pub returns-in-Finish-clause-ok : goal.returns-in-Finish-clause-ok
-returns-in-Finish-clause-ok c = (drop c.len-from.result c.moves.stack, header_some _ _ _ _ _ _ (sym c.moves.invariant.rest ∙ finishes _ _ _ _ _ c.in-Finish.ensures.asks), puts_from _ _ _ c.moves.invariant.below, c.moves.invariant.deep)
+returns-in-Finish-clause-ok c = (drop c.len-from.result c.moves.stack, header_some _ _ _ _ _ _ (sym c.moves.invariant.rest ∙ finishes _ _ _ _ _ c.in-Finish.ensures.asks), puts_from _ _ _ c.moves.invariant.below)
 
 pub returns-in_err-take-in-Take-clause-err : goal.returns-in_err-take-in-Take-clause-err
 returns-in_err-take-in-Take-clause-err c = handed_on _ _ _ _ c.from_residual.ensures.1 c.in_err-take-in-Take.ensures.err (λ n. header_none _ _ _ (sym c.moves.invariant.rest ∙ takes_none _ _ _ _ _ _ c.in-Take.ensures.asks n))
@@ -24,8 +22,6 @@ moves-preserved-in-Take c = record {
   rest = takes _ _ _ _ _ _ _ _ c.in-Take.ensures.asks (added _ _ c.moves.invariant.from (token_at (terminals_of c.in-Take.token)) _ _ _ _ (c.in_ok-take-in-Take.ensures.ok)) ∙ c.moves.invariant.rest;
   below = take_push _ _ c.moves.invariant.from _ _ (c.in_ok-take-in-Take.ensures.ok).2 ∙ c.moves.invariant.below;
   from = within_push _ _ c.moves.invariant.from _ _ (c.in_ok-take-in-Take.ensures.ok).2;
-  deep = deepest_more _ _ c.moves.invariant.from _ _ _ _ _ _ c.moves.invariant.deep (c.in_ok-take-in-Take.ensures.ok) c.deeper-deep.ensures;
-  within = omega (arith, c.moves.invariant.within, c.deeper-deep.ensures, (c.in_ok-take-in-Take.ensures.ok).3, leaf_depth _ _ _ _ (c.in_ok-take-in-Take.ensures.ok).1);
 }
 
 pub returns-in_err-part-in-Read-clause-err : goal.returns-in_err-part-in-Read-clause-err
@@ -39,8 +35,6 @@ moves-preserved-in-Read c = record {
   rest = reads _ _ _ _ _ _ _ _ c.in-Read.ensures.asks (added _ _ c.moves.invariant.from (part_at c.args.depth (sort_of c.in-Read.sort)) _ _ _ _ (c.in_ok-part-in-Read.ensures.ok)) ∙ c.moves.invariant.rest;
   below = take_push _ _ c.moves.invariant.from _ _ (c.in_ok-part-in-Read.ensures.ok).2 ∙ c.moves.invariant.below;
   from = within_push _ _ c.moves.invariant.from _ _ (c.in_ok-part-in-Read.ensures.ok).2;
-  deep = deepest_more _ _ c.moves.invariant.from _ _ _ _ _ _ c.moves.invariant.deep (c.in_ok-part-in-Read.ensures.ok) c.deeper-deep-in-Read.ensures;
-  within = omega (arith, c.moves.invariant.within, c.deeper-deep-in-Read.ensures, (c.in_ok-part-in-Read.ensures.ok).3, part_depth _ _ _ _ _ (c.in_ok-part-in-Read.ensures.ok).1);
 }
 
 pub moves-smaller-then-next_is : goal.moves-smaller-then-next_is
@@ -50,16 +44,14 @@ pub moves-smaller : goal.moves-smaller
 moves-smaller c = fewer_right _ _ _ _ _ c.in-Choose.ensures.asks
 
 pub moves-preserved-then-next_is : goal.moves-preserved-then-next_is
-moves-preserved-then-next_is c = record { rest = chooses_left _ _ _ _ _ _ _ c.in-Choose.ensures.asks (sym c.next_is.ensures ∙ c.if-next_is.true) ∙ c.moves.invariant.rest; below = c.moves.invariant.below; from = c.moves.invariant.from; deep = c.moves.invariant.deep; within = c.moves.invariant.within }
+moves-preserved-then-next_is c = record { rest = chooses_left _ _ _ _ _ _ _ c.in-Choose.ensures.asks (sym c.next_is.ensures ∙ c.if-next_is.true) ∙ c.moves.invariant.rest; below = c.moves.invariant.below; from = c.moves.invariant.from }
 
 pub moves-preserved : goal.moves-preserved
-moves-preserved c = record { rest = chooses_right _ _ _ _ _ _ _ c.in-Choose.ensures.asks (sym c.next_is.ensures ∙ c.if-next_is.false) ∙ c.moves.invariant.rest; below = c.moves.invariant.below; from = c.moves.invariant.from; deep = c.moves.invariant.deep; within = c.moves.invariant.within }
+moves-preserved c = record { rest = chooses_right _ _ _ _ _ _ _ c.in-Choose.ensures.asks (sym c.next_is.ensures ∙ c.if-next_is.false) ∙ c.moves.invariant.rest; below = c.moves.invariant.below; from = c.moves.invariant.from }
 
 pub moves-init : goal.moves-init
 moves-init c = record {
   rest = header_begins _ _ _ _ _ _ c.len-from.ensures c.state-state.ensures;
   below = (begins_last _ _ c.len-from.ensures).1;
   from = omega (arith, c.len-from.ensures);
-  deep = ap deepest (sym (begins_last _ _ c.len-from.ensures).0);
-  within = omega arith;
 }

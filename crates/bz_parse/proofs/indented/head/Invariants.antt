@@ -1,5 +1,4 @@
 use Rattle.std.proofs.Common.{◌≡◌, ◌+◌, ◌*◌, ◌≤◌, [], length, take, drop}
-use Rattle.bz_tree.specs.Spell.{deepest}
 use Rattle.bz_parse.specs.Words.{found_by, found_from}
 use Rattle.bz_states.specs.States.{plan_at, choices}
 use Rattle.bz_parse.specs.Rows.{plan_of_header}
@@ -10,8 +9,6 @@ invariant-moves l = record {
   rest : found_from l.depth (drop l.from l.stack) l.state l.leaves ≡ found_by l.fn.depth [] (plan_of_header l.fn.which) l.fn.leaves;
   below : take l.from l.stack ≡ l.fn.stack;
   from : l.from ≤ length l.stack;
-  deep : l.deep ≡ deepest (drop l.from l.stack);
-  within : l.deep ≤ l.depth;
 }
 
 -- each move takes a leaf or leaves fewer choices
