@@ -1,6 +1,7 @@
 //! What the grammar asks for: its tokens, the leaves of a text of which the next one is told, and the states in which a node is read.
 #![tactic(auto)]
 
+mod moves;
 mod state;
 mod symbol;
 mod token;

@@ -1,7 +1,7 @@
 //! The table of the grammar: what comes next inside a node.
 ghost use Rattle.std.specs.Prelude.{◌≡◌};
 ghost use Rattle.bz_tree.specs.Reading.{finish};
-ghost use Rattle.bz_states.specs.States.{rung_of, operator_of, plan_at, left_in_rest, row_of_items, row_of_operands, row_of_brackets, left_in_items, left_in_operands, left_of_clauses, left_of_names, left_of_slice, left_of_lambda, left_of_starred, left_of_header, left_in_round, left_in_brackets, left_of_suffix, left_of_statement, Asks, Few};
+ghost use Rattle.bz_states.specs.States.{rung_of, operator_of, plan_at, left_in_rest, row_of_items, row_of_operands, row_of_brackets, left_in_items, left_in_operands, left_of_clauses, left_of_names, left_of_lambda, left_of_starred, left_in_round, left_in_brackets, left_of_suffix, Asks, Few};
 
 use crate::token::TokenSet;
 use bz_tree::Kind;
@@ -59,7 +59,7 @@ const ROW: u8 = 14;
 pub const TEST: PartSort = PartSort::Level(LAMBDA);
 
 /// Any expression.
-const EXPRESSION: PartSort = PartSort::Level(ROW);
+pub(crate) const EXPRESSION: PartSort = PartSort::Level(ROW);
 
 /// Where the parser stands in a node: what is left to read of it.
 #[derive(Clone, Copy)]
@@ -615,96 +615,6 @@ impl StarredAt {
     }
 }
 
-impl HeaderAt {
-    fn next(self) -> Move
-        ensures asks { Asks (finish Kind.Suite (left_of_header self)) result }
-        ensures few { Few result }
-    {
-        let close = NodeState::Rest(
-            Kind::Suite,
-            Tail::Tokens(TokenSet::CloseRound, TokenSet::Colon),
-        );
-        match self {
-            HeaderAt::Def => Move::Take(TokenSet::Def, NodeState::Header(HeaderAt::DefName)),
-            HeaderAt::DefName => Move::Take(TokenSet::Name, NodeState::Header(HeaderAt::DefOpen)),
-            HeaderAt::DefOpen => Move::Take(
-                TokenSet::OpenRound,
-                NodeState::Header(HeaderAt::Params),
-            ),
-            HeaderAt::Params => Move::Choose(
-                TokenSet::CloseRound,
-                close,
-                NodeState::Header(HeaderAt::Param),
-            ),
-            HeaderAt::Param => Move::Read(
-                PartSort::Param,
-                NodeState::Header(HeaderAt::BehindParam),
-            ),
-            HeaderAt::BehindParam => Move::Choose(
-                TokenSet::Comma,
-                NodeState::Header(HeaderAt::Comma),
-                close,
-            ),
-            HeaderAt::Comma => Move::Take(TokenSet::Comma, NodeState::Header(HeaderAt::Params)),
-            HeaderAt::For => Move::Take(TokenSet::For, NodeState::Header(HeaderAt::Name)),
-            HeaderAt::Name => Move::Read(
-                PartSort::Level(PRIMARY),
-                NodeState::Header(HeaderAt::BehindName),
-            ),
-            HeaderAt::BehindName => Move::Choose(
-                TokenSet::Comma,
-                NodeState::Header(HeaderAt::NameComma),
-                NodeState::Header(HeaderAt::In),
-            ),
-            HeaderAt::NameComma => Move::Take(TokenSet::Comma, NodeState::Header(HeaderAt::Name)),
-            HeaderAt::In => Move::Take(TokenSet::In, NodeState::Header(HeaderAt::InExpression)),
-            HeaderAt::InExpression => Move::Read(
-                EXPRESSION,
-                NodeState::Rest(Kind::Suite, Tail::Token(TokenSet::Colon)),
-            ),
-            HeaderAt::Test(token) => Move::Take(token, NodeState::Header(HeaderAt::TestColon)),
-            HeaderAt::TestColon => Move::Read(
-                TEST,
-                NodeState::Rest(Kind::Suite, Tail::Token(TokenSet::Colon)),
-            ),
-            HeaderAt::Else => Move::Take(
-                TokenSet::Else,
-                NodeState::Rest(Kind::Suite, Tail::Token(TokenSet::Colon)),
-            ),
-        }
-    }
-}
-
-impl SliceAt {
-    fn next(self) -> Move
-        ensures asks { Asks (finish Kind.Slice (left_of_slice self)) result }
-        ensures few { Few result }
-    {
-        let close = NodeState::Rest(Kind::Slice, Tail::Token(TokenSet::CloseSquare));
-        match self {
-            SliceAt::Colon => Move::Take(TokenSet::Colon, NodeState::Slice(SliceAt::End)),
-            SliceAt::End => Move::Choose(
-                TokenSet::SliceStops,
-                NodeState::Slice(SliceAt::BehindEnd),
-                NodeState::Slice(SliceAt::EndTest),
-            ),
-            SliceAt::EndTest => Move::Read(TEST, NodeState::Slice(SliceAt::BehindEnd)),
-            SliceAt::BehindEnd => Move::Choose(
-                TokenSet::CloseSquare,
-                close,
-                NodeState::Slice(SliceAt::SecondColon),
-            ),
-            SliceAt::SecondColon => Move::Take(TokenSet::Colon, NodeState::Slice(SliceAt::Step)),
-            SliceAt::Step => Move::Choose(
-                TokenSet::CloseSquare,
-                close,
-                NodeState::Slice(SliceAt::StepTest),
-            ),
-            SliceAt::StepTest => Move::Read(TEST, close),
-        }
-    }
-}
-
 impl RoundAt {
     fn next(self) -> Move
         ensures asks { Asks (left_in_round self) result }
@@ -812,61 +722,6 @@ impl SuffixAt {
                 TokenSet::CloseSquare,
                 NodeState::Rest(Kind::Index, Tail::Token(TokenSet::CloseSquare)),
                 NodeState::Slice(SliceAt::Colon),
-            ),
-        }
-    }
-}
-
-impl StatementAt {
-    fn next(self) -> Move
-        ensures asks { Asks (left_of_statement self) result }
-        ensures few { Few result }
-    {
-        match self {
-            StatementAt::Begin => Move::Choose(
-                TokenSet::Load,
-                NodeState::Statement(StatementAt::Load),
-                NodeState::Statement(StatementAt::NoLoad),
-            ),
-            StatementAt::Load => Move::Take(
-                TokenSet::Load,
-                NodeState::Statement(StatementAt::LoadOpen),
-            ),
-            StatementAt::LoadOpen => Move::Take(
-                TokenSet::OpenRound,
-                NodeState::Statement(StatementAt::LoadString),
-            ),
-            StatementAt::LoadString => Move::Take(
-                TokenSet::String,
-                NodeState::Items(ListedItems::Loaded, ItemsAt::More),
-            ),
-            StatementAt::NoLoad => Move::Choose(
-                TokenSet::Return,
-                NodeState::Statement(StatementAt::Return),
-                NodeState::Statement(StatementAt::NoReturn),
-            ),
-            StatementAt::Return => Move::Take(
-                TokenSet::Return,
-                NodeState::Statement(StatementAt::Returned),
-            ),
-            StatementAt::Returned => Move::Choose(
-                TokenSet::Expressions,
-                NodeState::Rest(Kind::Return, Tail::Part(EXPRESSION)),
-                NodeState::Rest(Kind::Return, Tail::Nothing),
-            ),
-            StatementAt::NoReturn => Move::Choose(
-                TokenSet::Flow,
-                NodeState::Rest(Kind::Flow, Tail::Token(TokenSet::Flow)),
-                NodeState::Statement(StatementAt::Expression),
-            ),
-            StatementAt::Expression => Move::Read(
-                EXPRESSION,
-                NodeState::Statement(StatementAt::BehindExpression),
-            ),
-            StatementAt::BehindExpression => Move::Choose(
-                TokenSet::Assigns,
-                NodeState::Rest(Kind::Assign, Tail::TokenPart(TokenSet::Assigns, EXPRESSION)),
-                NodeState::Rest(Kind::Bare, Tail::Nothing),
             ),
         }
     }
