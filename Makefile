@@ -30,7 +30,7 @@ all: $(PROGRAMS) share bin/.shown
 
 rt:
 	@command -v rt > /dev/null || { \
-	    echo "rt was not found: install a Rattle kit (rattle-kit-13f or later) and put its bin folder on the PATH." >&2; exit 1; }
+	    echo "rt was not found: install a Rattle kit (rattle-kit-13b or later) and put its bin folder on the PATH." >&2; exit 1; }
 
 # One call makes both, so that what both stand on is proved once, several crates at a time.
 $(PROGRAMS) &: $(SOURCES) | rt
