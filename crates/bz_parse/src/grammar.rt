@@ -7,12 +7,11 @@ ghost use Rattle.bz_states.specs.States.{sort_of};
 ghost use Rattle.bz_parse.specs.Ranks.{fitted_at, bound_at, level_at, RisesFrom, atom_at, argument_at, param_at};
 ghost use Rattle.bz_tree.specs.declared.tree.Part.{Part};
 
-use crate::deep::{goes_on, mark_next, mark_part};
 use crate::row::{Stack, deeper};
 use bz_states::{
     ItemsAt, LAMBDA, LambdaAt, Leaves, ListedItems, Move, NOT, NodeState, PRIMARY, ParseHalt,
     PartSort, RoundAt, Rung, StarredAt, StatementAt, SuffixAt, TEST, Tail, TokenSet, UNARY,
-    rung_at,
+    goes_on, mark_deep_part, mark_next, rung_at,
 };
 use bz_tree::Kind;
 
@@ -90,7 +89,7 @@ fn go_on(
 {
     if deep > depth {
         if let Some(part) = stack.get(from) {
-            mark_part(part, depth, leaves);
+            mark_deep_part(part, depth, leaves);
         }
         return Err(ParseHalt::Unexpected);
     }

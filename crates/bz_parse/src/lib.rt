@@ -1,7 +1,6 @@
 //! The parser: a text is read as the one legal tree that spells it, or refused with its first fault.
 #![tactic(auto)]
 
-mod deep;
 mod grammar;
 mod indented;
 mod parsing;

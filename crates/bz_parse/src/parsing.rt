@@ -7,11 +7,10 @@ ghost use Rattle.bz_tree.specs.Spell.{limit};
 ghost use Rattle.bz_tree.specs.Suites.{file_of};
 ghost use Rattle.bz_tree.specs.Faults.{IsOfText, IsOther};
 
-use crate::deep::deeper_at;
 use crate::indented::{file, read_so_far};
 use crate::row::Stack;
 use bz_lex::{DEPTH_LIMIT, LENGTH_LIMIT, ReadFault, fault_at, place_of};
-use bz_states::{Leaves, ParseHalt};
+use bz_states::{Leaves, ParseHalt, deeper_at};
 use bz_tree::{BzlTree, Kind, Tree};
 use std::alloc::Global;
 use std::str::from_utf8;

@@ -1,11 +1,13 @@
 //! What the grammar asks for: its tokens, the leaves of a text of which the next one is told, and the states in which a node is read.
 #![tactic(auto)]
 
+mod deep;
 mod moves;
 mod state;
 mod symbol;
 mod token;
 
+pub use deep::{deeper_at, goes_on, mark_deep_part, mark_next};
 pub use state::{
     BracketsAt, ClausesAt, HeaderAt, ItemsAt, LAMBDA, LambdaAt, ListedItems, Move, NOT, NamesAt,
     NodeState, Operands, OperandsAt, PRIMARY, PartSort, RoundAt, Rung, SliceAt, SquareOrCurly,

@@ -1,11 +1,12 @@
 //! Where a text nests too deep. It is told with the fault; no clause speaks of the place.
 ghost use Rattle.std.specs.Prelude.{◌≡◌};
 
-use bz_states::{LAMBDA, Leaves, NOT, PartSort, Rung, TokenSet, UNARY, rung_at};
+use crate::state::{LAMBDA, NOT, PartSort, Rung, UNARY, rung_at};
+use crate::token::{Leaves, TokenSet};
 use bz_tree::{Part, first_of};
 
 /// Marks where the part, right before the next leaf, holds the first node inside more than so many levels.
-pub(crate) fn mark_part(part: &Part, depth: u32, leaves: &mut Leaves)
+pub fn mark_deep_part(part: &Part, depth: u32, leaves: &mut Leaves)
     ensures { leaves.new ≡ leaves.old }
 {
     let levels = depth as u64;
@@ -18,7 +19,7 @@ pub(crate) fn mark_part(part: &Part, depth: u32, leaves: &mut Leaves)
 
 /// The byte at which the first token of the first node begins that is inside more than so many nodes, itself and the file
 /// counted, if there is one: in the statements with which a file begins, where it isn't read to its end.
-pub(crate) fn deeper_at(parts: &[Part], limit: u32) -> Option<usize> {
+pub fn deeper_at(parts: &[Part], limit: u32) -> Option<usize> {
     let mut at = 0;
     let room = (limit as u64).saturating_sub(1);
     for part in parts {
@@ -33,7 +34,7 @@ pub(crate) fn deeper_at(parts: &[Part], limit: u32) -> Option<usize> {
 }
 
 /// Marks the next leaf where it begins a node of this sort, for which there is no room.
-pub(crate) fn mark_next(sort: PartSort, leaves: &mut Leaves)
+pub fn mark_next(sort: PartSort, leaves: &mut Leaves)
     ensures { leaves.new ≡ leaves.old }
 {
     if let Some(at) = leaves.next_at()
@@ -103,7 +104,7 @@ fn begins_level(n: u8, leaves: &Leaves) -> bool {
 }
 
 /// Whether a node of this sort goes on with the next leaf behind a leaf of it.
-pub(crate) fn goes_on(sort: PartSort, leaves: &Leaves) -> bool {
+pub fn goes_on(sort: PartSort, leaves: &Leaves) -> bool {
     match sort {
         PartSort::Level(n) => level_goes_on(n, leaves),
         PartSort::Argument => leaves.next_is(TokenSet::Equals) || level_goes_on(LAMBDA, leaves),
