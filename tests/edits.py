@@ -129,21 +129,24 @@ def why_refused(said):
     return f": {meant[0][:160]}" if meant else ""
 
 
-def is_refused_alone(edit, texts, function, crate):
-    """Whether the function that an edit changes is refused, by a check of this function alone, with what the check said; None where
-    that can't be told."""
+def why_refused_alone(texts, function, crate):
+    """What a check of the function that an edit changes says where it refuses that, or a check of its module where it is a method of a
+    trait, whose name is another one; None where neither does."""
     own = {file: (crate / file).read_text() for file in texts}
     try:
         for file, text in texts.items():
             (crate / file).write_text(text)
-        status, said = run(["rt", "check", "--jobs", "1", "--only", function], crate)
+        for path in (function, function.partition("::")[0]):
+            status, said = run(["rt", "check", "--jobs", "1", "--only", path], crate)
+            if status is None:
+                return f": no proof was found in {LONGEST} seconds"
+            ended = ENDED.search(said)
+            if ended:
+                return why_refused(said) if status == 1 and int(ended[2]) < int(ended[1]) else None
     finally:
         for file, text in own.items():
             (crate / file).write_text(text)
-    ended = ENDED.search(said)
-    if status is None:
-        return f": no proof was found in {LONGEST} seconds"
-    return why_refused(said) if status == 1 and ended and int(ended[2]) < int(ended[1]) else None
+    return None
 
 
 def is_refused_whole(edit, copy, crate):
@@ -170,7 +173,7 @@ def try_edit(edit, copy):
     except NotApplied as why:
         return False, f"does not fit the sources: {why}"
     if len(functions) == 1 and functions[0]:
-        why = is_refused_alone(edit, texts, functions[0], copy / "crates" / crate)
+        why = why_refused_alone(texts, functions[0], copy / "crates" / crate)
         if why is not None:
             return True, f"refused{why}"
     return is_refused_whole(edit, copy, crate)
