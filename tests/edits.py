@@ -116,8 +116,8 @@ def run(command, folder):
                 RUNNING.discard(started)
 
 
-# the commands that run now, which an end that is asked for ends too
-RUNNING, RUNNING_LOCK = set(), threading.Lock()
+# the commands that run now, which an end that is asked for ends too, and whether it was asked for
+RUNNING, RUNNING_LOCK, ENDS = set(), threading.Lock(), threading.Event()
 
 
 def why_refused(said):
@@ -194,6 +194,8 @@ def try_crate(crate, copies):
             take_library(library, TOP, copy)
         take_kept(crate, copy)
         for edit in edits_of(crate):
+            if ENDS.is_set():
+                break
             began = time.monotonic()
             found[edit] = try_edit(edit, copy)
             print(f"edits/{crate}/{edit.name} {found[edit][1]} ({time.monotonic() - began:.0f} seconds)", flush=True)
@@ -217,6 +219,7 @@ def try_all(chosen, count):
             tried = [lanes.submit(try_crate, crate, copies) for crate in sorted(chosen, key=lambda crate: -len(edits_of(crate)))]
             return {edit: result for crate in tried for edit, result in crate.result().items()}
         finally:
+            ENDS.set()
             lanes.shutdown(wait=False, cancel_futures=True)
             with RUNNING_LOCK:
                 for command in RUNNING:
