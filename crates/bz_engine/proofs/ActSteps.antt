@@ -13,7 +13,7 @@ use Rattle.bz_ports.specs.Outputs.{Tells}
 use Rattle.bz_workspace.specs.Packages.{Opened, Used, file_at, with_file}
 use Rattle.bz_workspace.specs.Shown.{used_in}
 use Rattle.bz_workspace.specs.declared.used.Used as d
-use Rattle.bz_engine.specs.Run.{State, answered, told_of}
+use Rattle.bz_engine.specs.Run.{Progress, answered, told_of}
 use Rattle.bz_engine.specs.Told.{refusal_line}
 
 -- the file that takes the place of one that is there
@@ -51,7 +51,7 @@ put_again zero (one ∷ more) file there = ap (λ (f : Option Opened). record on
 put_again (suc place) (one ∷ more) file there = ap (λ (rest : List Used). one ∷ rest) (put_again place more file there)
 
 -- the state behind a refusal
-abbrev state : List Used → Bytes → Bool → State
+abbrev state : List Used → Bytes → Bool → Progress
 state used printed failed = record { used = used; printed = printed; failed = failed }
 
 or_true : (b : Bool) → true ≡ (b || true)
@@ -62,7 +62,7 @@ or_false : (b : Bool) → b ≡ (b || false)
 or_false true = refl
 or_false false = refl
 
-pub was_refused : (place : ℕ) (file : Opened) (refusal : Refusal) (history : History) (before after : State) (used : List Used)
+pub was_refused : (place : ℕ) (file : Opened) (refusal : Refusal) (history : History) (before after : Progress) (used : List Used)
     → after ≡ record before { used = used; failed = true } → used ≡ with_file place (Some (record file { history = history })) before.used
     → after ≡ answered place file (Err refusal) history before
 was_refused place file refusal history before after used is put =
@@ -71,7 +71,7 @@ was_refused place file refusal history before after used is put =
     ∙ (ap (λ (text : Bytes). state put_in text true) (sym (append-nil before.printed))
     ∙ ap (state put_in (before.printed ++ [])) (or_true before.failed)))
 
-pub was_listed : (place : ℕ) (file : Opened) (before after : State) (text listing : Bytes) (printed : Bytes) → file_at place before.used ≡ Some file
+pub was_listed : (place : ℕ) (file : Opened) (before after : Progress) (text listing : Bytes) (printed : Bytes) → file_at place before.used ≡ Some file
     → after ≡ record before { printed = printed } → printed ≡ before.printed ++ text → text ≡ listing
     → after ≡ record { used = with_file place (Some file) before.used; printed = before.printed ++ listing; failed = before.failed || false }
 was_listed place file before after text listing printed there is put same =

@@ -7,8 +7,8 @@ use Rattle.bz_workspace.specs.Packages.{Opened, Used, file_at}
 use Rattle.bz_journal.specs.Actions.{Action}
 use Rattle.bz_journal.specs.declared.action.Reply.TheVariants.{Printed}
 use Rattle.bz_journal.specs.Listing.{listing}
-use Rattle.bz_engine.specs.Run.{Answers, Does, LeadsBy, State, Uses, World, answered}
-use Rattle.bz_engine.specs.Steps.{Step, action_of}
+use Rattle.bz_engine.specs.Run.{Answers, Does, LeadsBy, Progress, Uses, World, answered}
+use Rattle.bz_engine.specs.Steps.{RunStep, action_of}
 
 same_place : (found : Option Opened) (at place : ℕ) → Some at ≡ option_map (λ _. place) found → at ≡ place
 same_place None at place is = let e = is in absurd (cc)
@@ -18,7 +18,7 @@ no_file : (found : Option Opened) (place : ℕ) → None ≡ option_map (λ _. p
 no_file None place is = refl
 no_file (Some file) place is = let e = is in absurd (cc)
 
-pub done_there : (world : World) (step : Step) (before after : State) (used : List Used) (found : Option ℕ) (place at : ℕ) (name : Bytes) (opening answer : List Bytes)
+pub done_there : (world : World) (step : RunStep) (before after : Progress) (used : List Used) (found : Option ℕ) (place at : ℕ) (name : Bytes) (opening answer : List Bytes)
     → name ≡ step.target.«package» → Uses world name before.used place opening used → found ≡ Some at → found ≡ option_map (λ _. place) (file_at place used)
     → Answers step at (file_at at used) (record before { used = used }) answer after → Does world step before (opening ++ answer) after
 done_there world step before after used found place at name opening answer named uses is opened answers = record {
@@ -32,7 +32,7 @@ done_there world step before after used found place at name opening answer named
   told = refl;
 }
 
-pub done_nowhere : (world : World) (step : Step) (before : State) (used : List Used) (found : Option ℕ) (place : ℕ) (name : Bytes) (opening : List Bytes)
+pub done_nowhere : (world : World) (step : RunStep) (before : Progress) (used : List Used) (found : Option ℕ) (place : ℕ) (name : Bytes) (opening : List Bytes)
     → name ≡ step.target.«package» → Uses world name before.used place opening used → found ≡ None → found ≡ option_map (λ _. place) (file_at place used)
     → Does world step before opening (record before { used = used; failed = true })
 done_nowhere world step before used found place name opening named uses is opened = record {
@@ -47,7 +47,7 @@ done_nowhere world step before used found place name opening named uses is opene
 }
 
 -- the texts of the file are listed
-pub listed_answers : (step : Step) (place : ℕ) (found : Option Opened) (file : Opened) (before after : State) → found ≡ Some file
+pub listed_answers : (step : RunStep) (place : ℕ) (found : Option Opened) (file : Opened) (before after : Progress) → found ≡ Some file
     → None ≡ action_of step.target step.asking.verb → after ≡ answered place file (Ok (Printed (listing file.history))) file.history before
     → Answers step place found before [] after
 listed_answers step place found file before after there none is =

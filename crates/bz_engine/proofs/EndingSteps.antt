@@ -8,7 +8,7 @@ use Rattle.bz_items.specs.Characters.{Bytes}
 use Rattle.bz_files.specs.Folder.{Folder}
 use Rattle.bz_journal.specs.History.{present}
 use Rattle.bz_workspace.specs.Packages.{Opened, Used}
-use Rattle.bz_engine.specs.Ending.{differs, is_input, is_written, Writing, writing_of, Writes, fixed_lines}
+use Rattle.bz_engine.specs.Ending.{differs, is_input, is_written, Writing, writing_of, WritesFiles, fixed_lines}
 use Rattle.bz_engine.specs.Told.{fixed_line}
 
 -- ---- lists
@@ -33,7 +33,7 @@ nothing_at f v (x ∷ xs) (suc i) d within none = nothing_at f v xs i d (omega a
 
 -- ---- files
 
-pub writes_more : (files more : List Writing) (before mid after : Folder) → Writes files before mid → Writes more mid after → Writes (files ++ more) before after
+pub writes_more : (files more : List Writing) (before mid after : Folder) → WritesFiles files before mid → WritesFiles more mid after → WritesFiles (files ++ more) before after
 writes_more [] more before mid after first last = rw (sym first) last
 writes_more (file ∷ files) more before mid after first last = (first.0, first.1, first.2, writes_more files more first.1 mid after first.3 last)
 
@@ -56,6 +56,6 @@ writing_is to_stdout used file text stays other there new = rw (stays, other, th
     go false new = absurd (cc new)
 
 pub written_alone : (before after : Folder) (name read text : Bytes) (files : List Writing) (honest : Bool) → files ≡ one name read text
-    → (honest ≡ true → Writes (one name read text) before after) → (honest ≡ true) ⊎ (files ≡ []) → Writes files before after
+    → (honest ≡ true → WritesFiles (one name read text) before after) → (honest ≡ true) ⊎ (files ≡ []) → WritesFiles files before after
 written_alone before after name read text files honest is writes (inl known) = rw (is) (writes known)
 written_alone before after name read text files honest is writes (inr none) = absurd (cc (sym none ∙ is))

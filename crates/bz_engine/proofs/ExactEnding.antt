@@ -14,10 +14,10 @@ use Rattle.bz_line.specs.Asked.{Asked, Asking}
 use Rattle.bz_line.specs.declared.line.Options.{Options}
 use Rattle.bz_workspace.specs.Found.{Found}
 use Rattle.bz_workspace.specs.Packages.{Used}
-use Rattle.bz_engine.specs.Ending.{Left, Performs, Writes, Writing, texts_out, writings, fixed_lines, status_of}
+use Rattle.bz_engine.specs.Ending.{Left, Performs, WritesFiles, Writing, texts_out, all_writings, fixed_lines, status_of}
 use Rattle.bz_engine.specs.Exact.{SameLeft}
-use Rattle.bz_engine.specs.Run.{World, State, Finds, Uses, Does, Runs, begun}
-use Rattle.bz_engine.specs.Steps.{Step, step_of, steps_of, all_steps, is_of_input, names_input, shows_input}
+use Rattle.bz_engine.specs.Run.{World, Progress, Finds, Uses, Does, RunsSteps, nothing_done}
+use Rattle.bz_engine.specs.Steps.{RunStep, step_of, steps_asked, all_steps, is_of_input, names_input, shows_input}
 use Rattle.bz_engine.proofs.ExactLines.{same_lines, same_as, same_append}
 use Rattle.bz_engine.proofs.ExactSteps.{same_run}
 use Rattle.bz_engine.proofs.Outcomes.{apart}
@@ -35,8 +35,8 @@ same_written before before' mid mid' name bytes same done done' other aside =
     ∙ sym (get-insert nat_list_cmp_total before name bytes other)
     ∙ sym (done other (λ is. aside (name, is)))
 
-same_writes : (files : List Writing) (before before' after after' : Folder) → SameFolders before before' → Writes files before after
-    → Writes files before' after' → SameFolders after after'
+same_writes : (files : List Writing) (before before' after after' : Folder) → SameFolders before before' → WritesFiles files before after
+    → WritesFiles files before' after' → SameFolders after after'
 same_writes [] before before' after after' same writes writes' =
     λ other aside. ap (λ (f : Folder). get f other) writes' ∙ same other aside ∙ sym (ap (λ (f : Folder). get f other) writes)
 same_writes (file ∷ files) before before' after after' same (held, mid, done, writes) (held', mid', done', writes') =
@@ -44,7 +44,7 @@ same_writes (file ∷ files) before before' after after' same (held, mid, done, 
 
 -- ---- steps that don't read standard input
 
-abbrev reads_input : Step → Bool
+abbrev reads_input : RunStep → Bool
 reads_input step = is_of_input step.target
 
 either_not : (a b : Bool) → a || b ≡ false → (a ≡ false) × (b ≡ false)
@@ -69,26 +69,26 @@ pub no_steps : (lines : List Asked) → names_input lines ≡ false → list_any
 no_steps [] none = refl
 no_steps (line ∷ lines) none =
     let parts = either_not (list_any is_of_input line.targets) (names_input lines) none in
-    list_any-append reads_input (steps_of line) (all_steps lines)
+    list_any-append reads_input (steps_asked line) (all_steps lines)
     ∙ ap (λ (b : Bool). b || list_any reads_input (all_steps lines)) (no_targets line.commands line.targets parts.0)
     ∙ no_steps lines parts.1
 
 abbrev with_known : World → Option Bytes → World
 with_known world known = record world { known = known }
 
-found_unread : (world : World) (known : Option Bytes) (step : Step) (found : Option Found) → reads_input step ≡ false
+found_unread : (world : World) (known : Option Bytes) (step : RunStep) (found : Option Found) → reads_input step ≡ false
     → Finds (with_known world known) step.target.«package» found → Finds world step.target.«package» found
 found_unread world known step found not_input (inl (is, input)) = absurd (apart step.target.«package» not_input is)
 found_unread world known step found not_input (inr here) = inr here
 
-used_unread : (world : World) (known : Option Bytes) (step : Step) (before : List Used) (place : ℕ) (lines : List Bytes) (after : List Used)
+used_unread : (world : World) (known : Option Bytes) (step : RunStep) (before : List Used) (place : ℕ) (lines : List Bytes) (after : List Used)
     → reads_input step ≡ false → Uses (with_known world known) step.target.«package» before place lines after
     → Uses world step.target.«package» before place lines after
 used_unread world known step before place lines after not_input (inl again) = inl again
 used_unread world known step before place lines after not_input (inr (new, is, (found, file, finds, opens, same))) =
     inr (new, is, (found, file, found_unread world known step found not_input finds, opens, same))
 
-done_unread : (world : World) (known : Option Bytes) (step : Step) (before : State) (lines : List Bytes) (after : State) → reads_input step ≡ false
+done_unread : (world : World) (known : Option Bytes) (step : RunStep) (before : Progress) (lines : List Bytes) (after : Progress) → reads_input step ≡ false
     → Does (with_known world known) step before lines after → Does world step before lines after
 done_unread world known step before lines after not_input does = record {
   place = does.place;
@@ -100,20 +100,20 @@ done_unread world known step before lines after not_input does = record {
   told = does.told;
 }
 
-run_unread : (world : World) (known : Option Bytes) (keep_going : Bool) (steps : List Step) (before : State) (lines : List Bytes) (after : State)
-    → list_any reads_input steps ≡ false → Runs (with_known world known) keep_going steps before lines after → Runs world keep_going steps before lines after
+run_unread : (world : World) (known : Option Bytes) (keep_going : Bool) (steps : List RunStep) (before : Progress) (lines : List Bytes) (after : Progress)
+    → list_any reads_input steps ≡ false → RunsSteps (with_known world known) keep_going steps before lines after → RunsSteps world keep_going steps before lines after
 run_unread world known keep_going [] before lines after none runs = runs
 run_unread world known keep_going (step ∷ steps) before lines after none (inl over) = inl over
 run_unread world known keep_going (step ∷ steps) before lines after none (inr (on, (mid, first, rest, does, runs, told))) =
     let parts = either_not (reads_input step) (list_any reads_input steps) none in
     inr (on, (mid, first, rest, done_unread world known step before first mid parts.0 does, run_unread world known keep_going steps mid rest after parts.1 runs, told))
 
-pub performed_unread : (options : Options) (steps : List Step) (world : World) (known : Option Bytes) (left : Left) → list_any reads_input steps ≡ false
+pub performed_unread : (options : Options) (steps : List RunStep) (world : World) (known : Option Bytes) (left : Left) → list_any reads_input steps ≡ false
     → Performs options steps (record world { known = known }) left → Performs options steps world left
 performed_unread options steps world known left none performs = record {
   told = performs.told;
   state = performs.state;
-  runs = run_unread world known options.keep_going steps begun performs.told performs.state none performs.runs;
+  runs = run_unread world known options.keep_going steps nothing_done performs.told performs.state none performs.runs;
   output = performs.output;
   writes = performs.writes;
   lines = performs.lines;
@@ -122,16 +122,16 @@ performed_unread options steps world known left none performs = record {
 
 -- ---- what is left
 
-pub same_performed : OneReading → (words : List Bytes) (bytes : Bytes) (options : Options) (steps : List Step) (world : World) (left other : Left)
+pub same_performed : OneReading → (words : List Bytes) (bytes : Bytes) (options : Options) (steps : List RunStep) (world : World) (left other : Left)
     → world.known ≡ Some bytes → Performs options steps world left → Performs options steps world other → SameLeft words world left other
 same_performed one words bytes options steps world left other known performs performs' =
-    let same = same_run one words world bytes options.keep_going steps begun performs.told performs'.told performs.state performs'.state known performs.runs performs'.runs in
-    let files = writings options.to_stdout performs.state.used in
-    let files_same : writings options.to_stdout performs'.state.used ≡ files = ap (λ (s : State). writings options.to_stdout s.used) (sym same.1) in
-    let writes : Writes files world.folder other.folder = subst (λ (fs : List Writing). Writes fs world.folder other.folder) files_same performs'.writes in
+    let same = same_run one words world bytes options.keep_going steps nothing_done performs.told performs'.told performs.state performs'.state known performs.runs performs'.runs in
+    let files = all_writings options.to_stdout performs.state.used in
+    let files_same : all_writings options.to_stdout performs'.state.used ≡ files = ap (λ (s : Progress). all_writings options.to_stdout s.used) (sym same.1) in
+    let writes : WritesFiles files world.folder other.folder = subst (λ (fs : List Writing). WritesFiles fs world.folder other.folder) files_same performs'.writes in
     let lines : other.lines ≡ performs'.told ++ fixed_lines options.quiet files = performs'.lines ∙ ap (λ (fs : List Writing). performs'.told ++ fixed_lines options.quiet fs) files_same in
     record {
-      output = performs.output ∙ ap (λ (s : State). s.printed ++ texts_out (shows_input steps) options.to_stdout s.used) same.1 ∙ sym performs'.output;
+      output = performs.output ∙ ap (λ (s : Progress). s.printed ++ texts_out (shows_input steps) options.to_stdout s.used) same.1 ∙ sym performs'.output;
       status = performs.status ∙ ap status_of same.1 ∙ sym performs'.status;
       lines = same_as words world left.lines other.lines (performs.told ++ fixed_lines options.quiet files) (performs'.told ++ fixed_lines options.quiet files) performs.lines lines
           (same_append words world performs.told performs'.told (fixed_lines options.quiet files) (fixed_lines options.quiet files) same.0

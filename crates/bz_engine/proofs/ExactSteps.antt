@@ -9,8 +9,8 @@ use Rattle.bz_workspace.specs.Found.{Found}
 use Rattle.bz_workspace.specs.Opens.{Opens, Takes}
 use Rattle.bz_workspace.specs.Packages.{Opened, Used, file_at, place_of}
 use Rattle.bz_engine.specs.Exact.{SameLines}
-use Rattle.bz_engine.specs.Run.{World, State, Finds, Uses, Answers, Does, Runs, answered, told_of}
-use Rattle.bz_engine.specs.Steps.{Step, action_of}
+use Rattle.bz_engine.specs.Run.{World, Progress, Finds, Uses, Answers, Does, RunsSteps, answered, told_of}
+use Rattle.bz_engine.specs.Steps.{RunStep, action_of}
 use Rattle.bz_engine.proofs.ExactActions.{one_answer}
 use Rattle.bz_engine.proofs.ExactLines.{same_lines, same_as, same_append}
 
@@ -91,7 +91,7 @@ same_used words world bytes current before place place' lines lines' after after
 
 -- ---- steps
 
-one_answered : OneReading → (step : Step) (place : ℕ) (file : Option Opened) (state : State) (lines lines' : List Bytes) (after after' : State)
+one_answered : OneReading → (step : RunStep) (place : ℕ) (file : Option Opened) (state : Progress) (lines lines' : List Bytes) (after after' : Progress)
     → Answers step place file state lines after → Answers step place file state lines' after' → (lines ≡ lines') × (after ≡ after')
 one_answered one step place None state lines lines' after after' is is' = (is.0 ∙ sym is'.0, is.1 ∙ sym is'.1)
 one_answered one step place (Some file) state lines lines' after after' (answer, history, leads, told, is) (answer', history', leads', told', is') =
@@ -100,7 +100,7 @@ one_answered one step place (Some file) state lines lines' after after' (answer,
       is ∙ ap (λ (it : Answer). answered place file it history state) same.0 ∙ ap (λ (it : History). answered place file answer' it state) same.1 ∙ sym is',
     )
 
-pub same_done : OneReading → (words : List Bytes) (world : World) (bytes : Bytes) (step : Step) (before : State) (lines lines' : List Bytes) (after after' : State)
+pub same_done : OneReading → (words : List Bytes) (world : World) (bytes : Bytes) (step : RunStep) (before : Progress) (lines lines' : List Bytes) (after after' : Progress)
     → world.known ≡ Some bytes → Does world step before lines after → Does world step before lines' after' → SameLines words world lines lines' × (after ≡ after')
 same_done one words world bytes step before lines lines' after after' known does does' =
     let uses = same_used words world bytes step.target.«package» before.used does.place does'.place does.opening does'.opening does.used does'.used known does.uses does'.uses in
@@ -114,9 +114,9 @@ same_done one words world bytes step before lines lines' after after' known does
       same.1,
     )
 
-pub same_run : OneReading → (words : List Bytes) (world : World) (bytes : Bytes) (keep_going : Bool) (steps : List Step) (before : State)
-    (lines lines' : List Bytes) (after after' : State) → world.known ≡ Some bytes → Runs world keep_going steps before lines after
-    → Runs world keep_going steps before lines' after' → SameLines words world lines lines' × (after ≡ after')
+pub same_run : OneReading → (words : List Bytes) (world : World) (bytes : Bytes) (keep_going : Bool) (steps : List RunStep) (before : Progress)
+    (lines lines' : List Bytes) (after after' : Progress) → world.known ≡ Some bytes → RunsSteps world keep_going steps before lines after
+    → RunsSteps world keep_going steps before lines' after' → SameLines words world lines lines' × (after ≡ after')
 same_run one words world bytes keep_going [] before lines lines' after after' known runs runs' =
     (same_lines words world lines lines' (runs.0 ∙ sym runs'.0), runs.1 ∙ sym runs'.1)
 same_run one words world bytes keep_going (step ∷ steps) before lines lines' after after' known (inl (over, none, is)) (inl (over', none', is')) =
@@ -127,7 +127,7 @@ same_run one words world bytes keep_going (step ∷ steps) before lines lines' a
     absurd (true≢false (sym over ∙ on))
 same_run one words world bytes keep_going (step ∷ steps) before lines lines' after after' known (inr (on, (mid, first, rest, does, runs, told))) (inr (on', (mid', first', rest', does', runs', told'))) =
     let done = same_done one words world bytes step before first first' mid mid' known does does' in
-    let here : Runs world keep_going steps mid rest' after' = subst (λ (it : State). Runs world keep_going steps it rest' after') (sym done.1) runs' in
+    let here : RunsSteps world keep_going steps mid rest' after' = subst (λ (it : Progress). RunsSteps world keep_going steps it rest' after') (sym done.1) runs' in
     let same = same_run one words world bytes keep_going steps mid rest rest' after after' known runs here in (
       same_as words world lines lines' (first ++ rest) (first' ++ rest') told told' (same_append words world first first' rest rest' done.0 same.0),
       same.1,

@@ -12,9 +12,9 @@ use Rattle.bz_journal.specs.History.{History, present}
 use Rattle.bz_workspace.specs.Found.{Found, found_at, found_in, in_package, first_name, second_name}
 use Rattle.bz_workspace.specs.Opens.{Opens, Takes}
 use Rattle.bz_workspace.specs.Packages.{Opened, Used, place_of, file_at, with_file}
-use Rattle.bz_engine.specs.Ending.{differs, is_input, is_written, Writing, file_writing, writings, Writes}
-use Rattle.bz_engine.specs.Run.{World, State, begun, Finds, Uses, Answers, Does, Runs}
-use Rattle.bz_engine.specs.Steps.{Step, input_package}
+use Rattle.bz_engine.specs.Ending.{differs, is_input, is_written, Writing, file_writing, all_writings, WritesFiles}
+use Rattle.bz_engine.specs.Run.{World, Progress, nothing_done, Finds, Uses, Answers, Does, RunsSteps}
+use Rattle.bz_engine.specs.Steps.{RunStep, input_package}
 
 -- ---- names of files
 
@@ -149,23 +149,23 @@ kept_held folder (suc place) file history (used ∷ more) at all = (
   kept_held folder place file history more at all.2,
 )
 
-answers_held : (folder : Folder) (step : Step) (place : ℕ) (found : Option Opened) (state : State) (lines : List Bytes) (after : State)
+answers_held : (folder : Folder) (step : RunStep) (place : ℕ) (found : Option Opened) (state : Progress) (lines : List Bytes) (after : Progress)
     → file_at place state.used ≡ found → Answers step place found state lines after → HoldAll folder state.used → HoldAll folder after.used
-answers_held folder step place None state lines after at (told, is) all = subst (λ (now : State). HoldAll folder now.used) (sym is) all
+answers_held folder step place None state lines after at (told, is) all = subst (λ (now : Progress). HoldAll folder now.used) (sym is) all
 answers_held folder step place (Some file) state lines after at (answer, history, leads, told, is) all =
-    subst (λ (now : State). HoldAll folder now.used) (sym is) (kept_held folder place file history state.used at all)
+    subst (λ (now : Progress). HoldAll folder now.used) (sym is) (kept_held folder place file history state.used at all)
 
-does_held : (world : World) (step : Step) (before : State) (lines : List Bytes) (after : State) → Does world step before lines after
+does_held : (world : World) (step : RunStep) (before : Progress) (lines : List Bytes) (after : Progress) → Does world step before lines after
     → HoldAll world.folder before.used → HoldAll world.folder after.used
 does_held world step before lines after does all =
     answers_held world.folder step does.place (file_at does.place does.used) (record before { used = does.used }) does.answer after refl does.answers
     (uses_held world step.target.«package» before.used does.place does.opening does.used does.uses all)
 
-runs_held : (world : World) (keep_going : Bool) (steps : List Step) (before : State) (lines : List Bytes) (after : State)
-    → Runs world keep_going steps before lines after → HoldAll world.folder before.used → HoldAll world.folder after.used
-runs_held world keep_going [] before lines after (told, is) all = subst (λ (now : State). HoldAll world.folder now.used) (sym is) all
+runs_held : (world : World) (keep_going : Bool) (steps : List RunStep) (before : Progress) (lines : List Bytes) (after : Progress)
+    → RunsSteps world keep_going steps before lines after → HoldAll world.folder before.used → HoldAll world.folder after.used
+runs_held world keep_going [] before lines after (told, is) all = subst (λ (now : Progress). HoldAll world.folder now.used) (sym is) all
 runs_held world keep_going (step ∷ steps) before lines after (inl (ended, told, is)) all =
-    subst (λ (now : State). HoldAll world.folder now.used) (sym is) all
+    subst (λ (now : Progress). HoldAll world.folder now.used) (sym is) all
 runs_held world keep_going (step ∷ steps) before lines after (inr (goes, (mid, first, rest, does, runs, told))) all =
     runs_held world keep_going steps mid rest after runs (does_held world step before first mid does all)
 
@@ -191,7 +191,7 @@ others_held folder current name bytes (used ∷ more) named apart all = (
 
 -- Files can be written one after the other.
 abbrev CanWrite : List Writing → Folder → Type 0
-CanWrite files folder = (after : Folder) × Writes files folder after
+CanWrite files folder = (after : Folder) × WritesFiles files folder after
 
 one_first : (written : Bool) (file : Writing) (files : List Writing) (folder : Folder) → (written ≡ true → get folder file.name ≡ Some file.held)
     → (written ≡ true → CanWrite files (with_bytes folder file.name file.bytes)) → CanWrite files folder
@@ -209,25 +209,25 @@ apart_input current differs is = true≢false (sym ((bytes_eq-Decides current in
 
 package_first : (to_stdout : Bool) (used : Used) (more : List Used) (folder : Folder) (file : Option Opened)
     → ((used.«package» ≡ input_package → ⊥) → IfSome file (IsHeld folder used.«package»)) → IsApart used.«package» more → HoldAll folder more
-    → ((now : Folder) → HoldAll now more → CanWrite (writings to_stdout more) now)
-    → CanWrite (file_writing (is_input used) to_stdout file ++ writings to_stdout more) folder
+    → ((now : Folder) → HoldAll now more → CanWrite (all_writings to_stdout more) now)
+    → CanWrite (file_writing (is_input used) to_stdout file ++ all_writings to_stdout more) folder
 package_first to_stdout used more folder None holds apart all others = others folder all
 package_first to_stdout used more folder (Some file) holds apart all others =
     let current = used.«package» in
     let text = present file.history in
     let written = is_written (is_input used) to_stdout (differs file) in
     let of_file : written ≡ true → IsHeld folder current file = λ is. holds (apart_input current (not_input (is_input used) to_stdout (differs file) is)) in
-    one_first written (record { name = file.name; held = file.read; bytes = text }) (writings to_stdout more) folder (λ is. (of_file is).1)
+    one_first written (record { name = file.name; held = file.read; bytes = text }) (all_writings to_stdout more) folder (λ is. (of_file is).1)
     (λ is. others (with_bytes folder file.name text) (others_held folder current file.name text more (of_file is).0 apart all))
     (others folder all)
 
-can_write : (to_stdout : Bool) (used : List Used) (folder : Folder) → HoldAll folder used → CanWrite (writings to_stdout used) folder
+can_write : (to_stdout : Bool) (used : List Used) (folder : Folder) → HoldAll folder used → CanWrite (all_writings to_stdout used) folder
 can_write to_stdout [] folder all = (folder, refl)
 can_write to_stdout (used ∷ more) folder all =
     package_first to_stdout used more folder used.file all.0 all.1 all.2 (λ now those. can_write to_stdout more now those)
 
 -- What is behind steps can be written.
-pub writes_exist : (to_stdout : Bool) (world : World) (keep_going : Bool) (steps : List Step) (told : List Bytes) (state : State)
-    → Runs world keep_going steps begun told state → (after : Folder) × Writes (writings to_stdout state.used) world.folder after
+pub writes_exist : (to_stdout : Bool) (world : World) (keep_going : Bool) (steps : List RunStep) (told : List Bytes) (state : Progress)
+    → RunsSteps world keep_going steps nothing_done told state → (after : Folder) × WritesFiles (all_writings to_stdout state.used) world.folder after
 writes_exist to_stdout world keep_going steps told state runs =
-    can_write to_stdout state.used world.folder (runs_held world keep_going steps begun told state runs tt)
+    can_write to_stdout state.used world.folder (runs_held world keep_going steps nothing_done told state runs tt)

@@ -6,10 +6,10 @@ use Rattle.bz_items.specs.Characters.{Bytes}
 use Rattle.bz_label.specs.declared.target.Target.{Target}
 use Rattle.bz_line.specs.Asked.{Asked, Asking}
 use Rattle.bz_workspace.specs.Packages.{Opened, Used, with_file, file_at}
-use Rattle.bz_engine.specs.Ending.{Writing, file_writing, writings}
+use Rattle.bz_engine.specs.Ending.{Writing, file_writing, all_writings}
 use Rattle.bz_engine.specs.Outcome.{AreOfInput}
-use Rattle.bz_engine.specs.Run.{World, State, begun, Uses, Answers, Does, Runs}
-use Rattle.bz_engine.specs.Steps.{Step, step_of, steps_of, all_steps, input_package}
+use Rattle.bz_engine.specs.Run.{World, Progress, nothing_done, Uses, Answers, Does, RunsSteps}
+use Rattle.bz_engine.specs.Steps.{RunStep, step_of, steps_asked, all_steps, input_package}
 
 -- each of these packages is that of standard input
 abbrev pub AreInput : List Used → Type 0
@@ -17,7 +17,7 @@ AreInput [] = Unit {0}
 AreInput (used ∷ more) = (used.«package» ≡ input_package) × AreInput more
 
 -- each of these steps is on rules of standard input
-abbrev pub AreStepsOfInput : List Step → Type 0
+abbrev pub AreStepsOfInput : List RunStep → Type 0
 AreStepsOfInput [] = Unit {0}
 AreStepsOfInput (step ∷ steps) = (step.target.«package» ≡ input_package) × AreStepsOfInput steps
 
@@ -27,11 +27,11 @@ no_writing : (to_stdout : Bool) (file : Option Opened) → file_writing true to_
 no_writing to_stdout None = refl
 no_writing to_stdout (Some file) = refl
 
-pub no_writings : (to_stdout : Bool) (used : List Used) → AreInput used → writings to_stdout used ≡ []
+pub no_writings : (to_stdout : Bool) (used : List Used) → AreInput used → all_writings to_stdout used ≡ []
 no_writings to_stdout [] are = refl
 no_writings to_stdout (used ∷ more) are =
-    ap (λ (current : Bytes). file_writing (bytes_eq current input_package) to_stdout used.file ++ writings to_stdout more) are.0
-    ∙ ap (λ (files : List Writing). files ++ writings to_stdout more) (no_writing to_stdout used.file)
+    ap (λ (current : Bytes). file_writing (bytes_eq current input_package) to_stdout used.file ++ all_writings to_stdout more) are.0
+    ∙ ap (λ (files : List Writing). files ++ all_writings to_stdout more) (no_writing to_stdout used.file)
     ∙ no_writings to_stdout more are.1
 
 -- ---- what steps use
@@ -51,28 +51,28 @@ used_on world current before place lines after is (inl again) are = subst AreInp
 used_on world current before place lines after is (inr (absent, number, (found, file, finds, opens, new))) are =
     subst AreInput (sym new) (one_more before _ is are)
 
-answers_on : (step : Step) (place : ℕ) (file : Option Opened) (state : State) (lines : List Bytes) (after : State) → Answers step place file state lines after
+answers_on : (step : RunStep) (place : ℕ) (file : Option Opened) (state : Progress) (lines : List Bytes) (after : Progress) → Answers step place file state lines after
     → AreInput state.used → AreInput after.used
-answers_on step place None state lines after (told, is) are = subst (λ (now : State). AreInput now.used) (sym is) are
+answers_on step place None state lines after (told, is) are = subst (λ (now : Progress). AreInput now.used) (sym is) are
 answers_on step place (Some file) state lines after (answer, history, leads, told, is) are =
-    subst (λ (now : State). AreInput now.used) (sym is) (kept place _ state.used are)
+    subst (λ (now : Progress). AreInput now.used) (sym is) (kept place _ state.used are)
 
-does_on : (world : World) (step : Step) (before : State) (lines : List Bytes) (after : State) → step.target.«package» ≡ input_package
+does_on : (world : World) (step : RunStep) (before : Progress) (lines : List Bytes) (after : Progress) → step.target.«package» ≡ input_package
     → Does world step before lines after → AreInput before.used → AreInput after.used
 does_on world step before lines after is does are =
     answers_on step does.place (file_at does.place does.used) (record before { used = does.used }) does.answer after does.answers
     (used_on world step.target.«package» before.used does.place does.opening does.used is does.uses are)
 
-runs_on : (world : World) (keep_going : Bool) (steps : List Step) (before : State) (lines : List Bytes) (after : State) → AreStepsOfInput steps
-    → Runs world keep_going steps before lines after → AreInput before.used → AreInput after.used
-runs_on world keep_going [] before lines after of_input (told, is) are = subst (λ (now : State). AreInput now.used) (sym is) are
-runs_on world keep_going (step ∷ steps) before lines after of_input (inl (ended, told, is)) are = subst (λ (now : State). AreInput now.used) (sym is) are
+runs_on : (world : World) (keep_going : Bool) (steps : List RunStep) (before : Progress) (lines : List Bytes) (after : Progress) → AreStepsOfInput steps
+    → RunsSteps world keep_going steps before lines after → AreInput before.used → AreInput after.used
+runs_on world keep_going [] before lines after of_input (told, is) are = subst (λ (now : Progress). AreInput now.used) (sym is) are
+runs_on world keep_going (step ∷ steps) before lines after of_input (inl (ended, told, is)) are = subst (λ (now : Progress). AreInput now.used) (sym is) are
 runs_on world keep_going (step ∷ steps) before lines after of_input (inr (goes, (mid, first, rest, does, runs, told))) are =
     runs_on world keep_going steps mid rest after of_input.1 runs (does_on world step before first mid of_input.0 does are)
 
 -- ---- the steps of lines
 
-appended : (first more : List Step) → AreStepsOfInput first → AreStepsOfInput more → AreStepsOfInput (first ++ more)
+appended : (first more : List RunStep) → AreStepsOfInput first → AreStepsOfInput more → AreStepsOfInput (first ++ more)
 appended [] more are others = others
 appended (step ∷ first) more are others = (are.0, appended first more are.1 others)
 
@@ -90,11 +90,11 @@ on_targets commands (target ∷ targets) all =
 pub on_lines : (lines : List Asked) → AreOfInput lines → AreStepsOfInput (all_steps lines)
 on_lines [] all = tt
 on_lines (line ∷ lines) all =
-    appended (steps_of line) (all_steps lines) (on_targets line.commands line.targets (All-head (λ (asked : Asked). All (λ target. target.«package» ≡ input_package) asked.targets) line lines all))
+    appended (steps_asked line) (all_steps lines) (on_targets line.commands line.targets (All-head (λ (asked : Asked). All (λ target. target.«package» ≡ input_package) asked.targets) line lines all))
     (on_lines lines (All-tail (λ (asked : Asked). All (λ target. target.«package» ≡ input_package) asked.targets) line lines all))
 
 -- Lines on rules of standard input alone write no file.
-pub nothing_written : (to_stdout : Bool) (world : World) (keep_going : Bool) (lines : List Asked) (told : List Bytes) (state : State) → AreOfInput lines
-    → Runs world keep_going (all_steps lines) begun told state → writings to_stdout state.used ≡ []
+pub nothing_written : (to_stdout : Bool) (world : World) (keep_going : Bool) (lines : List Asked) (told : List Bytes) (state : Progress) → AreOfInput lines
+    → RunsSteps world keep_going (all_steps lines) nothing_done told state → all_writings to_stdout state.used ≡ []
 nothing_written to_stdout world keep_going lines told state are runs =
-    no_writings to_stdout state.used (runs_on world keep_going (all_steps lines) begun told state (on_lines lines are) runs tt)
+    no_writings to_stdout state.used (runs_on world keep_going (all_steps lines) nothing_done told state (on_lines lines are) runs tt)

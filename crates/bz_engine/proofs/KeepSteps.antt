@@ -1,12 +1,17 @@
 -- What keeping a file and its journal does to the count of faults.
-use Rattle.std.proofs.Common.{◌≡◌, ◌⊎◌, ◌≤◌, inl, inr, ℕ, refl}
+use Rattle.std.proofs.Common.{◌≡◌, ◌⊎◌, ◌∙◌, ◌≤◌, inl, inr, ℕ, refl, arith}
 use Rattle.bz_keep.specs.declared.fault.PairFault.{PairFault}
 use Rattle.bz_keep.specs.declared.fault.PairFault.TheVariants as f
 use Rattle.bz_ports.specs.Faults.{Rises}
 use Rattle.bz_ports.specs.Outputs.{Counts}
 use Rattle.bz_ports.specs.declared.exit.Cut.{Cut}
 use Rattle.bz_ports.specs.declared.exit.Cut.TheVariants as c
-use Rattle.bz_engine.proofs.CutSteps.{CutsFiles}
+use Rattle.bz_files.specs.declared.files.Files.{Ghosts as FilesOf}
+use Rattle.bz_ports.specs.Exits.{first_cut}
+use Rattle.bz_ports.proofs.Outputs.{counts_more}
+use Rattle.bz_engine.specs.Calls.{WorksOn}
+use Rattle.bz_engine.specs.Cuts.{CutsFiles}
+use Rattle.bz_engine.proofs.CutSteps.{files_cut}
 
 -- it could not be written or read
 abbrev pub IsWritten : PairFault → Type 0
@@ -37,6 +42,20 @@ pair_counts f.Changed old new grows rises rest = record { grows = grows; rises =
 pair_counts f.Open old new grows rises rest = record { grows = grows; rises = inr (rises (inr refl)) }
 pair_counts f.Write old new grows rises rest = record { grows = grows; rises = inr (rises (inl refl)) }
 
-pub opened_cut : (cut : Cut) (old new : ℕ) → (cut ≡ c.Whole) ⊎ (cut ≡ c.Memory) ⊎ ((cut ≡ c.Files) × Rises old new) → (cut ≡ c.Whole → new ≡ old) → CutsFiles cut old new
-opened_cut cut old new (inl whole) steady = inl (whole, steady whole)
-opened_cut cut old new (inr rest) steady = inr rest
+pub opened_works : {F : Type 0} (files : FilesOf F) (cut : Cut) (old new : F)
+    → (cut ≡ c.Whole) ⊎ (cut ≡ c.Memory) ⊎ ((cut ≡ c.Files) × Rises (files.faults old) (files.faults new)) → (cut ≡ c.Whole → files.faults new ≡ files.faults old)
+    → Counts (files.faults old) (files.faults new) → files.honest new ≡ files.honest old → WorksOn files cut old new
+opened_works files cut old new (inl whole) steady counts honest = record { cut = inl (whole, steady whole); counts = counts; honest = honest }
+opened_works files cut old new (inr rest) steady counts honest = record { cut = inr rest; counts = counts; honest = honest }
+
+pub works_none : {F : Type 0} (files : FilesOf F) (held : F) → WorksOn files c.Whole held held
+works_none files held = record { cut = inl (refl, refl); counts = record { grows = omega arith; rises = inl refl }; honest = refl }
+
+-- what is done on files in two parts
+pub works_more : {F : Type 0} (files : FilesOf F) (cut later : Cut) (old mid new : F) → WorksOn files cut old mid → WorksOn files later mid new
+    → WorksOn files (first_cut cut later) old new
+works_more files cut later old mid new first then = record {
+  cut = files_cut cut later (files.faults old) (files.faults mid) (files.faults new) first.cut then.cut first.counts then.counts;
+  counts = counts_more (files.faults old) (files.faults mid) (files.faults new) first.counts then.counts;
+  honest = then.honest ∙ first.honest;
+}

@@ -13,9 +13,9 @@ use Rattle.bz_workspace.specs.declared.opening.Opening.{Opening}
 use Rattle.bz_workspace.proofs.FrontSteps.{front_takes}
 use Rattle.bz_ports.specs.declared.exit.Cut.{Cut}
 use Rattle.bz_engine.specs.Cuts.{IsLeft}
-use Rattle.bz_engine.specs.Run.{Answers, State, Uses, World}
+use Rattle.bz_engine.specs.Run.{Answers, Progress, Uses, World}
 use Rattle.bz_ports.specs.Ports.{IsInput}
-use Rattle.bz_engine.specs.Steps.{Step, input_package}
+use Rattle.bz_engine.specs.Steps.{RunStep, input_package}
 
 -- ---- the first bytes of standard input, one more than a text may have, tell what becomes of it
 
@@ -100,12 +100,12 @@ place_stays current zero file (one ∷ more) = refl
 place_stays current (suc place) file (one ∷ more) =
     ap (λ (found : Option ℕ). if bytes_eq one.package current then Some 0 else option_map (λ place. place + 1) found) (place_stays current place file more)
 
-pub left_after : (known remaining : Option Bytes) (step : Step) (place : ℕ) (found : Option Opened) (before after : State) (lines : List Bytes)
+pub left_after : (known remaining : Option Bytes) (step : RunStep) (place : ℕ) (found : Option Opened) (before after : Progress) (lines : List Bytes)
     → Answers step place found before lines after → IsLeft known before.used remaining → IsLeft known after.used remaining
 left_after known remaining step place None before after lines answers left = λ none.
-    left (sym (ap (λ (state : State). place_of input_package state.used) answers.1) ∙ none)
+    left (sym (ap (λ (state : Progress). place_of input_package state.used) answers.1) ∙ none)
 left_after known remaining step place (Some file) before after lines answers left = λ none.
-    left (sym (ap (λ (state : State). place_of input_package state.used) answers.4
+    left (sym (ap (λ (state : Progress). place_of input_package state.used) answers.4
     ∙ place_stays input_package place (Some (record file { history = answers.1 })) before.used) ∙ none)
 
 -- ---- how a package is used

@@ -14,8 +14,8 @@ use Rattle.bz_ports.specs.Faults.{AppendsUnlessFailed}
 use Rattle.bz_ports.specs.Outputs.{Tells}
 use Rattle.bz_ports.specs.Told.{named_line, fault_line}
 use Rattle.bz_ports.proofs.Outputs.{appends_nothing}
-use Rattle.bz_engine.specs.Ending.{Left, Performs, Stands}
-use Rattle.bz_engine.specs.Outcome.{unused, AreOfInput, IsOfInput, NamesNoFile, KeepsNoJournal, IsScript, told_name, OperandsOutcome, LinesOutcome, TextOutcome, ScriptOutcome, GivenOutcome, LineOutcome, Outcome}
+use Rattle.bz_engine.specs.Ending.{Left, Performs, LeftStands}
+use Rattle.bz_engine.specs.Outcome.{unused, AreOfInput, IsOfInput, NamesNoFile, KeepsNoJournal, IsScript, told_name, OperandsOutcome, LinesOutcome, TextOutcome, ScriptOutcome, GivenOutcome, LineOutcome, WordsOutcome}
 use Rattle.bz_engine.specs.Run.{World}
 use Rattle.bz_ports.specs.Ports.{IsInput}
 use Rattle.bz_engine.specs.Steps.{all_steps, names_input, input_package}
@@ -44,14 +44,14 @@ at_some P found x is holds = subst (λ it. IfSome it P) is holds
 
 -- Nothing was done, and one line told.
 pub stands_unused : (folder folder' : Folder) (line : Bytes) (status : ℕ) (out : Option Bytes) (f g : ℕ) (old new : Option Bytes) → folder' ≡ folder
-    → status ≡ 1 → Tells f g old new (line ∷ []) → Stands (unused folder line) status folder' out out f g old new
+    → status ≡ 1 → Tells f g old new (line ∷ []) → LeftStands (unused folder line) status folder' out out f g old new
 stands_unused folder folder' line status out f g old new same exit told = record { exit = exit; files = same; output = appends_nothing out; lines = told }
 
 -- What was told before is none.
 pub stands_from : (left : Left) (status : ℕ) (folder : Folder) (out out' : Option Bytes) (f f' g : ℕ) (old old' new : Option Bytes) → f' ≡ f → old' ≡ old
-    → Stands left status folder out out' f' g old' new → Stands left status folder out out' f g old new
+    → LeftStands left status folder out out' f' g old' new → LeftStands left status folder out out' f g old new
 stands_from left status folder out out' f f' g old old' new count held stands =
-    subst (λ (n : ℕ). Stands left status folder out out' n g old new) count (subst (λ (b : Option Bytes). Stands left status folder out out' f' g b new) held stands)
+    subst (λ (n : ℕ). LeftStands left status folder out out' n g old new) count (subst (λ (b : Option Bytes). LeftStands left status folder out out' f' g b new) held stands)
 
 -- ---- the bytes of standard input
 
@@ -69,7 +69,7 @@ apart name differs same = true≢false (ap (λ (it : Bytes). bytes_eq it input_p
 
 pub operands_refused : (options : Options) (texts : List Bytes) (world : World) (found : Option Usage) (usage : Usage) (line : Bytes) (status : ℕ)
     (out : Option Bytes) (f g : ℕ) (old new : Option Bytes) → IfSome found (IsGroupFault texts) → found ≡ Some usage → IsUsageLine [] usage line
-    → status ≡ 1 → Tells f g old new (line ∷ []) → (left : Left) × OperandsOutcome options texts world left × Stands left status world.folder out out f g old new
+    → status ≡ 1 → Tells f g old new (line ∷ []) → (left : Left) × OperandsOutcome options texts world left × LeftStands left status world.folder out out f g old new
 operands_refused options texts world found usage line status out f g old new fault is told exit tells = (
   unused world.folder line,
   inl (usage, line, at_some (IsGroupFault texts) found usage is fault, told, refl),
@@ -105,7 +105,7 @@ names_given texts asked lines is same (other, found, named) =
 
 pub lines_refused : (options : Options) (of_input names : Bool) (lines : List Asked) (world : World) (status : ℕ) (out : Option Bytes) (f g : ℕ)
     (old new : Option Bytes) → of_input ≡ true → names ≡ true → names ≡ names_input lines → status ≡ 1 → AppendsUnlessFailed f g old new input_line
-    → (left : Left) × LinesOutcome options of_input lines world left × Stands left status world.folder out out f g old new
+    → (left : Left) × LinesOutcome options of_input lines world left × LeftStands left status world.folder out out f g old new
 lines_refused options of_input names lines world status out f g old new here named is exit told = (
   unused world.folder input_line,
   inl (ap (λ (it : Bool). it && names_input lines) here ∙ sym is ∙ named, refl),
@@ -122,7 +122,7 @@ lines_done options of_input lines folder known left_over left neither same perfo
 
 pub text_invalid : (options : Options) (name text told : Bytes) (world : World) (at at' : ℕ) (out : Option Bytes) (f g : ℕ) (old new : Option Bytes)
     → IsValidUpTo text at → at' ≡ at → told ≡ told_name name → AppendsUnlessFailed f g old new (fault_line told (NotUtf8 at'))
-    → (left : Left) × TextOutcome options name (Some text) world left × Stands left 1 world.folder out out f g old new
+    → (left : Left) × TextOutcome options name (Some text) world left × LeftStands left 1 world.folder out out f g old new
 text_invalid options name text told world at at' out f g old new valid same called appends =
     let line : Bytes = fault_line told (NotUtf8 at') in
     let is : line ≡ fault_line (told_name name) (NotUtf8 at) = ap (λ (n : ℕ). fault_line told (NotUtf8 n)) same ∙ ap (λ (it : Bytes). fault_line it (NotUtf8 at)) called in (
@@ -134,7 +134,7 @@ text_invalid options name text told world at at' out f g old new valid same call
 pub text_refused : (options : Options) (name text text' told : Bytes) (world : World) (found : Option Usage) (usage : Usage) (line : Bytes) (status : ℕ)
     (out : Option Bytes) (f g : ℕ) (old new : Option Bytes) → text' ≡ text → IsUtf8 text → IfSome found (IsScriptFault text') → found ≡ Some usage
     → told ≡ told_name name → IsUsageLine told usage line → status ≡ 1 → Tells f g old new (line ∷ [])
-    → (left : Left) × TextOutcome options name (Some text) world left × Stands left status world.folder out out f g old new
+    → (left : Left) × TextOutcome options name (Some text) world left × LeftStands left status world.folder out out f g old new
 text_refused options name text text' told world found usage line status out f g old new same utf8 fault is called says exit tells =
     let why : IsScriptFault text usage = subst (λ (it : Bytes). IsScriptFault it usage) same (at_some (IsScriptFault text') found usage is fault) in
     let as_told : IsUsageLine (told_name name) usage line = subst (λ (it : Bytes). IsUsageLine it usage line) called says in (
@@ -156,7 +156,7 @@ text_done options name text text' world of_input lines lines' left same utf8 is 
 
 pub script_unread : (options : Options) (name : Bytes) (world : World) (folder' : Folder) (status : ℕ) (out : Option Bytes) (f g : ℕ) (old new : Option Bytes)
     → folder' ≡ world.folder → IsScript world name None → status ≡ 1 → Tells f g old new (named_line (told_name name) (codes "cannot open") ∷ [])
-    → (left : Left) × ScriptOutcome options name world left × Stands left status folder' out out f g old new
+    → (left : Left) × ScriptOutcome options name world left × LeftStands left status folder' out out f g old new
 script_unread options name world folder' status out f g old new same is exit tells =
     let line : Bytes = named_line (told_name name) (codes "cannot open") in
     (unused world.folder line, (None, is, refl), stands_unused world.folder folder' line status out f g old new same exit tells)
@@ -176,7 +176,7 @@ script_done options name text text' folder folder' known left same still is outc
 
 pub words_refused : (words : List Bytes) (world : World) (found : Option LineUsage) (usage : LineUsage) (line : Bytes) (status : ℕ) (out : Option Bytes)
     (f g : ℕ) (old new : Option Bytes) → IfSome found (λ usage. line_of words ≡ Err usage) → found ≡ Some usage → IsLineUsageLine usage line
-    → status ≡ 1 → Tells f g old new (line ∷ []) → (left : Left) × Outcome words world left × Stands left status world.folder out out f g old new
+    → status ≡ 1 → Tells f g old new (line ∷ []) → (left : Left) × WordsOutcome words world left × LeftStands left status world.folder out out f g old new
 words_refused words world found usage line status out f g old new fault is told exit tells =
     let left = unused world.folder line in
     let refused : LineOutcome (Err usage) world left = (line, told, refl) in (
@@ -186,7 +186,7 @@ words_refused words world found usage line status out f g old new fault is told 
     )
 
 pub words_done : (words : List Bytes) (line : Line) (given : Given) (world : World) (left : Left) → line_of words ≡ Ok line → line.given ≡ given
-    → GivenOutcome line.options given world left → Outcome words world left
+    → GivenOutcome line.options given world left → WordsOutcome words world left
 words_done words line given world left is same outcome =
     let whole : LineOutcome (Ok line) world left = subst (λ (it : Given). GivenOutcome line.options it world left) (sym same) outcome in
     subst (λ (it : Result Line LineUsage). LineOutcome it world left) (sym is) whole

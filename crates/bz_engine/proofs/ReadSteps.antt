@@ -10,9 +10,9 @@ use Rattle.bz_ports.specs.Faults.{AppendsSome}
 use Rattle.bz_ports.specs.declared.exit.Cut.{Cut}
 use Rattle.bz_ports.specs.declared.exit.Cut.TheVariants as c
 use Rattle.bz_engine.specs.Cuts.{AreClosed, ShowsNothing, UsesInput, OpensInput, ReadsOnce}
-use Rattle.bz_engine.specs.Ending.{file_out, is_input, texts_out}
-use Rattle.bz_engine.specs.Run.{Answers, State, begun}
-use Rattle.bz_engine.specs.Steps.{Step, input_package}
+use Rattle.bz_engine.specs.Ending.{opened_out, is_input, texts_out}
+use Rattle.bz_engine.specs.Run.{Answers, Progress, nothing_done}
+use Rattle.bz_engine.specs.Steps.{RunStep, input_package}
 use Rattle.bz_engine.proofs.CutSteps.{whole_before, whole_behind}
 use Rattle.bz_engine.proofs.OpenSteps.{last_is_used, place_stays}
 
@@ -27,8 +27,8 @@ one_closed : (used : List Used) (one : Used) → one.file ≡ None → AreClosed
 one_closed [] one is are = (is, tt)
 one_closed (first ∷ more) one is are = (are.0, one_closed more one is are.1)
 
-shown_of : (shown to_stdout : Bool) (of_input : Bool) (file : Option Opened) → file ≡ None → file_out of_input shown to_stdout file ≡ []
-shown_of shown to_stdout of_input file is = ap (file_out of_input shown to_stdout) is
+shown_of : (shown to_stdout : Bool) (of_input : Bool) (file : Option Opened) → file ≡ None → opened_out of_input shown to_stdout file ≡ []
+shown_of shown to_stdout of_input file is = ap (opened_out of_input shown to_stdout) is
 
 pub nothing_shown : (shown to_stdout : Bool) (used : List Used) → AreClosed used → texts_out shown to_stdout used ≡ []
 nothing_shown shown to_stdout [] are = refl
@@ -75,16 +75,16 @@ not_read c.Files later kinds is = is
 some_none : {A : Type 0} (found : Option ℕ) (place : ℕ) → found ≡ Some place → found ≡ None → A
 some_none found place some none = absurd (let e = sym some ∙ none in cc)
 
-answers_use : (step : Step) (place : ℕ) (found : Option Opened) (before after : State) (lines : List Bytes) → Answers step place found before lines after
+answers_use : (step : RunStep) (place : ℕ) (found : Option Opened) (before after : Progress) (lines : List Bytes) → Answers step place found before lines after
     → UsesInput before.used → UsesInput after.used
 answers_use step place None before after lines answers uses = λ none.
-    uses (sym (ap (λ (state : State). place_of input_package state.used) answers.1) ∙ none)
+    uses (sym (ap (λ (state : Progress). place_of input_package state.used) answers.1) ∙ none)
 answers_use step place (Some file) before after lines answers uses = λ none.
-    uses (sym (ap (λ (state : State). place_of input_package state.used) answers.4
+    uses (sym (ap (λ (state : Progress). place_of input_package state.used) answers.4
     ∙ place_stays input_package place (Some (record file { history = answers.1 })) before.used) ∙ none)
 
 -- A command is done in the file that was opened.
-pub step_there : (step : Step) (why later result : Cut) (found : Option ℕ) (place at : ℕ) (before : State) (used : List Used) (after : State)
+pub step_there : (step : RunStep) (why later result : Cut) (found : Option ℕ) (place at : ℕ) (before : Progress) (used : List Used) (after : Progress)
     → OpensInput why found before.used used → found ≡ Some at → result ≡ first_cut why later → (later ≡ c.Whole) ⊎ (later ≡ c.Memory)
     → (later ≡ c.Whole → (lines : List Bytes) × Answers step place (file_at place used) (record before { used = used }) lines after)
     → ReadsOnce result before after
@@ -99,24 +99,24 @@ step_there step why later result found place at before used after opens there is
 }
 
 -- There is no open file.
-pub step_nowhere : (why : Cut) (found : Option ℕ) (before : State) (used : List Used) (after : State) → OpensInput why found before.used used
+pub step_nowhere : (why : Cut) (found : Option ℕ) (before : Progress) (used : List Used) (after : Progress) → OpensInput why found before.used used
     → after ≡ record before { used = used; failed = true } → ReadsOnce why before after
 step_nowhere why found before used after opens is = record {
   failed = λ nothing read.
       let done = opens.failed read in
       let closed : AreClosed used = subst AreClosed (sym done.1) (one_closed before.used (record { «package» = input_package; file = None }) refl nothing.1) in
       let uses : UsesInput used = subst UsesInput (sym done.1) (last_is_used input_package before.used (record { «package» = input_package; file = None }) refl) in
-      subst (λ (state : State). ShowsNothing state × UsesInput state.used) (sym is) ((nothing.0, closed), uses);
+      subst (λ (state : Progress). ShowsNothing state × UsesInput state.used) (sym is) ((nothing.0, closed), uses);
   again = λ uses read. let e = sym (opens.again uses).0 ∙ read in cc;
   still = λ uses nothing.
       let same = sym (opens.again uses).1 in
-      subst (λ (state : State). ShowsNothing state × UsesInput state.used) (sym is) ((nothing.0, subst AreClosed same nothing.1), subst UsesInput same uses);
-  whole = λ whole. inr (subst (λ (state : State). UsesInput state.used) (sym is) (opens.whole whole));
+      subst (λ (state : Progress). ShowsNothing state × UsesInput state.used) (sym is) ((nothing.0, subst AreClosed same nothing.1), subst UsesInput same uses);
+  whole = λ whole. inr (subst (λ (state : Progress). UsesInput state.used) (sym is) (opens.whole whole));
 }
 
 -- ---- many steps
 
-pub reads_none : (state : State) → ReadsOnce c.Whole state state
+pub reads_none : (state : Progress) → ReadsOnce c.Whole state state
 reads_none state = record {
   failed = λ nothing is. absurd (cc is);
   again = λ uses is. absurd (cc is);
@@ -124,25 +124,25 @@ reads_none state = record {
   whole = λ is. inl refl;
 }
 
-uses_still : (before after : State) → (after ≡ before) ⊎ UsesInput after.used → UsesInput before.used → UsesInput after.used
-uses_still before after (inl same) uses = subst (λ (state : State). UsesInput state.used) (sym same) uses
+uses_still : (before after : Progress) → (after ≡ before) ⊎ UsesInput after.used → UsesInput before.used → UsesInput after.used
+uses_still before after (inl same) uses = subst (λ (state : Progress). UsesInput state.used) (sym same) uses
 uses_still before after (inr uses) before_uses = uses
 
-both_still : (why later : Cut) (before mid after : State) → ReadsOnce why before mid → ReadsOnce later mid after → UsesInput before.used → ShowsNothing before
+both_still : (why later : Cut) (before mid after : Progress) → ReadsOnce why before mid → ReadsOnce later mid after → UsesInput before.used → ShowsNothing before
     → ShowsNothing after × UsesInput after.used
 both_still why later before mid after first more uses nothing = let now = first.still uses nothing in more.still now.1 now.0
 
-failed_behind : (later : Cut) (before mid after : State) → (mid ≡ before) ⊎ UsesInput mid.used → ReadsOnce later mid after → ShowsNothing before → later ≡ c.Read
+failed_behind : (later : Cut) (before mid after : Progress) → (mid ≡ before) ⊎ UsesInput mid.used → ReadsOnce later mid after → ShowsNothing before → later ≡ c.Read
     → ShowsNothing after × UsesInput after.used
 failed_behind later before mid after (inl same) more nothing read = more.failed (subst ShowsNothing (sym same) nothing) read
 failed_behind later before mid after (inr uses) more nothing read = absurd (more.again uses read)
 
-whole_of : (before mid after : State) → (mid ≡ before) ⊎ UsesInput mid.used → (after ≡ mid) ⊎ UsesInput after.used → (after ≡ before) ⊎ UsesInput after.used
+whole_of : (before mid after : Progress) → (mid ≡ before) ⊎ UsesInput mid.used → (after ≡ mid) ⊎ UsesInput after.used → (after ≡ before) ⊎ UsesInput after.used
 whole_of before mid after (inl same) (inl still) = inl (still ∙ same)
-whole_of before mid after (inr uses) (inl still) = inr (subst (λ (state : State). UsesInput state.used) (sym still) uses)
+whole_of before mid after (inr uses) (inl still) = inr (subst (λ (state : Progress). UsesInput state.used) (sym still) uses)
 whole_of before mid after first (inr uses) = inr uses
 
-pub reads_more : (why later : Cut) (before mid after : State) → ReadsOnce why before mid → ReadsOnce later mid after
+pub reads_more : (why later : Cut) (before mid after : Progress) → ReadsOnce why before mid → ReadsOnce later mid after
     → ReadsOnce (first_cut why later) before after
 reads_more c.Whole later before mid after first more = record {
   failed = failed_behind later before mid after (first.whole refl) more;
@@ -189,7 +189,7 @@ read_before result why A (inr (whole, inr (inl write))) is = absurd (let e = sym
 read_before result why A (inr (whole, inr (inr files))) is = absurd (let e = sym files.0 ∙ is in cc)
 
 -- Nothing is written where nothing is there to be shown.
-pub nothing_left : (start state : State) (why : Cut) (shown to_stdout : Bool) (old new : Option Bytes) → start ≡ begun → ReadsOnce why start state → why ≡ c.Read
+pub nothing_left : (start state : Progress) (why : Cut) (shown to_stdout : Bool) (old new : Option Bytes) → start ≡ nothing_done → ReadsOnce why start state → why ≡ c.Read
     → AppendsSome old new (state.printed ++ texts_out shown to_stdout state.used) → Appends old new []
 nothing_left start state why shown to_stdout old new begins reads is some =
     let nothing = (reads.failed (subst ShowsNothing (sym begins) (refl, tt)) is).0 in

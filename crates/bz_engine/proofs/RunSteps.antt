@@ -9,34 +9,35 @@ use Rattle.bz_ports.specs.declared.exit.Cut.{Cut}
 use Rattle.bz_ports.specs.declared.exit.Cut.TheVariants as c
 use Rattle.bz_ports.proofs.Outputs.{counts_more, tells_more}
 use Rattle.bz_ports.proofs.Written.{left-cons}
-use Rattle.bz_engine.specs.Cuts.{IsCutBy, IsLeft, ReadsOnce}
+use Rattle.bz_engine.specs.Calls.{RunSpot, DoesBetween, Proceeds}
+use Rattle.bz_engine.specs.Cuts.{AreCutBy, IsLeft, ReadsOnce}
 use Rattle.bz_ports.specs.Exits.{first_cut}
 use Rattle.bz_engine.proofs.CutSteps.{cut_more, whole_before, whole_behind}
 use Rattle.bz_engine.proofs.ReadSteps.{reads_none, reads_more}
-use Rattle.bz_engine.specs.Run.{World, State, Does, Runs, ends}
-use Rattle.bz_engine.specs.Steps.{Step}
+use Rattle.bz_engine.specs.Run.{World, Progress, Does, RunsSteps, ends_run}
+use Rattle.bz_engine.specs.Steps.{RunStep}
 
 -- ---- steps
 
 -- a run that has ended stays ended
-pub stays_ended : (world : World) (keep_going : Bool) (steps : List Step) (state after : State) (lines : List (List ℕ)) → ends keep_going state ≡ true
-    → Runs world keep_going steps state lines after → (lines ≡ []) × (after ≡ state)
+pub stays_ended : (world : World) (keep_going : Bool) (steps : List RunStep) (state after : Progress) (lines : List (List ℕ)) → ends_run keep_going state ≡ true
+    → RunsSteps world keep_going steps state lines after → (lines ≡ []) × (after ≡ state)
 stays_ended world keep_going [] state after lines ended runs = runs
 stays_ended world keep_going (step ∷ steps) state after lines ended (inl stays) = (stays.1, stays.2)
 stays_ended world keep_going (step ∷ steps) state after lines ended (inr goes) = absurd (let on = goes.0 in cc)
 
-pub ended_runs : (world : World) (keep_going : Bool) (steps : List Step) (state : State) → ends keep_going state ≡ true
-    → Runs world keep_going steps state [] state
+pub ended_runs : (world : World) (keep_going : Bool) (steps : List RunStep) (state : Progress) → ends_run keep_going state ≡ true
+    → RunsSteps world keep_going steps state [] state
 ended_runs world keep_going [] state ended = (refl, refl)
 ended_runs world keep_going (step ∷ steps) state ended = inl (ended, refl, refl)
 
-pub runs_more : (world : World) (keep_going : Bool) (xs ys : List Step) (state mid after : State) (lines more : List (List ℕ))
-    → Runs world keep_going xs state lines mid → Runs world keep_going ys mid more after → Runs world keep_going (xs ++ ys) state (lines ++ more) after
+pub runs_more : (world : World) (keep_going : Bool) (xs ys : List RunStep) (state mid after : Progress) (lines more : List (List ℕ))
+    → RunsSteps world keep_going xs state lines mid → RunsSteps world keep_going ys mid more after → RunsSteps world keep_going (xs ++ ys) state (lines ++ more) after
 runs_more world keep_going [] ys state mid after lines more first last =
-    subst (λ (told : List (List ℕ)). Runs world keep_going ys state (told ++ more) after) (sym first.0)
-    (subst (λ (s : State). Runs world keep_going ys s more after) first.1 last)
+    subst (λ (told : List (List ℕ)). RunsSteps world keep_going ys state (told ++ more) after) (sym first.0)
+    (subst (λ (s : Progress). RunsSteps world keep_going ys s more after) first.1 last)
 runs_more world keep_going (x ∷ xs) ys state mid after lines more (inl stays) last =
-    let none = stays_ended world keep_going ys mid after more (ap (ends keep_going) stays.2 ∙ stays.0) last in
+    let none = stays_ended world keep_going ys mid after more (ap (ends_run keep_going) stays.2 ∙ stays.0) last in
     inl (stays.0, ap (λ (told : List (List ℕ)). told ++ more) stays.1 ∙ none.0, none.1 ∙ stays.2)
 runs_more world keep_going (x ∷ xs) ys state mid after lines more (inr goes) last = inr (
   goes.0,
@@ -50,62 +51,42 @@ runs_more world keep_going (x ∷ xs) ys state mid after lines more (inr goes) l
   ),
 )
 
-pub one_runs : (world : World) (keep_going : Bool) (step : Step) (state after : State) (lines : List (List ℕ)) → ends keep_going state ≡ false
-    → Does world step state lines after → Runs world keep_going (step ∷ []) state lines after
+pub one_runs : (world : World) (keep_going : Bool) (step : RunStep) (state after : Progress) (lines : List (List ℕ)) → ends_run keep_going state ≡ false
+    → Does world step state lines after → RunsSteps world keep_going (step ∷ []) state lines after
 one_runs world keep_going step state after lines on does = inr (on, (after, lines, [], does, (refl, refl), sym (append-nil lines)))
 
 -- ---- parts of a run
 
--- Where a run stands: its state, what is left of standard input, the files, and standard error. (Of each, the count of faults.)
-pub record Spot : Type 0 where
-  pub state : State
-  pub left : Option (List ℕ)
-  pub reads : ℕ
-  pub folder : Folder
-  pub honest : Bool
-  pub files : ℕ
-  pub told : Option (List ℕ)
-  pub faults : ℕ
-
 -- steps are run from one spot to another
-abbrev pub Goes : Folder → Bool → List Step → Spot → Spot → Type 0
-Goes folder keep_going steps old new = (known : Option (List ℕ)) → IsLeft known old.state.used old.left → (lines : List (List ℕ))
-    × Runs (record { folder = folder; known = known }) keep_going steps old.state lines new.state
-    × IsLeft known new.state.used new.left
-    × Tells old.faults new.faults old.told new.told lines
+abbrev pub Goes : Folder → Bool → List RunStep → RunSpot → RunSpot → Type 0
+Goes folder keep_going steps old new = DoesBetween folder (λ world. RunsSteps world keep_going steps) old new
 
 -- behind a part of the steps, whatever those that are left do is what all do
-abbrev pub Passes : Folder → Bool → List Step → List Step → Spot → Spot → Type 0
+abbrev pub Passes : Folder → Bool → List RunStep → List RunStep → RunSpot → RunSpot → Type 0
 Passes folder keep_going steps left old new = (known : Option (List ℕ)) → IsLeft known old.state.used old.left → (lines : List (List ℕ))
-    × ((more : List (List ℕ)) (after : State) → Runs (record { folder = folder; known = known }) keep_going left new.state more after
-    → Runs (record { folder = folder; known = known }) keep_going steps old.state (lines ++ more) after)
+    × ((more : List (List ℕ)) (after : Progress) → RunsSteps (record { folder = folder; known = known }) keep_going left new.state more after
+    → RunsSteps (record { folder = folder; known = known }) keep_going steps old.state (lines ++ more) after)
     × IsLeft known new.state.used new.left
     × Tells old.faults new.faults old.told new.told lines
 
 -- What was done of steps. (A premise besides honest files, and why they were cut.)
-pub record Part (Premise : Type 0) (keep_going : Bool) (steps left : List Step) (why : Cut) (old new : Spot) : Type 0 where
+pub record Part (Premise : Type 0) (keep_going : Bool) (steps left : List RunStep) (why : Cut) (old new : RunSpot) : Type 0 where
   pub runs : (old.honest ≡ true) ⊎ Premise → why ≡ c.Whole → Passes old.folder keep_going steps left old new
   pub folder : (old.honest ≡ true) ⊎ Premise → new.folder ≡ old.folder
-  pub cut : IsCutBy why old.reads new.reads old.files new.files
+  pub cut : AreCutBy why old.reads new.reads old.files new.files
   pub reads : Counts old.reads new.reads
   pub counts : Counts old.files new.files
   pub honest : new.honest ≡ old.honest
   pub input : Premise → ReadsOnce why old.state new.state
 
 -- steps are done
-pub record Done (Premise : Type 0) (keep_going : Bool) (steps : List Step) (why : Cut) (old new : Spot) : Type 0 where
-  pub runs : (old.honest ≡ true) ⊎ Premise → why ≡ c.Whole → Goes old.folder keep_going steps old new
-  pub folder : (old.honest ≡ true) ⊎ Premise → new.folder ≡ old.folder
-  pub cut : IsCutBy why old.reads new.reads old.files new.files
-  pub reads : Counts old.reads new.reads
-  pub counts : Counts old.files new.files
-  pub honest : new.honest ≡ old.honest
-  pub input : Premise → ReadsOnce why old.state new.state
+abbrev pub Done : Type 0 → Bool → List RunStep → Cut → RunSpot → RunSpot → Type 0
+Done Premise keep_going steps why old new = Proceeds Premise (λ world. RunsSteps world keep_going steps) why old new
 
 counts_same : (count : ℕ) → Counts count count
 counts_same count = record { grows = omega arith; rises = inl refl }
 
-pub part_none : (Premise : Type 0) (keep_going : Bool) (steps : List Step) (spot : Spot) → Part Premise keep_going steps steps c.Whole spot spot
+pub part_none : (Premise : Type 0) (keep_going : Bool) (steps : List RunStep) (spot : RunSpot) → Part Premise keep_going steps steps c.Whole spot spot
 part_none Premise keep_going steps spot = record {
   runs = λ honest whole known left. ([], (λ more after runs. runs), left, (refl, refl));
   folder = λ honest. refl;
@@ -116,15 +97,15 @@ part_none Premise keep_going steps spot = record {
   input = λ is. reads_none spot.state;
 }
 
-passes_more : (folder folder' : Folder) (keep_going : Bool) (steps left part rest : List Step) (old mid new : Spot) → left ≡ part ++ rest
+passes_more : (folder folder' : Folder) (keep_going : Bool) (steps left part rest : List RunStep) (old mid new : RunSpot) → left ≡ part ++ rest
     → folder' ≡ folder → Passes folder keep_going steps left old mid → Goes folder' keep_going part mid new → Passes folder keep_going steps rest old new
 passes_more folder folder' keep_going steps left part rest old mid new split same passes goes known remains =
     let world : World = record { folder = folder; known = known } in
     let before = passes known remains in
     let then = subst (λ (f : Folder). Goes f keep_going part mid new) same goes known before.2 in (
       before.0 ++ then.0,
-      (λ more after runs. subst (λ (told : List (List ℕ)). Runs world keep_going steps old.state told after) (sym (append_assoc before.0 then.0 more))
-          (before.1 (then.0 ++ more) after (subst (λ (all : List Step). Runs world keep_going all mid.state (then.0 ++ more) after) (sym split)
+      (λ more after runs. subst (λ (told : List (List ℕ)). RunsSteps world keep_going steps old.state told after) (sym (append_assoc before.0 then.0 more))
+          (before.1 (then.0 ++ more) after (subst (λ (all : List RunStep). RunsSteps world keep_going all mid.state (then.0 ++ more) after) (sym split)
           (runs_more world keep_going part rest mid.state new.state after then.0 more then.1 runs)))),
       then.2,
       tells_more old.faults mid.faults new.faults old.told mid.told new.told before.0 then.0 before.3 then.3,
@@ -135,13 +116,13 @@ still Premise Now honest honest' same implies (inl is) = inl (same ∙ is)
 still Premise Now honest honest' same implies (inr holds) = inr (implies holds)
 
 -- a part more is done
-pub part_more : (Premise Now : Type 0) (keep_going : Bool) (steps left part rest : List Step) (cut later : Cut) (old mid new : Spot)
+pub part_more : (Premise Now : Type 0) (keep_going : Bool) (steps left part rest : List RunStep) (cut later : Cut) (old mid new : RunSpot)
     → (Premise → Now) → left ≡ part ++ rest → Part Premise keep_going steps left cut old mid → Done Now keep_going part later mid new
     → Part Premise keep_going steps rest (first_cut cut later) old new
 part_more Premise Now keep_going steps left part rest cut later old mid new implies split before then = record {
   runs = λ honest whole. passes_more old.folder mid.folder keep_going steps left part rest old mid new split (before.folder honest)
       (before.runs honest (whole_before cut later whole))
-      (then.runs (still Premise Now old.honest mid.honest before.honest implies honest) (whole_behind cut later whole));
+      (then.does (still Premise Now old.honest mid.honest before.honest implies honest) (whole_behind cut later whole));
   folder = λ honest. then.folder (still Premise Now old.honest mid.honest before.honest implies honest) ∙ before.folder honest;
   cut = cut_more cut later old.reads mid.reads new.reads old.files mid.files new.files before.cut then.cut before.reads then.reads before.counts then.counts;
   reads = counts_more old.reads mid.reads new.reads before.reads then.reads;
@@ -150,23 +131,23 @@ part_more Premise Now keep_going steps left part rest cut later old mid new impl
   input = λ is. reads_more cut later old.state mid.state new.state (before.input is) (then.input (implies is));
 }
 
-passes_all : (folder : Folder) (keep_going : Bool) (steps left : List Step) (old new : Spot)
-    → ((known : Option (List ℕ)) → Runs (record { folder = folder; known = known }) keep_going left new.state [] new.state)
+passes_all : (folder : Folder) (keep_going : Bool) (steps left : List RunStep) (old new : RunSpot)
+    → ((known : Option (List ℕ)) → RunsSteps (record { folder = folder; known = known }) keep_going left new.state [] new.state)
     → Passes folder keep_going steps left old new → Goes folder keep_going steps old new
 passes_all folder keep_going steps left old new none passes known remains =
     let before = passes known remains in (
       before.0,
-      subst (λ (told : List (List ℕ)). Runs (record { folder = folder; known = known }) keep_going steps old.state told new.state) (append-nil before.0)
+      subst (λ (told : List (List ℕ)). RunsSteps (record { folder = folder; known = known }) keep_going steps old.state told new.state) (append-nil before.0)
           (before.1 [] new.state (none known)),
       before.2,
       before.3,
     )
 
-part_done : (Premise : Type 0) (keep_going : Bool) (steps left : List Step) (cut : Cut) (old new : Spot)
-    → ((known : Option (List ℕ)) → Runs (record { folder = old.folder; known = known }) keep_going left new.state [] new.state)
+part_done : (Premise : Type 0) (keep_going : Bool) (steps left : List RunStep) (cut : Cut) (old new : RunSpot)
+    → ((known : Option (List ℕ)) → RunsSteps (record { folder = old.folder; known = known }) keep_going left new.state [] new.state)
     → Part Premise keep_going steps left cut old new → Done Premise keep_going steps cut old new
 part_done Premise keep_going steps left cut old new none part = record {
-  runs = λ honest whole. passes_all old.folder keep_going steps left old new none (part.runs honest whole);
+  does = λ honest whole. passes_all old.folder keep_going steps left old new none (part.runs honest whole);
   folder = part.folder;
   cut = part.cut;
   reads = part.reads;
@@ -176,13 +157,13 @@ part_done Premise keep_going steps left cut old new none part = record {
 }
 
 -- Nothing is left.
-pub all_done : (Premise : Type 0) (keep_going : Bool) (steps left : List Step) (cut : Cut) (old new : Spot) → left ≡ []
+pub all_done : (Premise : Type 0) (keep_going : Bool) (steps left : List RunStep) (cut : Cut) (old new : RunSpot) → left ≡ []
     → Part Premise keep_going steps left cut old new → Done Premise keep_going steps cut old new
 all_done Premise keep_going steps left cut old new none = part_done Premise keep_going steps left cut old new (λ known.
-    subst (λ (all : List Step). Runs (record { folder = old.folder; known = known }) keep_going all new.state [] new.state) (sym none) (refl, refl))
+    subst (λ (all : List RunStep). RunsSteps (record { folder = old.folder; known = known }) keep_going all new.state [] new.state) (sym none) (refl, refl))
 
 -- A step failed, so those that are left do nothing.
-pub done_early : (Premise : Type 0) (keep_going : Bool) (steps left : List Step) (cut : Cut) (old new : Spot) → ends keep_going new.state ≡ true
+pub done_early : (Premise : Type 0) (keep_going : Bool) (steps left : List RunStep) (cut : Cut) (old new : RunSpot) → ends_run keep_going new.state ≡ true
     → Part Premise keep_going steps left cut old new → Done Premise keep_going steps cut old new
 done_early Premise keep_going steps left cut old new ended = part_done Premise keep_going steps left cut old new (λ known.
     ended_runs (record { folder = old.folder; known = known }) keep_going left new.state ended)

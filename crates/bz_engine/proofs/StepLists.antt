@@ -8,7 +8,7 @@ use Rattle.bz_line.specs.Verbs.{prints}
 use Rattle.bz_line.specs.Shown.{asked_in, asking_in}
 use Rattle.bz_line.specs.declared.asked.Asked.{Asked as Held}
 use Rattle.bz_engine.specs.Shown.{names_in, shown_in}
-use Rattle.bz_engine.specs.Steps.{step_of, steps_of, all_steps, is_of_input, is_shown_by, shows_input, names_input}
+use Rattle.bz_engine.specs.Steps.{step_of, steps_asked, all_steps, is_of_input, is_shown_by, shows_input, names_input}
 
 any_map : {X Y : Type 0} (p : X → Bool) (f : Y → X) (ys : List Y) → list_any p (map f ys) ≡ list_any (λ y. p (f y)) ys
 any_map p f [] = refl
@@ -42,7 +42,7 @@ abbrev shows : Asking → Bool
 shows asking = not (prints asking.verb)
 
 -- a line shows the text of standard input where it means rules of it and has a command that doesn't print
-shown_by_line : (asked : Asked) → list_any is_shown_by (steps_of asked) ≡ (list_any is_of_input asked.targets && list_any shows asked.commands)
+shown_by_line : (asked : Asked) → list_any is_shown_by (steps_asked asked) ≡ (list_any is_of_input asked.targets && list_any shows asked.commands)
 shown_by_line asked =
     any_flat is_shown_by (λ target. map (step_of target) asked.commands) asked.targets
     ∙ any_same (λ target. list_any is_shown_by (map (step_of target) asked.commands)) (λ target. is_of_input target && list_any shows asked.commands)
@@ -51,9 +51,9 @@ shown_by_line asked =
 
 pub shown_by_lines : (lines : List Held) → shows_input (all_steps (map asked_in lines)) ≡ list_any shown_in lines
 shown_by_lines lines =
-    any_flat is_shown_by steps_of (map asked_in lines)
-    ∙ any_map (λ (asked : Asked). list_any is_shown_by (steps_of asked)) asked_in lines
-    ∙ any_same (λ (line : Held). list_any is_shown_by (steps_of (asked_in line))) shown_in
+    any_flat is_shown_by steps_asked (map asked_in lines)
+    ∙ any_map (λ (asked : Asked). list_any is_shown_by (steps_asked asked)) asked_in lines
+    ∙ any_same (λ (line : Held). list_any is_shown_by (steps_asked (asked_in line))) shown_in
     (λ line. shown_by_line (asked_in line) ∙ ap (λ b. names_in line && b) (any_map shows asking_in line.commands.items)) lines
 
 pub named_in_lines : (lines : List Held) → names_input (map asked_in lines) ≡ list_any names_in lines

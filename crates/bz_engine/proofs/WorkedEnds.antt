@@ -30,11 +30,11 @@ use Rattle.bz_workspace.specs.Found.{found_in, found_at, first_name, second_name
 use Rattle.bz_workspace.specs.Opens.{fresh}
 use Rattle.bz_workspace.specs.Packages.{Opened, Used, place_of, file_at}
 use Rattle.bz_engine.specs.Ending.{Left, Performs}
-use Rattle.bz_engine.specs.Outcome.{Outcome, LineOutcome, ScriptOutcome, unused}
-use Rattle.bz_engine.specs.Run.{World, State, Finds, Uses, Answers, Does, Runs, begun, told_of, answered, ends}
-use Rattle.bz_engine.specs.Steps.{Step, all_steps}
+use Rattle.bz_engine.specs.Outcome.{WordsOutcome, LineOutcome, ScriptOutcome, unused}
+use Rattle.bz_engine.specs.Run.{World, Progress, Finds, Uses, Answers, Does, RunsSteps, nothing_done, told_of, answered, ends_run}
+use Rattle.bz_engine.specs.Steps.{RunStep, all_steps}
 use Rattle.bz_engine.specs.Told.{IsUsageLine}
-use Rattle.bz_engine.specs.WorkedParts.{held, made}
+use Rattle.bz_engine.specs.WorkedParts.{text_read, text_made}
 use Rattle.bz_engine.specs.WorkedRuns.{WorkedUsage, WorkedWholeRuns, IsMade, HasBuild, OverBuild, BesideNone, OverInput}
 use Rattle.bz_engine.proofs.Outcomes.{apart}
 
@@ -50,12 +50,12 @@ second_found folder current other absent there =
     ap (λ found. found_at (first_name current) found (found_at (second_name current) (get folder (second_name current)) None)) absent
     ∙ ap (λ found. found_at (second_name current) found None) there
 
-pub found_first : (folder : Folder) → get folder (codes "a/BUILD.bazel") ≡ Some made → found_in folder (codes "a") ≡ Some (codes "a/BUILD.bazel", made)
-found_first folder there = first_found folder (codes "a") made there
+pub found_first : (folder : Folder) → get folder (codes "a/BUILD.bazel") ≡ Some text_made → found_in folder (codes "a") ≡ Some (codes "a/BUILD.bazel", text_made)
+found_first folder there = first_found folder (codes "a") text_made there
 
-pub found_second : (folder : Folder) → get folder (codes "a/BUILD.bazel") ≡ None → get folder (codes "a/BUILD") ≡ Some held
-    → found_in folder (codes "a") ≡ Some (codes "a/BUILD", held)
-found_second folder absent there = second_found folder (codes "a") (Some held) absent there
+pub found_second : (folder : Folder) → get folder (codes "a/BUILD.bazel") ≡ None → get folder (codes "a/BUILD") ≡ Some text_read
+    → found_in folder (codes "a") ≡ Some (codes "a/BUILD", text_read)
+found_second folder absent there = second_found folder (codes "a") (Some text_read) absent there
 
 pub found_none : (folder : Folder) → get folder (codes "a/BUILD.bazel") ≡ None → get folder (codes "a/BUILD") ≡ None → found_in folder (codes "a") ≡ None
 found_none folder absent gone = second_found folder (codes "a") None absent gone
@@ -66,12 +66,12 @@ abbrev plain : Options
 plain = record { keep_going = false; to_stdout = false; quiet = false; journal = false }
 
 usage_of : (words : List Bytes) (usage : Usage) (line : Bytes) (world : World) → line_of words ≡ Ok (record { options = plain; given = operands words })
-    → IsGroupFault words usage → IsUsageLine [] usage line → Outcome words world (unused world.folder line)
+    → IsGroupFault words usage → IsUsageLine [] usage line → WordsOutcome words world (unused world.folder line)
 usage_of words usage line world is fault told =
     subst (λ (whole : Result Line LineUsage). LineOutcome whole world (unused world.folder line)) (sym is) (inl (usage, line, fault, told, refl))
 
 script_of : (words : List Bytes) (name : Bytes) (world : World) (left : Left) → line_of words ≡ Ok (record { options = plain; given = script name })
-    → ScriptOutcome plain name world left → Outcome words world left
+    → ScriptOutcome plain name world left → WordsOutcome words world left
 script_of words name world left is done = subst (λ (whole : Result Line LineUsage). LineOutcome whole world left) (sym is) done
 
 abbrev refused : Bytes → OperandFault → Usage
@@ -138,76 +138,76 @@ set_text = codes "set size small"
 abbrev set_size : Asking
 set_size = record { verb = Do (w.Attribute (wa.Set (codes "size") (codes "small" ∷ []))); text = set_text }
 
-abbrev step_at : Bytes → Asking → Step
+abbrev step_at : Bytes → Asking → RunStep
 step_at current asking = record { target = rule_x current; asking = asking }
 
 abbrev set_history : Bytes → History
-set_history current = changed set_text (opened current held) made
+set_history current = changed set_text (opened current text_read) text_made
 
 abbrev file_with : Bytes → Bytes → History → Used
-file_with current name history = record { «package» = current; file = Some (record { name = name; read = held; history = history }) }
+file_with current name history = record { «package» = current; file = Some (record { name = name; read = text_read; history = history }) }
 
 abbrev none_used : Used
 none_used = record { «package» = codes "none"; file = None }
 
-abbrev state_of : List Used → Bool → State
+abbrev state_of : List Used → Bool → Progress
 state_of used failed = record { used = used; printed = []; failed = failed }
 
 abbrev left_of : Bytes → List Bytes → ℕ → Folder → Left
 left_of output lines status folder = record { output = output; lines = lines; status = status; folder = folder }
 
-does : (world : World) (step : Step) (before after : State) (place : ℕ) (used : List Used) (opening answer : List Bytes)
+does : (world : World) (step : RunStep) (before after : Progress) (place : ℕ) (used : List Used) (opening answer : List Bytes)
     → Uses world step.target.«package» before.used place opening used → Answers step place (file_at place used) (record before { used = used }) answer after
     → Does world step before (opening ++ answer) after
 does world step before after place used opening answer uses answers =
     record { place = place; used = used; opening = opening; answer = answer; uses = uses; answers = answers; told = refl }
 
 -- A package is used for the first time, and its file is opened.
-opens : (world : World) (current name : Bytes) (used : List Used) → place_of current used ≡ None → Finds world current (Some (name, held)) → IsMade current
-    → Uses world current used (length used) [] (used ++ file_with current name (opened current held) ∷ [])
+opens : (world : World) (current name : Bytes) (used : List Used) → place_of current used ≡ None → Finds world current (Some (name, text_read)) → IsMade current
+    → Uses world current used (length used) [] (used ++ file_with current name (opened current text_read) ∷ [])
 opens world current name used new finds is =
-    inr (new, refl, (Some (name, held), Some (fresh current name held), finds, inl (is.0, refl, refl), refl))
+    inr (new, refl, (Some (name, text_read), Some (fresh current name text_read), finds, inl (is.0, refl, refl), refl))
 
-sets : (current name : Bytes) (place : ℕ) (state : State) → IsMade current
-    → Answers (step_at current set_size) place (Some (fresh current name held)) state []
-    (answered place (fresh current name held) (Ok Changed) (set_history current) state)
+sets : (current name : Bytes) (place : ℕ) (state : Progress) → IsMade current
+    → Answers (step_at current set_size) place (Some (fresh current name text_read)) state []
+    (answered place (fresh current name text_read) (Ok Changed) (set_history current) state)
 sets current name place state is =
-    (Ok Changed, set_history current, inr (leb-true (length set_text) note_limit refl, (gives made None, is.1, refl)), refl, refl)
+    (Ok Changed, set_history current, inr (leb-true (length set_text) note_limit refl, (gives text_made None, is.1, refl)), refl, refl)
 
-goes_back : (current : Bytes) (count : ℕ) (text : Bytes) (place : ℕ) (file : Opened) (state : State) (answer : Answer) (history : History)
+goes_back : (current : Bytes) (count : ℕ) (text : Bytes) (place : ℕ) (file : Opened) (state : Progress) (answer : Answer) (history : History)
     → length text ≤ note_limit → (answer, history) ≡ undone count file.history
     → Answers (step_at current (undo count text)) place (Some file) state (told_of file.name text answer) (answered place file answer history state)
 goes_back current count text place file state answer history short is = (answer, history, inr (short, is), refl, refl)
 
-one_step : (world : World) (keep : Bool) (step : Step) (steps : List Step) (before mid after : State) (first rest : List Bytes)
-    → ends keep before ≡ false → Does world step before first mid → Runs world keep steps mid rest after
-    → Runs world keep (step ∷ steps) before (first ++ rest) after
+one_step : (world : World) (keep : Bool) (step : RunStep) (steps : List RunStep) (before mid after : Progress) (first rest : List Bytes)
+    → ends_run keep before ≡ false → Does world step before first mid → RunsSteps world keep steps mid rest after
+    → RunsSteps world keep (step ∷ steps) before (first ++ rest) after
 one_step world keep step steps before mid after first rest going done more = inr (going, (mid, first, rest, done, more, refl))
 
 run_of : (words texts : List Bytes) (options : Options) (asked : Asked) (world : World) (left : Left)
     → line_of words ≡ Ok (record { options = options; given = operands texts }) → group_of texts ≡ Ok asked
-    → Performs options (all_steps (asked ∷ [])) world left → Outcome words world left
+    → Performs options (all_steps (asked ∷ [])) world left → WordsOutcome words world left
 run_of words texts options asked world left is group done =
     subst (λ (whole : Result Line LineUsage). LineOutcome whole world left) (sym is) (inr (asked, group, done))
 
 -- ---- the first step, `set size small` or `undo`, in a file that is found
 
-abbrev after_set : Bytes → Bytes → State
+abbrev after_set : Bytes → Bytes → Progress
 after_set current name = state_of (file_with current name (set_history current) ∷ []) false
 
-set_first : (world : World) (current name : Bytes) → Finds world current (Some (name, held)) → IsMade current
-    → Does world (step_at current set_size) begun [] (after_set current name)
+set_first : (world : World) (current name : Bytes) → Finds world current (Some (name, text_read)) → IsMade current
+    → Does world (step_at current set_size) nothing_done [] (after_set current name)
 set_first world current name finds is =
-    does world (step_at current set_size) begun (after_set current name) 0 (file_with current name (opened current held) ∷ []) [] []
-    (opens world current name [] refl finds is) (sets current name 0 (state_of (file_with current name (opened current held) ∷ []) false) is)
+    does world (step_at current set_size) nothing_done (after_set current name) 0 (file_with current name (opened current text_read) ∷ []) [] []
+    (opens world current name [] refl finds is) (sets current name 0 (state_of (file_with current name (opened current text_read) ∷ []) false) is)
 
 -- What `set size small` made is taken back by so many steps, or that is refused.
 set_back : (world : World) (current name : Bytes) (count : ℕ) (text : Bytes) (answer : Answer) (history : History)
     → place_of current (after_set current name).used ≡ Some 0 → length text ≤ note_limit → (answer, history) ≡ undone count (set_history current)
     → Does world (step_at current (undo count text)) (after_set current name) (told_of name text answer)
-    (answered 0 (record { name = name; read = held; history = set_history current }) answer history (after_set current name))
+    (answered 0 (record { name = name; read = text_read; history = set_history current }) answer history (after_set current name))
 set_back world current name count text answer history there short is =
-    let file : Opened = record { name = name; read = held; history = set_history current } in
+    let file : Opened = record { name = name; read = text_read; history = set_history current } in
     does world (step_at current (undo count text)) (after_set current name) (answered 0 file answer history (after_set current name)) 0
     (after_set current name).used [] (told_of name text answer) (inl (there, refl, refl))
     (goes_back current count text 0 file (after_set current name) answer history short is)
@@ -215,7 +215,7 @@ set_back world current name count text answer history there short is =
 abbrev back_history : Bytes → History
 back_history current = (undone 1 (set_history current)).1
 
-abbrev after_back : Bytes → Bytes → State
+abbrev after_back : Bytes → Bytes → Progress
 after_back current name = state_of (file_with current name (back_history current) ∷ []) false
 
 abbrev undo_text : Bytes
@@ -229,8 +229,8 @@ short_undo = leb-true (length undo_text) note_limit refl
 abbrev build : Bytes
 build = codes "BUILD"
 
-finds_build : (world : World) → HasBuild world → Finds world [] (Some (build, held))
-finds_build world has = inr (apart [] refl, sym (second_found world.folder [] (Some held) has.0 has.1))
+finds_build : (world : World) → HasBuild world → Finds world [] (Some (build, text_read))
+finds_build world has = inr (apart [] refl, sym (second_found world.folder [] (Some text_read) has.0 has.1))
 
 abbrev made_lines : List Bytes
 made_lines = codes "fixed BUILD\n" ∷ []
@@ -241,14 +241,14 @@ asked_of commands targets = record { commands = commands; targets = targets }
 abbrev rule_word : Bytes
 rule_word = codes "//:x"
 
-run_set : (world : World) (keep : Bool) → HasBuild world → IsMade [] → Runs world keep (step_at [] set_size ∷ []) begun [] (after_set [] build)
-run_set world keep has is = one_step world keep (step_at [] set_size) [] begun (after_set [] build) (after_set [] build) [] [] refl
+run_set : (world : World) (keep : Bool) → HasBuild world → IsMade [] → RunsSteps world keep (step_at [] set_size ∷ []) nothing_done [] (after_set [] build)
+run_set world keep has is = one_step world keep (step_at [] set_size) [] nothing_done (after_set [] build) (after_set [] build) [] [] refl
     (set_first world [] build (finds_build world has) is) (refl, refl)
 
-run_set_undo : (world : World) (current name : Bytes) → place_of current (after_set current name).used ≡ Some 0 → Finds world current (Some (name, held))
-    → IsMade current → Runs world false (step_at current set_size ∷ step_at current (undo 1 undo_text) ∷ []) begun [] (after_back current name)
+run_set_undo : (world : World) (current name : Bytes) → place_of current (after_set current name).used ≡ Some 0 → Finds world current (Some (name, text_read))
+    → IsMade current → RunsSteps world false (step_at current set_size ∷ step_at current (undo 1 undo_text) ∷ []) nothing_done [] (after_back current name)
 run_set_undo world current name there finds is =
-    one_step world false (step_at current set_size) (step_at current (undo 1 undo_text) ∷ []) begun (after_set current name) (after_back current name) [] [] refl
+    one_step world false (step_at current set_size) (step_at current (undo 1 undo_text) ∷ []) nothing_done (after_set current name) (after_back current name) [] [] refl
     (set_first world current name finds is)
     (one_step world false (step_at current (undo 1 undo_text)) [] (after_set current name) (after_back current name) (after_back current name) [] [] refl
     (set_back world current name 1 undo_text (Ok Moved) (back_history current) there short_undo refl) (refl, refl))
@@ -256,14 +256,14 @@ run_set_undo world current name there finds is =
 abbrev refused_two : Bytes
 refused_two = codes "buildozer: BUILD: undo 2: TooFar (61)\n"
 
-abbrev after_two : State
+abbrev after_two : Progress
 after_two = state_of (file_with [] build (set_history []) ∷ []) true
 
 run_two : (world : World) → HasBuild world → IsMade []
-    → Runs world false (step_at [] set_size ∷ step_at [] (undo 2 (codes "undo 2")) ∷ []) begun (refused_two ∷ []) after_two
+    → RunsSteps world false (step_at [] set_size ∷ step_at [] (undo 2 (codes "undo 2")) ∷ []) nothing_done (refused_two ∷ []) after_two
 unfolding digits
 run_two world has is =
-    one_step world false (step_at [] set_size) (step_at [] (undo 2 (codes "undo 2")) ∷ []) begun (after_set [] build) after_two [] (refused_two ∷ []) refl
+    one_step world false (step_at [] set_size) (step_at [] (undo 2 (codes "undo 2")) ∷ []) nothing_done (after_set [] build) after_two [] (refused_two ∷ []) refl
     (set_first world [] build (finds_build world has) is)
     (one_step world false (step_at [] (undo 2 (codes "undo 2"))) [] (after_set [] build) after_two after_two (refused_two ∷ []) [] refl
     (set_back world [] build 2 (codes "undo 2") (Err TooFar) (set_history []) refl (leb-true (length (codes "undo 2")) note_limit refl) refl) (refl, refl))
@@ -272,29 +272,29 @@ abbrev refused_one : Bytes
 refused_one = codes "buildozer: BUILD: undo: TooFar (61)\n"
 
 abbrev build_read : Opened
-build_read = fresh [] build held
+build_read = fresh [] build text_read
 
-abbrev after_one : State
-after_one = state_of (file_with [] build (opened [] held) ∷ []) true
+abbrev after_one : Progress
+after_one = state_of (file_with [] build (opened [] text_read) ∷ []) true
 
-run_one : (world : World) → HasBuild world → IsMade [] → Runs world false (step_at [] (undo 1 undo_text) ∷ []) begun (refused_one ∷ []) after_one
+run_one : (world : World) → HasBuild world → IsMade [] → RunsSteps world false (step_at [] (undo 1 undo_text) ∷ []) nothing_done (refused_one ∷ []) after_one
 unfolding digits
 run_one world has is =
-    let used : List Used = file_with [] build (opened [] held) ∷ [] in
-    one_step world false (step_at [] (undo 1 undo_text)) [] begun after_one after_one (refused_one ∷ []) [] refl
-    (does world (step_at [] (undo 1 undo_text)) begun after_one 0 used [] (refused_one ∷ []) (opens world [] build [] refl (finds_build world has) is)
-    (goes_back [] 1 undo_text 0 build_read (state_of used false) (Err TooFar) (opened [] held) short_undo refl)) (refl, refl)
+    let used : List Used = file_with [] build (opened [] text_read) ∷ [] in
+    one_step world false (step_at [] (undo 1 undo_text)) [] nothing_done after_one after_one (refused_one ∷ []) [] refl
+    (does world (step_at [] (undo 1 undo_text)) nothing_done after_one 0 used [] (refused_one ∷ []) (opens world [] build [] refl (finds_build world has) is)
+    (goes_back [] 1 undo_text 0 build_read (state_of used false) (Err TooFar) (opened [] text_read) short_undo refl)) (refl, refl)
 
 over_build : (world : World) → HasBuild world → IsMade [] → OverBuild world
 unfolding clap_on_literals
 over_build world has is =
-    let written : Folder = with_file world.folder build made in
+    let written : Folder = with_file world.folder build text_made in
     let asked : Asked = asked_of (set_size ∷ []) (rule_x [] ∷ []) in (
       run_of (set_text ∷ rule_word ∷ []) (set_text ∷ rule_word ∷ []) plain asked world (left_of [] made_lines 0 written) refl refl
           (record { told = []; state = after_set [] build; runs = run_set world false has is; output = refl; writes = (has.1, written, (λ name other. refl), refl); lines = refl; status = refl }),
       run_of (codes "--quiet" ∷ set_text ∷ rule_word ∷ []) (set_text ∷ rule_word ∷ []) (record plain { quiet = true }) asked world (left_of [] [] 0 written) refl refl
           (record { told = []; state = after_set [] build; runs = run_set world false has is; output = refl; writes = (has.1, written, (λ name other. refl), refl); lines = refl; status = refl }),
-      run_of (codes "--stdout" ∷ set_text ∷ rule_word ∷ []) (set_text ∷ rule_word ∷ []) (record plain { to_stdout = true }) asked world (left_of made [] 0 world.folder) refl refl
+      run_of (codes "--stdout" ∷ set_text ∷ rule_word ∷ []) (set_text ∷ rule_word ∷ []) (record plain { to_stdout = true }) asked world (left_of text_made [] 0 world.folder) refl refl
           (record { told = []; state = after_set [] build; runs = run_set world false has is; output = refl; writes = refl; lines = refl; status = refl }),
       run_of (set_text ∷ undo_text ∷ rule_word ∷ []) (set_text ∷ undo_text ∷ rule_word ∷ []) plain (asked_of (set_size ∷ undo 1 undo_text ∷ []) (rule_x [] ∷ []))
           world (left_of [] [] 3 world.folder) refl refl
@@ -315,22 +315,22 @@ none = codes "none"
 abbrev none_line : Bytes
 none_line = codes "none/BUILD: cannot open\n"
 
-abbrev after_none : State
+abbrev after_none : Progress
 after_none = state_of (none_used ∷ []) true
 
-fails_first : (world : World) (asking : Asking) → found_in world.folder none ≡ None → Does world (step_at none asking) begun (none_line ∷ []) after_none
-fails_first world asking gone = does world (step_at none asking) begun after_none 0 (none_used ∷ []) (none_line ∷ []) []
+fails_first : (world : World) (asking : Asking) → found_in world.folder none ≡ None → Does world (step_at none asking) nothing_done (none_line ∷ []) after_none
+fails_first world asking gone = does world (step_at none asking) nothing_done after_none 0 (none_used ∷ []) (none_line ∷ []) []
     (inr (refl, refl, (None, None, inr (apart none refl, sym gone), (refl, refl), refl))) (refl, refl)
 
 fails_again : (world : World) (asking : Asking) → Does world (step_at none asking) after_none [] after_none
 fails_again world asking = does world (step_at none asking) after_none after_none 0 (none_used ∷ []) [] [] (inl (refl, refl, refl)) (refl, refl)
 
-abbrev after_both : State
+abbrev after_both : Progress
 after_both = state_of (none_used ∷ file_with [] build (set_history []) ∷ []) true
 
 set_next : (world : World) → HasBuild world → IsMade [] → Does world (step_at [] set_size) after_none [] after_both
 set_next world has is =
-    let used : List Used = none_used ∷ file_with [] build (opened [] held) ∷ [] in
+    let used : List Used = none_used ∷ file_with [] build (opened [] text_read) ∷ [] in
     does world (step_at [] set_size) after_none after_both 1 used [] [] (opens world [] build (none_used ∷ []) refl (finds_build world has) is)
     (sets [] build 1 (state_of used true) is)
 
@@ -340,7 +340,7 @@ redo = record { verb = Redo 1; text = codes "redo" }
 beside_none : (world : World) → HasBuild world → found_in world.folder none ≡ None → IsMade [] → BesideNone world
 unfolding clap_on_literals
 beside_none world has gone is =
-    let written : Folder = with_file world.folder build made in
+    let written : Folder = with_file world.folder build text_made in
     let keep : Options = record plain { keep_going = true } in
     let texts : List Bytes = set_text ∷ codes "//none:x" ∷ rule_word ∷ [] in
     let asked : Asked = asked_of (set_size ∷ []) (rule_x none ∷ rule_x [] ∷ []) in (
@@ -352,7 +352,7 @@ beside_none world has gone is =
             writes = refl;
             lines = refl;
             status = refl;
-            runs = one_step world false (step_at none set_size) (step_at [] set_size ∷ []) begun after_none after_none (none_line ∷ []) [] refl
+            runs = one_step world false (step_at none set_size) (step_at [] set_size ∷ []) nothing_done after_none after_none (none_line ∷ []) [] refl
                 (fails_first world set_size gone) (inl (refl, refl, refl));
           }),
       run_of (codes "-k" ∷ texts) texts keep asked world (left_of [] (none_line ∷ made_lines) 2 written) refl refl
@@ -363,7 +363,7 @@ beside_none world has gone is =
             writes = (has.1, written, (λ name other. refl), refl);
             lines = refl;
             status = refl;
-            runs = one_step world true (step_at none set_size) (step_at [] set_size ∷ []) begun after_none after_both (none_line ∷ []) [] refl (fails_first world set_size gone)
+            runs = one_step world true (step_at none set_size) (step_at [] set_size ∷ []) nothing_done after_none after_both (none_line ∷ []) [] refl (fails_first world set_size gone)
                 (one_step world true (step_at [] set_size) [] after_none after_both after_both [] [] refl (set_next world has is) (refl, refl));
           }),
       run_of (codes "-k" ∷ undo_text ∷ codes "redo" ∷ codes "//none:x" ∷ []) (undo_text ∷ codes "redo" ∷ codes "//none:x" ∷ []) keep
@@ -375,7 +375,7 @@ beside_none world has gone is =
             writes = refl;
             lines = refl;
             status = refl;
-            runs = one_step world true (step_at none (undo 1 undo_text)) (step_at none redo ∷ []) begun after_none after_none (none_line ∷ []) [] refl
+            runs = one_step world true (step_at none (undo 1 undo_text)) (step_at none redo ∷ []) nothing_done after_none after_none (none_line ∷ []) [] refl
                 (fails_first world (undo 1 undo_text) gone)
                 (one_step world true (step_at none redo) [] after_none after_none after_none [] [] refl (fails_again world redo) (refl, refl));
           }),
@@ -386,13 +386,13 @@ beside_none world has gone is =
 abbrev dash : Bytes
 dash = codes "-"
 
-over_input : (folder : Folder) → IsMade dash → OverInput (record { folder = folder; known = Some held })
+over_input : (folder : Folder) → IsMade dash → OverInput (record { folder = folder; known = Some text_read })
 unfolding clap_on_literals
 over_input folder is =
-    let world : World = record { folder = folder; known = Some held } in
-    let finds : Finds world dash (Some (stdin, held)) = inl (refl, (held, refl, refl)) in (
+    let world : World = record { folder = folder; known = Some text_read } in
+    let finds : Finds world dash (Some (stdin, text_read)) = inl (refl, (text_read, refl, refl)) in (
       run_of (codes "--" ∷ set_text ∷ codes "-:x" ∷ []) (set_text ∷ codes "-:x" ∷ []) plain (asked_of (set_size ∷ []) (rule_x dash ∷ [])) world
-          (left_of made [] 0 folder) refl refl
+          (left_of text_made [] 0 folder) refl refl
           (record {
             told = [];
             state = after_set dash stdin;
@@ -400,10 +400,10 @@ over_input folder is =
             writes = refl;
             lines = refl;
             status = refl;
-            runs = one_step world false (step_at dash set_size) [] begun (after_set dash stdin) (after_set dash stdin) [] [] refl (set_first world dash stdin finds is) (refl, refl);
+            runs = one_step world false (step_at dash set_size) [] nothing_done (after_set dash stdin) (after_set dash stdin) [] [] refl (set_first world dash stdin finds is) (refl, refl);
           }),
       run_of (codes "--" ∷ set_text ∷ undo_text ∷ codes "-:x" ∷ []) (set_text ∷ undo_text ∷ codes "-:x" ∷ []) plain
-          (asked_of (set_size ∷ undo 1 undo_text ∷ []) (rule_x dash ∷ [])) world (left_of held [] 3 folder) refl refl
+          (asked_of (set_size ∷ undo 1 undo_text ∷ []) (rule_x dash ∷ [])) world (left_of text_read [] 3 folder) refl refl
           (record {
             told = [];
             state = after_back dash stdin;

@@ -5,16 +5,20 @@ use Rattle.bz_ports.specs.Faults.{Rises}
 use Rattle.bz_ports.specs.declared.exit.Cut.{Cut}
 use Rattle.bz_ports.specs.declared.exit.Cut.TheVariants as c
 use Rattle.bz_workspace.specs.Packages.{Used, place_of}
-use Rattle.bz_engine.specs.Run.{State}
+use Rattle.bz_engine.specs.Run.{Progress}
 use Rattle.bz_engine.specs.Steps.{input_package}
 
 -- Steps are cut where a count of faults rose; where none is, none has risen. (Standard input, then files, each before and after.)
-abbrev pub IsCutBy : Cut → ℕ → ℕ → ℕ → ℕ → Type 0
-IsCutBy c.Whole reads reads' files files' = (reads' ≡ reads) × (files' ≡ files)
-IsCutBy c.Memory reads reads' files files' = Unit {0}
-IsCutBy c.Read reads reads' files files' = Rises reads reads'
-IsCutBy c.Write reads reads' files files' = ⊥
-IsCutBy c.Files reads reads' files files' = Rises files files'
+abbrev pub AreCutBy : Cut → ℕ → ℕ → ℕ → ℕ → Type 0
+AreCutBy c.Whole reads reads' files files' = (reads' ≡ reads) × (files' ≡ files)
+AreCutBy c.Memory reads reads' files files' = Unit {0}
+AreCutBy c.Read reads reads' files files' = Rises reads reads'
+AreCutBy c.Write reads reads' files files' = ⊥
+AreCutBy c.Files reads reads' files files' = Rises files files'
+
+-- What is done on files is cut for memory, or where a count of faults rose; where it is not, none has risen.
+abbrev pub CutsFiles : Cut → ℕ → ℕ → Type 0
+CutsFiles cut faults faults' = ((cut ≡ c.Whole) × (faults' ≡ faults)) ⊎ (cut ≡ c.Memory) ⊎ ((cut ≡ c.Files) × Rises faults faults')
 
 -- Until package `-` is used, all bytes of standard input are left.
 abbrev pub IsLeft : Option Bytes → List Used → Option Bytes → Type 0
@@ -37,7 +41,7 @@ AreClosed [] = Unit {0}
 AreClosed (used ∷ more) = (used.file ≡ None) × AreClosed more
 
 -- Nothing was printed, and there is no text that can be shown.
-abbrev pub ShowsNothing : State → Type 0
+abbrev pub ShowsNothing : Progress → Type 0
 ShowsNothing state = (state.printed ≡ []) × AreClosed state.used
 
 -- Package `-` was used.
@@ -52,7 +56,7 @@ pub record OpensInput (why : Cut) (place : Option ℕ) (before after : List Used
   pub whole : why ≡ c.Whole → UsesInput after
 
 -- Steps on rules of standard input read it once at most; where it can't be read, nothing is there to be shown at the end.
-pub record ReadsOnce (why : Cut) (before after : State) : Type 0 where
+pub record ReadsOnce (why : Cut) (before after : Progress) : Type 0 where
   pub failed : ShowsNothing before → why ≡ c.Read → ShowsNothing after × UsesInput after.used
   pub again : UsesInput before.used → why ≢ c.Read
   pub still : UsesInput before.used → ShowsNothing before → ShowsNothing after × UsesInput after.used

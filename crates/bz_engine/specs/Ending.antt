@@ -10,8 +10,8 @@ use Rattle.bz_journal.specs.History.{present}
 use Rattle.bz_line.specs.declared.line.Options.{Options}
 use Rattle.bz_ports.specs.Outputs.{Tells}
 use Rattle.bz_workspace.specs.Packages.{Opened, Used}
-use Rattle.bz_engine.specs.Run.{World, State, begun, Runs}
-use Rattle.bz_engine.specs.Steps.{Step, input_package, shows_input}
+use Rattle.bz_engine.specs.Run.{World, Progress, nothing_done, RunsSteps}
+use Rattle.bz_engine.specs.Steps.{RunStep, input_package, shows_input}
 use Rattle.bz_engine.specs.Told.{fixed_line}
 
 -- the text at the end is another one than was read
@@ -28,12 +28,12 @@ is_input used = bytes_eq used.«package» input_package
 abbrev pub goes_out : Bool → Bool → Bool → Bool → Bool
 goes_out of_input shown to_stdout changed = if of_input then shown else to_stdout && changed
 
-abbrev pub file_out : Bool → Bool → Bool → Option Opened → Bytes
-file_out of_input shown to_stdout None = []
-file_out of_input shown to_stdout (Some file) = if goes_out of_input shown to_stdout (differs file) then present file.history else []
+abbrev pub opened_out : Bool → Bool → Bool → Option Opened → Bytes
+opened_out of_input shown to_stdout None = []
+opened_out of_input shown to_stdout (Some file) = if goes_out of_input shown to_stdout (differs file) then present file.history else []
 
 abbrev pub text_out : Bool → Bool → Used → Bytes
-text_out shown to_stdout used = file_out (is_input used) shown to_stdout used.file
+text_out shown to_stdout used = opened_out (is_input used) shown to_stdout used.file
 
 -- the texts of the packages, in order of first use
 abbrev pub texts_out : Bool → Bool → List Used → Bytes
@@ -58,22 +58,22 @@ abbrev pub writing_of : Bool → Used → List Writing
 writing_of to_stdout used = file_writing (is_input used) to_stdout used.file
 
 -- the files that are written, in order of first use
-abbrev pub writings : Bool → List Used → List Writing
-writings to_stdout used = flat_map (writing_of to_stdout) used
+abbrev pub all_writings : Bool → List Used → List Writing
+all_writings to_stdout used = flat_map (writing_of to_stdout) used
 
 -- Files are given their bytes one after the other, each where it holds what was read of it right before; what is set aside for each may
 -- differ.
-abbrev pub Writes : List Writing → Folder → Folder → Type 0
-Writes [] before after = after ≡ before
-Writes (file ∷ files) before after =
+abbrev pub WritesFiles : List Writing → Folder → Folder → Type 0
+WritesFiles [] before after = after ≡ before
+WritesFiles (file ∷ files) before after =
     (get before file.name ≡ Some file.held)
-    × (mid : Folder) × SameBut (λ other. other ≡ new_name file.name) (with_file before file.name file.bytes) mid × Writes files mid after
+    × (mid : Folder) × SameBut (λ other. other ≡ new_name file.name) (with_file before file.name file.bytes) mid × WritesFiles files mid after
 
 abbrev pub fixed_lines : Bool → List Writing → List Bytes
 fixed_lines quiet files = if quiet then [] else map (λ (file : Writing). fixed_line file.name) files
 
 -- 2 where a step failed, else 0 where a text at the end is another one than was read, else 3
-abbrev pub status_of : State → ℕ
+abbrev pub status_of : Progress → ℕ
 status_of state = if state.failed then 2 else (if list_any has_changed state.used then 0 else 3)
 
 -- what a run leaves: the bytes on standard output, the lines on standard error, its status and the folder
@@ -84,18 +84,18 @@ pub record Left : Type 0 where
   pub folder : Folder
 
 -- Steps are run; then standard output is given what they printed and the texts behind it, and files are written.
-pub record Performs (options : Options) (steps : List Step) (world : World) (left : Left) : Type 0 where
+pub record Performs (options : Options) (steps : List RunStep) (world : World) (left : Left) : Type 0 where
   pub told : List Bytes
-  pub state : State
-  pub runs : Runs world options.keep_going steps begun told state
+  pub state : Progress
+  pub runs : RunsSteps world options.keep_going steps nothing_done told state
   pub output : left.output ≡ state.printed ++ texts_out (shows_input steps) options.to_stdout state.used
-  pub writes : Writes (writings options.to_stdout state.used) world.folder left.folder
-  pub lines : left.lines ≡ told ++ fixed_lines options.quiet (writings options.to_stdout state.used)
+  pub writes : WritesFiles (all_writings options.to_stdout state.used) world.folder left.folder
+  pub lines : left.lines ≡ told ++ fixed_lines options.quiet (all_writings options.to_stdout state.used)
   pub status : left.status ≡ status_of state
 
 -- What is left stands in the writers and in the folder. (Standard output before and after; the faults of standard error and what it
 -- holds, each before and after.)
-pub record Stands (left : Left) (status : ℕ) (folder : Folder) (out out' : Option Bytes) (faults faults' : ℕ) (err err' : Option Bytes) : Type 0 where
+pub record LeftStands (left : Left) (status : ℕ) (folder : Folder) (out out' : Option Bytes) (faults faults' : ℕ) (err err' : Option Bytes) : Type 0 where
   pub exit : status ≡ left.status
   pub files : folder ≡ left.folder
   pub output : Appends out out' left.output

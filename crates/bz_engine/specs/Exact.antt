@@ -12,7 +12,7 @@ use Rattle.bz_line.specs.Refused.{IsPatternFault, IsFirstRefused, IsFirstFault}
 use Rattle.bz_line.specs.Script.{lines_in}
 use Rattle.bz_ports.specs.Told.{fault_line}
 use Rattle.bz_engine.specs.Ending.{Left}
-use Rattle.bz_engine.specs.Outcome.{Outcome, IsScript, unused}
+use Rattle.bz_engine.specs.Outcome.{WordsOutcome, IsScript, unused}
 use Rattle.bz_engine.specs.Run.{World, Finds}
 use Rattle.bz_engine.specs.Told.{operand_line}
 
@@ -71,5 +71,5 @@ TellsPattern words world left = (line : Line) × (line_of words ≡ Ok line) × 
 
 -- Two outcomes of words are the same, unless one of them is that a pattern is refused.
 abbrev pub OutcomesAreExact : Type 0
-OutcomesAreExact = (words : List Bytes) (world : World) (bytes : Bytes) (left other : Left) → world.known ≡ Some bytes → Outcome words world left
-    → Outcome words world other → TellsPattern words world left ⊎ TellsPattern words world other ⊎ SameLeft words world left other
+OutcomesAreExact = (words : List Bytes) (world : World) (bytes : Bytes) (left other : Left) → world.known ≡ Some bytes → WordsOutcome words world left
+    → WordsOutcome words world other → TellsPattern words world left ⊎ TellsPattern words world other ⊎ SameLeft words world left other

@@ -71,8 +71,8 @@ abbrev pub LineOutcome : Result Line LineUsage → World → Left → Type 0
 LineOutcome (Err usage) world left = (line : Bytes) × IsLineUsageLine usage line × (left ≡ unused world.folder line)
 LineOutcome (Ok line) world left = GivenOutcome line.options line.given world left
 
-abbrev pub Outcome : List Bytes → World → Left → Type 0
-Outcome words world left = LineOutcome (line_of words) world left
+abbrev pub WordsOutcome : List Bytes → World → Left → Type 0
+WordsOutcome words world left = LineOutcome (line_of words) world left
 
 -- the words name a file of lines
 abbrev pub TakesScript : List Bytes → Type 0

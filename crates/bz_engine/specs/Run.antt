@@ -12,7 +12,7 @@ use Rattle.bz_ports.specs.Told.{stdin}
 use Rattle.bz_workspace.specs.Found.{Found, found_in}
 use Rattle.bz_workspace.specs.Opens.{Opens}
 use Rattle.bz_workspace.specs.Packages.{Opened, Used, place_of, file_at, with_file}
-use Rattle.bz_engine.specs.Steps.{Step, action_of, input_package}
+use Rattle.bz_engine.specs.Steps.{RunStep, action_of, input_package}
 use Rattle.bz_engine.specs.Told.{refusal_line}
 
 -- what can be read: the files of a folder, and the bytes of standard input where they are known
@@ -21,13 +21,13 @@ pub record World : Type 0 where
   pub known : Option Bytes
 
 -- how far a run has come: the packages used, what was printed, and whether a step has failed
-pub record State : Type 0 where
+pub record Progress : Type 0 where
   pub used : List Used
   pub printed : Bytes
   pub failed : Bool
 
-abbrev pub begun : State
-begun = record { used = []; printed = []; failed = false }
+abbrev pub nothing_done : Progress
+nothing_done = record { used = []; printed = []; failed = false }
 
 -- ---- the package of a step
 
@@ -64,7 +64,7 @@ told_of name command (Ok reply) = []
 told_of name command (Err refusal) = refusal_line name command refusal ∷ []
 
 -- the state behind an answer of the open file with this number
-abbrev pub answered : ℕ → Opened → Answer → History → State → State
+abbrev pub answered : ℕ → Opened → Answer → History → Progress → Progress
 answered place file answer history state = record {
   used = with_file place (Some (record file { history = history })) state.used;
   printed = state.printed ++ printed_by answer;
@@ -78,14 +78,14 @@ LeadsBy None note h answer after = (answer ≡ Ok (Printed (listing h))) × (aft
 LeadsBy (Some action) note h answer after = Leads action note h answer after
 
 -- In a package without an open file a step does nothing and fails.
-abbrev pub Answers : Step → ℕ → Option Opened → State → List Bytes → State → Type 0
+abbrev pub Answers : RunStep → ℕ → Option Opened → Progress → List Bytes → Progress → Type 0
 Answers step place None state lines after = (lines ≡ []) × (after ≡ record state { failed = true })
 Answers step place (Some file) state lines after =
     (answer : Answer) × (history : History) × LeadsBy (action_of step.target step.asking.verb) step.asking.text file.history answer history
     × (lines ≡ told_of file.name step.asking.text answer) × (after ≡ answered place file answer history state)
 
 -- Its package is opened, if it was not used before; then its command is done there.
-pub record Does (world : World) (step : Step) (before : State) (lines : List Bytes) (after : State) : Type 0 where
+pub record Does (world : World) (step : RunStep) (before : Progress) (lines : List Bytes) (after : Progress) : Type 0 where
   pub place : ℕ
   pub used : List Used
   pub opening : List Bytes
@@ -97,13 +97,13 @@ pub record Does (world : World) (step : Step) (before : State) (lines : List Byt
 -- ---- many steps
 
 -- A step that failed ends a run, unless it is to go on.
-abbrev pub ends : Bool → State → Bool
-ends keep_going state = state.failed && not keep_going
+abbrev pub ends_run : Bool → Progress → Bool
+ends_run keep_going state = state.failed && not keep_going
 
 -- Steps one after the other, with the lines that they tell.
-abbrev pub Runs : World → Bool → List Step → State → List Bytes → State → Type 0
-Runs world keep_going [] before lines after = (lines ≡ []) × (after ≡ before)
-Runs world keep_going (step ∷ steps) before lines after =
-    ((ends keep_going before ≡ true) × (lines ≡ []) × (after ≡ before))
-    ⊎ ((ends keep_going before ≡ false) × ((mid : State) × (first : List Bytes) × (rest : List Bytes) × Does world step before first mid
-    × Runs world keep_going steps mid rest after × (lines ≡ first ++ rest)))
+abbrev pub RunsSteps : World → Bool → List RunStep → Progress → List Bytes → Progress → Type 0
+RunsSteps world keep_going [] before lines after = (lines ≡ []) × (after ≡ before)
+RunsSteps world keep_going (step ∷ steps) before lines after =
+    ((ends_run keep_going before ≡ true) × (lines ≡ []) × (after ≡ before))
+    ⊎ ((ends_run keep_going before ≡ false) × ((mid : Progress) × (first : List Bytes) × (rest : List Bytes) × Does world step before first mid
+    × RunsSteps world keep_going steps mid rest after × (lines ≡ first ++ rest)))

@@ -8,8 +8,8 @@ use Rattle.bz_engine.specs.Run as r
 use Rattle.bz_engine.specs.Steps.{is_of_input}
 use Rattle.bz_engine.specs.declared.run.Run.{Run}
 
-abbrev pub state_in : Run → r.State
-state_in run = record { used = run.workspace; printed = run.printed.items; failed = run.failed }
+abbrev pub progress_in : Run → r.Progress
+progress_in run = record { used = run.workspace; printed = run.printed.items; failed = run.failed }
 
 -- a command that doesn't print
 abbrev pub shows_in : Asking → Bool

@@ -11,19 +11,19 @@ use Rattle.bz_line.specs.declared.verb.Verb.{Verb}
 use Rattle.bz_line.specs.declared.verb.Verb.TheVariants.{Do, Undo, Redo, Journal}
 
 -- a command on one target
-pub record Step : Type 0 where
+pub record RunStep : Type 0 where
   pub target : Target
   pub asking : Asking
 
-abbrev pub step_of : Target → Asking → Step
+abbrev pub step_of : Target → Asking → RunStep
 step_of target asking = record { target = target; asking = asking }
 
 -- Each target gets all commands, in order.
-abbrev pub steps_of : Asked → List Step
-steps_of asked = flat_map (λ target. map (step_of target) asked.commands) asked.targets
+abbrev pub steps_asked : Asked → List RunStep
+steps_asked asked = flat_map (λ target. map (step_of target) asked.commands) asked.targets
 
-abbrev pub all_steps : List Asked → List Step
-all_steps lines = flat_map steps_of lines
+abbrev pub all_steps : List Asked → List RunStep
+all_steps lines = flat_map steps_asked lines
 
 -- what the session of the target's file is asked to do; to list its texts is no action
 abbrev pub action_of : Target → Verb → Option Action
@@ -43,9 +43,9 @@ abbrev pub names_input : List Asked → Bool
 names_input lines = list_any (λ asked. list_any is_of_input asked.targets) lines
 
 -- a command on rules of standard input that doesn't print
-abbrev pub is_shown_by : Step → Bool
+abbrev pub is_shown_by : RunStep → Bool
 is_shown_by step = is_of_input step.target && not (prints step.asking.verb)
 
 -- The text of standard input is shown where a command on it isn't one that prints.
-abbrev pub shows_input : List Step → Bool
+abbrev pub shows_input : List RunStep → Bool
 shows_input steps = list_any is_shown_by steps

@@ -11,25 +11,25 @@ use Rattle.bz_items.specs.Characters.{Bytes}
 use Rattle.bz_workspace.specs.Found.{found_in, first_name, second_name}
 use Rattle.bz_workspace.specs.Opens.{fresh}
 use Rattle.bz_workspace.specs.Packages.{Opened, Used, place_of}
-use Rattle.bz_engine.specs.Ending.{differs, texts_out, writings, fixed_lines, status_of}
-use Rattle.bz_engine.specs.Run.{State, Finds, told_of, printed_by, answered, ends}
-use Rattle.bz_engine.specs.Steps.{Step, all_steps, shows_input}
+use Rattle.bz_engine.specs.Ending.{differs, texts_out, all_writings, fixed_lines, status_of}
+use Rattle.bz_engine.specs.Run.{Progress, Finds, told_of, printed_by, answered, ends_run}
+use Rattle.bz_engine.specs.Steps.{RunStep, all_steps, shows_input}
 
 -- a file as it is read, and what `set size small` makes of it
-abbrev pub held : Bytes
-held = codes "f(name=\"x\")\n"
+abbrev pub text_read : Bytes
+text_read = codes "f(name=\"x\")\n"
 
-abbrev pub made : Bytes
-made = codes "f(\n    name = \"x\",\n    size = \"small\",\n)\n"
+abbrev pub text_made : Bytes
+text_made = codes "f(\n    name = \"x\",\n    size = \"small\",\n)\n"
 
 -- ---- parts of a run
 
 -- the file of a package: as it was read, with `set size small` done, and one step back or forward
 abbrev read_of : Bytes → Opened
-read_of current = fresh current (second_name current) held
+read_of current = fresh current (second_name current) text_read
 
 abbrev edited : Opened → Opened
-edited file = record file { history = changed (codes "set size small") file.history made }
+edited file = record file { history = changed (codes "set size small") file.history text_made }
 
 abbrev back : Opened → Opened
 back file = record file { history = (undone 1 file.history).1 }
@@ -70,14 +70,14 @@ Statuses =
     × (status (app app_read ∷ []) true ≡ 2) × (status (closed ∷ []) true ≡ 2) × (status (closed ∷ app (edited app_read) ∷ []) true ≡ 2)
 
 -- how far a run is after a step that failed, or that did not
-abbrev after_step : Bool → State
+abbrev after_step : Bool → Progress
 after_step failed = record { used = []; printed = []; failed = failed }
 
 abbrev GoesOn : Type 0
 GoesOn =
     -- Without -k a failure ends the run; with it none does.
-    (ends false (after_step true) ≡ true) × (ends true (after_step true) ≡ false)
-    × (ends false (after_step false) ≡ false) × (ends true (after_step false) ≡ false)
+    (ends_run false (after_step true) ≡ true) × (ends_run true (after_step true) ≡ false)
+    × (ends_run false (after_step false) ≡ false) × (ends_run true (after_step false) ≡ false)
 
 abbrev TextsOut : Type 0
 TextsOut =
@@ -85,17 +85,17 @@ TextsOut =
     (differs app_read ≡ false) × (differs (edited app_read) ≡ true) × (differs (back (edited app_read)) ≡ false)
     -- Without --stdout a file that differs is written and told, and nothing of it goes out.
     × (texts_out false false (app_edited ∷ []) ≡ [])
-    × (writings false (app_edited ∷ []) ≡ record { name = codes "app/BUILD"; held = held; bytes = made } ∷ [])
-    × (fixed_lines false (writings false (app_edited ∷ [])) ≡ codes "fixed app/BUILD\n" ∷ [])
+    × (all_writings false (app_edited ∷ []) ≡ record { name = codes "app/BUILD"; held = text_read; bytes = text_made } ∷ [])
+    × (fixed_lines false (all_writings false (app_edited ∷ [])) ≡ codes "fixed app/BUILD\n" ∷ [])
     -- With --quiet it is not told.
-    × (fixed_lines true (writings false (app_edited ∷ [])) ≡ [])
+    × (fixed_lines true (all_writings false (app_edited ∷ [])) ≡ [])
     -- With --stdout its text goes out, and it is not written.
-    × (texts_out false true (closed ∷ app_edited ∷ []) ≡ made) × (writings true (app_edited ∷ []) ≡ [])
+    × (texts_out false true (closed ∷ app_edited ∷ []) ≡ text_made) × (all_writings true (app_edited ∷ []) ≡ [])
     -- Of a file that doesn't differ nothing goes out, and it is not written.
-    × (texts_out false true (app_back ∷ []) ≡ []) × (writings false (app_back ∷ app app_read ∷ closed ∷ []) ≡ [])
+    × (texts_out false true (app_back ∷ []) ≡ []) × (all_writings false (app_back ∷ app app_read ∷ closed ∷ []) ≡ [])
     -- The text of standard input goes out where it is shown, also as it was read, with --stdout or without; it is never written.
-    × (texts_out true false (input (edited app_read) ∷ []) ≡ made) × (texts_out true true (input app_read ∷ []) ≡ held)
-    × (texts_out false true (input app_read ∷ []) ≡ []) × (writings false (input (edited app_read) ∷ []) ≡ [])
+    × (texts_out true false (input (edited app_read) ∷ []) ≡ text_made) × (texts_out true true (input app_read ∷ []) ≡ text_read)
+    × (texts_out false true (input app_read ∷ []) ≡ []) × (all_writings false (input (edited app_read) ∷ []) ≡ [])
 
 abbrev Told : Type 0
 Told =
@@ -114,19 +114,19 @@ Told =
 -- ---- which file
 
 -- the steps of operands
-abbrev steps_in : Result Asked Usage → List Step
+abbrev steps_in : Result Asked Usage → List RunStep
 steps_in (Ok asked) = all_steps (asked ∷ [])
 steps_in (Err usage) = []
 
-abbrev typed : List Bytes → List Step
+abbrev typed : List Bytes → List RunStep
 typed operands = steps_in (group_of operands)
 
 abbrev Steps : Type 0
 Steps =
     -- undo redo //a:x b:y :z: each target gets both commands, in the file of its package.
-    (map (λ (step : Step). step.target.«package») (typed (codes "undo" ∷ codes "redo" ∷ codes "//a:x" ∷ codes "b:y" ∷ codes ":z" ∷ []))
+    (map (λ (step : RunStep). step.target.«package») (typed (codes "undo" ∷ codes "redo" ∷ codes "//a:x" ∷ codes "b:y" ∷ codes ":z" ∷ []))
     ≡ codes "a" ∷ codes "a" ∷ codes "b" ∷ codes "b" ∷ [] ∷ [] ∷ [])
-    × (map (λ (step : Step). step.asking.text) (typed (codes "undo" ∷ codes "redo" ∷ codes "//a:x" ∷ [])) ≡ codes "undo" ∷ codes "redo" ∷ [])
+    × (map (λ (step : RunStep). step.asking.text) (typed (codes "undo" ∷ codes "redo" ∷ codes "//a:x" ∷ [])) ≡ codes "undo" ∷ codes "redo" ∷ [])
     -- -- undo -:x shows the text of standard input; print and journal don't, but where another command is beside them.
     × (shows_input (typed (codes "undo" ∷ codes "-:x" ∷ [])) ≡ true)
     × (shows_input (typed (codes "print name" ∷ codes "journal" ∷ codes "-:x" ∷ [])) ≡ false)
@@ -139,12 +139,12 @@ Files =
     (first_name (codes "a/b") ≡ codes "a/b/BUILD.bazel") × (second_name (codes "a/b") ≡ codes "a/b/BUILD")
     × (first_name [] ≡ codes "BUILD.bazel") × (second_name [] ≡ codes "BUILD")
     -- BUILD.bazel where it is there, else BUILD, else none.
-    × ((folder : Folder) → get folder (codes "a/BUILD.bazel") ≡ Some made → found_in folder (codes "a") ≡ Some (codes "a/BUILD.bazel", made))
-    × ((folder : Folder) → get folder (codes "a/BUILD.bazel") ≡ None → get folder (codes "a/BUILD") ≡ Some held
-    → found_in folder (codes "a") ≡ Some (codes "a/BUILD", held))
+    × ((folder : Folder) → get folder (codes "a/BUILD.bazel") ≡ Some text_made → found_in folder (codes "a") ≡ Some (codes "a/BUILD.bazel", text_made))
+    × ((folder : Folder) → get folder (codes "a/BUILD.bazel") ≡ None → get folder (codes "a/BUILD") ≡ Some text_read
+    → found_in folder (codes "a") ≡ Some (codes "a/BUILD", text_read))
     × ((folder : Folder) → get folder (codes "a/BUILD.bazel") ≡ None → get folder (codes "a/BUILD") ≡ None → found_in folder (codes "a") ≡ None)
     -- Package `-` is standard input.
-    × ((folder : Folder) → Finds (record { folder = folder; known = Some held }) (codes "-") (Some (codes "<stdin>", held)))
+    × ((folder : Folder) → Finds (record { folder = folder; known = Some text_read }) (codes "-") (Some (codes "<stdin>", text_read)))
     -- A package that was used is used again; under another path it is another package.
     × (place_of (codes "app") (closed ∷ app app_read ∷ []) ≡ Some 1) × (place_of (codes "./app") (closed ∷ app app_read ∷ []) ≡ None)
 

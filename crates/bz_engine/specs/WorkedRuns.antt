@@ -10,15 +10,15 @@ use Rattle.bz_items.specs.Characters.{Bytes}
 use Rattle.bz_words.specs.declared.command.AttributeOperation.TheVariants as wa
 use Rattle.bz_words.specs.declared.command.Operation.TheVariants as w
 use Rattle.bz_workspace.specs.Found.{found_in}
-use Rattle.bz_engine.specs.Outcome.{Outcome}
+use Rattle.bz_engine.specs.Outcome.{WordsOutcome}
 use Rattle.bz_engine.specs.Run.{World}
 use Rattle.bz_engine.specs.Usage.{LineTells}
-use Rattle.bz_engine.specs.WorkedParts.{held, made}
+use Rattle.bz_engine.specs.WorkedParts.{text_read, text_made}
 
 -- ---- usage faults: a run tells its one line, has status 1 and leaves all else as it was
 
 abbrev Unused : List Bytes → Bytes → World → Type 0
-Unused words line world = Outcome words world (record { output = []; lines = line ∷ []; status = 1; folder = world.folder })
+Unused words line world = WordsOutcome words world (record { output = []; lines = line ∷ []; status = 1; folder = world.folder })
 
 -- without a file of lines, in each folder and over each standard input
 abbrev IsUsage : List Bytes → Bytes → Type 0
@@ -51,27 +51,27 @@ WorkedUsage =
 
 -- ---- whole runs over one file, BUILD in the current folder, or over standard input
 
--- `held` is accepted, and `set size small` on rule `x` of it means `made`.
+-- `text_read` is accepted, and `set size small` on rule `x` of it means `text_made`.
 abbrev pub IsMade : Bytes → Type 0
-IsMade current = Accepted held × Means (w.Attribute (wa.Set (codes "size") (codes "small" ∷ []))) (record { «package» = current; which = Name (codes "x") }) current held (gives made None)
+IsMade current = Accepted text_read × Means (w.Attribute (wa.Set (codes "size") (codes "small" ∷ []))) (record { «package» = current; which = Name (codes "x") }) current text_read (gives text_made None)
 
 abbrev pub HasBuild : World → Type 0
-HasBuild world = (get world.folder (codes "BUILD.bazel") ≡ None) × (get world.folder (codes "BUILD") ≡ Some held)
+HasBuild world = (get world.folder (codes "BUILD.bazel") ≡ None) × (get world.folder (codes "BUILD") ≡ Some text_read)
 
 -- what is left of a folder in which BUILD was written, and of one as it was
 abbrev BuildWritten : List Bytes → Bytes → List Bytes → ℕ → World → Type 0
 BuildWritten words output lines status world =
-    Outcome words world (record { output = output; lines = lines; status = status; folder = with_file world.folder (codes "BUILD") made })
+    WordsOutcome words world (record { output = output; lines = lines; status = status; folder = with_file world.folder (codes "BUILD") text_made })
 
 abbrev Still : List Bytes → Bytes → List Bytes → ℕ → World → Type 0
-Still words output lines status world = Outcome words world (record { output = output; lines = lines; status = status; folder = world.folder })
+Still words output lines status world = WordsOutcome words world (record { output = output; lines = lines; status = status; folder = world.folder })
 
 abbrev pub OverBuild : World → Type 0
 OverBuild world =
     let change : Bytes = codes "set size small" in let rule : Bytes = codes "//:x" in let fixed : Bytes = codes "fixed BUILD\n" in
     -- 'set size small' //:x; the same with --quiet, and with --stdout
     BuildWritten (change ∷ rule ∷ []) [] (fixed ∷ []) 0 world × BuildWritten (codes "--quiet" ∷ change ∷ rule ∷ []) [] [] 0 world
-    × Still (codes "--stdout" ∷ change ∷ rule ∷ []) made [] 0 world
+    × Still (codes "--stdout" ∷ change ∷ rule ∷ []) text_made [] 0 world
     -- 'set size small' undo //:x: the file is as it was read.
     × Still (change ∷ codes "undo" ∷ rule ∷ []) [] [] 3 world
     -- 'set size small' 'undo 2' //:x: what was done before the refusal is written. undo //:x: nothing was done.
@@ -89,10 +89,10 @@ BesideNone world =
 -- -- 'set size small' -:x; with undo after it the text that was read goes out.
 abbrev pub OverInput : World → Type 0
 OverInput world =
-    Still (codes "--" ∷ codes "set size small" ∷ codes "-:x" ∷ []) made [] 0 world
-    × Still (codes "--" ∷ codes "set size small" ∷ codes "undo" ∷ codes "-:x" ∷ []) held [] 3 world
+    Still (codes "--" ∷ codes "set size small" ∷ codes "-:x" ∷ []) text_made [] 0 world
+    × Still (codes "--" ∷ codes "set size small" ∷ codes "undo" ∷ codes "-:x" ∷ []) text_read [] 3 world
 
 abbrev pub WorkedWholeRuns : Type 0
 WorkedWholeRuns = ((world : World) → HasBuild world → IsMade [] → OverBuild world)
     × ((world : World) → HasBuild world → found_in world.folder (codes "none") ≡ None → IsMade [] → BesideNone world)
-    × ((folder : Folder) → IsMade (codes "-") → OverInput (record { folder = folder; known = Some held }))
+    × ((folder : Folder) → IsMade (codes "-") → OverInput (record { folder = folder; known = Some text_read }))

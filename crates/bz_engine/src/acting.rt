@@ -6,12 +6,11 @@ ghost use Rattle.bz_journal.specs.Listing.{listing};
 ghost use Rattle.bz_journal.specs.declared.action.Reply.TheVariants as Reply;
 ghost use Rattle.bz_line.specs.Paths.{HasPath};
 ghost use Rattle.bz_line.specs.Shown.{asking_in};
-ghost use Rattle.bz_ports.specs.Outputs.{Tells, Counts};
 ghost use Rattle.bz_workspace.specs.Packages.{Opened, file_at};
 ghost use Rattle.bz_workspace.specs.Shown.{used_in};
-ghost use Rattle.bz_engine.specs.Cuts.{IsCutBy, IsLeft, ReadsOnce};
+ghost use Rattle.bz_engine.specs.Calls.{TellsLines, spot, Proceeds};
 ghost use Rattle.bz_engine.specs.Run.{Answers, Does, printed_in, answered, told_of};
-ghost use Rattle.bz_engine.specs.Shown.{state_in};
+ghost use Rattle.bz_engine.specs.Shown.{progress_in};
 ghost use Rattle.bz_engine.specs.Steps.{input_package, step_of};
 
 use crate::opening::open_package;
@@ -89,9 +88,9 @@ pub(crate) fn refuse<E: Sink>(
 ) -> Cut
     ensures kinds { (result ≡ Cut.Whole) ⊎ (result ≡ Cut.Memory) }
     ensures whole { result ≡ Cut.Whole → (refusal ≢ Refusal.Memory) }
-    ensures state { state_in run.new ≡ record (state_in run.old) { failed = true } }
+    ensures state { progress_in run.new ≡ record (progress_in run.old) { failed = true } }
     ensures told { (file : Opened) → file_at place run.old.workspace ≡ Some file
-        → Tells (E.faults err.old) (E.faults err.new) (E.contents err.old) (E.contents err.new) (told_of file.name command.now (Err refusal)) }
+        → TellsLines E.Sink err.old err.new (told_of file.name command.now (Err refusal)) }
 {
     run.failed = true;
     tell_refusal(err, name_at(&run.workspace, place), command, refusal);
@@ -112,8 +111,8 @@ fn act_at<E: Sink>(
     requires { IsSome (file_at place run.old.workspace) }
     ensures kinds { (result ≡ Cut.Whole) ⊎ (result ≡ Cut.Memory) }
     ensures whole { result ≡ Cut.Whole → (file : Opened) × (answer : Answer) × (history : History) × (file_at place run.old.workspace ≡ Some file)
-        × Leads (action_in action.now) command.now file.history answer history × (state_in run.new ≡ answered place file answer history (state_in run.old))
-        × Tells (E.faults err.old) (E.faults err.new) (E.contents err.old) (E.contents err.new) (told_of file.name command.now answer) }
+        × Leads (action_in action.now) command.now file.history answer history × (progress_in run.new ≡ answered place file answer history (progress_in run.old))
+        × TellsLines E.Sink err.old err.new (told_of file.name command.now answer) }
 {
     match run.workspace.act(place, action, command) {
         Ok(reply) => match put_printed(&reply, &mut run.printed) {
@@ -135,8 +134,8 @@ pub(crate) fn list_at<E: Sink>(
     requires { IsSome (file_at place run.old.workspace) }
     ensures kinds { (result ≡ Cut.Whole) ⊎ (result ≡ Cut.Memory) }
     ensures whole { result ≡ Cut.Whole → (file : Opened) × (file_at place run.old.workspace ≡ Some file)
-        × (state_in run.new ≡ answered place file (Ok (Reply.Printed (listing file.history))) file.history (state_in run.old))
-        × Tells (E.faults err.old) (E.faults err.new) (E.contents err.old) (E.contents err.new) [] }
+        × (progress_in run.new ≡ answered place file (Ok (Reply.Printed (listing file.history))) file.history (progress_in run.old))
+        × TellsLines E.Sink err.old err.new [] }
 {
     let Ok(text) = listing_at(alloc, &run.workspace, place) else {
         return refuse(run, place, command, Refusal::Memory, err);
@@ -159,8 +158,8 @@ fn act_on<E: Sink>(
     requires { IsSome (file_at place run.old.workspace) }
     ensures kinds { (result ≡ Cut.Whole) ⊎ (result ≡ Cut.Memory) }
     ensures whole { result ≡ Cut.Whole → (lines : List (List ℕ))
-        × Answers (step_of target.now (asking_in asking.now)) place (file_at place run.old.workspace) (state_in run.old) lines (state_in run.new)
-        × Tells (E.faults err.old) (E.faults err.new) (E.contents err.old) (E.contents err.new) lines }
+        × Answers (step_of target.now (asking_in asking.now)) place (file_at place run.old.workspace) (progress_in run.old) lines (progress_in run.new)
+        × TellsLines E.Sink err.old err.new lines }
 {
     match action_of(&asking.verb, target) {
         Some(action) => act_at(run, place, &action, asking.text, err),
@@ -179,17 +178,8 @@ pub(crate) fn do_step<R: Source, F: Files, E: Sink>(
     err: &mut E,
 ) -> Cut
     requires { HasPath target.now }
-    ensures does { (F.honest files.old ≡ true) ⊎ (target.now.«package» ≡ input_package) → result ≡ Cut.Whole → (known : Option (List ℕ))
-        → IsLeft known run.old.workspace (R.remaining input.old) → (lines : List (List ℕ))
-        × Does (record { folder = F.folder files.old; known = known }) (step_of target.now (asking_in asking.now)) (state_in run.old) lines (state_in run.new)
-        × IsLeft known run.new.workspace (R.remaining input.new)
-        × Tells (E.faults err.old) (E.faults err.new) (E.contents err.old) (E.contents err.new) lines }
-    ensures folder { (F.honest files.old ≡ true) ⊎ (target.now.«package» ≡ input_package) → F.folder files.new ≡ F.folder files.old }
-    ensures input { target.now.«package» ≡ input_package → ReadsOnce result (state_in run.old) (state_in run.new) }
-    ensures cut { IsCutBy result (R.faults input.old) (R.faults input.new) (F.faults files.old) (F.faults files.new) }
-    ensures reads { Counts (R.faults input.old) (R.faults input.new) }
-    ensures counts { Counts (F.faults files.old) (F.faults files.new) }
-    ensures honest { F.honest files.new ≡ F.honest files.old }
+    ensures { Proceeds (target.now.«package» ≡ input_package) (λ world. Does world (step_of target.now (asking_in asking.now))) result
+        (spot R.Source F.Files E.Sink run.old input.old files.old err.old) (spot R.Source F.Files E.Sink run.new input.new files.new err.new) }
 {
     let package = package_of(target);
     let opening = open_package(alloc, &mut run.workspace, package, input, files, err);

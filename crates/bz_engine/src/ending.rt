@@ -1,13 +1,13 @@
 //! What a run leaves behind its steps.
 ghost use Rattle.std.specs.Prelude.{◌≡◌, ◌≢◌, ◌⊎◌, ◌++◌, [], ◌∷◌, ℕ, List, Some, None, true, map, option_map, if◌then◌else◌, IfOk, IfErr};
 ghost use Rattle.std.specs.List.{list_any};
-ghost use Rattle.std.specs.Io.KnownBytes.{Appends};
 ghost use Rattle.bz_journal.specs.History.{present};
-ghost use Rattle.bz_ports.specs.Faults.{Rises, AppendsSome};
-ghost use Rattle.bz_ports.specs.Outputs.{Tells, Counts};
+ghost use Rattle.bz_ports.specs.Faults.{Rises};
+ghost use Rattle.bz_ports.specs.Outputs.{Counts};
 ghost use Rattle.bz_workspace.specs.Shown.{opened_in, used_in};
-ghost use Rattle.bz_engine.specs.Ending.{differs, has_changed, is_input, goes_out, file_out, text_out, texts_out, is_written, writing_of, writings, Writes, fixed_lines, status_of};
-ghost use Rattle.bz_engine.specs.Shown.{state_in};
+ghost use Rattle.bz_engine.specs.Calls.{TellsLines, PrintsAll, PrintsSome, WorksOn};
+ghost use Rattle.bz_engine.specs.Ending.{differs, has_changed, is_input, goes_out, opened_out, text_out, texts_out, is_written, writing_of, all_writings, WritesFiles, fixed_lines, status_of};
+ghost use Rattle.bz_engine.specs.Shown.{progress_in};
 
 use crate::run::Run;
 use crate::told::tell_fixed;
@@ -54,7 +54,7 @@ fn put_file(
     output: &mut Vec<u8>,
 ) -> Result<bool, Memory>
     ensures { IfOk result (λ changed. (changed ≡ differs (opened_in file.now))
-        × (output.new.items ≡ output.old.items ++ file_out of_input shown to_stdout (Some (opened_in file.now)))) }
+        × (output.new.items ≡ output.old.items ++ opened_out of_input shown to_stdout (Some (opened_in file.now)))) }
 {
     let start = output.len();
     file.editor.text_into(output)?;
@@ -106,12 +106,12 @@ fn print_all<W: Sink, E: Sink>(
     err: &mut E,
 ) -> Result<bool, Cut>
     ensures ok { IfOk result (λ changed. (changed ≡ list_any has_changed (map used_in packages.now))
-        × Appends (W.contents out.old) (W.contents out.new) (printed.items ++ texts_out shown to_stdout (map used_in packages.now))
+        × PrintsAll W.Sink out.old out.new (printed.items ++ texts_out shown to_stdout (map used_in packages.now))
         × (W.faults out.new ≡ W.faults out.old) × (err.new ≡ err.old)) }
     ensures err { IfErr result (λ cut. ((cut ≡ Cut.Memory) × (out.new ≡ out.old)) ⊎ ((cut ≡ Cut.Write)
-        × AppendsSome (W.contents out.old) (W.contents out.new) (printed.items ++ texts_out shown to_stdout (map used_in packages.now))
+        × PrintsSome W.Sink out.old out.new (printed.items ++ texts_out shown to_stdout (map used_in packages.now))
         × Rises (W.faults out.old) (W.faults out.new))) }
-    ensures output { AppendsSome (W.contents out.old) (W.contents out.new) (printed.items ++ texts_out shown to_stdout (map used_in packages.now)) }
+    ensures output { PrintsSome W.Sink out.old out.new (printed.items ++ texts_out shown to_stdout (map used_in packages.now)) }
 {
     let mut output = printed;
     let Ok(changed) = put_texts(packages, shown, to_stdout, &mut output) else {
@@ -150,10 +150,10 @@ fn replace<F: Files, E: Sink>(
     files: &mut F,
     err: &mut E,
 ) -> Cut
-    ensures told { result ≡ Cut.Whole → Tells (E.faults err.old) (E.faults err.new) (E.contents err.old) (E.contents err.new)
+    ensures told { result ≡ Cut.Whole → TellsLines E.Sink err.old err.new
         (fixed_lines quiet (record { name = name.now; held = read.now; bytes = text.now } ∷ [])) }
     ensures writes { F.honest files.old ≡ true → result ≡ Cut.Whole
-        → Writes (record { name = name.now; held = read.now; bytes = text.now } ∷ []) (F.folder files.old) (F.folder files.new) }
+        → WritesFiles (record { name = name.now; held = read.now; bytes = text.now } ∷ []) (F.folder files.old) (F.folder files.new) }
     ensures cut { ((result ≡ Cut.Whole) × (F.faults files.new ≡ F.faults files.old)) ⊎ ((result ≡ Cut.Files) × Rises (F.faults files.old) (F.faults files.new)) }
     ensures counts { Counts (F.faults files.old) (F.faults files.new) }
     ensures honest { F.honest files.new ≡ F.honest files.old }
@@ -180,14 +180,11 @@ fn write_file<F: Files, E: Sink>(
     files: &mut F,
     err: &mut E,
 ) -> Cut
-    ensures told { result ≡ Cut.Whole → Tells (E.faults err.old) (E.faults err.new) (E.contents err.old) (E.contents err.new)
+    ensures told { result ≡ Cut.Whole → TellsLines E.Sink err.old err.new
         (fixed_lines options.quiet (writing_of options.to_stdout (used_in used.now))) }
     ensures writes { (F.honest files.old ≡ true) ⊎ (writing_of options.to_stdout (used_in used.now) ≡ []) → result ≡ Cut.Whole
-        → Writes (writing_of options.to_stdout (used_in used.now)) (F.folder files.old) (F.folder files.new) }
-    ensures cut { ((result ≡ Cut.Whole) × (F.faults files.new ≡ F.faults files.old)) ⊎ (result ≡ Cut.Memory)
-        ⊎ ((result ≡ Cut.Files) × Rises (F.faults files.old) (F.faults files.new)) }
-    ensures counts { Counts (F.faults files.old) (F.faults files.new) }
-    ensures honest { F.honest files.new ≡ F.honest files.old }
+        → WritesFiles (writing_of options.to_stdout (used_in used.now)) (F.folder files.old) (F.folder files.new) }
+    ensures works { WorksOn F.Files result files.old files.new }
 {
     let Some(file) = &used.file else {
         return Cut::Whole;
@@ -220,14 +217,11 @@ fn write_files<F: Files, E: Sink>(
     files: &mut F,
     err: &mut E,
 ) -> Cut
-    ensures told { result ≡ Cut.Whole → Tells (E.faults err.old) (E.faults err.new) (E.contents err.old) (E.contents err.new)
-        (fixed_lines options.quiet (writings options.to_stdout (map used_in packages.now))) }
-    ensures writes { (F.honest files.old ≡ true) ⊎ (writings options.to_stdout (map used_in packages.now) ≡ []) → result ≡ Cut.Whole
-        → Writes (writings options.to_stdout (map used_in packages.now)) (F.folder files.old) (F.folder files.new) }
-    ensures cut { ((result ≡ Cut.Whole) × (F.faults files.new ≡ F.faults files.old)) ⊎ (result ≡ Cut.Memory)
-        ⊎ ((result ≡ Cut.Files) × Rises (F.faults files.old) (F.faults files.new)) }
-    ensures counts { Counts (F.faults files.old) (F.faults files.new) }
-    ensures honest { F.honest files.new ≡ F.honest files.old }
+    ensures told { result ≡ Cut.Whole → TellsLines E.Sink err.old err.new
+        (fixed_lines options.quiet (all_writings options.to_stdout (map used_in packages.now))) }
+    ensures writes { (F.honest files.old ≡ true) ⊎ (all_writings options.to_stdout (map used_in packages.now) ≡ []) → result ≡ Cut.Whole
+        → WritesFiles (all_writings options.to_stdout (map used_in packages.now)) (F.folder files.old) (F.folder files.new) }
+    ensures works { WorksOn F.Files result files.old files.new }
 {
     let mut cut = Cut::Whole;
     for used in packages {
@@ -268,18 +262,17 @@ fn leave<W: Sink, F: Files, E: Sink>(
 ) -> Exit
     ensures whole { result.cut ≡ Cut.Whole → (cut ≡ Cut.Whole)
         × (result.status ≡ status_of (record { used = map used_in packages.now; printed = printed.items; failed = failed }))
-        × Appends (W.contents out.old) (W.contents out.new) (printed.items ++ texts_out shown options.to_stdout (map used_in packages.now))
+        × PrintsAll W.Sink out.old out.new (printed.items ++ texts_out shown options.to_stdout (map used_in packages.now))
         × (W.faults out.new ≡ W.faults out.old) × (F.faults files.new ≡ F.faults files.old)
-        × Tells (E.faults err.old) (E.faults err.new) (E.contents err.old) (E.contents err.new)
-        (fixed_lines options.quiet (writings options.to_stdout (map used_in packages.now))) }
-    ensures writes { (F.honest files.old ≡ true) ⊎ (writings options.to_stdout (map used_in packages.now) ≡ []) → result.cut ≡ Cut.Whole
-        → Writes (writings options.to_stdout (map used_in packages.now)) (F.folder files.old) (F.folder files.new) }
+        × TellsLines E.Sink err.old err.new (fixed_lines options.quiet (all_writings options.to_stdout (map used_in packages.now))) }
+    ensures writes { (F.honest files.old ≡ true) ⊎ (all_writings options.to_stdout (map used_in packages.now) ≡ []) → result.cut ≡ Cut.Whole
+        → WritesFiles (all_writings options.to_stdout (map used_in packages.now)) (F.folder files.old) (F.folder files.new) }
     ensures status { result.cut ≢ Cut.Whole → result.status ≡ 2 }
     ensures used { result.status ≢ 1 }
     ensures write { result.cut ≡ Cut.Write → cut ≢ Cut.Write → (cut ≡ Cut.Whole)
-        × AppendsSome (W.contents out.old) (W.contents out.new) (printed.items ++ texts_out shown options.to_stdout (map used_in packages.now))
+        × PrintsSome W.Sink out.old out.new (printed.items ++ texts_out shown options.to_stdout (map used_in packages.now))
         × Rises (W.faults out.old) (W.faults out.new) }
-    ensures output { AppendsSome (W.contents out.old) (W.contents out.new) (printed.items ++ texts_out shown options.to_stdout (map used_in packages.now)) }
+    ensures output { PrintsSome W.Sink out.old out.new (printed.items ++ texts_out shown options.to_stdout (map used_in packages.now)) }
     ensures cause { (result.cut ≡ cut) ⊎ ((cut ≡ Cut.Whole) × ((result.cut ≡ Cut.Memory) ⊎ (result.cut ≡ Cut.Write)
         ⊎ ((result.cut ≡ Cut.Files) × Rises (F.faults files.old) (F.faults files.new)))) }
     ensures counts { Counts (F.faults files.old) (F.faults files.new) }
@@ -306,19 +299,18 @@ pub(crate) fn finish<W: Sink, F: Files, E: Sink>(
     files: &mut F,
     err: &mut E,
 ) -> Exit
-    ensures whole { result.cut ≡ Cut.Whole → (cut ≡ Cut.Whole) × (result.status ≡ status_of (state_in run))
-        × Appends (W.contents out.old) (W.contents out.new) ((state_in run).printed ++ texts_out shown options.to_stdout (state_in run).used)
+    ensures whole { result.cut ≡ Cut.Whole → (cut ≡ Cut.Whole) × (result.status ≡ status_of (progress_in run))
+        × PrintsAll W.Sink out.old out.new ((progress_in run).printed ++ texts_out shown options.to_stdout (progress_in run).used)
         × (W.faults out.new ≡ W.faults out.old) × (F.faults files.new ≡ F.faults files.old)
-        × Tells (E.faults err.old) (E.faults err.new) (E.contents err.old) (E.contents err.new)
-        (fixed_lines options.quiet (writings options.to_stdout (state_in run).used)) }
-    ensures writes { (F.honest files.old ≡ true) ⊎ (writings options.to_stdout (state_in run).used ≡ []) → result.cut ≡ Cut.Whole
-        → Writes (writings options.to_stdout (state_in run).used) (F.folder files.old) (F.folder files.new) }
+        × TellsLines E.Sink err.old err.new (fixed_lines options.quiet (all_writings options.to_stdout (progress_in run).used)) }
+    ensures writes { (F.honest files.old ≡ true) ⊎ (all_writings options.to_stdout (progress_in run).used ≡ []) → result.cut ≡ Cut.Whole
+        → WritesFiles (all_writings options.to_stdout (progress_in run).used) (F.folder files.old) (F.folder files.new) }
     ensures status { result.cut ≢ Cut.Whole → result.status ≡ 2 }
     ensures used { result.status ≢ 1 }
     ensures write { result.cut ≡ Cut.Write → cut ≢ Cut.Write → (cut ≡ Cut.Whole)
-        × AppendsSome (W.contents out.old) (W.contents out.new) ((state_in run).printed ++ texts_out shown options.to_stdout (state_in run).used)
+        × PrintsSome W.Sink out.old out.new ((progress_in run).printed ++ texts_out shown options.to_stdout (progress_in run).used)
         × Rises (W.faults out.old) (W.faults out.new) }
-    ensures output { AppendsSome (W.contents out.old) (W.contents out.new) ((state_in run).printed ++ texts_out shown options.to_stdout (state_in run).used) }
+    ensures output { PrintsSome W.Sink out.old out.new ((progress_in run).printed ++ texts_out shown options.to_stdout (progress_in run).used) }
     ensures cause { (result.cut ≡ cut) ⊎ ((cut ≡ Cut.Whole) × ((result.cut ≡ Cut.Memory) ⊎ (result.cut ≡ Cut.Write)
         ⊎ ((result.cut ≡ Cut.Files) × Rises (F.faults files.old) (F.faults files.new)))) }
     ensures counts { Counts (F.faults files.old) (F.faults files.new) }

@@ -1,18 +1,15 @@
 //! The program buildozer over any reader, writers and files.
-ghost use Rattle.std.specs.Prelude.{◌≡◌, ◌≢◌, ◌⊎◌, ◌∷◌, [], List, ℕ, Option, true, false, map, IfOk, IsErr, Some};
+ghost use Rattle.std.specs.Prelude.{◌≡◌, ◌≢◌, ◌⊎◌, ◌∷◌, [], List, ℕ, Option, true, false, map, Some};
 ghost use Rattle.std.specs.List.{All};
-ghost use Rattle.std.specs.Io.KnownBytes.{Appends};
-ghost use Rattle.bz_files.specs.Folder.{Elapses};
-ghost use Rattle.bz_line.specs.Asked.{Usage, group_of};
+ghost use Rattle.bz_line.specs.Asked.{Usage};
 ghost use Rattle.bz_line.specs.Line.{LineUsage, line_of};
 ghost use Rattle.bz_line.specs.Line.{operands as words_given, script};
 ghost use Rattle.bz_line.specs.Paths.{HasPath};
 ghost use Rattle.bz_line.specs.Shown.{asked_in, usage_in, line_usage_in};
-ghost use Rattle.bz_ports.specs.Faults.{AppendsSome};
-ghost use Rattle.bz_ports.specs.Outputs.{Tells};
+ghost use Rattle.bz_engine.specs.Calls.{TellsLines, PrintsAll, PrintsSome, world_with, world_of, KeepsFolder, IsEndedOver, LeavesBehind};
 ghost use Rattle.bz_engine.specs.Cuts.{IsEndedBy};
-ghost use Rattle.bz_engine.specs.Ending.{Left, Performs, Stands};
-ghost use Rattle.bz_engine.specs.Outcome.{Outcome, OperandsOutcome, LinesOutcome, TextOutcome, ScriptOutcome, AreOfInput, GivesNothing, KeepsNoJournal, LineGivesNothing, NamesNoFile, TakesNoFile, TakesNoInput, TakesScript};
+ghost use Rattle.bz_engine.specs.Ending.{Left, Performs};
+ghost use Rattle.bz_engine.specs.Outcome.{WordsOutcome, OperandsOutcome, LinesOutcome, TextOutcome, ScriptOutcome, AreOfInput, IsOfInput, GivesNothing, KeepsNoJournal, LineGivesNothing, NamesNoFile, TakesNoFile, TakesNoInput, TakesScript};
 ghost use Rattle.bz_engine.specs.Steps.{all_steps, input_package, names_input};
 ghost use Rattle.bz_engine.specs.Told.{IsUsageLine, IsLineUsageLine, no_journal_line};
 ghost use Rattle.bz_engine.specs.Usage.{OperandsTell, LinesTell, TextTells, GivenTells, LineTells};
@@ -52,9 +49,9 @@ fn wanting<E: Sink>(err: &mut E) -> Exit
 // Operands, or a file of lines of this name, ask for nothing, which is told.
 fn unasked<E: Sink>(alloc: Global, err: &mut E, file: &str, fault: &UsageFault<'_>) -> Exit
     ensures whole { result.cut ≡ Cut.Whole → (result.status ≡ 1) × (usage : Usage) × (line : List ℕ) × (usage_in fault.now ≡ Some usage)
-        × IsUsageLine file.now usage line × Tells (E.faults err.old) (E.faults err.new) (E.contents err.old) (E.contents err.new) (line ∷ []) }
+        × IsUsageLine file.now usage line × TellsLines E.Sink err.old err.new (line ∷ []) }
     ensures told { result.status ≡ 1 → (usage : Usage) × (line : List ℕ) × (usage_in fault.now ≡ Some usage)
-        × IsUsageLine file.now usage line × Tells (E.faults err.old) (E.faults err.new) (E.contents err.old) (E.contents err.new) (line ∷ []) }
+        × IsUsageLine file.now usage line × TellsLines E.Sink err.old err.new (line ∷ []) }
     ensures cut { result.cut ≢ Cut.Whole → result ≡ record { status = 2; cut = Cut.Memory } }
 {
     match tell_usage(alloc, err, file, fault) {
@@ -66,9 +63,9 @@ fn unasked<E: Sink>(alloc: Global, err: &mut E, file: &str, fault: &UsageFault<'
 // The words are no line of the program's, which is told.
 fn unlined<E: Sink>(alloc: Global, err: &mut E, fault: &LineFault) -> Exit
     ensures whole { result.cut ≡ Cut.Whole → (result.status ≡ 1) × (usage : LineUsage) × (line : List ℕ) × (line_usage_in fault.now ≡ Some usage)
-        × IsLineUsageLine usage line × Tells (E.faults err.old) (E.faults err.new) (E.contents err.old) (E.contents err.new) (line ∷ []) }
+        × IsLineUsageLine usage line × TellsLines E.Sink err.old err.new (line ∷ []) }
     ensures told { result.status ≡ 1 → (usage : LineUsage) × (line : List ℕ) × (line_usage_in fault.now ≡ Some usage)
-        × IsLineUsageLine usage line × Tells (E.faults err.old) (E.faults err.new) (E.contents err.old) (E.contents err.new) (line ∷ []) }
+        × IsLineUsageLine usage line × TellsLines E.Sink err.old err.new (line ∷ []) }
     ensures cut { result.cut ≢ Cut.Whole → result ≡ record { status = 2; cut = Cut.Memory } }
 {
     match tell_line_usage(alloc, err, fault) {
@@ -89,15 +86,15 @@ fn perform<R: Source, W: Sink, E: Sink, F: Files>(
 ) -> Exit
     requires { All (λ asked. All HasPath asked.targets.items) lines.now }
     ensures whole { (F.honest files.old ≡ true) ⊎ AreOfInput (map asked_in lines.now) → result.cut ≡ Cut.Whole → (left : Left)
-        × Performs options (all_steps (map asked_in lines.now)) (record { folder = F.folder files.old; known = R.remaining input.old }) left
-        × Stands left result.status (F.folder files.new) (W.contents out.old) (W.contents out.new) (E.faults err.old) (E.faults err.new) (E.contents err.old) (E.contents err.new) }
+        × Performs options (all_steps (map asked_in lines.now)) (world_of R.Source F.Files input.old files.old) left
+        × LeavesBehind W.Sink E.Sink F.Files left result.status out.old out.new err.old err.new files.new }
     ensures write { (F.honest files.old ≡ true) ⊎ AreOfInput (map asked_in lines.now) → result.cut ≡ Cut.Write → (left : Left)
-        × Performs options (all_steps (map asked_in lines.now)) (record { folder = F.folder files.old; known = R.remaining input.old }) left
-        × AppendsSome (W.contents out.old) (W.contents out.new) left.output }
-    ensures read { AreOfInput (map asked_in lines.now) → result.cut ≡ Cut.Read → Appends (W.contents out.old) (W.contents out.new) [] }
+        × Performs options (all_steps (map asked_in lines.now)) (world_of R.Source F.Files input.old files.old) left
+        × PrintsSome W.Sink out.old out.new left.output }
+    ensures read { AreOfInput (map asked_in lines.now) → result.cut ≡ Cut.Read → PrintsAll W.Sink out.old out.new [] }
     ensures status { result.cut ≢ Cut.Whole → result.status ≡ 2 }
     ensures used { result.status ≢ 1 }
-    ensures ended { IsEndedBy result.cut (R.faults input.old) (R.faults input.new) (W.faults out.old) (W.faults out.new) (F.faults files.old) (F.faults files.new) }
+    ensures ended { IsEndedOver R.Source W.Sink F.Files result.cut input.old input.new out.old out.new files.old files.new }
     ensures honest { F.honest files.new ≡ F.honest files.old }
 {
     let mut run = begun(alloc);
@@ -135,7 +132,7 @@ fn perform_kept<W: Sink, E: Sink, F: Files>(
     ensures unread { names_input (map asked_in lines.now) ≡ true → (out.new ≡ out.old) × (files.new ≡ files.old) }
     ensures unused { result.status ≡ 1 → (out.new ≡ out.old) × (files.new ≡ files.old) }
     ensures usage { result.status ≡ 1 → (names_input (map asked_in lines.now) ≡ true)
-        × Tells (E.faults err.old) (E.faults err.new) (E.contents err.old) (E.contents err.new) (no_journal_line ∷ []) }
+        × TellsLines E.Sink err.old err.new (no_journal_line ∷ []) }
     ensures read { result.cut ≢ Cut.Read }
     ensures status { result.cut ≢ Cut.Whole → result.status ≡ 2 }
     ensures ended { (reads : ℕ) → IsEndedBy result.cut reads reads (W.faults out.old) (W.faults out.new) (F.faults files.old) (F.faults files.new) }
@@ -161,19 +158,21 @@ fn perform_lines<R: Source, W: Sink, E: Sink, F: Files>(
     files: &mut F,
 ) -> Exit
     requires { All (λ asked. All HasPath asked.targets.items) lines.now }
-    ensures whole { options.journal ≡ false → (F.honest files.old ≡ true) ⊎ AreOfInput (map asked_in lines.now) → result.cut ≡ Cut.Whole → (left : Left)
-        × Performs options (all_steps (map asked_in lines.now)) (record { folder = F.folder files.old; known = R.remaining input.old }) left
-        × Stands left result.status (F.folder files.new) (W.contents out.old) (W.contents out.new) (E.faults err.old) (E.faults err.new) (E.contents err.old) (E.contents err.new) }
-    ensures write { options.journal ≡ false → (F.honest files.old ≡ true) ⊎ AreOfInput (map asked_in lines.now) → result.cut ≡ Cut.Write → (left : Left)
-        × Performs options (all_steps (map asked_in lines.now)) (record { folder = F.folder files.old; known = R.remaining input.old }) left
-        × AppendsSome (W.contents out.old) (W.contents out.new) left.output }
+    ensures whole { options.journal ≡ false → (F.honest files.old ≡ true) ⊎ AreOfInput (map asked_in lines.now)
+        → result.cut ≡ Cut.Whole → (left : Left)
+        × Performs options (all_steps (map asked_in lines.now)) (world_of R.Source F.Files input.old files.old) left
+        × LeavesBehind W.Sink E.Sink F.Files left result.status out.old out.new err.old err.new files.new }
+    ensures write { options.journal ≡ false → (F.honest files.old ≡ true) ⊎ AreOfInput (map asked_in lines.now)
+        → result.cut ≡ Cut.Write → (left : Left)
+        × Performs options (all_steps (map asked_in lines.now)) (world_of R.Source F.Files input.old files.old) left
+        × PrintsSome W.Sink out.old out.new left.output }
     ensures unread { options.journal ≡ true → names_input (map asked_in lines.now) ≡ true → (input.new ≡ input.old) × (out.new ≡ out.old) × (files.new ≡ files.old) }
     ensures unused { result.status ≡ 1 → (input.new ≡ input.old) × (out.new ≡ out.old) × (files.new ≡ files.old) }
     ensures usage { result.status ≡ 1 → (options.journal ≡ true) × (names_input (map asked_in lines.now) ≡ true)
-        × Tells (E.faults err.old) (E.faults err.new) (E.contents err.old) (E.contents err.new) (no_journal_line ∷ []) }
-    ensures read { AreOfInput (map asked_in lines.now) → result.cut ≡ Cut.Read → Appends (W.contents out.old) (W.contents out.new) [] }
+        × TellsLines E.Sink err.old err.new (no_journal_line ∷ []) }
+    ensures read { AreOfInput (map asked_in lines.now) → result.cut ≡ Cut.Read → PrintsAll W.Sink out.old out.new [] }
     ensures status { result.cut ≢ Cut.Whole → result.status ≡ 2 }
-    ensures ended { IsEndedBy result.cut (R.faults input.old) (R.faults input.new) (W.faults out.old) (W.faults out.new) (F.faults files.old) (F.faults files.new) }
+    ensures ended { IsEndedOver R.Source W.Sink F.Files result.cut input.old input.new out.old out.new files.old files.new }
     ensures honest { F.honest files.new ≡ F.honest files.old }
 {
     if options.journal {
@@ -192,19 +191,21 @@ fn run_operands<R: Source, W: Sink, E: Sink, F: Files>(
     err: &mut E,
     files: &mut F,
 ) -> Exit
-    ensures whole { options.journal ≡ false → (F.honest files.old ≡ true) ⊎ IfOk (group_of (map (λ s. s.now) operands.now)) (λ asked. AreOfInput (asked ∷ [])) → result.cut ≡ Cut.Whole → (left : Left)
-        × OperandsOutcome options (map (λ s. s.now) operands.now) (record { folder = F.folder files.old; known = R.remaining input.old }) left
-        × Stands left result.status (F.folder files.new) (W.contents out.old) (W.contents out.new) (E.faults err.old) (E.faults err.new) (E.contents err.old) (E.contents err.new) }
-    ensures write { options.journal ≡ false → (F.honest files.old ≡ true) ⊎ IfOk (group_of (map (λ s. s.now) operands.now)) (λ asked. AreOfInput (asked ∷ [])) → result.cut ≡ Cut.Write → (left : Left)
-        × OperandsOutcome options (map (λ s. s.now) operands.now) (record { folder = F.folder files.old; known = R.remaining input.old }) left
-        × AppendsSome (W.contents out.old) (W.contents out.new) left.output }
+    ensures whole { options.journal ≡ false → (F.honest files.old ≡ true) ⊎ IsOfInput (words_given (map (λ s. s.now) operands.now))
+        → result.cut ≡ Cut.Whole → (left : Left)
+        × OperandsOutcome options (map (λ s. s.now) operands.now) (world_of R.Source F.Files input.old files.old) left
+        × LeavesBehind W.Sink E.Sink F.Files left result.status out.old out.new err.old err.new files.new }
+    ensures write { options.journal ≡ false → (F.honest files.old ≡ true) ⊎ IsOfInput (words_given (map (λ s. s.now) operands.now))
+        → result.cut ≡ Cut.Write → (left : Left)
+        × OperandsOutcome options (map (λ s. s.now) operands.now) (world_of R.Source F.Files input.old files.old) left
+        × PrintsSome W.Sink out.old out.new left.output }
     ensures unread { GivesNothing options (words_given (map (λ s. s.now) operands.now)) → (input.new ≡ input.old) × (out.new ≡ out.old) × (files.new ≡ files.old) }
     ensures unused { result.status ≡ 1 → (input.new ≡ input.old) × (out.new ≡ out.old) × (files.new ≡ files.old) }
     ensures usage { result.status ≡ 1 → (line : List ℕ) × OperandsTell options (map (λ s. s.now) operands.now) line
-        × Tells (E.faults err.old) (E.faults err.new) (E.contents err.old) (E.contents err.new) (line ∷ []) }
-    ensures read { IfOk (group_of (map (λ s. s.now) operands.now)) (λ asked. AreOfInput (asked ∷ [])) → result.cut ≡ Cut.Read → Appends (W.contents out.old) (W.contents out.new) [] }
+        × TellsLines E.Sink err.old err.new (line ∷ []) }
+    ensures read { IsOfInput (words_given (map (λ s. s.now) operands.now)) → result.cut ≡ Cut.Read → PrintsAll W.Sink out.old out.new [] }
     ensures status { result.cut ≢ Cut.Whole → result.status ≡ 2 }
-    ensures ended { IsEndedBy result.cut (R.faults input.old) (R.faults input.new) (W.faults out.old) (W.faults out.new) (F.faults files.old) (F.faults files.new) }
+    ensures ended { IsEndedOver R.Source W.Sink F.Files result.cut input.old input.new out.old out.new files.old files.new }
     ensures honest { F.honest files.new ≡ F.honest files.old }
 {
     match read_group(alloc, operands) {
@@ -225,19 +226,19 @@ fn run_lines_of<R: Source, W: Sink, E: Sink, F: Files>(
     files: &mut F,
 ) -> Exit
     requires { All (λ asked. All HasPath asked.targets.items) lines.now }
-    ensures whole { options.journal ≡ false → F.honest files.old ≡ true → result.cut ≡ Cut.Whole → (known : Option (List ℕ)) → (of_input ≡ false → known ≡ R.remaining input.old)
-        → (left : Left)
-        × LinesOutcome options of_input (map asked_in lines.now) (record { folder = F.folder files.old; known = known }) left
-        × Stands left result.status (F.folder files.new) (W.contents out.old) (W.contents out.new) (E.faults err.old) (E.faults err.new) (E.contents err.old) (E.contents err.new) }
-    ensures write { options.journal ≡ false → F.honest files.old ≡ true → result.cut ≡ Cut.Write → (known : Option (List ℕ)) → (of_input ≡ false → known ≡ R.remaining input.old)
-        → (left : Left)
-        × LinesOutcome options of_input (map asked_in lines.now) (record { folder = F.folder files.old; known = known }) left
-        × AppendsSome (W.contents out.old) (W.contents out.new) left.output }
+    ensures whole { options.journal ≡ false → F.honest files.old ≡ true → result.cut ≡ Cut.Whole
+        → (known : Option (List ℕ)) → (of_input ≡ false → known ≡ R.remaining input.old) → (left : Left)
+        × LinesOutcome options of_input (map asked_in lines.now) (world_with F.Files files.old known) left
+        × LeavesBehind W.Sink E.Sink F.Files left result.status out.old out.new err.old err.new files.new }
+    ensures write { options.journal ≡ false → F.honest files.old ≡ true → result.cut ≡ Cut.Write
+        → (known : Option (List ℕ)) → (of_input ≡ false → known ≡ R.remaining input.old) → (left : Left)
+        × LinesOutcome options of_input (map asked_in lines.now) (world_with F.Files files.old known) left
+        × PrintsSome W.Sink out.old out.new left.output }
     ensures unused { result.status ≡ 1 → (input.new ≡ input.old) × (out.new ≡ out.old) × (files.new ≡ files.old) }
     ensures usage { result.status ≡ 1 → (line : List ℕ) × LinesTell options of_input (map asked_in lines.now) line
-        × Tells (E.faults err.old) (E.faults err.new) (E.contents err.old) (E.contents err.new) (line ∷ []) }
+        × TellsLines E.Sink err.old err.new (line ∷ []) }
     ensures status { result.cut ≢ Cut.Whole → result.status ≡ 2 }
-    ensures ended { IsEndedBy result.cut (R.faults input.old) (R.faults input.new) (W.faults out.old) (W.faults out.new) (F.faults files.old) (F.faults files.new) }
+    ensures ended { IsEndedOver R.Source W.Sink F.Files result.cut input.old input.new out.old out.new files.old files.new }
     ensures honest { F.honest files.new ≡ F.honest files.old }
 {
     if of_input && names_input(lines) {
@@ -258,17 +259,19 @@ fn run_text<R: Source, W: Sink, E: Sink, F: Files>(
     err: &mut E,
     files: &mut F,
 ) -> Exit
-    ensures whole { options.journal ≡ false → F.honest files.old ≡ true → result.cut ≡ Cut.Whole → (known : Option (List ℕ)) → (name.now ≢ input_package → known ≡ R.remaining input.old)
-        → (left : Left) × TextOutcome options name.now (Some bytes.now) (record { folder = F.folder files.old; known = known }) left
-        × Stands left result.status (F.folder files.new) (W.contents out.old) (W.contents out.new) (E.faults err.old) (E.faults err.new) (E.contents err.old) (E.contents err.new) }
-    ensures write { options.journal ≡ false → F.honest files.old ≡ true → result.cut ≡ Cut.Write → (known : Option (List ℕ)) → (name.now ≢ input_package → known ≡ R.remaining input.old)
-        → (left : Left) × TextOutcome options name.now (Some bytes.now) (record { folder = F.folder files.old; known = known }) left
-        × AppendsSome (W.contents out.old) (W.contents out.new) left.output }
+    ensures whole { options.journal ≡ false → F.honest files.old ≡ true → result.cut ≡ Cut.Whole
+        → (known : Option (List ℕ)) → (name.now ≢ input_package → known ≡ R.remaining input.old)
+        → (left : Left) × TextOutcome options name.now (Some bytes.now) (world_with F.Files files.old known) left
+        × LeavesBehind W.Sink E.Sink F.Files left result.status out.old out.new err.old err.new files.new }
+    ensures write { options.journal ≡ false → F.honest files.old ≡ true → result.cut ≡ Cut.Write
+        → (known : Option (List ℕ)) → (name.now ≢ input_package → known ≡ R.remaining input.old)
+        → (left : Left) × TextOutcome options name.now (Some bytes.now) (world_with F.Files files.old known) left
+        × PrintsSome W.Sink out.old out.new left.output }
     ensures unused { result.status ≡ 1 → (input.new ≡ input.old) × (out.new ≡ out.old) × (files.new ≡ files.old) }
     ensures usage { result.status ≡ 1 → (line : List ℕ) × TextTells options name.now (Some bytes.now) line
-        × Tells (E.faults err.old) (E.faults err.new) (E.contents err.old) (E.contents err.new) (line ∷ []) }
+        × TellsLines E.Sink err.old err.new (line ∷ []) }
     ensures status { result.cut ≢ Cut.Whole → result.status ≡ 2 }
-    ensures ended { IsEndedBy result.cut (R.faults input.old) (R.faults input.new) (W.faults out.old) (W.faults out.new) (F.faults files.old) (F.faults files.new) }
+    ensures ended { IsEndedOver R.Source W.Sink F.Files result.cut input.old input.new out.old out.new files.old files.new }
     ensures honest { F.honest files.new ≡ F.honest files.old }
 {
     let text = match str::from_utf8(bytes) {
@@ -305,20 +308,20 @@ fn run_script<R: Source, W: Sink, E: Sink, F: Files>(
     files: &mut F,
 ) -> Exit
     ensures whole { options.journal ≡ false → F.honest files.old ≡ true → result.cut ≡ Cut.Whole → (left : Left)
-        × ScriptOutcome options name.now (record { folder = F.folder files.old; known = R.remaining input.old }) left
-        × Stands left result.status (F.folder files.new) (W.contents out.old) (W.contents out.new) (E.faults err.old) (E.faults err.new) (E.contents err.old) (E.contents err.new) }
+        × ScriptOutcome options name.now (world_of R.Source F.Files input.old files.old) left
+        × LeavesBehind W.Sink E.Sink F.Files left result.status out.old out.new err.old err.new files.new }
     ensures write { options.journal ≡ false → F.honest files.old ≡ true → result.cut ≡ Cut.Write → (left : Left)
-        × ScriptOutcome options name.now (record { folder = F.folder files.old; known = R.remaining input.old }) left
-        × AppendsSome (W.contents out.old) (W.contents out.new) left.output }
+        × ScriptOutcome options name.now (world_of R.Source F.Files input.old files.old) left
+        × PrintsSome W.Sink out.old out.new left.output }
     ensures unused { result.status ≡ 1 → out.new ≡ out.old }
     ensures unused_input { result.status ≡ 1 → name.now ≢ input_package → input.new ≡ input.old }
     ensures unused_files { result.status ≡ 1 → name.now ≡ input_package → files.new ≡ files.old }
-    ensures unused_time { result.status ≡ 1 → F.honest files.old ≡ true → Elapses (F.moment files.old) (F.moment files.new) (F.since files.old) (F.since files.new)
-        (λ now. now ≡ F.folder files.old) }
-    ensures usage { result.status ≡ 1 → result.cut ≡ Cut.Whole → (line : List ℕ) × GivenTells (F.honest files.old) (record { folder = F.folder files.old; known = R.remaining input.old }) options (script name.now) line
-        × Tells (E.faults err.old) (E.faults err.new) (E.contents err.old) (E.contents err.new) (line ∷ []) }
+    ensures unused_time { result.status ≡ 1 → F.honest files.old ≡ true → KeepsFolder F.Files files.old files.new }
+    ensures usage { result.status ≡ 1 → result.cut ≡ Cut.Whole → (line : List ℕ)
+        × GivenTells (F.honest files.old) (world_of R.Source F.Files input.old files.old) options (script name.now) line
+        × TellsLines E.Sink err.old err.new (line ∷ []) }
     ensures status { result.cut ≢ Cut.Whole → (result.status ≡ 2) ⊎ (result.status ≡ 1) }
-    ensures ended { IsEndedBy result.cut (R.faults input.old) (R.faults input.new) (W.faults out.old) (W.faults out.new) (F.faults files.old) (F.faults files.new) }
+    ensures ended { IsEndedOver R.Source W.Sink F.Files result.cut input.old input.new out.old out.new files.old files.new }
     ensures honest { F.honest files.new ≡ F.honest files.old }
 {
     let bytes = match read_bytes(alloc, name, input, files, err) {
@@ -346,39 +349,40 @@ pub fn buildozer<S: AsStr, R: Source, W: Sink, E: Sink, F: Files>(
 ) -> Exit
     // Without journals, where the files are honest, or none is named, a whole run leaves what the words, the bytes of standard input
     // and the folder mean.
-    ensures whole { KeepsNoJournal (map S.text words.now) → (F.honest files.old ≡ true) ⊎ NamesNoFile (map S.text words.now) → result.cut ≡ Cut.Whole → (left : Left)
-        × Outcome (map S.text words.now) (record { folder = F.folder files.old; known = R.remaining input.old }) left
-        × Stands left result.status (F.folder files.new) (W.contents out.old) (W.contents out.new) (E.faults err.old) (E.faults err.new) (E.contents err.old) (E.contents err.new) }
+    ensures whole { KeepsNoJournal (map S.text words.now) → (F.honest files.old ≡ true) ⊎ NamesNoFile (map S.text words.now)
+        → result.cut ≡ Cut.Whole → (left : Left)
+        × WordsOutcome (map S.text words.now) (world_of R.Source F.Files input.old files.old) left
+        × LeavesBehind W.Sink E.Sink F.Files left result.status out.old out.new err.old err.new files.new }
 
     // Where standard output fails, a beginning of what it is to be given stands there.
-    ensures write { KeepsNoJournal (map S.text words.now) → (F.honest files.old ≡ true) ⊎ NamesNoFile (map S.text words.now) → result.cut ≡ Cut.Write → (left : Left)
-        × Outcome (map S.text words.now) (record { folder = F.folder files.old; known = R.remaining input.old }) left
-        × AppendsSome (W.contents out.old) (W.contents out.new) left.output }
+    ensures write { KeepsNoJournal (map S.text words.now) → (F.honest files.old ≡ true) ⊎ NamesNoFile (map S.text words.now)
+        → result.cut ≡ Cut.Write → (left : Left)
+        × WordsOutcome (map S.text words.now) (world_of R.Source F.Files input.old files.old) left
+        × PrintsSome W.Sink out.old out.new left.output }
 
     // Words that ask for nothing leave the input, the output and the files as they were.
     ensures unread { LineGivesNothing (line_of (map S.text words.now)) → (input.new ≡ input.old) × (out.new ≡ out.old) × (files.new ≡ files.old) }
 
     // A run of status 1 that no port cut tells by one line why, with journals as without: of operands the first one that is refused.
     ensures usage { result.status ≡ 1 → result.cut ≡ Cut.Whole → (line : List ℕ)
-        × LineTells (F.honest files.old) (record { folder = F.folder files.old; known = R.remaining input.old }) (line_of (map S.text words.now)) line
-        × Tells (E.faults err.old) (E.faults err.new) (E.contents err.old) (E.contents err.new) (line ∷ []) }
+        × LineTells (F.honest files.old) (world_of R.Source F.Files input.old files.old) (line_of (map S.text words.now)) line
+        × TellsLines E.Sink err.old err.new (line ∷ []) }
 
     // A run of status 1 leaves the output as it was. So it leaves the input, unless lines stand there, and the files, unless lines
     // stand in one; then these are no more than read, and a folder of honest ones is the same at each moment.
     ensures unused { result.status ≡ 1 → out.new ≡ out.old }
     ensures unused_input { result.status ≡ 1 → TakesNoInput (map S.text words.now) → input.new ≡ input.old }
     ensures unused_files { result.status ≡ 1 → TakesNoFile (map S.text words.now) → files.new ≡ files.old }
-    ensures unused_time { result.status ≡ 1 → F.honest files.old ≡ true → Elapses (F.moment files.old) (F.moment files.new) (F.since files.old) (F.since files.new)
-        (λ now. now ≡ F.folder files.old) }
+    ensures unused_time { result.status ≡ 1 → F.honest files.old ≡ true → KeepsFolder F.Files files.old files.new }
 
     // Where standard input can't be read, and no file and no package but it is named, nothing is written to standard output.
-    ensures read { NamesNoFile (map S.text words.now) → result.cut ≡ Cut.Read → Appends (W.contents out.old) (W.contents out.new) [] }
+    ensures read { NamesNoFile (map S.text words.now) → result.cut ≡ Cut.Read → PrintsAll W.Sink out.old out.new [] }
 
     // Without a file of lines each run that is cut has status 2.
     ensures status { result.cut ≢ Cut.Whole → (result.status ≡ 2) ⊎ ((result.status ≡ 1) × TakesScript (map S.text words.now)) }
 
     // A run is cut by a port that counted a fault; where none did it is whole, or wants memory.
-    ensures ended { IsEndedBy result.cut (R.faults input.old) (R.faults input.new) (W.faults out.old) (W.faults out.new) (F.faults files.old) (F.faults files.new) }
+    ensures ended { IsEndedOver R.Source W.Sink F.Files result.cut input.old input.new out.old out.new files.old files.new }
     ensures honest { F.honest files.new ≡ F.honest files.old }
 {
     let line = match read_line(alloc, words) {

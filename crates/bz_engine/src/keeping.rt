@@ -2,9 +2,8 @@
 ghost use Rattle.std.specs.Prelude.{◌≡◌, ◌≢◌, ◌⊎◌, IsSome, map};
 ghost use Rattle.std.specs.List.{All};
 ghost use Rattle.bz_line.specs.Paths.{HasPath};
-ghost use Rattle.bz_ports.specs.Faults.{Rises};
-ghost use Rattle.bz_ports.specs.Outputs.{Counts};
 ghost use Rattle.bz_workspace.specs.Packages.{file_at};
+ghost use Rattle.bz_engine.specs.Calls.{WorksOn};
 
 use crate::acting::{list_at, name_at, put_printed, refuse};
 use crate::run::Run;
@@ -65,10 +64,7 @@ fn keep_at<F: Files, E: Sink>(
     err: &mut E,
 ) -> Cut
     requires { IsSome (file_at place run.old.workspace) }
-    ensures cut { ((result ≡ Cut.Whole) × (F.faults files.new ≡ F.faults files.old)) ⊎ (result ≡ Cut.Memory)
-        ⊎ ((result ≡ Cut.Files) × Rises (F.faults files.old) (F.faults files.new)) }
-    ensures counts { Counts (F.faults files.old) (F.faults files.new) }
-    ensures honest { F.honest files.new ≡ F.honest files.old }
+    ensures { WorksOn F.Files result files.old files.new }
 {
     match run.workspace.keep(place, action, command, files) {
         Ok(reply) => match put_printed(&reply, &mut run.printed) {
@@ -91,10 +87,7 @@ fn keep_on<F: Files, E: Sink>(
     err: &mut E,
 ) -> Cut
     requires { IsSome (file_at place run.old.workspace) }
-    ensures cut { ((result ≡ Cut.Whole) × (F.faults files.new ≡ F.faults files.old)) ⊎ (result ≡ Cut.Memory)
-        ⊎ ((result ≡ Cut.Files) × Rises (F.faults files.old) (F.faults files.new)) }
-    ensures counts { Counts (F.faults files.old) (F.faults files.new) }
-    ensures honest { F.honest files.new ≡ F.honest files.old }
+    ensures { WorksOn F.Files result files.old files.new }
 {
     if is_left(&run.workspace, place) {
         run.failed = true;
@@ -116,10 +109,7 @@ fn keep_step<F: Files, E: Sink>(
     err: &mut E,
 ) -> Cut
     requires { HasPath target.now }
-    ensures cut { ((result ≡ Cut.Whole) × (F.faults files.new ≡ F.faults files.old)) ⊎ (result ≡ Cut.Memory)
-        ⊎ ((result ≡ Cut.Files) × Rises (F.faults files.old) (F.faults files.new)) }
-    ensures counts { Counts (F.faults files.old) (F.faults files.new) }
-    ensures honest { F.honest files.new ≡ F.honest files.old }
+    ensures { WorksOn F.Files result files.old files.new }
 {
     let opening = run.workspace.open(package_of(target), true, files, err);
     match opening.place {
@@ -145,10 +135,7 @@ fn keep_target<F: Files, E: Sink>(
     err: &mut E,
 ) -> Cut
     requires { HasPath target.now }
-    ensures cut { ((result ≡ Cut.Whole) × (F.faults files.new ≡ F.faults files.old)) ⊎ (result ≡ Cut.Memory)
-        ⊎ ((result ≡ Cut.Files) × Rises (F.faults files.old) (F.faults files.new)) }
-    ensures counts { Counts (F.faults files.old) (F.faults files.new) }
-    ensures honest { F.honest files.new ≡ F.honest files.old }
+    ensures { WorksOn F.Files result files.old files.new }
 {
     let mut cut = Cut::Whole;
     for asking in commands {
@@ -171,10 +158,7 @@ fn keep_line<F: Files, E: Sink>(
     err: &mut E,
 ) -> Cut
     requires { All HasPath line.now.targets.items }
-    ensures cut { ((result ≡ Cut.Whole) × (F.faults files.new ≡ F.faults files.old)) ⊎ (result ≡ Cut.Memory)
-        ⊎ ((result ≡ Cut.Files) × Rises (F.faults files.old) (F.faults files.new)) }
-    ensures counts { Counts (F.faults files.old) (F.faults files.new) }
-    ensures honest { F.honest files.new ≡ F.honest files.old }
+    ensures { WorksOn F.Files result files.old files.new }
 {
     let mut cut = Cut::Whole;
     for target in &line.targets {
@@ -195,10 +179,7 @@ pub(crate) fn keep_lines<F: Files, E: Sink>(
     err: &mut E,
 ) -> Cut
     requires { All (λ asked. All HasPath asked.targets.items) lines.now }
-    ensures cut { ((result ≡ Cut.Whole) × (F.faults files.new ≡ F.faults files.old)) ⊎ (result ≡ Cut.Memory)
-        ⊎ ((result ≡ Cut.Files) × Rises (F.faults files.old) (F.faults files.new)) }
-    ensures counts { Counts (F.faults files.old) (F.faults files.new) }
-    ensures honest { F.honest files.new ≡ F.honest files.old }
+    ensures { WorksOn F.Files result files.old files.new }
 {
     let mut cut = Cut::Whole;
     for line in lines {

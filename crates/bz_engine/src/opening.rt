@@ -1,10 +1,11 @@
 //! The package of a step.
 ghost use Rattle.std.specs.Prelude.{◌≡◌, ◌⊎◌, ◌≤◌, ◌++◌, [], ◌∷◌, ℕ, List, Option, Some, None, true, false, length, option_map, IfSome, IsSome};
-ghost use Rattle.bz_ports.specs.Outputs.{Tells, Counts};
+ghost use Rattle.bz_ports.specs.Outputs.{Counts};
 ghost use Rattle.bz_ports.specs.Told.{stdin};
 ghost use Rattle.bz_workspace.specs.Opens.{Opens};
 ghost use Rattle.bz_workspace.specs.Packages.{Opened, place_of, file_at};
-ghost use Rattle.bz_engine.specs.Cuts.{IsCutBy, IsLeft, OpensInput};
+ghost use Rattle.bz_engine.specs.Calls.{TellsLines, world_with, AreCutOver};
+ghost use Rattle.bz_engine.specs.Cuts.{AreCutBy, IsLeft, OpensInput};
 ghost use Rattle.bz_engine.specs.Run.{Uses};
 ghost use Rattle.bz_ports.specs.Ports.{IsInput};
 ghost use Rattle.bz_engine.specs.Steps.{input_package};
@@ -36,10 +37,10 @@ fn open_input<R: Source, E: Sink>(
     ensures whole { result.cut ≡ Cut.Whole → (text : List ℕ) × (file : Option Opened) × (lines : List (List ℕ)) × IsInput (R.remaining input.old) text
         × Opens input_package (Some (stdin, text)) file lines × (workspace.new ≡ workspace.old ++ record { «package» = input_package; file = file } ∷ [])
         × (result.place ≡ option_map (λ _. length workspace.old) file)
-        × Tells (E.faults err.old) (E.faults err.new) (E.contents err.old) (E.contents err.new) lines }
+        × TellsLines E.Sink err.old err.new lines }
     ensures there { IfSome result.place (λ at. IsSome (file_at at workspace.new)) }
     ensures failed { result.cut ≡ Cut.Read → (result.place ≡ None) × (workspace.new ≡ workspace.old ++ record { «package» = input_package; file = None } ∷ []) }
-    ensures cut { (files : ℕ) → IsCutBy result.cut (R.faults input.old) (R.faults input.new) files files }
+    ensures cut { (files : ℕ) → AreCutBy result.cut (R.faults input.old) (R.faults input.new) files files }
     ensures reads { Counts (R.faults input.old) (R.faults input.new) }
 {
     let Ok(place) = workspace.add(INPUT.as_bytes()) else {
@@ -72,13 +73,13 @@ pub(crate) fn open_package<R: Source, F: Files, E: Sink>(
     requires { length «package».now ≤ 65536 }
     ensures uses { (F.honest files.old ≡ true) ⊎ («package».now ≡ input_package) → result.cut ≡ Cut.Whole → (known : Option (List ℕ))
         → IsLeft known workspace.old (R.remaining input.old) → (place : ℕ) × (lines : List (List ℕ))
-        × Uses (record { folder = F.folder files.old; known = known }) «package».now workspace.old place lines workspace.new
+        × Uses (world_with F.Files files.old known) «package».now workspace.old place lines workspace.new
         × (result.place ≡ option_map (λ _. place) (file_at place workspace.new)) × IsLeft known workspace.new (R.remaining input.new)
-        × Tells (E.faults err.old) (E.faults err.new) (E.contents err.old) (E.contents err.new) lines }
+        × TellsLines E.Sink err.old err.new lines }
     ensures there { IfSome result.place (λ at. IsSome (file_at at workspace.new)) }
     ensures folder { (F.honest files.old ≡ true) ⊎ («package».now ≡ input_package) → F.folder files.new ≡ F.folder files.old }
     ensures input { «package».now ≡ input_package → OpensInput result.cut result.place workspace.old workspace.new }
-    ensures cut { IsCutBy result.cut (R.faults input.old) (R.faults input.new) (F.faults files.old) (F.faults files.new) }
+    ensures cut { AreCutOver R.Source F.Files result.cut input.old input.new files.old files.new }
     ensures reads { Counts (R.faults input.old) (R.faults input.new) }
     ensures counts { Counts (F.faults files.old) (F.faults files.new) }
     ensures honest { F.honest files.new ≡ F.honest files.old }

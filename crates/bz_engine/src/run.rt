@@ -1,7 +1,7 @@
 //! How far a run has come.
 ghost use Rattle.std.specs.Prelude.{◌≡◌};
-ghost use Rattle.bz_engine.specs.Run.{begun};
-ghost use Rattle.bz_engine.specs.Shown.{state_in};
+ghost use Rattle.bz_engine.specs.Run.{nothing_done};
+ghost use Rattle.bz_engine.specs.Shown.{progress_in};
 
 use bz_workspace::Workspace;
 use std::alloc::Global;
@@ -16,7 +16,7 @@ pub(crate) struct Run {
 
 /// A run that begins.
 pub(crate) fn begun(alloc: Global) -> Run
-    ensures { state_in result ≡ begun }
+    ensures { progress_in result ≡ nothing_done }
 {
     Run {
         workspace: Workspace::new(alloc),

@@ -1,10 +1,10 @@
 //! Files of lines.
 ghost use Rattle.std.specs.Prelude.{◌≡◌, ◌≢◌, ◌⊎◌, ℕ, [], ◌∷◌, codes, Some, None, true, IfOk, IfErr};
 ghost use Rattle.std.specs.FinMap.{get};
-ghost use Rattle.bz_files.specs.Folder.{Elapses};
-ghost use Rattle.bz_ports.specs.Outputs.{Tells, Counts};
+ghost use Rattle.bz_ports.specs.Outputs.{Counts};
 ghost use Rattle.bz_ports.specs.Told.{named_line};
-ghost use Rattle.bz_engine.specs.Cuts.{IsCutBy};
+ghost use Rattle.bz_engine.specs.Calls.{TellsLines, world_of, KeepsFolder, AreCutOver};
+ghost use Rattle.bz_engine.specs.Cuts.{AreCutBy};
 ghost use Rattle.bz_engine.specs.Outcome.{IsScript, told_name};
 ghost use Rattle.bz_ports.specs.Ports.{IsInput};
 ghost use Rattle.bz_engine.specs.Steps.{input_package};
@@ -30,7 +30,7 @@ pub(crate) fn told_name(name: &str) -> &str
 // The lines can't be read, which is told. Returned: how the run ends.
 fn unopened<E: Sink>(err: &mut E, name: &str, cut: Cut) -> Exit
     ensures exit { result ≡ record { status = 1; cut = cut } }
-    ensures told { Tells (E.faults err.old) (E.faults err.new) (E.contents err.old) (E.contents err.new) (named_line name.now (codes "cannot open") ∷ []) }
+    ensures told { TellsLines E.Sink err.old err.new (named_line name.now (codes "cannot open") ∷ []) }
 {
     tell_named(err, name, "cannot open");
     Exit { status: USAGE, cut }
@@ -54,7 +54,7 @@ fn read_input<R: Source, E: Sink>(
     err: &mut E,
 ) -> Result<Vec<u8>, Exit>
     ensures ok { IfOk result (λ bytes. IsInput (R.remaining input.old) bytes.items × (R.faults input.new ≡ R.faults input.old) × (err.new ≡ err.old)) }
-    ensures err { IfErr result (λ exit. (exit.cut ≢ Cut.Whole) × (exit.cut ≢ Cut.Write) × ((exit.status ≡ 1) ⊎ (exit.status ≡ 2)) × ((files : ℕ) → IsCutBy exit.cut (R.faults input.old) (R.faults input.new) files files)) }
+    ensures err { IfErr result (λ exit. (exit.cut ≢ Cut.Whole) × (exit.cut ≢ Cut.Write) × ((exit.status ≡ 1) ⊎ (exit.status ≡ 2)) × ((files : ℕ) → AreCutBy exit.cut (R.faults input.old) (R.faults input.new) files files)) }
 {
     match read_most(alloc, input, usize::MAX) {
         Ok(bytes) => Ok(bytes),
@@ -73,11 +73,10 @@ fn read_file<F: Files, E: Sink>(
     ensures ok { IfOk result (λ bytes. (F.honest files.old ≡ true → get (F.folder files.old) name.now ≡ Some bytes.items)
         × (F.faults files.new ≡ F.faults files.old) × (err.new ≡ err.old)) }
     ensures err { IfErr result (λ exit. (exit.cut ≡ Cut.Whole → (exit.status ≡ 1) × (F.honest files.old ≡ true → get (F.folder files.old) name.now ≡ None)
-        × Tells (E.faults err.old) (E.faults err.new) (E.contents err.old) (E.contents err.new) (named_line name.now (codes "cannot open") ∷ []))
-        × (exit.cut ≢ Cut.Write) × ((exit.status ≡ 1) ⊎ (exit.status ≡ 2)) × ((reads : ℕ) → IsCutBy exit.cut reads reads (F.faults files.old) (F.faults files.new))) }
+        × TellsLines E.Sink err.old err.new (named_line name.now (codes "cannot open") ∷ []))
+        × (exit.cut ≢ Cut.Write) × ((exit.status ≡ 1) ⊎ (exit.status ≡ 2)) × ((reads : ℕ) → AreCutBy exit.cut reads reads (F.faults files.old) (F.faults files.new))) }
     ensures folder { F.honest files.old ≡ true → F.folder files.new ≡ F.folder files.old }
-    ensures time { F.honest files.old ≡ true → Elapses (F.moment files.old) (F.moment files.new) (F.since files.old) (F.since files.new)
-        (λ now. now ≡ F.folder files.old) }
+    ensures time { F.honest files.old ≡ true → KeepsFolder F.Files files.old files.new }
     ensures counts { Counts (F.faults files.old) (F.faults files.new) }
     ensures honest { F.honest files.new ≡ F.honest files.old }
 {
@@ -100,19 +99,18 @@ pub(crate) fn read_bytes<R: Source, F: Files, E: Sink>(
     err: &mut E,
 ) -> Result<Vec<u8>, Exit>
     ensures ok { IfOk result (λ bytes. (F.honest files.old ≡ true
-        → IsScript (record { folder = F.folder files.old; known = R.remaining input.old }) name.now (Some bytes.items))
+        → IsScript (world_of R.Source F.Files input.old files.old) name.now (Some bytes.items))
         × (R.faults input.new ≡ R.faults input.old) × (F.faults files.new ≡ F.faults files.old) × (err.new ≡ err.old)
         × (name.now ≢ input_package → input.new ≡ input.old)) }
     ensures err { IfErr result (λ exit. (exit.cut ≡ Cut.Whole → (exit.status ≡ 1) × (F.honest files.old ≡ true
-        → IsScript (record { folder = F.folder files.old; known = R.remaining input.old }) name.now None)
-        × Tells (E.faults err.old) (E.faults err.new) (E.contents err.old) (E.contents err.new) (named_line (told_name name.now) (codes "cannot open") ∷ []))
+        → IsScript (world_of R.Source F.Files input.old files.old) name.now None)
+        × TellsLines E.Sink err.old err.new (named_line (told_name name.now) (codes "cannot open") ∷ []))
         × ((exit.status ≡ 1) ⊎ (exit.status ≡ 2)) × (exit.cut ≢ Cut.Write)
-        × IsCutBy exit.cut (R.faults input.old) (R.faults input.new) (F.faults files.old) (F.faults files.new)) }
+        × AreCutOver R.Source F.Files exit.cut input.old input.new files.old files.new) }
     ensures input { name.now ≢ input_package → input.new ≡ input.old }
     ensures files { name.now ≡ input_package → files.new ≡ files.old }
     ensures folder { F.honest files.old ≡ true → F.folder files.new ≡ F.folder files.old }
-    ensures time { F.honest files.old ≡ true → Elapses (F.moment files.old) (F.moment files.new) (F.since files.old) (F.since files.new)
-        (λ now. now ≡ F.folder files.old) }
+    ensures time { F.honest files.old ≡ true → KeepsFolder F.Files files.old files.new }
     ensures counts { Counts (F.faults files.old) (F.faults files.new) }
     ensures honest { F.honest files.new ≡ F.honest files.old }
 {

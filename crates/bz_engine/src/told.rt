@@ -2,7 +2,7 @@
 ghost use Rattle.std.specs.Prelude.{◌≡◌, ◌++◌, codes, List, ℕ, IfSome, IsSome, OnOk, OnErr};
 ghost use Rattle.bz_line.specs.Hints.{hint_for};
 ghost use Rattle.bz_line.specs.Shown.{refused_in, usage_in, line_usage_in, hint_text};
-ghost use Rattle.bz_ports.specs.Faults.{AppendsUnlessFailed};
+ghost use Rattle.bz_engine.specs.Calls.{TellsLine};
 ghost use Rattle.bz_engine.specs.Told.{numbered, refusal_line, operand_line, fixed_line, input_line, no_journal_line, IsUsageLine, IsLineUsageLine};
 
 use bz_attribute::Refusal;
@@ -21,7 +21,7 @@ fn tell_numbered_in<'a, E: Sink>(
     name: &'a str,
     number: u8,
 )
-    ensures { AppendsUnlessFailed (E.faults err.old) (E.faults err.new) (E.contents err.old) (E.contents err.new)
+    ensures { TellsLine E.Sink err.old err.new
         (front.entry.now ++ file.entry.now ++ between.entry.now ++ numbered refused.entry.now name.entry.now number) }
 {
     let mut numbers = Buffer::new();
@@ -36,8 +36,7 @@ fn tell_numbered_in<'a, E: Sink>(
 
 /// Tells that a command is refused in a file.
 pub(crate) fn tell_refusal<E: Sink>(err: &mut E, file: &str, command: &str, refusal: Refusal)
-    ensures { AppendsUnlessFailed (E.faults err.old) (E.faults err.new) (E.contents err.old) (E.contents err.new)
-        (refusal_line file.now command.now refusal) }
+    ensures { TellsLine E.Sink err.old err.new (refusal_line file.now command.now refusal) }
 {
     tell_numbered_in(
         err,
@@ -61,7 +60,7 @@ fn tell_hinted<'a, E: Sink>(
     hint_word: &'a str,
     hint_back: &'a str,
 )
-    ensures { AppendsUnlessFailed (E.faults err.old) (E.faults err.new) (E.contents err.old) (E.contents err.new)
+    ensures { TellsLine E.Sink err.old err.new
         (front.entry.now ++ numbered refused.entry.now name.entry.now number ++ (hint_front.entry.now ++ hint_word.entry.now ++ hint_back.entry.now)) }
 {
     let mut numbers = Buffer::new();
@@ -77,8 +76,7 @@ fn tell_hinted<'a, E: Sink>(
 // Tells that an operand is refused, and the hint of it behind that.
 fn tell_operand<E: Sink>(err: &mut E, refused: &Refused<'_>, hint: Hint)
     requires { hint_text hint ≡ hint_for (refused_in refused.now) }
-    ensures { AppendsUnlessFailed (E.faults err.old) (E.faults err.new) (E.contents err.old) (E.contents err.new)
-        (operand_line (refused_in refused.now)) }
+    ensures { TellsLine E.Sink err.old err.new (operand_line (refused_in refused.now)) }
 {
     let fault = refused.fault;
     tell_hinted(
@@ -95,15 +93,14 @@ fn tell_operand<E: Sink>(err: &mut E, refused: &Refused<'_>, hint: Hint)
 
 /// Tells that a file was written.
 pub(crate) fn tell_fixed<E: Sink>(err: &mut E, name: &str)
-    ensures { AppendsUnlessFailed (E.faults err.old) (E.faults err.new) (E.contents err.old) (E.contents err.new)
-        (fixed_line name.now) }
+    ensures { TellsLine E.Sink err.old err.new (fixed_line name.now) }
 {
     tell(err, &["fixed ", name, "\n"]);
 }
 
 /// Tells that rules of standard input are meant where the lines stand there.
 pub(crate) fn tell_input<E: Sink>(err: &mut E)
-    ensures { AppendsUnlessFailed (E.faults err.old) (E.faults err.new) (E.contents err.old) (E.contents err.new) input_line }
+    ensures { TellsLine E.Sink err.old err.new input_line }
 {
     tell(
         err,
@@ -113,7 +110,7 @@ pub(crate) fn tell_input<E: Sink>(err: &mut E)
 
 /// Tells that rules of standard input are meant where journals are kept.
 pub(crate) fn tell_no_journal<E: Sink>(err: &mut E)
-    ensures { AppendsUnlessFailed (E.faults err.old) (E.faults err.new) (E.contents err.old) (E.contents err.new) no_journal_line }
+    ensures { TellsLine E.Sink err.old err.new no_journal_line }
 {
     tell(err, &["buildozer: package - has no journal\n"]);
 }
@@ -127,7 +124,7 @@ pub(crate) fn tell_usage<E: Sink>(
 ) -> Result<(), AllocError>
     ensures some { OnOk result (IsSome (usage_in fault.now)) }
     ensures ok { OnOk result (IfSome (usage_in fault.now) (λ usage. (line : List ℕ) × IsUsageLine file.now usage line
-        × AppendsUnlessFailed (E.faults err.old) (E.faults err.new) (E.contents err.old) (E.contents err.new) line)) }
+        × TellsLine E.Sink err.old err.new line)) }
     ensures err { OnErr result (err.new ≡ err.old) }
 {
     match fault {
@@ -151,7 +148,7 @@ pub(crate) fn tell_line_usage<E: Sink>(
 ) -> Result<(), AllocError>
     ensures some { OnOk result (IsSome (line_usage_in fault.now)) }
     ensures ok { OnOk result (IfSome (line_usage_in fault.now) (λ usage. (line : List ℕ) × IsLineUsageLine usage line
-        × AppendsUnlessFailed (E.faults err.old) (E.faults err.new) (E.contents err.old) (E.contents err.new) line)) }
+        × TellsLine E.Sink err.old err.new line)) }
     ensures err { OnErr result (err.new ≡ err.old) }
 {
     match fault {

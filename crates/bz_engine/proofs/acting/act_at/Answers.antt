@@ -2,7 +2,7 @@ use Rattle.std.proofs.Common.{Err}
 use Rattle.bz_journal.specs.Actions.{action_in}
 use Rattle.bz_workspace.specs.Opens.{ActsAt}
 use Rattle.bz_workspace.specs.Packages.{Opened}
-use Rattle.bz_engine.specs.Shown.{state_in}
+use Rattle.bz_engine.specs.Shown.{progress_in}
 use Rattle.bz_engine.proofs.ActSteps.{file_put, led_to, was_refused}
 use Rattle.bz_engine.proofs.acting.act_at.Goals as goal
 
@@ -16,7 +16,7 @@ returns-clause-whole g c = λ whole.
       done.history,
       done.there,
       led_to done.file.history done.history (action_in c.args.action.now) c.args.command.now refusal done.acts (c.refuse-in-Err.ensures.whole whole),
-      was_refused c.args.place done.file refusal done.history (state_in c.args.run.now) (state_in c.refuse-in-Err.new.run) c.act.new.self
+      was_refused c.args.place done.file refusal done.history (progress_in c.args.run.now) (progress_in c.refuse-in-Err.new.run) c.act.new.self
           c.refuse-in-Err.ensures.state done.kept,
       c.refuse-in-Err.ensures.told new
           (file_put c.args.place c.args.run.now.workspace c.act.new.self done.file new done.there done.kept),

@@ -1,7 +1,7 @@
 use Rattle.std.proofs.Common.{◌∙◌, List, ℕ, ap, sym, subst}
 use Rattle.std.specs.Option.{option_map}
 use Rattle.bz_workspace.specs.Shown.{opened_in, used_in}
-use Rattle.bz_engine.specs.Ending.{Writes}
+use Rattle.bz_engine.specs.Ending.{WritesFiles}
 use Rattle.bz_engine.proofs.EndingSteps.{one, writing_is, written_alone}
 use Rattle.bz_engine.proofs.ending.write_file.Goals as goal
 
@@ -16,8 +16,8 @@ returns-in-Ok-Some-clause-writes g c either whole =
     written_alone before after file.name file.read text _ (F.honest c.args.files.now)
     (writing_is c.args.options.to_stdout used file text c.if-options.false (sym c.is_input.ensures ∙ c.if-is_input.false)
     (ap (option_map opened_in) c.in-Some.is) (rw c.in-Ok-Some.field-0-is at c.in-Ok-Some.ensures))
-    (λ honest. subst (λ (name : List ℕ). Writes (one name file.read text) before after) c.as_str.ensures.value
-    (subst (λ (read : List ℕ). Writes (one c.as_str.result.now read text) before after) c.as_slice.ensures
-    (subst (λ (bytes : List ℕ). Writes (one c.as_str.result.now c.as_slice.result.now bytes) before after) c.deref.ensures.value
+    (λ honest. subst (λ (name : List ℕ). WritesFiles (one name file.read text) before after) c.as_str.ensures.value
+    (subst (λ (read : List ℕ). WritesFiles (one c.as_str.result.now read text) before after) c.as_slice.ensures
+    (subst (λ (bytes : List ℕ). WritesFiles (one c.as_str.result.now c.as_slice.result.now bytes) before after) c.deref.ensures.value
     (c.replace.ensures.writes honest whole))))
     either

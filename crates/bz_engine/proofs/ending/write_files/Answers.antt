@@ -1,11 +1,12 @@
 use Rattle.std.proofs.Common.{◌≡◌, ◌⊎◌, inl, inr, ◌∙◌, ◌++◌, ◌∷◌, [], ◌+◌, true, map, take, ap, sym}
 use Rattle.std.proofs.lemmas.List.{map_more}
-use Rattle.bz_ports.proofs.Outputs.{counts_more, tells_more}
+use Rattle.bz_ports.proofs.Outputs.{tells_more}
 use Rattle.bz_workspace.specs.Shown.{used_in}
 use Rattle.bz_workspace.specs.declared.used.Used.{Used}
-use Rattle.bz_engine.specs.Ending.{writing_of, writings, fixed_lines}
-use Rattle.bz_engine.proofs.CutSteps.{whole_before, whole_behind, files_cut}
+use Rattle.bz_engine.specs.Ending.{writing_of, all_writings, fixed_lines}
+use Rattle.bz_engine.proofs.CutSteps.{whole_before, whole_behind}
 use Rattle.bz_engine.proofs.EndingSteps.{flat_map-last, nothing_at, writes_more, fixed_lines-append}
+use Rattle.bz_engine.proofs.KeepSteps.{works_more}
 use Rattle.bz_engine.proofs.ending.write_files.Goals as goal
 
 pub loop-used-preserved : goal.loop-used-preserved
@@ -21,27 +22,24 @@ loop-used-preserved g c =
     let later = c.write_file-later in
     let so_far = map used_in (take at packages) in
     let one = writing_of to_stdout (used_in item) in
-    let all : writings to_stdout (map used_in (take (at + 1) packages)) ≡ writings to_stdout so_far ++ one =
-    ap (writings to_stdout) (map_more used_in packages at item c.loop-used-test.true
+    let all : all_writings to_stdout (map used_in (take (at + 1) packages)) ≡ all_writings to_stdout so_far ++ one =
+    ap (all_writings to_stdout) (map_more used_in packages at item c.loop-used-test.true
     ∙ ap (λ (used : Used). so_far ++ used_in used ∷ []) (sym c.used-item.is))
     ∙ flat_map-last (writing_of to_stdout) so_far (used_in item) in
-    let so : (F.honest c.args.files.now ≡ true) ⊎ (writings to_stdout (map used_in packages) ≡ [])
+    let so : (F.honest c.args.files.now ≡ true) ⊎ (all_writings to_stdout (map used_in packages) ≡ [])
     → (F.honest l.files ≡ true) ⊎ (one ≡ []) = λ either. elim either as (λ _. (F.honest l.files ≡ true) ⊎ (one ≡ [])) [
-      | inl honest ↦ inl (l.invariant.honest ∙ honest)
+      | inl honest ↦ inl (l.invariant.works.honest ∙ honest)
       | inr none ↦ inr (ap (λ (used : Used). writing_of to_stdout (used_in used)) c.used-item.is
           ∙ nothing_at (writing_of to_stdout) used_in packages at item c.loop-used-test.true none)
     ] in
     rw (c.first_cut-cut.ensures) record {
-      told = λ whole. rw (all, fixed_lines-append quiet (writings to_stdout so_far) one)
+      told = λ whole. rw (all, fixed_lines-append quiet (all_writings to_stdout so_far) one)
           (tells_more (E.faults c.args.err.now) (E.faults l.err) (E.faults later.new.err) (E.contents c.args.err.now) (E.contents l.err)
-          (E.contents later.new.err) (fixed_lines quiet (writings to_stdout so_far)) (fixed_lines quiet one)
+          (E.contents later.new.err) (fixed_lines quiet (all_writings to_stdout so_far)) (fixed_lines quiet one)
           (l.invariant.told (whole_before l.cut later.result whole)) (later.ensures.told (whole_behind l.cut later.result whole)));
       writes = λ either whole. rw (all)
-          (writes_more (writings to_stdout so_far) one (F.folder c.args.files.now) (F.folder l.files) (F.folder later.new.files)
+          (writes_more (all_writings to_stdout so_far) one (F.folder c.args.files.now) (F.folder l.files) (F.folder later.new.files)
           (l.invariant.writes either (whole_before l.cut later.result whole))
           (later.ensures.writes (so either) (whole_behind l.cut later.result whole)));
-      cut = files_cut l.cut later.result (F.faults c.args.files.now) (F.faults l.files) (F.faults later.new.files) l.invariant.cut
-          later.ensures.cut l.invariant.counts later.ensures.counts;
-      counts = counts_more (F.faults c.args.files.now) (F.faults l.files) (F.faults later.new.files) l.invariant.counts later.ensures.counts;
-      honest = later.ensures.honest ∙ l.invariant.honest;
+      works = works_more g.F.Files l.cut later.result c.args.files.now l.files later.new.files l.invariant.works later.ensures.works;
     }

@@ -1,6 +1,6 @@
 use Rattle.std.proofs.Common.{inl, refl}
 use Rattle.std.specs.Fmt.{digits}
-use Rattle.bz_engine.specs.WorkedParts.{held}
+use Rattle.bz_engine.specs.WorkedParts.{text_read}
 use Rattle.bz_engine.proofs.WorkedEnds.{found_first, found_second, found_none, usage, whole}
 use Rattle.bz_engine.proofs.laws.worked_runs.Goals as goal
 
@@ -12,7 +12,7 @@ returns-clause-parts c = (
   (refl, refl, refl, refl, refl, refl, refl, refl, refl, refl, refl, refl, refl, refl, refl),
   (refl, refl, refl, refl, refl, refl, refl, refl, refl),
   (refl, refl, refl, refl, refl, refl),
-  (refl, refl, refl, refl, found_first, found_second, found_none, (λ folder. inl (refl, (held, refl, refl))), refl, refl),
+  (refl, refl, refl, refl, found_first, found_second, found_none, (λ folder. inl (refl, (text_read, refl, refl))), refl, refl),
 )
 
 pub returns-clause-usage : goal.returns-clause-usage

@@ -3,20 +3,20 @@ use Rattle.std.specs.List.{All, flat_map}
 use Rattle.bz_label.specs.declared.target.Target.{Target}
 use Rattle.bz_line.specs.Shown.{asking_in, asked_in}
 use Rattle.bz_line.specs.declared.asked.Asking.{Asking}
-use Rattle.bz_engine.specs.Steps.{Step, input_package, step_of, steps_of}
+use Rattle.bz_engine.specs.Calls.{spot}
+use Rattle.bz_engine.specs.Steps.{RunStep, input_package, step_of, steps_asked}
 use Rattle.bz_engine.proofs.RunSteps.{Done, Goes, part_none, part_more, all_done, left_at, none_at, all_at}
 use Rattle.bz_engine.proofs.running.run_line.Goals as goal
-use Rattle.bz_engine.proofs.running.run_line.Invariants.{spot}
 
-abbrev on_target : List Asking → Target → List Step
+abbrev on_target : List Asking → Target → List RunStep
 on_target commands target = map (step_of target) (map asking_in commands)
 
 abbrev IsOfInput : Target → Type 0
 IsOfInput target = target.«package» ≡ input_package
 
 pub loop-target-init : goal.loop-target-init
-loop-target-init g c = part_none (All IsOfInput c.args.line.now.targets.items) c.args.keep_going (steps_of (asked_in c.args.line.now))
-    (spot g c.args.run.now c.args.input.now c.args.files.now c.args.err.now)
+loop-target-init g c = part_none (All IsOfInput c.args.line.now.targets.items) c.args.keep_going (steps_asked (asked_in c.args.line.now))
+    (spot g.R.Source g.F.Files g.E.Sink c.args.run.now c.args.input.now c.args.files.now c.args.err.now)
 
 pub loop-target-preserved : goal.loop-target-preserved
 loop-target-preserved g c =
@@ -28,12 +28,12 @@ loop-target-preserved g c =
     let commands = c.args.line.now.commands.items in
     let held = c.deref-target-items.result.now in
     let same = c.deref-target-items.ensures.value in
-    let old = spot g c.args.run.now c.args.input.now c.args.files.now c.args.err.now in
-    let mid = spot g l.run l.input l.files l.err in
-    let new = spot g e.new.run e.new.input e.new.files e.new.err in
+    let old = spot g.R.Source g.F.Files g.E.Sink c.args.run.now c.args.input.now c.args.files.now c.args.err.now in
+    let mid = spot g.R.Source g.F.Files g.E.Sink l.run l.input l.files l.err in
+    let new = spot g.R.Source g.F.Files g.E.Sink e.new.run e.new.input e.new.files e.new.err in
     let done : Done (IsOfInput target) c.args.keep_going (on_target commands target) e.result mid new = record {
-      runs = λ honest whole. subst (λ (all : List Asking). Goes mid.folder c.args.keep_going (on_target all target) mid new) c.deref.ensures.value
-          (e.ensures.runs honest whole);
+      does = λ honest whole. subst (λ (all : List Asking). Goes mid.folder c.args.keep_going (on_target all target) mid new) c.deref.ensures.value
+          (e.ensures.does honest whole);
       folder = e.ensures.folder;
       cut = e.ensures.cut;
       reads = e.ensures.reads;
@@ -41,17 +41,17 @@ loop-target-preserved g c =
       honest = e.ensures.honest;
       input = e.ensures.input;
     } in
-    rw (c.first_cut-cut.ensures) (part_more (All IsOfInput targets) (IsOfInput target) c.args.keep_going (steps_of (asked_in c.args.line.now))
+    rw (c.first_cut-cut.ensures) (part_more (All IsOfInput targets) (IsOfInput target) c.args.keep_going (steps_asked (asked_in c.args.line.now))
     (flat_map (on_target commands) (drop at targets)) (on_target commands target) (flat_map (on_target commands) (drop (at + 1) targets))
     l.cut e.result old mid new (all_at IsOfInput targets held at target same c.loop-target-test.true c.target-item.is)
     (ap (flat_map (on_target commands)) (left_at targets held at target same c.loop-target-test.true c.target-item.is)) l.invariant done)
 
-pub returns-clause-runs : goal.returns-clause-runs
-returns-clause-runs g c =
+pub returns : goal.returns
+returns g c =
     let l = c.loop-target in
     let targets = c.args.line.now.targets.items in
     let commands = c.args.line.now.commands.items in
-    (all_done (All IsOfInput targets) c.args.keep_going (steps_of (asked_in c.args.line.now)) (flat_map (on_target commands) (drop l.target-index targets))
-    l.cut (spot g c.args.run.now c.args.input.now c.args.files.now c.args.err.now) (spot g l.run l.input l.files l.err)
+    all_done (All IsOfInput targets) c.args.keep_going (steps_asked (asked_in c.args.line.now)) (flat_map (on_target commands) (drop l.target-index targets))
+    l.cut (spot g.R.Source g.F.Files g.E.Sink c.args.run.now c.args.input.now c.args.files.now c.args.err.now) (spot g.R.Source g.F.Files g.E.Sink l.run l.input l.files l.err)
     (ap (flat_map (on_target commands)) (none_at targets c.deref-target-items.result.now l.target-index c.deref-target-items.ensures.value
-    c.loop-target-test.false)) l.invariant).runs
+    c.loop-target-test.false)) l.invariant

@@ -6,13 +6,13 @@ use Rattle.bz_line.specs.Asked as a
 use Rattle.bz_line.specs.Paths.{HasPath}
 use Rattle.bz_line.specs.Shown.{asked_in}
 use Rattle.bz_line.specs.declared.asked.Asked.{Asked}
+use Rattle.bz_engine.specs.Calls.{spot}
 use Rattle.bz_engine.specs.Outcome.{AreOfInput}
-use Rattle.bz_engine.specs.Steps.{Step, input_package, steps_of, all_steps}
-use Rattle.bz_engine.proofs.RunSteps.{Done, part_none, part_more, all_done, left_at, none_at, all_at}
+use Rattle.bz_engine.specs.Steps.{RunStep, input_package, steps_asked, all_steps}
+use Rattle.bz_engine.proofs.RunSteps.{part_none, part_more, all_done, left_at, none_at, all_at}
 use Rattle.bz_engine.proofs.running.run_lines.Goals as goal
-use Rattle.bz_engine.proofs.running.run_lines.Invariants.{spot}
 
-abbrev asked : List Asked → List Step
+abbrev asked : List Asked → List RunStep
 asked lines = all_steps (map asked_in lines)
 
 abbrev IsOfInput : Asked → Type 0
@@ -24,7 +24,7 @@ each_line lines all k d within = subst (λ (asked : a.Asked). All (λ target. ta
 
 pub loop-line-init : goal.loop-line-init
 loop-line-init g c = part_none (AreOfInput (map asked_in c.args.lines.now)) c.args.keep_going (asked c.args.lines.now)
-    (spot g c.args.run.now c.args.input.now c.args.files.now c.args.err.now)
+    (spot g.R.Source g.F.Files g.E.Sink c.args.run.now c.args.input.now c.args.files.now c.args.err.now)
 
 pub run_line-later-requires : goal.run_line-later-requires
 run_line-later-requires g c = all_at (λ (line : Asked). All HasPath line.targets.items) c.args.lines.now c.args.lines.now c.loop-line.line-index
@@ -37,29 +37,18 @@ loop-line-preserved g c =
     let at = l.line-index in
     let line = c.line-item.result in
     let lines = c.args.lines.now in
-    let old = spot g c.args.run.now c.args.input.now c.args.files.now c.args.err.now in
-    let mid = spot g l.run l.input l.files l.err in
-    let new = spot g e.new.run e.new.input e.new.files e.new.err in
-    let done : Done (IsOfInput line) c.args.keep_going (steps_of (asked_in line)) e.result mid new = record {
-      runs = e.ensures.runs;
-      folder = e.ensures.folder;
-      cut = e.ensures.cut;
-      reads = e.ensures.reads;
-      counts = e.ensures.counts;
-      honest = e.ensures.honest;
-      input = e.ensures.input;
-    } in
+    let old = spot g.R.Source g.F.Files g.E.Sink c.args.run.now c.args.input.now c.args.files.now c.args.err.now in
+    let mid = spot g.R.Source g.F.Files g.E.Sink l.run l.input l.files l.err in
+    let new = spot g.R.Source g.F.Files g.E.Sink e.new.run e.new.input e.new.files e.new.err in
     rw (c.first_cut-cut.ensures) (part_more (AreOfInput (map asked_in lines)) (IsOfInput line) c.args.keep_going (asked lines)
-    (asked (drop at lines)) (steps_of (asked_in line)) (asked (drop (at + 1) lines)) l.cut e.result old mid new
+    (asked (drop at lines)) (steps_asked (asked_in line)) (asked (drop (at + 1) lines)) l.cut e.result old mid new
     (λ all. all_at IsOfInput lines lines at line refl c.loop-line-test.true c.line-item.is (each_line lines all))
-    (ap asked (left_at lines lines at line refl c.loop-line-test.true c.line-item.is)) l.invariant done)
+    (ap asked (left_at lines lines at line refl c.loop-line-test.true c.line-item.is)) l.invariant e.ensures)
 
-pub returns-clause-runs : goal.returns-clause-runs
-returns-clause-runs g c =
+pub returns : goal.returns
+returns g c =
     let l = c.loop-line in
     let lines = c.args.lines.now in
-    λ honest whole known left.
-    let all = (all_done (AreOfInput (map asked_in lines)) c.args.keep_going (asked lines) (asked (drop l.line-index lines)) l.cut
-    (spot g c.args.run.now c.args.input.now c.args.files.now c.args.err.now) (spot g l.run l.input l.files l.err)
-    (ap asked (none_at lines lines l.line-index refl c.loop-line-test.false)) l.invariant).runs honest whole known left in
-    (all.0, all.1, all.3)
+    all_done (AreOfInput (map asked_in lines)) c.args.keep_going (asked lines) (asked (drop l.line-index lines)) l.cut
+    (spot g.R.Source g.F.Files g.E.Sink c.args.run.now c.args.input.now c.args.files.now c.args.err.now)
+    (spot g.R.Source g.F.Files g.E.Sink l.run l.input l.files l.err) (ap asked (none_at lines lines l.line-index refl c.loop-line-test.false)) l.invariant

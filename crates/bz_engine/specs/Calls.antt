@@ -1,0 +1,119 @@
+-- What a call does to the ports of a run. Each relation takes the ghost members of a port's bound, which a clause writes `R.Source`,
+-- `W.Sink`, `E.Sink` or `F.Files`, and the port before and after.
+use Rattle.std.specs.Prelude.{◌≡◌, ◌⊎◌, ℕ, List, Option, Bool, true}
+use Rattle.std.specs.Io.KnownBytes.{Appends}
+use Rattle.bz_items.specs.Characters.{Bytes}
+use Rattle.bz_files.specs.Folder.{Folder, Elapses}
+use Rattle.bz_files.specs.declared.files.Files.{Ghosts as FilesOf}
+use Rattle.bz_ports.specs.Faults.{AppendsSome, AppendsUnlessFailed}
+use Rattle.bz_ports.specs.Outputs.{Tells, Counts}
+use Rattle.bz_ports.specs.declared.exit.Cut.{Cut}
+use Rattle.bz_ports.specs.declared.exit.Cut.TheVariants as c
+use Rattle.bz_ports.specs.declared.sink.Sink.{Ghosts as SinkOf}
+use Rattle.bz_ports.specs.declared.source.Source.{Ghosts as SourceOf}
+use Rattle.bz_engine.specs.Cuts.{AreCutBy, IsEndedBy, IsLeft, CutsFiles, ReadsOnce}
+use Rattle.bz_engine.specs.Ending.{Left, LeftStands}
+use Rattle.bz_engine.specs.Run.{World, Progress}
+use Rattle.bz_engine.specs.Shown.{progress_in}
+use Rattle.bz_engine.specs.declared.run.Run.{Run}
+
+-- ---- standard error
+
+-- A line was told, whole unless its writing failed.
+abbrev pub TellsLine : {E : Type 0} → SinkOf E → E → E → Bytes → Type 0
+TellsLine sink old new line = AppendsUnlessFailed (sink.faults old) (sink.faults new) (sink.contents old) (sink.contents new) line
+
+-- Lines were told one after the other, each whole unless its writing failed.
+abbrev pub TellsLines : {E : Type 0} → SinkOf E → E → E → List Bytes → Type 0
+TellsLines sink old new lines = Tells (sink.faults old) (sink.faults new) (sink.contents old) (sink.contents new) lines
+
+-- ---- standard output
+
+-- These bytes were printed, all of them.
+abbrev pub PrintsAll : {W : Type 0} → SinkOf W → W → W → Bytes → Type 0
+PrintsAll sink old new bytes = Appends (sink.contents old) (sink.contents new) bytes
+
+-- A beginning of these bytes was printed.
+abbrev pub PrintsSome : {W : Type 0} → SinkOf W → W → W → Bytes → Type 0
+PrintsSome sink old new bytes = AppendsSome (sink.contents old) (sink.contents new) bytes
+
+-- ---- what can be read
+
+-- the folder as it is, and these bytes of standard input
+abbrev pub world_with : {F : Type 0} → FilesOf F → F → Option Bytes → World
+world_with files held known = record { folder = files.folder held; known = known }
+
+-- the folder as it is, and what is left of standard input
+abbrev pub world_of : {R F : Type 0} → SourceOf R → FilesOf F → R → F → World
+world_of source files input held = world_with files held (source.remaining input)
+
+-- A folder of honest files was the same at each moment of the call.
+abbrev pub KeepsFolder : {F : Type 0} → FilesOf F → F → F → Type 0
+KeepsFolder files old new = Elapses (files.moment old) (files.moment new) (files.since old) (files.since new) (λ now. now ≡ files.folder old)
+
+-- ---- faults
+
+-- Steps are cut where standard input or files counted a fault; where they are not, neither did.
+abbrev pub AreCutOver : {R F : Type 0} → SourceOf R → FilesOf F → Cut → R → R → F → F → Type 0
+AreCutOver source files cut input input' held held' = AreCutBy cut (source.faults input) (source.faults input') (files.faults held) (files.faults held')
+
+-- A run is cut where standard input, standard output or files counted a fault; where it is not, none did.
+abbrev pub IsEndedOver : {R W F : Type 0} → SourceOf R → SinkOf W → FilesOf F → Cut → R → R → W → W → F → F → Type 0
+IsEndedOver source sink files cut input input' out out' held held' =
+    IsEndedBy cut (source.faults input) (source.faults input') (sink.faults out) (sink.faults out') (files.faults held) (files.faults held')
+
+-- Files are worked on: a fault of theirs cuts what is done, and they stay as honest as they were. (Why it is cut.)
+pub record WorksOn {F : Type 0} (files : FilesOf F) (why : Cut) (old new : F) : Type 0 where
+  pub cut : CutsFiles why (files.faults old) (files.faults new)
+  pub counts : Counts (files.faults old) (files.faults new)
+  pub honest : files.honest new ≡ files.honest old
+
+-- ---- steps
+
+-- Where a run stands: how far it has come, what is left of standard input, the files, and standard error. (Of each, the count of faults.)
+pub record RunSpot : Type 0 where
+  pub state : Progress
+  pub left : Option Bytes
+  pub reads : ℕ
+  pub folder : Folder
+  pub honest : Bool
+  pub files : ℕ
+  pub told : Option Bytes
+  pub faults : ℕ
+
+abbrev pub spot : {R F E : Type 0} → SourceOf R → FilesOf F → SinkOf E → Run → R → F → E → RunSpot
+spot source files errors run input held err = record {
+  state = progress_in run;
+  left = source.remaining input;
+  reads = source.faults input;
+  folder = files.folder held;
+  honest = files.honest held;
+  files = files.faults held;
+  told = errors.contents err;
+  faults = errors.faults err;
+}
+
+-- This is done from one spot to another in a world with this folder, and its lines are told. (Of standard input all is left until package
+-- `-` is used.)
+abbrev pub DoesBetween : Folder → (World → Progress → List Bytes → Progress → Type 0) → RunSpot → RunSpot → Type 0
+DoesBetween folder Does old new = (known : Option Bytes) → IsLeft known old.state.used old.left → (lines : List Bytes)
+    × Does (record { folder = folder; known = known }) old.state lines new.state
+    × IsLeft known new.state.used new.left
+    × Tells old.faults new.faults old.told new.told lines
+
+-- What a run does from one spot to another, and why it is cut. Where files are not honest the premise is that only standard input is used.
+pub record Proceeds (Premise : Type 0) (Does : World → Progress → List Bytes → Progress → Type 0) (why : Cut) (old new : RunSpot) : Type 0 where
+  pub does : (old.honest ≡ true) ⊎ Premise → why ≡ c.Whole → DoesBetween old.folder Does old new
+  pub folder : (old.honest ≡ true) ⊎ Premise → new.folder ≡ old.folder
+  pub input : Premise → ReadsOnce why old.state new.state
+  pub cut : AreCutBy why old.reads new.reads old.files new.files
+  pub reads : Counts old.reads new.reads
+  pub counts : Counts old.files new.files
+  pub honest : new.honest ≡ old.honest
+
+-- ---- what a run leaves
+
+-- The writers and the folder hold what is left. (The status, standard output and standard error before and after, and the files after.)
+abbrev pub LeavesBehind : {W E F : Type 0} → SinkOf W → SinkOf E → FilesOf F → Left → ℕ → W → W → E → E → F → Type 0
+LeavesBehind sink errors files left status out out' err err' held' =
+    LeftStands left status (files.folder held') (sink.contents out) (sink.contents out') (errors.faults err) (errors.faults err') (errors.contents err) (errors.contents err')
