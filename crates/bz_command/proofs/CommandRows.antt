@@ -40,7 +40,6 @@ if_listed : (row : CommandRow) (t : Bool) (one other : Read) → ReadsAsListed r
 if_listed row true one other h k = h
 if_listed row false one other h k = k
 
-
 -- ---- each command, by a row that its operations are listed in
 
 new_listed : (row : CommandRow) → ((kind name : Bytes) (place : Place) → IsAsListed row (w.Rule (wr.New kind name place)))
@@ -172,26 +171,88 @@ row_at place = get_or command_rows place (record { name = []; subjects = []; is_
 
 -- All of a row is computed.
 pub commands_are_listed : CommandsAreListed
-commands_are_listed =
-    (refl, new_listed (row_at 0) (λ kind name place. (refl, refl, refl, refl)),
-    (refl, delete_listed (row_at 1) (refl, refl, refl, refl),
-    (refl, set_listed (row_at 2) (λ kind. (refl, refl, refl, refl)) (λ attribute values. (refl, refl, refl, refl)),
-    (refl, set_if_absent_listed (row_at 3) (λ attribute values. (refl, refl, refl, refl)),
-    (refl, add_listed (row_at 4) (λ attribute values. (refl, refl, refl, refl)),
-    (refl, remove_listed (row_at 5) (λ attributes. (refl, refl, refl, refl)) (λ attribute values. (refl, refl, refl, refl)),
-    (refl, replace_listed (row_at 6) (λ attributes old new. (refl, refl, refl, refl)),
-    (refl, substitute_listed (row_at 7) (λ attributes pattern template. (refl, refl, refl, refl)),
-    (refl, move_listed (row_at 8) (λ from to values. (refl, refl, refl, refl)),
-    (refl, rename_listed (row_at 9) (λ from to. (refl, refl, refl, refl)),
-    (refl, copy_listed (row_at 10) (λ attribute rule. (refl, refl, refl, refl)),
-    (refl, copy_no_overwrite_listed (row_at 11) (λ attribute rule. (refl, refl, refl, refl)),
-    (refl, entries_listed (row_at 12) (λ attribute entries. w.Dict (wd.Add attribute entries)) (λ attribute entries. (refl, refl, refl, refl)),
-    (refl, entries_listed (row_at 13) (λ attribute entries. w.Dict (wd.Set attribute entries)) (λ attribute entries. (refl, refl, refl, refl)),
-    (refl, dict_remove_listed (row_at 14) (λ attribute keys. (refl, refl, refl, refl)),
-    (refl, new_load_listed (row_at 15) (λ path symbols. (refl, refl, refl, refl)),
-    (refl, comment_listed (row_at 16) (λ host text. (refl, refl, refl, refl)),
-    (refl, (λ words. made_listed (row_at 17) (λ host. w.Comment (wc.Print host)) (c.host_of words) (λ host. (refl, refl, refl, refl))),
-    (refl, (λ words. made_listed (row_at 18) (λ host. w.Comment (wc.Remove host)) (c.host_of words) (λ host. (refl, refl, refl, refl))),
-    (refl, (λ words. made_listed (row_at 19) (λ fixes. w.Load (wl.Fix fixes)) (c.fixes_of words) (λ fixes. (refl, refl, refl, refl))),
-    (refl, (λ words. made_listed (row_at 20) (λ fields. w.Print fields) (c.fields_of words) (λ fields. (refl, refl, refl, refl))),
-    tt)))))))))))))))))))))
+commands_are_listed = (
+  refl,
+  new_listed (row_at 0) (λ kind name place. (refl, refl, refl, refl)),
+  (
+    refl,
+    delete_listed (row_at 1) (refl, refl, refl, refl),
+    (
+      refl,
+      set_listed (row_at 2) (λ kind. (refl, refl, refl, refl)) (λ attribute values. (refl, refl, refl, refl)),
+      (
+        refl,
+        set_if_absent_listed (row_at 3) (λ attribute values. (refl, refl, refl, refl)),
+        (
+          refl,
+          add_listed (row_at 4) (λ attribute values. (refl, refl, refl, refl)),
+          (
+            refl,
+            remove_listed (row_at 5) (λ attributes. (refl, refl, refl, refl)) (λ attribute values. (refl, refl, refl, refl)),
+            (
+              refl,
+              replace_listed (row_at 6) (λ attributes old new. (refl, refl, refl, refl)),
+              (
+                refl,
+                substitute_listed (row_at 7) (λ attributes pattern template. (refl, refl, refl, refl)),
+                (
+                  refl,
+                  move_listed (row_at 8) (λ from to values. (refl, refl, refl, refl)),
+                  (
+                    refl,
+                    rename_listed (row_at 9) (λ from to. (refl, refl, refl, refl)),
+                    (
+                      refl,
+                      copy_listed (row_at 10) (λ attribute rule. (refl, refl, refl, refl)),
+                      (
+                        refl,
+                        copy_no_overwrite_listed (row_at 11) (λ attribute rule. (refl, refl, refl, refl)),
+                        (
+                          refl,
+                          entries_listed (row_at 12) (λ attribute entries. w.Dict (wd.Add attribute entries)) (λ attribute entries. (refl, refl, refl, refl)),
+                          (
+                            refl,
+                            entries_listed (row_at 13) (λ attribute entries. w.Dict (wd.Set attribute entries)) (λ attribute entries. (refl, refl, refl, refl)),
+                            (
+                              refl,
+                              dict_remove_listed (row_at 14) (λ attribute keys. (refl, refl, refl, refl)),
+                              (
+                                refl,
+                                new_load_listed (row_at 15) (λ path symbols. (refl, refl, refl, refl)),
+                                (
+                                  refl,
+                                  comment_listed (row_at 16) (λ host text. (refl, refl, refl, refl)),
+                                  (
+                                    refl,
+                                    (λ words. made_listed (row_at 17) (λ host. w.Comment (wc.Print host)) (c.host_of words) (λ host. (refl, refl, refl, refl))),
+                                    (
+                                      refl,
+                                      (λ words. made_listed (row_at 18) (λ host. w.Comment (wc.Remove host)) (c.host_of words) (λ host. (refl, refl, refl, refl))),
+                                      (
+                                        refl,
+                                        (λ words. made_listed (row_at 19) (λ fixes. w.Load (wl.Fix fixes)) (c.fixes_of words) (λ fixes. (refl, refl, refl, refl))),
+                                        (
+                                          refl,
+                                          (λ words. made_listed (row_at 20) (λ fields. w.Print fields) (c.fields_of words) (λ fields. (refl, refl, refl, refl))),
+                                          tt,
+                                        ),
+                                      ),
+                                    ),
+                                  ),
+                                ),
+                              ),
+                            ),
+                          ),
+                        ),
+                      ),
+                    ),
+                  ),
+                ),
+              ),
+            ),
+          ),
+        ),
+      ),
+    ),
+  ),
+)
