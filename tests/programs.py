@@ -2,12 +2,12 @@
 """Runs each program on each folder of tests/PROGRAM, and compares what the process leaves, byte for byte.
 
 A folder has the words (args, one a line) and standard input (stdin), and what must come: standard output (stdout),
-standard error (stderr) and the status. A file that is not there is empty, and the status then 0. Each program is built
-once, by rt try, with no proof: what the engine does is proved, and here it is seen that main hands it the words and the
-streams, and passes its status on. A line for each failure; the last one is 'N passed, M failed'.
+standard error (stderr) and the status. A file that is not there is empty, and the status then 0. What the engine does is
+proved, and here it is seen that main hands it the words and the streams, and passes its status on. Each program is built
+once, by rt try, with no proof. A line for each failure; the last one is 'N passed, M failed'.
 
-With a command after it, as 'tests/programs.py rt ci', that runs beside, and the last line adds its last line's numbers; the
-programs that it built then run over real files: buildifier over single ones (tests/files.py), buildozer over packages
+With a command after it, as 'tests/programs.py rt ci', that runs first, and the last line adds its last line's numbers; the
+programs that it built then run on these folders, and over real files: buildifier over single ones (tests/files.py), buildozer over packages
 (tests/workspace.py), both through the examples of README.md and the pages beside it (tests/readme.py) and through what contrib/ has
 for git, CI and editors (tests/contrib.py); the pages for man and the completions are compared with the code and tried in shells
 (tests/manual.py, tests/completions.py), no public name gets a second home (tests/names.py), and both programs are installed and packed (tests/install.py); buildozer runs beside a plain list of texts
@@ -27,7 +27,6 @@ import subprocess
 import sys
 import tempfile
 import time
-from concurrent.futures import ThreadPoolExecutor
 
 import asked
 import bazel
@@ -58,6 +57,8 @@ HEADED = re.compile(r"== \w+")
 # what rt ci reports of a crate, or of its tests, when its proof has ended
 PROVED = re.compile(r"rt: \w+ proved\n")
 NOT_PROVED = re.compile(r"rt: (\w+).* NOT PROVED")
+# the programs that have folders of runs
+PROGRAMS = ("buildozer", "buildifier")
 # how many lines of the report of a crate that is not proved are repeated at the end
 REPEATED = 20
 # what runs the built programs: the name of it, the script with its scenes, and the programs that they take
@@ -87,8 +88,23 @@ def content(file, default=b""):
     return file.read_bytes() if file.exists() else default
 
 
-def results(program, folders):
-    """Runs a program on all, and gives for each name how the run ended with its status, standard output and standard error."""
+def results_of_built(program, folders):
+    """Runs a program that was built on all, each in an empty folder, and gives for each name how the run ended with its status, standard
+    output and standard error."""
+    found, built = {}, TOP / "crates" / program / "out" / program
+    if not built.exists():
+        print(f"{program} was not built", flush=True)
+        return found
+    for folder in folders:
+        words = [built, *content(folder / "args").decode().splitlines()]
+        with tempfile.TemporaryDirectory() as empty:
+            run = subprocess.run(words, cwd=empty, input=content(folder / "stdin"), capture_output=True, timeout=60)
+        found[folder.name] = b"ended %d" % run.returncode, run.stdout, run.stderr
+    return found
+
+
+def results_of_tried(program, folders):
+    """The same of a program that rt try builds."""
     with tempfile.TemporaryDirectory() as cases:
         for folder in folders:
             pathlib.Path(cases, folder.name).write_bytes(content(folder / "stdin"))
@@ -159,7 +175,7 @@ def counts_of(command, start):
     return passed, max(failed, 1) if run.returncode else failed, []
 
 
-def run_folders(program):
+def run_folders(program, results):
     """Runs a program on its folders, and gives how many runs passed and failed; none of them is a failure."""
     folders = sorted(folder for folder in (TOP / "tests" / program).iterdir() if folder.is_dir())
     found = results(program, folders)
@@ -189,6 +205,7 @@ def run_gate(command, start):
     if report:
         print("".join(report) + "what comes after this crate was not tried", flush=True)
         return counts
+    counts.append(run_programs(results_of_built))
     for name, script, programs in SCRIPTS:
         counts.append(run_scenes(script, programs))
         print("{}: {} passed, {} failed".format(name, *counts[-1]), flush=True)
@@ -207,9 +224,9 @@ def given_away(before):
     return round(100 * taken / max(had + taken, 1))
 
 
-def run_programs():
+def run_programs(results):
     """Runs both programs on their folders, and gives how many runs passed and failed."""
-    counts = [run_folders(program) for program in ("buildozer", "buildifier")]
+    counts = [run_folders(program, results) for program in PROGRAMS]
     passed, failed = map(sum, zip(*counts))
     print(f"runs of the programs: {passed} passed, {failed} failed", flush=True)
     return passed, failed
@@ -217,11 +234,8 @@ def run_programs():
 
 def main():
     start, before = time.monotonic(), processor_times()
-    # These runs take a processor or two for some minutes, and the first proofs leave as many.
-    with ThreadPoolExecutor(1) as beside:
-        runs = beside.submit(run_programs)
-        counts = run_gate(sys.argv[1:], start) if sys.argv[1:] else []
-        passed, failed = map(sum, zip(runs.result(), *counts))
+    counts = run_gate(sys.argv[1:], start) if sys.argv[1:] else [run_programs(results_of_tried)]
+    passed, failed = map(sum, zip(*counts))
     processors = len(os.sched_getaffinity(0))
     print(f"the whole: {minutes_since(start)} on {processors} processors, {given_away(before)} % of their time given to others")
     print(f"{passed} passed, {failed} failed")
