@@ -9,7 +9,7 @@ use Rattle.bz_tree.specs.Shapes.{is_kind}
 use Rattle.bz_value.specs.declared.value.Expr.{Expr, Token, Form'}
 use Rattle.bz_rule.specs.Values.{has_kind, parts_of, items_of}
 use Rattle.bz_value.specs.Empty.{is_empty}
-use Rattle.bz_attribute.specs.Lists.{has_lists, items_in}
+use Rattle.bz_attribute.specs.Lists.{has_lists, items_in, listed}
 
 some_step : {X : Type 0} (b c : Bool) (x : X) (xs : List X) → not (is_empty xs) ≡ c → not (is_empty (if b then x ∷ xs else xs)) ≡ (b || c)
 some_step true c x xs h = refl
@@ -26,10 +26,6 @@ lists_by false false value ps = refl
 
 pub lists_there : (value : Expr) → has_lists value ≡ (has_kind k.List value || (has_kind k.Sum value && list_any (has_kind k.List) (parts_of value)))
 lists_there value = lists_by (has_kind k.List value) (has_kind k.Sum value) value (parts_of value)
-
--- the items of a list, and none of what is no list
-abbrev listed : Expr → List Expr
-listed x = if has_kind k.List x then items_of x else []
 
 -- a sum is no list
 sum_kind : (kind : Kind) → is_kind kind k.Sum ≡ true → is_kind kind k.List ≡ false

@@ -65,7 +65,7 @@ list_new : (items : List Expr) → AreOf s.test items → IsNew (list_of items)
 list_new items h = record {
   proper = λ here.
       form_proper here (record { kind = k.List; parts = []; seq = record { items = items; end_ = []; split = false }; open_ = false; comments = no_comments })
-      (refl, items_again s.test s.close_square (r.mark 93) refl items h) (tt, each_item s.test s.close_square (r.mark 93) items h, All-nil IsComment, refl);
+      (refl, items_again s.test s.close_square (r.mark_leaf 93) refl items h) (tt, each_item s.test s.close_square (r.mark_leaf 93) items h, All-nil IsComment, refl);
   comments = refl;
   breaks = refl;
 }
@@ -149,8 +149,8 @@ call_new : (function argument : Expr) → IsFunction function → IsItem s.argum
 call_new function argument f a = record {
   proper = λ here.
       form_proper here (record { kind = k.Call; parts = function ∷ []; seq = record { items = argument ∷ []; end_ = []; split = false }; open_ = false; comments = no_comments })
-      (f.2, (refl, items_again s.argument s.close_round (r.mark 41) refl (argument ∷ []) (a, tt)))
-      ((f.0 here, f.1, tt), each_item s.argument s.close_round (r.mark 41) (argument ∷ []) (a, tt), All-nil IsComment, refl);
+      (f.2, (refl, items_again s.argument s.close_round (r.mark_leaf 41) refl (argument ∷ []) (a, tt)))
+      ((f.0 here, f.1, tt), each_item s.argument s.close_round (r.mark_leaf 41) (argument ∷ []) (a, tt), All-nil IsComment, refl);
   comments = refl;
   breaks = refl;
 }
@@ -181,7 +181,7 @@ made_rule kind word h u =
 abbrev IsOperand : Expr → Type 0
 IsOperand x = (ProperExpr Within x × (comments_of x ≡ no_comments) × (has_break x ≡ false)) × IsSort (s.level 2) (root x)
 
-tight_kind : (kind : Kind) → is_kind kind k.Sum ≡ false → nat_lt (rank k.Sum) (rank kind) ≡ false → s.has_kind s.test kind ≡ true → s.has_kind (s.level 2) kind ≡ true
+tight_kind : (kind : Kind) → is_kind kind k.Sum ≡ false → nat_lt (rank k.Sum) (rank kind) ≡ false → s.sort_has_kind s.test kind ≡ true → s.sort_has_kind (s.level 2) kind ≡ true
 tight_kind k.Sum n t h = absurd (true≢false n)
 tight_kind k.Shift n t h = absurd (true≢false t)
 tight_kind k.BitAnd n t h = absurd (true≢false t)

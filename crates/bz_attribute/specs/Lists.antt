@@ -20,6 +20,10 @@ lists_of value = if has_kind k.List value then value ∷ [] else (if has_kind k.
 abbrev pub has_lists : Expr → Bool
 has_lists value = not (is_empty (lists_of value))
 
+-- the items of a list, and none of what is no list
+abbrev pub listed : Expr → List Expr
+listed x = if has_kind k.List x then items_of x else []
+
 abbrev pub items_in : Expr → List Expr
 items_in value = flat_map items_of (lists_of value)
 

@@ -18,7 +18,7 @@ use Rattle.bz_rule.proofs.ProperItems.{IsValue}
 use Rattle.bz_attribute.specs.Made.{token, string_text}
 use Rattle.bz_change.specs.declared.settings.Setting.{Setting}
 use Rattle.bz_change.specs.declared.settings.Setting.TheVariants.{One, Many}
-use Rattle.bz_change.specs.Changes.{is_constant, is_decimal, single, setting, value_of}
+use Rattle.bz_change.specs.Changes.{is_constant, is_decimal, single_setting, setting, value_of}
 use Rattle.bz_attribute.proofs.ProperMade.{token_new, new_value, list_value, string_value, string_strung, texts_are_items}
 
 -- ---- what is set
@@ -43,7 +43,7 @@ digits : (word : Bytes) → is_decimal word ≡ true → IsDigits word
 digits [] h = absurd (true≢false (sym h))
 digits (byte ∷ word) h = let w = and_parts (nat_lt 0 (length (byte ∷ word))) (all_ascii_digits (byte ∷ word)) h in each_digit (byte ∷ word) w.1
 
-single_value : (current attribute word : Bytes) → IsUtf8 word → IsValue (value_of (single current attribute word))
+single_value : (current attribute word : Bytes) → IsUtf8 word → IsValue (value_of (single_setting current attribute word))
 single_value current attribute word u =
     let set : Setting → Type 0 = λ made. IsValue (value_of made) in
     by_case set (is_constant word) (One c.Name word) (if is_decimal word then One c.Number word else One c.String (string_text current attribute word))
@@ -64,6 +64,6 @@ many_value current attribute words u =
 pub setting_value : (current attribute : Bytes) (words : List Bytes) → AreUtf8 words → IsValue (value_of (setting current attribute words))
 setting_value current attribute [] u = many_value current attribute [] u
 setting_value current attribute (word ∷ []) u =
-    by_test (λ (made : Setting). IsValue (value_of made)) (is_list_attribute attribute) (Many (string_text current attribute word ∷ [])) (single current attribute word)
+    by_test (λ (made : Setting). IsValue (value_of made)) (is_list_attribute attribute) (Many (string_text current attribute word ∷ [])) (single_setting current attribute word)
     (many_value current attribute (word ∷ []) u) (single_value current attribute word u.0)
 setting_value current attribute (word ∷ other ∷ words) u = many_value current attribute (word ∷ other ∷ words) u

@@ -28,13 +28,13 @@ is_constant word = bytes_eq word (codes "True") || (bytes_eq word (codes "False"
 abbrev pub is_decimal : Bytes → Bool
 is_decimal word = nat_lt 0 (length word) && all_ascii_digits word
 
-abbrev pub single : Bytes → Bytes → Bytes → Setting
-single current attribute word =
+abbrev pub single_setting : Bytes → Bytes → Bytes → Setting
+single_setting current attribute word =
     if is_constant word then One c.Name word else (if is_decimal word then One c.Number word else One c.String (string_text current attribute word))
 
 -- The value becomes a list of strings where the attribute is a list attribute or there are two or more words.
 abbrev pub setting : Bytes → Bytes → List Bytes → Setting
-setting current attribute (word ∷ []) = if is_list_attribute attribute then Many (string_text current attribute word ∷ []) else single current attribute word
+setting current attribute (word ∷ []) = if is_list_attribute attribute then Many (string_text current attribute word ∷ []) else single_setting current attribute word
 setting current attribute words = Many (map (string_text current attribute) words)
 
 abbrev pub value_of : Setting → Expr

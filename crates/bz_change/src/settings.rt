@@ -6,7 +6,7 @@ ghost use Rattle.bz_token.specs.declared.class.Class.TheVariants as c;
 ghost use Rattle.bz_tree.specs.declared.kind.Kind.TheVariants as k;
 ghost use Rattle.bz_rule.specs.Values.{has_kind, has_class, text_of, items_of};
 ghost use Rattle.bz_attribute.specs.Made.{token, string_text};
-ghost use Rattle.bz_change.specs.Changes.{is_constant, is_decimal, single, setting, value_of, are_texts, is_set};
+ghost use Rattle.bz_change.specs.Changes.{is_constant, is_decimal, single_setting, setting, value_of, are_texts, is_set};
 
 use bz_attribute::{list_of, string_text, token};
 use bz_items::{Items, Memory, Text};
@@ -45,8 +45,13 @@ fn is_decimal(word: &[u8]) -> bool
 }
 
 /// What `set` makes of one word, in an attribute that takes no list.
-fn single(alloc: Global, current: &[u8], attribute: &[u8], word: &[u8]) -> Result<Setting, Memory>
-    ensures { IfOk result (λ made. made ≡ single current.now attribute.now word.now) }
+fn single_setting(
+    alloc: Global,
+    current: &[u8],
+    attribute: &[u8],
+    word: &[u8],
+) -> Result<Setting, Memory>
+    ensures { IfOk result (λ made. made ≡ single_setting current.now attribute.now word.now) }
 {
     if is_constant(word) {
         return Ok(Setting::One(Class::Name, Text::from_slice(alloc, word)?));
@@ -86,7 +91,7 @@ pub(crate) fn setting_of(
     if let [word] = words
         && !is_list_attribute(attribute)
     {
-        return single(alloc, current, attribute, word.as_slice());
+        return single_setting(alloc, current, attribute, word.as_slice());
     }
     let texts = string_texts(alloc, current, attribute, words)?;
     Ok(Setting::Many(texts))

@@ -4,13 +4,13 @@ use Rattle.std.specs.Prelude.{if◌then◌else◌}
 use Rattle.std.specs.Option.{ok_or, option_map_or}
 use Rattle.bz_items.specs.Characters.{Bytes}
 use Rattle.bz_words.specs.Words.{is_nonempty}
-use Rattle.bz_words.specs.Identifiers.{is_identifier, is_kind}
+use Rattle.bz_words.specs.Identifiers.{is_identifier, is_rule_kind}
 use Rattle.bz_words.specs.Commands as c
-use Rattle.bz_words.specs.Commands.{Read}
+use Rattle.bz_words.specs.Commands.{ReadCommand}
 use Rattle.bz_words.specs.declared.command.Attributes.{Attributes}
 use Rattle.bz_words.specs.declared.command.Entry.{Entry}
 use Rattle.bz_words.specs.declared.command.Host.{Host}
-use Rattle.bz_words.specs.declared.command.Place.{Place}
+use Rattle.bz_words.specs.declared.command.RulePlace.{RulePlace}
 use Rattle.bz_words.specs.declared.command.Symbol.{Symbol}
 use Rattle.bz_words.specs.declared.command.Values.{Values}
 use Rattle.bz_words.specs.declared.command.Operation.{Operation}
@@ -35,19 +35,19 @@ made_listed : {X : Type 0} (row : CommandRow) (make : X → Operation) (o : Opti
 made_listed row make (Some x) h = h x
 made_listed row make None h = tt
 
-if_listed : (row : CommandRow) (t : Bool) (one other : Read) → ReadsAsListed row one → ReadsAsListed row other
+if_listed : (row : CommandRow) (t : Bool) (one other : ReadCommand) → ReadsAsListed row one → ReadsAsListed row other
     → ReadsAsListed row (if t then one else other)
 if_listed row true one other h k = h
 if_listed row false one other h k = k
 
 -- ---- each command, by a row that its operations are listed in
 
-new_listed : (row : CommandRow) → ((kind name : Bytes) (place : Place) → IsAsListed row (w.Rule (wr.New kind name place)))
+new_listed : (row : CommandRow) → ((kind name : Bytes) (place : RulePlace) → IsAsListed row (w.Rule (wr.New kind name place)))
     → (words : List Bytes) → ReadsAsListed row (c.new_of words)
 new_listed row h [] = tt
 new_listed row h (kind ∷ []) = tt
 new_listed row h (kind ∷ name ∷ words) =
-    if_listed row (is_kind kind) _ _ (made_listed row (λ place. w.Rule (wr.New kind name place)) (c.place_of words) (h kind name)) tt
+    if_listed row (is_rule_kind kind) _ _ (made_listed row (λ place. w.Rule (wr.New kind name place)) (c.rule_place words) (h kind name)) tt
 
 delete_listed : (row : CommandRow) → IsAsListed row (w.Rule wr.Delete) → (words : List Bytes) → ReadsAsListed row (c.delete_of words)
 delete_listed row h [] = h
@@ -55,7 +55,7 @@ delete_listed row h (word ∷ words) = tt
 
 set_kind_listed : (row : CommandRow) → ((kind : Bytes) → IsAsListed row (w.Rule (wr.SetKind kind))) → (words : List Bytes) → ReadsAsListed row (c.set_kind_of words)
 set_kind_listed row h [] = tt
-set_kind_listed row h (kind ∷ []) = given_listed row (is_kind kind) (w.Rule (wr.SetKind kind)) (h kind)
+set_kind_listed row h (kind ∷ []) = given_listed row (is_rule_kind kind) (w.Rule (wr.SetKind kind)) (h kind)
 set_kind_listed row h (kind ∷ more ∷ words) = tt
 
 set_listed : (row : CommandRow) → ((kind : Bytes) → IsAsListed row (w.Rule (wr.SetKind kind)))
@@ -134,7 +134,7 @@ copy_no_overwrite_listed row h (attribute ∷ rule ∷ []) =
 copy_no_overwrite_listed row h (attribute ∷ rule ∷ more ∷ words) = tt
 
 entries_listed : (row : CommandRow) (operation : Bytes → List Entry → Operation) → ((attribute : Bytes) (entries : List Entry) → IsAsListed row (operation attribute entries))
-    → (words : List Bytes) → ReadsAsListed row (c.entries_of operation words)
+    → (words : List Bytes) → ReadsAsListed row (c.dict_entries_of operation words)
 entries_listed row operation h [] = tt
 entries_listed row operation h (attribute ∷ words) =
     if_listed row (is_identifier attribute && is_nonempty words) _ _ (made_listed row (operation attribute) (c.each_of c.entry_of words) (h attribute)) tt

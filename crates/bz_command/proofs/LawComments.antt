@@ -21,8 +21,8 @@ use Rattle.bz_words.specs.declared.command.ValueOperation.TheVariants as wv
 use Rattle.bz_words.specs.declared.command.DictOperation.TheVariants as wd
 use Rattle.bz_words.specs.declared.command.LoadOperation.TheVariants as wl
 use Rattle.bz_words.specs.declared.command.CommentOperation.TheVariants as wc
-use Rattle.bz_words.specs.declared.command.Place.{Place}
-use Rattle.bz_words.specs.declared.command.Place.TheVariants.{End, Before, After}
+use Rattle.bz_words.specs.declared.command.RulePlace.{RulePlace}
+use Rattle.bz_words.specs.declared.command.RulePlace.TheVariants.{End, Before, After}
 use Rattle.bz_words.specs.declared.command.Attributes.{Attributes}
 use Rattle.bz_words.specs.declared.command.Attributes.TheVariants as t
 use Rattle.bz_rule.specs.Rules.{Call, Rule as RuleRead, only, form_in, called, named, dotted_name, rule_of, attribute, has_name}
@@ -34,7 +34,7 @@ use Rattle.bz_attribute.specs.Attributes.{is_attribute, has_attribute, is_other_
 use Rattle.bz_attribute.specs.Attributes.{Arguments}
 use Rattle.bz_change.specs.Changes.{value_of, setting, is_set, set, set_if_absent, rename, copy, copy_no_overwrite}
 use Rattle.bz_list.specs.Changes.{with_items_added, add, in_value, in_attributes, replaced_item, replace, with_body, substituted_item, substitute}
-use Rattle.bz_command.specs.Effect.{NewItem, with_arguments, made_of, on_rule, on_arguments, behind_item, on_meant, before_first, behind_first, placed, has_place, with_rule, source, on_rules, lacks_rules, kept, on_statement, effect}
+use Rattle.bz_command.specs.Effect.{NewItem, with_arguments, made_of, on_rule, on_arguments, with_item_first, on_meant, before_first, after_rule, placed, has_rule_place, with_rule, source, on_rules, lacks_rules, kept, on_statement, effect}
 use Rattle.bz_words.specs.declared.command.Host.{Host}
 use Rattle.bz_words.specs.declared.command.Host.TheVariants.{Rule, Attribute, Item as ItemHost}
 use Rattle.bz_words.specs.Printing.{prints}
@@ -203,7 +203,7 @@ module _ (number : Bytes → ℕ) where
   abbrev MadeItems : List Item → Result (List Item) Refusal → Type 0
   MadeItems items result = IfOk result (λ new. total size items ≤ total size new)
 
-  behind_keeps : (item : Item) (items : List Item) (one : NewItem) (rest : Result (List Item) Refusal) → MadeItem item one → MadeItems items rest → MadeItems (item ∷ items) (behind_item one rest)
+  behind_keeps : (item : Item) (items : List Item) (one : NewItem) (rest : Result (List Item) Refusal) → MadeItem item one → MadeItems items rest → MadeItems (item ∷ items) (with_item_first one rest)
   behind_keeps item items (Err refusal) rest h g = tt
   behind_keeps item items (Ok new) (Err refusal) h g = tt
   behind_keeps item items (Ok new) (Ok news) h g = both_at_most (size item) (size new) (total size items) (total size news) h g
@@ -222,22 +222,22 @@ module _ (number : Bytes → ℕ) where
       (last_at_most (size new) (total size (item ∷ items)))
       (both_at_most (size item) (size item) (total size items) (total size (before_first rule new items)) (itself (size item)) (before_grows rule new items))
 
-  behind_grows : (rule : Bytes) (new : Item) → EachGrows size (behind_first rule new)
+  behind_grows : (rule : Bytes) (new : Item) → EachGrows size (after_rule rule new)
   behind_grows rule new [] = itself 0
   behind_grows rule new (item ∷ items) =
-      by_test (λ (all : List Item). total size (item ∷ items) ≤ total size all) (has_name rule item) (item ∷ new ∷ items) (item ∷ behind_first rule new items)
+      by_test (λ (all : List Item). total size (item ∷ items) ≤ total size all) (has_name rule item) (item ∷ new ∷ items) (item ∷ after_rule rule new items)
       (both_at_most (size item) (size item) (total size items) (total size (new ∷ items)) (itself (size item)) (last_at_most (size new) (total size items)))
-      (both_at_most (size item) (size item) (total size items) (total size (behind_first rule new items)) (itself (size item)) (behind_grows rule new items))
+      (both_at_most (size item) (size item) (total size items) (total size (after_rule rule new items)) (itself (size item)) (behind_grows rule new items))
 
-  placed_grows : (place : Place) (new : Item) → EachGrows size (placed place new)
+  placed_grows : (place : RulePlace) (new : Item) → EachGrows size (placed place new)
   placed_grows End new items = append_grows size (new ∷ []) items
   placed_grows (Before rule) new items = before_grows rule new items
   placed_grows (After rule) new items = behind_grows rule new items
 
-  new_keeps : (kind name : Bytes) (place : Place) (items : List Item) → MadeItems items (with_rule kind name place items)
+  new_keeps : (kind name : Bytes) (place : RulePlace) (items : List Item) → MadeItems items (with_rule kind name place items)
   new_keeps kind name place items =
       let new : List Item = placed place (rule_made kind name) items in
-      by_test (MadeItems items) (not (has_place place items)) (Err NoTarget) (if list_any (has_name name) items then Err NameTaken else Ok new) tt
+      by_test (MadeItems items) (not (has_rule_place place items)) (Err NoTarget) (if list_any (has_name name) items then Err NameTaken else Ok new) tt
       (by_test (MadeItems items) (list_any (has_name name) items) (Err NameTaken) (Ok new) tt (placed_grows place (rule_made kind name) items))
 
   commented_keeps : (current : Bytes) (host : Host) (text : Bytes) (marks : List Bool) (items : List Item) → MadeItems items (on_meant (on_arguments (comment current host text)) marks items)

@@ -20,7 +20,7 @@ use Rattle.bz_attribute.specs.declared.refusal.Refusal.{Refusal}
 use Rattle.bz_attribute.specs.declared.refusal.Refusal.TheVariants.{NoTarget}
 use Rattle.bz_command.specs.Effect.{kept, lacks_rules, on_rules}
 use Rattle.bz_command.specs.LinesMatter.{is_by_line, prints_line, prints_lines, LinesMatter}
-use Rattle.bz_command.specs.Printing.{before_rest, if_marked, line_of, lines_behind, printed_one, printed_rules}
+use Rattle.bz_command.specs.Printing.{before_rest, if_marked, item_line, lines_after_item, printed_one, printed_rules}
 use Rattle.bz_command.specs.Targets.{meant, may_mean_none}
 
 neither : (a b : Bool) → (a || b) ≡ false → (a ≡ false) × (b ≡ false)
@@ -74,8 +74,8 @@ rules_same operation current lines others [] items h = refl
 rules_same operation current lines others (mark ∷ marks) [] h = refl
 rules_same operation current lines others (mark ∷ marks) (item ∷ items) h =
     ap₂ before_rest
-    (ap (if_marked mark) (one_same operation current (option_map decimal (line_of lines item)) (option_map decimal (line_of others item)) item h))
-    (rules_same operation current (lines_behind lines item) (lines_behind others item) marks items h)
+    (ap (if_marked mark) (one_same operation current (option_map decimal (item_line lines item)) (option_map decimal (item_line others item)) item h))
+    (rules_same operation current (lines_after_item lines item) (lines_after_item others item) marks items h)
 
 -- ---- the law
 

@@ -22,9 +22,9 @@ use Rattle.bz_words.specs.declared.command.ValueOperation.TheVariants as wv
 use Rattle.bz_words.specs.declared.command.DictOperation.TheVariants as wd
 use Rattle.bz_words.specs.declared.command.LoadOperation.TheVariants as wl
 use Rattle.bz_words.specs.declared.command.CommentOperation.TheVariants as wc
-use Rattle.bz_words.specs.declared.command.Place.{Place}
-use Rattle.bz_words.specs.declared.command.Place.TheVariants.{End, Before, After}
-use Rattle.bz_rule.specs.Rules.{Rule, rule_of, name_of, is_text, has_kind, has_name}
+use Rattle.bz_words.specs.declared.command.RulePlace.{RulePlace}
+use Rattle.bz_words.specs.declared.command.RulePlace.TheVariants.{End, Before, After}
+use Rattle.bz_rule.specs.Rules.{Rule, rule_of, name_of, is_text, is_rule_of_kind, has_name}
 use Rattle.bz_rule.specs.Values.{with_parts, with_items}
 use Rattle.bz_rule.proofs.ProperChanges.{by_test}
 use Rattle.bz_rule.proofs.ProperArguments.{attribute_value}
@@ -43,7 +43,7 @@ use Rattle.bz_load.proofs.ProperLoads.{new_load_keeps, fix_keeps}
 use Rattle.bz_comment.specs.Hosts.{with_comment, without_comments, comment, remove_comment}
 use Rattle.bz_comment.proofs.ProperComments.{comment_keeps, remove_comment_keeps, statement_keeps, remove_statement_keeps}
 use Rattle.bz_command.specs.Printing.{printed_rules}
-use Rattle.bz_command.specs.Effect.{kept, lacks_rules, on_statement as statement_with, NewItem, with_arguments, with_function, made_of, on_rule, on_arguments, behind_item, on_meant, unmarked, before_first, behind_first, placed, has_place, with_rule, on_rules, effect, value_in, source}
+use Rattle.bz_command.specs.Effect.{kept, lacks_rules, on_statement as statement_with, NewItem, with_arguments, with_function, made_of, on_rule, on_arguments, with_item_first, on_meant, unmarked, before_first, after_rule, placed, has_rule_place, with_rule, on_rules, effect, value_in, source}
 use Rattle.bz_attribute.specs.declared.refusal.Refusal.{Refusal}
 use Rattle.bz_attribute.specs.declared.refusal.Refusal.TheVariants.{NoTarget, NameTaken}
 use Rattle.bz_command.specs.Laws.{EffectsStayProper}
@@ -134,14 +134,14 @@ first_marked (false ∷ marks) [] h = tt
 first_marked (true ∷ marks) (item ∷ items) h = (h.0, none_marked marks items)
 first_marked (false ∷ marks) (item ∷ items) h = (h.0, first_marked marks items h.1)
 
-kind_marked : (kind : Bytes) (items : List Item) → Marked (map (has_kind kind) items) items
-kind_marked kind items = all_marked (has_kind kind) (λ item h. some_rule (rule_of item) kind h) items
+kind_marked : (kind : Bytes) (items : List Item) → Marked (map (is_rule_of_kind kind) items) items
+kind_marked kind items = all_marked (is_rule_of_kind kind) (λ item h. some_rule (rule_of item) kind h) items
 
 meant_marked : (which : Which) (lines : List ℕ) (items : List Item) → Marked (meant which lines items) items
 meant_marked t.All lines items = all_marked is_rule (λ item h. h) items
 meant_marked (t.Kind kind) lines items = kind_marked kind items
 meant_marked (t.Line line) lines items = line_marked line lines items
-meant_marked t.Package lines items = first_marked (map (has_kind (codes "package")) items) items (kind_marked (codes "package") items)
+meant_marked t.Package lines items = first_marked (map (is_rule_of_kind (codes "package")) items) items (kind_marked (codes "package") items)
 meant_marked (t.Name name) lines items = all_marked (has_name name) (λ item h. some_named (rule_of item) name h) items
 
 -- ---- the items of the file
@@ -150,7 +150,7 @@ meant_marked (t.Name name) lines items = all_marked (has_name name) (λ item h. 
 abbrev KeepsRules : (Item → NewItem) → Type 0
 KeepsRules change = (item : Item) → is_rule item ≡ true → IsProperItem item → MadeItem (change item)
 
-both_made : (first : NewItem) (rest : Result (List Item) Refusal) → MadeItem first → MadeItems rest → MadeItems (behind_item first rest)
+both_made : (first : NewItem) (rest : Result (List Item) Refusal) → MadeItem first → MadeItems rest → MadeItems (with_item_first first rest)
 both_made (Err refusal) rest h k = tt
 both_made (Ok item) (Err refusal) h k = tt
 both_made (Ok item) (Ok items) h k = (h, k)
@@ -173,18 +173,18 @@ items_before : (rule : Bytes) (new : Item) (items : List Item) → IsProperItem 
 items_before rule new [] n h = tt
 items_before rule new (item ∷ items) n h = by_test AreItems (has_name rule item) (new ∷ item ∷ items) (item ∷ before_first rule new items) (n, h) (h.0, items_before rule new items n h.1)
 
-items_behind : (rule : Bytes) (new : Item) (items : List Item) → IsProperItem new → AreItems items → AreItems (behind_first rule new items)
+items_behind : (rule : Bytes) (new : Item) (items : List Item) → IsProperItem new → AreItems items → AreItems (after_rule rule new items)
 items_behind rule new [] n h = tt
-items_behind rule new (item ∷ items) n h = by_test AreItems (has_name rule item) (item ∷ new ∷ items) (item ∷ behind_first rule new items) (h.0, (n, h.1)) (h.0, items_behind rule new items n h.1)
+items_behind rule new (item ∷ items) n h = by_test AreItems (has_name rule item) (item ∷ new ∷ items) (item ∷ after_rule rule new items) (h.0, (n, h.1)) (h.0, items_behind rule new items n h.1)
 
-placed_items : (place : Place) (new : Item) (items : List Item) → IsProperItem new → AreItems items → AreItems (placed place new items)
+placed_items : (place : RulePlace) (new : Item) (items : List Item) → IsProperItem new → AreItems items → AreItems (placed place new items)
 placed_items End new items n h = all_joined IsProperItem items (new ∷ []) h (n, tt)
 placed_items (Before rule) new items n h = items_before rule new items n h
 placed_items (After rule) new items n h = items_behind rule new items n h
 
-with_rule_made : (kind name : Bytes) (place : Place) (items : List Item) → IsProperItem (rule_made kind name) → AreItems items → MadeItems (with_rule kind name place items)
+with_rule_made : (kind name : Bytes) (place : RulePlace) (items : List Item) → IsProperItem (rule_made kind name) → AreItems items → MadeItems (with_rule kind name place items)
 with_rule_made kind name place items n h =
-    by_test MadeItems (not (has_place place items)) (Err NoTarget) (if list_any (has_name name) items then Err NameTaken else Ok (placed place (rule_made kind name) items)) tt
+    by_test MadeItems (not (has_rule_place place items)) (Err NoTarget) (if list_any (has_name name) items then Err NameTaken else Ok (placed place (rule_made kind name) items)) tt
     (by_test MadeItems (list_any (has_name name) items) (Err NameTaken) (Ok (placed place (rule_made kind name) items)) tt (placed_items place (rule_made kind name) items n h))
 
 -- ---- the value that is copied

@@ -9,7 +9,7 @@ use Rattle.bz_words.specs.declared.command.Operation.{Operation}
 use Rattle.bz_words.specs.declared.command.Operation.TheVariants as w
 use Rattle.bz_words.specs.declared.command.RuleOperation.TheVariants as wr
 use Rattle.bz_attribute.specs.declared.refusal.Refusal.{Refusal}
-use Rattle.bz_command.specs.Effect.{NewItem, behind_item, on_meant, on_each, on_one, on_rules, source_of}
+use Rattle.bz_command.specs.Effect.{NewItem, with_item_first, on_meant, on_each, on_one, on_rules, source_of}
 use Rattle.bz_command.specs.Renewed.{is_in_place, are_bare}
 
 -- what is made of the items, if it isn't refused: bare statements in the places of the marked ones, and the others as they were
@@ -18,7 +18,7 @@ Exchanges marks before made = IfOk made (λ items. are_bare marks items ≡ true
 
 behind_marked :
     (marks : List Bool) (old : Item) (before : List Item) (one : NewItem) (rest : Result (List Item) Refusal)
-    → is_bare old ≡ true → Exchanges marks before rest → Exchanges (true ∷ marks) (old ∷ before) (behind_item one rest)
+    → is_bare old ≡ true → Exchanges marks before rest → Exchanges (true ∷ marks) (old ∷ before) (with_item_first one rest)
 behind_marked marks old before (Err refusal) rest bare exchanges = tt
 behind_marked marks old before (Ok item) (Err refusal) bare exchanges = tt
 behind_marked marks old before (Ok item) (Ok items) bare exchanges =
@@ -26,7 +26,7 @@ behind_marked marks old before (Ok item) (Ok items) bare exchanges =
 
 behind_unmarked :
     (marks : List Bool) (old : Item) (before : List Item) (rest : Result (List Item) Refusal)
-    → Exchanges marks before rest → Exchanges (false ∷ marks) (old ∷ before) (behind_item (Ok old) rest)
+    → Exchanges marks before rest → Exchanges (false ∷ marks) (old ∷ before) (with_item_first (Ok old) rest)
 behind_unmarked marks old before (Err refusal) exchanges = tt
 behind_unmarked marks old before (Ok items) exchanges = λ bare. (refl, exchanges bare)
 

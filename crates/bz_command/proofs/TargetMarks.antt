@@ -7,7 +7,7 @@ use Rattle.bz_value.specs.declared.value.Expr.{Expr}
 use Rattle.bz_value.specs.declared.value.Item.{Item}
 use Rattle.bz_value.specs.declared.value.Item.TheVariants as i
 use Rattle.bz_items.specs.Characters.{Bytes}
-use Rattle.bz_rule.specs.Rules.{Call, Rule, dotted_name, named, has_kind, has_name}
+use Rattle.bz_rule.specs.Rules.{Call, Rule, dotted_name, named, is_rule_of_kind, has_name}
 use Rattle.bz_command.specs.Targets.{is_rule, on_line, first_mark, meant}
 
 abbrev made : List Expr → Bytes → Rule
@@ -41,7 +41,7 @@ first_marks (false ∷ marks) = ap (λ n. suc n) (first_marks marks)
 
 pub as_many : (which : Which) (lines : List ℕ) (items : List Item) → length (meant which lines items) ≡ length items
 as_many t.All lines items = each_marked is_rule items
-as_many (t.Kind kind) lines items = each_marked (has_kind kind) items
+as_many (t.Kind kind) lines items = each_marked (is_rule_of_kind kind) items
 as_many (t.Line line) lines items = line_marks line lines items
-as_many t.Package lines items = first_marks (map (has_kind _) items) ∙ each_marked (has_kind _) items
+as_many t.Package lines items = first_marks (map (is_rule_of_kind _) items) ∙ each_marked (is_rule_of_kind _) items
 as_many (t.Name name) lines items = each_marked (has_name name) items

@@ -17,8 +17,8 @@ use Rattle.bz_words.specs.declared.command.RuleOperation.{RuleOperation}
 use Rattle.bz_words.specs.declared.command.AttributeOperation.{AttributeOperation}
 use Rattle.bz_words.specs.declared.command.LoadOperation.{LoadOperation}
 use Rattle.bz_words.specs.declared.command.CommentOperation.{CommentOperation}
-use Rattle.bz_words.specs.declared.command.Place.{Place}
-use Rattle.bz_words.specs.declared.command.Place.TheVariants.{End, Before, After}
+use Rattle.bz_words.specs.declared.command.RulePlace.{RulePlace}
+use Rattle.bz_words.specs.declared.command.RulePlace.TheVariants.{End, Before, After}
 use Rattle.bz_rule.specs.Rules.{Rule as RuleRead, rule_of, attribute, has_name}
 use Rattle.bz_rule.specs.Values.{with_items, with_parts, on_row, on_first}
 use Rattle.bz_attribute.specs.declared.refusal.Refusal.{Refusal}
@@ -62,15 +62,15 @@ on_rule change (Some rule) item = made_of item (change rule.arguments)
 abbrev pub on_arguments : (List Expr → Arguments) → Item → NewItem
 on_arguments change item = on_rule change (rule_of item) item
 
-abbrev pub behind_item : NewItem → Result (List Item) Refusal → Result (List Item) Refusal
-behind_item (Err refusal) items = Err refusal
-behind_item (Ok item) (Err refusal) = Err refusal
-behind_item (Ok item) (Ok items) = Ok (item ∷ items)
+abbrev pub with_item_first : NewItem → Result (List Item) Refusal → Result (List Item) Refusal
+with_item_first (Err refusal) items = Err refusal
+with_item_first (Ok item) (Err refusal) = Err refusal
+with_item_first (Ok item) (Ok items) = Ok (item ∷ items)
 
 -- The first meant rule that refuses, in file order, decides.
 abbrev pub on_meant : (Item → NewItem) → List Bool → List Item → Result (List Item) Refusal
-on_meant change (true ∷ marks) (item ∷ items) = behind_item (change item) (on_meant change marks items)
-on_meant change (false ∷ marks) (item ∷ items) = behind_item (Ok item) (on_meant change marks items)
+on_meant change (true ∷ marks) (item ∷ items) = with_item_first (change item) (on_meant change marks items)
+on_meant change (false ∷ marks) (item ∷ items) = with_item_first (Ok item) (on_meant change marks items)
 on_meant change _ items = Ok items
 
 -- the items without a mark, in order
@@ -85,24 +85,24 @@ abbrev pub before_first : Bytes → Item → List Item → List Item
 before_first rule new [] = []
 before_first rule new (item ∷ items) = if has_name rule item then new ∷ item ∷ items else item ∷ before_first rule new items
 
-abbrev pub behind_first : Bytes → Item → List Item → List Item
-behind_first rule new [] = []
-behind_first rule new (item ∷ items) = if has_name rule item then item ∷ new ∷ items else item ∷ behind_first rule new items
+abbrev pub after_rule : Bytes → Item → List Item → List Item
+after_rule rule new [] = []
+after_rule rule new (item ∷ items) = if has_name rule item then item ∷ new ∷ items else item ∷ after_rule rule new items
 
-abbrev pub placed : Place → Item → List Item → List Item
+abbrev pub placed : RulePlace → Item → List Item → List Item
 placed End new items = items ++ new ∷ []
 placed (Before rule) new items = before_first rule new items
-placed (After rule) new items = behind_first rule new items
+placed (After rule) new items = after_rule rule new items
 
 -- the rule after `before` or `after` is there
-abbrev pub has_place : Place → List Item → Bool
-has_place End items = true
-has_place (Before rule) items = list_any (has_name rule) items
-has_place (After rule) items = list_any (has_name rule) items
+abbrev pub has_rule_place : RulePlace → List Item → Bool
+has_rule_place End items = true
+has_rule_place (Before rule) items = list_any (has_name rule) items
+has_rule_place (After rule) items = list_any (has_name rule) items
 
-abbrev pub with_rule : Bytes → Bytes → Place → List Item → Result (List Item) Refusal
+abbrev pub with_rule : Bytes → Bytes → RulePlace → List Item → Result (List Item) Refusal
 with_rule kind name place items =
-    if not (has_place place items) then Err NoTarget
+    if not (has_rule_place place items) then Err NoTarget
     else (if list_any (has_name name) items then Err NameTaken else Ok (placed place (rule_made kind name) items))
 
 -- ---- all commands
@@ -140,9 +140,9 @@ on_statement change (i.Block lines) = i.Block lines
 on_statement change (i.Stmt x) = i.Stmt (change x)
 
 -- The comments of the rule itself are those of its statement; those of any other host stand among its arguments.
-abbrev pub on_host : Host → (Expr → Expr) → NewItem → Item → NewItem
-on_host Rule change others item = Ok (on_statement change item)
-on_host _ change others item = others
+abbrev pub on_host_of_item : Host → (Expr → Expr) → NewItem → Item → NewItem
+on_host_of_item Rule change others item = Ok (on_statement change item)
+on_host_of_item _ change others item = others
 
 -- the commands on the rule itself
 abbrev pub rule_changed : RuleOperation → Item → NewItem
@@ -152,9 +152,9 @@ rule_changed (wr.SetKind kind) item = Ok (with_function (function_of kind) item)
 
 -- the commands on comments, of the rule itself and among its arguments
 abbrev pub rule_commented : CommentOperation → Bytes → Item → NewItem
-rule_commented (wc.Add host text) current item = on_host host (with_comment text) (on_arguments (comment current host text) item) item
+rule_commented (wc.Add host text) current item = on_host_of_item host (with_comment text) (on_arguments (comment current host text) item) item
 rule_commented (wc.Print host) current item = Ok item
-rule_commented (wc.Remove host) current item = on_host host without_comments (on_arguments (remove_comment current host) item) item
+rule_commented (wc.Remove host) current item = on_host_of_item host without_comments (on_arguments (remove_comment current host) item) item
 
 -- what a command makes of a rule that it is meant for
 abbrev pub on_one : Operation → Bytes → Option Expr → Item → NewItem

@@ -43,20 +43,20 @@ before_rest (Ok text) (Ok rest) = Ok (text ++ rest)
 
 -- the line on which an item begins, by the lines of the statements from it on: a Block is on no line, and a statement past the
 -- list's end on none
-abbrev pub line_of : List ℕ → Item → Option ℕ
-line_of lines (i.Block comments) = None
-line_of [] (i.Stmt x) = None
-line_of (line ∷ lines) (i.Stmt x) = Some line
+abbrev pub item_line : List ℕ → Item → Option ℕ
+item_line lines (i.Block comments) = None
+item_line [] (i.Stmt x) = None
+item_line (line ∷ lines) (i.Stmt x) = Some line
 
 -- the lines of the statements behind it
-abbrev pub lines_behind : List ℕ → Item → List ℕ
-lines_behind lines (i.Block comments) = lines
-lines_behind [] (i.Stmt x) = []
-lines_behind (line ∷ lines) (i.Stmt x) = lines
+abbrev pub lines_after_item : List ℕ → Item → List ℕ
+lines_after_item lines (i.Block comments) = lines
+lines_after_item [] (i.Stmt x) = []
+lines_after_item (line ∷ lines) (i.Stmt x) = lines
 
 -- What is printed of the rules that are marked, in the order of the file.
 abbrev pub printed_rules : Operation → Bytes → List ℕ → List Bool → List Item → Result Bytes Refusal
 printed_rules operation current lines (mark ∷ marks) (item ∷ items) =
-    before_rest (if_marked mark (printed_one operation current (option_map decimal (line_of lines item)) item))
-    (printed_rules operation current (lines_behind lines item) marks items)
+    before_rest (if_marked mark (printed_one operation current (option_map decimal (item_line lines item)) item))
+    (printed_rules operation current (lines_after_item lines item) marks items)
 printed_rules operation current lines _ _ = Ok []

@@ -14,8 +14,9 @@ use Rattle.bz_value.specs.declared.value.Item.TheVariants as i
 use Rattle.bz_value.specs.Comments.{HostComments, no_comments}
 use Rattle.bz_items.specs.Characters.{Bytes}
 use Rattle.bz_words.specs.declared.command.Operation.{Operation}
-use Rattle.bz_words.specs.Commands.{Read, command_of}
+use Rattle.bz_words.specs.Commands.{ReadCommand, command_of}
 use Rattle.bz_attribute.specs.declared.refusal.Refusal.{Refusal}
+use Rattle.bz_attribute.specs.Made.{mark}
 use Rattle.bz_command.specs.Effect.{effect, printed}
 
 -- ---- expressions
@@ -36,9 +37,6 @@ form kind parts items = commented_form no_comments kind parts items
 abbrev pub name : Bytes → Expr
 name text = token c.Name text
 
-abbrev pub mark : Bytes → Expr
-mark text = token c.Mark text
-
 abbrev pub number : Bytes → Expr
 number text = token c.Number text
 
@@ -53,8 +51,8 @@ abbrev pub string : Bytes → Expr
 string body = literal (between_marks body)
 
 -- OPERAND.NAME
-abbrev pub dot : Expr → Bytes → Expr
-dot operand last = form k.Dot (operand ∷ mark (codes ".") ∷ name last ∷ []) []
+abbrev pub dot_form : Expr → Bytes → Expr
+dot_form operand last = form k.Dot (operand ∷ mark (codes ".") ∷ name last ∷ []) []
 
 -- LEFT + RIGHT
 abbrev pub sum : Expr → Expr → Expr
@@ -82,8 +80,8 @@ call function arguments = form k.Call (function ∷ []) arguments
 
 -- ---- items
 
-abbrev pub above : List Bytes → HostComments
-above comments = record { before = comments; suffix = None }
+abbrev pub comments_above : List Bytes → HostComments
+comments_above comments = record { before = comments; suffix = None }
 
 -- an expression as a statement, under comments and without
 abbrev pub commented_statement : HostComments → Expr → Item
@@ -117,7 +115,7 @@ Made = Option (Result (List Item) Refusal)
 abbrev pub Shown : Type 0
 Shown = Option (Result Bytes Refusal)
 
-abbrev pub effect_of : Read → Which → List Item → Made
+abbrev pub effect_of : ReadCommand → Which → List Item → Made
 effect_of (Err fault) which items = None
 effect_of (Ok operation) which items = Some (effect_on which operation items)
 
@@ -138,7 +136,7 @@ done text arguments = made text (Name (codes "x")) (rule arguments ∷ [])
 abbrev pub leaves : List Expr → Made
 leaves arguments = gives (rule arguments ∷ [])
 
-abbrev pub shown_of : Read → Which → List Item → Shown
+abbrev pub shown_of : ReadCommand → Which → List Item → Shown
 shown_of (Err fault) which items = None
 shown_of (Ok operation) which items = Some (printed operation (target which) (codes "p") (1 ∷ 2 ∷ 3 ∷ []) items)
 
@@ -146,5 +144,5 @@ shown_of (Ok operation) which items = Some (printed operation (target which) (co
 abbrev pub shown : Bytes → Which → List Item → Shown
 shown text which items = shown_of (command_of text) which items
 
-abbrev pub prints : Bytes → Shown
-prints text = Some (Ok text)
+abbrev pub shows_text : Bytes → Shown
+shows_text text = Some (Ok text)

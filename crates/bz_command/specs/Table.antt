@@ -3,7 +3,7 @@
 use Rattle.std.specs.Prelude.{◌≡◌, ℕ, ◌==◌, Bool, true, false, List, [], ◌∷◌, Ok, Err, codes}
 use Rattle.std.specs.List.{list_any}
 use Rattle.bz_items.specs.Characters.{Bytes}
-use Rattle.bz_words.specs.Commands.{Read, commands}
+use Rattle.bz_words.specs.Commands.{ReadCommand, commands}
 use Rattle.bz_words.specs.Printing.{prints}
 use Rattle.bz_words.specs.declared.command.Operation.{Operation}
 use Rattle.bz_words.specs.declared.command.Operation.TheVariants as w
@@ -86,12 +86,12 @@ IsAsListed row operation =
     × (prints operation ≡ row.is_printing) × (looks_at_rules operation ≡ row.is_on_rules) × (keeps_comments operation ≡ row.is_keeping)
 
 -- What a command reads in its words is, where it is an operation.
-abbrev pub ReadsAsListed : CommandRow → Read → Type 0
+abbrev pub ReadsAsListed : CommandRow → ReadCommand → Type 0
 ReadsAsListed row (Ok operation) = IsAsListed row operation
 ReadsAsListed row (Err fault) = Unit {0}
 
 -- Commands, each with what it reads in the words behind its name, have these rows, one by one.
-abbrev pub HaveRows : List (Bytes × (List Bytes → Read)) → List CommandRow → Type 0
+abbrev pub HaveRows : List (Bytes × (List Bytes → ReadCommand)) → List CommandRow → Type 0
 HaveRows [] [] = Unit {0}
 HaveRows [] (row ∷ rows) = ⊥
 HaveRows (command ∷ more) [] = ⊥

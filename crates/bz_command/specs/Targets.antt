@@ -4,7 +4,7 @@ use Rattle.bz_label.specs.declared.target.Which.{Which}
 use Rattle.bz_label.specs.declared.target.Which.TheVariants.{All, Kind, Line, Package, Name}
 use Rattle.bz_value.specs.declared.value.Item.{Item}
 use Rattle.bz_value.specs.declared.value.Item.TheVariants as i
-use Rattle.bz_rule.specs.Rules.{rule_of, has_kind, has_name}
+use Rattle.bz_rule.specs.Rules.{rule_of, is_rule_of_kind, has_name}
 
 abbrev pub is_rule : Item → Bool
 is_rule item = is_some (rule_of item)
@@ -26,9 +26,9 @@ first_mark (false ∷ marks) = false ∷ first_mark marks
 -- of kind `package`.
 abbrev pub meant : Which → List ℕ → List Item → List Bool
 meant All lines items = map is_rule items
-meant (Kind kind) lines items = map (has_kind kind) items
+meant (Kind kind) lines items = map (is_rule_of_kind kind) items
 meant (Line line) lines items = on_line line lines items
-meant Package lines items = first_mark (map (has_kind (codes "package")) items)
+meant Package lines items = first_mark (map (is_rule_of_kind (codes "package")) items)
 meant (Name name) lines items = map (has_name name) items
 
 -- Where none is meant, `all` and `%kind` leave the file unchanged; any other target is refused.

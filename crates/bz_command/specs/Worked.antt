@@ -13,7 +13,7 @@ use Rattle.bz_words.specs.declared.command.RuleOperation.TheVariants as wr
 use Rattle.bz_attribute.specs.declared.refusal.Refusal.TheVariants.{NoTarget}
 use Rattle.bz_rule.specs.Rules.{rule_of}
 use Rattle.bz_attribute.specs.declared.refusal.Refusal.{Refusal}
-use Rattle.bz_command.specs.SmallValues.{above, argument, block, call, commented_statement, dot, effect_on, form, literal, name, token}
+use Rattle.bz_command.specs.SmallValues.{comments_above, argument, block, call, commented_statement, dot_form, effect_on, form, literal, name, token}
 
 -- ---- values
 
@@ -23,7 +23,7 @@ named text = argument (codes "name") (literal text)
 
 -- an expression as a statement under a comment
 abbrev bare : Expr → Item
-bare x = commented_statement (above (codes "# c" ∷ [])) x
+bare x = commented_statement (comments_above (codes "# c" ∷ [])) x
 
 abbrev statement : Bytes → List Expr → Item
 statement kind arguments = bare (call (name kind) arguments)
@@ -61,12 +61,12 @@ x_call = call (name (codes "f")) (named (codes "\"x\"") ∷ [])
 
 -- a.b.c(name = "x")
 abbrev dotted : Item
-dotted = bare (call (dot (dot (name (codes "a")) (codes "b")) (codes "c")) (named (codes "\"x\"") ∷ []))
+dotted = bare (call (dot_form (dot_form (name (codes "a")) (codes "b")) (codes "c")) (named (codes "\"x\"") ∷ []))
 
 -- What is no rule: f().b(name = "x"), x = f(name = "x"), f(name = "x") + 1, f(name = "x")() and load("x").
 abbrev others : List Item
 others =
-    bare (call (dot (call (name (codes "f")) []) (codes "b")) (named (codes "\"x\"") ∷ []))
+    bare (call (dot_form (call (name (codes "f")) []) (codes "b")) (named (codes "\"x\"") ∷ []))
     ∷ i.Stmt (form k.Assign (name (codes "x") ∷ token c.Mark (codes "=") ∷ x_call ∷ []) [])
     ∷ bare (form k.Sum (x_call ∷ token c.Mark (codes "+") ∷ token c.Number (codes "1") ∷ []) [])
     ∷ bare (call x_call [])

@@ -6,7 +6,8 @@ use Rattle.bz_label.specs.declared.target.Which.TheVariants.{All, Name}
 use Rattle.bz_value.specs.declared.value.Expr.{Expr}
 use Rattle.bz_value.specs.declared.value.Item.{Item}
 use Rattle.bz_attribute.specs.declared.refusal.Refusal.TheVariants.{AttributeExists, NoAttribute, NoSource, NoTarget}
-use Rattle.bz_command.specs.SmallValues.{above, argument, between_marks, block, call, commented_token, done, form, gives, leaves, list, literal, made, mark, name, number, refuses, rule, rule_of_kind, statement, string, strings}
+use Rattle.bz_attribute.specs.Made.{mark}
+use Rattle.bz_command.specs.SmallValues.{comments_above, argument, between_marks, block, call, commented_token, done, form, gives, leaves, list, literal, made, name, number, refuses, rule, rule_of_kind, statement, string, strings}
 
 -- size = "small", size = "large", shard_count = 5 and **rest
 abbrev small : Expr
@@ -27,7 +28,7 @@ y arguments = rule_of_kind (codes "g") (codes "y") arguments
 
 abbrev Set : Type 0
 Set =
-    let noted : Expr = commented_token (above (codes "# c" ∷ [])) c.String (between_marks (codes ":a")) in
+    let noted : Expr = commented_token (comments_above (codes "# c" ∷ [])) c.String (between_marks (codes ":a")) in
     -- A new attribute goes last, but before what is starred; one that is there gets the value in its place.
     (done (codes "set size small") (shards ∷ []) ≡ leaves (shards ∷ small ∷ []))
     × (done (codes "set size small") (shards ∷ rest ∷ []) ≡ leaves (shards ∷ small ∷ rest ∷ []))

@@ -7,11 +7,12 @@ use Rattle.bz_value.specs.declared.value.Expr.{Expr}
 use Rattle.bz_value.specs.declared.value.Item.{Item}
 use Rattle.bz_value.specs.Comments.{HostComments, no_comments}
 use Rattle.bz_attribute.specs.declared.refusal.Refusal.TheVariants.{NoAttribute, NotAList, NoTarget}
-use Rattle.bz_command.specs.SmallValues.{above, argument, between_marks, block, call, commented_form, commented_statement, commented_token, done, gives, leaves, list, made, mark, name, prints, refuses, rule, rule_of_kind, shown, string}
+use Rattle.bz_attribute.specs.Made.{mark}
+use Rattle.bz_command.specs.SmallValues.{comments_above, argument, between_marks, block, call, commented_form, commented_statement, commented_token, done, gives, leaves, list, made, name, shows_text, refuses, rule, rule_of_kind, shown, string}
 
 -- "# c" above, and beside it "#  s" at the end of the line
 abbrev c_above : HostComments
-c_above = above (codes "# c" ∷ [])
+c_above = comments_above (codes "# c" ∷ [])
 
 abbrev both : HostComments
 both = record { before = codes "# c" ∷ []; suffix = Some (codes "#  s") }
@@ -33,10 +34,10 @@ abbrev Added : Type 0
 Added =
     let b : Expr = string (codes ":b") in
     -- A comment stands above the rule, right above it where others stand there; the one at the end of the line stays.
-    (made (codes "comment why\\ not") (Name (codes "x")) (x no_comments [] ∷ []) ≡ gives (x (above (codes "# why not" ∷ [])) [] ∷ []))
+    (made (codes "comment why\\ not") (Name (codes "x")) (x no_comments [] ∷ []) ≡ gives (x (comments_above (codes "# why not" ∷ [])) [] ∷ []))
     × (made (codes "comment d") (Name (codes "x")) (x both [] ∷ []) ≡ gives (x (record { before = codes "# c" ∷ codes "# d" ∷ []; suffix = Some (codes "#  s") }) [] ∷ []))
     -- Of spaces alone the bare sign is left.
-    × (made (codes "comment \\ \\ ") (Name (codes "x")) (x no_comments [] ∷ []) ≡ gives (x (above (codes "#" ∷ [])) [] ∷ []))
+    × (made (codes "comment \\ \\ ") (Name (codes "x")) (x no_comments [] ∷ []) ≡ gives (x (comments_above (codes "#" ∷ [])) [] ∷ []))
     -- It stands above an attribute, or above the first item that means the value.
     × (done (codes "comment size c") (size no_comments ∷ []) ≡ leaves (size c_above ∷ []))
     × (done (codes "comment deps :a c") (deps (b ∷ a no_comments ∷ a no_comments ∷ []) ∷ []) ≡ leaves (deps (b ∷ a c_above ∷ a no_comments ∷ []) ∷ []))
@@ -65,12 +66,12 @@ abbrev Printed : Type 0
 Printed =
     let y : Item = rule_of_kind (codes "g") (codes "y") (size c_above ∷ []) in
     -- One comment a line, without the sign and one space behind it.
-    (shown (codes "print_comment") (Name (codes "x")) (x both [] ∷ []) ≡ prints (codes "c\n s\n"))
-    × (shown (codes "print_comment size") (Name (codes "x")) (x both (size c_above ∷ []) ∷ []) ≡ prints (codes "c\n"))
-    × (shown (codes "print_comment deps :a") (Name (codes "x")) (x both (deps (a both ∷ []) ∷ []) ∷ []) ≡ prints (codes "c\n s\n"))
+    (shown (codes "print_comment") (Name (codes "x")) (x both [] ∷ []) ≡ shows_text (codes "c\n s\n"))
+    × (shown (codes "print_comment size") (Name (codes "x")) (x both (size c_above ∷ []) ∷ []) ≡ shows_text (codes "c\n"))
+    × (shown (codes "print_comment deps :a") (Name (codes "x")) (x both (deps (a both ∷ []) ∷ []) ∷ []) ≡ shows_text (codes "c\n s\n"))
     -- Of all rules in their order; one without comments prints nothing.
-    × (shown (codes "print_comment size") All (x both (size both ∷ []) ∷ block ∷ y ∷ []) ≡ prints (codes "c\n s\nc\n"))
-    × (shown (codes "print_comment") All (x both [] ∷ block ∷ y ∷ []) ≡ prints (codes "c\n s\n"))
+    × (shown (codes "print_comment size") All (x both (size both ∷ []) ∷ block ∷ y ∷ []) ≡ shows_text (codes "c\n s\nc\n"))
+    × (shown (codes "print_comment") All (x both [] ∷ block ∷ y ∷ []) ≡ shows_text (codes "c\n s\n"))
     -- The file stays.
     × (made (codes "print_comment") All (x both [] ∷ block ∷ y ∷ []) ≡ gives (x both [] ∷ block ∷ y ∷ []))
     -- The first rule that refuses decides, for what is printed and for the file.
@@ -80,7 +81,7 @@ Printed =
     × (done (codes "print_comment size small") (size both ∷ []) ≡ refuses NotAList)
     -- No rule is meant: the command is refused, and nothing is printed.
     × (made (codes "print_comment") (Name (codes "z")) (rule [] ∷ []) ≡ refuses NoTarget)
-    × (shown (codes "print_comment") (Name (codes "z")) (rule [] ∷ []) ≡ prints [])
+    × (shown (codes "print_comment") (Name (codes "z")) (rule [] ∷ []) ≡ shows_text [])
 
-abbrev pub WorkedComments : Type 0
-WorkedComments = Added × Removed × Printed
+abbrev pub WorkedCommentCommands : Type 0
+WorkedCommentCommands = Added × Removed × Printed

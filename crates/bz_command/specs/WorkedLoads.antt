@@ -7,7 +7,8 @@ use Rattle.bz_value.specs.declared.value.Expr.{Expr}
 use Rattle.bz_value.specs.declared.value.Item.{Item}
 use Rattle.bz_value.specs.declared.value.Item.TheVariants as i
 use Rattle.bz_items.specs.Characters.{Bytes}
-use Rattle.bz_command.specs.SmallValues.{above, between_marks, block, call, commented_token, form, gives, literal, made, mark, name, rule, statement, string, token}
+use Rattle.bz_attribute.specs.Made.{mark}
+use Rattle.bz_command.specs.SmallValues.{comments_above, between_marks, block, call, commented_token, form, gives, literal, made, name, rule, statement, string, token}
 
 abbrev load : List Expr → Item
 load items = i.Stmt (form k.Load (token c.Keyword (codes "load") ∷ []) items)
@@ -50,7 +51,7 @@ abbrev Fixes : Type 0
 Fixes =
     let f : Expr = string (codes "f") in
     let a : Expr = string (codes "a") in
-    let noted : Expr = commented_token (above (codes "# c" ∷ [])) c.String (between_marks (codes "a")) in
+    let noted : Expr = commented_token (comments_above (codes "# c" ∷ [])) c.String (between_marks (codes "a")) in
     -- The rule x uses the symbol f alone.
     (made (codes "fix unusedLoads") All (d (a ∷ f ∷ alias (codes "b") (codes "f") ∷ []) ∷ x ∷ settings ∷ []) ≡ gives (d (f ∷ []) ∷ x ∷ settings ∷ []))
     -- A load goes with its last symbol, and a symbol with a comment stays.
@@ -65,5 +66,5 @@ Fixes =
     -- There is nothing to mend.
     × (made (codes "fix") (Name (codes "z")) (x ∷ block ∷ []) ≡ gives (x ∷ block ∷ []))
 
-abbrev pub WorkedLoads : Type 0
-WorkedLoads = NewLoads × Fixes
+abbrev pub WorkedLoadCommands : Type 0
+WorkedLoadCommands = NewLoads × Fixes

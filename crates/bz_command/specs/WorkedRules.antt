@@ -4,7 +4,7 @@ use Rattle.bz_label.specs.declared.target.Which.TheVariants.{All, Kind, Name, Pa
 use Rattle.bz_value.specs.declared.value.Expr.{Expr}
 use Rattle.bz_value.specs.declared.value.Item.{Item}
 use Rattle.bz_attribute.specs.declared.refusal.Refusal.TheVariants.{NameTaken, NoTarget}
-use Rattle.bz_command.specs.SmallValues.{above, argument, block, call, commented_statement, done, dot, gives, made, name, refuses, rule, rule_of_kind, statement, string}
+use Rattle.bz_command.specs.SmallValues.{comments_above, argument, block, call, commented_statement, done, dot_form, gives, made, name, refuses, rule, rule_of_kind, statement, string}
 
 abbrev y_named : List Expr
 y_named = argument (codes "name") (string (codes "y")) ∷ []
@@ -17,7 +17,7 @@ NewRules =
     (made (codes "new g y") All (x ∷ block ∷ []) ≡ gives (x ∷ block ∷ y ∷ []))
     × (made (codes "new g y") (Name (codes "z")) [] ≡ gives (y ∷ []))
     -- A kind of names joined by dots is a call of such.
-    × (made (codes "new a.b y") All [] ≡ gives (statement (call (dot (name (codes "a")) (codes "b")) y_named) ∷ []))
+    × (made (codes "new a.b y") All [] ≡ gives (statement (call (dot_form (name (codes "a")) (codes "b")) y_named) ∷ []))
     -- Or right before or after the first rule of a name, of which there are two here.
     × (made (codes "new g y before x") All (block ∷ x ∷ x ∷ []) ≡ gives (block ∷ y ∷ x ∷ x ∷ []))
     × (made (codes "new g y after x") All (block ∷ x ∷ x ∷ []) ≡ gives (block ∷ x ∷ y ∷ x ∷ []))
@@ -35,8 +35,8 @@ Kinds =
     -- The rule is of another kind; its name and its other arguments stay.
     (done (codes "set kind g") size ≡ gives (rule_of_kind (codes "g") (codes "x") size ∷ []))
     -- So do the comments above it.
-    × (made (codes "set kind a.b") (Name (codes "y")) (commented_statement (above (codes "# c" ∷ [])) (call (name (codes "f")) y_named) ∷ [])
-    ≡ gives (commented_statement (above (codes "# c" ∷ [])) (call (dot (name (codes "a")) (codes "b")) y_named) ∷ []))
+    × (made (codes "set kind a.b") (Name (codes "y")) (commented_statement (comments_above (codes "# c" ∷ [])) (call (name (codes "f")) y_named) ∷ [])
+    ≡ gives (commented_statement (comments_above (codes "# c" ∷ [])) (call (dot_form (name (codes "a")) (codes "b")) y_named) ∷ []))
     -- All rules of a kind get another one.
     × (made (codes "set kind g") (Kind (codes "f")) (rule size ∷ block ∷ rule_of_kind (codes "h") (codes "z") [] ∷ y ∷ [])
     ≡ gives (rule_of_kind (codes "g") (codes "x") size ∷ block ∷ rule_of_kind (codes "h") (codes "z") [] ∷ rule_of_kind (codes "g") (codes "y") [] ∷ []))

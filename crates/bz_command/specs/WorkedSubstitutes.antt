@@ -17,15 +17,15 @@ abbrev pub small : Expr
 small = size (string (codes "small"))
 
 -- r":l" and l, which are no plain strings
-abbrev pub others : List Expr
-others = literal (codes "r\":l\"") ∷ name (codes "l") ∷ []
+abbrev pub other_values : List Expr
+other_values = literal (codes "r\":l\"") ∷ name (codes "l") ∷ []
 
 abbrev Strings : Type 0
 Strings =
     -- A string that stands alone, and the plain strings of a list.
     ((substituted (codes "l+") (codes "n") (codes "small") ≡ codes "sman") → done (codes "substitute size l+ n") (small ∷ []) ≡ leaves (size (string (codes "sman")) ∷ []))
-    × ((substituted (codes "l") (codes "n") (codes ":l") ≡ codes ":n") → done (codes "substitute deps l n") (small ∷ deps (string (codes ":l") ∷ others) ∷ [])
-    ≡ leaves (small ∷ deps (string (codes ":n") ∷ others) ∷ []))
+    × ((substituted (codes "l") (codes "n") (codes ":l") ≡ codes ":n") → done (codes "substitute deps l n") (small ∷ deps (string (codes ":l") ∷ other_values) ∷ [])
+    ≡ leaves (small ∷ deps (string (codes ":n") ∷ other_values) ∷ []))
     -- A label that is changed is written in its short form.
     × ((substituted (codes "q") (codes "p") (codes "//q:a") ≡ codes "//p:a") → done (codes "substitute deps q p") (deps (string (codes "//q:a") ∷ []) ∷ [])
     ≡ leaves (deps (string (codes ":a") ∷ []) ∷ []))
@@ -39,7 +39,7 @@ Strings =
 abbrev Untouched : Type 0
 Untouched =
     -- There is no plain string, or no attribute, whatever the pattern is.
-    (done (codes "substitute deps l n") (deps others ∷ []) ≡ leaves (deps others ∷ []))
+    (done (codes "substitute deps l n") (deps other_values ∷ []) ≡ leaves (deps other_values ∷ []))
     × (done (codes "substitute srcs (.*)\\.cc$ $1.cpp") (argument (codes "srcs") (call (name (codes "glob")) (strings (codes "a.cc" ∷ []) ∷ [])) ∷ [])
     ≡ leaves (argument (codes "srcs") (call (name (codes "glob")) (strings (codes "a.cc" ∷ []) ∷ [])) ∷ []))
     × (done (codes "substitute deps l n") (small ∷ []) ≡ leaves (small ∷ []))

@@ -6,7 +6,8 @@ use Rattle.bz_label.specs.declared.target.Which.TheVariants.{Name, Package}
 use Rattle.bz_value.specs.declared.value.Expr.{Expr}
 use Rattle.bz_items.specs.Characters.{Bytes}
 use Rattle.bz_attribute.specs.declared.refusal.Refusal.TheVariants.{NoAttribute, NotAList, NoTarget}
-use Rattle.bz_command.specs.SmallValues.{above, argument, between_marks, call, commented_token, dict, done, form, leaves, list, literal, made, mark, name, number, refuses, rule, string, strings, sum, token}
+use Rattle.bz_attribute.specs.Made.{mark}
+use Rattle.bz_command.specs.SmallValues.{comments_above, argument, between_marks, call, commented_token, dict, done, form, leaves, list, literal, made, name, number, refuses, rule, string, strings, sum, token}
 
 -- deps = [..], runtime_deps = [..], size = "small" and select(C)
 abbrev deps : List Bytes → Expr
@@ -83,7 +84,7 @@ Replaced =
 
 abbrev Moved : Type 0
 Moved =
-    let noted : Expr = commented_token (above (codes "# c" ∷ [])) c.String (between_marks (codes ":a")) in
+    let noted : Expr = commented_token (comments_above (codes "# c" ∷ [])) c.String (between_marks (codes ":a")) in
     -- A value goes to another attribute, which is made where it is absent.
     (done (codes "move deps runtime_deps :a") (deps (codes ":a" ∷ codes ":b" ∷ []) ∷ small ∷ []) ≡ leaves (deps (codes ":b" ∷ []) ∷ small ∷ later (codes ":a" ∷ []) ∷ []))
     -- All values go, and with them the attribute; a value that is there already does not come once more.

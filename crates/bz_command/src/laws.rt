@@ -3,10 +3,10 @@ ghost use Rattle.bz_command.specs.Laws.{CommentsStay};
 ghost use Rattle.bz_command.specs.Table.{CommandsAreListed};
 ghost use Rattle.bz_command.specs.Worked.{WorkedEffects};
 ghost use Rattle.bz_command.specs.WorkedAttributes.{WorkedAttributes};
-ghost use Rattle.bz_command.specs.WorkedComments.{WorkedComments};
+ghost use Rattle.bz_command.specs.WorkedComments.{WorkedCommentCommands};
 ghost use Rattle.bz_command.specs.WorkedDicts.{WorkedDicts};
-ghost use Rattle.bz_command.specs.WorkedLoads.{WorkedLoads};
-ghost use Rattle.bz_command.specs.WorkedPrints.{WorkedPrints};
+ghost use Rattle.bz_command.specs.WorkedLoads.{WorkedLoadCommands};
+ghost use Rattle.bz_command.specs.WorkedPrints.{WorkedPrintCommands};
 ghost use Rattle.bz_command.specs.WorkedRules.{WorkedRules};
 ghost use Rattle.bz_command.specs.WorkedSubstitutes.{WorkedSubstitutes};
 ghost use Rattle.bz_command.specs.WorkedValues.{WorkedValues};
@@ -23,9 +23,9 @@ pub fn worked_commands()
     ensures values { WorkedValues }
     ensures substitutes { WorkedSubstitutes }
     ensures dicts { WorkedDicts }
-    ensures loads { WorkedLoads }
-    ensures comments { WorkedComments }
-    ensures prints { WorkedPrints }
+    ensures loads { WorkedLoadCommands }
+    ensures comments { WorkedCommentCommands }
+    ensures prints { WorkedPrintCommands }
 {}
 
 /// Commands that take nothing away lose no comment.

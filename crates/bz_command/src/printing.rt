@@ -2,7 +2,7 @@
 ghost use Rattle.std.specs.Prelude.{◌≡◌, ◌⊎◌, [], Ok, Err, OnOk, IfOk, IfErr, decimal, length, option_map};
 ghost use Rattle.std.specs.Option.{option_map_or};
 ghost use Rattle.bz_rule.specs.Rules.{rule_of};
-ghost use Rattle.bz_command.specs.Printing.{before_rest, line_of, lines_behind, printed_comments_of, printed_one, printed_rules};
+ghost use Rattle.bz_command.specs.Printing.{before_rest, item_line, lines_after_item, printed_comments_of, printed_one, printed_rules};
 
 use crate::targets::is_rule;
 use bz_attribute::Refusal;
@@ -16,8 +16,8 @@ use std::alloc::Global;
 
 /// The line on which an item begins, where it is on one, and the lines of the statements behind it.
 fn line_at<'a>(lines: &'a [u32], item: &Item) -> (Option<u32>, &'a [u32])
-    ensures line { result.0 ≡ line_of lines.entry.now item.now }
-    ensures behind { result.1.now ≡ lines_behind lines.entry.now item.now }
+    ensures line { result.0 ≡ item_line lines.entry.now item.now }
+    ensures behind { result.1.now ≡ lines_after_item lines.entry.now item.now }
 {
     match item {
         Item::Block(_) => (None, lines),

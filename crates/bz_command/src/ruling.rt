@@ -8,7 +8,7 @@ ghost use Rattle.bz_value.specs.Exchanged.{IsSpliced};
 ghost use Rattle.bz_rule.specs.Rules.{has_name};
 ghost use Rattle.bz_load.specs.Fixes.{fix};
 ghost use Rattle.bz_load.specs.NewLoad.{new_load};
-ghost use Rattle.bz_command.specs.Effect.{before_first, behind_first, copied_from, has_place, loads_changed, on_each, on_meant, on_one, on_rules, placed, source_of, with_rule};
+ghost use Rattle.bz_command.specs.Effect.{before_first, after_rule, copied_from, has_rule_place, loads_changed, on_each, on_meant, on_one, on_rules, placed, source_of, with_rule};
 ghost use Rattle.bz_command.specs.Looks.{one_made};
 
 use crate::deleting::delete;
@@ -19,7 +19,9 @@ use bz_items::{Items, Memory};
 use bz_load::{WithLoad, fix, new_load};
 use bz_rule::has_name;
 use bz_value::{Expr, Item};
-use bz_words::{AttributeOperation, Fixes, LoadOperation, Operation, Place, RuleOperation, Symbol};
+use bz_words::{
+    AttributeOperation, Fixes, LoadOperation, Operation, RuleOperation, RulePlace, Symbol,
+};
 use std::alloc::Global;
 
 /// What an operation makes of an item where it is marked. Whether the item is the same then.
@@ -76,7 +78,7 @@ fn place_of_rule(name: &[u8], items: &[Item]) -> Option<usize>
     ensures { MatchOption result (list_any (has_name name.now) items.now ≡ false)
         (λ at. (at < length items.now) × (list_any (has_name name.now) items.now ≡ true)
         × ((new : Item) → before_first name.now new items.now ≡ take at items.now ++ new ∷ drop at items.now)
-        × ((new : Item) → behind_first name.now new items.now ≡ take (at + 1) items.now ++ new ∷ drop (at + 1) items.now)) }
+        × ((new : Item) → after_rule name.now new items.now ≡ take (at + 1) items.now ++ new ∷ drop (at + 1) items.now)) }
 {
     for at in 0..items.len() {
         if has_name(name, &items[at]) {
@@ -87,16 +89,16 @@ fn place_of_rule(name: &[u8], items: &[Item]) -> Option<usize>
 }
 
 /// Where a new rule goes: behind how many items. `None`: the rule beside which it goes isn't there.
-fn place_of_new(place: &Place, items: &[Item]) -> Option<usize>
-    ensures { MatchOption result (has_place place.now items.now ≡ false)
-        (λ at. (at ≤ length items.now) × (has_place place.now items.now ≡ true)
+fn place_of_new(place: &RulePlace, items: &[Item]) -> Option<usize>
+    ensures { MatchOption result (has_rule_place place.now items.now ≡ false)
+        (λ at. (at ≤ length items.now) × (has_rule_place place.now items.now ≡ true)
         × ((new : Item) → placed place.now new items.now ≡ take at items.now ++ new ∷ drop at items.now)) }
 {
     let count = items.len();
     match place {
-        Place::End => Some(count),
-        Place::Before(rule) => place_of_rule(rule.as_slice(), items),
-        Place::After(rule) => match place_of_rule(rule.as_slice(), items) {
+        RulePlace::End => Some(count),
+        RulePlace::Before(rule) => place_of_rule(rule.as_slice(), items),
+        RulePlace::After(rule) => match place_of_rule(rule.as_slice(), items) {
             Some(at) => Some(at + 1),
             None => None,
         },
@@ -144,7 +146,7 @@ fn with_rule(
     alloc: Global,
     kind: &[u8],
     name: &[u8],
-    place: &Place,
+    place: &RulePlace,
     items: Items<Item>,
 ) -> Result<Changed, Refusal>
     ensures ok { IfOk result (λ changed. with_rule kind.now name.now place.now items ≡ Ok changed.items) }

@@ -8,7 +8,7 @@ ghost use Rattle.bz_comment.specs.Changes.{changed_by};
 ghost use Rattle.bz_command.specs.CallParts.{with_list, with_list_in, before_in_call, before_in_row, before_in_statement, before_in};
 ghost use Rattle.bz_attribute.specs.Made.{function_of};
 ghost use Rattle.bz_command.specs.ArgumentChanges.{arguments_of, comments_changed};
-ghost use Rattle.bz_command.specs.Effect.{on_arguments, on_host, on_one, on_statement, rule_changed, rule_commented, source, value_in, with_function};
+ghost use Rattle.bz_command.specs.Effect.{on_arguments, on_host_of_item, on_one, on_statement, rule_changed, rule_commented, source, value_in, with_function};
 
 use crate::targets::is_rule;
 use bz_attribute::{Refusal, function_of};
@@ -174,7 +174,7 @@ fn change_statement(alloc: Global, change: Change<'_>, item: &mut Item) -> Resul
 }
 
 /// What an operation makes of the comments of a host in a rule: of the rule itself, or in its arguments.
-fn on_host(
+fn on_host_of_item(
     alloc: Global,
     operation: &Operation,
     current: &[u8],
@@ -183,8 +183,8 @@ fn on_host(
     change: Change<'_>,
     item: &mut Item,
 ) -> Result<(), Refusal>
-    ensures ok { OnOk result (on_host host.now (changed_by change.entry) (on_arguments (arguments_of operation.now current.now (option_copied found.entry)) item.old) item.old ≡ Ok item.new) }
-    ensures err { IfErr result (λ refusal. (on_host host.now (changed_by change.entry) (on_arguments (arguments_of operation.now current.now (option_copied found.entry)) item.old) item.old ≡ Err refusal) ⊎ (refusal ≡ Refusal.Memory)) }
+    ensures ok { OnOk result (on_host_of_item host.now (changed_by change.entry) (on_arguments (arguments_of operation.now current.now (option_copied found.entry)) item.old) item.old ≡ Ok item.new) }
+    ensures err { IfErr result (λ refusal. (on_host_of_item host.now (changed_by change.entry) (on_arguments (arguments_of operation.now current.now (option_copied found.entry)) item.old) item.old ≡ Err refusal) ⊎ (refusal ≡ Refusal.Memory)) }
 {
     match host {
         Host::Rule => Ok(change_statement(alloc, change, item)?),
@@ -223,11 +223,11 @@ pub(crate) fn on_one(
         Operation::Comment(comment) => match comment {
             CommentOperation::Add { host, text } => {
                 let change = Change::Add(text.as_slice());
-                on_host(alloc, operation, current, found, host, change, item)
+                on_host_of_item(alloc, operation, current, found, host, change, item)
             }
             CommentOperation::Print { .. } => Ok(()),
             CommentOperation::Remove { host } => {
-                on_host(alloc, operation, current, found, host, Change::Remove, item)
+                on_host_of_item(alloc, operation, current, found, host, Change::Remove, item)
             }
         },
         Operation::Load(_) | Operation::Print { .. } => Ok(()),

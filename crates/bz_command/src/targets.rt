@@ -1,14 +1,14 @@
 //! The rules that a target means.
 ghost use Rattle.std.specs.Prelude.{◌≡◌, ◌∷◌, List, IfOk, length, map};
 ghost use Rattle.bz_value.specs.declared.value.Item.{Item};
-ghost use Rattle.bz_rule.specs.Rules.{has_kind, has_name};
+ghost use Rattle.bz_rule.specs.Rules.{is_rule_of_kind, has_name};
 ghost use Rattle.bz_names.specs.Index.{IsIndexOf};
 ghost use Rattle.bz_command.specs.Targets.{is_rule, on_line, first_mark, meant, may_mean_none};
 
 use bz_items::Memory;
 use bz_label::Which;
 use bz_names::Names;
-use bz_rule::{call_of, has_kind, has_name, is_named};
+use bz_rule::{call_of, has_name, is_named, is_rule_of_kind};
 use bz_value::Item;
 use std::alloc::Global;
 
@@ -36,9 +36,12 @@ fn all_rules(alloc: Global, items: &[Item]) -> Result<Vec<bool>, Memory>
 
 /// A mark for each item: whether it is a rule of this kind.
 fn all_of_kind(alloc: Global, kind: &[u8], items: &[Item]) -> Result<Vec<bool>, Memory>
-    ensures { IfOk result (λ marks. marks.items ≡ map (has_kind kind.now) items.now) }
+    ensures { IfOk result (λ marks. marks.items ≡ map (is_rule_of_kind kind.now) items.now) }
 {
-    items.iter().map(|item| has_kind(kind, item)).collect(alloc)
+    items
+        .iter()
+        .map(|item| is_rule_of_kind(kind, item))
+        .collect(alloc)
 }
 
 /// A mark for each item: whether it is a rule of this name.

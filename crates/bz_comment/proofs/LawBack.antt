@@ -19,13 +19,12 @@ use Rattle.bz_rule.proofs.ProperChanges.{by_test, by_case}
 use Rattle.bz_attribute.specs.declared.refusal.Refusal.{Refusal}
 use Rattle.bz_attribute.specs.declared.refusal.Refusal.TheVariants.{NoAttribute, NotAList}
 use Rattle.bz_attribute.specs.Attributes.{is_attribute, has_attribute, on_first_that, with_value, Arguments}
-use Rattle.bz_attribute.specs.Lists.{has_lists, items_in, is_item}
+use Rattle.bz_attribute.specs.Lists.{has_lists, items_in, is_item, listed}
 use Rattle.bz_attribute.proofs.ArgumentForms.{any_same, with_value_twice}
 use Rattle.bz_attribute.proofs.AttributesAgain.{attribute_changed, none_found, with_value_same}
 use Rattle.bz_attribute.proofs.FormsAgain.{if_true, if_false, both, parts_kind, items_kind, parts_filled, items_filled, items_beside, row_back, items_back}
 use Rattle.bz_attribute.proofs.ListsThere.{lists_there, items_there, sum_no_list}
-use Rattle.bz_comment.specs.Changes.{listed}
-use Rattle.bz_comment.specs.Hosts.{with_comment, without_comments, comment_text, comment_line, suffix_line, printed_comments, has_item, on_first_item, put_value, on_item, comment, remove_comment, found_comments, item_comments, print_comment}
+use Rattle.bz_comment.specs.Hosts.{with_comment, without_comments, comment_text, comment_line, suffix_line, printed_comments, has_item, on_first_item, put_value, on_named_item, comment, remove_comment, found_comments, item_comments, print_comment}
 use Rattle.bz_comment.proofs.FirstChanged.{first_back, first_found, found_first}
 use Rattle.bz_comment.proofs.HostForms.{made_by, found_any}
 use Rattle.bz_comment.proofs.OwnForms.{none_again, same_item, same_value}
@@ -161,14 +160,14 @@ module _ (test : Expr → Bool) (f g : Expr → Expr) (same : (x : Expr) → tes
 
   item_back : (name : Bytes) (found : Option Expr) (xs new : List Expr) → attribute name xs ≡ found
       → ((v : Expr) → found ≡ Some v → IfSome (find test (items_in v)) IsBack)
-      → on_item name test f found xs ≡ Ok new → on_item name test g (attribute name new) new ≡ Ok xs
+      → on_named_item name test f found xs ≡ Ok new → on_named_item name test g (attribute name new) new ≡ Ok xs
   item_back name None xs new a h e = cc
   item_back name (Some v) xs new a h e =
       let made : Expr = on_first_item test f v in
       let ys : List Expr = with_value name made xs in
       let p = made_ok name (has_lists v) (list_any test (items_in v)) made xs new e in
-      subst (λ zs. on_item name test g (attribute name zs) zs ≡ Ok xs) p.2
-      (ap (λ (o : Option Expr). on_item name test g o ys) (attribute_changed name v made xs a)
+      subst (λ zs. on_named_item name test g (attribute name zs) zs ≡ Ok xs) p.2
+      (ap (λ (o : Option Expr). on_named_item name test g o ys) (attribute_changed name v made xs a)
       ∙ (both (λ l t. put_value name (made_by l t (on_first_item test g made)) ys) (has_lists_same v ∙ p.0) (items_same v ∙ p.1)
       ∙ (ap (λ x. Ok (with_value name x ys)) (value_back v (h v refl))
       ∙ ap Ok (with_value_twice name made v xs ∙ with_value_same name v xs a))))

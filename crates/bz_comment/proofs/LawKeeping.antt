@@ -17,7 +17,7 @@ use Rattle.bz_attribute.specs.Attributes.{is_attribute, has_attribute, on_first_
 use Rattle.bz_attribute.specs.Lists.{has_lists, items_in, is_item}
 use Rattle.bz_attribute.proofs.Grown.{itself, both_at_most, Grows, first_that_grows}
 use Rattle.bz_attribute.proofs.GrownArguments.{whole, on_row_grows, on_items_grows, with_value_grows, Grown}
-use Rattle.bz_comment.specs.Hosts.{comment_made, with_comment, has_item, on_first_item, put_value, on_item, comment}
+use Rattle.bz_comment.specs.Hosts.{comment_made, with_comment, has_item, on_first_item, put_value, on_named_item, comment}
 use Rattle.bz_comment.proofs.HostForms.{made_by}
 
 more_above : (before more suffix all : ℕ) → all ≡ before + more → before + suffix ≤ all + suffix
@@ -52,7 +52,7 @@ module _ (number : Bytes → ℕ) where
   put_grows name false there x xs g = tt
 
   on_item_grows : (name : Bytes) (test : Expr → Bool) (change : Expr → Expr) (found : Option Expr) (xs : List Expr) → Grows (whole number) change → attribute name xs ≡ found
-      → Grown number xs (on_item name test change found xs)
+      → Grown number xs (on_named_item name test change found xs)
   on_item_grows name test change None xs g a = tt
   on_item_grows name test change (Some v) xs g a =
       put_grows name (has_lists v) (list_any test (items_in v)) (on_first_item test change v) xs

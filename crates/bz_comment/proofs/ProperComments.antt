@@ -34,7 +34,7 @@ use Rattle.bz_attribute.specs.Attributes.{is_attribute, has_attribute, on_first_
 use Rattle.bz_attribute.specs.Lists.{has_lists, items_in, is_item}
 use Rattle.bz_attribute.proofs.ProperAttributes.{AreArguments, Made, Keeps, with_value_kept, first_that_stays}
 use Rattle.bz_attribute.proofs.ProperTexts.{one_ascii}
-use Rattle.bz_comment.specs.Hosts.{comment_made, with_comment, without_comments, has_item, on_first_item, put_value, on_item, on_host, comment, remove_comment}
+use Rattle.bz_comment.specs.Hosts.{comment_made, with_comment, without_comments, has_item, on_first_item, put_value, on_named_item, on_host, comment, remove_comment}
 use Rattle.bz_comment.proofs.HostForms.{made_by}
 
 -- ---- the comment that a text becomes
@@ -112,7 +112,7 @@ module _ (change : Expr → Expr) (keeps : KeepsItems change) where
   put_keeps name true false x xs v h = tt
   put_keeps name false there x xs v h = tt
 
-  item_keeps : (name : Bytes) (test : Expr → Bool) (found : Option Expr) (xs : List Expr) → IfSome found IsValue → AreArguments xs → Made (on_item name test change found xs)
+  item_keeps : (name : Bytes) (test : Expr → Bool) (found : Option Expr) (xs : List Expr) → IfSome found IsValue → AreArguments xs → Made (on_named_item name test change found xs)
   item_keeps name test None xs v h = tt
   item_keeps name test (Some value) xs v h = put_keeps name (has_lists value) (list_any test (items_in value)) (on_first_item test change value) xs (value_keeps test value v) h
 

@@ -8,9 +8,8 @@ use Rattle.std.proofs.lemmas.List.{at_drop_more}
 use Rattle.bz_tree.specs.declared.kind.Kind.TheVariants as k
 use Rattle.bz_value.specs.declared.value.Expr.{Expr}
 use Rattle.bz_rule.specs.Values.{has_kind, parts_of}
-use Rattle.bz_attribute.specs.Lists.{items_in}
+use Rattle.bz_attribute.specs.Lists.{items_in, listed}
 use Rattle.bz_attribute.proofs.ListsThere as lists
-use Rattle.bz_comment.specs.Changes.{listed}
 
 -- what is found in a list and the lists behind it
 found_step : (test : Expr → Bool) (x : Expr) (xs : List Expr) → find test (flat_map listed (x ∷ xs)) ≡ option_or (find test (listed x)) (find test (flat_map listed xs))

@@ -1,14 +1,12 @@
 -- What is done to comments, in the steps in which it is.
 use Rattle.std.specs.Prelude.{Bool, not, List, [], ◌∷◌, ◌++◌, Option, Some, None, if◌then◌else◌}
 use Rattle.std.specs.List.{list_any}
-use Rattle.bz_tree.specs.declared.kind.Kind.TheVariants as k
 use Rattle.bz_value.specs.declared.value.Expr.{Expr}
 use Rattle.bz_value.specs.Comments.{HostComments, no_comments}
 use Rattle.bz_items.specs.Characters.{Bytes}
 use Rattle.bz_words.specs.declared.command.Host.{Host}
 use Rattle.bz_words.specs.declared.command.Host.TheVariants as h
 use Rattle.bz_rule.specs.Rules.{attribute}
-use Rattle.bz_rule.specs.Values.{has_kind, items_of}
 use Rattle.bz_attribute.specs.declared.refusal.Refusal.{Refusal}
 use Rattle.bz_attribute.specs.declared.refusal.Refusal.TheVariants.{NoAttribute, NotAList}
 use Rattle.bz_attribute.specs.Attributes.{Arguments}
@@ -16,7 +14,7 @@ use Rattle.bz_attribute.specs.Lists.{has_lists, items_in, is_item}
 use Rattle.bz_comment.specs.declared.changing.Change.{Change}
 use Rattle.bz_comment.specs.declared.changing.Change.TheVariants.{Add, Remove}
 use Rattle.bz_comment.specs.declared.seeking.Sought.{Sought}
-use Rattle.bz_comment.specs.Hosts.{comment_made, with_comment, without_comments, on_host, on_item, comment, remove_comment}
+use Rattle.bz_comment.specs.Hosts.{comment_made, with_comment, without_comments, on_host, on_named_item, comment, remove_comment}
 
 -- the change of an expression
 abbrev pub changed_by : Change → Expr → Expr
@@ -39,16 +37,12 @@ changed_comments Remove current host arguments = remove_comment current host arg
 abbrev pub is_sought : Sought → Expr → Bool
 is_sought sought = is_item sought.current.now sought.attribute.now sought.value.now
 
--- the items of a list; of any other expression none
-abbrev pub listed : Expr → List Expr
-listed x = if has_kind k.List x then items_of x else []
-
 -- the arguments with an attribute's comments changed, which ask for no current package, and with those of an item
 abbrev pub changed_attribute : Bytes → Change → List Expr → Arguments
 changed_attribute name change arguments = on_host [] (h.Attribute name) (changed_by change) arguments
 
 abbrev pub changed_item : Sought → Change → List Expr → Arguments
-changed_item sought change arguments = on_item sought.attribute.now (is_sought sought) (changed_by change) (attribute sought.attribute.now arguments) arguments
+changed_item sought change arguments = on_named_item sought.attribute.now (is_sought sought) (changed_by change) (attribute sought.attribute.now arguments) arguments
 
 -- why an item of a value is refused, where it is
 abbrev pub value_refused : Sought → Expr → Option Refusal

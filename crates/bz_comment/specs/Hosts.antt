@@ -73,16 +73,16 @@ abbrev pub put_value : Bytes → Result Expr Refusal → List Expr → Arguments
 put_value name (Err refusal) arguments = Err refusal
 put_value name (Ok value) arguments = Ok (with_value name value arguments)
 
-abbrev pub on_item : Bytes → (Expr → Bool) → (Expr → Expr) → Option Expr → List Expr → Arguments
-on_item name test change None arguments = Err NoAttribute
-on_item name test change (Some value) arguments = put_value name (on_item_of test change value) arguments
+abbrev pub on_named_item : Bytes → (Expr → Bool) → (Expr → Expr) → Option Expr → List Expr → Arguments
+on_named_item name test change None arguments = Err NoAttribute
+on_named_item name test change (Some value) arguments = put_value name (on_item_of test change value) arguments
 
 -- The host in the arguments of a rule, changed. The rule itself is no part of its arguments.
 abbrev pub on_host : Bytes → Host → (Expr → Expr) → List Expr → Arguments
 on_host current h.Rule change arguments = Ok arguments
 on_host current (h.Attribute name) change arguments =
     if has_attribute name arguments then Ok (on_first_that (is_attribute name) change arguments) else Err NoAttribute
-on_host current (h.Item name word) change arguments = on_item name (is_item current name word) change (attribute name arguments) arguments
+on_host current (h.Item name word) change arguments = on_named_item name (is_item current name word) change (attribute name arguments) arguments
 
 -- ---- the commands, on a rule's statement and on its arguments
 

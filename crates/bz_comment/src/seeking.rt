@@ -2,8 +2,8 @@
 ghost use Rattle.std.specs.Prelude.{◌≡◌};
 ghost use Rattle.std.specs.List.{find, flat_map, list_any, position};
 ghost use Rattle.std.specs.Option.{option_copied};
-ghost use Rattle.bz_attribute.specs.Lists.{items_in};
-ghost use Rattle.bz_comment.specs.Changes.{is_sought as sought_item, listed};
+ghost use Rattle.bz_attribute.specs.Lists.{items_in, listed};
+ghost use Rattle.bz_comment.specs.Changes.{is_sought as sought_item};
 ghost use Rattle.bz_comment.specs.Hosts.{has_item};
 
 use bz_attribute::{has_kind, is_item, items_of, parts_of};

@@ -18,7 +18,7 @@ use Rattle.bz_rule.proofs.ProperChanges.{by_test, by_case}
 use Rattle.bz_attribute.specs.declared.refusal.Refusal.TheVariants.{NotADict}
 use Rattle.bz_attribute.specs.Attributes.{Arguments, has_attribute, on_first_that, with_value, with_new}
 use Rattle.bz_attribute.specs.Made.{token, mark, string_of}
-use Rattle.bz_dict.specs.Dicts.{key_in, key_of, has_key, has_some_key, entry_made, with_entry, with_entries, with_entry_value, with_entry_set, with_entries_set, without_entries, dict_of, on_dict, cleared, without_keys, dict_remove}
+use Rattle.bz_dict.specs.Dicts.{key_in, key_of, has_key, has_some_key, entry_made, with_entry, with_entries, with_entry_value, with_entry_set, with_entries_set, without_entries, dict_of, on_dict, cleared_dict, without_keys, dict_remove}
 use Rattle.bz_dict.specs.Laws.{are_keys, has_keys, have_plain_keys, keys_of, EntriesAddedAgain, EntriesAddedAreThere, EntriesSetAreThere, EntriesRemovedAgain}
 use Rattle.bz_attribute.proofs.ArgumentForms.{any_same}
 use Rattle.bz_attribute.proofs.AttributesAgain.{by_there, by_absent, same_made, with_value_same, node_parts, attribute_new, without_new, attribute_changed}
@@ -227,5 +227,5 @@ removing_again current name entries xs new absent full plain e =
     let none : without_entries keys (items_of value) ≡ [] = ap (without_entries keys) (dict_items items) ∙ none_left (has_some_key keys) items (all_some current name keys entries [] plain (λ x h. h) tt) in
     ap (dict_remove name keys) (sym same)
     ∙ (by_there (attribute name ys) value (Ok ys) (λ v. if has_kind k.Dict v then Ok (without_keys name keys v ys) else Err NotADict) (attribute_new name value xs absent)
-    ∙ ap Ok (if_true (list_any (has_some_key keys) (items_of value)) (cleared name (without_entries keys (items_of value)) value ys) ys some
-    ∙ (ap (λ zs. cleared name zs value ys) none ∙ without_new name value xs absent)))
+    ∙ ap Ok (if_true (list_any (has_some_key keys) (items_of value)) (cleared_dict name (without_entries keys (items_of value)) value ys) ys some
+    ∙ (ap (λ zs. cleared_dict name zs value ys) none ∙ without_new name value xs absent)))

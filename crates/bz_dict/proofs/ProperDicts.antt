@@ -34,7 +34,7 @@ use Rattle.bz_attribute.specs.Made.{token, mark, string_text, string_of}
 use Rattle.bz_attribute.proofs.ProperAttributes.{AreArguments, Made, Keeps, of_attribute, with_value_kept, without_kept, with_new_kept}
 use Rattle.bz_attribute.proofs.ProperMade.{IsNew, new_value, token_new, quoted_string, string_strung}
 use Rattle.bz_attribute.proofs.ProperTexts.{one_ascii}
-use Rattle.bz_dict.specs.Dicts.{has_key, has_some_key, entry_made, with_entry, with_entries, with_entry_value, with_entry_set, with_entries_set, without_entries, dict_of, on_dict, dict_add, dict_set, cleared, without_keys, dict_remove}
+use Rattle.bz_dict.specs.Dicts.{has_key, has_some_key, entry_made, with_entry, with_entries, with_entry_value, with_entry_set, with_entries_set, without_entries, dict_of, on_dict, dict_add, dict_set, cleared_dict, without_keys, dict_remove}
 
 -- ---- new entries and new dicts
 
@@ -80,7 +80,7 @@ dict_new : (items : List Expr) → AreOf s.entry items → IsNew (dict_of items)
 dict_new items h = record {
   proper = λ here.
       form_proper here (record { kind = k.Dict; parts = []; seq = record { items = items; end_ = []; split = false }; open_ = false; comments = no_comments })
-      (refl, items_again s.entry s.close_curly (r.mark 125) refl items h) (tt, each_item s.entry s.close_curly (r.mark 125) items h, All-nil IsComment, refl);
+      (refl, items_again s.entry s.close_curly (r.mark_leaf 125) refl items h) (tt, each_item s.entry s.close_curly (r.mark_leaf 125) items h, All-nil IsComment, refl);
   comments = refl;
   breaks = refl;
 }
@@ -97,8 +97,8 @@ KeepsEntries change = sequences.Keeps s.entry change
 dict_items : (change : List Expr → List Expr) → KeepsEntries change → (here : Spot) (end_ : List Bytes) (split open_ : Bool) (ps xs : List Expr)
     → AsForm here k.Dict ps xs end_ split open_ → AsForm here k.Dict ps (change xs) end_ split open_
 dict_items change keeps here end_ split open_ [] xs h =
-    let all : AreOf s.entry (change xs) = keeps xs (items_apart s.entry s.close_curly (r.mark 125) xs h.1.1 h.0.1) in
-    ((h.0.0, items_again s.entry s.close_curly (r.mark 125) refl (change xs) all), (h.1.0, each_item s.entry s.close_curly (r.mark 125) (change xs) all, h.1.2, h.1.3))
+    let all : AreOf s.entry (change xs) = keeps xs (items_apart s.entry s.close_curly (r.mark_leaf 125) xs h.1.1 h.0.1) in
+    ((h.0.0, items_again s.entry s.close_curly (r.mark_leaf 125) refl (change xs) all), (h.1.0, each_item s.entry s.close_curly (r.mark_leaf 125) (change xs) all, h.1.2, h.1.3))
 dict_items change keeps here end_ split open_ (p ∷ ps) xs h = let n = lead_before k.Dict (map root (p ∷ ps)) (map root xs) h.0 in absurd (omega arith)
 
 only_dict : (change : List Expr → List Expr) → KeepsEntries change → (kind : Kind) → is_kind kind k.Dict ≡ true → (here : Spot) (end_ : List Bytes) (split open_ : Bool) (ps xs : List Expr)
@@ -193,7 +193,7 @@ fewer_entries keys items h = all_kept (IsItem s.entry) (λ x. not (has_some_key 
 without_keys_kept : (name : Bytes) (keys : List Bytes) (value : Expr) (xs : List Expr) → IsValue value → AreArguments xs → AreArguments (without_keys name keys value xs)
 without_keys_kept name keys value xs v h =
     let less : Expr = on_items k.Dict (without_entries keys) value in
-    by_test AreArguments (list_any (has_some_key keys) (items_of value)) (cleared name (without_entries keys (items_of value)) value xs) xs
+    by_test AreArguments (list_any (has_some_key keys) (items_of value)) (cleared_dict name (without_entries keys (items_of value)) value xs) xs
     (by_test AreArguments (is_empty (without_entries keys (items_of value))) (without name xs) (with_value name less xs) (without_kept name xs h)
     (with_value_kept name less xs (value_in_place value less (dict_in_place (without_entries keys) (fewer_entries keys) value) v) h))
     h

@@ -71,7 +71,7 @@ fn remove_chosen(
     chosen: &BTreeSet<Vec<u8>>,
     arguments: &mut Items<Expr>,
 )
-    ensures { (value : Value) → value_there name.now arguments.old ≡ Some value → is_of kinds.Dict value ≡ true → arguments.new ≡ d.cleared name.now (filter (λ x. not (has_chosen chosen.now x)) (items value)) value arguments.old }
+    ensures { (value : Value) → value_there name.now arguments.old ≡ Some value → is_of kinds.Dict value ≡ true → arguments.new ≡ d.cleared_dict name.now (filter (λ x. not (has_chosen chosen.now x)) (items value)) value arguments.old }
 {
     let Some(mut value) = take_value(alloc, name, arguments) else {
         return;

@@ -1,6 +1,6 @@
 //! Places in a tree, and what stands there exchanged.
 ghost use Rattle.std.specs.Prelude.{◌≡◌, ◌++◌, ◌∷◌, [], ◌+◌, ◌<◌, ◌≤◌, ◌^◌, true, length, OnOk, OnErr, IsOk, IsTrue, ◌↔◌};
-ghost use Rattle.bz_edit.specs.Places.{has_place as place_there, covered, put};
+ghost use Rattle.bz_edit.specs.Places.{has_place as place_there, covered, parts_put};
 ghost use Rattle.bz_edit.specs.Steps.{swap_node, all_there, AllApart, all_even, CountsFit, turned, turned_all};
 
 use crate::edit::Edit;
@@ -33,7 +33,7 @@ pub fn swap_at(
     held: &mut Items<Part>,
 ) -> Result<(), Memory>
     requires { place_there path.now at count node.old ≡ true }
-    ensures node { OnOk result (node.new ≡ put path.now at count held.old node.old) }
+    ensures node { OnOk result (node.new ≡ parts_put path.now at count held.old node.old) }
     ensures held { OnOk result (held.new ≡ covered path.now at count node.old) }
     ensures err { OnErr result ((node.new ≡ node.old) × (held.new ≡ held.old)) }
     ensures in_place { count ≡ length held.old → IsOk result }
@@ -69,7 +69,7 @@ pub fn all_places(node: &Node, edits: &[Edit]) -> bool
 pub fn swap_one(node: &mut Node, edit: &mut Edit) -> Result<(), Memory>
     requires counts { length edit.old.held < 2 ^ 32 }
     requires there { place_there edit.old.path edit.old.at edit.old.count node.old ≡ true }
-    ensures node { OnOk result (node.new ≡ put edit.old.path edit.old.at edit.old.count edit.old.held node.old) }
+    ensures node { OnOk result (node.new ≡ parts_put edit.old.path edit.old.at edit.old.count edit.old.held node.old) }
     ensures edit { OnOk result (edit.new ≡ turned node.old edit.old) }
     ensures err { OnErr result ((node.new ≡ node.old) × (edit.new ≡ edit.old)) }
     ensures even { edit.old.count ≡ length edit.old.held → IsOk result }

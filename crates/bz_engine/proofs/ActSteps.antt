@@ -10,19 +10,19 @@ use Rattle.bz_journal.specs.declared.action.Reply.{Reply}
 use Rattle.bz_journal.specs.History.{History, Acts, Leads}
 use Rattle.bz_ports.specs.Faults.{AppendsUnlessFailed}
 use Rattle.bz_ports.specs.Outputs.{Tells}
-use Rattle.bz_workspace.specs.Packages.{Opened, Used, file_at, with_file}
+use Rattle.bz_workspace.specs.Packages.{Opened, Used, file_at, with_opened}
 use Rattle.bz_workspace.specs.Shown.{used_in}
 use Rattle.bz_workspace.specs.declared.used.Used as d
 use Rattle.bz_engine.specs.Run.{Progress, answered, told_of}
 use Rattle.bz_engine.specs.Told.{refusal_line}
 
 -- the file that takes the place of one that is there
-put_there : (place : ℕ) (used : List Used) (file new : Opened) → file_at place used ≡ Some file → file_at place (with_file place (Some new) used) ≡ Some new
+put_there : (place : ℕ) (used : List Used) (file new : Opened) → file_at place used ≡ Some file → file_at place (with_opened place (Some new) used) ≡ Some new
 put_there place [] file new there = let e = there in absurd (cc)
 put_there zero (one ∷ more) file new there = refl
 put_there (suc place) (one ∷ more) file new there = put_there place more file new there
 
-pub file_put : (place : ℕ) (used after : List Used) (file new : Opened) → file_at place used ≡ Some file → after ≡ with_file place (Some new) used
+pub file_put : (place : ℕ) (used after : List Used) (file new : Opened) → file_at place used ≡ Some file → after ≡ with_opened place (Some new) used
     → file_at place after ≡ Some new
 file_put place used after file new there put = ap (file_at place) put ∙ put_there place used file new there
 
@@ -45,7 +45,7 @@ some_of None is = absurd (true≢false (sym is))
 some_of (Some file) is = (file, refl)
 
 -- a file that takes its own place
-pub put_again : (place : ℕ) (used : List Used) (file : Opened) → file_at place used ≡ Some file → with_file place (Some file) used ≡ used
+pub put_again : (place : ℕ) (used : List Used) (file : Opened) → file_at place used ≡ Some file → with_opened place (Some file) used ≡ used
 put_again place [] file there = refl
 put_again zero (one ∷ more) file there = ap (λ (f : Option Opened). record one { file = f } ∷ more) (sym there)
 put_again (suc place) (one ∷ more) file there = ap (λ (rest : List Used). one ∷ rest) (put_again place more file there)
@@ -63,21 +63,21 @@ or_false true = refl
 or_false false = refl
 
 pub was_refused : (place : ℕ) (file : Opened) (refusal : Refusal) (history : History) (before after : Progress) (used : List Used)
-    → after ≡ record before { used = used; failed = true } → used ≡ with_file place (Some (record file { history = history })) before.used
+    → after ≡ record before { used = used; failed = true } → used ≡ with_opened place (Some (record file { history = history })) before.used
     → after ≡ answered place file (Err refusal) history before
 was_refused place file refusal history before after used is put =
-    let put_in = with_file place (Some (record file { history = history })) before.used in
+    let put_in = with_opened place (Some (record file { history = history })) before.used in
     is ∙ (ap (λ (u : List Used). state u before.printed true) put
     ∙ (ap (λ (text : Bytes). state put_in text true) (sym (append-nil before.printed))
     ∙ ap (state put_in (before.printed ++ [])) (or_true before.failed)))
 
 pub was_listed : (place : ℕ) (file : Opened) (before after : Progress) (text listing : Bytes) (printed : Bytes) → file_at place before.used ≡ Some file
     → after ≡ record before { printed = printed } → printed ≡ before.printed ++ text → text ≡ listing
-    → after ≡ record { used = with_file place (Some file) before.used; printed = before.printed ++ listing; failed = before.failed || false }
+    → after ≡ record { used = with_opened place (Some file) before.used; printed = before.printed ++ listing; failed = before.failed || false }
 was_listed place file before after text listing printed there is put same =
     is ∙ (ap (λ (bytes : Bytes). record before { printed = bytes }) (put ∙ ap (λ (t : Bytes). before.printed ++ t) same)
     ∙ (ap (λ (u : List Used). state u (before.printed ++ listing) before.failed) (sym (put_again place before.used file there))
-    ∙ ap (state (with_file place (Some file) before.used) (before.printed ++ listing)) (or_false before.failed)))
+    ∙ ap (state (with_opened place (Some file) before.used) (before.printed ++ listing)) (or_false before.failed)))
 
 -- a refusal is told by the name of the file
 pub told_by : (f f' : ℕ) (old new : Option Bytes) (name other command : Bytes) (refusal : Refusal) → name ≡ other

@@ -12,7 +12,7 @@ use Rattle.bz_files.specs.Folder.{Folder, SameBut, SameFolders, with_file, new_n
 use Rattle.bz_label.specs.declared.target.Target.{Target}
 use Rattle.bz_line.specs.Asked.{Asked, Asking}
 use Rattle.bz_line.specs.declared.line.Options.{Options}
-use Rattle.bz_workspace.specs.Found.{Found}
+use Rattle.bz_workspace.specs.Found.{PackagesFound}
 use Rattle.bz_workspace.specs.Packages.{Used}
 use Rattle.bz_engine.specs.Ending.{Left, Performs, WritesFiles, Writing, texts_out, all_writings, fixed_lines, status_of}
 use Rattle.bz_engine.specs.Exact.{SameLeft}
@@ -76,7 +76,7 @@ no_steps (line ∷ lines) none =
 abbrev with_known : World → Option Bytes → World
 with_known world known = record world { known = known }
 
-found_unread : (world : World) (known : Option Bytes) (step : RunStep) (found : Option Found) → reads_input step ≡ false
+found_unread : (world : World) (known : Option Bytes) (step : RunStep) (found : Option PackagesFound) → reads_input step ≡ false
     → Finds (with_known world known) step.target.«package» found → Finds world step.target.«package» found
 found_unread world known step found not_input (inl (is, input)) = absurd (apart step.target.«package» not_input is)
 found_unread world known step found not_input (inr here) = inr here

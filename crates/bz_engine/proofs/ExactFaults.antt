@@ -1,14 +1,14 @@
 -- Why operands and lines are refused, as their functions say it, but for patterns.
 use Rattle.std.proofs.Common.{◌≡◌, ◌⊎◌, inl, inr, List, [], ◌∷◌, ◌++◌, Result, Ok, Err, refl, sym, ap, subst, ◌∙◌}
 use Rattle.bz_items.specs.Characters.{Bytes}
-use Rattle.bz_line.specs.Asked.{Asked, Refused, Usage, of_operand, no_command, no_target, no_line, joined, accepted, asked_by, asked_of, group_of}
+use Rattle.bz_line.specs.Asked.{Asked, Refused, Usage, of_operand, no_command, no_target, no_line, joined_operands, accepted, asked_by, asked_of, operand_group}
 use Rattle.bz_line.specs.Refused.{IsPatternFault, IsFirstRefused, IsFirstFault, IsGroupFault, IsScriptFault}
-use Rattle.bz_line.specs.Script.{lines_in, operands_in, in_front, groups_of, some_groups, script_of}
+use Rattle.bz_line.specs.Script.{lines_in, operands_in, in_front, operand_groups, some_groups, script_of}
 use Rattle.bz_engine.specs.Told.{IsUsageLine}
 
 -- ---- operands
 
-both_joined : (first more : Result Asked Refused) (asked : Asked) → joined first more ≡ Ok asked
+both_joined : (first more : Result Asked Refused) (asked : Asked) → joined_operands first more ≡ Ok asked
     → (a : Asked) × (b : Asked) × (first ≡ Ok a) × (more ≡ Ok b)
 both_joined (Ok a) (Ok b) asked is = (a, b, refl, refl)
 both_joined (Ok a) (Err refused) asked is = absurd (cc is)
@@ -17,23 +17,23 @@ both_joined (Err refused) more asked is = absurd (cc is)
 -- The first operand that is refused is told.
 first_refused : (front rest : List Bytes) (operand : Bytes) (refused : Refused) (asked : Asked) → asked_of front ≡ Ok asked
     → asked_by operand ≡ Err refused → asked_of (front ++ operand ∷ rest) ≡ Err refused
-first_refused [] rest operand refused asked before is = ap (λ (it : Result Asked Refused). joined it (asked_of rest)) is
+first_refused [] rest operand refused asked before is = ap (λ (it : Result Asked Refused). joined_operands it (asked_of rest)) is
 first_refused (first ∷ front) rest operand refused asked before is =
     let parts = both_joined (asked_by first) (asked_of front) asked before in
-    ap (λ (it : Result Asked Refused). joined it (asked_of (front ++ operand ∷ rest))) parts.2
-    ∙ ap (λ (it : Result Asked Refused). joined (Ok parts.0) it) (first_refused front rest operand refused parts.1 parts.3 is)
+    ap (λ (it : Result Asked Refused). joined_operands it (asked_of (front ++ operand ∷ rest))) parts.2
+    ∙ ap (λ (it : Result Asked Refused). joined_operands (Ok parts.0) it) (first_refused front rest operand refused parts.1 parts.3 is)
 
 -- a usage that tells a pattern of these operands
 abbrev pub TellsOperand : List Bytes → Usage → Type 0
 TellsOperand texts usage = (refused : Refused) × (usage ≡ of_operand refused) × IsFirstRefused texts refused × IsPatternFault refused.operand refused.fault
 
-by_operand : (texts : List Bytes) (refused : Refused) → IsFirstRefused texts refused → (group_of texts ≡ Err (of_operand refused)) ⊎ TellsOperand texts (of_operand refused)
+by_operand : (texts : List Bytes) (refused : Refused) → IsFirstRefused texts refused → (operand_group texts ≡ Err (of_operand refused)) ⊎ TellsOperand texts (of_operand refused)
 by_operand texts refused first = elim first.fault [
-  | inl asked ↦ inl (ap group_of first.split ∙ ap accepted (first_refused first.front first.rest refused.operand refused first.asked first.before asked))
+  | inl asked ↦ inl (ap operand_group first.split ∙ ap accepted (first_refused first.front first.rest refused.operand refused first.asked first.before asked))
   | inr pattern ↦ inr (refused, refl, first, pattern)
 ]
 
-pub group_fault : (texts : List Bytes) (usage : Usage) → IsGroupFault texts usage → (group_of texts ≡ Err usage) ⊎ TellsOperand texts usage
+pub group_fault : (texts : List Bytes) (usage : Usage) → IsGroupFault texts usage → (operand_group texts ≡ Err usage) ⊎ TellsOperand texts usage
 group_fault texts (of_operand refused) fault = by_operand texts refused fault
 group_fault texts no_command fault = inl fault
 group_fault texts no_target fault = inl fault
@@ -47,16 +47,16 @@ both_in_front (Ok a) (Ok b) groups is = (a, b, refl, refl)
 both_in_front (Ok a) (Err usage) groups is = absurd (cc is)
 both_in_front (Err usage) more groups is = absurd (cc is)
 
-first_fault : (front rest : List Bytes) (line : Bytes) (usage : Usage) (groups : List Asked) → groups_of front ≡ Ok groups
-    → group_of (operands_in line) ≡ Err usage → groups_of (front ++ line ∷ rest) ≡ Err usage
-first_fault [] rest line usage groups before is = ap (λ (it : Result Asked Usage). in_front it (groups_of rest)) is
+first_fault : (front rest : List Bytes) (line : Bytes) (usage : Usage) (groups : List Asked) → operand_groups front ≡ Ok groups
+    → operand_group (operands_in line) ≡ Err usage → operand_groups (front ++ line ∷ rest) ≡ Err usage
+first_fault [] rest line usage groups before is = ap (λ (it : Result Asked Usage). in_front it (operand_groups rest)) is
 first_fault (first ∷ front) rest line usage groups before is =
-    let parts = both_in_front (group_of (operands_in first)) (groups_of front) groups before in
-    ap (λ (it : Result Asked Usage). in_front it (groups_of (front ++ line ∷ rest))) parts.2
+    let parts = both_in_front (operand_group (operands_in first)) (operand_groups front) groups before in
+    ap (λ (it : Result Asked Usage). in_front it (operand_groups (front ++ line ∷ rest))) parts.2
     ∙ ap (λ (it : Result (List Asked) Usage). in_front (Ok parts.0) it) (first_fault front rest line usage parts.1 parts.3 is)
 
 -- There is a line, the one that is refused at least.
-some_line : (front rest : List Bytes) (line : Bytes) → some_groups (front ++ line ∷ rest) ≡ groups_of (front ++ line ∷ rest)
+some_line : (front rest : List Bytes) (line : Bytes) → some_groups (front ++ line ∷ rest) ≡ operand_groups (front ++ line ∷ rest)
 some_line [] rest line = refl
 some_line (first ∷ front) rest line = refl
 

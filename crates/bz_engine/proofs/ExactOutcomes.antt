@@ -7,8 +7,8 @@ use Rattle.std.proofs.lemmas.Bool.{cases_lt}
 use Rattle.bz_lex.specs.declared.fault.ReadFault.TheVariants.{NotUtf8}
 use Rattle.bz_tree.specs.Laws.{OneReading}
 use Rattle.bz_items.specs.Characters.{Bytes}
-use Rattle.bz_line.specs.Asked.{Asked, Refused, Usage, of_operand, group_of}
-use Rattle.bz_line.specs.Line.{Given, operands, script, LineUsage, of_clap, beside_script, beside_stdout, Line, line_of}
+use Rattle.bz_line.specs.Asked.{Asked, Refused, Usage, of_operand, operand_group}
+use Rattle.bz_line.specs.Line.{Given, operands, script, LineUsage, of_clap, beside_script, beside_stdout, CommandLine, command_line_of}
 use Rattle.bz_line.specs.Refused.{IsFirstFault}
 use Rattle.bz_line.specs.Script.{lines_in, script_of}
 use Rattle.bz_line.specs.declared.line.Options.{Options}
@@ -70,7 +70,7 @@ abbrev OperandsDone : Options → Asked → World → Left → Type 0
 OperandsDone options asked world left = Performs options (all_steps (asked ∷ [])) world left
 
 abbrev OperandsExact : Options → List Bytes → World → Left → Type 0
-OperandsExact options texts world left = Decided [] (OperandsDone options) (group_of texts) world left
+OperandsExact options texts world left = Decided [] (OperandsDone options) (operand_group texts) world left
 
 operands_exact : (options : Options) (texts : List Bytes) (world : World) (left : Left) → OperandsOutcome options texts world left
     → GivenTellsPattern (operands texts) world left ⊎ OperandsExact options texts world left
@@ -169,7 +169,7 @@ exactly_operands : OneReading → (words : List Bytes) (bytes : Bytes) (options 
 exactly_operands one words bytes options texts world left other known (inl tells) outcome = inl tells
 exactly_operands one words bytes options texts world left other known (inr exact) (inl tells) = inr (inl tells)
 exactly_operands one words bytes options texts world left other known (inr exact) (inr exact') =
-    inr (inr (same_decided words [] (OperandsDone options) (group_of texts) world left other
+    inr (inr (same_decided words [] (OperandsDone options) (operand_group texts) world left other
     (λ asked l o done done'. same_performed one words bytes options (all_steps (asked ∷ [])) world l o known done done') exact exact'))
 
 exactly_text : OneReading → (words : List Bytes) (bytes : Bytes) (options : Options) (name text : Bytes) (world : World) (left other : Left)
@@ -202,7 +202,7 @@ exactly_given one words bytes options (script name) world left other known (text
 -- ---- whole lines
 
 -- What clap tells is its own.
-same_usage : (words : List Bytes) (usage : LineUsage) (world : World) (line line' : Bytes) (left other : Left) → line_of words ≡ Err usage
+same_usage : (words : List Bytes) (usage : LineUsage) (world : World) (line line' : Bytes) (left other : Left) → command_line_of words ≡ Err usage
     → IsLineUsageLine usage line → IsLineUsageLine usage line' → left ≡ unused world.folder line
     → other ≡ unused world.folder line' → SameLeft words world left other
 same_usage words of_clap world line line' left other claps told told' is is' = record {
@@ -216,7 +216,7 @@ same_usage words beside_script world line line' left other claps told told' is i
 same_usage words beside_stdout world line line' left other claps told told' is is' =
     same_left words world left other (is ∙ ap (unused world.folder) (told ∙ sym told') ∙ sym is')
 
-exactly_line : OneReading → (words : List Bytes) (bytes : Bytes) (line : Result Line LineUsage) (world : World) (left other : Left) → line_of words ≡ line
+exactly_line : OneReading → (words : List Bytes) (bytes : Bytes) (line : Result CommandLine LineUsage) (world : World) (left other : Left) → command_line_of words ≡ line
     → world.known ≡ Some bytes → LineOutcome line world left → LineOutcome line world other
     → TellsPattern words world left ⊎ TellsPattern words world other ⊎ SameLeft words world left other
 exactly_line one words bytes (Err usage) world left other says known (line, told, is) (line', told', is') =
@@ -231,4 +231,4 @@ exactly_line one words bytes (Ok line) world left other says known outcome outco
     ]
 
 pub exact : OneReading → OutcomesAreExact
-exact one words world bytes left other known outcome outcome' = exactly_line one words bytes (line_of words) world left other refl known outcome outcome'
+exact one words world bytes left other known outcome outcome' = exactly_line one words bytes (command_line_of words) world left other refl known outcome outcome'

@@ -5,9 +5,9 @@ use Rattle.bz_items.specs.Characters.{Bytes}
 use Rattle.bz_ports.specs.Ports.{IsInput}
 use Rattle.bz_ports.specs.Told.{stdin, fault_line}
 use Rattle.bz_journal.specs.History.{History, Answer}
-use Rattle.bz_workspace.specs.Found.{Found}
+use Rattle.bz_workspace.specs.Found.{PackagesFound}
 use Rattle.bz_workspace.specs.Opens.{Opens, Takes}
-use Rattle.bz_workspace.specs.Packages.{Opened, Used, file_at, place_of}
+use Rattle.bz_workspace.specs.Packages.{Opened, Used, file_at, package_number}
 use Rattle.bz_engine.specs.Exact.{SameLines}
 use Rattle.bz_engine.specs.Run.{World, Progress, Finds, Uses, Answers, Does, RunsSteps, answered, told_of}
 use Rattle.bz_engine.specs.Steps.{RunStep, action_of}
@@ -22,7 +22,7 @@ one_input known bytes text other is input other_input =
     let there : other ≡ bytes = subst (λ (it : Option Bytes). IsInput it other) is other_input in
     here ∙ sym there
 
-one_found : (world : World) (bytes current : Bytes) (found found' : Option Found) → world.known ≡ Some bytes → Finds world current found
+one_found : (world : World) (bytes current : Bytes) (found found' : Option PackagesFound) → world.known ≡ Some bytes → Finds world current found
     → Finds world current found' → found ≡ found'
 one_found world bytes current found found' known (inl (is, (text, input, here))) (inl (is', (text', input', here'))) =
     here ∙ ap (λ (it : Bytes). Some (stdin, it)) (one_input world.known bytes text text' known input input') ∙ sym here'
@@ -61,7 +61,7 @@ same_taken words world current name text file file' lines lines' found (inr (ref
   ),
 )
 
-same_opened : (words : List Bytes) (world : World) (current : Bytes) (found : Option Found) (file file' : Option Opened) (lines lines' : List Bytes)
+same_opened : (words : List Bytes) (world : World) (current : Bytes) (found : Option PackagesFound) (file file' : Option Opened) (lines lines' : List Bytes)
     → Finds world current found → Opens current found file lines → Opens current found file' lines' → TakesSame words world file file' lines lines'
 same_opened words world current None file file' lines lines' found opens opens' =
     (opens.0 ∙ sym opens'.0, same_lines words world lines lines' (opens.1 ∙ sym opens'.1))
@@ -78,14 +78,14 @@ same_used : (words : List Bytes) (world : World) (bytes current : Bytes) (before
     (after after' : List Used) → world.known ≡ Some bytes → Uses world current before place lines after → Uses world current before place' lines' after'
     → (place ≡ place') × SameLines words world lines lines' × (after ≡ after')
 same_used words world bytes current before place place' lines lines' after after' known (inl (is, none, same)) (inl (is', none', same')) =
-    (one_place place place' (place_of current before) is is', same_lines words world lines lines' (none ∙ sym none'), same ∙ sym same')
+    (one_place place place' (package_number current before) is is', same_lines words world lines lines' (none ∙ sym none'), same ∙ sym same')
 same_used words world bytes current before place place' lines lines' after after' known (inl (is, none, same)) (inr (new, is_last, opens)) =
-    absurd (no_place place (place_of current before) is new)
+    absurd (no_place place (package_number current before) is new)
 same_used words world bytes current before place place' lines lines' after after' known (inr (new, is_last, opens)) (inl (is, none, same)) =
-    absurd (no_place place' (place_of current before) is new)
+    absurd (no_place place' (package_number current before) is new)
 same_used words world bytes current before place place' lines lines' after after' known (inr (new, is, (found, file, finds, opens, same))) (inr (new', is', (found', file', finds', opens', same'))) =
     let there : found ≡ found' = one_found world bytes current found found' known finds finds' in
-    let opens_here : Opens current found file' lines' = subst (λ (it : Option Found). Opens current it file' lines') (sym there) opens' in
+    let opens_here : Opens current found file' lines' = subst (λ (it : Option PackagesFound). Opens current it file' lines') (sym there) opens' in
     let here = same_opened words world current found file file' lines lines' finds opens opens_here in
     (is ∙ sym is', here.1, same ∙ ap (λ (it : Option Opened). before ++ record { «package» = current; file = it } ∷ []) here.0 ∙ sym same')
 

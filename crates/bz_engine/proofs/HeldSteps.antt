@@ -9,9 +9,9 @@ use Rattle.bz_items.specs.Characters.{Bytes}
 use Rattle.bz_files.specs.Folder.{Folder, with_file as with_bytes}
 use Rattle.bz_files.proofs.Folders.{other_stays}
 use Rattle.bz_journal.specs.History.{History, present}
-use Rattle.bz_workspace.specs.Found.{Found, found_at, found_in, in_package, first_name, second_name}
+use Rattle.bz_workspace.specs.Found.{PackagesFound, found_at, found_in, in_package, first_name, second_name}
 use Rattle.bz_workspace.specs.Opens.{Opens, Takes}
-use Rattle.bz_workspace.specs.Packages.{Opened, Used, place_of, file_at, with_file}
+use Rattle.bz_workspace.specs.Packages.{Opened, Used, package_number, file_at, with_opened}
 use Rattle.bz_engine.specs.Ending.{differs, is_input, is_written, Writing, file_writing, all_writings, WritesFiles}
 use Rattle.bz_engine.specs.Run.{World, Progress, nothing_done, Finds, Uses, Answers, Does, RunsSteps}
 use Rattle.bz_engine.specs.Steps.{RunStep, input_package}
@@ -61,12 +61,12 @@ found_holds folder current name text is = go (get folder (first_name current)) (
         → found_at (first_name current) one (found_at (second_name current) two None) ≡ Some (name, text)
         → IsNameOf current name × (get folder name ≡ Some text)
     go (Some bytes) two first second is =
-        let named : first_name current ≡ name = ap (λ (found : Option Found). (unwrap_or found ([], [])).0) is in
-        let holds : bytes ≡ text = ap (λ (found : Option Found). (unwrap_or found ([], [])).1) is in
+        let named : first_name current ≡ name = ap (λ (found : Option PackagesFound). (unwrap_or found ([], [])).0) is in
+        let holds : bytes ≡ text = ap (λ (found : Option PackagesFound). (unwrap_or found ([], [])).1) is in
         (inl (sym named), ap (get folder) (sym named) ∙ first ∙ ap Some holds)
     go None (Some bytes) first second is =
-        let named : second_name current ≡ name = ap (λ (found : Option Found). (unwrap_or found ([], [])).0) is in
-        let holds : bytes ≡ text = ap (λ (found : Option Found). (unwrap_or found ([], [])).1) is in
+        let named : second_name current ≡ name = ap (λ (found : Option PackagesFound). (unwrap_or found ([], [])).0) is in
+        let holds : bytes ≡ text = ap (λ (found : Option PackagesFound). (unwrap_or found ([], [])).1) is in
         (inr (sym named), ap (get folder) (sym named) ∙ second ∙ ap Some holds)
     go None None first second is = absurd (cc is)
 
@@ -97,11 +97,11 @@ not_behind true found none = let e = none in absurd (cc e)
 not_behind false None none = refl
 not_behind false (Some place) none = let e = none in absurd (cc e)
 
-apart_from : (current : Bytes) (used : List Used) → place_of current used ≡ None → IsApart current used
+apart_from : (current : Bytes) (used : List Used) → package_number current used ≡ None → IsApart current used
 apart_from current [] none = tt
 apart_from current (used ∷ more) none = (
-  (λ is. not_here (bytes_eq used.«package» current) (place_of current more) none ((bytes_eq-Decides used.«package» current).1 is)),
-  apart_from current more (not_behind (bytes_eq used.«package» current) (place_of current more) none),
+  (λ is. not_here (bytes_eq used.«package» current) (package_number current more) none ((bytes_eq-Decides used.«package» current).1 is)),
+  apart_from current more (not_behind (bytes_eq used.«package» current) (package_number current more) none),
 )
 
 apart_last : (current : Bytes) (used : List Used) (one : Used) → IsApart current used → one.«package» ≢ current → IsApart current (used ++ one ∷ [])
@@ -116,7 +116,7 @@ held_last folder (used ∷ more) one all holds apart =
 
 -- ---- steps
 
-opens_held : (world : World) (current : Bytes) (found : Option Found) (file : Option Opened) (lines : List Bytes) → (current ≡ input_package → ⊥)
+opens_held : (world : World) (current : Bytes) (found : Option PackagesFound) (file : Option Opened) (lines : List Bytes) → (current ≡ input_package → ⊥)
     → Finds world current found → Opens current found file lines → IfSome file (IsHeld world.folder current)
 opens_held world current found file lines other (inl input) opens = absurd (other input.0)
 opens_held world current None file lines other (inr there) opens =
@@ -133,13 +133,13 @@ uses_held world current before place lines after (inr (none, number, (found, fil
     subst (HoldAll world.folder) (sym new) (held_last world.folder before (record { «package» = current; file = file }) all
     (λ other. opens_held world current found file lines other finds opens) (apart_from current before none))
 
-apart_kept : (current : Bytes) (place : ℕ) (file : Option Opened) (used : List Used) → IsApart current used → IsApart current (with_file place file used)
+apart_kept : (current : Bytes) (place : ℕ) (file : Option Opened) (used : List Used) → IsApart current used → IsApart current (with_opened place file used)
 apart_kept current place file [] apart = tt
 apart_kept current zero file (used ∷ more) apart = apart
 apart_kept current (suc place) file (used ∷ more) apart = (apart.0, apart_kept current place file more apart.1)
 
 kept_held : (folder : Folder) (place : ℕ) (file : Opened) (history : History) (used : List Used) → file_at place used ≡ Some file → HoldAll folder used
-    → HoldAll folder (with_file place (Some (record file { history = history })) used)
+    → HoldAll folder (with_opened place (Some (record file { history = history })) used)
 kept_held folder place file history [] at all = tt
 kept_held folder zero file history (used ∷ more) at all =
     ((λ other. subst (λ (it : Option Opened). IfSome it (IsHeld folder used.«package»)) at (all.0 other)), all.1, all.2)

@@ -5,7 +5,7 @@ use Rattle.std.proofs.lemmas.List.Elements.{All-head, All-tail}
 use Rattle.bz_items.specs.Characters.{Bytes}
 use Rattle.bz_label.specs.declared.target.Target.{Target}
 use Rattle.bz_line.specs.Asked.{Asked, Asking}
-use Rattle.bz_workspace.specs.Packages.{Opened, Used, with_file, file_at}
+use Rattle.bz_workspace.specs.Packages.{Opened, Used, with_opened, file_at}
 use Rattle.bz_engine.specs.Ending.{Writing, file_writing, all_writings}
 use Rattle.bz_engine.specs.Outcome.{AreOfInput}
 use Rattle.bz_engine.specs.Run.{World, Progress, nothing_done, Uses, Answers, Does, RunsSteps}
@@ -40,7 +40,7 @@ one_more : (used : List Used) (last : Used) → last.«package» ≡ input_packa
 one_more [] last is are = (is, tt)
 one_more (used ∷ more) last is are = (are.0, one_more more last is are.1)
 
-kept : (place : ℕ) (file : Option Opened) (used : List Used) → AreInput used → AreInput (with_file place file used)
+kept : (place : ℕ) (file : Option Opened) (used : List Used) → AreInput used → AreInput (with_opened place file used)
 kept place file [] are = tt
 kept zero file (used ∷ more) are = are
 kept (suc place) file (used ∷ more) are = (are.0, kept place file more are.1)

@@ -8,7 +8,7 @@ use Rattle.bz_items.specs.Characters.{Bytes}
 use Rattle.bz_ports.specs.Told.{stdin}
 use Rattle.bz_workspace.specs.Found.{found_in}
 use Rattle.bz_workspace.specs.Opens.{Opens, Takes}
-use Rattle.bz_workspace.specs.Packages.{Opened, Used, file_at, place_of, with_file}
+use Rattle.bz_workspace.specs.Packages.{Opened, Used, file_at, package_number, with_opened}
 use Rattle.bz_workspace.specs.declared.opening.Opening.{Opening}
 use Rattle.bz_workspace.proofs.FrontSteps.{front_takes}
 use Rattle.bz_ports.specs.declared.exit.Cut.{Cut}
@@ -29,17 +29,17 @@ input_takes (Some all) current name front file lines read takes =
 -- ---- the package that was used last
 
 file_put_last : (used : List Used) (one : Used) (file : Option Opened)
-    → with_file (length used) file (used ++ one ∷ []) ≡ used ++ record one { file = file } ∷ []
+    → with_opened (length used) file (used ++ one ∷ []) ≡ used ++ record one { file = file } ∷ []
 file_put_last [] one file = refl
 file_put_last (first ∷ more) one file = ap (λ (rest : List Used). first ∷ rest) (file_put_last more one file)
 
 pub opened_last : (place : ℕ) (used mid new : List Used) (text current : Bytes) (file : Option Opened) → place ≡ length used → text ≡ current
-    → mid ≡ used ++ record { «package» = text; file = None } ∷ [] → new ≡ with_file place file mid
+    → mid ≡ used ++ record { «package» = text; file = None } ∷ [] → new ≡ with_opened place file mid
     → new ≡ used ++ record { «package» = current; file = file } ∷ []
 opened_last place used mid new text current file at same is put =
     put
-    ∙ (ap (λ (n : ℕ). with_file n file mid) at
-    ∙ (ap (with_file (length used) file) is
+    ∙ (ap (λ (n : ℕ). with_opened n file mid) at
+    ∙ (ap (with_opened (length used) file) is
     ∙ (file_put_last used (record { «package» = text; file = None }) file
     ∙ ap (λ (name : Bytes). used ++ record { «package» = name; file = file } ∷ []) same)))
 
@@ -62,10 +62,10 @@ stays_none true long short less none = let e = none in absurd (cc)
 stays_none false (Some place) short less none = let e = none in absurd (cc)
 stays_none false None short less none = ap (option_map (λ (place : ℕ). place + 1)) (less refl)
 
-unused_before : (current : Bytes) (used : List Used) (one : Used) → place_of current (used ++ one ∷ []) ≡ None → place_of current used ≡ None
+unused_before : (current : Bytes) (used : List Used) (one : Used) → package_number current (used ++ one ∷ []) ≡ None → package_number current used ≡ None
 unused_before current [] one none = refl
 unused_before current (first ∷ more) one none =
-    stays_none (bytes_eq first.package current) (place_of current (more ++ one ∷ [])) (place_of current more) (unused_before current more one) none
+    stays_none (bytes_eq first.package current) (package_number current (more ++ one ∷ [])) (package_number current more) (unused_before current more one) none
 
 found_here : (b : Bool) (found : Option ℕ) → b ≡ true → (if b then Some 0 else option_map (λ place. place + 1) found) ≡ None → ⊥
 found_here true found is none = let e = none in cc
@@ -76,25 +76,25 @@ found_behind true found some none = let e = none in cc
 found_behind false (Some place) some none = let e = none in cc
 found_behind false None some none = some refl
 
-pub last_is_used : (current : Bytes) (used : List Used) (one : Used) → one.package ≡ current → place_of current (used ++ one ∷ []) ≡ None → ⊥
+pub last_is_used : (current : Bytes) (used : List Used) (one : Used) → one.package ≡ current → package_number current (used ++ one ∷ []) ≡ None → ⊥
 last_is_used current [] one is none = found_here (bytes_eq one.package current) None ((bytes_eq-Decides one.package current).1 is) none
 last_is_used current (first ∷ more) one is none =
-    found_behind (bytes_eq first.package current) (place_of current (more ++ one ∷ [])) (last_is_used current more one is) none
+    found_behind (bytes_eq first.package current) (package_number current (more ++ one ∷ [])) (last_is_used current more one is) none
 
 -- ---- what is left of standard input
 
 pub left_behind_input : (known remaining : Option Bytes) (used new : List Used) (one : Used) → one.package ≡ input_package → new ≡ used ++ one ∷ []
     → IsLeft known new remaining
 left_behind_input known remaining used new one is added = λ none.
-    absurd (last_is_used input_package used one is (subst (λ (all : List Used). place_of input_package all ≡ None) added none))
+    absurd (last_is_used input_package used one is (subst (λ (all : List Used). package_number input_package all ≡ None) added none))
 
 pub left_behind : (known remaining : Option Bytes) (used new : List Used) (one : Used) → new ≡ used ++ one ∷ [] → IsLeft known used remaining
     → IsLeft known new remaining
 left_behind known remaining used new one added left = λ none.
-    left (unused_before input_package used one (subst (λ (all : List Used). place_of input_package all ≡ None) added none))
+    left (unused_before input_package used one (subst (λ (all : List Used). package_number input_package all ≡ None) added none))
 
 -- an action changes no package
-pub place_stays : (current : Bytes) (place : ℕ) (file : Option Opened) (used : List Used) → place_of current (with_file place file used) ≡ place_of current used
+pub place_stays : (current : Bytes) (place : ℕ) (file : Option Opened) (used : List Used) → package_number current (with_opened place file used) ≡ package_number current used
 place_stays current place file [] = refl
 place_stays current zero file (one ∷ more) = refl
 place_stays current (suc place) file (one ∷ more) =
@@ -103,9 +103,9 @@ place_stays current (suc place) file (one ∷ more) =
 pub left_after : (known remaining : Option Bytes) (step : RunStep) (place : ℕ) (found : Option Opened) (before after : Progress) (lines : List Bytes)
     → Answers step place found before lines after → IsLeft known before.used remaining → IsLeft known after.used remaining
 left_after known remaining step place None before after lines answers left = λ none.
-    left (sym (ap (λ (state : Progress). place_of input_package state.used) answers.1) ∙ none)
+    left (sym (ap (λ (state : Progress). package_number input_package state.used) answers.1) ∙ none)
 left_after known remaining step place (Some file) before after lines answers left = λ none.
-    left (sym (ap (λ (state : Progress). place_of input_package state.used) answers.4
+    left (sym (ap (λ (state : Progress). package_number input_package state.used) answers.4
     ∙ place_stays input_package place (Some (record file { history = answers.1 })) before.used) ∙ none)
 
 -- ---- how a package is used
@@ -129,14 +129,14 @@ last_place used new current file found added is =
     is ∙ ap (option_map (λ (_ : Opened). length used)) (sym (last_file used new (record { «package» = current; file = file }) added))
 
 pub uses_input : (world : World) (current text : Bytes) (used new : List Used) (file : Option Opened) (lines : List Bytes) → current ≡ input_package
-    → place_of input_package used ≡ None → IsInput world.known text → Takes input_package stdin text file lines
+    → package_number input_package used ≡ None → IsInput world.known text → Takes input_package stdin text file lines
     → new ≡ used ++ record { «package» = input_package; file = file } ∷ [] → Uses world current used (length used) lines new
 uses_input world current text used new file lines is none input takes added =
     subst (λ (name : Bytes). Uses world name used (length used) lines new) (sym is)
     (inr (none, refl, (Some (stdin, text), file, inl (refl, (text, input, refl)), takes, added)))
 
 pub uses_found : (world : World) (current : Bytes) (used new : List Used) (file : Option Opened) (lines : List Bytes) → (current ≡ input_package → ⊥)
-    → place_of current used ≡ None → Opens current (found_in world.folder current) file lines
+    → package_number current used ≡ None → Opens current (found_in world.folder current) file lines
     → new ≡ used ++ record { «package» = current; file = file } ∷ [] → Uses world current used (length used) lines new
 uses_found world current used new file lines other none opens added =
     inr (none, refl, (found_in world.folder current, file, inr (other, refl), opens, added))

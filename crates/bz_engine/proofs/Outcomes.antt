@@ -5,8 +5,8 @@ use Rattle.std.proofs.lemmas.List.{take_all, length-take}
 use Rattle.bz_lex.specs.declared.fault.ReadFault.TheVariants.{NotUtf8}
 use Rattle.bz_items.specs.Characters.{Bytes}
 use Rattle.bz_files.specs.Folder.{Folder}
-use Rattle.bz_line.specs.Asked.{Asked, Usage, group_of}
-use Rattle.bz_line.specs.Line.{Given, script, Line, LineUsage, line_of}
+use Rattle.bz_line.specs.Asked.{Asked, Usage, operand_group}
+use Rattle.bz_line.specs.Line.{Given, script, CommandLine, LineUsage, command_line_of}
 use Rattle.bz_line.specs.Refused.{IsGroupFault, IsScriptFault}
 use Rattle.bz_line.specs.Script.{script_of}
 use Rattle.bz_line.specs.declared.line.Options.{Options}
@@ -76,24 +76,24 @@ operands_refused options texts world found usage line status out f g old new fau
   stands_unused world.folder world.folder line status out f g old new refl exit tells,
 )
 
-pub operands_done : (options : Options) (texts : List Bytes) (world : World) (asked : Asked) (lines : List Asked) (left : Left) → group_of texts ≡ Ok asked
+pub operands_done : (options : Options) (texts : List Bytes) (world : World) (asked : Asked) (lines : List Asked) (left : Left) → operand_group texts ≡ Ok asked
     → lines ≡ asked ∷ [] → Performs options (all_steps lines) world left → OperandsOutcome options texts world left
 operands_done options texts world asked lines left is same performs =
     inr (asked, is, subst (λ (these : List Asked). Performs options (all_steps these) world left) same performs)
 
-pub operands_of_input : (texts : List Bytes) (asked : Asked) (lines : List Asked) → group_of texts ≡ Ok asked → lines ≡ asked ∷ []
-    → IfOk (group_of texts) (λ asked. AreOfInput (asked ∷ [])) → AreOfInput lines
+pub operands_of_input : (texts : List Bytes) (asked : Asked) (lines : List Asked) → operand_group texts ≡ Ok asked → lines ≡ asked ∷ []
+    → IfOk (operand_group texts) (λ asked. AreOfInput (asked ∷ [])) → AreOfInput lines
 operands_of_input texts asked lines is same are =
     subst AreOfInput (sym same) (subst (λ (it : Result Asked Usage). IfOk it (λ asked. AreOfInput (asked ∷ []))) is are)
 
-pub operands_premise : (honest : Bool) (texts : List Bytes) (asked : Asked) (lines : List Asked) → group_of texts ≡ Ok asked → lines ≡ asked ∷ []
-    → (honest ≡ true) ⊎ IfOk (group_of texts) (λ asked. AreOfInput (asked ∷ [])) → (honest ≡ true) ⊎ AreOfInput lines
+pub operands_premise : (honest : Bool) (texts : List Bytes) (asked : Asked) (lines : List Asked) → operand_group texts ≡ Ok asked → lines ≡ asked ∷ []
+    → (honest ≡ true) ⊎ IfOk (operand_group texts) (λ asked. AreOfInput (asked ∷ [])) → (honest ≡ true) ⊎ AreOfInput lines
 operands_premise honest texts asked lines is same (inl is_honest) = inl is_honest
 operands_premise honest texts asked lines is same (inr are) = inr (operands_of_input texts asked lines is same are)
 
 -- rules of standard input that operands name
-pub names_given : (texts : List Bytes) (asked : Asked) (lines : List Asked) → group_of texts ≡ Ok asked → lines ≡ asked ∷ []
-    → (other : Asked) × (group_of texts ≡ Ok other) × (names_input (other ∷ []) ≡ true) → names_input lines ≡ true
+pub names_given : (texts : List Bytes) (asked : Asked) (lines : List Asked) → operand_group texts ≡ Ok asked → lines ≡ asked ∷ []
+    → (other : Asked) × (operand_group texts ≡ Ok other) × (names_input (other ∷ []) ≡ true) → names_input lines ≡ true
 names_given texts asked lines is same (other, found, named) =
     let one : other ≡ asked = ok_same other asked (sym found ∙ is) in
     ap names_input (same ∙ ap (λ (a : Asked). a ∷ []) (sym one)) ∙ named
@@ -175,33 +175,33 @@ script_done options name text text' folder folder' known left same still is outc
 -- ---- words
 
 pub words_refused : (words : List Bytes) (world : World) (found : Option LineUsage) (usage : LineUsage) (line : Bytes) (status : ℕ) (out : Option Bytes)
-    (f g : ℕ) (old new : Option Bytes) → IfSome found (λ usage. line_of words ≡ Err usage) → found ≡ Some usage → IsLineUsageLine usage line
+    (f g : ℕ) (old new : Option Bytes) → IfSome found (λ usage. command_line_of words ≡ Err usage) → found ≡ Some usage → IsLineUsageLine usage line
     → status ≡ 1 → Tells f g old new (line ∷ []) → (left : Left) × WordsOutcome words world left × LeftStands left status world.folder out out f g old new
 words_refused words world found usage line status out f g old new fault is told exit tells =
     let left = unused world.folder line in
     let refused : LineOutcome (Err usage) world left = (line, told, refl) in (
       left,
-      subst (λ (it : Result Line LineUsage). LineOutcome it world left) (sym (at_some (λ usage. line_of words ≡ Err usage) found usage is fault)) refused,
+      subst (λ (it : Result CommandLine LineUsage). LineOutcome it world left) (sym (at_some (λ usage. command_line_of words ≡ Err usage) found usage is fault)) refused,
       stands_unused world.folder world.folder line status out f g old new refl exit tells,
     )
 
-pub words_done : (words : List Bytes) (line : Line) (given : Given) (world : World) (left : Left) → line_of words ≡ Ok line → line.given ≡ given
+pub words_done : (words : List Bytes) (line : CommandLine) (given : Given) (world : World) (left : Left) → command_line_of words ≡ Ok line → line.given ≡ given
     → GivenOutcome line.options given world left → WordsOutcome words world left
 words_done words line given world left is same outcome =
     let whole : LineOutcome (Ok line) world left = subst (λ (it : Given). GivenOutcome line.options it world left) (sym same) outcome in
-    subst (λ (it : Result Line LineUsage). LineOutcome it world left) (sym is) whole
+    subst (λ (it : Result CommandLine LineUsage). LineOutcome it world left) (sym is) whole
 
-pub words_of_input : (words : List Bytes) (line : Line) (given : Given) → line_of words ≡ Ok line → line.given ≡ given → NamesNoFile words → IsOfInput given
+pub words_of_input : (words : List Bytes) (line : CommandLine) (given : Given) → command_line_of words ≡ Ok line → line.given ≡ given → NamesNoFile words → IsOfInput given
 words_of_input words line given is same none =
-    subst IsOfInput same (subst (λ (it : Result Line LineUsage). IfOk it (λ line. IsOfInput line.given)) is none)
+    subst IsOfInput same (subst (λ (it : Result CommandLine LineUsage). IfOk it (λ line. IsOfInput line.given)) is none)
 
-pub words_premise : (honest : Bool) (words : List Bytes) (line : Line) (given : Given) → line_of words ≡ Ok line → line.given ≡ given
+pub words_premise : (honest : Bool) (words : List Bytes) (line : CommandLine) (given : Given) → command_line_of words ≡ Ok line → line.given ≡ given
     → (honest ≡ true) ⊎ NamesNoFile words → (honest ≡ true) ⊎ IsOfInput given
 words_premise honest words line given is same (inl is_honest) = inl is_honest
 words_premise honest words line given is same (inr none) = inr (words_of_input words line given is same none)
 
-pub words_plain : (words : List Bytes) (line : Line) → line_of words ≡ Ok line → KeepsNoJournal words → line.options.journal ≡ false
-words_plain words line is plain = subst (λ (it : Result Line LineUsage). IfOk it (λ line. line.options.journal ≡ false)) is plain
+pub words_plain : (words : List Bytes) (line : CommandLine) → command_line_of words ≡ Ok line → KeepsNoJournal words → line.options.journal ≡ false
+words_plain words line is plain = subst (λ (it : Result CommandLine LineUsage). IfOk it (λ line. line.options.journal ≡ false)) is plain
 
 pub script_premise : (honest : Bool) (name : Bytes) → (honest ≡ true) ⊎ IsOfInput (script name) → honest ≡ true
 script_premise honest name (inl is_honest) = is_honest

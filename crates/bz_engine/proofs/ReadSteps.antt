@@ -4,7 +4,7 @@ use Rattle.std.specs.Io.KnownBytes.{Appends}
 use Rattle.std.specs.Option.{option_map}
 use Rattle.std.proofs.Math.Seq.{take-nil}
 use Rattle.bz_items.specs.Characters.{Bytes}
-use Rattle.bz_workspace.specs.Packages.{Opened, Used, file_at, place_of}
+use Rattle.bz_workspace.specs.Packages.{Opened, Used, file_at, package_number}
 use Rattle.bz_ports.specs.Exits.{first_cut}
 use Rattle.bz_ports.specs.Faults.{AppendsSome}
 use Rattle.bz_ports.specs.declared.exit.Cut.{Cut}
@@ -52,7 +52,7 @@ opens_again place used new found why at is same uses = record {
   whole = λ whole. subst UsesInput (sym same) uses;
 }
 
-pub opens_first : (used new : List Used) (found : Option ℕ) (why : Cut) → place_of input_package used ≡ None
+pub opens_first : (used new : List Used) (found : Option ℕ) (why : Cut) → package_number input_package used ≡ None
     → (why ≡ c.Read → (found ≡ None) × (new ≡ used ++ record { «package» = input_package; file = None } ∷ []))
     → (why ≡ c.Whole → (file : Option Opened) × (new ≡ used ++ record { «package» = input_package; file = file } ∷ [])) → OpensInput why found used new
 opens_first used new found why none failed whole = record {
@@ -78,9 +78,9 @@ some_none found place some none = absurd (let e = sym some ∙ none in cc)
 answers_use : (step : RunStep) (place : ℕ) (found : Option Opened) (before after : Progress) (lines : List Bytes) → Answers step place found before lines after
     → UsesInput before.used → UsesInput after.used
 answers_use step place None before after lines answers uses = λ none.
-    uses (sym (ap (λ (state : Progress). place_of input_package state.used) answers.1) ∙ none)
+    uses (sym (ap (λ (state : Progress). package_number input_package state.used) answers.1) ∙ none)
 answers_use step place (Some file) before after lines answers uses = λ none.
-    uses (sym (ap (λ (state : Progress). place_of input_package state.used) answers.4
+    uses (sym (ap (λ (state : Progress). package_number input_package state.used) answers.4
     ∙ place_stays input_package place (Some (record file { history = answers.1 })) before.used) ∙ none)
 
 -- A command is done in the file that was opened.
@@ -177,8 +177,8 @@ reads_more c.Files later before mid after first more = record {
 
 -- ---- how runs end
 
-pub uses_so : (name : Bytes) (used : List Used) (place : ℕ) → name ≡ input_package → place_of name used ≡ Some place → UsesInput used
-uses_so name used place is found = λ none. let e = sym found ∙ ap (λ (n : Bytes). place_of n used) is ∙ none in cc
+pub uses_so : (name : Bytes) (used : List Used) (place : ℕ) → name ≡ input_package → package_number name used ≡ Some place → UsesInput used
+uses_so name used place is found = λ none. let e = sym found ∙ ap (λ (n : Bytes). package_number n used) is ∙ none in cc
 
 -- The steps are cut by standard input, where the run is.
 pub read_before : (result why : Cut) (A : Type 0) → (result ≡ why) ⊎ ((why ≡ c.Whole) × ((result ≡ c.Memory) ⊎ (result ≡ c.Write) ⊎ ((result ≡ c.Files) × A)))

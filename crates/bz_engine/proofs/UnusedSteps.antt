@@ -2,7 +2,7 @@
 use Rattle.std.proofs.Common.{◌≡◌, ◌≢◌, inl, ℕ, List, Ok, IfOk, Result, arith, sym, subst}
 use Rattle.bz_items.specs.Characters.{Bytes}
 use Rattle.bz_files.specs.Folder.{Folder, Elapses}
-use Rattle.bz_line.specs.Line.{script, Line, LineUsage, line_of}
+use Rattle.bz_line.specs.Line.{script, CommandLine, LineUsage, command_line_of}
 use Rattle.bz_engine.specs.Outcome.{StandApart, StandInNoFile, TakesNoInput, TakesNoFile}
 use Rattle.bz_engine.specs.Steps.{input_package}
 
@@ -21,12 +21,12 @@ no_more_time moment since before mid after P same time =
 
 -- ---- lines that stand in a file, or in standard input
 
-pub lines_apart : (words : List Bytes) (line : Line) (name : Bytes) → line_of words ≡ Ok line → line.given ≡ script name → TakesNoInput words
+pub lines_apart : (words : List Bytes) (line : CommandLine) (name : Bytes) → command_line_of words ≡ Ok line → line.given ≡ script name → TakesNoInput words
     → name ≢ input_package
 lines_apart words line name is same takes =
-    subst StandApart same (subst (λ (it : Result Line LineUsage). IfOk it (λ line. StandApart line.given)) is takes)
+    subst StandApart same (subst (λ (it : Result CommandLine LineUsage). IfOk it (λ line. StandApart line.given)) is takes)
 
-pub lines_of_input : (words : List Bytes) (line : Line) (name : Bytes) → line_of words ≡ Ok line → line.given ≡ script name → TakesNoFile words
+pub lines_of_input : (words : List Bytes) (line : CommandLine) (name : Bytes) → command_line_of words ≡ Ok line → line.given ≡ script name → TakesNoFile words
     → name ≡ input_package
 lines_of_input words line name is same takes =
-    subst StandInNoFile same (subst (λ (it : Result Line LineUsage). IfOk it (λ line. StandInNoFile line.given)) is takes)
+    subst StandInNoFile same (subst (λ (it : Result CommandLine LineUsage). IfOk it (λ line. StandInNoFile line.given)) is takes)

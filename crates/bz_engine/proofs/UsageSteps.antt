@@ -3,8 +3,8 @@ use Rattle.std.proofs.Common.{◌≡◌, ◌&&◌, inl, inr, ℕ, List, [], ◌�
 use Rattle.std.specs.Str.{IsUtf8, IsValidUpTo}
 use Rattle.bz_lex.specs.declared.fault.ReadFault.TheVariants.{NotUtf8}
 use Rattle.bz_items.specs.Characters.{Bytes}
-use Rattle.bz_line.specs.Asked.{Asked, Usage, group_of}
-use Rattle.bz_line.specs.Line.{Given, script, Line, LineUsage, line_of}
+use Rattle.bz_line.specs.Asked.{Asked, Usage, operand_group}
+use Rattle.bz_line.specs.Line.{Given, script, CommandLine, LineUsage, command_line_of}
 use Rattle.bz_line.specs.Refused.{IsGroupFault, IsScriptFault}
 use Rattle.bz_line.specs.Script.{script_of}
 use Rattle.bz_line.specs.declared.line.Options.{Options}
@@ -31,7 +31,7 @@ operands_told options texts found usage line f g old new fault is says tells =
     (line, inl (usage, at_some (IsGroupFault texts) found usage is fault, says), tells)
 
 pub operands_named : (options : Options) (texts : List Bytes) (asked : Asked) (lines : List Asked) (f g : ℕ) (old new : Option Bytes)
-    → group_of texts ≡ Ok asked → lines ≡ asked ∷ [] → options.journal ≡ true → names_input lines ≡ true → Tells f g old new (no_journal_line ∷ [])
+    → operand_group texts ≡ Ok asked → lines ≡ asked ∷ [] → options.journal ≡ true → names_input lines ≡ true → Tells f g old new (no_journal_line ∷ [])
     → TellsOne (OperandsTell options texts) f g old new
 operands_named options texts asked lines f g old new is same journal named tells =
     (no_journal_line, inr (asked, is, (journal, ap names_input (sym same) ∙ named, refl)), tells)
@@ -85,17 +85,17 @@ told_from P f f' g old old' new count held told =
 -- ---- words
 
 pub words_told : (honest : Bool) (world : World) (words : List Bytes) (found : Option LineUsage) (usage : LineUsage) (line : Bytes) (f g : ℕ)
-    (old new : Option Bytes) → IfSome found (λ usage. line_of words ≡ Err usage) → found ≡ Some usage → IsLineUsageLine usage line
-    → Tells f g old new (line ∷ []) → TellsOne (LineTells honest world (line_of words)) f g old new
+    (old new : Option Bytes) → IfSome found (λ usage. command_line_of words ≡ Err usage) → found ≡ Some usage → IsLineUsageLine usage line
+    → Tells f g old new (line ∷ []) → TellsOne (LineTells honest world (command_line_of words)) f g old new
 words_told honest world words found usage line f g old new fault is says tells = (
   line,
-  subst (λ (it : Result Line LineUsage). LineTells honest world it line) (sym (at_some (λ usage. line_of words ≡ Err usage) found usage is fault)) says,
+  subst (λ (it : Result CommandLine LineUsage). LineTells honest world it line) (sym (at_some (λ usage. command_line_of words ≡ Err usage) found usage is fault)) says,
   tells,
 )
 
-pub given_told : (honest : Bool) (world : World) (words : List Bytes) (line : Line) (given : Given) (f g : ℕ) (old new : Option Bytes)
-    → line_of words ≡ Ok line → line.given ≡ given → TellsOne (GivenTells honest world line.options given) f g old new
-    → TellsOne (LineTells honest world (line_of words)) f g old new
+pub given_told : (honest : Bool) (world : World) (words : List Bytes) (line : CommandLine) (given : Given) (f g : ℕ) (old new : Option Bytes)
+    → command_line_of words ≡ Ok line → line.given ≡ given → TellsOne (GivenTells honest world line.options given) f g old new
+    → TellsOne (LineTells honest world (command_line_of words)) f g old new
 given_told honest world words line given f g old new is same told =
     let whole : LineTells honest world (Ok line) told.0 = subst (λ (it : Given). GivenTells honest world line.options it told.0) (sym same) told.1 in
-    (told.0, subst (λ (it : Result Line LineUsage). LineTells honest world it told.0) (sym is) whole, told.2)
+    (told.0, subst (λ (it : Result CommandLine LineUsage). LineTells honest world it told.0) (sym is) whole, told.2)

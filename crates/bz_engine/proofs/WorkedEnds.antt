@@ -13,8 +13,8 @@ use Rattle.bz_journal.specs.Meaning.{gives}
 use Rattle.bz_journal.specs.declared.action.Reply.TheVariants.{Changed, Moved}
 use Rattle.bz_label.specs.declared.target.Target.{Target}
 use Rattle.bz_label.specs.declared.target.Which.TheVariants.{Name}
-use Rattle.bz_line.specs.Asked.{Asked, Asking, Usage, nothing, group_of, no_command, no_target, no_line, of_operand}
-use Rattle.bz_line.specs.Line.{Line, LineUsage, operands, script, line_of}
+use Rattle.bz_line.specs.Asked.{Asked, Asking, Usage, nothing_asked, operand_group, no_command, no_target, no_line, of_operand}
+use Rattle.bz_line.specs.Line.{CommandLine, LineUsage, operands, script, command_line_of}
 use Rattle.bz_line.specs.Refused.{IsGroupFault}
 use Rattle.bz_line.specs.declared.line.Options.{Options}
 use Rattle.bz_line.specs.declared.verb.OperandFault.{OperandFault}
@@ -27,8 +27,8 @@ use Rattle.bz_words.specs.declared.command.Operation.TheVariants as w
 use Rattle.bz_words.specs.declared.command.RuleOperation.TheVariants as wr
 use Rattle.bz_words.specs.declared.fault.CommandFault.TheVariants.{Unknown, Arguments}
 use Rattle.bz_workspace.specs.Found.{found_in, found_at, first_name, second_name}
-use Rattle.bz_workspace.specs.Opens.{fresh}
-use Rattle.bz_workspace.specs.Packages.{Opened, Used, place_of, file_at}
+use Rattle.bz_workspace.specs.Opens.{opened_fresh}
+use Rattle.bz_workspace.specs.Packages.{Opened, Used, package_number, file_at}
 use Rattle.bz_engine.specs.Ending.{Left, Performs}
 use Rattle.bz_engine.specs.Outcome.{WordsOutcome, LineOutcome, ScriptOutcome, unused}
 use Rattle.bz_engine.specs.Run.{World, Progress, Finds, Uses, Answers, Does, RunsSteps, nothing_done, told_of, answered, ends_run}
@@ -65,14 +65,14 @@ found_none folder absent gone = second_found folder (codes "a") None absent gone
 abbrev plain : Options
 plain = record { keep_going = false; to_stdout = false; quiet = false; journal = false }
 
-usage_of : (words : List Bytes) (usage : Usage) (line : Bytes) (world : World) → line_of words ≡ Ok (record { options = plain; given = operands words })
+usage_of : (words : List Bytes) (usage : Usage) (line : Bytes) (world : World) → command_line_of words ≡ Ok (record { options = plain; given = operands words })
     → IsGroupFault words usage → IsUsageLine [] usage line → WordsOutcome words world (unused world.folder line)
 usage_of words usage line world is fault told =
-    subst (λ (whole : Result Line LineUsage). LineOutcome whole world (unused world.folder line)) (sym is) (inl (usage, line, fault, told, refl))
+    subst (λ (whole : Result CommandLine LineUsage). LineOutcome whole world (unused world.folder line)) (sym is) (inl (usage, line, fault, told, refl))
 
-script_of : (words : List Bytes) (name : Bytes) (world : World) (left : Left) → line_of words ≡ Ok (record { options = plain; given = script name })
+script_of : (words : List Bytes) (name : Bytes) (world : World) (left : Left) → command_line_of words ≡ Ok (record { options = plain; given = script name })
     → ScriptOutcome plain name world left → WordsOutcome words world left
-script_of words name world left is done = subst (λ (whole : Result Line LineUsage). LineOutcome whole world left) (sym is) done
+script_of words name world left is done = subst (λ (whole : Result CommandLine LineUsage). LineOutcome whole world left) (sym is) done
 
 abbrev refused : Bytes → OperandFault → Usage
 refused operand fault = of_operand (record { operand = operand; fault = fault })
@@ -105,12 +105,12 @@ usage = (
   (λ world. usage_of [] no_command (codes "buildozer: no command\n") world refl refl refl),
   (λ world. usage_of (codes "add deps" ∷ codes "grow" ∷ codes "//:x" ∷ []) (refused (codes "add deps") (Command Arguments))
       (codes "buildozer: add deps: Arguments (32)\n") world refl
-      (record { front = []; rest = codes "grow" ∷ codes "//:x" ∷ []; asked = nothing; split = refl; before = refl; fault = inl refl }) refl),
+      (record { front = []; rest = codes "grow" ∷ codes "//:x" ∷ []; asked = nothing_asked; split = refl; before = refl; fault = inl refl }) refl),
   (λ world. usage_of (codes "delete" ∷ codes "//a/:x" ∷ []) (refused (codes "//a/:x") BadTarget) (codes "buildozer: //a/:x: BadTarget (12)\n") world refl
       (record { front = codes "delete" ∷ []; rest = []; asked = only_delete; split = refl; before = refl; fault = inl refl }) refl),
   (λ world. usage_of (codes "help" ∷ codes "//:x" ∷ []) (refused (codes "help") (Command Unknown))
       (codes "buildozer: help: Unknown (31)\nbuildozer: see buildozer --help, or man buildozer\n") world refl
-      (record { front = []; rest = codes "//:x" ∷ []; asked = nothing; split = refl; before = refl; fault = inl refl }) refl),
+      (record { front = []; rest = codes "//:x" ∷ []; asked = nothing_asked; split = refl; before = refl; fault = inl refl }) refl),
   (λ world. (codes "buildozer: operands beside -f\n", refl, refl)),
   (λ world. (codes "buildozer: --stdout beside --journal\n", refl, refl)),
   (λ line world. (line, tt, refl)),
@@ -163,14 +163,14 @@ does world step before after place used opening answer uses answers =
     record { place = place; used = used; opening = opening; answer = answer; uses = uses; answers = answers; told = refl }
 
 -- A package is used for the first time, and its file is opened.
-opens : (world : World) (current name : Bytes) (used : List Used) → place_of current used ≡ None → Finds world current (Some (name, text_read)) → IsMade current
+opens : (world : World) (current name : Bytes) (used : List Used) → package_number current used ≡ None → Finds world current (Some (name, text_read)) → IsMade current
     → Uses world current used (length used) [] (used ++ file_with current name (opened current text_read) ∷ [])
 opens world current name used new finds is =
-    inr (new, refl, (Some (name, text_read), Some (fresh current name text_read), finds, inl (is.0, refl, refl), refl))
+    inr (new, refl, (Some (name, text_read), Some (opened_fresh current name text_read), finds, inl (is.0, refl, refl), refl))
 
 sets : (current name : Bytes) (place : ℕ) (state : Progress) → IsMade current
-    → Answers (step_at current set_size) place (Some (fresh current name text_read)) state []
-    (answered place (fresh current name text_read) (Ok Changed) (set_history current) state)
+    → Answers (step_at current set_size) place (Some (opened_fresh current name text_read)) state []
+    (answered place (opened_fresh current name text_read) (Ok Changed) (set_history current) state)
 sets current name place state is =
     (Ok Changed, set_history current, inr (leb-true (length set_text) note_limit refl, (gives text_made None, is.1, refl)), refl, refl)
 
@@ -185,10 +185,10 @@ one_step : (world : World) (keep : Bool) (step : RunStep) (steps : List RunStep)
 one_step world keep step steps before mid after first rest going done more = inr (going, (mid, first, rest, done, more, refl))
 
 run_of : (words texts : List Bytes) (options : Options) (asked : Asked) (world : World) (left : Left)
-    → line_of words ≡ Ok (record { options = options; given = operands texts }) → group_of texts ≡ Ok asked
+    → command_line_of words ≡ Ok (record { options = options; given = operands texts }) → operand_group texts ≡ Ok asked
     → Performs options (all_steps (asked ∷ [])) world left → WordsOutcome words world left
 run_of words texts options asked world left is group done =
-    subst (λ (whole : Result Line LineUsage). LineOutcome whole world left) (sym is) (inr (asked, group, done))
+    subst (λ (whole : Result CommandLine LineUsage). LineOutcome whole world left) (sym is) (inr (asked, group, done))
 
 -- ---- the first step, `set size small` or `undo`, in a file that is found
 
@@ -203,7 +203,7 @@ set_first world current name finds is =
 
 -- What `set size small` made is taken back by so many steps, or that is refused.
 set_back : (world : World) (current name : Bytes) (count : ℕ) (text : Bytes) (answer : Answer) (history : History)
-    → place_of current (after_set current name).used ≡ Some 0 → length text ≤ note_limit → (answer, history) ≡ undone count (set_history current)
+    → package_number current (after_set current name).used ≡ Some 0 → length text ≤ note_limit → (answer, history) ≡ undone count (set_history current)
     → Does world (step_at current (undo count text)) (after_set current name) (told_of name text answer)
     (answered 0 (record { name = name; read = text_read; history = set_history current }) answer history (after_set current name))
 set_back world current name count text answer history there short is =
@@ -245,7 +245,7 @@ run_set : (world : World) (keep : Bool) → HasBuild world → IsMade [] → Run
 run_set world keep has is = one_step world keep (step_at [] set_size) [] nothing_done (after_set [] build) (after_set [] build) [] [] refl
     (set_first world [] build (finds_build world has) is) (refl, refl)
 
-run_set_undo : (world : World) (current name : Bytes) → place_of current (after_set current name).used ≡ Some 0 → Finds world current (Some (name, text_read))
+run_set_undo : (world : World) (current name : Bytes) → package_number current (after_set current name).used ≡ Some 0 → Finds world current (Some (name, text_read))
     → IsMade current → RunsSteps world false (step_at current set_size ∷ step_at current (undo 1 undo_text) ∷ []) nothing_done [] (after_back current name)
 run_set_undo world current name there finds is =
     one_step world false (step_at current set_size) (step_at current (undo 1 undo_text) ∷ []) nothing_done (after_set current name) (after_back current name) [] [] refl
@@ -272,7 +272,7 @@ abbrev refused_one : Bytes
 refused_one = codes "buildozer: BUILD: undo: TooFar (61)\n"
 
 abbrev build_read : Opened
-build_read = fresh [] build text_read
+build_read = opened_fresh [] build text_read
 
 abbrev after_one : Progress
 after_one = state_of (file_with [] build (opened [] text_read) ∷ []) true

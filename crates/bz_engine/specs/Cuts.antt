@@ -4,7 +4,7 @@ use Rattle.bz_items.specs.Characters.{Bytes}
 use Rattle.bz_ports.specs.Faults.{Rises}
 use Rattle.bz_ports.specs.declared.exit.Cut.{Cut}
 use Rattle.bz_ports.specs.declared.exit.Cut.TheVariants as c
-use Rattle.bz_workspace.specs.Packages.{Used, place_of}
+use Rattle.bz_workspace.specs.Packages.{Used, package_number}
 use Rattle.bz_engine.specs.Run.{Progress}
 use Rattle.bz_engine.specs.Steps.{input_package}
 
@@ -22,7 +22,7 @@ CutsFiles cut faults faults' = ((cut ≡ c.Whole) × (faults' ≡ faults)) ⊎ (
 
 -- Until package `-` is used, all bytes of standard input are left.
 abbrev pub IsLeft : Option Bytes → List Used → Option Bytes → Type 0
-IsLeft known used remaining = place_of input_package used ≡ None → remaining ≡ known
+IsLeft known used remaining = package_number input_package used ≡ None → remaining ≡ known
 
 -- A run is cut where a count of faults rose; where none is, none has risen. (Standard input, standard output and files, each before
 -- and after.)
@@ -46,7 +46,7 @@ ShowsNothing state = (state.printed ≡ []) × AreClosed state.used
 
 -- Package `-` was used.
 abbrev pub UsesInput : List Used → Type 0
-UsesInput used = place_of input_package used ≢ None
+UsesInput used = package_number input_package used ≢ None
 
 -- Package `-` is opened: where it was used before nothing is read; where it can't be read it has no file. (Why that is cut, the number of
 -- the open file, and the packages before and after.)

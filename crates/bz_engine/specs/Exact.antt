@@ -7,7 +7,7 @@ use Rattle.bz_items.specs.Characters.{Bytes}
 use Rattle.bz_files.specs.Folder.{SameFolders}
 use Rattle.bz_journal.specs.Faults.{IsFaultOf}
 use Rattle.bz_line.specs.Asked.{Refused, of_operand}
-use Rattle.bz_line.specs.Line.{Given, operands, script, Line, of_clap, line_of}
+use Rattle.bz_line.specs.Line.{Given, operands, script, CommandLine, of_clap, command_line_of}
 use Rattle.bz_line.specs.Refused.{IsPatternFault, IsFirstRefused, IsFirstFault}
 use Rattle.bz_line.specs.Script.{lines_in}
 use Rattle.bz_ports.specs.Told.{fault_line}
@@ -35,7 +35,7 @@ pub record TellFaults (world : World) (line other : Bytes) : Type 0 where
 
 -- clap finds a fault in the words, and tells it in its own text
 abbrev pub AreClaps : List Bytes → Type 0
-AreClaps words = line_of words ≡ Err of_clap
+AreClaps words = command_line_of words ≡ Err of_clap
 
 abbrev pub SameLine : List Bytes → World → Bytes → Bytes → Type 0
 SameLine words world line other = (line ≡ other) ⊎ TellFaults world line other ⊎ AreClaps words
@@ -67,7 +67,7 @@ GivenTellsPattern (script name) world left =
     (text : Bytes) × IsScript world name (Some text) × (refused : Refused) × IsFirstFault (lines_in text) (of_operand refused) × IsToldPattern refused world left
 
 abbrev pub TellsPattern : List Bytes → World → Left → Type 0
-TellsPattern words world left = (line : Line) × (line_of words ≡ Ok line) × GivenTellsPattern line.given world left
+TellsPattern words world left = (line : CommandLine) × (command_line_of words ≡ Ok line) × GivenTellsPattern line.given world left
 
 -- Two outcomes of words are the same, unless one of them is that a pattern is refused.
 abbrev pub OutcomesAreExact : Type 0

@@ -6,8 +6,8 @@ use Rattle.std.specs.Str.{IsUtf8, IsValidUpTo}
 use Rattle.bz_lex.specs.declared.fault.ReadFault.TheVariants.{NotUtf8}
 use Rattle.bz_items.specs.Characters.{Bytes}
 use Rattle.bz_files.specs.Folder.{Folder}
-use Rattle.bz_line.specs.Asked.{Asked, Usage, group_of}
-use Rattle.bz_line.specs.Line.{Given, operands, script, LineUsage, Line, line_of}
+use Rattle.bz_line.specs.Asked.{Asked, Usage, operand_group}
+use Rattle.bz_line.specs.Line.{Given, operands, script, LineUsage, CommandLine, command_line_of}
 use Rattle.bz_line.specs.Refused.{IsGroupFault, IsScriptFault}
 use Rattle.bz_line.specs.Script.{script_of}
 use Rattle.bz_line.specs.declared.line.Options.{Options}
@@ -27,7 +27,7 @@ unused folder line = record { output = []; lines = line ∷ []; status = 1; fold
 abbrev pub OperandsOutcome : Options → List Bytes → World → Left → Type 0
 OperandsOutcome options texts world left =
     ((usage : Usage) × (line : Bytes) × IsGroupFault texts usage × IsUsageLine [] usage line × (left ≡ unused world.folder line))
-    ⊎ ((asked : Asked) × (group_of texts ≡ Ok asked) × Performs options (all_steps (asked ∷ [])) world left)
+    ⊎ ((asked : Asked) × (operand_group texts ≡ Ok asked) × Performs options (all_steps (asked ∷ [])) world left)
 
 -- ---- operands in a file of lines
 
@@ -67,16 +67,16 @@ abbrev pub GivenOutcome : Options → Given → World → Left → Type 0
 GivenOutcome options (operands texts) world left = OperandsOutcome options texts world left
 GivenOutcome options (script name) world left = ScriptOutcome options name world left
 
-abbrev pub LineOutcome : Result Line LineUsage → World → Left → Type 0
+abbrev pub LineOutcome : Result CommandLine LineUsage → World → Left → Type 0
 LineOutcome (Err usage) world left = (line : Bytes) × IsLineUsageLine usage line × (left ≡ unused world.folder line)
 LineOutcome (Ok line) world left = GivenOutcome line.options line.given world left
 
 abbrev pub WordsOutcome : List Bytes → World → Left → Type 0
-WordsOutcome words world left = LineOutcome (line_of words) world left
+WordsOutcome words world left = LineOutcome (command_line_of words) world left
 
 -- the words name a file of lines
 abbrev pub TakesScript : List Bytes → Type 0
-TakesScript words = (options : Options) × (name : Bytes) × (line_of words ≡ Ok (record { options = options; given = script name }))
+TakesScript words = (options : Options) × (name : Bytes) × (command_line_of words ≡ Ok (record { options = options; given = script name }))
 
 -- ---- lines that reach no file
 
@@ -85,23 +85,23 @@ abbrev pub AreOfInput : List Asked → Type 0
 AreOfInput lines = All (λ asked. All (λ target. target.«package» ≡ input_package) asked.targets) lines
 
 abbrev pub IsOfInput : Given → Type 0
-IsOfInput (operands texts) = IfOk (group_of texts) (λ asked. AreOfInput (asked ∷ []))
+IsOfInput (operands texts) = IfOk (operand_group texts) (λ asked. AreOfInput (asked ∷ []))
 IsOfInput (script name) = ⊥
 
 -- The words name no file, and no package but standard input.
 abbrev pub NamesNoFile : List Bytes → Type 0
-NamesNoFile words = IfOk (line_of words) (λ line. IsOfInput line.given)
+NamesNoFile words = IfOk (command_line_of words) (λ line. IsOfInput line.given)
 
 -- The words don't ask for journals.
 abbrev pub KeepsNoJournal : List Bytes → Type 0
-KeepsNoJournal words = IfOk (line_of words) (λ line. line.options.journal ≡ false)
+KeepsNoJournal words = IfOk (command_line_of words) (λ line. line.options.journal ≡ false)
 
 -- ---- words that ask for nothing
 
 -- operands that are refused, or lack a command or a target, or mean rules of standard input where journals are kept
 abbrev pub GivesNothing : Options → Given → Type 0
-GivesNothing options (operands texts) = IsErr (group_of texts)
-    ⊎ ((options.journal ≡ true) × ((asked : Asked) × (group_of texts ≡ Ok asked) × (names_input (asked ∷ []) ≡ true)))
+GivesNothing options (operands texts) = IsErr (operand_group texts)
+    ⊎ ((options.journal ≡ true) × ((asked : Asked) × (operand_group texts ≡ Ok asked) × (names_input (asked ∷ []) ≡ true)))
 GivesNothing options (script name) = ⊥
 
 -- The lines, if any, don't stand in standard input.
@@ -110,7 +110,7 @@ StandApart (operands texts) = Unit {0}
 StandApart (script name) = name ≢ input_package
 
 abbrev pub TakesNoInput : List Bytes → Type 0
-TakesNoInput words = IfOk (line_of words) (λ line. StandApart line.given)
+TakesNoInput words = IfOk (command_line_of words) (λ line. StandApart line.given)
 
 -- The lines, if any, don't stand in a file.
 abbrev pub StandInNoFile : Given → Type 0
@@ -118,9 +118,9 @@ StandInNoFile (operands texts) = Unit {0}
 StandInNoFile (script name) = name ≡ input_package
 
 abbrev pub TakesNoFile : List Bytes → Type 0
-TakesNoFile words = IfOk (line_of words) (λ line. StandInNoFile line.given)
+TakesNoFile words = IfOk (command_line_of words) (λ line. StandInNoFile line.given)
 
 -- words that are no line, or whose operands ask for nothing
-abbrev pub LineGivesNothing : Result Line LineUsage → Type 0
+abbrev pub LineGivesNothing : Result CommandLine LineUsage → Type 0
 LineGivesNothing (Err usage) = Unit {0}
 LineGivesNothing (Ok line) = GivesNothing line.options line.given

@@ -9,9 +9,9 @@ use Rattle.bz_journal.specs.History.{History, Answer, Leads}
 use Rattle.bz_journal.specs.Listing.{listing}
 use Rattle.bz_ports.specs.Ports.{IsInput}
 use Rattle.bz_ports.specs.Told.{stdin}
-use Rattle.bz_workspace.specs.Found.{Found, found_in}
+use Rattle.bz_workspace.specs.Found.{PackagesFound, found_in}
 use Rattle.bz_workspace.specs.Opens.{Opens}
-use Rattle.bz_workspace.specs.Packages.{Opened, Used, place_of, file_at, with_file}
+use Rattle.bz_workspace.specs.Packages.{Opened, Used, package_number, file_at, with_opened}
 use Rattle.bz_engine.specs.Steps.{RunStep, action_of, input_package}
 use Rattle.bz_engine.specs.Told.{refusal_line}
 
@@ -32,7 +32,7 @@ nothing_done = record { used = []; printed = []; failed = false }
 -- ---- the package of a step
 
 -- Package `-` is read from standard input, each other one from its file in the folder.
-abbrev pub Finds : World → Bytes → Option Found → Type 0
+abbrev pub Finds : World → Bytes → Option PackagesFound → Type 0
 Finds world current found =
     ((current ≡ input_package) × ((text : Bytes) × IsInput world.known text × (found ≡ Some (stdin, text))))
     ⊎ ((current ≢ input_package) × (found ≡ found_in world.folder current))
@@ -40,9 +40,9 @@ Finds world current found =
 -- A package is read and opened where it is used first; it gets the next number.
 abbrev pub Uses : World → Bytes → List Used → ℕ → List Bytes → List Used → Type 0
 Uses world current before place lines after =
-    ((place_of current before ≡ Some place) × (lines ≡ []) × (after ≡ before))
-    ⊎ ((place_of current before ≡ None) × (place ≡ length before)
-    × ((found : Option Found) × (file : Option Opened) × Finds world current found × Opens current found file lines
+    ((package_number current before ≡ Some place) × (lines ≡ []) × (after ≡ before))
+    ⊎ ((package_number current before ≡ None) × (place ≡ length before)
+    × ((found : Option PackagesFound) × (file : Option Opened) × Finds world current found × Opens current found file lines
     × (after ≡ before ++ record { «package» = current; file = file } ∷ [])))
 
 -- ---- one step
@@ -66,7 +66,7 @@ told_of name command (Err refusal) = refusal_line name command refusal ∷ []
 -- the state behind an answer of the open file with this number
 abbrev pub answered : ℕ → Opened → Answer → History → Progress → Progress
 answered place file answer history state = record {
-  used = with_file place (Some (record file { history = history })) state.used;
+  used = with_opened place (Some (record file { history = history })) state.used;
   printed = state.printed ++ printed_by answer;
   failed = state.failed || is_err answer;
 }

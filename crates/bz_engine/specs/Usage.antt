@@ -3,8 +3,8 @@ use Rattle.std.specs.Prelude.{◌≡◌, ◌⊎◌, ◌&&◌, ℕ, List, [], ◌
 use Rattle.std.specs.Str.{IsUtf8, IsValidUpTo}
 use Rattle.bz_lex.specs.declared.fault.ReadFault.TheVariants.{NotUtf8}
 use Rattle.bz_items.specs.Characters.{Bytes}
-use Rattle.bz_line.specs.Asked.{Asked, Usage, group_of}
-use Rattle.bz_line.specs.Line.{Given, operands, script, Line, LineUsage}
+use Rattle.bz_line.specs.Asked.{Asked, Usage, operand_group}
+use Rattle.bz_line.specs.Line.{Given, operands, script, CommandLine, LineUsage}
 use Rattle.bz_line.specs.Refused.{IsGroupFault, IsScriptFault}
 use Rattle.bz_line.specs.Script.{script_of}
 use Rattle.bz_line.specs.declared.line.Options.{Options}
@@ -22,7 +22,7 @@ TellsNoJournal options lines line = (options.journal ≡ true) × (names_input l
 abbrev pub OperandsTell : Options → List Bytes → Bytes → Type 0
 OperandsTell options texts line =
     ((usage : Usage) × IsGroupFault texts usage × IsUsageLine [] usage line)
-    ⊎ ((asked : Asked) × (group_of texts ≡ Ok asked) × TellsNoJournal options (asked ∷ []) line)
+    ⊎ ((asked : Asked) × (operand_group texts ≡ Ok asked) × TellsNoJournal options (asked ∷ []) line)
 
 -- Rules of standard input are meant where the lines stand there.
 abbrev pub LinesTell : Options → Bool → List Asked → Bytes → Type 0
@@ -42,6 +42,6 @@ abbrev pub GivenTells : Bool → World → Options → Given → Bytes → Type 
 GivenTells honest world options (operands texts) line = OperandsTell options texts line
 GivenTells honest world options (script name) line = (text : Option Bytes) × (honest ≡ true → IsScript world name text) × TextTells options name text line
 
-abbrev pub LineTells : Bool → World → Result Line LineUsage → Bytes → Type 0
+abbrev pub LineTells : Bool → World → Result CommandLine LineUsage → Bytes → Type 0
 LineTells honest world (Err usage) line = IsLineUsageLine usage line
 LineTells honest world (Ok whole) line = GivenTells honest world whole.options whole.given line

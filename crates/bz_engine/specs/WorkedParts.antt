@@ -5,12 +5,12 @@ use Rattle.bz_attribute.specs.declared.refusal.Refusal.TheVariants.{NotAList, To
 use Rattle.bz_files.specs.Folder.{Folder}
 use Rattle.bz_journal.specs.History.{changed, undone, redone}
 use Rattle.bz_journal.specs.declared.action.Reply.TheVariants.{Changed, Same, Printed, Moved}
-use Rattle.bz_line.specs.Asked.{Asked, Usage, group_of}
+use Rattle.bz_line.specs.Asked.{Asked, Usage, operand_group}
 use Rattle.bz_ports.specs.Told.{stdin}
 use Rattle.bz_items.specs.Characters.{Bytes}
 use Rattle.bz_workspace.specs.Found.{found_in, first_name, second_name}
-use Rattle.bz_workspace.specs.Opens.{fresh}
-use Rattle.bz_workspace.specs.Packages.{Opened, Used, place_of}
+use Rattle.bz_workspace.specs.Opens.{opened_fresh}
+use Rattle.bz_workspace.specs.Packages.{Opened, Used, package_number}
 use Rattle.bz_engine.specs.Ending.{differs, texts_out, all_writings, fixed_lines, status_of}
 use Rattle.bz_engine.specs.Run.{Progress, Finds, told_of, printed_by, answered, ends_run}
 use Rattle.bz_engine.specs.Steps.{RunStep, all_steps, shows_input}
@@ -26,7 +26,7 @@ text_made = codes "f(\n    name = \"x\",\n    size = \"small\",\n)\n"
 
 -- the file of a package: as it was read, with `set size small` done, and one step back or forward
 abbrev read_of : Bytes → Opened
-read_of current = fresh current (second_name current) text_read
+read_of current = opened_fresh current (second_name current) text_read
 
 abbrev edited : Opened → Opened
 edited file = record file { history = changed (codes "set size small") file.history text_made }
@@ -119,7 +119,7 @@ steps_in (Ok asked) = all_steps (asked ∷ [])
 steps_in (Err usage) = []
 
 abbrev typed : List Bytes → List RunStep
-typed operands = steps_in (group_of operands)
+typed operands = steps_in (operand_group operands)
 
 abbrev Steps : Type 0
 Steps =
@@ -146,7 +146,7 @@ Files =
     -- Package `-` is standard input.
     × ((folder : Folder) → Finds (record { folder = folder; known = Some text_read }) (codes "-") (Some (codes "<stdin>", text_read)))
     -- A package that was used is used again; under another path it is another package.
-    × (place_of (codes "app") (closed ∷ app app_read ∷ []) ≡ Some 1) × (place_of (codes "./app") (closed ∷ app app_read ∷ []) ≡ None)
+    × (package_number (codes "app") (closed ∷ app app_read ∷ []) ≡ Some 1) × (package_number (codes "./app") (closed ∷ app app_read ∷ []) ≡ None)
 
 abbrev pub WorkedParts : Type 0
 WorkedParts = Statuses × GoesOn × TextsOut × Told × Steps × Files

@@ -4,7 +4,7 @@ use Rattle.std.specs.FinMap.{get}
 use Rattle.bz_files.specs.Folder.{Folder, with_file}
 use Rattle.bz_journal.specs.Meaning.{gives, Means}
 use Rattle.bz_label.specs.declared.target.Which.TheVariants.{Name}
-use Rattle.bz_line.specs.Line.{line_of}
+use Rattle.bz_line.specs.Line.{command_line_of}
 use Rattle.bz_tree.specs.Legal.{Accepted}
 use Rattle.bz_items.specs.Characters.{Bytes}
 use Rattle.bz_words.specs.declared.command.AttributeOperation.TheVariants as wa
@@ -46,7 +46,7 @@ WorkedUsage =
     × ((folder : Folder) → Unused (codes "-f" ∷ codes "-" ∷ []) (codes "buildozer: package - cannot be edited beside -f -\n")
     (record { folder = folder; known = Some (codes "undo|-:x\n") }))
     -- --journal -- undo -:x
-    × ((world : World) → LineTells true world (line_of (codes "--journal" ∷ codes "--" ∷ codes "undo" ∷ codes "-:x" ∷ []))
+    × ((world : World) → LineTells true world (command_line_of (codes "--journal" ∷ codes "--" ∷ codes "undo" ∷ codes "-:x" ∷ []))
     (codes "buildozer: package - has no journal\n"))
 
 -- ---- whole runs over one file, BUILD in the current folder, or over standard input

@@ -2,7 +2,7 @@
 ghost use Rattle.std.specs.Prelude.{◌≡◌, ◌≢◌, ◌⊎◌, ◌∷◌, [], List, ℕ, Option, true, false, map, Some};
 ghost use Rattle.std.specs.List.{All};
 ghost use Rattle.bz_line.specs.Asked.{Usage};
-ghost use Rattle.bz_line.specs.Line.{LineUsage, line_of};
+ghost use Rattle.bz_line.specs.Line.{LineUsage, command_line_of};
 ghost use Rattle.bz_line.specs.Line.{operands as words_given, script};
 ghost use Rattle.bz_line.specs.Paths.{HasPath};
 ghost use Rattle.bz_line.specs.Shown.{asked_in, usage_in, line_usage_in};
@@ -361,11 +361,11 @@ pub fn buildozer<S: AsStr, R: Source, W: Sink, E: Sink, F: Files>(
         × PrintsSome W.Sink out.old out.new left.output }
 
     // Words that ask for nothing leave the input, the output and the files as they were.
-    ensures unread { LineGivesNothing (line_of (map S.text words.now)) → (input.new ≡ input.old) × (out.new ≡ out.old) × (files.new ≡ files.old) }
+    ensures unread { LineGivesNothing (command_line_of (map S.text words.now)) → (input.new ≡ input.old) × (out.new ≡ out.old) × (files.new ≡ files.old) }
 
     // A run of status 1 that no port cut tells by one line why, with journals as without: of operands the first one that is refused.
     ensures usage { result.status ≡ 1 → result.cut ≡ Cut.Whole → (line : List ℕ)
-        × LineTells (F.honest files.old) (world_of R.Source F.Files input.old files.old) (line_of (map S.text words.now)) line
+        × LineTells (F.honest files.old) (world_of R.Source F.Files input.old files.old) (command_line_of (map S.text words.now)) line
         × TellsLines E.Sink err.old err.new (line ∷ []) }
 
     // A run of status 1 leaves the output as it was. So it leaves the input, unless lines stand there, and the files, unless lines

@@ -3,7 +3,7 @@ ghost use Rattle.std.specs.Prelude.{◌≡◌, ◌⊎◌, ◌≤◌, ◌++◌, [
 ghost use Rattle.bz_ports.specs.Outputs.{Counts};
 ghost use Rattle.bz_ports.specs.Told.{stdin};
 ghost use Rattle.bz_workspace.specs.Opens.{Opens};
-ghost use Rattle.bz_workspace.specs.Packages.{Opened, place_of, file_at};
+ghost use Rattle.bz_workspace.specs.Packages.{Opened, package_number, file_at};
 ghost use Rattle.bz_engine.specs.Calls.{TellsLines, world_with, AreCutOver};
 ghost use Rattle.bz_engine.specs.Cuts.{AreCutBy, IsLeft, OpensInput};
 ghost use Rattle.bz_engine.specs.Run.{Uses};
@@ -33,7 +33,7 @@ fn open_input<R: Source, E: Sink>(
     input: &mut R,
     err: &mut E,
 ) -> Opening
-    requires { place_of input_package workspace.old ≡ None }
+    requires { package_number input_package workspace.old ≡ None }
     ensures whole { result.cut ≡ Cut.Whole → (text : List ℕ) × (file : Option Opened) × (lines : List (List ℕ)) × IsInput (R.remaining input.old) text
         × Opens input_package (Some (stdin, text)) file lines × (workspace.new ≡ workspace.old ++ record { «package» = input_package; file = file } ∷ [])
         × (result.place ≡ option_map (λ _. length workspace.old) file)
@@ -55,8 +55,8 @@ fn open_input<R: Source, E: Sink>(
 
 // Whether standard input is to be read: the package stands for it, and was not used before.
 fn wants_input(workspace: &Workspace, package: &str) -> bool
-    ensures yes { result ≡ true → («package».now ≡ input_package) × (place_of input_package workspace.now ≡ None) }
-    ensures other { result ≡ false → «package».now ≡ input_package → place_of input_package workspace.now ≡ None → ⊥ }
+    ensures yes { result ≡ true → («package».now ≡ input_package) × (package_number input_package workspace.now ≡ None) }
+    ensures other { result ≡ false → «package».now ≡ input_package → package_number input_package workspace.now ≡ None → ⊥ }
 {
     package == INPUT && workspace.place(INPUT.as_bytes()).is_none()
 }

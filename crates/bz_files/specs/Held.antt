@@ -22,7 +22,7 @@ folder_then files moment = folder_after (take moment files.log.items)
 
 -- which calls fail: the call of this number, that of this number once its file is replaced, each from this number on, and
 -- each read of these names; and how many calls there were, how many of `replace` among all of them, and how many failed
-pub record Plan : Type 0 where
+pub record HeldPlan : Type 0 where
   pub fails_at : Option ℕ
   pub fails_behind : Option ℕ
   pub stops_at : Option ℕ
@@ -31,7 +31,7 @@ pub record Plan : Type 0 where
   pub replaces : ℕ
   pub faults : ℕ
 
-abbrev pub plan_in : MemoryFiles → Plan
+abbrev pub plan_in : MemoryFiles → HeldPlan
 plan_in files = record {
   fails_at = files.fails_at;
   fails_behind = files.fails_behind;
@@ -43,5 +43,5 @@ plan_in files = record {
 }
 
 -- before the first call, of which none is to fail
-abbrev pub no_plan : Plan
+abbrev pub no_plan : HeldPlan
 no_plan = record { fails_at = None; fails_behind = None; stops_at = None; unreadable = []; calls = 0; replaces = 0; faults = 0 }

@@ -5,31 +5,31 @@ use Rattle.bz_lex.specs.declared.leaf.Leaf.{Leaf}
 use Rattle.bz_tree.specs.declared.tree.Part.{Part, Node'}
 use Rattle.bz_tree.specs.declared.tree.Part.TheVariants as p
 use Rattle.bz_tree.specs.Shapes.{Terminal, is_one_of}
-use Rattle.bz_hosts.specs.Hosts.{Region, host, sizes, measured, is_word, is_item, hosts_from}
+use Rattle.bz_hosts.specs.Hosts.{Region, host, sizes, measured, is_word_class, is_item_part, hosts_from}
 use Rattle.bz_hosts.proofs.Around.{AllInside, all_wider}
 use Rattle.bz_hosts.proofs.Parts.{size, measured_part}
 
 -- a token that is no item; whether it is a separator
 abbrev pub IsMark : List Terminal → Bool → Part → Type 0
-IsMark separators b (p.Leaf l) = (is_word l.class ≡ false) × (is_one_of separators l ≡ b)
+IsMark separators b (p.Leaf l) = (is_word_class l.class ≡ false) × (is_one_of separators l ≡ b)
 IsMark separators b (Node' kind n r) = ⊥
 
 abbrev pub Alternating : List Terminal → List Part → Type 0
 Alternating separators [] = ⊥
 Alternating separators (z ∷ []) = IsMark separators false z
-Alternating separators (x ∷ z ∷ []) = (is_item x ≡ true) × IsMark separators false z
-Alternating separators (x ∷ y ∷ z ∷ xs) = (is_item x ≡ true) × IsMark separators true y × Alternating separators (z ∷ xs)
+Alternating separators (x ∷ z ∷ []) = (is_item_part x ≡ true) × IsMark separators false z
+Alternating separators (x ∷ y ∷ z ∷ xs) = (is_item_part x ≡ true) × IsMark separators true y × Alternating separators (z ∷ xs)
 
 module _ (separators : List Terminal) (n : ℕ) where
   pub hosts_closed : (z : Part) → IsMark separators false z → hosts_from separators n (map measured (z ∷ [])) ≡ []
   hosts_closed (p.Leaf l) h = rw h.0 refl
   hosts_closed (Node' kind s r) h = absurd h
 
-  pub hosts_last : (x : Part) (l : Leaf) → is_item x ≡ true → IsMark separators false (p.Leaf l) →
+  pub hosts_last : (x : Part) (l : Leaf) → is_item_part x ≡ true → IsMark separators false (p.Leaf l) →
       hosts_from separators n (map measured (x ∷ p.Leaf l ∷ [])) ≡ host n (n + size x) (n + size x) ∷ ((measured x).inside n ++ [])
   hosts_last x l i h = rw (measured_part x, i, h.1, h.0) refl
 
-  pub hosts_more : (x : Part) (l : Leaf) (xs : List Part) → is_item x ≡ true → IsMark separators true (p.Leaf l) →
+  pub hosts_more : (x : Part) (l : Leaf) (xs : List Part) → is_item_part x ≡ true → IsMark separators true (p.Leaf l) →
       hosts_from separators n (map measured (x ∷ p.Leaf l ∷ xs)) ≡ host n (n + size x) (suc (n + size x)) ∷ ((measured x).inside n ++ hosts_from separators (suc (n + size x)) (map measured xs))
   hosts_more x l xs i h =
       let e : n + size x + 1 ≡ suc (n + size x) = omega arith in

@@ -3,7 +3,7 @@ use Rattle.std.proofs.Common.{◌≡◌, ◌≢◌, ℕ, suc, ◌<◌, ◌≤◌
 use Rattle.std.specs.List.{AllByRecursion}
 use Rattle.std.proofs.lemmas.Bool.{cases_Bool, eq-eqb, ne_eqb, lt-ltb, le-ltb}
 use Rattle.std.proofs.lemmas.Bool.Decides.{nat_tests}
-use Rattle.bz_hosts.specs.Hosts.{Region, host, between, holds, innermost, ending_at, beginning_in}
+use Rattle.bz_hosts.specs.Hosts.{Region, host, between, holds_gap, innermost, ending_at, beginning_in}
 
 -- ---- regions between two numbers
 
@@ -25,8 +25,8 @@ all_wider lo up lo' up' l u (r ∷ rs) h = (wider lo up lo' up' l u r h.0, all_w
 -- ---- a gap that stands apart from a region
 
 abbrev Silent : ℕ → Region → Type 0
-Silent m (host first behind next) = (holds m (host first behind next) ≡ false) × (nat_eq next m ≡ false)
-Silent m (between open_ behind) = (holds m (between open_ behind) ≡ false) × Unit {0}
+Silent m (host first behind next) = (holds_gap m (host first behind next) ≡ false) × (nat_eq next m ≡ false)
+Silent m (between open_ behind) = (holds_gap m (between open_ behind) ≡ false) × Unit {0}
 
 not_below : (a m b : ℕ) → m ≤ a → (nat_lt a m && nat_lt m b) ≡ false
 not_below a m b h = ap (λ t. t && nat_lt m b) (le-ltb a m h)
@@ -46,7 +46,7 @@ all_silent : (lo up m : ℕ) → ((r : Region) → Inside lo up r → Silent m r
 all_silent lo up m f [] h = tt
 all_silent lo up m f (r ∷ rs) h = (f r h.0, all_silent lo up m f rs h.1)
 
-silent_held : (m : ℕ) (r : Region) → Silent m r → holds m r ≡ false
+silent_held : (m : ℕ) (r : Region) → Silent m r → holds_gap m r ≡ false
 silent_held m (host first behind next) h = h.0
 silent_held m (between open_ behind) h = h.0
 
@@ -56,7 +56,7 @@ innermost_silent m found (r ∷ rs) h = rw (silent_held m r h.0) (innermost_sile
 
 innermost_joined : (m : ℕ) (found : Option Region) (rs rs' : List Region) → innermost m found (rs ++ rs') ≡ innermost m (innermost m found rs) rs'
 innermost_joined m found [] rs' = refl
-innermost_joined m found (r ∷ rs) rs' = innermost_joined m (if holds m r then Some r else found) rs rs'
+innermost_joined m found (r ∷ rs) rs' = innermost_joined m (if holds_gap m r then Some r else found) rs rs'
 
 ending_passed : (m : ℕ) (rs rs' : List Region) → AllByRecursion (Silent m) rs → ending_at m (rs ++ rs') ≡ ending_at m rs'
 ending_passed m [] rs' h = refl

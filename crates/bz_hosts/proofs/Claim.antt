@@ -15,7 +15,7 @@ use Rattle.bz_value.specs.declared.value.Form.{Form}
 use Rattle.bz_value.specs.Comments.{no_comments}
 use Rattle.bz_value.specs.Frames.{Frame, row, sequence, frame, lead, is_binary, is_comprehension}
 use Rattle.bz_value.specs.Gaps.{all_in}
-use Rattle.bz_view.specs.View.{Seen, seen, seen_row, plain, first_gap, loose_in, row_exprs, items_in, is_split, is_open, node_in}
+use Rattle.bz_view.specs.View.{Seen, seen, seen_row, plain, first_seen_gap, loose_in, row_exprs, items_in, is_split, is_open, seen_node}
 use Rattle.bz_view.proofs.SeenParts.{seen_rows}
 use Rattle.bz_hosts.specs.Hosts.{Region, host, Comment, Measured, sizes, measured, in_node, Hosted, ended, by_frame, inside_expr}
 use Rattle.bz_hosts.proofs.Around.{SeesAt}
@@ -28,37 +28,37 @@ use Rattle.bz_hosts.proofs.Nodes.{cut_regions, head_of, body_of, cut_size, node_
 
 -- ---- what stands in a node
 
-row_hosts : (kind : Kind) → frame kind ≡ row → (xs : List Part) → inside_expr (plain (node_in row kind (map seen xs))) ≡ insides xs
+row_hosts : (kind : Kind) → frame kind ≡ row → (xs : List Part) → inside_expr (plain (seen_node row kind (map seen xs))) ≡ insides xs
 row_hosts kind e xs =
     let es : List Expr = row_exprs (is_binary kind) false false (map seen xs) in
     let form : Form = record { kind = kind; parts = es; seq = record { items = []; end_ = []; split = false }; open_ = is_comprehension kind && is_open (map seen xs); comments = no_comments } in
     form_inside form ∙ (ap (λ (g : Frame). by_frame g (flat_map inside_expr es) [] (ended [])) e ∙ row_insides (is_binary kind) false false xs)
 
 bracket_hosts : (kind : Kind) (opener closer : ℕ) → frame kind ≡ sequence opener closer → (xs : List Part) →
-    inside_expr (plain (node_in (sequence opener closer) kind (map seen xs))) ≡ insides (take (lead kind) xs) ++ sequence_hosts (all_in (first_gap (map seen (drop (suc (lead kind)) xs)))) (map seen (drop (suc (lead kind)) xs))
+    inside_expr (plain (seen_node (sequence opener closer) kind (map seen xs))) ≡ insides (take (lead kind) xs) ++ sequence_hosts (all_in (first_seen_gap (map seen (drop (suc (lead kind)) xs)))) (map seen (drop (suc (lead kind)) xs))
 bracket_hosts kind opener closer e xs =
     let n : ℕ = lead kind in
     let body : List Seen = drop (suc n) (map seen xs) in
-    let found : List Expr × List (List ℕ) = items_in (all_in (first_gap body)) body in
+    let found : List Expr × List (List ℕ) = items_in (all_in (first_seen_gap body)) body in
     let es : List Expr = map plain (take n (map seen xs)) in
     let form : Form = record { kind = kind; parts = es; seq = record { items = found.0; end_ = found.1; split = is_split body }; open_ = false; comments = no_comments } in
     form_inside form
     ∙ (ap (λ (g : Frame). by_frame g (flat_map inside_expr es) (inside_list found.0) (ended found.1)) e
-    ∙ (ap (λ (ys : List Seen). flat_map inside_expr (map plain ys) ++ sequence_hosts (all_in (first_gap body)) body) (take-map seen n xs)
-    ∙ (ap (λ (z : List Hosted). z ++ sequence_hosts (all_in (first_gap body)) body) (head_insides (take n xs))
-    ∙ ap (λ (ys : List Seen). insides (take n xs) ++ sequence_hosts (all_in (first_gap ys)) ys) (drop-map seen (suc n) xs))))
+    ∙ (ap (λ (ys : List Seen). flat_map inside_expr (map plain ys) ++ sequence_hosts (all_in (first_seen_gap body)) body) (take-map seen n xs)
+    ∙ (ap (λ (z : List Hosted). z ++ sequence_hosts (all_in (first_seen_gap body)) body) (head_insides (take n xs))
+    ∙ ap (λ (ys : List Seen). insides (take n xs) ++ sequence_hosts (all_in (first_seen_gap ys)) ys) (drop-map seen (suc n) xs))))
 
 module _ (all : List Region) (h b e n : ℕ) (under : h ≤ n) where
-  body_case : (head : List Part) (l : Leaf) (body : List Part) → Alternating s.comma body → AllByRecursion Regions head → AllByRecursion Regions body → AllByRecursion (InHost all) head → AllByRecursion (InHost all) body →
+  body_case : (head : List Part) (l : Leaf) (body : List Part) → Alternating s.comma_mark body → AllByRecursion Regions head → AllByRecursion Regions body → AllByRecursion (InHost all) head → AllByRecursion (InHost all) body →
       SeesAt all (Some (host h b e)) (suc n) (suc (n + sizes (map measured head)) + sizes (map measured body)) (cut_regions n head body) →
       Texts all h n (suc (n + sizes (map measured head)) + sizes (map measured body)) (behind_parts n (head ++ p.Leaf l ∷ body)) (loose_in (map seen (head ++ p.Leaf l ∷ []))) (cut_regions n head body)
-      (insides head ++ sequence_hosts (all_in (first_gap (map seen body))) (map seen body))
+      (insides head ++ sequence_hosts (all_in (first_seen_gap (map seen body))) (map seen body))
   body_case head l [] a r r' i i' v = absurd a
   body_case head l (x ∷ xs) a r r' i i' v = cut_texts all h b e n head l x xs under a r r' i i' v
 
   node_texts : (kind : Kind) (f : Frame) → frame kind ≡ f → (xs : List Part) → Fits IsSort (shape kind) xs → AllByRecursion Regions xs → AllByRecursion (InHost all) xs →
       SeesAt all (Some (host h b e)) (suc n) (n + sizes (map measured xs)) (in_node f kind n (map measured xs)) →
-      Texts all h n (n + sizes (map measured xs)) (behind_parts n xs) (node_in f kind (map seen xs)).loose (in_node f kind n (map measured xs)) (inside_expr (plain (node_in f kind (map seen xs))))
+      Texts all h n (n + sizes (map measured xs)) (behind_parts n xs) (seen_node f kind (map seen xs)).loose (in_node f kind n (map measured xs)) (inside_expr (plain (seen_node f kind (map seen xs))))
   node_texts kind row d xs fits r i v =
       let up : ℕ = n + sizes (map measured xs) in
       subst (λ (z : List Hosted). Texts all h n up (behind_parts n xs) (loose_in (map seen xs)) (in_node row kind n (map measured xs)) z) (sym (row_hosts kind d xs)) (first_texts all h b e n up xs under refl r i v)
@@ -68,8 +68,8 @@ module _ (all : List Region) (h b e n : ℕ) (under : h ≤ n) where
       let body : List Part = body_of kind xs c in
       let rs : List Region = in_node (sequence opener closer) kind n (map measured xs) in
       let cut : List Region = cut_regions n head body in
-      let seen_loose : List (List ℕ) = (node_in (sequence opener closer) kind (map seen xs)).loose in
-      let hosts_there : List Hosted = inside_expr (plain (node_in (sequence opener closer) kind (map seen xs))) in
+      let seen_loose : List (List ℕ) = (seen_node (sequence opener closer) kind (map seen xs)).loose in
+      let hosts_there : List Hosted = inside_expr (plain (seen_node (sequence opener closer) kind (map seen xs))) in
       let there : rs ≡ cut = node_cut kind xs c opener closer n in
       let w = parted kind xs c Regions r in
       let w' = parted kind xs c (InHost all) i in
@@ -79,7 +79,7 @@ module _ (all : List Region) (h b e n : ℕ) (under : h ≤ n) where
       let loose_there : loose_in (map seen (head ++ p.Leaf c.opener ∷ [])) ≡ seen_loose = ap (λ (ys : List Part). loose_in (map seen ys)) (sym c.front) ∙ ap loose_in (sym (take-map seen (suc (lead kind)) xs)) in
       subst (λ (z : ℕ). Texts all h n z (behind_parts n xs) seen_loose rs hosts_there) (sym end_)
       (same_texts all h n (suc (n + sizes (map measured head)) + sizes (map measured body)) (behind_parts n (head ++ p.Leaf c.opener ∷ body)) (behind_parts n xs) (loose_in (map seen (head ++ p.Leaf c.opener ∷ []))) seen_loose cut rs
-      (insides head ++ sequence_hosts (all_in (first_gap (map seen body))) (map seen body)) hosts_there
+      (insides head ++ sequence_hosts (all_in (first_seen_gap (map seen body))) (map seen body)) hosts_there
       (ap (behind_parts n) (sym c.parts)) loose_there (sym there) (sym (bracket_hosts kind opener closer d xs))
       (body_case head c.opener body c.alternating w.0 w.1 w'.0 w'.1 sees))
 
@@ -92,11 +92,11 @@ mutual
       let xs : List Part = items-the_row-Part _ r in
       let f : Frame = frame kind in
       let comments : comments_behind n (leaves_row r) ≡ behind_parts n xs = ap (comments_behind n) (leaves_rows _ r) ∙ parts_behind n xs (row_solid _ r g.1) in
-      subst (λ (ms : List Measured). SeesAt all (Some (host h b e)) (suc n) (n + sizes ms) (in_node f kind n ms) → Texts all h n (n + sizes ms) (comments_behind n (leaves_row r)) (node_in f kind (seen_row r)).loose
-      (in_node f kind n ms) (inside_expr (plain (node_in f kind (seen_row r)))))
+      subst (λ (ms : List Measured). SeesAt all (Some (host h b e)) (suc n) (n + sizes ms) (in_node f kind n ms) → Texts all h n (n + sizes ms) (comments_behind n (leaves_row r)) (seen_node f kind (seen_row r)).loose
+      (in_node f kind n ms) (inside_expr (plain (seen_node f kind (seen_row r)))))
       (sym (measured_rows _ r))
-      (λ v'. subst (λ (cs : List Comment). Texts all h n (n + sizes (map measured xs)) cs (node_in f kind (seen_row r)).loose (in_node f kind n (map measured xs)) (inside_expr (plain (node_in f kind (seen_row r))))) (sym comments)
-      (subst (λ (ss : List Seen). Texts all h n (n + sizes (map measured xs)) (behind_parts n xs) (node_in f kind ss).loose (in_node f kind n (map measured xs)) (inside_expr (plain (node_in f kind ss)))) (sym (seen_rows _ r))
+      (λ v'. subst (λ (cs : List Comment). Texts all h n (n + sizes (map measured xs)) cs (seen_node f kind (seen_row r)).loose (in_node f kind n (map measured xs)) (inside_expr (plain (seen_node f kind (seen_row r))))) (sym comments)
+      (subst (λ (ss : List Seen). Texts all h n (n + sizes (map measured xs)) (behind_parts n xs) (seen_node f kind ss).loose (in_node f kind n (map measured xs)) (inside_expr (plain (seen_node f kind ss)))) (sym (seen_rows _ r))
       (node_texts all h b e n under kind f refl xs g.0 (row_regions _ r g.1) (row_in_host all _ r g.1) v')))
       v
 

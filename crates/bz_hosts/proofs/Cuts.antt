@@ -13,7 +13,7 @@ use Rattle.bz_tree.specs.Legal.{IsSort}
 use Rattle.bz_tree.proofs.Balance.{no_such, same_class}
 use Rattle.bz_tree.proofs.Terminals.{disjoint, disjoint-one_of}
 use Rattle.bz_value.specs.Frames.{Frame, row, sequence, frame, lead}
-use Rattle.bz_hosts.specs.Hosts.{is_word, is_item}
+use Rattle.bz_hosts.specs.Hosts.{is_word_class, is_item_part}
 use Rattle.bz_hosts.proofs.Alternating.{IsMark, Alternating}
 
 -- ---- tokens that are words, and tokens that are none
@@ -28,33 +28,33 @@ terminal_class (s.this class token) l h = same_class l.class class (and_parts _ 
 
 abbrev all_words : List Terminal → Bool
 all_words [] = true
-all_words (x ∷ xs) = is_word (class_in x) && all_words xs
+all_words (x ∷ xs) = is_word_class (class_in x) && all_words xs
 
 abbrev pub no_words : List Terminal → Bool
 no_words [] = true
-no_words (x ∷ xs) = not (is_word (class_in x)) && no_words xs
+no_words (x ∷ xs) = not (is_word_class (class_in x)) && no_words xs
 
-words : (xs : List Terminal) (l : Leaf) → all_words xs ≡ true → is_one_of xs l ≡ true → is_word l.class ≡ true
+words : (xs : List Terminal) (l : Leaf) → all_words xs ≡ true → is_one_of xs l ≡ true → is_word_class l.class ≡ true
 words [] l h i = no_such i
 words (x ∷ xs) l h i =
-    let w = and_parts (is_word (class_in x)) (all_words xs) h in
-    elim (or_cases (is_terminal x l) (is_one_of xs l) i) [ inl e ↦ ap is_word (terminal_class x l e) ∙ w.0 | inr e ↦ words xs l w.1 e ]
+    let w = and_parts (is_word_class (class_in x)) (all_words xs) h in
+    elim (or_cases (is_terminal x l) (is_one_of xs l) i) [ inl e ↦ ap is_word_class (terminal_class x l e) ∙ w.0 | inr e ↦ words xs l w.1 e ]
 
-wordless : (xs : List Terminal) (l : Leaf) → no_words xs ≡ true → is_one_of xs l ≡ true → is_word l.class ≡ false
+wordless : (xs : List Terminal) (l : Leaf) → no_words xs ≡ true → is_one_of xs l ≡ true → is_word_class l.class ≡ false
 wordless [] l h i = no_such i
 wordless (x ∷ xs) l h i =
-    let w = and_parts (not (is_word (class_in x))) (no_words xs) h in
-    elim (or_cases (is_terminal x l) (is_one_of xs l) i) [ inl e ↦ ap is_word (terminal_class x l e) ∙ not-true (is_word (class_in x)) w.0 | inr e ↦ wordless xs l w.1 e ]
+    let w = and_parts (not (is_word_class (class_in x))) (no_words xs) h in
+    elim (or_cases (is_terminal x l) (is_one_of xs l) i) [ inl e ↦ ap is_word_class (terminal_class x l e) ∙ not-true (is_word_class (class_in x)) w.0 | inr e ↦ wordless xs l w.1 e ]
 
 leaves_words : (a : Sort) → all_words (leaves_at a) ≡ true
 leaves_words (s.level n) = refl
 leaves_words _ = refl
 
-pub sort_item : (a : Sort) (x : Part) → IsSort a x → is_item x ≡ true
+pub sort_item : (a : Sort) (x : Part) → IsSort a x → is_item_part x ≡ true
 sort_item a (p.Leaf l) h = words (leaves_at a) l (leaves_words a) h
 sort_item a (Node' kind n r) h = refl
 
-token_item : (ts : List Terminal) (x : Part) → all_words ts ≡ true → has_token ts x ≡ true → is_item x ≡ true
+token_item : (ts : List Terminal) (x : Part) → all_words ts ≡ true → has_token ts x ≡ true → is_item_part x ≡ true
 token_item ts (p.Leaf l) w h = words ts l w h
 token_item ts (Node' kind n r) w h = refl
 
@@ -85,29 +85,29 @@ module _ (separators close : List Terminal) (none : no_words separators ≡ true
 
 -- ---- sequences
 
-module _ (close : List Terminal) (none' : no_words close ≡ true) (apart : disjoint close s.comma ≡ true) where
-  items_alternating : (q : Sort) (xs : List Part) → Fits IsSort (items q close) xs → Alternating s.comma xs
+module _ (close : List Terminal) (none' : no_words close ≡ true) (apart : disjoint close s.comma_mark ≡ true) where
+  items_alternating : (q : Sort) (xs : List Part) → Fits IsSort (items q close) xs → Alternating s.comma_mark xs
   items_alternating q [] (inl h) = absurd h
   items_alternating q [] (inr h) = absurd h
-  items_alternating q (x ∷ xs) (inl h) = ends_alternating s.comma close refl none' apart x xs h
-  items_alternating q (x ∷ xs) (inr h) = listed_alternating s.comma close refl none' apart q (x ∷ xs) h
+  items_alternating q (x ∷ xs) (inl h) = ends_alternating s.comma_mark close refl none' apart x xs h
+  items_alternating q (x ∷ xs) (inr h) = listed_alternating s.comma_mark close refl none' apart q (x ∷ xs) h
 
   -- an item, a comma, and then items; or the item alone
-  one_alternating : (q : Sort) (x : Part) (xs : List Part) → is_item x ≡ true → Fits IsSort (s.alt (tok close done) (tok s.comma (items q close))) xs → Alternating s.comma (x ∷ xs)
+  one_alternating : (q : Sort) (x : Part) (xs : List Part) → is_item_part x ≡ true → Fits IsSort (s.alt (tok close done) (tok s.comma_mark (items q close))) xs → Alternating s.comma_mark (x ∷ xs)
   one_alternating q x [] i (inl h) = absurd h
   one_alternating q x [] i (inr h) = absurd h
-  one_alternating q x (z ∷ []) i (inl h) = (i, closing_mark s.comma close refl none' apart z h.0)
+  one_alternating q x (z ∷ []) i (inl h) = (i, closing_mark s.comma_mark close refl none' apart z h.0)
   one_alternating q x (z ∷ y ∷ xs) i (inl h) = absurd h.1
   one_alternating q x (y ∷ []) i (inr (m, inl h)) = absurd h
   one_alternating q x (y ∷ []) i (inr (m, inr h)) = absurd h
-  one_alternating q x (y ∷ z ∷ xs) i (inr h) = (i, separator_mark s.comma close refl none' apart y h.0, items_alternating q (z ∷ xs) h.1)
+  one_alternating q x (y ∷ z ∷ xs) i (inr h) = (i, separator_mark s.comma_mark close refl none' apart y h.0, items_alternating q (z ∷ xs) h.1)
 
 -- the parts of a node before its opening bracket, and those behind it
 pub record Cut (kind : Kind) (xs : List Part) : Type 0 where
   pub opener : Leaf
   pub parts : xs ≡ take (lead kind) xs ++ p.Leaf opener ∷ drop (suc (lead kind)) xs
   pub front : take (suc (lead kind)) xs ≡ take (lead kind) xs ++ p.Leaf opener ∷ []
-  pub alternating : Alternating s.comma (drop (suc (lead kind)) xs)
+  pub alternating : Alternating s.comma_mark (drop (suc (lead kind)) xs)
 
 call_cut : (xs : List Part) → Fits IsSort (shape k.Call) xs → Cut k.Call xs
 call_cut [] h = absurd h
@@ -126,10 +126,10 @@ tuple_cut : (xs : List Part) → Fits IsSort (shape k.Tuple) xs → Cut k.Tuple 
 tuple_cut [] h = absurd h
 tuple_cut (p.Leaf l ∷ xs) h = record { opener = l; parts = refl; front = refl; alternating = first xs h.1 }
   where
-    first : (xs : List Part) → Fits IsSort (s.alt (tok s.close_round done) (s.sub s.test (tok s.comma (items s.test s.close_round)))) xs → Alternating s.comma xs
+    first : (xs : List Part) → Fits IsSort (s.alt (tok s.close_round done) (s.sub s.test (tok s.comma_mark (items s.test s.close_round)))) xs → Alternating s.comma_mark xs
     first [] (inl i) = absurd i
     first [] (inr i) = absurd i
-    first (x ∷ xs) (inl i) = ends_alternating s.comma s.close_round refl refl refl x xs i
+    first (x ∷ xs) (inl i) = ends_alternating s.comma_mark s.close_round refl refl refl x xs i
     first (x ∷ xs) (inr i) = one_alternating s.close_round refl refl s.test x xs (sort_item s.test x i.0) (inr i.1)
 tuple_cut (Node' kind n r ∷ xs) h = no_such h.0
 

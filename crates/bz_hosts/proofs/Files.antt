@@ -9,7 +9,7 @@ use Rattle.bz_tree.specs.declared.kind.Kind.TheVariants as k
 use Rattle.bz_tree.specs.declared.tree.Part.{Part, Row_of-Part, Node', items-the_row-Part}
 use Rattle.bz_tree.specs.declared.tree.Part.TheVariants as p
 use Rattle.bz_tree.specs.Shapes as s
-use Rattle.bz_tree.specs.Shapes.{Fits, Several, shape, tok, done, has_kind}
+use Rattle.bz_tree.specs.Shapes.{Fits, Several, shape, tok, done, sort_has_kind}
 use Rattle.bz_tree.specs.Spell.{leaves_part, leaves_row, leaves_of}
 use Rattle.bz_tree.specs.Legal.{IsSort, LegalPart, LegalRow}
 use Rattle.bz_tree.specs.Spots.{Begins, behind_node, Stands, AtRow, AtParts}
@@ -18,12 +18,12 @@ use Rattle.bz_tree.proofs.Numbers.{same_kind}
 use Rattle.bz_value.specs.Comments.{HostComments}
 use Rattle.bz_value.specs.Frames.{frame}
 use Rattle.bz_items.specs.Characters.{Bytes}
-use Rattle.bz_value.specs.Gaps.{GapLine, lines_of, behind_first, groups_of, all_but_last, last_group}
+use Rattle.bz_value.specs.Gaps.{GapLine, lines_of, after_first_comment, groups_of, all_but_last, last_group}
 use Rattle.bz_view.specs.View as v
-use Rattle.bz_view.specs.View.{Seen, seen, seen_row, first_gap, blocks, statement, statements_in, file_items, view_of}
+use Rattle.bz_view.specs.View.{Seen, seen, seen_row, first_seen_gap, blocks, statement, statements_in, file_items, view_of}
 use Rattle.bz_view.proofs.SeenParts.{seen_rows, node_gap, comments_made}
 use Rattle.bz_view.proofs.QuietGaps.{Quiet, Statements, statements_quiet, row_legal}
-use Rattle.bz_hosts.specs.Hosts.{Region, Comment, comments_at, comments_from, Measured, sizes, measured, measured_row, hosts_from, in_line, regions_from, Place, outside, texts_at, Hosted, block, hosted_at, hosted_by, alone, with_group, hosted_in, inside_expr, inside_item}
+use Rattle.bz_hosts.specs.Hosts.{Region, Comment, comments_at, comments_from, Measured, sizes, measured, measured_row, hosts_from, in_line, regions_from, CommentPlace, outside, texts_at, Hosted, block, hosted_at, hosted_by, hosts_alone, with_group, hosted_in, inside_expr, inside_item}
 use Rattle.bz_hosts.specs.Laws.{HostsByPlace}
 use Rattle.bz_hosts.proofs.Around.{AllInside, all_wider, Sees, SeesAt, sees_behind, sees_before}
 use Rattle.bz_hosts.proofs.Gathered.{key, pick_other, GapPlaces, texts_joined, gap_all}
@@ -39,7 +39,7 @@ use Rattle.bz_hosts.proofs.Walked.{gap_of, last_gap, walked, last_behind, LeafLa
 
 -- ---- comment lines
 
-blocks_alone : (gs : List (List Bytes)) → flat_map inside_item (blocks gs) ≡ alone gs
+blocks_alone : (gs : List (List Bytes)) → flat_map inside_item (blocks gs) ≡ hosts_alone gs
 blocks_alone [] = refl
 blocks_alone ([] ∷ gs) = blocks_alone gs
 blocks_alone ((text ∷ group) ∷ gs) = ap (λ (z : List Hosted). block (text ∷ group) ∷ z) (blocks_alone gs)
@@ -89,20 +89,20 @@ LinesOf xs = Several (IsSort s.line) (Fits IsSort (tok s.end done)) xs
 gap_outside : (all : List Region) (m hi : ℕ) → Sees all m None hi [] → GapPlaces all m outside outside
 gap_outside all m hi h = record { on_line = λ t. rw (h.ends, h.inner) refl; below = λ t. rw h.inner refl }
 
-outside_none : (all : List Region) (m : ℕ) (gap : Bytes) → GapPlaces all m outside outside → (q : Place) → 0 < key q → texts_at all q (comments_at m gap) ≡ []
+outside_none : (all : List Region) (m : ℕ) (gap : Bytes) → GapPlaces all m outside outside → (q : CommentPlace) → 0 < key q → texts_at all q (comments_at m gap) ≡ []
 outside_none all m gap h q d = gap_all all q outside m gap h ∙ pick_other outside q _ (λ e. omega arith)
 
 -- The comments of lines from the leaf n on.
 record FileTexts (all : List Region) (n up : ℕ) (xs : List Part) : Type 0 where
-  outer : (q : Place) → 0 < key q → (From n up q → ⊥) → texts_at all q (in_parts n xs) ≡ []
-  found : (cs : List Comment) (left : List GapLine) → ((q : Place) → From n up q → texts_at all q cs ≡ texts_at all q (in_parts n xs)) → walked all cs left n xs ≡ flat_map inside_item (file_items left xs)
+  outer : (q : CommentPlace) → 0 < key q → (From n up q → ⊥) → texts_at all q (in_parts n xs) ≡ []
+  found : (cs : List Comment) (left : List GapLine) → ((q : CommentPlace) → From n up q → texts_at all q cs ≡ texts_at all q (in_parts n xs)) → walked all cs left n xs ≡ flat_map inside_item (file_items left xs)
 
 -- the hosts of a line stand inside it
 record LineIn (x : Part) : Type 0 where
   some : 0 < size x
   within : (n : ℕ) → AllInside n (n + size x) (in_line n x)
 
-statements_of : (kind : Kind) (ys : List Part) → has_kind s.line kind ≡ true → Fits IsSort (shape kind) ys → Statements ys
+statements_of : (kind : Kind) (ys : List Part) → sort_has_kind s.line kind ≡ true → Fits IsSort (shape kind) ys → Statements ys
 statements_of kind ys h g =
     let e : kind ≡ k.Line = same_kind kind k.Line (eqb-true _ _ h) in
     subst (λ kd. Fits IsSort (shape kd) ys) e g
@@ -160,7 +160,7 @@ seen_parts (Node' kind m r) = seen_row r
 -- a line, and the lines behind it
 line_step : (all : List Region) (n up : ℕ) (x : Part) (xs : List Part) → IsSort s.line x → 0 < size x → n + size x ≤ up → GapPlaces all n outside outside →
     LineTexts all n (n + size x) (inner n x) (in_line n x) (statements_in [] (seen_parts x)) → FileTexts all (n + size x) up xs →
-    gap_of (leaves_part x) ≡ first_gap (seen_parts x) → last_gap (leaves_part x) ≡ v.last_gap (seen_parts x) →
+    gap_of (leaves_part x) ≡ first_seen_gap (seen_parts x) → last_gap (leaves_part x) ≡ v.last_gap (seen_parts x) →
     ((group : List Bytes) → with_group group (flat_map inside_item (statements_in [] (seen_parts x))) ≡ flat_map inside_item (statements_in group (seen_parts x))) →
     FileTexts all n up (x ∷ xs)
 line_step all n up (p.Leaf l) xs is some u gap there rest e e' above_it = no_such is
@@ -170,16 +170,16 @@ line_step all n up (Node' kind size_ r) xs is some u gap there rest e e' above_i
     let seen_there : List Seen = seen_row r in
     let mine : List Comment = inner n line in
     let behind : List Comment = in_parts behind_it xs in
-    let told : (q : Place) → 0 < key q → texts_at all q (in_parts n (line ∷ xs)) ≡ texts_at all q mine ++ texts_at all q behind =
+    let told : (q : CommentPlace) → 0 < key q → texts_at all q (in_parts n (line ∷ xs)) ≡ texts_at all q mine ++ texts_at all q behind =
     λ q d. texts_joined all q (comments_at n (seen line).gap) (mine ++ behind) ∙ (ap (λ (z : List Bytes). z ++ texts_at all q (mine ++ behind)) (outside_none all n (seen line).gap gap q d) ∙ texts_joined all q mine behind) in
     record {
       outer = λ q d o.
           told q d ∙ (ap (λ (z : List Bytes). z ++ texts_at all q behind) (there.outer q d (λ j. o (j.0, omega (arith, j.1)))) ∙ rest.outer q d (λ j. o (omega (arith, j.0), j.1)));
       found = λ cs left f.
-          let lines : List GapLine = left ++ lines_of (first_gap seen_there) in
-          let before : List Hosted = alone (all_but_last (groups_of lines)) in
+          let lines : List GapLine = left ++ lines_of (first_seen_gap seen_there) in
+          let before : List Hosted = hosts_alone (all_but_last (groups_of lines)) in
           let group : List Bytes = last_group (groups_of lines) in
-          let next : List GapLine = behind_first (lines_of (v.last_gap seen_there)) in
+          let next : List GapLine = after_first_comment (lines_of (v.last_gap seen_there)) in
           let len : n + length (leaves_row r) ≡ behind_it = ap (λ (z : ℕ). n + z) (sym (size_leaves line)) in
           let hosts_there : map (hosted_at all cs) (in_line n line) ≡ flat_map inside_item (statements_in [] seen_there) = there.found cs (λ q j.
           let j0 = j.0 in
@@ -190,10 +190,10 @@ line_step all n up (Node' kind size_ r) xs is some u gap there rest e e' above_i
           let d : 0 < key q = omega arith in
           f q (omega arith, j.1) ∙ (told q d ∙ ap (λ (z : List Bytes). z ++ texts_at all q behind) (there.outer q d (λ i. omega (arith, i.1, j.0))))) in
           let joined : (gap last : Bytes) (place : ℕ) → List Hosted = λ gap last place.
-          (alone (all_but_last (groups_of (left ++ lines_of gap))) ++ with_group (last_group (groups_of (left ++ lines_of gap))) (map (hosted_at all cs) (in_line n line))) ++ walked all cs (behind_first (lines_of last)) place xs in
+          (hosts_alone (all_but_last (groups_of (left ++ lines_of gap))) ++ with_group (last_group (groups_of (left ++ lines_of gap))) (map (hosted_at all cs) (in_line n line))) ++ walked all cs (after_first_comment (lines_of last)) place xs in
           ap (λ (z : Bytes). joined z (last_gap (leaves_row r)) (n + length (leaves_row r))) e
-          ∙ (ap (λ (z : Bytes). joined (first_gap seen_there) z (n + length (leaves_row r))) e'
-          ∙ (ap (λ (z : ℕ). joined (first_gap seen_there) (v.last_gap seen_there) z) len
+          ∙ (ap (λ (z : Bytes). joined (first_seen_gap seen_there) z (n + length (leaves_row r))) e'
+          ∙ (ap (λ (z : ℕ). joined (first_seen_gap seen_there) (v.last_gap seen_there) z) len
           ∙ (ap (λ (z : List Hosted). (before ++ with_group group z) ++ walked all cs next behind_it xs) hosts_there
           ∙ (ap (λ (z : List Hosted). (before ++ z) ++ walked all cs next behind_it xs) (above_it group)
           ∙ (ap (λ (z : List Hosted). (before ++ flat_map inside_item (statements_in group seen_there)) ++ z) after
@@ -233,7 +233,7 @@ lines_texts all n up (Node' kind z r ∷ xs) u (inr h) g at_ sees =
     let at_rest : AtParts Stands Begins Begins xs = subst (λ kd. AtParts Stands Begins (behind_node kd Begins) xs) e at_.1 in
     let rest : FileTexts all m up xs = lines_texts all m up xs (omega arith) h.1 g.1 at_rest (λ q a b. sees_behind all q None up n m (in_line n x) (regions_from m xs) (there.within n) a (sees q (omega arith) b)) in
     let solid : Solid x = part_solid x g.0 in
-    let first : gap_of (leaves_row r) ≡ first_gap (seen_row r) = first_gap_of (leaves_row r) solid.first solid.rest (first_gap (seen_row r)) solid.leaves (sym (node_gap kind (seen_row r) (frame kind)) ∙ solid.gap) in
+    let first : gap_of (leaves_row r) ≡ first_seen_gap (seen_row r) = first_gap_of (leaves_row r) solid.first solid.rest (first_seen_gap (seen_row r)) solid.leaves (sym (node_gap kind (seen_row r) (frame kind)) ∙ solid.gap) in
     let last : last_gap (leaves_row r) ≡ v.last_gap (seen_row r) = ap last_gap (leaves_rows _ r) ∙ (last_same s.semicolon ys (line_alternating ys statements) (row_solid _ r g.0.1) ∙ ap v.last_gap (sym (seen_rows _ r))) in
     line_step all n up x xs h.0 some (omega arith) gap texts rest first last
     (λ group. subst (λ (ss : List Seen). with_group group (flat_map inside_item (statements_in [] ss)) ≡ flat_map inside_item (statements_in group ss)) (sym (seen_rows _ r)) (group_above group ys))

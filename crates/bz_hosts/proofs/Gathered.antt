@@ -2,26 +2,26 @@
 use Rattle.std.proofs.Common.{◌≡◌, ℕ, suc, ◌+◌, Bool, true, false, List, [], ◌∷◌, ◌++◌, inl, inr, refl, sym, ap, ◌∙◌, map, if◌then◌else◌}
 use Rattle.std.proofs.lemmas.Bool.{cases_Bool, eq-eqb, ne_eqb}
 use Rattle.bz_items.specs.Characters.{Bytes}
-use Rattle.bz_value.specs.Gaps.{GapLine, lines_of, listed, behind_first, comments_in, first_comment, suffix_in, others_in, all_in}
-use Rattle.bz_hosts.specs.Hosts.{Region, Comment, comments_at, Place, suffix_of, above, end_of, outside, same_place, place_of, texts_at}
+use Rattle.bz_value.specs.Gaps.{GapLine, lines_of, as_list, after_first_comment, comments_in, first_comment, suffix_in, others_in, all_in}
+use Rattle.bz_hosts.specs.Hosts.{Region, Comment, comments_at, CommentPlace, suffix_of, above, end_of, outside, same_place, comment_place, texts_at}
 
 -- ---- places
 
 -- Places of an item come before those of the items behind it, and the end of a sequence before what stands in it.
-abbrev pub key : Place → ℕ
+abbrev pub key : CommentPlace → ℕ
 key (suffix_of n) = suc (n + n)
 key (above n) = suc (n + n)
 key (end_of n) = suc (suc (n + n))
 key outside = 0
 
-pub places_differ : (p q : Place) → (key p ≡ key q → ⊥) → same_place p q ≡ false
+pub places_differ : (p q : CommentPlace) → (key p ≡ key q → ⊥) → same_place p q ≡ false
 places_differ (suffix_of n) (suffix_of m) h = ne_eqb n m (λ e. h (ap (λ z. suc (z + z)) e))
 places_differ (above n) (above m) h = ne_eqb n m (λ e. h (ap (λ z. suc (z + z)) e))
 places_differ (end_of n) (end_of m) h = ne_eqb n m (λ e. h (ap (λ z. suc (suc (z + z))) e))
 places_differ outside outside h = absurd (h refl)
 places_differ _ _ h = refl
 
-pub place_same : (p : Place) → same_place p p ≡ true
+pub place_same : (p : CommentPlace) → same_place p p ≡ true
 place_same (suffix_of n) = eq-eqb n n refl
 place_same (above n) = eq-eqb n n refl
 place_same (end_of n) = eq-eqb n n refl
@@ -29,57 +29,57 @@ place_same outside = refl
 
 -- ---- texts, where they have this place
 
-abbrev pub pick : Place → Place → List Bytes → List Bytes
+abbrev pub pick : CommentPlace → CommentPlace → List Bytes → List Bytes
 pick place asked texts = if same_place place asked then texts else []
 
-pub pick_same : (p : Place) (texts : List Bytes) → pick p p texts ≡ texts
+pub pick_same : (p : CommentPlace) (texts : List Bytes) → pick p p texts ≡ texts
 pick_same p texts = rw (place_same p) refl
 
-pub pick_other : (p q : Place) (texts : List Bytes) → (key p ≡ key q → ⊥) → pick p q texts ≡ []
+pub pick_other : (p q : CommentPlace) (texts : List Bytes) → (key p ≡ key q → ⊥) → pick p q texts ≡ []
 pick_other p q texts h = rw (places_differ p q h) refl
 
-pub pick_none : (p q : Place) → pick p q [] ≡ []
+pub pick_none : (p q : CommentPlace) → pick p q [] ≡ []
 pick_none p q = elim (cases_Bool (same_place p q)) [ inl e ↦ rw e refl | inr e ↦ rw e refl ]
 
-pub pick_joined : (p q : Place) (texts texts' : List Bytes) → pick p q (texts ++ texts') ≡ pick p q texts ++ pick p q texts'
+pub pick_joined : (p q : CommentPlace) (texts texts' : List Bytes) → pick p q (texts ++ texts') ≡ pick p q texts ++ pick p q texts'
 pick_joined p q texts texts' = elim (cases_Bool (same_place p q)) [ inl e ↦ rw e refl | inr e ↦ rw e refl ]
 
 -- ---- the comments of a gap
 
-all_split : (ls : List GapLine) → comments_in ls ≡ listed (first_comment ls) ++ comments_in (behind_first ls)
+all_split : (ls : List GapLine) → comments_in ls ≡ as_list (first_comment ls) ++ comments_in (after_first_comment ls)
 all_split [] = refl
 all_split (line ∷ ls) = refl
 
 -- Where the comments in the gap of a leaf stand: one that only blanks stand before, and the others.
-pub record GapPlaces (all : List Region) (n : ℕ) (first rest : Place) : Type 0 where
-  pub on_line : (t : Bytes) → place_of all (record { leaf = n; on_line = true; text = t }) ≡ first
-  pub below : (t : Bytes) → place_of all (record { leaf = n; on_line = false; text = t }) ≡ rest
+pub record GapPlaces (all : List Region) (n : ℕ) (first rest : CommentPlace) : Type 0 where
+  pub on_line : (t : Bytes) → comment_place all (record { leaf = n; on_line = true; text = t }) ≡ first
+  pub below : (t : Bytes) → comment_place all (record { leaf = n; on_line = false; text = t }) ≡ rest
 
 module _ (all : List Region) where
-  pub texts_joined : (q : Place) (cs cs' : List Comment) → texts_at all q (cs ++ cs') ≡ texts_at all q cs ++ texts_at all q cs'
+  pub texts_joined : (q : CommentPlace) (cs cs' : List Comment) → texts_at all q (cs ++ cs') ≡ texts_at all q cs ++ texts_at all q cs'
   texts_joined q [] cs' = refl
-  texts_joined q (c ∷ cs) cs' = elim (cases_Bool (same_place (place_of all c) q)) [
+  texts_joined q (c ∷ cs) cs' = elim (cases_Bool (same_place (comment_place all c) q)) [
     | inl e ↦ rw e (ap (λ (z : List Bytes). c.text ∷ z) (texts_joined q cs cs'))
     | inr e ↦ rw e (texts_joined q cs cs')
   ]
 
-  picked : (q p : Place) (n : ℕ) (on : Bool) (texts : List Bytes) → ((t : Bytes) → place_of all (record { leaf = n; on_line = on; text = t }) ≡ p) →
+  picked : (q p : CommentPlace) (n : ℕ) (on : Bool) (texts : List Bytes) → ((t : Bytes) → comment_place all (record { leaf = n; on_line = on; text = t }) ≡ p) →
       texts_at all q (map (λ text. record { leaf = n; on_line = on; text = text }) texts) ≡ pick p q texts
   picked q p n on [] h = sym (pick_none p q)
   picked q p n on (t ∷ texts) h =
       let rest : texts_at all q (map (λ text. record { leaf = n; on_line = on; text = text }) texts) ≡ pick p q texts = picked q p n on texts h in
-      ap (λ (z : Place). if same_place z q then t ∷ texts_at all q (map (λ text. record { leaf = n; on_line = on; text = text }) texts) else texts_at all q (map (λ text. record { leaf = n; on_line = on; text = text }) texts)) (h t)
+      ap (λ (z : CommentPlace). if same_place z q then t ∷ texts_at all q (map (λ text. record { leaf = n; on_line = on; text = text }) texts) else texts_at all q (map (λ text. record { leaf = n; on_line = on; text = text }) texts)) (h t)
       ∙ (ap (λ (z : List Bytes). if same_place p q then t ∷ z else z) rest ∙ folded (same_place p q))
     where
       folded : (b : Bool) → (if b then t ∷ (if b then texts else []) else (if b then texts else [])) ≡ (if b then t ∷ texts else [])
       folded true = refl
       folded false = refl
 
-  pub gap_texts : (q first rest : Place) (n : ℕ) (gap : Bytes) → GapPlaces all n first rest → texts_at all q (comments_at n gap) ≡ pick first q (listed (suffix_in gap)) ++ pick rest q (others_in gap)
+  pub gap_texts : (q first rest : CommentPlace) (n : ℕ) (gap : Bytes) → GapPlaces all n first rest → texts_at all q (comments_at n gap) ≡ pick first q (as_list (suffix_in gap)) ++ pick rest q (others_in gap)
   gap_texts q first rest n gap h =
-      texts_joined q (map (λ text. record { leaf = n; on_line = true; text = text }) (listed (suffix_in gap))) (map (λ text. record { leaf = n; on_line = false; text = text }) (others_in gap))
-      ∙ (ap (λ (z : List Bytes). z ++ texts_at all q (map (λ text. record { leaf = n; on_line = false; text = text }) (others_in gap))) (picked q first n true (listed (suffix_in gap)) h.on_line)
-      ∙ ap (λ (z : List Bytes). pick first q (listed (suffix_in gap)) ++ z) (picked q rest n false (others_in gap) h.below))
+      texts_joined q (map (λ text. record { leaf = n; on_line = true; text = text }) (as_list (suffix_in gap))) (map (λ text. record { leaf = n; on_line = false; text = text }) (others_in gap))
+      ∙ (ap (λ (z : List Bytes). z ++ texts_at all q (map (λ text. record { leaf = n; on_line = false; text = text }) (others_in gap))) (picked q first n true (as_list (suffix_in gap)) h.on_line)
+      ∙ ap (λ (z : List Bytes). pick first q (as_list (suffix_in gap)) ++ z) (picked q rest n false (others_in gap) h.below))
 
-  pub gap_all : (q p : Place) (n : ℕ) (gap : Bytes) → GapPlaces all n p p → texts_at all q (comments_at n gap) ≡ pick p q (all_in gap)
-  gap_all q p n gap h = gap_texts q p p n gap h ∙ (sym (pick_joined p q (listed (suffix_in gap)) (others_in gap)) ∙ ap (pick p q) (sym (all_split (lines_of gap))))
+  pub gap_all : (q p : CommentPlace) (n : ℕ) (gap : Bytes) → GapPlaces all n p p → texts_at all q (comments_at n gap) ≡ pick p q (all_in gap)
+  gap_all q p n gap h = gap_texts q p p n gap h ∙ (sym (pick_joined p q (as_list (suffix_in gap)) (others_in gap)) ∙ ap (pick p q) (sym (all_split (lines_of gap))))

@@ -12,7 +12,7 @@ use Rattle.bz_value.specs.Comments.{HostComments, no_comments}
 use Rattle.bz_value.specs.Frames.{Frame, row, sequence, frame}
 use Rattle.bz_value.specs.Gaps.{has_newline}
 use Rattle.bz_value.specs.Proper.{comments_of, is_operator}
-use Rattle.bz_view.specs.View.{Seen, seen, seen_row, plain, node_in, first_gap, begins_operator, row_exprs}
+use Rattle.bz_view.specs.View.{Seen, seen, seen_row, plain, seen_node, first_seen_gap, begins_seen_operator, row_exprs}
 use Rattle.bz_hosts.specs.Hosts.{Hosted, ended, hosted_by, by_frame, inside_expr, inside_row, inside_items}
 
 -- the items of a sequence, each with what stands in it
@@ -47,7 +47,7 @@ form_inside f =
 
 -- ---- what is made of a part has the same in it for any comments and break
 
-node_made : (kind : Kind) (ss : List Seen) (cs : HostComments) (b : Bool) (f : Frame) → inside_expr ((node_in f kind ss).make cs b) ≡ inside_expr (plain (node_in f kind ss))
+node_made : (kind : Kind) (ss : List Seen) (cs : HostComments) (b : Bool) (f : Frame) → inside_expr ((seen_node f kind ss).make cs b) ≡ inside_expr (plain (seen_node f kind ss))
 node_made kind ss cs b row = refl
 node_made kind ss cs b (sequence opener closer) = refl
 
@@ -64,7 +64,7 @@ row_insides binary inside newline [] = refl
 row_insides binary inside newline (x ∷ xs) =
     let operator : Bool = binary && is_operator (plain (seen x)) in
     let before : Bool = if inside then newline else has_newline (seen x).gap in
-    let b : Bool = (operator && not (begins_operator (map seen xs))) && (before || has_newline (first_gap (map seen xs))) in
+    let b : Bool = (operator && not (begins_seen_operator (map seen xs))) && (before || has_newline (first_seen_gap (map seen xs))) in
     ap (λ (z : List Hosted). z ++ flat_map inside_expr (row_exprs binary operator before (map seen xs))) (inside_made x no_comments b)
     ∙ ap (λ (z : List Hosted). inside_expr (plain (seen x)) ++ z) (row_insides binary operator before xs)
 

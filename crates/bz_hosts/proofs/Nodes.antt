@@ -15,7 +15,7 @@ use Rattle.bz_value.specs.Gaps.{all_in}
 use Rattle.bz_value.proofs.GapComments.{all_joined}
 use Rattle.bz_view.specs.View.{Seen, seen, plain, loose_in, items_in}
 use Rattle.bz_view.proofs.SeenParts.{all_parted}
-use Rattle.bz_hosts.specs.Hosts.{Region, host, between, Comment, comments_at, Measured, sizes, measured, in_row, in_node, hosts_from, Place, above, texts_at, Hosted, ended, hosted_at, inside_expr}
+use Rattle.bz_hosts.specs.Hosts.{Region, host, between, Comment, comments_at, Measured, sizes, measured, in_row, in_node, hosts_from, CommentPlace, above, texts_at, Hosted, ended, hosted_at, inside_expr}
 use Rattle.bz_hosts.proofs.Around.{AllInside, all_wider, Sees, SeesAt, sees_behind, sees_before_bracket, sees_in_sequence}
 use Rattle.bz_hosts.proofs.Gathered.{key, pick, pick_other, pick_none, GapPlaces, texts_joined, gap_all}
 use Rattle.bz_hosts.proofs.Parts.{size, measured_rows, Solid, some_leaf, part_solid, inner, in_parts, behind_parts}
@@ -69,15 +69,15 @@ leaf_regions l = record { some = omega arith; within = λ n. tt }
 abbrev pub cut_regions : ℕ → List Part → List Part → List Region
 cut_regions n head body =
     let open_ : ℕ = n + sizes (map measured head) in
-    in_row n (map measured head) ++ between open_ (suc open_ + sizes (map measured body)) ∷ hosts_from s.comma (suc open_) (map measured body)
+    in_row n (map measured head) ++ between open_ (suc open_ + sizes (map measured body)) ∷ hosts_from s.comma_mark (suc open_) (map measured body)
 
-cut_inside : (n : ℕ) (head body : List Part) → Alternating s.comma body → AllByRecursion Regions head → AllByRecursion Regions body → AllInside n (suc (n + sizes (map measured head)) + sizes (map measured body)) (cut_regions n head body)
+cut_inside : (n : ℕ) (head body : List Part) → Alternating s.comma_mark body → AllByRecursion Regions head → AllByRecursion Regions body → AllInside n (suc (n + sizes (map measured head)) + sizes (map measured body)) (cut_regions n head body)
 cut_inside n head body a r r' =
     let o : ℕ = n + sizes (map measured head) in
     let up : ℕ = suc o + sizes (map measured body) in
-    inside_joined n up (in_row n (map measured head)) (between o up ∷ hosts_from s.comma (suc o) (map measured body))
+    inside_joined n up (in_row n (map measured head)) (between o up ∷ hosts_from s.comma_mark (suc o) (map measured body))
     (all_wider n o n up (omega arith) (omega arith) (in_row n (map measured head)) (row_inside n head r))
-    ((omega arith, omega arith), all_wider (suc o) up n up (omega arith) (omega arith) (hosts_from s.comma (suc o) (map measured body)) (hosts_inside s.comma (suc o) body a r'))
+    ((omega arith, omega arith), all_wider (suc o) up n up (omega arith) (omega arith) (hosts_from s.comma_mark (suc o) (map measured body)) (hosts_inside s.comma_mark (suc o) body a r'))
 
 -- of a node with a sequence
 module _ (kind : Kind) (xs : List Part) (c : Cut kind xs) where
@@ -95,10 +95,10 @@ module _ (kind : Kind) (xs : List Part) (c : Cut kind xs) where
 
   pub node_cut : (opener closer n : ℕ) → in_node (sequence opener closer) kind n (map measured xs) ≡ cut_regions n head_of body_of
   node_cut opener closer n =
-      ap (λ (ys : List Measured). in_row n ys ++ between (n + sizes ys) (n + sizes (map measured xs)) ∷ hosts_from s.comma (suc (n + sizes ys)) (drop (suc (lead kind)) (map measured xs))) (take-map measured (lead kind) xs)
-      ∙ (ap (λ (ys : List Measured). in_row n (map measured head_of) ++ between (n + sizes (map measured head_of)) (n + sizes (map measured xs)) ∷ hosts_from s.comma (suc (n + sizes (map measured head_of))) ys)
+      ap (λ (ys : List Measured). in_row n ys ++ between (n + sizes ys) (n + sizes (map measured xs)) ∷ hosts_from s.comma_mark (suc (n + sizes ys)) (drop (suc (lead kind)) (map measured xs))) (take-map measured (lead kind) xs)
+      ∙ (ap (λ (ys : List Measured). in_row n (map measured head_of) ++ between (n + sizes (map measured head_of)) (n + sizes (map measured xs)) ∷ hosts_from s.comma_mark (suc (n + sizes (map measured head_of))) ys)
       (drop-map measured (suc (lead kind)) xs)
-      ∙ ap (λ (z : ℕ). in_row n (map measured head_of) ++ between (n + sizes (map measured head_of)) z ∷ hosts_from s.comma (suc (n + sizes (map measured head_of))) (map measured body_of)) (cut_size n))
+      ∙ ap (λ (z : ℕ). in_row n (map measured head_of) ++ between (n + sizes (map measured head_of)) z ∷ hosts_from s.comma_mark (suc (n + sizes (map measured head_of))) (map measured body_of)) (cut_size n))
 
   pub parted : (P : Part → Type 0) → AllByRecursion P xs → AllByRecursion P head_of × AllByRecursion P body_of
   parted P h = let w = all_parted P head_of (p.Leaf c.opener ∷ body_of) (subst (AllByRecursion P) c.parts h) in (w.0, w.1.1)
@@ -140,7 +140,7 @@ same_texts all h n up m m' l l' r r' t t' a b c d x =
 abbrev pub sequence_hosts : List Bytes → List Seen → List Hosted
 sequence_hosts before body = ended (items_in before body).1 ∷ inside_list (items_in before body).0
 
-module _ (all : List Region) (h b e n : ℕ) (head : List Part) (l : Leaf) (x : Part) (xs : List Part) (under : h ≤ n) (a : Alternating s.comma (x ∷ xs)) (r : AllByRecursion Regions head)
+module _ (all : List Region) (h b e n : ℕ) (head : List Part) (l : Leaf) (x : Part) (xs : List Part) (under : h ≤ n) (a : Alternating s.comma_mark (x ∷ xs)) (r : AllByRecursion Regions head)
     (r' : AllByRecursion Regions (x ∷ xs)) (i : AllByRecursion (InHost all) head) (i' : AllByRecursion (InHost all) (x ∷ xs)) where
   abbrev at_open : ℕ
   at_open = n + sizes (map measured head)
@@ -149,10 +149,10 @@ module _ (all : List Region) (h b e n : ℕ) (head : List Part) (l : Leaf) (x : 
   at_end = suc at_open + sizes (map measured (x ∷ xs))
 
   abbrev items_there : List Region
-  items_there = hosts_from s.comma (suc at_open) (map measured (x ∷ xs))
+  items_there = hosts_from s.comma_mark (suc at_open) (map measured (x ∷ xs))
 
   items_within : AllInside (suc at_open) at_end items_there
-  items_within = hosts_inside s.comma (suc at_open) (x ∷ xs) a r'
+  items_within = hosts_inside s.comma_mark (suc at_open) (x ∷ xs) a r'
 
   module _ (sees : SeesAt all (Some (host h b e)) (suc n) at_end (cut_regions n head (x ∷ xs))) where
     head_texts : Texts all h n (suc at_open) (behind_parts n (head ++ p.Leaf l ∷ [])) (loose_in (map seen (head ++ p.Leaf l ∷ []))) (in_row n (map measured (head ++ p.Leaf l ∷ []))) (insides (head ++ p.Leaf l ∷ []))
@@ -170,16 +170,16 @@ module _ (all : List Region) (h b e n : ℕ) (head : List Part) (l : Leaf) (x : 
         sees_in_sequence all q (Some (host h b e)) at_end at_open at_end items_there (omega arith) w
         (sees_behind all q (Some (host h b e)) at_end n at_open (in_row n (map measured head)) (between at_open at_end ∷ items_there) (row_inside n head r) (omega arith) (sees q (omega arith) w))
 
-    abbrev first_at : Place
+    abbrev first_at : CommentPlace
     first_at = first_place at_open (suc at_open) (x ∷ xs)
 
     first_gap_at : GapPlaces all (suc at_open) first_at first_at
     first_gap_at =
         let some = r'.0.some in
-        subst (λ (y : Place). GapPlaces all (suc at_open) y y) (beginning_first at_open at_end (suc at_open) (suc at_open) (omega arith) (omega arith) (x ∷ xs) a)
+        subst (λ (y : CommentPlace). GapPlaces all (suc at_open) y y) (beginning_first at_open at_end (suc at_open) (suc at_open) (omega arith) (omega arith) (x ∷ xs) a)
         (gap_free all (suc at_open) at_open at_end (suc at_open) at_end items_there items_within (omega arith) (omega arith) (inside_sees (suc at_open) (omega arith) (omega arith)))
 
-    mine_inner : (q q' : Place) → key q ≡ key q' → Mine at_open (suc at_open) at_end q → Inner at_open at_end q'
+    mine_inner : (q q' : CommentPlace) → key q ≡ key q' → Mine at_open (suc at_open) at_end q → Inner at_open at_end q'
     mine_inner q q' d (inl j) = (omega (arith, j.0), omega (arith, j.1))
     mine_inner q q' d (inr j) = let some = r'.0.some in (omega arith, omega arith)
 
@@ -189,7 +189,7 @@ module _ (all : List Region) (h b e n : ℕ) (head : List Part) (l : Leaf) (x : 
         let gap : Bytes = (seen x).gap in
         let behind : List Comment = behind_parts (suc at_open) (x ∷ xs) in
         let body : BodyTexts all at_open at_end (suc at_open) (x ∷ xs) = body_texts all at_open at_end (suc at_open) (x ∷ xs) (omega arith) refl a r' i' (λ q v w. inside_sees q (omega arith) w) in
-        let told : (q : Place) → texts_at all q (in_parts (suc at_open) (x ∷ xs)) ≡ pick first_at q (all_in gap) ++ texts_at all q behind =
+        let told : (q : CommentPlace) → texts_at all q (in_parts (suc at_open) (x ∷ xs)) ≡ pick first_at q (all_in gap) ++ texts_at all q behind =
         λ q. texts_joined all q (comments_at (suc at_open) gap) behind ∙ ap (λ (z : List Bytes). z ++ texts_at all q behind) (gap_all all q first_at (suc at_open) gap first_gap_at) in
         record {
           outer = λ q o.

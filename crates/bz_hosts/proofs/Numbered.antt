@@ -2,7 +2,7 @@
 use Rattle.std.proofs.Common.{◌≡◌, ℕ, zero, suc, Bool, true, false, ◌&&◌, List, [], ◌∷◌, ◌++◌, Option, None, Some, length, refl, sym, ap, ◌∙◌, map, append_assoc, if◌then◌else◌}
 use Rattle.std.proofs.lemmas.List.{map-append}
 use Rattle.bz_items.specs.Characters.{Bytes}
-use Rattle.bz_value.specs.Gaps.{GapLine, listed, before_groups, groups_of, all_but_last, last_group}
+use Rattle.bz_value.specs.Gaps.{GapLine, as_list, before_groups, groups_of, all_but_last, last_group}
 use Rattle.bz_hosts.specs.Hosts.{comment_on, with_last, right_above, unless_comment, bare_lines}
 
 -- ---- what one line more on top adds
@@ -25,7 +25,7 @@ reaches_behind : (x : GapLine) (ls : List GapLine) (n : ℕ) → reaches (x ∷ 
 reaches_behind x ls zero = refl
 reaches_behind x ls (suc n) = ap (λ b. has (comment_on ls n) && b) (reaches_behind x ls n) ∙ swap (has (comment_on ls n)) (has x.comment) (reaches ls n)
 
-first_above : (c : Option Bytes) → with_last [] c ≡ listed c ++ []
+first_above : (c : Option Bytes) → with_last [] c ≡ as_list c ++ []
 first_above None = refl
 first_above (Some text) = refl
 
@@ -33,9 +33,9 @@ next_above : (c : Option Bytes) (r : Bool) (top a b : List Bytes) → a ≡ (if 
 next_above None r top a b e = refl
 next_above (Some text) r top a b e = ap (λ (z : List Bytes). z ++ text ∷ []) e ∙ append_assoc (if r then top else []) b (text ∷ [])
 
-above_behind : (x : GapLine) (ls : List GapLine) (n : ℕ) → right_above (x ∷ ls) (suc n) ≡ (if reaches ls n then listed x.comment else []) ++ right_above ls n
+above_behind : (x : GapLine) (ls : List GapLine) (n : ℕ) → right_above (x ∷ ls) (suc n) ≡ (if reaches ls n then as_list x.comment else []) ++ right_above ls n
 above_behind x ls zero = first_above x.comment
-above_behind x ls (suc n) = next_above (comment_on ls n) (reaches ls n) (listed x.comment) (right_above (x ∷ ls) (suc n)) (right_above ls n) (above_behind x ls n)
+above_behind x ls (suc n) = next_above (comment_on ls n) (reaches ls n) (as_list x.comment) (right_above (x ∷ ls) (suc n)) (right_above ls n) (above_behind x ls n)
 
 -- ---- the groups, and whether each reaches up to the first line
 
@@ -46,7 +46,7 @@ abbrev told : List GapLine → ℕ → Told
 told ls n = (reaches ls n, right_above ls n)
 
 abbrev more : Option Bytes → Told → Told
-more c t = (has c && t.0, (if t.0 then listed c else []) ++ t.1)
+more c t = (has c && t.0, (if t.0 then as_list c else []) ++ t.1)
 
 told_behind : (x : GapLine) (ls : List GapLine) (n : ℕ) → told (x ∷ ls) (suc n) ≡ more x.comment (told ls n)
 told_behind x ls n = ap (λ (b : Bool). let t : Told = (b, right_above (x ∷ ls) (suc n)) in t) (reaches_behind x ls n) ∙ ap (λ (z : List Bytes). let t : Told = (has x.comment && reaches ls n, z) in t) (above_behind x ls n)

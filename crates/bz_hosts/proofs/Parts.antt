@@ -11,7 +11,7 @@ use Rattle.bz_tree.specs.Spell.{leaves_part, leaves_row}
 use Rattle.bz_tree.specs.Legal.{IsSort, LegalPart, LegalRow}
 use Rattle.bz_value.specs.Frames.{frame}
 use Rattle.bz_items.specs.Characters.{Bytes}
-use Rattle.bz_view.specs.View.{seen, seen_row, first_gap}
+use Rattle.bz_view.specs.View.{seen, seen_row, first_seen_gap}
 use Rattle.bz_view.proofs.SeenParts.{node_gap}
 use Rattle.bz_hosts.specs.Hosts.{Comment, comments_at, comments_from, Measured, sizes, measured, measured_row}
 
@@ -59,7 +59,7 @@ SolidFirst [] = Unit {0}
 SolidFirst (x ∷ xs) = Solid x
 
 node_solid : (kind : Kind) (m : _) (r : Row_of-Part m) → Fits IsSort (shape kind) (items-the_row-Part m r) → SolidFirst (items-the_row-Part m r) →
-    (first : Leaf) × (rest : List Leaf) × (leaves_row r ≡ first ∷ rest) × (first_gap (seen_row r) ≡ first.gap)
+    (first : Leaf) × (rest : List Leaf) × (leaves_row r ≡ first ∷ rest) × (first_seen_gap (seen_row r) ≡ first.gap)
 node_solid kind m end_of-Part h s = absurd (kind_some kind h)
 node_solid kind m (more_of-Part x rest) h s = (s.first, s.rest ++ leaves_row rest, ap (λ (ls : List Leaf). ls ++ leaves_row rest) s.leaves, s.gap)
 

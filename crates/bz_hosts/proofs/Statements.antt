@@ -7,10 +7,10 @@ use Rattle.bz_tree.specs.declared.tree.Part.TheVariants as p
 use Rattle.bz_tree.specs.Shapes as s
 use Rattle.bz_value.specs.declared.value.Item.{Item}
 use Rattle.bz_items.specs.Characters.{Bytes}
-use Rattle.bz_value.specs.Gaps.{GapLine, lines_of, listed, behind_first, comments_in, first_comment, suffix_in, others_in, all_in}
+use Rattle.bz_value.specs.Gaps.{GapLine, lines_of, as_list, after_first_comment, comments_in, first_comment, suffix_in, others_in, all_in}
 use Rattle.bz_view.specs.View.{seen, plain, statement, statements_in}
 use Rattle.bz_view.proofs.QuietGaps.{Quiet}
-use Rattle.bz_hosts.specs.Hosts.{Region, host, Comment, comments_at, sizes, measured, is_item, hosts_from, Place, suffix_of, above, outside, texts_at, hosted_at, inside_expr, inside_item}
+use Rattle.bz_hosts.specs.Hosts.{Region, host, Comment, comments_at, sizes, measured, is_item_part, hosts_from, CommentPlace, suffix_of, above, outside, texts_at, hosted_at, inside_expr, inside_item}
 use Rattle.bz_hosts.proofs.Around.{AllInside, Sees, SeesAt, Ended, sees_behind, sees_before, sees_in_host, sees_past_host, sees_ended}
 use Rattle.bz_hosts.proofs.Gathered.{key, pick, pick_same, pick_other, pick_none, GapPlaces, texts_joined, gap_texts}
 use Rattle.bz_hosts.proofs.Parts.{size, inner, in_parts, behind_parts}
@@ -22,8 +22,8 @@ use Rattle.bz_hosts.proofs.Sequences.{From, host_with}
 -- Comments of statements from the leaf n on: none has a place of other leaves; and where all comments have at these places no
 -- other texts, the regions hold what the items do.
 pub record LineTexts (all : List Region) (n hi : ℕ) (mine : List Comment) (rs : List Region) (items : List Item) : Type 0 where
-  pub outer : (q : Place) → 0 < key q → (From n hi q → ⊥) → texts_at all q mine ≡ []
-  pub found : (cs : List Comment) → ((q : Place) → From n hi q → texts_at all q cs ≡ texts_at all q mine) → map (hosted_at all cs) rs ≡ flat_map inside_item items
+  pub outer : (q : CommentPlace) → 0 < key q → (From n hi q → ⊥) → texts_at all q mine ≡ []
+  pub found : (cs : List Comment) → ((q : CommentPlace) → From n hi q → texts_at all q cs ≡ texts_at all q mine) → map (hosted_at all cs) rs ≡ flat_map inside_item items
 
 pub nothing_there : (all : List Region) (n hi : ℕ) → LineTexts all n hi [] [] []
 nothing_there all n hi = record { outer = λ q k o. refl; found = λ cs f. refl }
@@ -35,10 +35,10 @@ nil_both [] b e = (refl, e)
 nil_both (x ∷ a) b e = cc
 
 silent_lines : (n : ℕ) (ls : List GapLine) → comments_in ls ≡ [] →
-    map (λ (text : Bytes). let c : Comment = record { leaf = n; on_line = true; text = text } in c) (listed (first_comment ls)) ++ map
-    (λ (text : Bytes). let c : Comment = record { leaf = n; on_line = false; text = text } in c) (comments_in (behind_first ls)) ≡ []
+    map (λ (text : Bytes). let c : Comment = record { leaf = n; on_line = true; text = text } in c) (as_list (first_comment ls)) ++ map
+    (λ (text : Bytes). let c : Comment = record { leaf = n; on_line = false; text = text } in c) (comments_in (after_first_comment ls)) ≡ []
 silent_lines n [] e = refl
-silent_lines n (line ∷ ls) e = let w = nil_both (listed line.comment) (comments_in ls) e in rw (w.0, w.1) refl
+silent_lines n (line ∷ ls) e = let w = nil_both (as_list line.comment) (comments_in ls) e in rw (w.0, w.1) refl
 
 pub silent_gap : (n : ℕ) (gap : Bytes) → all_in gap ≡ [] → comments_at n gap ≡ []
 silent_gap n gap e = silent_lines n (lines_of gap) e
@@ -46,16 +46,16 @@ silent_gap n gap e = silent_lines n (lines_of gap) e
 gap_ended : (all : List Region) (m first hi : ℕ) (rs : List Region) → Ended all m first None hi rs → GapPlaces all m (suffix_of first) outside
 gap_ended all m first hi rs h = record { on_line = λ t. rw h.ends refl; below = λ t. rw h.inner refl }
 
-gap_suffix : (all : List Region) (m first : ℕ) (gap : Bytes) → GapPlaces all m (suffix_of first) outside → (q : Place) → 0 < key q → texts_at all q (comments_at m gap) ≡ pick (suffix_of first) q (listed (suffix_in gap))
+gap_suffix : (all : List Region) (m first : ℕ) (gap : Bytes) → GapPlaces all m (suffix_of first) outside → (q : CommentPlace) → 0 < key q → texts_at all q (comments_at m gap) ≡ pick (suffix_of first) q (as_list (suffix_in gap))
 gap_suffix all m first gap h q k =
     gap_texts all q (suffix_of first) outside m gap h
-    ∙ (ap (λ (z : Lines). pick (suffix_of first) q (listed (suffix_in gap)) ++ z) (pick_other outside q (others_in gap) (λ e. omega arith)) ∙ append-nil (pick (suffix_of first) q (listed (suffix_in gap))))
+    ∙ (ap (λ (z : Lines). pick (suffix_of first) q (as_list (suffix_in gap)) ++ z) (pick_other outside q (others_in gap) (λ e. omega arith)) ∙ append-nil (pick (suffix_of first) q (as_list (suffix_in gap))))
 
 -- ---- a statement before others
 
 module _ (all : List Region) (n n' hi next : ℕ) (x : Part) (suffix : Option Bytes) (whole later : List Comment) (rs : List Region) (items : List Item)
     (some : 0 < size x) (ahead : n + size x ≤ n') (up : n + size x ≤ hi) (part : PartTexts all n n x)
-    (told : (q : Place) → 0 < key q → texts_at all q whole ≡ texts_at all q (inner n x) ++ (pick (suffix_of n) q (listed suffix) ++ texts_at all q later)) (rest : LineTexts all n' hi later rs items) where
+    (told : (q : CommentPlace) → 0 < key q → texts_at all q whole ≡ texts_at all q (inner n x) ++ (pick (suffix_of n) q (as_list suffix) ++ texts_at all q later)) (rest : LineTexts all n' hi later rs items) where
   statement_texts : LineTexts all n hi whole (host n (n + size x) next ∷ ((measured x).inside n ++ rs)) (statement [] suffix (seen x) ∷ items)
   statement_texts =
       let b : ℕ = n + size x in
@@ -64,28 +64,28 @@ module _ (all : List Region) (n n' hi next : ℕ) (x : Part) (suffix : Option By
       record {
         outer = λ q k o.
             let differ : suc (n + n) ≡ key q → ⊥ = λ e. o (omega arith, omega arith) in
-            told q k ∙ three_none _ _ _ (part.outer q (λ j. o (omega (arith, j.0), omega (arith, j.1))) ∙ pick_other (above n) q loose differ) (pick_other (suffix_of n) q (listed suffix) differ) (rest.outer q k (λ j. o (omega (arith, j.0), j.1)));
+            told q k ∙ three_none _ _ _ (part.outer q (λ j. o (omega (arith, j.0), omega (arith, j.1))) ∙ pick_other (above n) q loose differ) (pick_other (suffix_of n) q (as_list suffix) differ) (rest.outer q k (λ j. o (omega (arith, j.0), j.1)));
         found = λ cs f.
             let inside : map (hosted_at all cs) ((measured x).inside n) ≡ inside_expr (plain (seen x)) = part.hosts cs (λ q j.
             let j0 = j.0 in
             let j1 = j.1 in
-            f q (omega arith, omega arith) ∙ (told q (omega arith) ∙ three_first _ _ _ (texts_at all q (inner n x)) refl (pick_other (suffix_of n) q (listed suffix) (λ e. omega arith)) (rest.outer q (omega arith) (λ k. omega (arith, k.0))))) in
+            f q (omega arith, omega arith) ∙ (told q (omega arith) ∙ three_first _ _ _ (texts_at all q (inner n x)) refl (pick_other (suffix_of n) q (as_list suffix) (λ e. omega arith)) (rest.outer q (omega arith) (λ k. omega (arith, k.0))))) in
             let at_above : texts_at all (above n) cs ≡ loose =
             f (above n) here ∙ (told (above n) (omega arith) ∙ three_first _ _ _ loose (part.outer (above n) (λ j. omega (arith, j.0)) ∙ pick_same (above n) loose) refl (rest.outer (above n) (omega arith) (λ k. omega (arith, k.0)))) in
-            let at_suffix : texts_at all (suffix_of n) cs ≡ listed suffix =
-            f (suffix_of n) here ∙ (told (suffix_of n) (omega arith) ∙ three_second _ _ _ (listed suffix) (part.outer (suffix_of n) (λ j. omega (arith, j.0))) (pick_same (suffix_of n) (listed suffix))
+            let at_suffix : texts_at all (suffix_of n) cs ≡ as_list suffix =
+            f (suffix_of n) here ∙ (told (suffix_of n) (omega arith) ∙ three_second _ _ _ (as_list suffix) (part.outer (suffix_of n) (λ j. omega (arith, j.0))) (pick_same (suffix_of n) (as_list suffix))
             (rest.outer (suffix_of n) (omega arith) (λ k. omega (arith, k.0)))) in
             host_with all n b next x (record { before = loose; suffix = suffix }) cs rs (flat_map inside_item items) at_above at_suffix inside (rest.found cs (λ q j.
             let j0 = j.0 in
             let differ : suc (n + n) ≡ key q → ⊥ = λ e. omega arith in
-            f q (omega arith, j.1) ∙ (told q (omega arith) ∙ three_third _ _ _ (texts_at all q later) (part.outer q (λ k. omega (arith, k.1)) ∙ pick_other (above n) q loose differ) (pick_other (suffix_of n) q (listed suffix) differ) refl)));
+            f q (omega arith, j.1) ∙ (told q (omega arith) ∙ three_third _ _ _ (texts_at all q later) (part.outer q (λ k. omega (arith, k.1)) ∙ pick_other (above n) q loose differ) (pick_other (suffix_of n) q (as_list suffix) differ) refl)));
       }
 
 -- ---- the line
 
 module _ (all : List Region) (n hi : ℕ) (x : Part) (l : Leaf) (r : Regions x) (i : InHost all x) where
   -- no semicolon behind the last statement
-  bare_end : hi ≡ suc (n + size x) → is_item x ≡ true → IsMark s.semicolon false (p.Leaf l) → SeesAt all None (suc n) hi (hosts_from s.semicolon n (map measured (x ∷ p.Leaf l ∷ []))) →
+  bare_end : hi ≡ suc (n + size x) → is_item_part x ≡ true → IsMark s.semicolon false (p.Leaf l) → SeesAt all None (suc n) hi (hosts_from s.semicolon n (map measured (x ∷ p.Leaf l ∷ []))) →
       LineTexts all n hi (behind_parts n (x ∷ p.Leaf l ∷ [])) (hosts_from s.semicolon n (map measured (x ∷ p.Leaf l ∷ []))) (statements_in [] (map seen (x ∷ p.Leaf l ∷ [])))
   bare_end up item mark s' =
       let b : ℕ = n + size x in
@@ -96,12 +96,12 @@ module _ (all : List Region) (n hi : ℕ) (x : Part) (l : Leaf) (r : Regions x) 
       let part : PartTexts all n n x = i n b b n (omega arith) (λ q v w. sees_before all q (Some (host n b b)) hi b hi b rs [] tt (omega arith) (omega arith) (omega arith)
       (sees_in_host all q None hi n b b (rs ++ []) (omega arith) w (omega arith) (sees q v (omega arith)))) in
       let places : GapPlaces all b (suffix_of n) outside = gap_ended all b n hi [] (sees_ended all b None hi n b b hi rs [] (omega arith) (omega arith) (omega arith) (r.within n) tt (omega arith) (sees b (omega arith) (omega arith))) in
-      let told : (q : Place) → 0 < key q → texts_at all q whole ≡ texts_at all q (inner n x) ++ (pick (suffix_of n) q (listed (suffix_in l.gap)) ++ texts_at all q []) =
+      let told : (q : CommentPlace) → 0 < key q → texts_at all q whole ≡ texts_at all q (inner n x) ++ (pick (suffix_of n) q (as_list (suffix_in l.gap)) ++ texts_at all q []) =
       λ q k. texts_joined all q (inner n x) (comments_at b l.gap ++ []) ∙ ap (λ (z : Lines). texts_at all q (inner n x) ++ z) (texts_joined all q (comments_at b l.gap) [] ∙ ap (λ (z : Lines). z ++ []) (gap_suffix all b n l.gap places q k)) in
       subst (λ (z : List Region). LineTexts all n hi whole z (statements_in [] (map seen (x ∷ p.Leaf l ∷ [])))) (sym (hosts_last s.semicolon n x l item mark))
       (statement_texts all n hi hi b x (suffix_in l.gap) whole [] [] [] some (omega arith) (omega arith) part told (nothing_there all hi hi))
 
-  module _ (z : Part) (xs : List Part) (item : is_item x ≡ true) (mark : IsMark s.semicolon true (p.Leaf l)) (up : hi ≡ suc (n + size x) + sizes (map measured (z ∷ xs))) (a : Alternating s.semicolon (z ∷ xs))
+  module _ (z : Part) (xs : List Part) (item : is_item_part x ≡ true) (mark : IsMark s.semicolon true (p.Leaf l)) (up : hi ≡ suc (n + size x) + sizes (map measured (z ∷ xs))) (a : Alternating s.semicolon (z ∷ xs))
       (r' : AllByRecursion Regions (z ∷ xs)) (silent : all_in l.gap ≡ []) (s' : SeesAt all None (suc n) hi (hosts_from s.semicolon n (map measured (x ∷ p.Leaf l ∷ z ∷ xs)))) where
     abbrev behind_it : ℕ
     behind_it = suc (n + size x)
@@ -131,7 +131,7 @@ module _ (all : List Region) (n hi : ℕ) (x : Part) (l : Leaf) (r : Regions x) 
         let one : n + size x + 1 ≡ behind_it = omega arith in
         ap (λ (y : List Comment). inner n x ++ (y ++ in_parts (n + size x + 1) (z ∷ xs))) (silent_gap (n + size x) l.gap silent) ∙ ap (λ (y : ℕ). inner n x ++ in_parts y (z ∷ xs)) one
 
-  semicolon_end : (l' : Leaf) → is_item x ≡ true → IsMark s.semicolon true (p.Leaf l) → hi ≡ suc (n + size x) + 1 → IsMark s.semicolon false (p.Leaf l') → all_in l.gap ≡ [] →
+  semicolon_end : (l' : Leaf) → is_item_part x ≡ true → IsMark s.semicolon true (p.Leaf l) → hi ≡ suc (n + size x) + 1 → IsMark s.semicolon false (p.Leaf l') → all_in l.gap ≡ [] →
       SeesAt all None (suc n) hi (hosts_from s.semicolon n (map measured (x ∷ p.Leaf l ∷ p.Leaf l' ∷ []))) →
       LineTexts all n hi (behind_parts n (x ∷ p.Leaf l ∷ p.Leaf l' ∷ [])) (hosts_from s.semicolon n (map measured (x ∷ p.Leaf l ∷ p.Leaf l' ∷ []))) (statements_in [] (map seen (x ∷ p.Leaf l ∷ p.Leaf l' ∷ [])))
   semicolon_end l' item mark up mark' silent s' =
@@ -147,14 +147,14 @@ module _ (all : List Region) (n hi : ℕ) (x : Part) (l : Leaf) (r : Regions x) 
       let part : PartTexts all n n x = inside_it z [] item mark (omega arith) mark' r' silent s' in
       let places : GapPlaces all n' (suffix_of n) outside = gap_ended all n' n hi []
       (sees_ended all n' None hi n b hi hi rs [] (omega arith) (omega arith) (omega arith) (r.within n) tt (omega arith) (subst (Sees all n' None hi) there (s' n' (omega arith) (omega arith)))) in
-      let told : (q : Place) → 0 < key q → texts_at all q whole ≡ texts_at all q (inner n x) ++ (pick (suffix_of n) q (listed (suffix_in l'.gap)) ++ texts_at all q []) =
+      let told : (q : CommentPlace) → 0 < key q → texts_at all q whole ≡ texts_at all q (inner n x) ++ (pick (suffix_of n) q (as_list (suffix_in l'.gap)) ++ texts_at all q []) =
       λ q k. ap (texts_at all q) (split z [] item mark (omega arith) mark' r' silent s') ∙
       (texts_joined all q (inner n x) (comments_at n' l'.gap ++ []) ∙ ap (λ (y : Lines). texts_at all q (inner n x) ++ y)
       (texts_joined all q (comments_at n' l'.gap) [] ∙ ap (λ (y : Lines). y ++ []) (gap_suffix all n' n l'.gap places q k))) in
       subst (λ (y : List Region). LineTexts all n hi whole y (statements_in [] (map seen (x ∷ p.Leaf l ∷ z ∷ [])))) (sym there)
       (statement_texts all n hi hi n' x (suffix_in l'.gap) whole [] [] [] some (omega arith) (omega arith) part told (nothing_there all hi hi))
 
-  before_others : (z u : Part) (xs : List Part) → is_item x ≡ true → IsMark s.semicolon true (p.Leaf l) → hi ≡ suc (n + size x) + sizes (map measured (z ∷ u ∷ xs)) → Alternating s.semicolon (z ∷ u ∷ xs) →
+  before_others : (z u : Part) (xs : List Part) → is_item_part x ≡ true → IsMark s.semicolon true (p.Leaf l) → hi ≡ suc (n + size x) + sizes (map measured (z ∷ u ∷ xs)) → Alternating s.semicolon (z ∷ u ∷ xs) →
       AllByRecursion Regions (z ∷ u ∷ xs) → all_in l.gap ≡ [] → all_in (seen z).gap ≡ [] →
       SeesAt all None (suc n) hi (hosts_from s.semicolon n (map measured (x ∷ p.Leaf l ∷ z ∷ u ∷ xs))) →
       (SeesAt all None (suc (suc (n + size x))) hi (hosts_from s.semicolon (suc (n + size x)) (map measured (z ∷ u ∷ xs))) → LineTexts all (suc (n + size x)) hi (behind_parts (suc (n + size x)) (z ∷ u ∷ xs))
@@ -167,7 +167,7 @@ module _ (all : List Region) (n hi : ℕ) (x : Part) (l : Leaf) (r : Regions x) 
       let behind : List Comment = behind_parts n' (z ∷ u ∷ xs) in
       let part : PartTexts all n n x = inside_it z (u ∷ xs) item mark up a r' silent s' in
       let same : whole ≡ inner n x ++ behind = split z (u ∷ xs) item mark up a r' silent s' ∙ ap (λ (y : List Comment). inner n x ++ (y ++ behind)) (silent_gap n' (seen z).gap silent') in
-      let told : (q : Place) → 0 < key q → texts_at all q whole ≡ texts_at all q (inner n x) ++ (pick (suffix_of n) q (listed None) ++ texts_at all q behind) =
+      let told : (q : CommentPlace) → 0 < key q → texts_at all q whole ≡ texts_at all q (inner n x) ++ (pick (suffix_of n) q (as_list None) ++ texts_at all q behind) =
       λ q k. ap (texts_at all q) same ∙ (texts_joined all q (inner n x) behind ∙ ap (λ (y : Lines). texts_at all q (inner n x) ++ (y ++ texts_at all q behind)) (sym (pick_none (suffix_of n) q))) in
       subst (λ (y : List Region). LineTexts all n hi whole y (statements_in [] (map seen (x ∷ p.Leaf l ∷ z ∷ u ∷ xs)))) (sym (hosts_more s.semicolon n x l (z ∷ u ∷ xs) item mark))
       (statement_texts all n n' hi n' x None whole behind (hosts_from s.semicolon n' (map measured (z ∷ u ∷ xs))) (statements_in [] (map seen (z ∷ u ∷ xs))) some (omega arith) (omega arith) part told

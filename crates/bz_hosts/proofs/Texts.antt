@@ -6,7 +6,7 @@ use Rattle.bz_tree.specs.declared.tree.Part.{Part}
 use Rattle.bz_items.specs.Characters.{Bytes}
 use Rattle.bz_value.specs.Gaps.{all_in}
 use Rattle.bz_view.specs.View.{seen, plain, loose_in, loose_behind}
-use Rattle.bz_hosts.specs.Hosts.{Region, host, Comment, comments_at, sizes, measured, in_row, Place, above, texts_at, Hosted, hosted_at, inside_expr}
+use Rattle.bz_hosts.specs.Hosts.{Region, host, Comment, comments_at, sizes, measured, in_row, CommentPlace, above, texts_at, Hosted, hosted_at, inside_expr}
 use Rattle.bz_hosts.proofs.Around.{AllInside, all_wider, Sees, SeesAt, sees_behind, sees_before}
 use Rattle.bz_hosts.proofs.Gathered.{key, pick, pick_other, pick_none, pick_joined, GapPlaces, texts_joined, gap_all}
 use Rattle.bz_hosts.proofs.Parts.{size, inner, in_parts, behind_parts}
@@ -14,14 +14,14 @@ use Rattle.bz_hosts.proofs.Alternating.{Regions, inside_joined}
 use Rattle.bz_hosts.proofs.Insides.{insides}
 
 -- a place strictly inside a part that begins here and ends before up
-abbrev pub Inner : ℕ → ℕ → Place → Type 0
+abbrev pub Inner : ℕ → ℕ → CommentPlace → Type 0
 Inner n up q = (suc (suc (n + n)) ≤ key q) × (key q < up + up)
 
 -- Comments inside the host h: those that stand in none of these regions are loose, in order; where all comments have at the
 -- places in these regions no other texts, the regions hold what the view says.
 pub record Texts (all : List Region) (h n up : ℕ) (mine : List Comment) (loose : List Bytes) (rs : List Region) (hs : List Hosted) : Type 0 where
-  pub outer : (q : Place) → (Inner n up q → ⊥) → texts_at all q mine ≡ pick (above h) q loose
-  pub hosts : (cs : List Comment) → ((q : Place) → Inner n up q → texts_at all q cs ≡ texts_at all q mine) → map (hosted_at all cs) rs ≡ hs
+  pub outer : (q : CommentPlace) → (Inner n up q → ⊥) → texts_at all q mine ≡ pick (above h) q loose
+  pub hosts : (cs : List Comment) → ((q : CommentPlace) → Inner n up q → texts_at all q cs ≡ texts_at all q mine) → map (hosted_at all cs) rs ≡ hs
 
 module _ (all : List Region) (h n m m' up : ℕ) (mine mine' : List Comment) (loose loose' : List Bytes) (rs rs' : List Region) (hs hs' : List Hosted) where
   pub both_texts : h ≤ n → n ≤ m' → m ≤ suc m' → m ≤ up → Texts all h n m mine loose rs hs → Texts all h m' up mine' loose' rs' hs' → Texts all h n up (mine ++ mine') (loose ++ loose') (rs ++ rs') (hs ++ hs')
@@ -39,13 +39,13 @@ module _ (all : List Region) (h n m m' up : ℕ) (mine mine' : List Comment) (lo
         ∙ ap (λ (z : List Hosted). hs ++ z) (b.hosts cs (λ q i. f q (omega (arith, i.0), i.1) ∙ (texts_joined all q mine mine' ∙ ap (λ (z : List Bytes). z ++ texts_at all q mine') (silent_first q i)))));
   }
     where
-      silent_second : (q : Place) → Inner n m q → texts_at all q mine' ≡ []
+      silent_second : (q : CommentPlace) → Inner n m q → texts_at all q mine' ≡ []
       silent_second q i =
           let i0 = i.0 in
           let i1 = i.1 in
           b.outer q (λ j. omega (arith, j.0)) ∙ pick_other (above h) q loose' (λ e. omega arith)
 
-      silent_first : (q : Place) → Inner m' up q → texts_at all q mine ≡ []
+      silent_first : (q : CommentPlace) → Inner m' up q → texts_at all q mine ≡ []
       silent_first q i =
           let i0 = i.0 in
           let i1 = i.1 in

@@ -7,8 +7,8 @@ use Rattle.bz_tree.specs.declared.tree.Part.{Part, Node'}
 use Rattle.bz_tree.specs.declared.tree.Part.TheVariants as p
 use Rattle.bz_tree.specs.Spell.{leaves_part}
 use Rattle.bz_items.specs.Characters.{Bytes}
-use Rattle.bz_value.specs.Gaps.{GapLine, lines_of, behind_first, groups_of, all_but_last, last_group}
-use Rattle.bz_hosts.specs.Hosts.{Region, Comment, in_line, Hosted, hosted_at, alone, with_group, lines_before, right_above, bare_lines, hosted_from}
+use Rattle.bz_value.specs.Gaps.{GapLine, lines_of, after_first_comment, groups_of, all_but_last, last_group}
+use Rattle.bz_hosts.specs.Hosts.{Region, Comment, in_line, Hosted, hosted_at, hosts_alone, with_group, lines_before, right_above, bare_lines, hosted_from}
 use Rattle.bz_hosts.proofs.Numbered.{all_numbered, alone_numbered, last_numbered}
 use Rattle.bz_hosts.proofs.Parts.{size, size_leaves, Solid}
 
@@ -24,13 +24,13 @@ last_gap (l ∷ m ∷ ls) = last_gap (m ∷ ls)
 -- left: the lines in the gap of the Newline before, behind its first
 abbrev pub walked : List Region → List Comment → List GapLine → ℕ → List Part → List Hosted
 walked rs cs left n [] = []
-walked rs cs left n (p.Leaf l ∷ xs) = alone (groups_of (left ++ lines_of l.gap)) ++ walked rs cs [] (suc n) xs
+walked rs cs left n (p.Leaf l ∷ xs) = hosts_alone (groups_of (left ++ lines_of l.gap)) ++ walked rs cs [] (suc n) xs
 walked rs cs left n (Node' kind z r ∷ xs) =
     let ls : List Leaf = leaves_part (Node' kind z r) in
     let groups : List (List Bytes) = groups_of (left ++ lines_of (gap_of ls)) in
-    alone (all_but_last groups)
+    hosts_alone (all_but_last groups)
     ++ with_group (last_group groups) (map (hosted_at rs cs) (in_line n (Node' kind z r)))
-    ++ walked rs cs (behind_first (lines_of (last_gap ls))) (n + length ls) xs
+    ++ walked rs cs (after_first_comment (lines_of (last_gap ls))) (n + length ls) xs
 
 -- ---- the last gap of leaves
 
@@ -41,11 +41,11 @@ last_behind (l ∷ l' ∷ ls) m ms = last_behind (l' ∷ ls) m ms
 
 abbrev left_by : List Leaf → List GapLine
 left_by [] = []
-left_by (l ∷ ls) = behind_first (lines_of (last_gap (l ∷ ls)))
+left_by (l ∷ ls) = after_first_comment (lines_of (last_gap (l ∷ ls)))
 
-left_behind : (front : List Leaf) (m : Leaf) (ms : List Leaf) → left_by (front ++ m ∷ ms) ≡ behind_first (lines_of (last_gap (m ∷ ms)))
+left_behind : (front : List Leaf) (m : Leaf) (ms : List Leaf) → left_by (front ++ m ∷ ms) ≡ after_first_comment (lines_of (last_gap (m ∷ ms)))
 left_behind [] m ms = refl
-left_behind (l ∷ ls) m ms = ap (λ (z : Bytes). behind_first (lines_of z)) (last_behind (l ∷ ls) m ms)
+left_behind (l ∷ ls) m ms = ap (λ (z : Bytes). after_first_comment (lines_of z)) (last_behind (l ∷ ls) m ms)
 
 -- the lines before a leaf, by what stands in front of it
 before_told : (front : List Leaf) (m : Leaf) (ms : List Leaf) → lines_before (front ++ m ∷ ms) (length front) ≡ left_by front ++ lines_of m.gap
@@ -67,8 +67,8 @@ module _ (rs : List Region) (cs : List Comment) where
   by_number front n [] h e d = refl
   by_number front n (p.Leaf l ∷ []) h e d =
       let lines : lines_before (front ++ l ∷ []) n ≡ left_by front ++ lines_of l.gap = ap (lines_before (front ++ l ∷ [])) (sym d) ∙ before_told front l [] in
-      ap (λ (z : List GapLine). alone (map (right_above z) (bare_lines 0 z ++ length z ∷ [])) ++ []) lines
-      ∙ ap (λ (z : List (List Bytes)). alone z ++ []) (sym (all_numbered (left_by front ++ lines_of l.gap)))
+      ap (λ (z : List GapLine). hosts_alone (map (right_above z) (bare_lines 0 z ++ length z ∷ [])) ++ []) lines
+      ∙ ap (λ (z : List (List Bytes)). hosts_alone z ++ []) (sym (all_numbered (left_by front ++ lines_of l.gap)))
   by_number front n (p.Leaf l ∷ y ∷ xs) h e d = absurd e
   by_number front n (Node' kind z r ∷ xs) h e d =
       let line : Part = Node' kind z r in
@@ -85,14 +85,14 @@ module _ (rs : List Region) (cs : List Comment) where
       ∙ (before_told front first (rest ++ more) ∙ ap (λ (z : List Leaf). left_by front ++ lines_of (gap_of z)) (sym leaves))) in
       let there : List GapLine = left_by front ++ lines_of (gap_of ls) in
       let far : length (front ++ ls) ≡ m = let e' = size_leaves line in omega (arith, length-append front ls) in
-      let behind : hosted_from rs cs all m xs ≡ walked rs cs (behind_first (lines_of (last_gap ls))) m xs =
+      let behind : hosted_from rs cs all m xs ≡ walked rs cs (after_first_comment (lines_of (last_gap ls))) m xs =
       ap (λ (z : List Leaf). hosted_from rs cs z m xs) (sym (append_assoc front ls more))
       ∙ (by_number (front ++ ls) m xs h.1 e far
-      ∙ ap (λ (z : List GapLine). walked rs cs z m xs) (ap (λ (z : List Leaf). left_by (front ++ z)) leaves ∙ (left_behind front first rest ∙ ap (λ (z : List Leaf). behind_first (lines_of (last_gap z))) (sym leaves)))) in
+      ∙ ap (λ (z : List GapLine). walked rs cs z m xs) (ap (λ (z : List Leaf). left_by (front ++ z)) leaves ∙ (left_behind front first rest ∙ ap (λ (z : List Leaf). after_first_comment (lines_of (last_gap z))) (sym leaves)))) in
       let same : m ≡ n + length ls = ap (λ (z : ℕ). n + z) (size_leaves line) in
       let hosts : List Hosted = map (hosted_at rs cs) (in_line n line) in
-      ap (λ (z : List GapLine). alone (map (right_above z) (bare_lines 0 z)) ++ with_group (right_above z (length z)) hosts ++ hosted_from rs cs all m xs) lines
-      ∙ (ap (λ (z : List (List Bytes)). alone z ++ with_group (right_above there (length there)) hosts ++ hosted_from rs cs all m xs) (sym (alone_numbered there))
-      ∙ (ap (λ (z : List Bytes). alone (all_but_last (groups_of there)) ++ with_group z hosts ++ hosted_from rs cs all m xs) (sym (last_numbered there))
-      ∙ (ap (λ (z : List Hosted). alone (all_but_last (groups_of there)) ++ with_group (last_group (groups_of there)) hosts ++ z) behind
-      ∙ ap (λ (z : ℕ). alone (all_but_last (groups_of there)) ++ with_group (last_group (groups_of there)) hosts ++ walked rs cs (behind_first (lines_of (last_gap ls))) z xs) same)))
+      ap (λ (z : List GapLine). hosts_alone (map (right_above z) (bare_lines 0 z)) ++ with_group (right_above z (length z)) hosts ++ hosted_from rs cs all m xs) lines
+      ∙ (ap (λ (z : List (List Bytes)). hosts_alone z ++ with_group (right_above there (length there)) hosts ++ hosted_from rs cs all m xs) (sym (alone_numbered there))
+      ∙ (ap (λ (z : List Bytes). hosts_alone (all_but_last (groups_of there)) ++ with_group z hosts ++ hosted_from rs cs all m xs) (sym (last_numbered there))
+      ∙ (ap (λ (z : List Hosted). hosts_alone (all_but_last (groups_of there)) ++ with_group (last_group (groups_of there)) hosts ++ z) behind
+      ∙ ap (λ (z : ℕ). hosts_alone (all_but_last (groups_of there)) ++ with_group (last_group (groups_of there)) hosts ++ walked rs cs (after_first_comment (lines_of (last_gap ls))) z xs) same)))

@@ -18,7 +18,7 @@ use Rattle.bz_value.specs.declared.value.Item.TheVariants as i
 use Rattle.bz_value.specs.Comments.{HostComments}
 use Rattle.bz_value.specs.Frames.{Frame, row, sequence, frame, lead}
 use Rattle.bz_items.specs.Characters.{Bytes}
-use Rattle.bz_value.specs.Gaps.{GapLine, lines_of, listed, behind_first, comments_in, first_comment}
+use Rattle.bz_value.specs.Gaps.{GapLine, lines_of, as_list, after_first_comment, comments_in, first_comment}
 use Rattle.bz_value.specs.Proper.{comments_of}
 
 -- ---- comments
@@ -31,8 +31,8 @@ pub record Comment : Type 0 where
 
 abbrev pub comments_at : ℕ → Bytes → List Comment
 comments_at n gap =
-    map (λ text. record { leaf = n; on_line = true; text = text }) (listed (first_comment (lines_of gap)))
-    ++ map (λ text. record { leaf = n; on_line = false; text = text }) (comments_in (behind_first (lines_of gap)))
+    map (λ text. record { leaf = n; on_line = true; text = text }) (as_list (first_comment (lines_of gap)))
+    ++ map (λ text. record { leaf = n; on_line = false; text = text }) (comments_in (after_first_comment (lines_of gap)))
 
 -- the comments of leaves, the first of which has this number
 abbrev pub comments_from : ℕ → List Leaf → List Comment
@@ -58,19 +58,19 @@ sizes [] = 0
 sizes (x ∷ xs) = x.size + sizes xs
 
 -- a node, a name, a number or a string: no comma, bracket, semicolon or newline
-abbrev pub is_word : Class → Bool
-is_word c.Name = true
-is_word c.Number = true
-is_word c.String = true
-is_word _ = false
+abbrev pub is_word_class : Class → Bool
+is_word_class c.Name = true
+is_word_class c.Number = true
+is_word_class c.String = true
+is_word_class _ = false
 
-abbrev pub is_item : Part → Bool
-is_item (p.Leaf l) = is_word l.class
-is_item (Node' kind _ r) = true
+abbrev pub is_item_part : Part → Bool
+is_item_part (p.Leaf l) = is_word_class l.class
+is_item_part (Node' kind _ r) = true
 
-abbrev pub begins_with : List Terminal → List Measured → Bool
-begins_with terminals [] = false
-begins_with terminals (x ∷ xs) = has_token terminals x.part
+abbrev pub begins_with_token : List Terminal → List Measured → Bool
+begins_with_token terminals [] = false
+begins_with_token terminals (x ∷ xs) = has_token terminals x.part
 
 -- what stands in the parts of a row
 abbrev pub in_row : ℕ → List Measured → List Region
@@ -82,14 +82,14 @@ abbrev pub hosts_from : List Terminal → ℕ → List Measured → List Region
 hosts_from separators n [] = []
 hosts_from separators n (x ∷ xs) =
     let behind : ℕ = n + x.size in
-    (if is_item x.part then host n behind (if begins_with separators xs then suc behind else behind) ∷ x.inside n else []) ++ hosts_from separators behind xs
+    (if is_item_part x.part then host n behind (if begins_with_token separators xs then suc behind else behind) ∷ x.inside n else []) ++ hosts_from separators behind xs
 
 -- a node by its frame; of a sequence what stands before its bracket, the sequence itself and its items
 abbrev pub in_node : Frame → Kind → ℕ → List Measured → List Region
 in_node row kind n xs = in_row n xs
 in_node (sequence opener closer) kind n xs =
     let open_ : ℕ = n + sizes (take (lead kind) xs) in
-    in_row n (take (lead kind) xs) ++ between open_ (n + sizes xs) ∷ hosts_from s.comma (suc open_) (drop (suc (lead kind)) xs)
+    in_row n (take (lead kind) xs) ++ between open_ (n + sizes xs) ∷ hosts_from s.comma_mark (suc open_) (drop (suc (lead kind)) xs)
 
 abbrev mutual
   pub measured : Part → Measured
@@ -115,9 +115,9 @@ regions_from n (x ∷ xs) = in_line n x ++ regions_from (n + (measured x).size) 
 
 -- A comment is the suffix of the host, stands above the host, or at the end of the sequence, that begins with this leaf; or
 -- it stands in none of them.
-pub data Place : Type 0 where
-  suffix_of above end_of : ℕ → Place
-  outside : Place
+pub data CommentPlace : Type 0 where
+  suffix_of above end_of : ℕ → CommentPlace
+  outside : CommentPlace
 
 -- the host at whose end the comment stands
 abbrev pub ending_at : ℕ → List Region → Option ℕ
@@ -132,38 +132,38 @@ beginning_in leaf behind (host first b next ∷ rs) = if nat_le leaf first && na
 beginning_in leaf behind (between open_ b ∷ rs) = beginning_in leaf behind rs
 
 -- the gap of the leaf stands in the region
-abbrev pub holds : ℕ → Region → Bool
-holds leaf (host first behind next) = nat_lt first leaf && nat_lt leaf behind
-holds leaf (between open_ behind) = nat_lt open_ leaf && nat_lt leaf behind
+abbrev pub holds_gap : ℕ → Region → Bool
+holds_gap leaf (host first behind next) = nat_lt first leaf && nat_lt leaf behind
+holds_gap leaf (between open_ behind) = nat_lt open_ leaf && nat_lt leaf behind
 
 -- Regions stand in one another or apart, in the order in which they begin: the innermost around a gap is the last that
 -- holds it.
 abbrev pub innermost : ℕ → Option Region → List Region → Option Region
 innermost leaf found [] = found
-innermost leaf found (r ∷ rs) = innermost leaf (if holds leaf r then Some r else found) rs
+innermost leaf found (r ∷ rs) = innermost leaf (if holds_gap leaf r then Some r else found) rs
 
-abbrev pub place_at_end : ℕ → Option ℕ → Place
+abbrev pub place_at_end : ℕ → Option ℕ → CommentPlace
 place_at_end open_ (Some first) = above first
 place_at_end open_ None = end_of open_
 
 -- In a host: above it. In a sequence: above the item that begins next, or at its end where none does.
-abbrev pub place_in : ℕ → List Region → Option Region → Place
+abbrev pub place_in : ℕ → List Region → Option Region → CommentPlace
 place_in leaf rs None = outside
 place_in leaf rs (Some (host first behind next)) = above first
 place_in leaf rs (Some (between open_ behind)) = place_at_end open_ (beginning_in leaf behind rs)
 
-abbrev pub place_unless : Option ℕ → Place → Place
+abbrev pub place_unless : Option ℕ → CommentPlace → CommentPlace
 place_unless (Some first) place = suffix_of first
 place_unless None place = place
 
 -- A comment that follows a host's end with only blanks between is its suffix. Any other belongs to the innermost host or
 -- sequence that it stands in.
-abbrev pub place_of : List Region → Comment → Place
-place_of rs c = place_unless (if c.on_line then ending_at c.leaf rs else None) (place_in c.leaf rs (innermost c.leaf None rs))
+abbrev pub comment_place : List Region → Comment → CommentPlace
+comment_place rs c = place_unless (if c.on_line then ending_at c.leaf rs else None) (place_in c.leaf rs (innermost c.leaf None rs))
 
 -- ---- the comments of each host and sequence
 
-abbrev pub same_place : Place → Place → Bool
+abbrev pub same_place : CommentPlace → CommentPlace → Bool
 same_place (suffix_of n) (suffix_of m) = nat_eq n m
 same_place (above n) (above m) = nat_eq n m
 same_place (end_of n) (end_of m) = nat_eq n m
@@ -171,9 +171,9 @@ same_place outside outside = true
 same_place _ _ = false
 
 -- the texts of the comments that have this place, in the order of the text
-abbrev pub texts_at : List Region → Place → List Comment → List Bytes
+abbrev pub texts_at : List Region → CommentPlace → List Comment → List Bytes
 texts_at rs place [] = []
-texts_at rs place (c ∷ cs) = if same_place (place_of rs c) place then c.text ∷ texts_at rs place cs else texts_at rs place cs
+texts_at rs place (c ∷ cs) = if same_place (comment_place rs c) place then c.text ∷ texts_at rs place cs else texts_at rs place cs
 
 -- comment lines that stand by themselves; the comments above a host and its suffix; the end comments of a sequence
 pub data Hosted : Type 0 where
@@ -186,10 +186,10 @@ hosted_at rs cs (host first behind next) = hosted (texts_at rs (above first) cs)
 hosted_at rs cs (between open_ behind) = ended (texts_at rs (end_of open_) cs)
 
 -- groups that stand by themselves; an empty one is none
-abbrev pub alone : List (List Bytes) → List Hosted
-alone [] = []
-alone ([] ∷ groups) = alone groups
-alone ((text ∷ group) ∷ groups) = block (text ∷ group) ∷ alone groups
+abbrev pub hosts_alone : List (List Bytes) → List Hosted
+hosts_alone [] = []
+hosts_alone ([] ∷ groups) = hosts_alone groups
+hosts_alone ((text ∷ group) ∷ groups) = block (text ∷ group) ∷ hosts_alone groups
 
 -- the group right above a line stands above its first statement
 abbrev pub with_group : List Bytes → List Hosted → List Hosted
@@ -198,17 +198,17 @@ with_group group hs = hs
 
 -- ---- comments between the lines of a file, by the numbers of leaves and lines
 
-abbrev pub gap_at : List Leaf → ℕ → Bytes
-gap_at [] n = []
-gap_at (l ∷ ls) zero = l.gap
-gap_at (l ∷ ls) (suc n) = gap_at ls n
+abbrev pub leaf_gap : List Leaf → ℕ → Bytes
+leaf_gap [] n = []
+leaf_gap (l ∷ ls) zero = l.gap
+leaf_gap (l ∷ ls) (suc n) = leaf_gap ls n
 
 -- The lines before the leaf of this number, which begins a line of statements or is the end: those of its gap, and before
 -- them those in the gap of the leaf before it, a Newline, but for that gap's first, on which the statements before end. They
 -- are numbered from 0, and the line of the leaf's token is the next.
 abbrev pub lines_before : List Leaf → ℕ → List GapLine
-lines_before leaves zero = lines_of (gap_at leaves zero)
-lines_before leaves (suc n) = behind_first (lines_of (gap_at leaves n)) ++ lines_of (gap_at leaves (suc n))
+lines_before leaves zero = lines_of (leaf_gap leaves zero)
+lines_before leaves (suc n) = after_first_comment (lines_of (leaf_gap leaves n)) ++ lines_of (leaf_gap leaves (suc n))
 
 abbrev pub comment_on : List GapLine → ℕ → Option Bytes
 comment_on [] n = None
@@ -240,11 +240,11 @@ abbrev pub hosted_from : List Region → List Comment → List Leaf → ℕ → 
 hosted_from rs cs leaves n [] = []
 hosted_from rs cs leaves n (p.Leaf l ∷ xs) =
     let lines : List GapLine = lines_before leaves n in
-    alone (map (right_above lines) (bare_lines 0 lines ++ length lines ∷ [])) ++ hosted_from rs cs leaves (suc n) xs
+    hosts_alone (map (right_above lines) (bare_lines 0 lines ++ length lines ∷ [])) ++ hosted_from rs cs leaves (suc n) xs
 hosted_from rs cs leaves n (Node' kind z r ∷ xs) =
     let lines : List GapLine = lines_before leaves n in
     let line : Part = Node' kind z r in
-    alone (map (right_above lines) (bare_lines 0 lines))
+    hosts_alone (map (right_above lines) (bare_lines 0 lines))
     ++ with_group (right_above lines (length lines)) (map (hosted_at rs cs) (in_line n line))
     ++ hosted_from rs cs leaves (n + (measured line).size) xs
 
@@ -255,7 +255,7 @@ hosted_in n = hosted_from (regions_from 0 n.parts) (comments_from 0 (leaves_of n
 -- ---- the comments in a file value, in the same order
 
 abbrev pub hosted_by : HostComments → Hosted
-hosted_by comments = hosted comments.before (listed comments.suffix)
+hosted_by comments = hosted comments.before (as_list comments.suffix)
 
 abbrev pub by_frame : Frame → List Hosted → List Hosted → Hosted → List Hosted
 by_frame row parts items end_ = parts

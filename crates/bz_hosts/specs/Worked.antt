@@ -54,8 +54,8 @@ called =
     ∷ []
     ) (codes " # i") (codes "# j\n")
 
-abbrev pub Call : Type 0
-Call =
+abbrev pub CallHosts : Type 0
+CallHosts =
     text called (codes "# a\n\n# b\nf( # c\n# d\nx, # e\n[ # g\n]\n# h\n) # i\n# j\n") (
     block (codes "# a" ∷ [])
     ∷ hosted (codes "# b" ∷ []) (codes "# i" ∷ [])
@@ -109,4 +109,4 @@ Lines =
     )
 
 abbrev pub WorkedHosts : Type 0
-WorkedHosts = Call × Comma × Paren × Statements × Lines
+WorkedHosts = CallHosts × Comma × Paren × Statements × Lines

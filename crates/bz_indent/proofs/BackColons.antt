@@ -13,7 +13,7 @@ use Rattle.bz_value.specs.declared.value.Expr.{Expr, Token, Form'}
 use Rattle.bz_items.specs.Characters.{Bytes, space}
 use Rattle.bz_value.specs.Indented.{IndentedGapLine}
 use Rattle.bz_value.specs.Proper.{comments_of}
-use Rattle.bz_value.specs.Roots.{root, mark}
+use Rattle.bz_value.specs.Roots.{root, mark_leaf}
 use Rattle.bz_view.specs.View.{Seen, seen}
 use Rattle.bz_write.specs.Layout.{rowed, joined, stacked, gap_behind, margin_behind, firsts}
 use Rattle.bz_write.specs.Drawn.{part_of, piece_part, drawings}
@@ -21,7 +21,6 @@ use Rattle.bz_value.proofs.LeadParts.{fits_free}
 use Rattle.bz_suite.specs.View.{Stated, stated, branches, with_suite}
 use Rattle.bz_suite.proofs.KeptGaps.{NoColon, no_colons, token_plain, sort_plain}
 use Rattle.bz_suite.proofs.Parts.{part_of as stated_part}
-use Rattle.bz_indent.specs.Drawn.{mark_part}
 
 -- ---- lists
 
@@ -101,10 +100,10 @@ module _ (last_part : Part) where
 
 -- behind the bracket of a function
 abbrev parameters_end : Shape
-parameters_end = s.enclosed s.param s.close_round (s.tok s.colon s.done)
+parameters_end = s.enclosed s.param s.close_round (s.tok s.colon_mark s.done)
 
 -- the bracket stands behind two parts, since the rest of the shape has no other
-pub two_before : (ps : List Expr) (ys : List Part) → Fits IsSort def_header (map root ps ++ (mark 40 ∷ ys)) → length ps ≡ 2
+pub two_before : (ps : List Expr) (ys : List Part) → Fits IsSort def_header (map root ps ++ (mark_leaf 40 ∷ ys)) → length ps ≡ 2
 two_before [] ys h = absurd (true≢false (sym h.0))
 two_before (x ∷ []) ys h = absurd (true≢false (sym h.1.0))
 two_before (x ∷ y ∷ []) ys h = refl
@@ -142,10 +141,10 @@ joined_plain m gap one (x ∷ y ∷ ys) h = (plain_part x gap m h.0, (refl, join
 
 -- The parts before the colon are those of the header; a suite follows.
 pub up_to_colon : (kind : Kind) (parts : List Seen) (above : List Bytes) (left after : List IndentedGapLine) (front rest : List Part) → AllByRecursion NoColon front →
-    branches kind parts above left (map stated (front ++ (mark_part 58 ∷ rest))) after ≡ with_suite kind (parts ++ map seen front) above left (map stated rest) after
+    branches kind parts above left (map stated (front ++ (mark_leaf 58 ∷ rest))) after ≡ with_suite kind (parts ++ map seen front) above left (map stated rest) after
 up_to_colon kind parts above left after [] rest h = ap (λ z. with_suite kind z above left (map stated rest) after) (sym (append-nil parts))
 up_to_colon kind parts above left after (x ∷ front) rest h =
-    let others : List Stated = map stated (front ++ (mark_part 58 ∷ rest)) in
+    let others : List Stated = map stated (front ++ (mark_leaf 58 ∷ rest)) in
     ap (λ z. if z then with_suite kind parts above left others after else branches kind (parts ++ (stated x).part ∷ []) above left others after) h.0
     ∙ (ap (λ z. branches kind (parts ++ z ∷ []) above left others after) (stated_part x)
     ∙ (up_to_colon kind (parts ++ seen x ∷ []) above left after front rest h.1 ∙ ap (λ z. with_suite kind z above left (map stated rest) after) (append_assoc parts (seen x ∷ []) (map seen front))))

@@ -3,9 +3,9 @@ use Rattle.std.proofs.Common.{◌≡◌, ◌≤◌, ◌<◌, ℕ, List, [], ◌�
 use Rattle.std.specs.Prelude.{Option, None, Some}
 use Rattle.std.proofs.lemmas.Bool.{le-leb, lt-leb}
 use Rattle.bz_items.specs.Characters.{Bytes}
-use Rattle.bz_value.specs.Gaps.{listed}
+use Rattle.bz_value.specs.Gaps.{as_list}
 use Rattle.bz_value.specs.Indented.{IndentedGapLine}
-use Rattle.bz_suite.specs.View.{comments_of, is_taken, end_comments, behind_end}
+use Rattle.bz_suite.specs.View.{indented_comments, is_taken_line, end_comments, behind_end}
 use Rattle.bz_indent.proofs.BackLines.{Lines, told_at}
 
 -- ---- from the first comment on
@@ -21,18 +21,18 @@ from_comment [] = []
 from_comment (line ∷ lines) = from_line line.line.comment line lines (from_comment lines)
 
 -- what is taken for end comments, and what is left, is the same with the lines before the first comment and without them
-comments_step : (comment : Option Bytes) (line : IndentedGapLine) (lines : Lines) → line.line.comment ≡ comment → comments_of (from_comment lines) ≡ comments_of lines → comments_of (from_line line.line.comment line lines (from_comment lines)) ≡ comments_of (line ∷ lines)
-comments_step None line lines e same = ap (λ z. comments_of (from_line z line lines (from_comment lines))) e ∙ (same ∙ ap (λ z. listed z ++ comments_of lines) (sym e))
-comments_step (Some text) line lines e same = ap (λ z. comments_of (from_line z line lines (from_comment lines))) e
+comments_step : (comment : Option Bytes) (line : IndentedGapLine) (lines : Lines) → line.line.comment ≡ comment → indented_comments (from_comment lines) ≡ indented_comments lines → indented_comments (from_line line.line.comment line lines (from_comment lines)) ≡ indented_comments (line ∷ lines)
+comments_step None line lines e same = ap (λ z. indented_comments (from_line z line lines (from_comment lines))) e ∙ (same ∙ ap (λ z. as_list z ++ indented_comments lines) (sym e))
+comments_step (Some text) line lines e same = ap (λ z. indented_comments (from_line z line lines (from_comment lines))) e
 
 -- the comments are the same with the lines before the first comment and without them
-pub same_comments : (lines : Lines) → comments_of (from_comment lines) ≡ comments_of lines
+pub same_comments : (lines : Lines) → indented_comments (from_comment lines) ≡ indented_comments lines
 same_comments [] = refl
 same_comments (line ∷ lines) = comments_step line.line.comment line lines refl (same_comments lines)
 
 -- what is taken for end comments from a line on, by the comment of that line
 abbrev ends_by : ℕ → Option Bytes → IndentedGapLine → Lines → List Bytes
-ends_by margin comment line lines = if is_taken margin line.indent comment then (listed comment ++ []) ++ end_comments margin lines else []
+ends_by margin comment line lines = if is_taken_line margin line.indent comment then (as_list comment ++ []) ++ end_comments margin lines else []
 
 ends_step : (margin : ℕ) (comment : Option Bytes) (line : IndentedGapLine) (lines : Lines) → line.line.comment ≡ comment → end_comments margin (from_comment lines) ≡ end_comments margin lines
     → end_comments margin (from_line line.line.comment line lines (from_comment lines)) ≡ end_comments margin (line ∷ lines)
@@ -45,7 +45,7 @@ same_ends margin (line ∷ lines) = ends_step margin line.line.comment line line
 
 -- what is left from a line on
 abbrev left_by : ℕ → Option Bytes → IndentedGapLine → Lines → Lines
-left_by margin comment line lines = if is_taken margin line.indent comment then behind_end margin lines else line ∷ lines
+left_by margin comment line lines = if is_taken_line margin line.indent comment then behind_end margin lines else line ∷ lines
 
 left_step : (margin : ℕ) (comment : Option Bytes) (line : IndentedGapLine) (lines : Lines) → line.line.comment ≡ comment → behind_end margin (from_comment lines) ≡ behind_end margin lines
     → behind_end margin (from_line line.line.comment line lines (from_comment lines)) ≡ behind_end margin (line ∷ lines)
@@ -111,7 +111,7 @@ none_step : (margin m : ℕ) (comment : Option Bytes) (line : IndentedGapLine) (
     → (AreBounded m lines → end_comments margin lines ≡ []) → ends_by margin comment line lines ≡ []
 none_step margin m None line lines less h more = more h
 none_step margin m (Some text) line lines less h more =
-    ap (λ z. if z then (listed (Some text) ++ []) ++ end_comments margin lines else []) (lt-leb margin line.indent (omega (arith, less, h)))
+    ap (λ z. if z then (as_list (Some text) ++ []) ++ end_comments margin lines else []) (lt-leb margin line.indent (omega (arith, less, h)))
 
 -- none of the lines that belong further out
 pub none_taken : (margin m : ℕ) (lines : Lines) → m < margin → AreBounded m lines → end_comments margin lines ≡ []

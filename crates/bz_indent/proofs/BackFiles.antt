@@ -19,9 +19,9 @@ use Rattle.bz_suite.specs.declared.value.Statement.{Statement, Simple, Compound'
 use Rattle.bz_suite.specs.declared.value.BzlItem.{BzlItem}
 use Rattle.bz_suite.specs.declared.value.BzlItem.TheVariants as b
 use Rattle.bz_suite.specs.Proper.{IsProperBzlItem, IsProperBzl}
-use Rattle.bz_suite.specs.View.{Read, stated, lines_before, bzl_item, block_items, bzl_items, bzl_view_of}
+use Rattle.bz_suite.specs.View.{Read, stated, indented_lines_before, bzl_item, block_items, bzl_items, bzl_view_of}
 use Rattle.bz_suite.proofs.Lined.{plain_lines}
-use Rattle.bz_indent.specs.Layout.{lines_at, before_others}
+use Rattle.bz_indent.specs.Layout.{indented_lines, before_others}
 use Rattle.bz_indent.specs.Drawn.{left_behind, statement_part, bzl_lines, bzl_drawn}
 use Rattle.bz_indent.specs.Level.{level_statement, level}
 use Rattle.bz_indent.proofs.BackLines.{Lines, line_with, AreIndented, told_at, plain_told, no_lines, a_blank_line, lines_appended, comments_at, whole_gap, gap_lines}
@@ -132,18 +132,18 @@ file_bounded (b.Statement x ∷ items) = subst (AreBounded 0) (append-nil (told_
 statement_items : (now : Lines) (gap : Bytes) (x : Statement) (xs : List Part) →
     bzl_items now (statement_part 0 gap x ∷ xs)
     ≡ block_items (all_but_last (groups now))
-    ++ (map b.Statement ((stated (statement_part 0 gap x)).statement (last_group (groups now)) (lines_before (map stated xs) [])).0 ++ bzl_items ((stated (statement_part 0 gap x)).statement (last_group (groups now)) (lines_before (map stated xs) [])).1 xs)
+    ++ (map b.Statement ((stated (statement_part 0 gap x)).statement (last_group (groups now)) (indented_lines_before (map stated xs) [])).0 ++ bzl_items ((stated (statement_part 0 gap x)).statement (last_group (groups now)) (indented_lines_before (map stated xs) [])).1 xs)
 statement_items now gap (Simple x) xs = refl
 statement_items now gap (Compound' size own) xs = refl
 
 -- the lines before the first part of a file
-file_before : (items : List BzlItem) → AllByRecursion IsProperBzlItem items → (gap : Bytes) (lines : Lines) → AreIndented gap lines → lines_before (map stated (bzl_lines gap items)) [] ≡ lines ++ file_lines items
+file_before : (items : List BzlItem) → AllByRecursion IsProperBzlItem items → (gap : Bytes) (lines : Lines) → AreIndented gap lines → indented_lines_before (map stated (bzl_lines gap items)) [] ≡ lines ++ file_lines items
 file_before [] h gap lines k = whole_gap gap lines k ∙ sym (append-nil lines)
 file_before (b.Block texts ∷ items) h gap lines k =
     let next : IsBetween (before_others (b.Block texts) items) = between_known (b.Block texts) items in
-    file_before items h.1 ((gap ++ lines_at 0 texts) ++ before_others (b.Block texts) items) ((lines ++ told_at 0 texts) ++ next.lines)
-    (lines_appended (gap ++ lines_at 0 texts) (before_others (b.Block texts) items) (lines ++ told_at 0 texts) next.lines
-    (lines_appended gap (lines_at 0 texts) lines (told_at 0 texts) k (comments_at 0 texts (recursion_from_All IsComment texts h.0.1))) next.are)
+    file_before items h.1 ((gap ++ indented_lines 0 texts) ++ before_others (b.Block texts) items) ((lines ++ told_at 0 texts) ++ next.lines)
+    (lines_appended (gap ++ indented_lines 0 texts) (before_others (b.Block texts) items) (lines ++ told_at 0 texts) next.lines
+    (lines_appended gap (indented_lines 0 texts) lines (told_at 0 texts) k (comments_at 0 texts (recursion_from_All IsComment texts h.0.1))) next.are)
     ∙ (append_assoc (lines ++ told_at 0 texts) next.lines (file_lines items) ∙ append_assoc lines (told_at 0 texts) (next.lines ++ file_lines items))
 file_before (b.Statement x ∷ items) h gap lines k = ap indented (statement_first 0 gap x h.0) ∙ gap_lines 0 gap lines (above_of x) k (comments_above x h.0)
 
@@ -166,7 +166,7 @@ items_back (b.Block (text ∷ texts) ∷ y ∷ ys) h gap now waiting bs waits e 
     let plain : plain_lines all ≡ (plain_lines waiting ++ told (text ∷ texts)) ++ (ended_line None ∷ []) =
     plain_append (waiting ++ own) blank ∙ ap (λ z. z ++ (ended_line None ∷ [])) (plain_append waiting own ∙ ap (λ z. plain_lines waiting ++ z) (plain_told 0 (text ∷ texts))) in
     let more : List Item = bs ++ (i.Block (text ∷ texts) ∷ []) in
-    items_back (y ∷ ys) h.1 ((gap ++ lines_at 0 (text ∷ texts)) ++ (line_feed ∷ [])) now all more (subst (λ z. Waits z more) (sym plain) (block_waits (plain_lines waiting) bs text texts waits))
+    items_back (y ∷ ys) h.1 ((gap ++ indented_lines 0 (text ∷ texts)) ++ (line_feed ∷ [])) now all more (subst (λ z. Waits z more) (sym plain) (block_waits (plain_lines waiting) bs text texts waits))
     (e ∙ ap from_comment (sym (append_assoc (waiting ++ own) blank (file_lines (y ∷ ys)) ∙ append_assoc waiting own (blank ++ file_lines (y ∷ ys)))))
     ∙ (ap (λ z. z ++ level (y ∷ ys)) (map-append bzl_item bs (i.Block (text ∷ texts) ∷ [])) ∙ append_assoc (map bzl_item bs) (b.Block (text ∷ texts) ∷ []) (level (y ∷ ys)))
 items_back (b.Statement x ∷ items) h gap now waiting bs waits e =
@@ -177,7 +177,7 @@ items_back (b.Statement x ∷ items) h gap now waiting bs waits e =
     let gap' : Bytes = left_behind 0 x ++ before_others (b.Statement x) items in
     let xs : List Part = bzl_lines gap' items in
     let rest : Lines = next.lines ++ file_lines items in
-    let after : lines_before (map stated xs) [] ≡ left_lines 0 x ++ rest =
+    let after : indented_lines_before (map stated xs) [] ≡ left_lines 0 x ++ rest =
     file_before items h.1 gap' (left_lines 0 x ++ next.lines) (lines_appended (left_behind 0 x) (before_others (b.Statement x) items) (left_lines 0 x) next.lines (left_are 0 x h.0) next.are) ∙ append_assoc (left_lines 0 x) next.lines (file_lines items) in
     let read : List Bytes → Lines → Read (List Statement) = (stated (statement_part 0 gap x)).statement in
     let own : Read (List Statement) = read (above_of x) (left_lines 0 x ++ rest) in
@@ -192,4 +192,4 @@ items_back (b.Statement x ∷ items) h gap now waiting bs waits e =
 pub bzl_back : (items : List BzlItem) → IsProperBzl items → bzl_view_of (bzl_drawn items) ≡ level items
 bzl_back items h =
     let each : AllByRecursion IsProperBzlItem items = recursion_from_All IsProperBzlItem items h in
-    items_back items each [] (lines_before (map stated (bzl_lines [] items)) []) [] [] nothing_waits (ap from_comment (file_before items each [] [] no_lines))
+    items_back items each [] (indented_lines_before (map stated (bzl_lines [] items)) []) [] [] nothing_waits (ap from_comment (file_before items each [] [] no_lines))

@@ -12,10 +12,10 @@ use Rattle.bz_value.specs.Comments.{no_comments}
 use Rattle.bz_value.specs.Empty.{is_empty}
 use Rattle.bz_value.specs.Gaps.{all_in}
 use Rattle.bz_value.specs.Proper.{IsComment, MaybeComment, comments_of, has_break}
-use Rattle.bz_value.specs.Roots.{root}
-use Rattle.bz_view.specs.View.{Seen, seen, plain, loose_in, loose_behind, first_gap, items_in, is_split}
+use Rattle.bz_value.specs.Roots.{root, mark_leaf}
+use Rattle.bz_view.specs.View.{Seen, seen, plain, loose_in, loose_behind, first_seen_gap, items_in, is_split}
 use Rattle.bz_write.specs.Layout.{rowed, is_broken, is_tuple, firsts, gap_behind, margin_behind}
-use Rattle.bz_write.specs.Drawn.{part_of, piece_part, drawings, body}
+use Rattle.bz_write.specs.Drawn.{part_of, piece_part, drawings, drawn_body}
 use Rattle.bz_write.specs.Flags.{with_flags}
 use Rattle.bz_write.proofs.Loops.{values_drawings}
 use Rattle.bz_write.proofs.ReadBack.{settled_list}
@@ -27,7 +27,7 @@ use Rattle.bz_suite.specs.Proper.{HasNone}
 use Rattle.bz_suite.specs.View.{head, def_head, row_head}
 use Rattle.bz_suite.proofs.KeptGaps.{NoColon}
 use Rattle.bz_indent.specs.Layout.{is_def}
-use Rattle.bz_indent.specs.Drawn.{mark_part, header_parts}
+use Rattle.bz_indent.specs.Drawn.{header_parts}
 use Rattle.bz_indent.specs.Level.{level_head}
 use Rattle.bz_indent.proofs.BackColons.{all_joined, row_plain, stacked_plain, joined_plain}
 
@@ -51,18 +51,18 @@ pub record IsRead (f : Form) : Type 0 where
 
 -- of a function the parameters in their brackets
 abbrev pub in_brackets : Bool → ℕ → Form → List Part
-in_brackets def m f = if def then mark_part 40 ∷ map piece_part (body f m 41) else []
+in_brackets def m f = if def then mark_leaf 40 ∷ map piece_part (drawn_body f m 41) else []
 
 -- all parts of a header before its colon
 abbrev pub before_colon : Bool → ℕ → Bytes → Form → List Part
 before_colon def m gap f = map piece_part (rowed f.kind f.open_ m gap m (drawings f.parts)) ++ in_brackets def m f
 
 -- a header is these parts and the colon
-pub header_cut : (m : ℕ) (gap : Bytes) (f : Form) → header_parts m gap f ≡ before_colon (is_def f) m gap f ++ mark_part 58 ∷ []
-header_cut m gap f = sym (append_assoc (map piece_part (rowed f.kind f.open_ m gap m (drawings f.parts))) (in_brackets (is_def f) m f) (mark_part 58 ∷ []))
+pub header_cut : (m : ℕ) (gap : Bytes) (f : Form) → header_parts m gap f ≡ before_colon (is_def f) m gap f ++ mark_leaf 58 ∷ []
+header_cut m gap f = sym (append_assoc (map piece_part (rowed f.kind f.open_ m gap m (drawings f.parts))) (in_brackets (is_def f) m f) (mark_leaf 58 ∷ []))
 
 -- no colon in the brackets
-body_plain : (broken one : Bool) (m : ℕ) (f : Form) → AllByRecursion NoColon (map root f.seq.items) → is_broken f.kind f.seq.split f.seq.items f.seq.end_ ≡ broken → AllByRecursion NoColon (map piece_part (body f m 41))
+body_plain : (broken one : Bool) (m : ℕ) (f : Form) → AllByRecursion NoColon (map root f.seq.items) → is_broken f.kind f.seq.split f.seq.items f.seq.end_ ≡ broken → AllByRecursion NoColon (map piece_part (drawn_body f m 41))
 body_plain true one m f h e = rw e (stacked_plain m None f.seq.end_ f.seq.items h)
 body_plain false one m f h e = rw e (joined_plain m [] (is_tuple f.kind && nat_eq (length f.seq.items) 1) f.seq.items h)
 
@@ -76,16 +76,16 @@ header_plain def m gap f h =
     all_joined NoColon (map piece_part (rowed f.kind f.open_ m gap m (drawings f.parts))) (in_brackets def m f) (row_plain f.kind f.open_ m gap m f.parts h.plain_parts) (brackets_plain def m f h.plain_items)
 
 -- the gap before the first part
-first_of : (kind : Kind) (open_ : Bool) (m : ℕ) (gap : Bytes) (xs : List Expr) (ps : List Part) → is_empty xs ≡ false → Reads (drawings xs) → first_gap (map seen (map piece_part (rowed kind open_ m gap m (drawings xs)) ++ ps)) ≡ gap
+first_of : (kind : Kind) (open_ : Bool) (m : ℕ) (gap : Bytes) (xs : List Expr) (ps : List Part) → is_empty xs ≡ false → Reads (drawings xs) → first_seen_gap (map seen (map piece_part (rowed kind open_ m gap m (drawings xs)) ++ ps)) ≡ gap
 first_of kind open_ m gap [] ps e r = absurd (true≢false e)
 first_of kind open_ m gap (x ∷ xs) ps e r = r.0.gap gap m
 
 -- the gap before the first part of a header
-pub header_first : (m : ℕ) (gap : Bytes) (f : Form) (ps : List Part) → IsRead f → first_gap (map seen (header_parts m gap f ++ ps)) ≡ gap
+pub header_first : (m : ℕ) (gap : Bytes) (f : Form) (ps : List Part) → IsRead f → first_seen_gap (map seen (header_parts m gap f ++ ps)) ≡ gap
 header_first m gap f ps h =
     let front : List Part = map piece_part (rowed f.kind f.open_ m gap m (drawings f.parts)) in
-    ap (λ z. first_gap (map seen z)) (append_assoc front (in_brackets (is_def f) m f ++ mark_part 58 ∷ []) ps)
-    ∙ first_of f.kind f.open_ m gap f.parts ((in_brackets (is_def f) m f ++ mark_part 58 ∷ []) ++ ps) h.first h.parts
+    ap (λ z. first_seen_gap (map seen z)) (append_assoc front (in_brackets (is_def f) m f ++ mark_leaf 58 ∷ []) ps)
+    ∙ first_of f.kind f.open_ m gap f.parts ((in_brackets (is_def f) m f ++ mark_leaf 58 ∷ []) ++ ps) h.first h.parts
 
 -- ---- a header by its fields
 
@@ -148,8 +148,8 @@ def_read f m gap (x ∷ y ∷ []) before suffix e r b q i c =
     let s : Seen = seen (part_of x gap m) in
     let t : Seen = seen (part_of y next inner) in
     let xs : List (Expr × Draw) = drawings f.seq.items in
-    let ss : List Seen = map seen (map piece_part (body f m 41)) in
-    let found : List Expr × List Bytes = items_in (all_in (first_gap ss)) ss in
+    let ss : List Seen = map seen (map piece_part (drawn_body f m 41)) in
+    let found : List Expr × List Bytes = items_in (all_in (first_seen_gap ss)) ss in
     let items_same : firsts xs ≡ f.seq.items = values_drawings f.seq.items in
     let back : BodyBack ss xs f.seq.end_ split =
     body_back split (is_tuple f.kind && nat_eq (length f.seq.items) 1) f.kind f.seq.split m 41 f.seq.end_ xs q c (subst AreItems (sym items_same) i) (ap (λ z. is_broken f.kind f.seq.split z f.seq.end_) items_same) in

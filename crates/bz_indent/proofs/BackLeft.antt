@@ -11,15 +11,15 @@ use Rattle.bz_items.specs.Characters.{Bytes}
 use Rattle.bz_value.specs.Frames.{frame}
 use Rattle.bz_value.specs.Indented.{indented}
 use Rattle.bz_value.specs.Proper.{IsComment, comments_of}
-use Rattle.bz_view.specs.View.{seen, first_gap}
+use Rattle.bz_view.specs.View.{seen, first_seen_gap}
 use Rattle.bz_view.proofs.SeenParts.{node_gap}
 use Rattle.bz_write.proofs.Readable.{readable}
 use Rattle.bz_write.proofs.ReadBack.{expr_back, seen_made}
 use Rattle.bz_suite.specs.declared.value.Statement.{Statement, Simple, Compound', Row_of-Branch, end_of-Branch, more_of-Branch, Row_of-Statement, end_of-Statement, more_of-Statement}
 use Rattle.bz_suite.specs.Proper.{IsProperStatement, AreProperBranches, AreProperStatements, AreHeaders, heads}
-use Rattle.bz_suite.specs.View.{stated, lines_before}
+use Rattle.bz_suite.specs.View.{stated, indented_lines_before}
 use Rattle.bz_suite.proofs.Parts.{part_of as stated_part}
-use Rattle.bz_indent.specs.Layout.{lines_at}
+use Rattle.bz_indent.specs.Layout.{indented_lines}
 use Rattle.bz_indent.specs.Drawn.{gap_to_margin, left_behind, left_branches, left_statements, statement_part, statement_parts, branch_parts}
 use Rattle.bz_indent.proofs.BackLines.{Lines, AreIndented, told_at, no_lines, lines_appended, comments_at, gap_lines}
 use Rattle.bz_indent.proofs.BackHeads.{header_first}
@@ -50,8 +50,8 @@ mutual
   branches_are : (m : ℕ) (n : _) (r : Row_of-Branch n) → AreProperBranches r → (gap : Bytes) (lines : Lines) → AreIndented gap lines → AreIndented (left_branches m gap r) (branch_lines m lines r)
   branches_are m n end_of-Branch h gap lines k = k
   branches_are m n (more_of-Branch head size statements end_ rest) h gap lines k =
-      branches_are m _ rest h.3 (left_statements (m + 4) [] statements ++ lines_at (m + 4) end_) (statement_lines (m + 4) [] statements ++ told_at (m + 4) end_)
-      (lines_appended (left_statements (m + 4) [] statements) (lines_at (m + 4) end_) (statement_lines (m + 4) [] statements) (told_at (m + 4) end_)
+      branches_are m _ rest h.3 (left_statements (m + 4) [] statements ++ indented_lines (m + 4) end_) (statement_lines (m + 4) [] statements ++ told_at (m + 4) end_)
+      (lines_appended (left_statements (m + 4) [] statements) (indented_lines (m + 4) end_) (statement_lines (m + 4) [] statements) (told_at (m + 4) end_)
       (statements_are (m + 4) _ statements h.1 [] [] no_lines) (comments_at (m + 4) end_ (recursion_from_All IsComment end_ h.2)))
 
   pub statements_are : (m : ℕ) (n : _) (r : Row_of-Statement n) → AreProperStatements r → (gap : Bytes) (lines : Lines) → AreIndented gap lines → AreIndented (left_statements m gap r) (statement_lines m lines r)
@@ -81,7 +81,7 @@ coming_header m end_of-Branch rest = rest
 coming_header m (more_of-Branch head size statements end_ more) rest = told_at m head.comments.before
 
 -- the gap before a node is that before its first part
-node_first : (kind : Kind) (ps : List Part) → (seen (p.Node (record { kind = kind; parts = ps }))).gap ≡ first_gap (map seen ps)
+node_first : (kind : Kind) (ps : List Part) → (seen (p.Node (record { kind = kind; parts = ps }))).gap ≡ first_seen_gap (map seen ps)
 node_first kind ps = ap (λ z. z.gap) (seen_made kind ps) ∙ node_gap kind (map seen ps) (frame kind)
 
 first_above : (n : _) (r : Row_of-Branch n) → AreHeaders (heads r) → AllByRecursion IsComment (above_first r)
@@ -95,7 +95,7 @@ comments_above (Compound' size own) h = first_above _ own h.0
 
 -- ---- the gap before a statement
 
-branches_first : (m : ℕ) (lines : Bytes) (n : _) (r : Row_of-Branch n) → AreHeaders (heads r) → first_gap (map seen (branch_parts m lines r)) ≡ gap_to_margin m lines (above_first r)
+branches_first : (m : ℕ) (lines : Bytes) (n : _) (r : Row_of-Branch n) → AreHeaders (heads r) → first_seen_gap (map seen (branch_parts m lines r)) ≡ gap_to_margin m lines (above_first r)
 branches_first m lines n end_of-Branch h = absurd h
 branches_first m lines n (more_of-Branch head size statements end_ rest) h =
     header_first m (gap_to_margin m lines head.comments.before) head _ (headers_read (heads (more_of-Branch head size statements end_ rest)) h).each.1
@@ -109,6 +109,6 @@ statement_first m lines (Compound' size own) h =
 
 -- the lines before the next statement, those that are left behind the one before it first
 pub statements_before : (m : ℕ) (n : _) (r : Row_of-Statement n) → AreProperStatements r → (gap : Bytes) (lines rest : Lines) → AreIndented gap lines →
-    lines_before (map stated (statement_parts m gap r)) (statement_lines m lines r ++ rest) ≡ lines ++ coming m r rest
+    indented_lines_before (map stated (statement_parts m gap r)) (statement_lines m lines r ++ rest) ≡ lines ++ coming m r rest
 statements_before m n end_of-Statement h gap lines rest k = refl
 statements_before m n (more_of-Statement x more) h gap lines rest k = ap indented (statement_first m gap x h.0) ∙ gap_lines m gap lines (above_of x) k (comments_above x h.0)

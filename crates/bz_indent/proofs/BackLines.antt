@@ -13,7 +13,7 @@ use Rattle.bz_value.specs.Proper.{IsComment}
 use Rattle.bz_write.proofs.Gapped.{ended_line, told, comment_line, OneLine, words_of}
 use Rattle.bz_write.proofs.Made.{two}
 use Rattle.bz_suite.proofs.Lined.{plain_lines}
-use Rattle.bz_indent.specs.Layout.{line_at, lines_at}
+use Rattle.bz_indent.specs.Layout.{indented_line, indented_lines}
 use Rattle.bz_indent.specs.Drawn.{gap_to_margin}
 
 -- lines of a gap with their indents
@@ -77,15 +77,15 @@ pub lines_appended : (a b : Bytes) (ls ms : Lines) → AreIndented a ls → AreI
 lines_appended a b ls ms h k rest = ap indented (append_assoc a b rest) ∙ (h (b ++ rest) ∙ (ap (λ z. ls ++ z) (k rest) ∙ sym (append_assoc ls ms (indented rest))))
 
 -- a comment on a line of its own
-one_line : (m : ℕ) (text : Bytes) → IsComment text → AreIndented (line_at m text) (line_with m (ended_line (Some text)) ∷ [])
+one_line : (m : ℕ) (text : Bytes) → IsComment text → AreIndented (indented_line m text) (line_with m (ended_line (Some text)) ∷ [])
 one_line m text h rest =
     ap indented (append_assoc (replicate m space) (text ++ line_feed ∷ []) rest ∙ ap (λ z. replicate m space ++ z) (append_assoc text (line_feed ∷ []) rest))
     ∙ (margin_counted m (text ++ (line_feed ∷ rest)) ∙ comment_read m text rest h)
 
 -- comments, each on a line of its own
-pub comments_at : (m : ℕ) (texts : List Bytes) → AllByRecursion IsComment texts → AreIndented (lines_at m texts) (told_at m texts)
+pub comments_at : (m : ℕ) (texts : List Bytes) → AllByRecursion IsComment texts → AreIndented (indented_lines m texts) (told_at m texts)
 comments_at m [] h = no_lines
-comments_at m (text ∷ texts) h = lines_appended (line_at m text) (lines_at m texts) (line_with m (ended_line (Some text)) ∷ []) (told_at m texts) (one_line m text h.0) (comments_at m texts h.1)
+comments_at m (text ∷ texts) h = lines_appended (indented_line m text) (indented_lines m texts) (line_with m (ended_line (Some text)) ∷ []) (told_at m texts) (one_line m text h.0) (comments_at m texts h.1)
 
 -- a gap of whole lines says these lines
 pub whole_gap : (gap : Bytes) (ls : Lines) → AreIndented gap ls → indented gap ≡ ls
@@ -98,7 +98,7 @@ spaces_are_none m = ap indented (sym (append-nil (replicate m space))) ∙ margi
 -- the gap before the first token of what stands at a margin
 pub gap_lines : (m : ℕ) (lines : Bytes) (ls : Lines) (texts : List Bytes) → AreIndented lines ls → AllByRecursion IsComment texts → indented (gap_to_margin m lines texts) ≡ ls ++ told_at m texts
 gap_lines m lines ls texts h k =
-    h (lines_at m texts ++ replicate m space)
+    h (indented_lines m texts ++ replicate m space)
     ∙ ap (λ z. ls ++ z) (comments_at m texts k (replicate m space) ∙ (ap (λ z. told_at m texts ++ z) (spaces_are_none m) ∙ append-nil (told_at m texts)))
 
 -- ---- the margin of a gap
@@ -122,12 +122,12 @@ own_indent : (m : ℕ) → indent (replicate m space) ≡ replicate m space
 own_indent zero = refl
 own_indent (suc m) = ap (λ t. if t then replicate (suc m) space else indent (replicate m space)) (all_indents (suc m))
 
-behind_lines : (m : ℕ) (texts : List Bytes) → indent (lines_at m texts ++ replicate m space) ≡ indent (replicate m space)
+behind_lines : (m : ℕ) (texts : List Bytes) → indent (indented_lines m texts ++ replicate m space) ≡ indent (replicate m space)
 behind_lines m [] = refl
 behind_lines m (text ∷ texts) =
-    let rest : Bytes = lines_at m texts ++ replicate m space in
+    let rest : Bytes = indented_lines m texts ++ replicate m space in
     ap indent
-    (append_assoc (line_at m text) (lines_at m texts) (replicate m space)
+    (append_assoc (indented_line m text) (indented_lines m texts) (replicate m space)
     ∙ (append_assoc (replicate m space) (text ++ line_feed ∷ []) rest ∙ (ap (λ z. replicate m space ++ z) (append_assoc text (line_feed ∷ []) rest) ∙ sym (append_assoc (replicate m space) text (line_feed ∷ rest)))))
     ∙ (behind_newline (replicate m space ++ text) rest ∙ behind_lines m texts)
 

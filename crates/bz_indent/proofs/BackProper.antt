@@ -6,14 +6,14 @@ use Rattle.bz_tree.specs.declared.kind.Kind.{Kind}
 use Rattle.bz_tree.specs.declared.kind.Kind.TheVariants as k
 use Rattle.bz_tree.specs.declared.tree.Part.{Part}
 use Rattle.bz_tree.specs.Legal.{IsSort}
-use Rattle.bz_tree.specs.Shapes.{Shape, Terminal, Fits, tok, has_token, is_kind, keyword}
+use Rattle.bz_tree.specs.Shapes.{Shape, Terminal, Fits, tok, has_token, is_kind, one_keyword}
 use Rattle.bz_tree.specs.Spots.{Spot, Begins}
 use Rattle.bz_tree.specs.Suites.{def_header, for_header, test_header, else_header}
 use Rattle.bz_value.specs.declared.value.Expr.{Expr}
 use Rattle.bz_value.specs.declared.value.Form.{Form}
 use Rattle.bz_value.specs.Empty.{is_empty}
 use Rattle.bz_value.specs.Proper.{IsComment, comments_of, behind_expr}
-use Rattle.bz_value.specs.Roots.{root, mark, each_with_comma}
+use Rattle.bz_value.specs.Roots.{root, mark_leaf, each_with_comma}
 use Rattle.bz_write.specs.Drawn.{drawings}
 use Rattle.bz_write.proofs.Readable.{readable, AreHeads, AreItems}
 use Rattle.bz_write.proofs.ReadBack.{expr_back}
@@ -29,17 +29,17 @@ use Rattle.bz_indent.proofs.BackHeads.{IsRead}
 
 -- of a function its parameters in brackets, and the colon
 abbrev end_by : Bool → List Expr → List Part
-end_by def items = if def then mark 40 ∷ (each_with_comma (map root items) ++ mark 41 ∷ mark 58 ∷ []) else mark 58 ∷ []
+end_by def items = if def then mark_leaf 40 ∷ (each_with_comma (map root items) ++ mark_leaf 41 ∷ mark_leaf 58 ∷ []) else mark_leaf 58 ∷ []
 
 -- the same without the colon
 abbrev front_by : Bool → List Expr → List Part
-front_by def items = if def then mark 40 ∷ (each_with_comma (map root items) ++ mark 41 ∷ []) else []
+front_by def items = if def then mark_leaf 40 ∷ (each_with_comma (map root items) ++ mark_leaf 41 ∷ []) else []
 
 -- the colon is the last part
-end_cut : (def : Bool) (ps : List Part) (items : List Expr) → ps ++ end_by def items ≡ (ps ++ front_by def items) ++ mark 58 ∷ []
+end_cut : (def : Bool) (ps : List Part) (items : List Expr) → ps ++ end_by def items ≡ (ps ++ front_by def items) ++ mark_leaf 58 ∷ []
 end_cut true ps items =
-    ap (λ z. ps ++ (mark 40 ∷ z)) (sym (append_assoc (each_with_comma (map root items)) (mark 41 ∷ []) (mark 58 ∷ []))) ∙ sym (append_assoc ps (front_by true items) (mark 58 ∷ []))
-end_cut false ps items = ap (λ z. z ++ mark 58 ∷ []) (sym (append-nil ps))
+    ap (λ z. ps ++ (mark_leaf 40 ∷ z)) (sym (append_assoc (each_with_comma (map root items)) (mark_leaf 41 ∷ []) (mark_leaf 58 ∷ []))) ∙ sym (append_assoc ps (front_by true items) (mark_leaf 58 ∷ []))
+end_cut false ps items = ap (λ z. z ++ mark_leaf 58 ∷ []) (sym (append-nil ps))
 
 -- no item is a colon where no part is one
 without_commas : (xs ys : List Part) → AllByRecursion NoColon (each_with_comma xs ++ ys) → AllByRecursion NoColon xs
@@ -48,16 +48,16 @@ without_commas (x ∷ xs) ys h = (h.0, without_commas xs ys h.1.1)
 
 -- so with parameters
 items_plain : (def : Bool) (items : List Expr) → (def ≡ false → items ≡ []) → AllByRecursion NoColon (front_by def items) → AllByRecursion NoColon (map root items)
-items_plain true items none h = without_commas (map root items) (mark 41 ∷ []) h.1
+items_plain true items none h = without_commas (map root items) (mark_leaf 41 ∷ []) h.1
 items_plain false items none h = subst (λ z. AllByRecursion NoColon (map root z)) (sym (none refl)) tt
 
 -- neither a bracket nor a colon begins a header
-not_first : (terminals : List Terminal) (then_ : Shape) (def : Bool) (items : List Expr) → has_token terminals (mark 40) ≡ false → has_token terminals (mark 58) ≡ false → Fits IsSort (tok terminals then_) (end_by def items) → ⊥
+not_first : (terminals : List Terminal) (then_ : Shape) (def : Bool) (items : List Expr) → has_token terminals (mark_leaf 40) ≡ false → has_token terminals (mark_leaf 58) ≡ false → Fits IsSort (tok terminals then_) (end_by def items) → ⊥
 not_first terminals then_ true items b c h = true≢false (sym h.0 ∙ b)
 not_first terminals then_ false items b c h = true≢false (sym h.0 ∙ c)
 
 -- so a header has a part before them
-some_part : (terminals : List Terminal) (then_ : Shape) (def : Bool) (ps items : List Expr) → has_token terminals (mark 40) ≡ false → has_token terminals (mark 58) ≡ false → Fits IsSort (tok terminals then_) (map root ps ++ end_by def items) → is_empty ps ≡ false
+some_part : (terminals : List Terminal) (then_ : Shape) (def : Bool) (ps items : List Expr) → has_token terminals (mark_leaf 40) ≡ false → has_token terminals (mark_leaf 58) ≡ false → Fits IsSort (tok terminals then_) (map root ps ++ end_by def items) → is_empty ps ≡ false
 some_part terminals then_ def [] items b c h = absurd (not_first terminals then_ def items b c h)
 some_part terminals then_ def (x ∷ ps) items b c h = refl
 
@@ -94,13 +94,13 @@ parameters_items (x ∷ xs) h = (recursion_from_All IsComment (comments_of x).be
 -- ---- headers
 
 -- a header of any shape that begins with a word
-header_read : (kind : Kind) (terminals : List Terminal) (then_ : Shape) (f : Form) → plain_front (tok terminals then_) ≡ true → has_token terminals (mark 40) ≡ false → has_token terminals (mark 58) ≡ false → IsHeader kind (tok terminals then_) f →
+header_read : (kind : Kind) (terminals : List Terminal) (then_ : Shape) (f : Form) → plain_front (tok terminals then_) ≡ true → has_token terminals (mark_leaf 40) ≡ false → has_token terminals (mark_leaf 58) ≡ false → IsHeader kind (tok terminals then_) f →
     (is_def f ≡ true → (f.kind ≡ k.Def) × (length f.parts ≡ 2)) → IsRead f
 header_read kind terminals then_ f plain b c h function =
     let shape : Shape = tok terminals then_ in
     let plain : AllByRecursion NoColon (map root f.parts) × AllByRecursion NoColon (front_by (is_def f) f.seq.items) =
     both_parts NoColon (map root f.parts) (front_by (is_def f) f.seq.items)
-    (front_plain (mark 58) shape plain (map root f.parts ++ front_by (is_def f) f.seq.items) (subst (λ z. Fits IsSort shape z) (end_cut (is_def f) (map root f.parts) f.seq.items) h.fits)) in
+    (front_plain (mark_leaf 58) shape plain (map root f.parts ++ front_by (is_def f) f.seq.items) (subst (λ z. Fits IsSort shape z) (end_cut (is_def f) (map root f.parts) f.seq.items) h.fits)) in
     record {
       plain_parts = plain.0;
       plain_items = items_plain (is_def f) f.seq.items (λ e. (h.bare e).0) plain.1;
@@ -129,10 +129,10 @@ other kind f n e d = absurd (true≢false (sym d ∙ (ap (λ z. is_kind z k.Def)
 for_read : (f : Form) → IsHeader k.ForStmt for_header f → IsRead f
 for_read f h = header_read k.ForStmt _ _ f refl refl refl h (other k.ForStmt f refl h.kinds)
 
-if_read : (f : Form) → IsHeader k.IfStmt (test_header (keyword (codes "if"))) f → IsRead f
+if_read : (f : Form) → IsHeader k.IfStmt (test_header (one_keyword (codes "if"))) f → IsRead f
 if_read f h = header_read k.IfStmt _ _ f refl refl refl h (other k.IfStmt f refl h.kinds)
 
-elif_read : (f : Form) → IsHeader k.IfStmt (test_header (keyword (codes "elif"))) f → IsRead f
+elif_read : (f : Form) → IsHeader k.IfStmt (test_header (one_keyword (codes "elif"))) f → IsRead f
 elif_read f h = header_read k.IfStmt _ _ f refl refl refl h (other k.IfStmt f refl h.kinds)
 
 else_read : (f : Form) → IsHeader k.IfStmt else_header f → IsRead f

@@ -10,11 +10,12 @@ use Rattle.bz_tree.specs.declared.tree.Part.{Part}
 use Rattle.bz_tree.specs.Shapes.{is_kind}
 use Rattle.bz_tree.specs.Spots.{Begins}
 use Rattle.bz_value.specs.declared.value.Form.{Form}
+use Rattle.bz_value.specs.Roots.{mark_leaf}
 use Rattle.bz_items.specs.Characters.{Bytes}
 use Rattle.bz_value.specs.Empty.{is_empty}
 use Rattle.bz_value.specs.Indented.{indented}
 use Rattle.bz_value.specs.Proper.{IsComment, comments_of}
-use Rattle.bz_view.specs.View.{Seen, seen, first_gap}
+use Rattle.bz_view.specs.View.{Seen, seen, first_seen_gap}
 use Rattle.bz_write.specs.Drawn.{part_of}
 use Rattle.bz_write.proofs.Made.{two}
 use Rattle.bz_write.proofs.Readable.{readable}
@@ -22,10 +23,10 @@ use Rattle.bz_write.proofs.ReadBack.{expr_back}
 use Rattle.bz_suite.specs.declared.value.Statement.{Statement, Simple, Compound', Row_of-Branch, end_of-Branch, more_of-Branch, Row_of-Statement, end_of-Statement, more_of-Statement}
 use Rattle.bz_suite.specs.declared.value.Statement.TheVariants as s
 use Rattle.bz_suite.specs.Proper.{IsProperStatement, AreProperBranches, AreProperStatements, AreHeaders, heads, IsSome}
-use Rattle.bz_suite.specs.View.{SuiteRead, stated, branches, with_suite, walked, suite_read, margin_of, is_compound, head as header_form, lines_before, comments_of as comments_in_lines}
+use Rattle.bz_suite.specs.View.{SuiteRead, stated, branches, with_suite, walked, suite_read, margin_of, is_compound, head as header_form, indented_lines_before, indented_comments as comments_in_lines}
 use Rattle.bz_suite.proofs.Parts.{part_of as stated_part, statement_Node, suite_Node, compound_is, line_is}
-use Rattle.bz_indent.specs.Layout.{lines_at, is_def}
-use Rattle.bz_indent.specs.Drawn.{gap_to_margin, mark_part, newline_part, header_parts, left_behind, left_statements, first_kind, statement_part, branch_parts, statement_parts}
+use Rattle.bz_indent.specs.Layout.{indented_lines, is_def}
+use Rattle.bz_indent.specs.Drawn.{gap_to_margin, newline_part, header_parts, left_behind, left_statements, first_kind, statement_part, branch_parts, statement_parts}
 use Rattle.bz_indent.specs.Level.{level_head, level_statement, each_branch, each_statement}
 use Rattle.bz_indent.proofs.BackLines.{Lines, AreIndented, told_at, no_lines, lines_appended, comments_at, gap_lines, gap_margin}
 use Rattle.bz_indent.proofs.BackEnds.{from_comment, AreBounded, bounded_further, told_bounded, same_comments}
@@ -38,7 +39,7 @@ use Rattle.bz_indent.proofs.BackSuites.{IsReadAs, simple_back, suite_from, walke
 -- ---- the lines before a header
 
 -- the lines before the first part
-lines_of_first : (ps : List Part) (after : Lines) → is_empty ps ≡ false → lines_before (map stated ps) after ≡ indented (first_gap (map seen ps))
+lines_of_first : (ps : List Part) (after : Lines) → is_empty ps ≡ false → indented_lines_before (map stated ps) after ≡ indented (first_seen_gap (map seen ps))
 lines_of_first [] after e = absurd (true≢false e)
 lines_of_first (x ∷ ps) after e = ap (λ z. indented z.gap) (stated_part x)
 
@@ -49,7 +50,7 @@ some_behind (y ∷ ps) x qs = refl
 
 -- the lines before the next header: those that are left behind the suite before, and the comments above the header
 headers_before : (m : ℕ) (kind : Kind) (n : _) (r : Row_of-Branch n) → AreRead kind (heads r) → (gap : Bytes) (lines rest : Lines) → AreIndented gap lines →
-    lines_before (map stated (branch_parts m gap r)) (branch_lines m lines r ++ rest) ≡ lines ++ coming_header m r rest
+    indented_lines_before (map stated (branch_parts m gap r)) (branch_lines m lines r ++ rest) ≡ lines ++ coming_header m r rest
 headers_before m kind n end_of-Branch h gap lines rest k = refl
 headers_before m kind n (more_of-Branch head size statements end_ more) h gap lines rest k =
     let own : Bytes = gap_to_margin m gap head.comments.before in
@@ -61,13 +62,13 @@ to_suite : (m : ℕ) (gap : Bytes) (f : Form) (above : List Bytes) (left after :
     branches f.kind [] above left (map stated (header_parts m gap f ++ (own ∷ rest))) after ≡ with_suite f.kind (map seen (before_colon (is_def f) m gap f)) above left (map stated (own ∷ rest)) after
 to_suite m gap f above left after own rest h =
     let front : List Part = before_colon (is_def f) m gap f in
-    ap (λ z. branches f.kind [] above left (map stated z) after) (ap (λ z. z ++ (own ∷ rest)) (header_cut m gap f) ∙ append_assoc front (mark_part 58 ∷ []) (own ∷ rest))
+    ap (λ z. branches f.kind [] above left (map stated z) after) (ap (λ z. z ++ (own ∷ rest)) (header_cut m gap f) ∙ append_assoc front (mark_leaf 58 ∷ []) (own ∷ rest))
     ∙ up_to_colon f.kind [] above left after front (own ∷ rest) (header_plain (is_def f) m gap f h)
 
 -- ---- the first statement of a suite
 
 -- the comments above it are the lines before it
-first_lines : (m : ℕ) (n : _) (r : Row_of-Statement n) (rest : Lines) → IsSome r → AreProperStatements r → lines_before (map stated (statement_parts m [] r)) [] ≡ coming m r rest
+first_lines : (m : ℕ) (n : _) (r : Row_of-Statement n) (rest : Lines) → IsSome r → AreProperStatements r → indented_lines_before (map stated (statement_parts m [] r)) [] ≡ coming m r rest
 first_lines m n end_of-Statement rest some h = absurd some
 first_lines m n (more_of-Statement x more) rest some h = ap indented (statement_first m [] x h.0) ∙ gap_lines m [] [] (above_of x) no_lines (comments_above x h.0)
 
@@ -133,10 +134,10 @@ mutual
   branches_back m kind n (more_of-Branch head size statements end_ more) known h gap lines above left rest bounded e =
       let inner : ℕ = m + 4 in
       let further : m ≤ inner = omega arith in
-      let own_gap : Bytes = left_statements inner [] statements ++ lines_at inner end_ in
+      let own_gap : Bytes = left_statements inner [] statements ++ indented_lines inner end_ in
       let own_lines : Lines = statement_lines inner [] statements ++ told_at inner end_ in
       let own_are : AreIndented own_gap own_lines =
-      lines_appended (left_statements inner [] statements) (lines_at inner end_) (statement_lines inner [] statements) (told_at inner end_) (statements_are inner _ statements h.1 [] [] no_lines) (comments_at inner end_ (recursion_from_All IsComment end_ h.2)) in
+      lines_appended (left_statements inner [] statements) (indented_lines inner end_) (statement_lines inner [] statements) (told_at inner end_) (statements_are inner _ statements h.1 [] [] no_lines) (comments_at inner end_ (recursion_from_All IsComment end_ h.2)) in
       let ps : List Part = statement_parts inner [] statements in
       let tail : List Part = branch_parts m own_gap more in
       let after : Lines = branch_lines m own_lines more ++ rest in

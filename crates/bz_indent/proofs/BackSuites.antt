@@ -11,11 +11,11 @@ use Rattle.bz_value.specs.declared.value.Form.{Form}
 use Rattle.bz_items.specs.Characters.{Bytes}
 use Rattle.bz_value.specs.Comments.{HostComments}
 use Rattle.bz_value.specs.Empty.{is_empty}
-use Rattle.bz_value.specs.Gaps.{comments_in, lines_of, first_comment, behind_first as lines_behind_first}
+use Rattle.bz_value.specs.Gaps.{comments_in, lines_of, first_comment, after_first_comment as lines_behind_first}
 use Rattle.bz_value.specs.Indented.{indented}
 use Rattle.bz_value.specs.Proper.{MaybeComment, comments_of, has_break}
 use Rattle.bz_view.specs.View.{Seen, seen}
-use Rattle.bz_write.specs.Layout.{behind}
+use Rattle.bz_write.specs.Layout.{suffix_text}
 use Rattle.bz_write.specs.Drawn.{part_of}
 use Rattle.bz_write.specs.Flags.{with_flags}
 use Rattle.bz_write.proofs.Gapped.{comments_told, suffix_line, lines_behind}
@@ -26,7 +26,7 @@ use Rattle.bz_suite.specs.declared.value.Statement.{Statement, Simple, Row_of-Br
 use Rattle.bz_suite.specs.declared.value.Statement.TheVariants as s
 use Rattle.bz_suite.specs.declared.value.Branch.{Branch}
 use Rattle.bz_suite.specs.Proper.{has_simple_kind}
-use Rattle.bz_suite.specs.View.{Read, SuiteRead, Stated, stated, line_read, branches, with_suite, walked, suite_read, only_comment, margin_of, head, lines_before, end_comments, behind_end, behind_first, comments_of as comments_in_lines}
+use Rattle.bz_suite.specs.View.{Read, SuiteRead, Stated, stated, line_read, branches, with_suite, walked, suite_read, only_comment, margin_of, head, indented_lines_before, end_comments, behind_end, after_first_line, indented_comments as comments_in_lines}
 use Rattle.bz_suite.proofs.Lined.{plain_lines, lines_are}
 use Rattle.bz_suite.proofs.Parts.{suffix_Node}
 use Rattle.bz_indent.specs.Drawn.{newline_part}
@@ -47,7 +47,7 @@ only_suffix None = refl
 only_suffix (Some text) = refl
 
 -- no line stands behind a suffix
-none_behind : (suffix : Option Bytes) (lines : Lines) → plain_lines lines ≡ suffix_line suffix → behind_first lines ≡ []
+none_behind : (suffix : Option Bytes) (lines : Lines) → plain_lines lines ≡ suffix_line suffix → after_first_line lines ≡ []
 none_behind suffix [] e = refl
 none_behind suffix (line ∷ []) e = refl
 none_behind None (line ∷ next ∷ lines) e = absurd (true≢false (sym (ap is_empty e)))
@@ -64,16 +64,16 @@ pub simple_back : (m : ℕ) (gap : Bytes) (x : Expr) → has_simple_kind x ≡ t
 simple_back m gap x simple back comment after =
     let own : HostComments = comments_of x in
     let t : Seen = seen (part_of x gap m) in
-    let lines : lines_of (behind own.suffix) ≡ suffix_line own.suffix = lines_behind own.suffix comment in
-    let value : t.make (record { before = own.before ++ t.loose; suffix = first_comment (lines_of (behind own.suffix)) }) false ≡ with_flags x =
+    let lines : lines_of (suffix_text own.suffix) ≡ suffix_line own.suffix = lines_behind own.suffix comment in
+    let value : t.make (record { before = own.before ++ t.loose; suffix = first_comment (lines_of (suffix_text own.suffix)) }) false ≡ with_flags x =
     two (λ z w. t.make (record { before = own.before ++ z; suffix = w }) false) (back.loose gap m) (ap first_comment lines ∙ suffix_behind own.suffix)
     ∙ (ap (λ z. t.make (record { before = z; suffix = own.suffix }) false) (append-nil own.before) ∙ (ap (λ z. t.make own z) (sym (simple_unbroken x simple)) ∙ back.value gap m)) in
-    two (λ z w. (s.Simple z ∷ [], w ++ after)) value (none_behind own.suffix (indented (behind own.suffix)) (lines_are (behind own.suffix) ∙ lines))
+    two (λ z w. (s.Simple z ∷ [], w ++ after)) value (none_behind own.suffix (indented (suffix_text own.suffix)) (lines_are (suffix_text own.suffix) ∙ lines))
 
 -- ---- suites
 
 -- a suite, by what is read of its statements
-pub suite_from : (m : ℕ) (xs : List Stated) (after now rest : Lines) (ys : List Statement) (end_ : List Bytes) → lines_before xs [] ≡ now → margin_of xs ≡ m + 4 → AreBounded m rest →
+pub suite_from : (m : ℕ) (xs : List Stated) (after now rest : Lines) (ys : List Statement) (end_ : List Bytes) → indented_lines_before xs [] ≡ now → margin_of xs ≡ m + 4 → AreBounded m rest →
     IsReadAs (walked now xs after) ys (told_at (m + 4) end_ ++ rest) → suite_read xs after ≡ ((ys, end_), from_comment rest)
 suite_from m xs after now rest ys end_ first margin bounded h =
     let all : Read (List Statement) = walked now xs after in
@@ -89,11 +89,11 @@ suite_from m xs after now rest ys end_ first margin bounded h =
     ∙ two (λ z w. let r : SuiteRead = ((ys, z), w) in r) ends left))
 
 -- one statement more
-pub walked_more : (x : Stated) (xs : List Stated) (above after lines mid rest : Lines) (texts : List Bytes) (y : Statement) (ys : List Statement) → comments_in_lines above ≡ texts → lines_before xs after ≡ lines →
+pub walked_more : (x : Stated) (xs : List Stated) (above after lines mid rest : Lines) (texts : List Bytes) (y : Statement) (ys : List Statement) → comments_in_lines above ≡ texts → indented_lines_before xs after ≡ lines →
     IsReadAs (x.statement texts lines) (y ∷ []) mid → ((now : Lines) → from_comment now ≡ from_comment mid → IsReadAs (walked now xs after) ys rest) → IsReadAs (walked above (x ∷ xs) after) (y ∷ ys) rest
 walked_more x xs above after lines mid rest texts y ys a b one more =
     let read : Read (List Statement) = x.statement texts lines in
-    let same : x.statement (comments_in_lines above) (lines_before xs after) ≡ read = two (λ z w. x.statement z w) a b in
+    let same : x.statement (comments_in_lines above) (indented_lines_before xs after) ≡ read = two (λ z w. x.statement z w) a b in
     let others : IsReadAs (walked read.1 xs after) ys rest = more read.1 one.left in
     record {
       value = ap (λ z. z.0 ++ (walked z.1 xs after).0) same ∙ two (λ z w. z ++ w) one.value others.value;
@@ -103,11 +103,11 @@ walked_more x xs above after lines mid rest texts y ys a b one more =
 -- ---- headers with their suites
 
 -- one header more
-pub suite_more : (kind : Kind) (parts : List Seen) (above : List Bytes) (left after lines rest : Lines) (x : Stated) (xs : List Stated) (form : Form) (own : SuiteRead) (bs : List Branch) → lines_before xs after ≡ lines → x.suite lines ≡ own →
+pub suite_more : (kind : Kind) (parts : List Seen) (above : List Bytes) (left after lines rest : Lines) (x : Stated) (xs : List Stated) (form : Form) (own : SuiteRead) (bs : List Branch) → indented_lines_before xs after ≡ lines → x.suite lines ≡ own →
     head kind parts above x.suffix ≡ form → IsReadAs (branches kind [] (comments_in_lines own.1) own.1 xs after) bs rest →
     IsReadAs (with_suite kind parts above left (x ∷ xs) after) (record { head = form; statements = own.0.0; end_ = own.0.1 } ∷ bs) rest
 suite_more kind parts above left after lines rest x xs form own bs a b f h =
-    let same : x.suite (lines_before xs after) ≡ own = ap x.suite a ∙ b in
+    let same : x.suite (indented_lines_before xs after) ≡ own = ap x.suite a ∙ b in
     record {
       value = ap (λ z. let r : Branch = record { head = head kind parts above x.suffix; statements = z.0.0; end_ = z.0.1 } in r ∷ (branches kind [] (comments_in_lines z.1) z.1 xs after).0) same
           ∙ two (λ z w. let r : Branch = record { head = z; statements = own.0.0; end_ = own.0.1 } in r ∷ w) f h.value;

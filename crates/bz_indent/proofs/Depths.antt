@@ -7,12 +7,13 @@ use Rattle.bz_tree.specs.declared.tree.Part.{Part}
 use Rattle.bz_tree.specs.Spell.{depth_part, deepest, depth_of}
 use Rattle.bz_tree.proofs.Spells.{depth_Node}
 use Rattle.bz_value.specs.declared.value.Expr.{Expr}
+use Rattle.bz_value.specs.Roots.{mark_leaf}
 use Rattle.bz_value.specs.declared.value.Form.{Form}
 use Rattle.bz_items.specs.Characters.{Bytes}
 use Rattle.bz_value.specs.Proper.{comments_of}
 use Rattle.bz_write.specs.Depths.{depth_expr, deepest_of}
 use Rattle.bz_write.specs.Layout.{is_broken, is_tuple, rowed}
-use Rattle.bz_write.specs.Drawn.{part_of, piece_part, drawings, body}
+use Rattle.bz_write.specs.Drawn.{part_of, piece_part, drawings, drawn_body}
 use Rattle.bz_write.proofs.Deep.{AsDeep, depth_drawn, rowed_depth, body_depth}
 use Rattle.bz_write.proofs.Loops.{values_drawings}
 use Rattle.bz_write.proofs.Made.{two}
@@ -22,8 +23,8 @@ use Rattle.bz_suite.specs.declared.value.Branch.{Branch}
 use Rattle.bz_suite.specs.declared.value.BzlItem.{BzlItem}
 use Rattle.bz_suite.specs.declared.value.BzlItem.TheVariants as b
 use Rattle.bz_indent.specs.Depths.{depth_header, depth_statement, depth_branches, depth_statements, deepest_statement, depth_branch, deepest_branch, depth_bzl_items}
-use Rattle.bz_indent.specs.Drawn.{gap_to_margin, header_parts, mark_part, newline_part, simple_part, left_behind, left_statements, first_kind, statement_part, branch_parts, statement_parts, bzl_lines, bzl_drawn}
-use Rattle.bz_indent.specs.Layout.{is_def, lines_at, before_others}
+use Rattle.bz_indent.specs.Drawn.{gap_to_margin, header_parts, newline_part, simple_part, left_behind, left_statements, first_kind, statement_part, branch_parts, statement_parts, bzl_lines, bzl_drawn}
+use Rattle.bz_indent.specs.Layout.{is_def, indented_lines, before_others}
 use Rattle.bz_indent.proofs.Rows.{branches_behind, branches_are}
 
 -- ---- headers
@@ -39,19 +40,19 @@ deepest_append (x ∷ xs) ys = let more = deepest_append xs ys in omega (arith, 
 row_deep : (m : ℕ) (gap : Bytes) (f : Form) → deepest (map piece_part (rowed f.kind f.open_ m gap m (drawings f.parts))) ≡ deepest_of f.parts
 row_deep m gap f = rowed_depth f.kind f.open_ m gap m (drawings f.parts) (drawings_deep f.parts) ∙ ap deepest_of (values_drawings f.parts)
 
-parameters_deep : (m : ℕ) (f : Form) → deepest (map piece_part (body f m 41)) ≡ deepest_of f.seq.items
+parameters_deep : (m : ℕ) (f : Form) → deepest (map piece_part (drawn_body f m 41)) ≡ deepest_of f.seq.items
 parameters_deep m f =
     body_depth (is_broken f.kind f.seq.split f.seq.items f.seq.end_) (is_tuple f.kind && nat_eq (length f.seq.items) 1) m 41 f.seq.end_ (drawings f.seq.items) (drawings_deep f.seq.items)
     ∙ ap deepest_of (values_drawings f.seq.items)
 
-end_deep : (is : Bool) (parts : List Part) → deepest ((if is then mark_part 40 ∷ parts else []) ++ mark_part 58 ∷ []) ≡ (if is then deepest parts else 0)
-end_deep true parts = let all = deepest_append parts (mark_part 58 ∷ []) in omega (arith, all)
+end_deep : (is : Bool) (parts : List Part) → deepest ((if is then mark_leaf 40 ∷ parts else []) ++ mark_leaf 58 ∷ []) ≡ (if is then deepest parts else 0)
+end_deep true parts = let all = deepest_append parts (mark_leaf 58 ∷ []) in omega (arith, all)
 end_deep false parts = refl
 
 header_deep : (m : ℕ) (gap : Bytes) (f : Form) → deepest (header_parts m gap f) ≡ depth_header f
 header_deep m gap f =
     deepest_append (map piece_part (rowed f.kind f.open_ m gap m (drawings f.parts))) _
-    ∙ two max (row_deep m gap f) (end_deep (is_def f) (map piece_part (body f m 41)) ∙ ap (λ n. if is_def f then n else 0) (parameters_deep m f))
+    ∙ two max (row_deep m gap f) (end_deep (is_def f) (map piece_part (drawn_body f m 41)) ∙ ap (λ n. if is_def f then n else 0) (parameters_deep m f))
 
 -- ---- statements
 
@@ -70,7 +71,7 @@ mutual
   branches_deep m lines n (more_of-Branch head size statements end_ rest) =
       let header = header_deep m (gap_to_margin m lines head.comments.before) head in
       let inner = statements_deep (m + 4) [] _ statements in
-      let more = branches_deep m (left_statements (m + 4) [] statements ++ lines_at (m + 4) end_) _ rest in
+      let more = branches_deep m (left_statements (m + 4) [] statements ++ indented_lines (m + 4) end_) _ rest in
       let node = depth_Node (record { kind = k.Suite; parts = newline_part head.comments.suffix ∷ statement_parts (m + 4) [] statements }) in
       deepest_append (header_parts m (gap_to_margin m lines head.comments.before) head) _ ∙ omega (arith, header, inner, more, node)
 
@@ -82,7 +83,7 @@ mutual
 
 lines_deep : (lines : Bytes) (xs : List BzlItem) → deepest (bzl_lines lines xs) ≡ depth_bzl_items xs
 lines_deep lines [] = refl
-lines_deep lines (b.Block texts ∷ xs) = lines_deep ((lines ++ lines_at 0 texts) ++ before_others (b.Block texts) xs) xs
+lines_deep lines (b.Block texts ∷ xs) = lines_deep ((lines ++ indented_lines 0 texts) ++ before_others (b.Block texts) xs) xs
 lines_deep lines (b.Statement x ∷ xs) = two max (statement_deep 0 lines x) (lines_deep (left_behind 0 x ++ before_others (b.Statement x) xs) xs)
 
 pub bzl_drawn_depth : (xs : List BzlItem) → depth_of (bzl_drawn xs) ≡ suc (depth_bzl_items xs)

@@ -6,7 +6,7 @@ use Rattle.std.proofs.lemmas.List.Elements.{recursion_from_All}
 use Rattle.bz_token.specs.declared.class.Class.TheVariants as c
 use Rattle.bz_tree.specs.declared.tree.Part.{Part}
 use Rattle.bz_tree.specs.Shapes as s
-use Rattle.bz_tree.specs.Shapes.{Shape, Fits, is_kind, keyword}
+use Rattle.bz_tree.specs.Shapes.{Shape, Fits, is_kind, one_keyword}
 use Rattle.bz_tree.specs.Suites.{def_header}
 use Rattle.bz_tree.specs.Legal.{IsSort}
 use Rattle.bz_tree.specs.Spots.{Spot, Begins, Within, Along, AtParts}
@@ -15,10 +15,10 @@ use Rattle.bz_value.specs.declared.value.Expr.{Expr}
 use Rattle.bz_value.specs.declared.value.Form.{Form}
 use Rattle.bz_value.specs.Empty.{is_empty}
 use Rattle.bz_value.specs.Proper.{IsComment, has_break, behind_expr}
-use Rattle.bz_value.specs.Roots.{root, mark, each_with_comma}
+use Rattle.bz_value.specs.Roots.{root, mark_leaf, each_with_comma}
 use Rattle.bz_items.specs.Characters.{Bytes}
 use Rattle.bz_write.specs.Layout.{rowed, is_broken, is_tuple}
-use Rattle.bz_write.specs.Drawn.{part_of, piece_part, drawings, body}
+use Rattle.bz_write.specs.Drawn.{part_of, piece_part, drawings, drawn_body}
 use Rattle.bz_write.proofs.Fitted.{rooted, roots_of_list}
 use Rattle.bz_write.proofs.Elements.{AreValues, enclosed_values}
 use Rattle.bz_write.proofs.Margins.{FitsAt, coded_byte, none_fits}
@@ -26,7 +26,7 @@ use Rattle.bz_write.proofs.Spots.{value_within, RowBreaks}
 use Rattle.bz_write.proofs.Standing.{Placed, placed, RowDraws, ItemsDraw, Draws, draws, drawn_stands, behind_row, rowed_at, body_at, round}
 use Rattle.bz_suite.specs.Proper.{AreHeaderParts, AreParameters, header_end}
 use Rattle.bz_indent.specs.Layout.{is_def}
-use Rattle.bz_indent.specs.Drawn.{mark_part, header_parts}
+use Rattle.bz_indent.specs.Drawn.{header_parts}
 use Rattle.bz_indent.proofs.Headings.{Heading, some_part}
 use Rattle.bz_indent.proofs.HeaderSpots.{behind_both, behind_rowed, header_onward, behind_body}
 
@@ -49,15 +49,15 @@ some_drawn (x ∷ xs) h = refl
 -- ---- parameters
 
 -- the parameters of a function are no tokens of their row
-values_there : (ps xs : List Part) → Fits IsSort def_header (ps ++ mark 40 ∷ (each_with_comma xs ++ mark 41 ∷ mark 58 ∷ [])) → AreValues xs
-values_there ps xs h = enclosed_values def_header refl 40 ps xs (mark 41 ∷ mark 58 ∷ []) h
+values_there : (ps xs : List Part) → Fits IsSort def_header (ps ++ mark_leaf 40 ∷ (each_with_comma xs ++ mark_leaf 41 ∷ mark_leaf 58 ∷ [])) → AreValues xs
+values_there ps xs h = enclosed_values def_header refl 40 ps xs (mark_leaf 41 ∷ mark_leaf 58 ∷ []) h
 
-values_by : (brackets : Bool) (r : Shape) (ps xs : List Part) → (brackets ≡ true → r ≡ def_header) → Fits IsSort r (ps ++ (if brackets then mark 40 ∷ (each_with_comma xs ++ mark 41 ∷ mark 58 ∷ []) else mark 58 ∷ [])) → brackets ≡ true → AreValues xs
-values_by true r ps xs e h b = values_there ps xs (subst (λ z. Fits IsSort z (ps ++ mark 40 ∷ (each_with_comma xs ++ mark 41 ∷ mark 58 ∷ []))) (e refl) h)
+values_by : (brackets : Bool) (r : Shape) (ps xs : List Part) → (brackets ≡ true → r ≡ def_header) → Fits IsSort r (ps ++ (if brackets then mark_leaf 40 ∷ (each_with_comma xs ++ mark_leaf 41 ∷ mark_leaf 58 ∷ []) else mark_leaf 58 ∷ [])) → brackets ≡ true → AreValues xs
+values_by true r ps xs e h b = values_there ps xs (subst (λ z. Fits IsSort z (ps ++ mark_leaf 40 ∷ (each_with_comma xs ++ mark_leaf 41 ∷ mark_leaf 58 ∷ []))) (e refl) h)
 values_by false r ps xs e h b = no_such b
 
 pub parameter_values : (f : Form) → Heading f → is_def f ≡ true → AreValues (map root f.seq.items)
-parameter_values f h b = values_by (is_def f) (s.tok (keyword h.word) h.rest) (map root f.parts) (map root f.seq.items) h.function h.proper.fits b
+parameter_values f h b = values_by (is_def f) (s.tok (one_keyword h.word) h.rest) (map root f.parts) (map root f.seq.items) h.function h.proper.fits b
 
 parameters_draw : (outer : Spot) (xs : List Expr) → AreParameters xs → AreValues (map root xs) → ItemsDraw outer (drawings xs)
 parameters_draw outer [] h v = tt
@@ -66,26 +66,26 @@ parameters_draw outer (x ∷ xs) h v =
 
 -- ---- the header
 
-colon_at : AtParts Placed Begins Along (mark_part 58 ∷ [])
+colon_at : AtParts Placed Begins Along (mark_leaf 58 ∷ [])
 colon_at = (placed c.Mark [] (58 ∷ []) Along refl (coded_byte 58 (omega arith)) (none_fits Along refl), tt)
 
 -- the brackets, and the colon
 brackets_at : (brackets : Bool) (m : ℕ) (f : Form) → (brackets ≡ true → ItemsDraw Begins (drawings f.seq.items)) → AllByRecursion IsComment f.seq.end_ →
-    AtParts Placed Begins Along ((if brackets then mark_part 40 ∷ map piece_part (body f m 41) else []) ++ mark_part 58 ∷ [])
+    AtParts Placed Begins Along ((if brackets then mark_leaf 40 ∷ map piece_part (drawn_body f m 41) else []) ++ mark_leaf 58 ∷ [])
 brackets_at true m f d e =
     let broken : Bool = is_broken f.kind f.seq.split f.seq.items f.seq.end_ in
     let one : Bool = is_tuple f.kind && nat_eq (length f.seq.items) 1 in (
       placed c.Mark [] (40 ∷ []) Along refl (coded_byte 40 (omega arith)) (none_fits Along refl),
-      body_at Begins 40 41 round.0 round.1 broken one m f.seq.end_ (drawings f.seq.items) (mark_part 58 ∷ []) e (d refl) colon_at,
+      body_at Begins 40 41 round.0 round.1 broken one m f.seq.end_ (drawings f.seq.items) (mark_leaf 58 ∷ []) e (d refl) colon_at,
     )
 brackets_at false m f d e = colon_at
 
-behind_brackets : (brackets : Bool) (m : ℕ) (f : Form) → (brackets ≡ true → ItemsDraw Begins (drawings f.seq.items)) → spot_behind Begins Along ((if brackets then mark_part 40 ∷ map piece_part (body f m 41) else []) ++ mark_part 58 ∷ []) ≡ Along
+behind_brackets : (brackets : Bool) (m : ℕ) (f : Form) → (brackets ≡ true → ItemsDraw Begins (drawings f.seq.items)) → spot_behind Begins Along ((if brackets then mark_leaf 40 ∷ map piece_part (drawn_body f m 41) else []) ++ mark_leaf 58 ∷ []) ≡ Along
 behind_brackets true m f d =
     let broken : Bool = is_broken f.kind f.seq.split f.seq.items f.seq.end_ in
     let one : Bool = is_tuple f.kind && nat_eq (length f.seq.items) 1 in
-    behind_both Begins Within (map piece_part (body f m 41)) (mark_part 58 ∷ [])
-    ∙ ap (λ z. spot_behind Begins z (mark_part 58 ∷ [])) (behind_body broken one m f.seq.end_ Begins (drawings f.seq.items) (d refl))
+    behind_both Begins Within (map piece_part (drawn_body f m 41)) (mark_leaf 58 ∷ [])
+    ∙ ap (λ z. spot_behind Begins z (mark_leaf 58 ∷ [])) (behind_body broken one m f.seq.end_ Begins (drawings f.seq.items) (d refl))
 behind_brackets false m f d = refl
 
 -- tokens at the start of a line, behind which it goes on
@@ -96,11 +96,11 @@ pub record Leads (xs : List Part) : Type 0 where
 pub header_leads : (m : ℕ) (gap : Bytes) (f : Form) → Heading f → FitsAt Begins gap → Leads (header_parts m gap f)
 header_leads m gap f h g =
     let front : List Part = map piece_part (rowed f.kind f.open_ m gap m (drawings f.parts)) in
-    let back : List Part = (if is_def f then mark_part 40 ∷ map piece_part (body f m 41) else []) ++ mark_part 58 ∷ [] in
+    let back : List Part = (if is_def f then mark_leaf 40 ∷ map piece_part (drawn_body f m 41) else []) ++ mark_leaf 58 ∷ [] in
     let draw : RowDraws Begins Begins (drawings f.parts) = parts_draw Begins f.parts h.proper.parts in
     let items : is_def f ≡ true → ItemsDraw Begins (drawings f.seq.items) = λ e. parameters_draw Begins f.seq.items h.proper.parameters (parameter_values f h e) in
-    let roots : Fits IsSort (s.tok (keyword h.word) h.rest) (rooted (drawings f.parts) ++ header_end f) = subst (λ z. Fits IsSort (s.tok (keyword h.word) h.rest) (z ++ header_end f)) (sym (roots_of_list f.parts)) h.proper.fits in
-    let spot : behind_row Begins Begins (drawings f.parts) ≡ Along = header_onward (is_def f) (s.tok (keyword h.word) h.rest) Begins Begins (drawings f.parts) _ h.function h.no_brackets roots draw (some_drawn f.parts (some_part f h)) in
+    let roots : Fits IsSort (s.tok (one_keyword h.word) h.rest) (rooted (drawings f.parts) ++ header_end f) = subst (λ z. Fits IsSort (s.tok (one_keyword h.word) h.rest) (z ++ header_end f)) (sym (roots_of_list f.parts)) h.proper.fits in
+    let spot : behind_row Begins Begins (drawings f.parts) ≡ Along = header_onward (is_def f) (s.tok (one_keyword h.word) h.rest) Begins Begins (drawings f.parts) _ h.function h.no_brackets roots draw (some_drawn f.parts (some_part f h)) in
     let behind_front : spot_behind Begins Begins front ≡ Along = behind_rowed f.kind f.open_ m m gap Begins Begins (drawings f.parts) draw ∙ spot in
     record {
       there = rowed_at f.kind f.open_ m Begins Begins gap m (drawings f.parts) back g draw (no_breaks f.open_ h.proper.not_open Begins f.parts h.proper.parts)

@@ -4,14 +4,14 @@ use Rattle.std.specs.Prelude.{Option, None, codes}
 use Rattle.bz_tree.specs.declared.kind.Kind.{Kind}
 use Rattle.bz_tree.specs.declared.tree.Part.{Part}
 use Rattle.bz_tree.specs.Shapes as s
-use Rattle.bz_tree.specs.Shapes.{Shape, Fits, keyword}
+use Rattle.bz_tree.specs.Shapes.{Shape, Fits, one_keyword}
 use Rattle.bz_tree.specs.Suites.{def_header}
 use Rattle.bz_tree.specs.Legal.{IsSort}
 use Rattle.bz_tree.specs.Spots.{Spot, Within, onward, behind_part}
 use Rattle.bz_tree.proofs.Balance.{no_such, spot_behind}
 use Rattle.bz_value.specs.Empty.{is_empty}
 use Rattle.bz_value.specs.Proper.{comments_of, behind_expr}
-use Rattle.bz_value.specs.Roots.{mark}
+use Rattle.bz_value.specs.Roots.{mark_leaf}
 use Rattle.bz_items.specs.Characters.{Bytes, comma, space}
 use Rattle.bz_write.specs.Layout.{mark as mark_piece, rowed, stacked, joined, gap_behind, margin_behind, firsts}
 use Rattle.bz_write.specs.Drawn.{piece_part}
@@ -37,19 +37,19 @@ behind_rowed kind open_ m n gap outer here (x ∷ xs) h =
 
 -- the word and the name of a function, and the opening bracket
 abbrev name_header : Shape
-name_header = s.tok (keyword (codes "def")) (s.tok s.name (s.tok s.open_round s.done))
+name_header = s.tok (one_keyword (codes "def")) (s.tok s.name (s.tok s.open_round s.done))
 
-name_fits : (ps rest : List Part) → Fits IsSort def_header (ps ++ mark 40 ∷ rest) → Fits IsSort name_header (ps ++ mark 40 ∷ [])
+name_fits : (ps rest : List Part) → Fits IsSort def_header (ps ++ mark_leaf 40 ∷ rest) → Fits IsSort name_header (ps ++ mark_leaf 40 ∷ [])
 name_fits [] rest h = no_such h.0
 name_fits (x ∷ []) rest h = no_such h.1.0
 name_fits (x ∷ y ∷ []) rest h = (h.0, (h.1.0, (refl, tt)))
-name_fits (x ∷ y ∷ z ∷ ps) rest h = absurd (none_is (mark 40) (s.enclosed s.param s.close_round (s.tok s.colon s.done)) (T s.open_round) z h.1.1.0 refl ps rest h.1.1.1)
+name_fits (x ∷ y ∷ z ∷ ps) rest h = absurd (none_is (mark_leaf 40) (s.enclosed s.param s.close_round (s.tok s.colon_mark s.done)) (T s.open_round) z h.1.1.0 refl ps rest h.1.1.1)
 
 -- a row goes on as its first part does
 pub header_onward : (brackets : Bool) (r : Shape) (outer here : Spot) (xs : List Child) (rest : List Part) → (brackets ≡ true → r ≡ def_header) → (brackets ≡ false → passes plain_first any_last None r ≡ true) →
-    Fits IsSort r (rooted xs ++ (if brackets then mark 40 ∷ rest else mark 58 ∷ [])) → RowDraws outer here xs → is_empty xs ≡ false → behind_row outer here xs ≡ onward here
-header_onward true r outer here xs rest e t h d n = plain_row name_header refl outer here xs (mark 40) [] (name_fits (rooted xs) rest (subst (λ z. Fits IsSort z (rooted xs ++ mark 40 ∷ rest)) (e refl) h)) d n
-header_onward false r outer here xs rest e t h d n = plain_row r (t refl) outer here xs (mark 58) [] h d n
+    Fits IsSort r (rooted xs ++ (if brackets then mark_leaf 40 ∷ rest else mark_leaf 58 ∷ [])) → RowDraws outer here xs → is_empty xs ≡ false → behind_row outer here xs ≡ onward here
+header_onward true r outer here xs rest e t h d n = plain_row name_header refl outer here xs (mark_leaf 40) [] (name_fits (rooted xs) rest (subst (λ z. Fits IsSort z (rooted xs ++ mark_leaf 40 ∷ rest)) (e refl) h)) d n
+header_onward false r outer here xs rest e t h d n = plain_row r (t refl) outer here xs (mark_leaf 58) [] h d n
 
 -- ---- behind the closing bracket of parameters
 

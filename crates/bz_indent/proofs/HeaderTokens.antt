@@ -4,17 +4,18 @@ use Rattle.std.specs.Prelude.{None, length, nat_eq}
 use Rattle.std.specs.List.{flat_map}
 use Rattle.bz_tree.specs.declared.tree.Part.{Part}
 use Rattle.bz_tree.specs.Shapes as s
-use Rattle.bz_tree.specs.Shapes.{Shape, keyword}
+use Rattle.bz_tree.specs.Shapes.{Shape, one_keyword}
 use Rattle.bz_tree.specs.Spell.{leaves_part}
 use Rattle.bz_tree.specs.Spots.{Spot, Begins, Within}
 use Rattle.bz_value.specs.declared.value.Expr.{Expr}
+use Rattle.bz_value.specs.Roots.{mark_leaf}
 use Rattle.bz_value.specs.declared.value.Form.{Form}
 use Rattle.bz_value.specs.LineShapes.{line_shape}
 use Rattle.bz_value.specs.Proper.{behind_expr}
 use Rattle.bz_value.proofs.LegalBy.{LegalBy}
 use Rattle.bz_items.specs.Characters.{Bytes}
 use Rattle.bz_write.specs.Layout.{rowed, is_broken, is_tuple}
-use Rattle.bz_write.specs.Drawn.{piece_part, drawings, body}
+use Rattle.bz_write.specs.Drawn.{piece_part, drawings, drawn_body}
 use Rattle.bz_write.proofs.Neighbours.{passes, neighbours, finals, is_primary_kind}
 use Rattle.bz_write.proofs.Elements.{AreValues}
 use Rattle.bz_write.proofs.Fitted.{roots_of_list}
@@ -26,7 +27,7 @@ use Rattle.bz_write.proofs.LegalFiles.{parts_hold}
 use Rattle.bz_write.proofs.LegalParts.{drawn_good}
 use Rattle.bz_suite.specs.Proper.{AreHeaderParts, AreParameters}
 use Rattle.bz_indent.specs.Layout.{is_def}
-use Rattle.bz_indent.specs.Drawn.{mark_part, header_parts}
+use Rattle.bz_indent.specs.Drawn.{header_parts}
 use Rattle.bz_indent.proofs.Headings.{Heading}
 use Rattle.bz_indent.proofs.Shaped.{header_each, header_fits}
 use Rattle.bz_indent.proofs.HeaderGaps.{header_leads, parameter_values}
@@ -42,10 +43,10 @@ parameters_behind [] h = tt
 parameters_behind (x ∷ xs) h = ((drawn_good Within x h.0).stands, parameters_behind xs h.3)
 
 apart_by : (brackets : Bool) (m : ℕ) (f : Form) (front : List Part) → Apart f.kind front → (brackets ≡ true → AreItems (drawings f.seq.items)) →
-    Apart f.kind (front ++ ((if brackets then mark_part 40 ∷ map piece_part (body f m 41) else []) ++ mark_part 58 ∷ []))
+    Apart f.kind (front ++ ((if brackets then mark_leaf 40 ∷ map piece_part (drawn_body f m 41) else []) ++ mark_leaf 58 ∷ []))
 apart_by true m f front h i =
-    apart_then f.kind 40 round.0 front (map piece_part (body f m 41) ++ mark_part 58 ∷ []) h
-    (apart_then f.kind 58 colon_alone (mark_part 40 ∷ map piece_part (body f m 41)) []
+    apart_then f.kind 40 round.0 front (map piece_part (drawn_body f m 41) ++ mark_leaf 58 ∷ []) h
+    (apart_then f.kind 58 colon_alone (mark_leaf 40 ∷ map piece_part (drawn_body f m 41)) []
     (body_between f.kind 41 round.1 40 round.0 refl (is_broken f.kind f.seq.split f.seq.items f.seq.end_) (is_tuple f.kind && nat_eq (length f.seq.items) 1) [] m f.seq.end_ (drawings f.seq.items) (i refl)) tt)
 apart_by false m f front h i = apart_then f.kind 58 colon_alone front [] h tt
 
@@ -58,7 +59,7 @@ header_apart m gap f h =
 -- the lexemes of a header are tokens before a text that follows it
 pub header_tokens : (m : ℕ) (gap : Bytes) (f : Form) → Heading f → FitsAt Begins gap → (rest : Bytes) → FollowsAs (is_primary_kind f.kind) rest → Toks (flat_map leaves_part (header_parts m gap f)) rest
 header_tokens m gap f h g rest follows =
-    let shape : Shape = s.tok (keyword h.word) h.rest in
+    let shape : Shape = s.tok (one_keyword h.word) h.rest in
     row_tokens f.kind shape (ap (λ z. passes (neighbours z) (finals z) None shape) h.proper.kinds ∙ h.touches) (header_parts m gap f) (header_fits m gap f h) (header_apart m gap f h)
     (header_each (LegalBy line_shape) (λ gap n. tt) (λ here x i gap m. (drawn_good here x i).legal gap m) m gap f h)
     (parts_hold Placed IsLex (λ here l q. q.lexeme) Begins Begins (header_parts m gap f) (header_leads m gap f h g).there)

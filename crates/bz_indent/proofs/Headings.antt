@@ -5,7 +5,7 @@ use Rattle.std.specs.List.{AllByRecursion}
 use Rattle.bz_tree.specs.declared.kind.Kind.{Kind}
 use Rattle.bz_tree.specs.declared.kind.Kind.TheVariants as k
 use Rattle.bz_tree.specs.declared.tree.Part.{Part}
-use Rattle.bz_tree.specs.Shapes.{Shape, Fits, done, tok, sub, list, enclosed, keyword, is_kind, name, open_round, close_round, param, colon, comma, primary, expr, test}
+use Rattle.bz_tree.specs.Shapes.{Shape, Fits, done, tok, sub, list, enclosed, one_keyword, is_kind, name, open_round, close_round, param, colon_mark, comma_mark, primary, expr, test}
 use Rattle.bz_tree.specs.Legal.{IsSort}
 use Rattle.bz_tree.specs.Suites.{def_header, for_header, test_header, else_header}
 use Rattle.bz_tree.specs.Indents.{Owned}
@@ -15,7 +15,7 @@ use Rattle.bz_tree.proofs.Trees.{At}
 use Rattle.bz_value.specs.declared.value.Expr.{Expr}
 use Rattle.bz_value.specs.declared.value.Form.{Form}
 use Rattle.bz_value.specs.Empty.{is_empty}
-use Rattle.bz_value.specs.Roots.{root, mark}
+use Rattle.bz_value.specs.Roots.{root, mark_leaf}
 use Rattle.bz_items.specs.Characters.{Bytes}
 use Rattle.bz_write.proofs.Elements.{any_last}
 use Rattle.bz_write.proofs.Neighbours.{passes, neighbours, finals}
@@ -28,11 +28,11 @@ pub record Heading (f : Form) : Type 0 where
   pub kind : Kind
   pub word : Bytes
   pub rest : Shape
-  pub proper : IsHeader kind (tok (keyword word) rest) f
-  pub function : is_kind f.kind k.Def ≡ true → tok (keyword word) rest ≡ def_header
+  pub proper : IsHeader kind (tok (one_keyword word) rest) f
+  pub function : is_kind f.kind k.Def ≡ true → tok (one_keyword word) rest ≡ def_header
   pub plain : (i : List ℕ) (d : ℕ) (ps : List Part) → Fits (At d) rest ps → AllByRecursion (Owned i) ps
-  pub touches : passes (neighbours kind) (finals kind) None (tok (keyword word) rest) ≡ true
-  pub no_brackets : is_kind f.kind k.Def ≡ false → passes plain_first any_last None (tok (keyword word) rest) ≡ true
+  pub touches : passes (neighbours kind) (finals kind) None (tok (one_keyword word) rest) ≡ true
+  pub no_brackets : is_kind f.kind k.Def ≡ false → passes plain_first any_last None (tok (one_keyword word) rest) ≡ true
 
 abbrev pub Headings : List Form → Type 0
 Headings fs = AllByRecursion Heading fs
@@ -42,13 +42,13 @@ pub no_function : (f : Form) (kind : Kind) (shape : Shape) → is_kind kind k.De
 no_function f kind shape n e h = no_such (sym n ∙ (sym (ap (λ z. is_kind z k.Def) e) ∙ h))
 
 abbrev behind_def : Shape
-behind_def = tok name (tok open_round (enclosed param close_round (tok colon done)))
+behind_def = tok name (tok open_round (enclosed param close_round (tok colon_mark done)))
 
 abbrev behind_for : Shape
-behind_for = list primary comma false (tok (keyword (codes "in")) (sub expr (tok colon done)))
+behind_for = list primary comma_mark false (tok (one_keyword (codes "in")) (sub expr (tok colon_mark done)))
 
 abbrev behind_test : Shape
-behind_test = sub test (tok colon done)
+behind_test = sub test (tok colon_mark done)
 
 abbrev pub of_function : (f : Form) → IsHeader k.Def def_header f → Heading f
 of_function f h = record { kind = k.Def; word = codes "def"; rest = behind_def; proper = h; function = λ e. refl; plain = λ i d ps g. owned_shape i d behind_def refl ps g; touches = refl; no_brackets = λ e. absurd (true≢false (sym (ap (λ z. is_kind z k.Def) h.kinds) ∙ e)) }
@@ -66,32 +66,32 @@ of_loop f h = record {
 }
 
 -- if or elif
-abbrev pub of_test : (word : Bytes) → passes (neighbours k.IfStmt) (finals k.IfStmt) None (test_header (keyword word)) ≡ true → (f : Form) → IsHeader k.IfStmt (test_header (keyword word)) f → Heading f
+abbrev pub of_test : (word : Bytes) → passes (neighbours k.IfStmt) (finals k.IfStmt) None (test_header (one_keyword word)) ≡ true → (f : Form) → IsHeader k.IfStmt (test_header (one_keyword word)) f → Heading f
 of_test word t f h = record {
   kind = k.IfStmt;
   word = word;
   rest = behind_test;
   proper = h;
-  function = no_function f k.IfStmt (test_header (keyword word)) refl h.kinds;
+  function = no_function f k.IfStmt (test_header (one_keyword word)) refl h.kinds;
   plain = λ i d ps g. owned_shape i d behind_test refl ps g;
   touches = t;
   no_brackets = λ e. refl;
 }
 
-abbrev pub of_if : (f : Form) → IsHeader k.IfStmt (test_header (keyword (codes "if"))) f → Heading f
+abbrev pub of_if : (f : Form) → IsHeader k.IfStmt (test_header (one_keyword (codes "if"))) f → Heading f
 of_if f h = of_test (codes "if") refl f h
 
-abbrev pub of_elif : (f : Form) → IsHeader k.IfStmt (test_header (keyword (codes "elif"))) f → Heading f
+abbrev pub of_elif : (f : Form) → IsHeader k.IfStmt (test_header (one_keyword (codes "elif"))) f → Heading f
 of_elif f h = of_test (codes "elif") refl f h
 
 abbrev pub of_else : (f : Form) → IsHeader k.IfStmt else_header f → Heading f
 of_else f h = record {
   kind = k.IfStmt;
   word = codes "else";
-  rest = tok colon done;
+  rest = tok colon_mark done;
   proper = h;
   function = no_function f k.IfStmt else_header refl h.kinds;
-  plain = λ i d ps g. owned_shape i d (tok colon done) refl ps g;
+  plain = λ i d ps g. owned_shape i d (tok colon_mark done) refl ps g;
   touches = refl;
   no_brackets = λ e. refl;
 }
@@ -109,7 +109,7 @@ headings (f ∷ fs) (inr (inr h)) = (of_if f h.0, alternatives_are fs h.1)
 
 -- ---- a header has a part before its bracket or colon
 
-some_first : (xs : List Expr) (b : Bool) (ps : List Part) (word : Bytes) (rest : Shape) → Fits IsSort (tok (keyword word) rest) (map root xs ++ (if b then mark 40 ∷ ps else mark 58 ∷ [])) → is_empty xs ≡ false
+some_first : (xs : List Expr) (b : Bool) (ps : List Part) (word : Bytes) (rest : Shape) → Fits IsSort (tok (one_keyword word) rest) (map root xs ++ (if b then mark_leaf 40 ∷ ps else mark_leaf 58 ∷ [])) → is_empty xs ≡ false
 some_first [] true ps word rest h = no_such h.0
 some_first [] false ps word rest h = no_such h.0
 some_first (x ∷ xs) b ps word rest h = refl

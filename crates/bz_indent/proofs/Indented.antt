@@ -12,7 +12,7 @@ use Rattle.bz_tree.specs.declared.tree.Node.{Node}
 use Rattle.bz_tree.specs.declared.tree.Part.{Part}
 use Rattle.bz_tree.specs.declared.tree.Part.TheVariants as p
 use Rattle.bz_tree.specs.Spell.{leaves_part, deepest}
-use Rattle.bz_tree.specs.Shapes.{Shape, Fits, tok, keyword}
+use Rattle.bz_tree.specs.Shapes.{Shape, Fits, tok, one_keyword}
 use Rattle.bz_tree.specs.Legal.{IsSort, LegalBzlPart}
 use Rattle.bz_tree.specs.Indents.{first_indent, Indented, Owned, AreIndented}
 use Rattle.bz_tree.specs.Spots.{Begins}
@@ -32,7 +32,7 @@ use Rattle.bz_suite.specs.declared.value.Statement.{Statement, Simple, Compound'
 use Rattle.bz_suite.specs.declared.value.BzlItem.{BzlItem}
 use Rattle.bz_suite.specs.declared.value.BzlItem.TheVariants as b
 use Rattle.bz_suite.specs.Proper.{is_simple, has_simple_kind, AreHeaders, heads, IsProperStatement, AreProperBranches, AreProperStatements, IsProperBzlItem, IsProperBzl}
-use Rattle.bz_indent.specs.Layout.{line_at, lines_at, before_others, between_items}
+use Rattle.bz_indent.specs.Layout.{indented_line, indented_lines, before_others, between_items}
 use Rattle.bz_indent.specs.Drawn.{gap_to_margin, newline_part, header_parts, left_behind, left_branches, left_statements, first_kind, statement_part, branch_parts, statement_parts, bzl_lines, bzl_drawn}
 use Rattle.bz_indent.proofs.Headings.{Heading, Headings, headings, some_part}
 use Rattle.bz_tree.proofs.Suites.{indented_row}
@@ -60,14 +60,14 @@ behind_newline : (text rest : Bytes) → indent (text ++ line_feed ∷ rest) ≡
 behind_newline [] rest = refl
 behind_newline (c ∷ text) rest = rw (newline_there (c ∷ text) rest) (behind_newline text rest)
 
-whole_line : (m : ℕ) (text : Bytes) → Whole (line_at m text)
+whole_line : (m : ℕ) (text : Bytes) → Whole (indented_line m text)
 whole_line m text rest =
     ap indent (append_assoc (replicate m space) (text ++ line_feed ∷ []) rest ∙ (ap (λ z. replicate m space ++ z) (append_assoc text (line_feed ∷ []) rest) ∙ sym (append_assoc (replicate m space) text (line_feed ∷ rest))))
     ∙ behind_newline (replicate m space ++ text) rest
 
-whole_lines : (m : ℕ) (texts : List Bytes) → Whole (lines_at m texts)
+whole_lines : (m : ℕ) (texts : List Bytes) → Whole (indented_lines m texts)
 whole_lines m [] rest = refl
-whole_lines m (text ∷ texts) rest = whole_append (line_at m text) (lines_at m texts) (whole_line m text) (whole_lines m texts) rest
+whole_lines m (text ∷ texts) rest = whole_append (indented_line m text) (indented_lines m texts) (whole_line m text) (whole_lines m texts) rest
 
 whole_if : (b : Bool) → Whole (if b then [] else line_feed ∷ [])
 whole_if true rest = refl
@@ -94,8 +94,8 @@ mutual
   whole_branches : (n : _) (r : Row_of-Branch n) (m : ℕ) (lines : Bytes) → Whole lines → Whole (left_branches m lines r)
   whole_branches n end_of-Branch m lines h rest = h rest
   whole_branches n (more_of-Branch head size statements end_ others) m lines h rest =
-      whole_branches _ others m (left_statements (m + 4) [] statements ++ lines_at (m + 4) end_)
-      (whole_append (left_statements (m + 4) [] statements) (lines_at (m + 4) end_) (whole_statements _ statements (m + 4) [] (λ t. refl)) (whole_lines (m + 4) end_)) rest
+      whole_branches _ others m (left_statements (m + 4) [] statements ++ indented_lines (m + 4) end_)
+      (whole_append (left_statements (m + 4) [] statements) (indented_lines (m + 4) end_) (whole_statements _ statements (m + 4) [] (λ t. refl)) (whole_lines (m + 4) end_)) rest
 
   whole_statements : (n : _) (r : Row_of-Statement n) (m : ℕ) (lines : Bytes) → Whole lines → Whole (left_statements m lines r)
   whole_statements n end_of-Statement m lines h rest = h rest
@@ -113,7 +113,7 @@ margin_indent (suc m) = rw (spaces_indent (suc m)) refl
 
 -- a statement behind whole lines stands at its margin
 gap_indent : (m : ℕ) (lines : Bytes) (texts : List Bytes) → Whole lines → indent (gap_to_margin m lines texts) ≡ replicate m space
-gap_indent m lines texts h = h (lines_at m texts ++ replicate m space) ∙ (whole_lines m texts (replicate m space) ∙ margin_indent m)
+gap_indent m lines texts h = h (indented_lines m texts ++ replicate m space) ∙ (whole_lines m texts (replicate m space) ∙ margin_indent m)
 
 deeper_margin : (m : ℕ) → replicate (m + 4) space ≡ replicate m space ++ space ∷ replicate 3 space
 deeper_margin m = sym (replicate-append-replicate m 4 space)
@@ -126,7 +126,7 @@ FirstAt gap [] = ⊥
 FirstAt gap (x ∷ xs) = (l : Leaf) × (x ≡ p.Leaf l) × (l.gap ≡ gap)
 
 row_first : (kind : Kind) (open_ : Bool) (m : ℕ) (gap : Bytes) (xs : List Expr) (tail : List Part) (word : Bytes) (rest : Shape) → is_empty xs ≡ false →
-    Fits IsSort (tok (keyword word) rest) (map piece_part (rowed kind open_ m gap m (drawings xs)) ++ tail) → FirstAt gap (map piece_part (rowed kind open_ m gap m (drawings xs)) ++ tail)
+    Fits IsSort (tok (one_keyword word) rest) (map piece_part (rowed kind open_ m gap m (drawings xs)) ++ tail) → FirstAt gap (map piece_part (rowed kind open_ m gap m (drawings xs)) ++ tail)
 row_first kind open_ m gap [] tail word rest s h = absurd (true≢false s)
 row_first kind open_ m gap (Token t ∷ xs) tail word rest s h = (record { class = t.class; gap = gap; token = t.text }, refl, refl)
 row_first kind open_ m gap (Form' kind' z parts z' items end_ split open_' comments ∷ xs) tail word rest s h = no_such h.0
@@ -144,7 +144,7 @@ first_leaf gap ls ms h = ap (λ z. first_indent (z ++ ms)) h.2 ∙ ap indent h.3
 -- ---- the parts of a statement
 
 -- a header at its indent: its first token has that, and no other one is an elif or an else
-parts_owned : (i gap : Bytes) (xs : List Part) (word : Bytes) (rest : Shape) → indent gap ≡ i → FirstAt gap xs → Fits IsSort (tok (keyword word) rest) xs → AllByRecursion LegalBzlPart xs →
+parts_owned : (i gap : Bytes) (xs : List Part) (word : Bytes) (rest : Shape) → indent gap ≡ i → FirstAt gap xs → Fits IsSort (tok (one_keyword word) rest) xs → AllByRecursion LegalBzlPart xs →
     ((d : ℕ) (ps : List Part) → Fits (At d) rest ps → AllByRecursion (Owned i) ps) → AllByRecursion (Owned i) xs
 parts_owned i gap [] word rest e f h l plain = absurd f
 parts_owned i gap (x ∷ xs) word rest e f h l plain =
@@ -192,10 +192,10 @@ mutual
   branches_owned n end_of-Branch g h m lines w = tt
   branches_owned n (more_of-Branch head size statements end_ rest) g h m lines w =
       let gap : Bytes = gap_to_margin m lines head.comments.before in
-      let left : Bytes = left_statements (m + 4) [] statements ++ lines_at (m + 4) end_ in
+      let left : Bytes = left_statements (m + 4) [] statements ++ indented_lines (m + 4) end_ in
       all_joined (Owned (replicate m space)) (header_parts m gap head) _ (header_owned (replicate m space) m gap head g.0 (gap_indent m lines head.comments.before w)) (
         suite_owned m (newline_part head.comments.suffix ∷ statement_parts (m + 4) [] statements) (tt, statements_indented _ statements h.1 (m + 4) [] (λ t. refl)),
-        branches_owned _ rest g.1 h.3 m left (whole_append (left_statements (m + 4) [] statements) (lines_at (m + 4) end_) (whole_statements _ statements (m + 4) [] (λ t. refl)) (whole_lines (m + 4) end_)),
+        branches_owned _ rest g.1 h.3 m left (whole_append (left_statements (m + 4) [] statements) (indented_lines (m + 4) end_) (whole_statements _ statements (m + 4) [] (λ t. refl)) (whole_lines (m + 4) end_)),
       )
 
   statements_indented : (n : _) (r : Row_of-Statement n) → AreProperStatements r → (m : ℕ) (lines : Bytes) → Whole lines → AreIndented (replicate m space) (statement_parts m lines r)
@@ -207,8 +207,8 @@ mutual
 lines_indented : (xs : List BzlItem) → AllByRecursion IsProperBzlItem xs → (lines : Bytes) → Whole lines → AreIndented [] (bzl_lines lines xs)
 lines_indented [] h lines w = (tt, tt)
 lines_indented (b.Block texts ∷ xs) h lines w =
-    lines_indented xs h.1 ((lines ++ lines_at 0 texts) ++ before_others (b.Block texts) xs)
-    (whole_append (lines ++ lines_at 0 texts) (before_others (b.Block texts) xs) (whole_append lines (lines_at 0 texts) w (whole_lines 0 texts)) (whole_others (b.Block texts) xs))
+    lines_indented xs h.1 ((lines ++ indented_lines 0 texts) ++ before_others (b.Block texts) xs)
+    (whole_append (lines ++ indented_lines 0 texts) (before_others (b.Block texts) xs) (whole_append lines (indented_lines 0 texts) w (whole_lines 0 texts)) (whole_others (b.Block texts) xs))
 lines_indented (b.Statement x ∷ xs) h lines w =
     (statement_indented x h.0 0 lines w, lines_indented xs h.1 (left_behind 0 x ++ before_others (b.Statement x) xs) (whole_append (left_behind 0 x) (before_others (b.Statement x) xs) (whole_left x 0) (whole_others (b.Statement x) xs)))
 

@@ -6,32 +6,32 @@ use Rattle.bz_value.specs.declared.value.Expr.{Expr}
 use Rattle.bz_value.specs.declared.value.Form.{Form}
 use Rattle.bz_items.specs.Characters.{Bytes, line_feed, space}
 use Rattle.bz_value.specs.Proper.{comments_of}
-use Rattle.bz_write.specs.Layout.{behind}
+use Rattle.bz_write.specs.Layout.{suffix_text}
 use Rattle.bz_write.specs.Written.{text_of}
 use Rattle.bz_write.specs.Writings.{row_text, body_text}
 use Rattle.bz_suite.specs.declared.value.Statement.{Statement}
 use Rattle.bz_suite.specs.declared.value.Branch.{Branch}
 use Rattle.bz_suite.specs.declared.value.BzlItem.{BzlItem}
-use Rattle.bz_indent.specs.Layout.{line_at, lines_at, is_def, head_text, header_text, simple_text, statement_text, branch_text, all_branches, all_statements, bzl_item_text, before_others, bzl_layout}
+use Rattle.bz_indent.specs.Layout.{indented_line, indented_lines, is_def, text_of_head, header_text, simple_text, statement_text, branch_text, all_branches, all_statements, bzl_item_text, before_others, bzl_layout}
 
 -- ---- lines
 
-line_length : (m : ℕ) (text : Bytes) → length (line_at m text) ≡ m + (length text + 1)
+line_length : (m : ℕ) (text : Bytes) → length (indented_line m text) ≡ m + (length text + 1)
 line_length m text =
     let margin = length-replicate m space in
-    let all : length (line_at m text) ≡ _ = length-append _ (text ++ line_feed ∷ []) in
+    let all : length (indented_line m text) ≡ _ = length-append _ (text ++ line_feed ∷ []) in
     let inner = length-append text (line_feed ∷ []) in
     omega (arith, margin, all, inner)
 
-lines_first : (m : ℕ) (t : Bytes) (ts : List Bytes) → length (lines_at m (t ∷ ts)) ≡ m + (length t + (1 + length (lines_at m ts)))
+lines_first : (m : ℕ) (t : Bytes) (ts : List Bytes) → length (indented_lines m (t ∷ ts)) ≡ m + (length t + (1 + length (indented_lines m ts)))
 lines_first m t ts =
-    let all : length (lines_at m (t ∷ ts)) ≡ _ = length-append (line_at m t) (lines_at m ts) in
+    let all : length (indented_lines m (t ∷ ts)) ≡ _ = length-append (indented_line m t) (indented_lines m ts) in
     let line = line_length m t in
     omega (arith, all, line)
 
 pub lines_next : (m : ℕ) (ts : List Bytes) (k : ℕ) (d : Bytes) → k < length ts →
-    length (lines_at m (drop k ts)) ≡ m + (length (get_or ts k d) + (1 + length (lines_at m (drop (k + 1) ts))))
-lines_next m ts k d h = ap (λ z. length (lines_at m z)) (drop_more ts k d h) ∙ lines_first m (get_or ts k d) (drop (k + 1) ts)
+    length (indented_lines m (drop k ts)) ≡ m + (length (get_or ts k d) + (1 + length (indented_lines m (drop (k + 1) ts))))
+lines_next m ts k d h = ap (λ z. length (indented_lines m z)) (drop_more ts k d h) ∙ lines_first m (get_or ts k d) (drop (k + 1) ts)
 
 -- ---- headers and simple statements
 
@@ -49,30 +49,30 @@ head_size true row body =
     omega (arith, all)
 head_size false row body = length-append row []
 
-pub def_length : (f : Form) (m : ℕ) → is_def f ≡ true → length (head_text m f) ≡ length (row_text f.kind f.open_ m m f.parts) + (1 + length (body_text f m 41))
+pub def_length : (f : Form) (m : ℕ) → is_def f ≡ true → length (text_of_head m f) ≡ length (row_text f.kind f.open_ m m f.parts) + (1 + length (body_text f m 41))
 unfolding params params_size
 def_length f m is =
     head_size (is_def f) (row_text f.kind f.open_ m m f.parts) (body_text f m 41)
     ∙ ap (λ (b : Bool). length (row_text f.kind f.open_ m m f.parts) + params_size b (body_text f m 41)) is
 
-pub row_length : (f : Form) (m : ℕ) → is_def f ≡ false → length (head_text m f) ≡ length (row_text f.kind f.open_ m m f.parts) + 0
+pub row_length : (f : Form) (m : ℕ) → is_def f ≡ false → length (text_of_head m f) ≡ length (row_text f.kind f.open_ m m f.parts) + 0
 unfolding params params_size
 row_length f m is =
     head_size (is_def f) (row_text f.kind f.open_ m m f.parts) (body_text f m 41)
     ∙ ap (λ (b : Bool). length (row_text f.kind f.open_ m m f.parts) + params_size b (body_text f m 41)) is
 
-pub header_length : (f : Form) (m : ℕ) → length (header_text m f) ≡ length (lines_at m f.comments.before) + (m + (length (head_text m f) + (1 + (length (behind f.comments.suffix) + 1))))
+pub header_length : (f : Form) (m : ℕ) → length (header_text m f) ≡ length (indented_lines m f.comments.before) + (m + (length (text_of_head m f) + (1 + (length (suffix_text f.comments.suffix) + 1))))
 header_length f m =
-    let all : length (header_text m f) ≡ _ = length-append (lines_at m f.comments.before) (line_at m (head_text m f ++ (codes ":" ++ behind f.comments.suffix))) in
-    let line = line_length m (head_text m f ++ (codes ":" ++ behind f.comments.suffix)) in
-    let inner = length-append (head_text m f) (codes ":" ++ behind f.comments.suffix) in
+    let all : length (header_text m f) ≡ _ = length-append (indented_lines m f.comments.before) (indented_line m (text_of_head m f ++ (codes ":" ++ suffix_text f.comments.suffix))) in
+    let line = line_length m (text_of_head m f ++ (codes ":" ++ suffix_text f.comments.suffix)) in
+    let inner = length-append (text_of_head m f) (codes ":" ++ suffix_text f.comments.suffix) in
     omega (arith, all, line, inner)
 
-pub simple_length : (x : Expr) (m : ℕ) → length (simple_text m x) ≡ length (lines_at m (comments_of x).before) + (m + (length (text_of x m) + (length (behind (comments_of x).suffix) + 1)))
+pub simple_length : (x : Expr) (m : ℕ) → length (simple_text m x) ≡ length (indented_lines m (comments_of x).before) + (m + (length (text_of x m) + (length (suffix_text (comments_of x).suffix) + 1)))
 simple_length x m =
-    let all : length (simple_text m x) ≡ _ = length-append (lines_at m (comments_of x).before) (line_at m (text_of x m ++ behind (comments_of x).suffix)) in
-    let line = line_length m (text_of x m ++ behind (comments_of x).suffix) in
-    let inner = length-append (text_of x m) (behind (comments_of x).suffix) in
+    let all : length (simple_text m x) ≡ _ = length-append (indented_lines m (comments_of x).before) (indented_line m (text_of x m ++ suffix_text (comments_of x).suffix)) in
+    let line = line_length m (text_of x m ++ suffix_text (comments_of x).suffix) in
+    let inner = length-append (text_of x m) (suffix_text (comments_of x).suffix) in
     omega (arith, all, line, inner)
 
 -- ---- suites
@@ -85,10 +85,10 @@ pub statements_next : (m : ℕ) (xs : List Statement) (k : ℕ) (d : Statement) 
     length (all_statements m (drop k xs)) ≡ length (statement_text m (get_or xs k d)) + length (all_statements m (drop (k + 1) xs))
 statements_next m xs k d h = ap (λ z. length (all_statements m z)) (drop_more xs k d h) ∙ length-append (statement_text m (get_or xs k d)) (all_statements m (drop (k + 1) xs))
 
-pub branch_length : (x : Branch) (m : ℕ) → length (branch_text m x) ≡ length (header_text m x.head) + (length (all_statements (m + 4) x.statements) + length (lines_at (m + 4) x.end_))
+pub branch_length : (x : Branch) (m : ℕ) → length (branch_text m x) ≡ length (header_text m x.head) + (length (all_statements (m + 4) x.statements) + length (indented_lines (m + 4) x.end_))
 branch_length x m =
-    length-append (header_text m x.head) (all_statements (m + 4) x.statements ++ lines_at (m + 4) x.end_)
-    ∙ ap (λ n. length (header_text m x.head) + n) (length-append (all_statements (m + 4) x.statements) (lines_at (m + 4) x.end_))
+    length-append (header_text m x.head) (all_statements (m + 4) x.statements ++ indented_lines (m + 4) x.end_)
+    ∙ ap (λ n. length (header_text m x.head) + n) (length-append (all_statements (m + 4) x.statements) (indented_lines (m + 4) x.end_))
 
 -- ---- the file
 

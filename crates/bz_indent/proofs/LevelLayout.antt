@@ -8,7 +8,7 @@ use Rattle.bz_value.specs.declared.value.Expr.{Expr}
 use Rattle.bz_value.specs.declared.value.Form.{Form}
 use Rattle.bz_value.specs.declared.value.Item.TheVariants as i
 use Rattle.bz_items.specs.Characters.{Bytes}
-use Rattle.bz_write.specs.Layout.{rowed, stacked, joined, is_broken, is_tuple, behind}
+use Rattle.bz_write.specs.Layout.{rowed, stacked, joined, is_broken, is_tuple, suffix_text}
 use Rattle.bz_write.specs.Written.{piece_text}
 use Rattle.bz_write.specs.Writings.{writings, row_text, body_text, stacked_text, joined_text}
 use Rattle.bz_write.specs.Flags.{with_flags}
@@ -18,7 +18,7 @@ use Rattle.bz_tidy.specs.Laws.{FlagsSettle}
 use Rattle.bz_suite.specs.declared.value.Statement.{Statement, Simple, Compound', Row_of-Branch, end_of-Branch, more_of-Branch, Row_of-Statement, end_of-Statement, more_of-Statement}
 use Rattle.bz_suite.specs.declared.value.BzlItem.{BzlItem}
 use Rattle.bz_suite.specs.declared.value.BzlItem.TheVariants as b
-use Rattle.bz_indent.specs.Layout.{lines_at, line_at, is_def, head_text, header_text, simple_text, statement_text, branches_text, statements_text, all_branches, all_statements, bzl_item_text, between_items, before_others, bzl_layout}
+use Rattle.bz_indent.specs.Layout.{indented_lines, indented_line, is_def, text_of_head, header_text, simple_text, statement_text, branches_text, statements_text, all_branches, all_statements, bzl_item_text, between_items, before_others, bzl_layout}
 use Rattle.bz_indent.specs.Level.{level_head, level_statement, each_branch, each_statement, level_item, level}
 use Rattle.bz_indent.proofs.Rows.{text_Compound}
 
@@ -65,11 +65,11 @@ module _ (flags : FlagsSettle) where
   same_head_by false m f = ap (λ z. z ++ []) (same_row f.kind f.open_ m m f.parts)
 
   -- a header is written as before
-  same_head : (m : ℕ) (f : Form) → head_text m (level_head f) ≡ head_text m f
+  same_head : (m : ℕ) (f : Form) → text_of_head m (level_head f) ≡ text_of_head m f
   same_head m f = same_head_by (is_def f) m f
 
   same_header : (m : ℕ) (f : Form) → header_text m (level_head f) ≡ header_text m f
-  same_header m f = ap (λ z. lines_at m f.comments.before ++ line_at m (z ++ (codes ":" ++ behind f.comments.suffix))) (same_head m f)
+  same_header m f = ap (λ z. indented_lines m f.comments.before ++ indented_line m (z ++ (codes ":" ++ suffix_text f.comments.suffix))) (same_head m f)
 
   -- ---- statements
 
@@ -86,7 +86,7 @@ module _ (flags : FlagsSettle) where
     same_branches : (m : ℕ) (n : _) (r : Row_of-Branch n) → all_branches m (each_branch r) ≡ branches_text m r
     same_branches m n end_of-Branch = refl
     same_branches m n (more_of-Branch head size statements end_ rest) =
-        two (λ z w. z ++ w) (two (λ z w. z ++ (w ++ lines_at (m + 4) end_)) (same_header m head) (same_statements (m + 4) _ statements)) (same_branches m _ rest)
+        two (λ z w. z ++ w) (two (λ z w. z ++ (w ++ indented_lines (m + 4) end_)) (same_header m head) (same_statements (m + 4) _ statements)) (same_branches m _ rest)
 
     same_statements : (m : ℕ) (n : _) (r : Row_of-Statement n) → all_statements m (each_statement r) ≡ statements_text m r
     same_statements m n end_of-Statement = refl

@@ -5,14 +5,14 @@ use Rattle.bz_tree.specs.declared.kind.Kind.{Kind}
 use Rattle.bz_tree.specs.declared.kind.Kind.TheVariants as k
 use Rattle.bz_tree.specs.declared.tree.Part.{Part}
 use Rattle.bz_tree.specs.Legal.{IsSort}
-use Rattle.bz_tree.specs.Shapes.{Shape, Fits, is_kind, keyword}
+use Rattle.bz_tree.specs.Shapes.{Shape, Fits, is_kind, one_keyword}
 use Rattle.bz_tree.specs.Spots.{Spot, Begins, Within}
 use Rattle.bz_tree.specs.Suites.{def_header, for_header, test_header, else_header}
 use Rattle.bz_value.specs.declared.value.Expr.{Expr, Token, Form'}
 use Rattle.bz_value.specs.declared.value.Form.{Form}
 use Rattle.bz_value.specs.LineShapes.{line_shape}
 use Rattle.bz_value.specs.Proper.{IsComment, AreComments, behind_expr}
-use Rattle.bz_value.specs.Roots.{root, mark, each_with_comma}
+use Rattle.bz_value.specs.Roots.{root, mark_leaf, each_with_comma}
 use Rattle.bz_write.specs.Layout.{is_broken}
 use Rattle.bz_write.specs.Flags.{with_flags}
 use Rattle.bz_write.proofs.Made.{two}
@@ -50,7 +50,7 @@ none_level f e h = (ap (map with_flags) h.0, h.1, ap (λ z. if z then is_broken 
 
 -- what stands behind the parts of a header
 abbrev end_of : Bool → List Part → List Part
-end_of def items = if def then mark 40 ∷ (each_with_comma items ++ mark 41 ∷ mark 58 ∷ []) else mark 58 ∷ []
+end_of def items = if def then mark_leaf 40 ∷ (each_with_comma items ++ mark_leaf 41 ∷ mark_leaf 58 ∷ []) else mark_leaf 58 ∷ []
 
 -- a header stays one of its shape
 header_level : (kind : Kind) (shape : Shape) (f : Form) → IsHeader kind shape f → IsHeader kind shape (level_head f)
@@ -71,14 +71,14 @@ none_more fs e = ap (map level_head) e
 -- all headers of a statement
 alternatives_level : (fs : List Form) → AreAlternatives fs → AreAlternatives (map level_head fs)
 alternatives_level [] h = tt
-alternatives_level (f ∷ fs) (inl h) = inl (header_level k.IfStmt (test_header (keyword (codes "elif"))) f h.0, alternatives_level fs h.1)
+alternatives_level (f ∷ fs) (inl h) = inl (header_level k.IfStmt (test_header (one_keyword (codes "elif"))) f h.0, alternatives_level fs h.1)
 alternatives_level (f ∷ fs) (inr h) = inr (header_level k.IfStmt else_header f h.0, none_more fs h.1)
 
 headers_level : (fs : List Form) → AreHeaders fs → AreHeaders (map level_head fs)
 headers_level [] h = h
 headers_level (f ∷ fs) (inl h) = inl (header_level k.Def def_header f h.0, none_more fs h.1)
 headers_level (f ∷ fs) (inr (inl h)) = inr (inl (header_level k.ForStmt for_header f h.0, none_more fs h.1))
-headers_level (f ∷ fs) (inr (inr h)) = inr (inr (header_level k.IfStmt (test_header (keyword (codes "if"))) f h.0, alternatives_level fs h.1))
+headers_level (f ∷ fs) (inr (inr h)) = inr (inr (header_level k.IfStmt (test_header (one_keyword (codes "if"))) f h.0, alternatives_level fs h.1))
 
 -- ---- statements and headers with their suites, told of lists
 

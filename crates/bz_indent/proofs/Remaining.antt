@@ -8,14 +8,14 @@ use Rattle.bz_value.specs.declared.value.Form.{Form}
 use Rattle.bz_value.specs.declared.comments.Comments.{Comments}
 use Rattle.bz_value.specs.Proper.{comments_of}
 use Rattle.bz_write.specs.declared.room.NoRoom.{NoRoom}
-use Rattle.bz_write.specs.Layout.{behind}
+use Rattle.bz_write.specs.Layout.{suffix_text}
 use Rattle.bz_write.specs.Written.{text_of}
 use Rattle.bz_write.specs.Writings.{row_text, body_text}
 use Rattle.bz_write.proofs.Made.{two}
 use Rattle.bz_suite.specs.declared.value.Statement.{Statement}
 use Rattle.bz_suite.specs.declared.value.Branch.{Branch}
 use Rattle.bz_suite.specs.declared.value.BzlItem.{BzlItem}
-use Rattle.bz_indent.specs.Layout.{lines_at, is_def, head_text, header_text, simple_text, statement_text, branch_text, all_branches, all_statements, bzl_item_text, before_others, bzl_layout}
+use Rattle.bz_indent.specs.Layout.{indented_lines, is_def, text_of_head, header_text, simple_text, statement_text, branch_text, all_branches, all_statements, bzl_item_text, before_others, bzl_layout}
 use Rattle.bz_indent.proofs.Lengths.{lines_next, header_length, simple_length, branch_length, branches_next, statements_next, layout_next}
 
 -- ---- part by part
@@ -48,35 +48,35 @@ same_fault r fault other h e = let p = err_from_is_err_and r h in sym (p.1 ∙ a
 -- ---- the parts
 
 pub header_parts : (f : Form) (m : ℕ) (before : List Bytes) (suffix : Option Bytes) → before ≡ f.comments.before → suffix ≡ f.comments.suffix →
-    length (header_text m f) ≡ length (lines_at m before) + (m + (length (head_text m f) + (1 + (length (behind suffix) + 1))))
+    length (header_text m f) ≡ length (indented_lines m before) + (m + (length (text_of_head m f) + (1 + (length (suffix_text suffix) + 1))))
 header_parts f m before suffix is is_suffix =
-    header_length f m ∙ two (λ a z. length (lines_at m a) + (m + (length (head_text m f) + (1 + (length (behind z) + 1))))) (sym is) (sym is_suffix)
+    header_length f m ∙ two (λ a z. length (indented_lines m a) + (m + (length (text_of_head m f) + (1 + (length (suffix_text z) + 1))))) (sym is) (sym is_suffix)
 
 pub simple_parts : (x : Expr) (m : ℕ) (comments : Comments) (before : List Bytes) (suffix : Option Bytes) → comments ≡ comments_of x → before ≡ comments.before → suffix ≡ comments.suffix →
-    length (simple_text m x) ≡ length (lines_at m before) + (m + (length (text_of x m) + (length (behind suffix) + 1)))
+    length (simple_text m x) ≡ length (indented_lines m before) + (m + (length (text_of x m) + (length (suffix_text suffix) + 1)))
 simple_parts x m comments before suffix own is is_suffix =
     simple_length x m
-    ∙ two (λ a z. length (lines_at m a) + (m + (length (text_of x m) + (length (behind z) + 1)))) (ap (λ c. c.before) (sym own) ∙ sym is) (ap (λ c. c.suffix) (sym own) ∙ sym is_suffix)
+    ∙ two (λ a z. length (indented_lines m a) + (m + (length (text_of x m) + (length (suffix_text z) + 1)))) (ap (λ c. c.before) (sym own) ∙ sym is) (ap (λ c. c.suffix) (sym own) ∙ sym is_suffix)
 
 pub branch_parts : (x : Branch) (m inner : ℕ) (statements : List Statement) (end_ : List Bytes) → inner ≡ m + 4 → statements ≡ x.statements → end_ ≡ x.end_ →
-    length (branch_text m x) ≡ length (header_text m x.head) + (length (all_statements inner statements) + length (lines_at inner end_))
+    length (branch_text m x) ≡ length (header_text m x.head) + (length (all_statements inner statements) + length (indented_lines inner end_))
 branch_parts x m inner statements end_ deep is is_end =
     branch_length x m
     ∙ ap (λ z. length (header_text m x.head) + z)
-    (two (λ a b. a + b) (two (λ n z. length (all_statements n z)) (sym deep) (sym is)) (two (λ n z. length (lines_at n z)) (sym deep) (sym is_end)))
+    (two (λ a b. a + b) (two (λ n z. length (all_statements n z)) (sym deep) (sym is)) (two (λ n z. length (indented_lines n z)) (sym deep) (sym is_end)))
 
 -- a header is as long as the row of its parts at least
-pub row_within : (f : Form) (m room : ℕ) → room < length (row_text f.kind f.open_ m m f.parts) → room < length (head_text m f)
+pub row_within : (f : Form) (m room : ℕ) → room < length (row_text f.kind f.open_ m m f.parts) → room < length (text_of_head m f)
 row_within f m room less =
-    let all : length (head_text m f) ≡ length (row_text f.kind f.open_ m m f.parts) + length (if is_def f then codes "(" ++ body_text f m 41 else []) = length-append _ _ in
+    let all : length (text_of_head m f) ≡ length (row_text f.kind f.open_ m m f.parts) + length (if is_def f then codes "(" ++ body_text f m 41 else []) = length-append _ _ in
     omega (arith, all, less)
 
 -- ---- one turn of each loop
 
 pub lines_here : (m : ℕ) (texts : List Bytes) (k whole room left size : ℕ) (text : Bytes) → k < length texts → text ≡ get_or texts k text → size ≡ length text →
-    whole + left ≡ room + length (lines_at m (drop k texts)) → whole + left ≡ room + (m + (size + (1 + length (lines_at m (drop (k + 1) texts)))))
+    whole + left ≡ room + length (indented_lines m (drop k texts)) → whole + left ≡ room + (m + (size + (1 + length (indented_lines m (drop (k + 1) texts)))))
 lines_here m texts k whole room left size text h is is_size sum =
-    sum ∙ ap (λ z. room + z) (lines_next m texts k text h ∙ ap (λ n. m + (n + (1 + length (lines_at m (drop (k + 1) texts))))) (ap length (sym is) ∙ sym is_size))
+    sum ∙ ap (λ z. room + z) (lines_next m texts k text h ∙ ap (λ n. m + (n + (1 + length (indented_lines m (drop (k + 1) texts))))) (ap length (sym is) ∙ sym is_size))
 
 pub branches_here : (m : ℕ) (xs : List Branch) (k whole room left : ℕ) (x : Branch) → k < length xs → x ≡ get_or xs k x →
     whole + left ≡ room + length (all_branches m (drop k xs)) → whole + left ≡ room + (length (branch_text m x) + length (all_branches m (drop (k + 1) xs)))

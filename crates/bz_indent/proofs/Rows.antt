@@ -4,7 +4,7 @@ use mathlib.Core.Former.{Count}
 use Rattle.bz_suite.specs.declared.value.Statement.{Statement, Simple, Compound', Row_of-Branch, end_of-Branch, more_of-Branch, Row_of-Statement, end_of-Statement, more_of-Statement, items-the_row-Branch, items-the_row-Statement, items_hidden-the_row-Branch-1, items_shown-the_row-Statement-0}
 use Rattle.bz_suite.specs.declared.value.Statement.TheVariants as s
 use Rattle.bz_suite.specs.declared.value.Branch.{Branch}
-use Rattle.bz_indent.specs.Layout.{statement_text, branches_text, statements_text, all_branches, all_statements, header_text, lines_at}
+use Rattle.bz_indent.specs.Layout.{statement_text, branches_text, statements_text, all_branches, all_statements, header_text, indented_lines}
 use Rattle.bz_indent.specs.Level.{level_statement, level_branch, each_branch, each_statement, level_head}
 
 both : {X Y Z : Type 0} (f : X → Y → Z) {h h' : X} {i i' : Y} → h ≡ h' → i ≡ i' → f h i ≡ f h' i'
@@ -28,7 +28,7 @@ statements_row m n (more_of-Statement x rest) = ap (λ t. statement_text m x ++ 
 branches_row : (m : ℕ) (n : _) (r : Row_of-Branch n) → branches_text m r ≡ all_branches m (items-the_row-Branch n r)
 branches_row m n end_of-Branch = refl
 branches_row m n (more_of-Branch head size statements end_ rest) =
-    both (λ s t. (header_text m head ++ (s ++ lines_at (m + 4) end_)) ++ t)
+    both (λ s t. (header_text m head ++ (s ++ indented_lines (m + 4) end_)) ++ t)
     (statements_row (m + 4) _ statements ∙ ap (all_statements (m + 4)) (sym (items_shown-the_row-Statement-0 size statements)))
     (branches_row m _ rest)
 

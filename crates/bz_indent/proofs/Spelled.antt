@@ -13,13 +13,14 @@ use Rattle.bz_tree.specs.Spell.{spell_part, spell_node}
 use Rattle.bz_tree.specs.Spots.{Spot, Begins, Within}
 use Rattle.bz_tree.proofs.Spells.{spell_Node}
 use Rattle.bz_value.specs.declared.value.Expr.{Expr}
+use Rattle.bz_value.specs.Roots.{mark_leaf}
 use Rattle.bz_value.specs.declared.value.Form.{Form}
 use Rattle.bz_value.specs.Empty.{is_empty}
 use Rattle.bz_value.specs.Proper.{behind_expr, comments_of}
 use Rattle.bz_items.specs.Characters.{Bytes, line_feed, space}
-use Rattle.bz_write.specs.Layout.{rowed, stacked, joined, behind, is_broken, is_tuple}
+use Rattle.bz_write.specs.Layout.{rowed, stacked, joined, suffix_text, is_broken, is_tuple}
 use Rattle.bz_write.specs.Written.{text_of}
-use Rattle.bz_write.specs.Drawn.{part_of, piece_part, drawings, body}
+use Rattle.bz_write.specs.Drawn.{part_of, piece_part, drawings, drawn_body}
 use Rattle.bz_write.specs.Writings.{writings, row_text, stacked_text, joined_text, body_text}
 use Rattle.bz_write.proofs.Readable.{Readable, readable}
 use Rattle.bz_write.proofs.Spelled.{both, same_rowed, same_body, row_gap, spell_expr, agree_all}
@@ -27,8 +28,8 @@ use Rattle.bz_suite.specs.declared.value.Statement.{Statement, Simple, Compound'
 use Rattle.bz_suite.specs.declared.value.BzlItem.{BzlItem}
 use Rattle.bz_suite.specs.declared.value.BzlItem.TheVariants as b
 use Rattle.bz_suite.specs.Proper.{AreHeaders, AreHeaderParts, AreParameters, IsProperStatement, AreProperBranches, AreProperStatements, IsProperBzlItem, IsProperBzl, heads}
-use Rattle.bz_indent.specs.Layout.{lines_at, is_def, head_text, statement_text, branches_text, statements_text, before_others, bzl_layout}
-use Rattle.bz_indent.specs.Drawn.{gap_to_margin, newline_part, first_kind, mark_part, header_parts, left_behind, left_branches, left_statements, statement_part, branch_parts, statement_parts, bzl_lines, bzl_drawn}
+use Rattle.bz_indent.specs.Layout.{indented_lines, is_def, text_of_head, statement_text, branches_text, statements_text, before_others, bzl_layout}
+use Rattle.bz_indent.specs.Drawn.{gap_to_margin, newline_part, first_kind, header_parts, left_behind, left_branches, left_statements, statement_part, branch_parts, statement_parts, bzl_lines, bzl_drawn}
 use Rattle.bz_indent.proofs.Headings.{Heading, Headings, headings, some_part}
 
 -- ---- rows and bodies
@@ -48,23 +49,23 @@ broken_spelled : (broken one : Bool) (m closer : ℕ) (end_ : List Bytes) (xs : 
 broken_spelled true one m closer end_ xs h = same_body true one m closer end_ (drawings xs) (writings xs) (agree_all xs h)
 broken_spelled false one m closer end_ xs h = same_body false one m closer end_ (drawings xs) (writings xs) (agree_all xs h)
 
-body_spelled : (f : Form) (m closer : ℕ) → AllByRecursion Readable f.seq.items → flat_map spell_part (map piece_part (body f m closer)) ≡ body_text f m closer
+body_spelled : (f : Form) (m closer : ℕ) → AllByRecursion Readable f.seq.items → flat_map spell_part (map piece_part (drawn_body f m closer)) ≡ body_text f m closer
 body_spelled f m closer h = broken_spelled (is_broken f.kind f.seq.split f.seq.items f.seq.end_) (is_tuple f.kind && nat_eq (length f.seq.items) 1) m closer f.seq.end_ f.seq.items h
 
 -- ---- headers
 
 brackets_spelled : (b : Bool) (ps : List Part) (t : Bytes) → flat_map spell_part ps ≡ t →
-    flat_map spell_part ((if b then mark_part 40 ∷ ps else []) ++ mark_part 58 ∷ []) ≡ (if b then codes "(" ++ t else []) ++ codes ":"
-brackets_spelled true ps t e = ap (λ z. 40 ∷ z) (flat_map-append spell_part ps (mark_part 58 ∷ []) ∙ ap (λ z. z ++ codes ":") e)
+    flat_map spell_part ((if b then mark_leaf 40 ∷ ps else []) ++ mark_leaf 58 ∷ []) ≡ (if b then codes "(" ++ t else []) ++ codes ":"
+brackets_spelled true ps t e = ap (λ z. 40 ∷ z) (flat_map-append spell_part ps (mark_leaf 58 ∷ []) ∙ ap (λ z. z ++ codes ":") e)
 brackets_spelled false ps t e = refl
 
 regroup : (a b c d : Bytes) → (a ++ b) ++ (c ++ d) ≡ a ++ ((b ++ c) ++ d)
 regroup a b c d = simp append_assoc
 
-header_spelled : (m : ℕ) (gap : Bytes) (f : Form) → Heading f → AllByRecursion Readable f.parts → AllByRecursion Readable f.seq.items → flat_map spell_part (header_parts m gap f) ≡ gap ++ (head_text m f ++ codes ":")
+header_spelled : (m : ℕ) (gap : Bytes) (f : Form) → Heading f → AllByRecursion Readable f.parts → AllByRecursion Readable f.seq.items → flat_map spell_part (header_parts m gap f) ≡ gap ++ (text_of_head m f ++ codes ":")
 header_spelled m gap f h r i =
     flat_map-append spell_part (map piece_part (rowed f.kind f.open_ m gap m (drawings f.parts))) _
-    ∙ (both (row_spelled f.kind f.open_ m gap f.parts (some_part f h) r) (brackets_spelled (is_def f) (map piece_part (body f m 41)) (body_text f m 41) (body_spelled f m 41 i))
+    ∙ (both (row_spelled f.kind f.open_ m gap f.parts (some_part f h) r) (brackets_spelled (is_def f) (map piece_part (drawn_body f m 41)) (body_text f m 41) (body_spelled f m 41 i))
     ∙ regroup gap (row_text f.kind f.open_ m m f.parts) (if is_def f then codes "(" ++ body_text f m 41 else []) (codes ":"))
 
 -- a simple statement: lines, comments, margin, text, suffix
@@ -115,8 +116,8 @@ mutual
   -- what a statement spells, and what it leaves behind
   statement_spelled : (x : Statement) → IsProperStatement x → (m : ℕ) (lines : Bytes) → spell_part (statement_part m lines x) ++ left_behind m x ≡ lines ++ statement_text m x
   statement_spelled (Simple x) h m lines =
-      ap (λ z. z ++ []) (spell_Node (record { kind = k.Line; parts = part_of x (gap_to_margin m lines (comments_of x).before) m ∷ newline_part (comments_of x).suffix ∷ [] }) ∙ ap (λ z. z ++ ((behind (comments_of x).suffix ++ line_feed ∷ []) ++ [])) (spell_expr x (readable Begins x h.1) (gap_to_margin m lines (comments_of x).before) m))
-      ∙ simple_grouped lines (lines_at m (comments_of x).before) (replicate m space) (text_of x m) (behind (comments_of x).suffix)
+      ap (λ z. z ++ []) (spell_Node (record { kind = k.Line; parts = part_of x (gap_to_margin m lines (comments_of x).before) m ∷ newline_part (comments_of x).suffix ∷ [] }) ∙ ap (λ z. z ++ ((suffix_text (comments_of x).suffix ++ line_feed ∷ []) ++ [])) (spell_expr x (readable Begins x h.1) (gap_to_margin m lines (comments_of x).before) m))
+      ∙ simple_grouped lines (indented_lines m (comments_of x).before) (replicate m space) (text_of x m) (suffix_text (comments_of x).suffix)
   statement_spelled (Compound' size own) h m lines =
       ap (λ z. z ++ left_branches m [] own) (spell_Node (record { kind = first_kind own; parts = branch_parts m lines own }))
       ∙ (ap (λ z. flat_map spell_part (branch_parts m lines own) ++ z) (left_anew _ own m lines h.0) ∙ branches_spelled _ own (headings (heads own) h.0) h.1 m lines)
@@ -127,19 +128,19 @@ mutual
       let header : List Part = header_parts m (gap_to_margin m lines head.comments.before) head in
       let inner : List Part = statement_parts (m + 4) [] statements in
       let inner_left : Bytes = left_statements (m + 4) [] statements in
-      let left : Bytes = inner_left ++ lines_at (m + 4) end_ in
+      let left : Bytes = inner_left ++ indented_lines (m + 4) end_ in
       let suite : Part = p.Node (record { kind = k.Suite; parts = newline_part head.comments.suffix ∷ inner }) in
       let others : List Part = branch_parts m left rest in
-      let newline : Bytes = behind head.comments.suffix ++ line_feed ∷ [] in
+      let newline : Bytes = suffix_text head.comments.suffix ++ line_feed ∷ [] in
       let i : flat_map spell_part inner ++ inner_left ≡ statements_text (m + 4) statements = statements_spelled _ statements h.1 (m + 4) [] in
       let r : flat_map spell_part others ++ left_branches m left rest ≡ left ++ branches_text m rest = branches_spelled _ rest g.1 h.3 m left in
-      let front : flat_map spell_part header ≡ gap_to_margin m lines head.comments.before ++ (head_text m head ++ codes ":") =
+      let front : flat_map spell_part header ≡ gap_to_margin m lines head.comments.before ++ (text_of_head m head ++ codes ":") =
       header_spelled m (gap_to_margin m lines head.comments.before) head g.0 (parts_readable Begins head.parts g.0.proper.parts) (parameters_readable head.seq.items g.0.proper.parameters) in
       ap (λ z. z ++ left_branches m left rest) (flat_map-append spell_part header (suite ∷ others))
       ∙ (ap (λ z. (z ++ (spell_part suite ++ flat_map spell_part others)) ++ left_branches m left rest) front
-      ∙ (ap (λ z. ((gap_to_margin m lines head.comments.before ++ (head_text m head ++ codes ":")) ++ (z ++ flat_map spell_part others)) ++ left_branches m left rest) (spell_Node (record { kind = k.Suite; parts = newline_part head.comments.suffix ∷ inner }))
-      ∙ (branch_joined (gap_to_margin m lines head.comments.before ++ (head_text m head ++ codes ":")) newline (flat_map spell_part inner) inner_left (lines_at (m + 4) end_) (flat_map spell_part others) (left_branches m left rest) (statements_text (m + 4) statements) (branches_text m rest) i r
-      ∙ branch_grouped lines (lines_at m head.comments.before) (replicate m space) (head_text m head) (behind head.comments.suffix) (statements_text (m + 4) statements) (lines_at (m + 4) end_) (branches_text m rest))))
+      ∙ (ap (λ z. ((gap_to_margin m lines head.comments.before ++ (text_of_head m head ++ codes ":")) ++ (z ++ flat_map spell_part others)) ++ left_branches m left rest) (spell_Node (record { kind = k.Suite; parts = newline_part head.comments.suffix ∷ inner }))
+      ∙ (branch_joined (gap_to_margin m lines head.comments.before ++ (text_of_head m head ++ codes ":")) newline (flat_map spell_part inner) inner_left (indented_lines (m + 4) end_) (flat_map spell_part others) (left_branches m left rest) (statements_text (m + 4) statements) (branches_text m rest) i r
+      ∙ branch_grouped lines (indented_lines m head.comments.before) (replicate m space) (text_of_head m head) (suffix_text head.comments.suffix) (statements_text (m + 4) statements) (indented_lines (m + 4) end_) (branches_text m rest))))
 
   statements_spelled : (n : _) (r : Row_of-Statement n) → AreProperStatements r → (m : ℕ) (lines : Bytes) → flat_map spell_part (statement_parts m lines r) ++ left_statements m lines r ≡ lines ++ statements_text m r
   statements_spelled n end_of-Statement h m lines = sym (append-nil lines)
@@ -152,7 +153,7 @@ mutual
 lines_spelled : (xs : List BzlItem) → AllByRecursion IsProperBzlItem xs → (lines : Bytes) → flat_map spell_part (bzl_lines lines xs) ≡ lines ++ bzl_layout xs
 lines_spelled [] h lines = append-nil (lines ++ [])
 lines_spelled (b.Block texts ∷ xs) h lines =
-    lines_spelled xs h.1 ((lines ++ lines_at 0 texts) ++ before_others (b.Block texts) xs) ∙ block_joined lines (lines_at 0 texts) (before_others (b.Block texts) xs) (bzl_layout xs)
+    lines_spelled xs h.1 ((lines ++ indented_lines 0 texts) ++ before_others (b.Block texts) xs) ∙ block_joined lines (indented_lines 0 texts) (before_others (b.Block texts) xs) (bzl_layout xs)
 lines_spelled (b.Statement x ∷ xs) h lines =
     lines_joined (spell_part (statement_part 0 lines x)) (left_behind 0 x) (bzl_layout xs) lines (statement_text 0 x) (before_others (b.Statement x) xs) _
     (statement_spelled x h.0 0 lines) (lines_spelled xs h.1 (left_behind 0 x ++ before_others (b.Statement x) xs))

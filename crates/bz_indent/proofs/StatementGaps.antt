@@ -26,7 +26,7 @@ use Rattle.bz_suite.specs.declared.value.Statement.{Statement, Simple, Compound'
 use Rattle.bz_suite.specs.declared.value.BzlItem.{BzlItem}
 use Rattle.bz_suite.specs.declared.value.BzlItem.TheVariants as b
 use Rattle.bz_suite.specs.Proper.{is_simple, has_simple_kind, AreHeaders, heads, IsProperStatement, AreProperBranches, AreProperStatements, IsProperBzlItem, IsProperBzl}
-use Rattle.bz_indent.specs.Layout.{lines_at, before_others, between_items}
+use Rattle.bz_indent.specs.Layout.{indented_lines, before_others, between_items}
 use Rattle.bz_indent.specs.Drawn.{gap_to_margin, newline_part, header_parts, left_behind, left_branches, left_statements, first_kind, statement_part, branch_parts, statement_parts, bzl_lines, bzl_drawn}
 use Rattle.bz_indent.proofs.Headings.{Headings, headings}
 use Rattle.bz_indent.proofs.HeaderGaps.{Leads, header_leads}
@@ -51,15 +51,15 @@ newline_put suffix h = let w = newline_gap suffix h in record { stands = (true, 
 
 -- ---- lines
 
-pub lines_inner : (m : ℕ) (texts : List Bytes) → AllByRecursion IsComment texts → FitsAt Begins (lines_at m texts)
+pub lines_inner : (m : ℕ) (texts : List Bytes) → AllByRecursion IsComment texts → FitsAt Begins (indented_lines m texts)
 lines_inner m [] h = inner_nothing
 lines_inner m (text ∷ texts) h =
-    inner_append (replicate m space ++ (text ++ line_feed ∷ [])) (lines_at m texts)
+    inner_append (replicate m space ++ (text ++ line_feed ∷ [])) (indented_lines m texts)
     (inner_append (replicate m space) (text ++ line_feed ∷ []) (inner_spaces m) (inner_comment text [] h.0 inner_nothing)) (lines_inner m texts h.1)
 
 -- before the first token of a statement or of a header
 pub gap_fits : (m : ℕ) (lines : Bytes) (texts : List Bytes) → FitsAt Begins lines → AllByRecursion IsComment texts → FitsAt Begins (gap_to_margin m lines texts)
-gap_fits m lines texts g h = inner_append lines (lines_at m texts ++ replicate m space) g (inner_append (lines_at m texts) (replicate m space) (lines_inner m texts h) (inner_spaces m))
+gap_fits m lines texts g h = inner_append lines (indented_lines m texts ++ replicate m space) g (inner_append (indented_lines m texts) (replicate m space) (lines_inner m texts h) (inner_spaces m))
 
 if_fits : (b : Bool) → FitsAt Begins (if b then [] else line_feed ∷ [])
 if_fits true = inner_nothing
@@ -85,16 +85,16 @@ mutual
   branches_leave : (n : _) (r : Row_of-Branch n) → AreProperBranches r → (m : ℕ) (lines : Bytes) → FitsAt Begins lines → FitsAt Begins (left_branches m lines r)
   branches_leave n end_of-Branch h m lines g = g
   branches_leave n (more_of-Branch head size statements end_ rest) h m lines g =
-      branches_leave _ rest h.3 m (left_statements (m + 4) [] statements ++ lines_at (m + 4) end_)
-      (inner_append (left_statements (m + 4) [] statements) (lines_at (m + 4) end_) (statements_leave _ statements h.1 (m + 4) [] inner_nothing) (lines_inner (m + 4) end_ (recursion_from_All IsComment end_ h.2)))
+      branches_leave _ rest h.3 m (left_statements (m + 4) [] statements ++ indented_lines (m + 4) end_)
+      (inner_append (left_statements (m + 4) [] statements) (indented_lines (m + 4) end_) (statements_leave _ statements h.1 (m + 4) [] inner_nothing) (lines_inner (m + 4) end_ (recursion_from_All IsComment end_ h.2)))
 
   statements_leave : (n : _) (r : Row_of-Statement n) → AreProperStatements r → (m : ℕ) (lines : Bytes) → FitsAt Begins lines → FitsAt Begins (left_statements m lines r)
   statements_leave n end_of-Statement h m lines g = g
   statements_leave n (more_of-Statement x rest) h m lines g = statements_leave _ rest h.1 m (left_behind m x) (left_fits x h.0 m)
 
 -- behind a suite, and its end comments
-pub suite_leaves : (n : _) (r : Row_of-Statement n) → AreProperStatements r → (m : ℕ) (end_ : List Bytes) → AllByRecursion IsComment end_ → FitsAt Begins (left_statements m [] r ++ lines_at m end_)
-suite_leaves n r h m end_ e = inner_append (left_statements m [] r) (lines_at m end_) (statements_leave n r h m [] inner_nothing) (lines_inner m end_ e)
+pub suite_leaves : (n : _) (r : Row_of-Statement n) → AreProperStatements r → (m : ℕ) (end_ : List Bytes) → AllByRecursion IsComment end_ → FitsAt Begins (left_statements m [] r ++ indented_lines m end_)
+suite_leaves n r h m end_ e = inner_append (left_statements m [] r) (indented_lines m end_) (statements_leave n r h m [] inner_nothing) (lines_inner m end_ e)
 
 -- ---- what stands behind statements
 
@@ -141,7 +141,7 @@ mutual
       let header : List Part = header_parts m gap head in
       let inner : List Part = newline_part head.comments.suffix ∷ statement_parts (m + 4) [] statements in
       let suite : Part = p.Node (record { kind = k.Suite; parts = inner }) in
-      let left : Bytes = left_statements (m + 4) [] statements ++ lines_at (m + 4) end_ in
+      let left : Bytes = left_statements (m + 4) [] statements ++ indented_lines (m + 4) end_ in
       let others : List Part = branch_parts m left rest in
       let leads : Leads header = header_leads m gap head w.0 (gap_fits m lines head.comments.before g (recursion_from_All IsComment head.comments.before w.0.proper.comments.0)) in
       let own : AtLeaves IsPut Along suite = node_put Along (record { kind = k.Suite; parts = inner }) (newline_put head.comments.suffix w.0.proper.comments.1, statements_put _ statements h.1 Along (m + 4) [] inner_nothing) in
@@ -160,8 +160,8 @@ mutual
 lines_put : (xs : List BzlItem) → AllByRecursion IsProperBzlItem xs → (lines : Bytes) → FitsAt Begins lines → AtParts IsPut Begins Begins (bzl_lines lines xs)
 lines_put [] h lines g = (record { stands = (false, g.0); coded = (g.1, IsUtf8-nil) }, tt)
 lines_put (b.Block texts ∷ xs) h lines g =
-    lines_put xs h.1 ((lines ++ lines_at 0 texts) ++ before_others (b.Block texts) xs)
-    (inner_append (lines ++ lines_at 0 texts) (before_others (b.Block texts) xs) (inner_append lines (lines_at 0 texts) g (lines_inner 0 texts (recursion_from_All IsComment texts h.0.1))) (others_fit (b.Block texts) xs))
+    lines_put xs h.1 ((lines ++ indented_lines 0 texts) ++ before_others (b.Block texts) xs)
+    (inner_append (lines ++ indented_lines 0 texts) (before_others (b.Block texts) xs) (inner_append lines (indented_lines 0 texts) g (lines_inner 0 texts (recursion_from_All IsComment texts h.0.1))) (others_fit (b.Block texts) xs))
 lines_put (b.Statement x ∷ xs) h lines g =
     let next : Bytes = left_behind 0 x ++ before_others (b.Statement x) xs in (
       statement_put x h.0 0 lines g,

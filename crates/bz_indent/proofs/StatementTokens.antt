@@ -16,7 +16,7 @@ use Rattle.bz_tree.specs.Spots.{Begins, AreTokens}
 use Rattle.bz_tree.proofs.Spells.{leaves_Node}
 use Rattle.bz_value.specs.Proper.{IsComment, comments_of}
 use Rattle.bz_items.specs.Characters.{Bytes, line_feed}
-use Rattle.bz_write.specs.Layout.{behind}
+use Rattle.bz_write.specs.Layout.{suffix_text}
 use Rattle.bz_write.specs.Drawn.{part_of}
 use Rattle.bz_write.proofs.LegalFiles.{leaves_hold, tokens_before, newline_follows}
 use Rattle.bz_write.proofs.LegalParts.{drawn_good}
@@ -28,14 +28,14 @@ use Rattle.bz_suite.specs.declared.value.Statement.{Statement, Simple, Compound'
 use Rattle.bz_suite.specs.declared.value.BzlItem.{BzlItem}
 use Rattle.bz_suite.specs.declared.value.BzlItem.TheVariants as b
 use Rattle.bz_suite.specs.Proper.{heads, IsProperStatement, AreProperBranches, AreProperStatements, IsProperBzlItem, IsProperBzl}
-use Rattle.bz_indent.specs.Layout.{lines_at, before_others}
+use Rattle.bz_indent.specs.Layout.{indented_lines, before_others}
 use Rattle.bz_indent.specs.Drawn.{gap_to_margin, newline_part, header_parts, left_behind, left_statements, first_kind, statement_part, branch_parts, statement_parts, bzl_lines, bzl_drawn}
 use Rattle.bz_indent.proofs.Headings.{Headings, headings}
 use Rattle.bz_indent.proofs.HeaderTokens.{header_tokens}
 use Rattle.bz_indent.proofs.StatementGaps.{lines_inner, gap_fits, left_fits, suite_leaves, others_fit}
 
 abbrev newline_leaf : Option Bytes → Leaf
-newline_leaf suffix = record { class = c.Newline; gap = behind suffix; token = line_feed ∷ [] }
+newline_leaf suffix = record { class = c.Newline; gap = suffix_text suffix; token = line_feed ∷ [] }
 
 -- a header, its suite and others, and leaves behind them
 branch_leaves : (header newline statements suite others rest : List Leaf) → suite ≡ newline ++ statements → (header ++ (suite ++ others)) ++ rest ≡ header ++ (newline ++ (statements ++ (others ++ rest)))
@@ -66,7 +66,7 @@ mutual
       let suffix : Option Bytes = head.comments.suffix in
       let inner : List Part = statement_parts (m + 4) [] statements in
       let suite : Node = record { kind = k.Suite; parts = newline_part suffix ∷ inner } in
-      let left : Bytes = left_statements (m + 4) [] statements ++ lines_at (m + 4) end_ in
+      let left : Bytes = left_statements (m + 4) [] statements ++ indented_lines (m + 4) end_ in
       let others : List Part = branch_parts m left branches in
       let behind_suite : List Leaf = flat_map leaves_part others ++ rest in
       let behind_header : List Leaf = flat_map leaves_part inner ++ behind_suite in
@@ -90,8 +90,8 @@ mutual
 lines_tokens : (xs : List BzlItem) → AllByRecursion IsProperBzlItem xs → (lines : Bytes) → FitsAt Begins lines → AreTokens (flat_map leaves_part (bzl_lines lines xs))
 lines_tokens [] h lines g = ((refl, refl), tt)
 lines_tokens (b.Block texts ∷ xs) h lines g =
-    lines_tokens xs h.1 ((lines ++ lines_at 0 texts) ++ before_others (b.Block texts) xs)
-    (inner_append (lines ++ lines_at 0 texts) (before_others (b.Block texts) xs) (inner_append lines (lines_at 0 texts) g (lines_inner 0 texts (recursion_from_All IsComment texts h.0.1))) (others_fit (b.Block texts) xs))
+    lines_tokens xs h.1 ((lines ++ indented_lines 0 texts) ++ before_others (b.Block texts) xs)
+    (inner_append (lines ++ indented_lines 0 texts) (before_others (b.Block texts) xs) (inner_append lines (indented_lines 0 texts) g (lines_inner 0 texts (recursion_from_All IsComment texts h.0.1))) (others_fit (b.Block texts) xs))
 lines_tokens (b.Statement x ∷ xs) h lines g =
     let next : Bytes = left_behind 0 x ++ before_others (b.Statement x) xs in
     statement_tokens x h.0 0 lines g (flat_map leaves_part (bzl_lines next xs)) (lines_tokens xs h.1 next (inner_append (left_behind 0 x) (before_others (b.Statement x) xs) (left_fits x h.0 0) (others_fit (b.Statement x) xs)))

@@ -7,35 +7,33 @@ use Rattle.bz_tree.specs.declared.tree.Node.{Node}
 use Rattle.bz_tree.specs.declared.tree.Part.{Part}
 use Rattle.bz_tree.specs.declared.tree.Part.TheVariants as p
 use Rattle.bz_value.specs.declared.value.Expr.{Expr}
+use Rattle.bz_value.specs.Roots.{mark_leaf}
 use Rattle.bz_value.specs.declared.value.Form.{Form}
 use Rattle.bz_items.specs.Characters.{Bytes, line_feed, space}
 use Rattle.bz_value.specs.Proper.{comments_of}
-use Rattle.bz_write.specs.Layout.{rowed, behind}
-use Rattle.bz_write.specs.Drawn.{part_of, piece_part, drawings, body}
+use Rattle.bz_write.specs.Layout.{rowed, suffix_text}
+use Rattle.bz_write.specs.Drawn.{part_of, piece_part, drawings, drawn_body}
 use Rattle.bz_suite.specs.declared.value.Statement.{Statement, Simple, Compound', Row_of-Branch, end_of-Branch, more_of-Branch, Row_of-Statement, end_of-Statement, more_of-Statement}
 use Rattle.bz_suite.specs.declared.value.BzlItem.{BzlItem}
 use Rattle.bz_suite.specs.declared.value.BzlItem.TheVariants as b
-use Rattle.bz_indent.specs.Layout.{lines_at, is_def, before_others}
+use Rattle.bz_indent.specs.Layout.{indented_lines, is_def, before_others}
 
 -- ---- gaps
 
 -- the gap before the first token of what stands at a margin: lines, its comments, and its margin
 abbrev pub gap_to_margin : ℕ → Bytes → List Bytes → Bytes
-gap_to_margin m lines texts = lines ++ (lines_at m texts ++ replicate m space)
+gap_to_margin m lines texts = lines ++ (indented_lines m texts ++ replicate m space)
 
 -- the newline behind a suffix
 abbrev pub newline_part : Option Bytes → Part
-newline_part suffix = p.Leaf (record { class = c.Newline; gap = behind suffix; token = line_feed ∷ [] })
+newline_part suffix = p.Leaf (record { class = c.Newline; gap = suffix_text suffix; token = line_feed ∷ [] })
 
 -- ---- headers
-
-abbrev pub mark_part : ℕ → Part
-mark_part character = p.Leaf (record { class = c.Mark; gap = []; token = character ∷ [] })
 
 -- the parts of a header up to its colon, and that, behind a gap: of a Def its parameters stand in brackets
 abbrev pub header_parts : ℕ → Bytes → Form → List Part
 header_parts m gap f =
-    map piece_part (rowed f.kind f.open_ m gap m (drawings f.parts)) ++ ((if is_def f then mark_part 40 ∷ map piece_part (body f m 41) else []) ++ mark_part 58 ∷ [])
+    map piece_part (rowed f.kind f.open_ m gap m (drawings f.parts)) ++ ((if is_def f then mark_leaf 40 ∷ map piece_part (drawn_body f m 41) else []) ++ mark_leaf 58 ∷ [])
 
 -- ---- the lines that are left behind a statement: the end comments of its last suites, which stand in the gap of what follows
 
@@ -46,7 +44,7 @@ abbrev mutual
 
   pub left_branches : ℕ → Bytes → {n : _} → Row_of-Branch n → Bytes
   left_branches m lines end_of-Branch = lines
-  left_branches m lines (more_of-Branch head size statements end_ rest) = left_branches m (left_statements (m + 4) [] statements ++ lines_at (m + 4) end_) rest
+  left_branches m lines (more_of-Branch head size statements end_ rest) = left_branches m (left_statements (m + 4) [] statements ++ indented_lines (m + 4) end_) rest
 
   pub left_statements : ℕ → Bytes → {n : _} → Row_of-Statement n → Bytes
   left_statements m lines end_of-Statement = lines
@@ -74,7 +72,7 @@ abbrev mutual
   branch_parts m lines (more_of-Branch head size statements end_ rest) =
       header_parts m (gap_to_margin m lines head.comments.before) head
       ++ (p.Node (record { kind = k.Suite; parts = newline_part head.comments.suffix ∷ statement_parts (m + 4) [] statements })
-      ∷ branch_parts m (left_statements (m + 4) [] statements ++ lines_at (m + 4) end_) rest)
+      ∷ branch_parts m (left_statements (m + 4) [] statements ++ indented_lines (m + 4) end_) rest)
 
   pub statement_parts : ℕ → Bytes → {n : _} → Row_of-Statement n → List Part
   statement_parts m lines end_of-Statement = []
@@ -85,7 +83,7 @@ abbrev mutual
 -- the items, the first behind these lines: a Block's lines stand in the gap of what follows
 abbrev pub bzl_lines : Bytes → List BzlItem → List Part
 bzl_lines lines [] = p.Leaf (record { class = c.End; gap = lines; token = [] }) ∷ []
-bzl_lines lines (b.Block texts ∷ items) = bzl_lines ((lines ++ lines_at 0 texts) ++ before_others (b.Block texts) items) items
+bzl_lines lines (b.Block texts ∷ items) = bzl_lines ((lines ++ indented_lines 0 texts) ++ before_others (b.Block texts) items) items
 bzl_lines lines (b.Statement x ∷ items) = statement_part 0 lines x ∷ bzl_lines (left_behind 0 x ++ before_others (b.Statement x) items) items
 
 -- the tree of the layout

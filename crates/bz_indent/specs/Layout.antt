@@ -8,9 +8,9 @@ use Rattle.bz_value.specs.declared.value.Form.{Form}
 use Rattle.bz_value.specs.declared.value.Item.TheVariants as i
 use Rattle.bz_items.specs.Characters.{Bytes, line_feed, space}
 use Rattle.bz_value.specs.Proper.{comments_of}
-use Rattle.bz_write.specs.Layout.{behind}
+use Rattle.bz_write.specs.Layout.{suffix_text}
 use Rattle.bz_write.specs.Writings.{row_text, body_text}
-use Rattle.bz_write.specs.Written.{text_of, between}
+use Rattle.bz_write.specs.Written.{text_of, gap_between}
 use Rattle.bz_suite.specs.declared.value.Statement.{Statement, Simple, Compound', Row_of-Branch, end_of-Branch, more_of-Branch, Row_of-Statement, end_of-Statement, more_of-Statement}
 use Rattle.bz_suite.specs.declared.value.Branch.{Branch}
 use Rattle.bz_suite.specs.declared.value.BzlItem.{BzlItem}
@@ -19,13 +19,13 @@ use Rattle.bz_suite.specs.declared.value.BzlItem.TheVariants as b
 -- ---- lines
 
 -- the spaces of a margin, a text, a newline
-abbrev pub line_at : ℕ → Bytes → Bytes
-line_at m text = replicate m space ++ (text ++ line_feed ∷ [])
+abbrev pub indented_line : ℕ → Bytes → Bytes
+indented_line m text = replicate m space ++ (text ++ line_feed ∷ [])
 
 -- comment lines at a margin
-abbrev pub lines_at : ℕ → List Bytes → Bytes
-lines_at m [] = []
-lines_at m (text ∷ texts) = line_at m text ++ lines_at m texts
+abbrev pub indented_lines : ℕ → List Bytes → Bytes
+indented_lines m [] = []
+indented_lines m (text ∷ texts) = indented_line m text ++ indented_lines m texts
 
 -- ---- headers
 
@@ -33,18 +33,18 @@ abbrev pub is_def : Form → Bool
 is_def f = is_kind f.kind k.Def
 
 -- A header up to its colon. Of a Def the parameters stand between brackets, laid out as the items of a sequence.
-abbrev pub head_text : ℕ → Form → Bytes
-head_text m f = row_text f.kind f.open_ m m f.parts ++ (if is_def f then codes "(" ++ body_text f m 41 else [])
+abbrev pub text_of_head : ℕ → Form → Bytes
+text_of_head m f = row_text f.kind f.open_ m m f.parts ++ (if is_def f then codes "(" ++ body_text f m 41 else [])
 
 -- a header with its comments
 abbrev pub header_text : ℕ → Form → Bytes
-header_text m f = lines_at m f.comments.before ++ line_at m (head_text m f ++ (codes ":" ++ behind f.comments.suffix))
+header_text m f = indented_lines m f.comments.before ++ indented_line m (text_of_head m f ++ (codes ":" ++ suffix_text f.comments.suffix))
 
 -- ---- statements
 
 -- a simple statement on lines of its own, with its comments
 abbrev pub simple_text : ℕ → Expr → Bytes
-simple_text m x = lines_at m (comments_of x).before ++ line_at m (text_of x m ++ behind (comments_of x).suffix)
+simple_text m x = indented_lines m (comments_of x).before ++ indented_line m (text_of x m ++ suffix_text (comments_of x).suffix)
 
 abbrev mutual
   pub statement_text : ℕ → Statement → Bytes
@@ -55,7 +55,7 @@ abbrev mutual
   pub branches_text : ℕ → {n : _} → Row_of-Branch n → Bytes
   branches_text m end_of-Branch = []
   branches_text m (more_of-Branch head size statements end_ rest) =
-      (header_text m head ++ (statements_text (m + 4) statements ++ lines_at (m + 4) end_)) ++ branches_text m rest
+      (header_text m head ++ (statements_text (m + 4) statements ++ indented_lines (m + 4) end_)) ++ branches_text m rest
 
   pub statements_text : ℕ → {n : _} → Row_of-Statement n → Bytes
   statements_text m end_of-Statement = []
@@ -66,7 +66,7 @@ abbrev pub all_statements : ℕ → List Statement → Bytes
 all_statements m own = flat_map (statement_text m) own
 
 abbrev pub branch_text : ℕ → Branch → Bytes
-branch_text m x = header_text m x.head ++ (all_statements (m + 4) x.statements ++ lines_at (m + 4) x.end_)
+branch_text m x = header_text m x.head ++ (all_statements (m + 4) x.statements ++ indented_lines (m + 4) x.end_)
 
 abbrev pub all_branches : ℕ → List Branch → Bytes
 all_branches m own = flat_map (branch_text m) own
@@ -74,12 +74,12 @@ all_branches m own = flat_map (branch_text m) own
 -- ---- the file
 
 abbrev pub bzl_item_text : BzlItem → Bytes
-bzl_item_text (b.Block texts) = lines_at 0 texts
+bzl_item_text (b.Block texts) = indented_lines 0 texts
 bzl_item_text (b.Statement x) = statement_text 0 x
 
 -- One blank line between two items, but for simple statements that stand close together as in a BUILD file.
 abbrev pub between_items : BzlItem → BzlItem → Bytes
-between_items (b.Statement (Simple x)) (b.Statement (Simple y)) = between (i.Stmt x) (i.Stmt y)
+between_items (b.Statement (Simple x)) (b.Statement (Simple y)) = gap_between (i.Stmt x) (i.Stmt y)
 between_items _ _ = line_feed ∷ []
 
 -- what stands between an item and those that follow

@@ -16,8 +16,8 @@ use std::alloc::{AllocError, Global};
 /// What is left of the room behind comment lines at a margin.
 #[tactic(auto, using(crate::proofs::Lengths::lines_next))]
 fn less_lines(room: usize, texts: &[Text], margin: usize) -> Result<usize, NoRoom>
-    ensures ok { IfOk result (λ left. length (layout.lines_at margin texts.now) + left ≡ room) }
-    ensures longer { result ≡ Err NoRoom.Longer → room < length (layout.lines_at margin texts.now) }
+    ensures ok { IfOk result (λ left. length (layout.indented_lines margin texts.now) + left ≡ room) }
+    ensures longer { result ≡ Err NoRoom.Longer → room < length (layout.indented_lines margin texts.now) }
 {
     let mut left = room;
     for text in texts {
@@ -31,8 +31,8 @@ fn less_lines(room: usize, texts: &[Text], margin: usize) -> Result<usize, NoRoo
 /// What is left of the room behind a header up to its colon.
 #[tactic(auto, using(crate::proofs::Lengths::def_length, crate::proofs::Lengths::row_length))]
 fn less_head(alloc: Global, head: &Form, margin: usize, room: usize) -> Result<usize, NoRoom>
-    ensures ok { IfOk result (λ left. length (layout.head_text margin head.now) + left ≡ room) }
-    ensures longer { result ≡ Err NoRoom.Longer → room < length (layout.head_text margin head.now) }
+    ensures ok { IfOk result (λ left. length (layout.text_of_head margin head.now) + left ≡ room) }
+    ensures longer { result ≡ Err NoRoom.Longer → room < length (layout.text_of_head margin head.now) }
 {
     let left = left_behind_row(alloc, head, margin, room)?;
     if !is_def(head) {

@@ -25,7 +25,7 @@ fn push_margin(out: &mut Vec<u8>, margin: usize) -> Result<(), Memory>
 /// Appends comment lines at a margin.
 
 fn push_lines(out: &mut Vec<u8>, texts: &[Text], margin: usize) -> Result<(), Memory>
-    ensures { OnOk result (out.new.items ≡ out.old.items ++ layout.lines_at margin texts.now) }
+    ensures { OnOk result (out.new.items ≡ out.old.items ++ layout.indented_lines margin texts.now) }
 {
     for text in texts {
         push_margin(out, margin)?;
@@ -37,7 +37,7 @@ fn push_lines(out: &mut Vec<u8>, texts: &[Text], margin: usize) -> Result<(), Me
 
 /// Appends a header up to its colon.
 fn push_head(out: &mut Vec<u8>, head: &Form, margin: usize) -> Result<(), Memory>
-    ensures { OnOk result (out.new.items ≡ out.old.items ++ layout.head_text margin head.now) }
+    ensures { OnOk result (out.new.items ≡ out.old.items ++ layout.text_of_head margin head.now) }
 {
     push_row(out, head, margin)?;
     if is_def(head) {

@@ -16,7 +16,7 @@ use Rattle.bz_view.specs.View.{view_of}
 use Rattle.bz_view.specs.Laws.{ViewsAreProper}
 use Rattle.bz_write.specs.Drawn.{drawn}
 use Rattle.bz_write.specs.Laws.{LayoutIsAccepted, LayoutReadsBack}
-use Rattle.bz_tidy.specs.Laws.{ProperStays, TidySettles, TidyStays, CommentsStay}
+use Rattle.bz_tidy.specs.Laws.{ProperStays, TidySettles, TidyStays, TidyingKeepsComments}
 use Rattle.bz_tidy.specs.Passes.{tidied}
 use Rattle.bz_write.specs.Written.{layout}
 use Rattle.bz_attribute.specs.declared.refusal.Refusal.TheVariants.{Full, TooLarge, TooDeep}
@@ -42,7 +42,7 @@ pub record LayersHold : Type 0 where
   pub proper : ProperStays
   pub settled : TidySettles
   pub stays : TidyStays
-  pub comments : CommentsStay
+  pub comments : TidyingKeepsComments
 
 pub formatted_again : LayersHold → FixedPoint
 formatted_again layers text formatted formats =

@@ -10,21 +10,21 @@ use Rattle.bz_record.specs.Texts.{IsNote}
 use Rattle.bz_record.specs.declared.content.Version.TheVariants.{Two}
 use Rattle.bz_items.specs.Characters.{Bytes}
 use Rattle.bz_journal.specs.History.{History, IsKept, changed, most_steps, present}
-use Rattle.bz_journal.specs.State.{State, IsSession, trail_of}
-use Rattle.bz_journal.specs.Shown.{history_of}
+use Rattle.bz_journal.specs.State.{SessionState, IsSession, session_trail}
+use Rattle.bz_journal.specs.Shown.{session_history}
 
-pub session_kept : TrailsKeep → (s : State) → IsSession s → IsKept (history_of s)
+pub session_kept : TrailsKeep → (s : SessionState) → IsSession s → IsKept (session_history s)
 session_kept keep s h =
-    let k = keep (trail_of s) h.trail in
+    let k = keep (session_trail s) h.trail in
     record { accepted = k.accepted; noted = omega (arith, k.counted, h.noted); within = k.within; known = omega (arith, k.counted, h.known); bounded = omega (arith, k.counted, h.bounded) }
 
-pub session_present : TrailsKeep → (s : State) → IsSession s → spell_node s.tree ≡ present (history_of s)
-session_present keep s h = let k = keep (trail_of s) h.trail in sym k.present
+pub session_present : TrailsKeep → (s : SessionState) → IsSession s → spell_node s.tree ≡ present (session_history s)
+session_present keep s h = let k = keep (session_trail s) h.trail in sym k.present
 
-pub session_counted : TrailsKeep → (s : State) → IsSession s → length s.steps + 1 ≡ length (texts_of (trail_of s))
-session_counted keep s h = let k = keep (trail_of s) h.trail in sym k.counted
+pub session_counted : TrailsKeep → (s : SessionState) → IsSession s → length s.steps + 1 ≡ length (texts_of (session_trail s))
+session_counted keep s h = let k = keep (session_trail s) h.trail in sym k.counted
 
-pub session_ahead : TrailsKeep → (s : State) (steps cursor : ℕ) → IsSession s → steps ≡ length s.steps → cursor ≡ s.cursor → s.cursor + (steps - cursor) + 1 ≡ length (texts_of (trail_of s))
+pub session_ahead : TrailsKeep → (s : SessionState) (steps cursor : ℕ) → IsSession s → steps ≡ length s.steps → cursor ≡ s.cursor → s.cursor + (steps - cursor) + 1 ≡ length (texts_of (session_trail s))
 session_ahead keep s steps cursor h a b = omega (arith, session_counted keep s h, h.trail.within, a, b)
 
 -- ---- a new text
@@ -36,19 +36,19 @@ all_put P zero (y ∷ ys) x h own = (own, tt)
 all_put P (suc n) [] x h own = (own, tt)
 all_put P (suc n) (y ∷ ys) x h own = (h.0, all_put P n ys x h.1 own)
 
-pub record HasExtended (s : State) (next : Node) (note : Bytes) (v : State) : Type 0 where
+pub record HasExtended (s : SessionState) (next : Node) (note : Bytes) (v : SessionState) : Type 0 where
   pub session : IsSession v
-  pub texts : texts_of (trail_of v) ≡ take (s.cursor + 1) (texts_of (trail_of s)) ++ spell_node next ∷ []
-  pub history : history_of v ≡ changed note (history_of s) (spell_node next)
-  pub small : IsSmall (trail_of s) → IsSmall (trail_of v)
+  pub texts : texts_of (session_trail v) ≡ take (s.cursor + 1) (texts_of (session_trail s)) ++ spell_node next ∷ []
+  pub history : session_history v ≡ changed note (session_history s) (spell_node next)
+  pub small : IsSmall (session_trail s) → IsSmall (session_trail v)
 
-pub extended : TrailsKeep → (s : State) (next tree : Node) (steps : List (List Edit)) (notes : List Bytes) (note : Bytes) → IsSession s → s.cursor < most_steps → IsNote Two note
-    → TakesUp (trail_of s) next (trail_at tree steps (s.cursor + 1)) → notes ≡ take s.cursor s.notes ++ note ∷ []
+pub extended : TrailsKeep → (s : SessionState) (next tree : Node) (steps : List (List Edit)) (notes : List Bytes) (note : Bytes) → IsSession s → s.cursor < most_steps → IsNote Two note
+    → TakesUp (session_trail s) next (trail_at tree steps (s.cursor + 1)) → notes ≡ take s.cursor s.notes ++ note ∷ []
     → HasExtended s next note (record { tree = tree; steps = steps; notes = notes; «package» = s.«package»; cursor = s.cursor + 1; before = s.cursor })
 extended keep s next tree steps notes note h room fits t put =
     let to = s.cursor + 1 in
-    let texts = texts_of (trail_of s) in
-    let old = keep (trail_of s) h.trail in
+    let texts = texts_of (session_trail s) in
+    let old = keep (session_trail s) h.trail in
     let new = keep (trail_at tree steps to) t.trail in
     let cut : length (take to texts) ≡ to = length-take-le to texts (omega (arith, old.within)) in
     let size : length steps ≡ to = omega (arith, new.counted, ap length t.texts, length-append (take to texts) (spell_node next ∷ []), cut) in

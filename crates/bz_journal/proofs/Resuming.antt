@@ -18,24 +18,24 @@ use Rattle.bz_resume.specs.Resumed as r
 use Rattle.bz_resume.specs.Resumed.{StandsFor}
 use Rattle.bz_journal.specs.History.{History, present}
 use Rattle.bz_files.specs.Folder.{Folder}
-use Rattle.bz_keep.specs.Resuming.{Follows, MayResume, Resumes}
-use Rattle.bz_journal.specs.Lasting.{GoesOn, IsAgain, IsKnown, IsResumed, IsSaved, saved}
-use Rattle.bz_journal.specs.Shown.{history_of}
-use Rattle.bz_journal.specs.State.{State, IsSession, trail_of}
+use Rattle.bz_keep.specs.Resuming.{FollowsKept, MayResume, Resumes}
+use Rattle.bz_journal.specs.Lasting.{GoesOn, IsAgain, IsKnownSession, IsResumedSession, IsSavedSession, saved}
+use Rattle.bz_journal.specs.Shown.{session_history}
+use Rattle.bz_journal.specs.State.{SessionState, IsSession, session_trail}
 
 -- ---- states
 
 pub same_state : (n : Node) (es fs : List (List Edit)) (ns ms : List Bytes) (p q : Bytes) (c b : ℕ) → es ≡ fs → ns ≡ ms → p ≡ q
-    → (let s : State = record { tree = n; steps = es; notes = ns; «package» = p; cursor = c; before = b } in s)
-    ≡ (let s : State = record { tree = n; steps = fs; notes = ms; «package» = q; cursor = c; before = b } in s)
+    → (let s : SessionState = record { tree = n; steps = es; notes = ns; «package» = p; cursor = c; before = b } in s)
+    ≡ (let s : SessionState = record { tree = n; steps = fs; notes = ms; «package» = q; cursor = c; before = b } in s)
 same_state n es fs ns ms p q c b steps notes named =
-    ap (λ z. let s : State = record { tree = n; steps = z; notes = ns; «package» = p; cursor = c; before = b } in s) steps
-    ∙ ap (λ z. let s : State = record { tree = n; steps = fs; notes = z; «package» = p; cursor = c; before = b } in s) notes
-    ∙ ap (λ z. let s : State = record { tree = n; steps = fs; notes = ms; «package» = z; cursor = c; before = b } in s) named
+    ap (λ z. let s : SessionState = record { tree = n; steps = z; notes = ns; «package» = p; cursor = c; before = b } in s) steps
+    ∙ ap (λ z. let s : SessionState = record { tree = n; steps = fs; notes = z; «package» = p; cursor = c; before = b } in s) notes
+    ∙ ap (λ z. let s : SessionState = record { tree = n; steps = fs; notes = ms; «package» = z; cursor = c; before = b } in s) named
 
 -- ---- saving
 
-pub may_save : (s : State) → IsSession s → MaySave (history_of s)
+pub may_save : (s : SessionState) → IsSession s → MaySave (session_history s)
 may_save s h = record {
   package_length = h.named;
   package_text = h.spelled;
@@ -45,10 +45,10 @@ may_save s h = record {
 }
 
 -- the tree at the cursor is the one that its text reads as
-pub saves_small : TrailsKeep → OneReading → (s : State) → IsSession s → IsSmall (trail_of s) → AreSmall (history_of s) s.steps
+pub saves_small : TrailsKeep → OneReading → (s : SessionState) → IsSession s → IsSmall (session_trail s) → AreSmall (session_history s) s.steps
 saves_small keep one s h small n trail is =
     let other = keep (trail_at n s.steps s.cursor) trail in
-    let own = keep (trail_of s) h.trail in
+    let own = keep (session_trail s) h.trail in
     let shown : spell_node n ≡ spell_node s.tree = sym other.present ∙ ap (λ (l : List Bytes). slice_index_or l s.cursor []) is ∙ own.present in
     let reads : Reads (spell_node s.tree) n = (trail.tree.0, shown, subst (λ (t : Bytes). length t ≤ limit) shown trail.tree.1) in
     let tree : n ≡ s.tree = one (spell_node s.tree) n s.tree reads (h.trail.tree.0, refl, h.trail.tree.1) in
@@ -56,7 +56,7 @@ saves_small keep one s h small n trail is =
 
 -- ---- resuming
 
-abbrev pub state_of : Resumed → Bytes → State
+abbrev pub state_of : Resumed → Bytes → SessionState
 state_of s current = record { tree = s.tree; steps = s.steps; notes = s.notes; «package» = current; cursor = s.cursor; before = s.cursor }
 
 pub lasts : TrailsKeep → (bytes text current : Bytes) (s : Resumed) → r.IsResumed bytes text s → current ≡ s.«package» → IsSession (state_of s current)
@@ -96,27 +96,27 @@ goes_on h es text current s stood is = record {
   small = stood.small;
 }
 
-pub resumed_made : (bytes text : Bytes) (s : Resumed) (result : Result State ResumeFault) → r.IsResumed bytes text s
-    → IfOk result (λ t. (h : History) (es : List (List Edit)) (text : Bytes) → StandsFor h es text s → GoesOn h es text t) → IfOk result (IsResumed bytes text)
+pub resumed_made : (bytes text : Bytes) (s : Resumed) (result : Result SessionState ResumeFault) → r.IsResumed bytes text s
+    → IfOk result (λ t. (h : History) (es : List (List Edit)) (text : Bytes) → StandsFor h es text s → GoesOn h es text t) → IfOk result (IsResumedSession bytes text)
 resumed_made bytes text s (Ok t) (h, es, journal, stood) made = (h, es, journal, made h es text stood)
 resumed_made bytes text s (Err fault) resumed made = tt
 
-pub known_made : (h : History) (es : List (List Edit)) (text : Bytes) (s : Resumed) (result : Result State ResumeFault) → StandsFor h es text s
+pub known_made : (h : History) (es : List (List Edit)) (text : Bytes) (s : Resumed) (result : Result SessionState ResumeFault) → StandsFor h es text s
     → IfOk result (λ t. (h : History) (es : List (List Edit)) (text : Bytes) → StandsFor h es text s → GoesOn h es text t) → IfErr result (λ fault. fault ≡ f.Memory)
-    → IsKnown h es text result
+    → IsKnownSession h es text result
 known_made h es text s (Ok t) stood made memory = made h es text stood
-known_made h es text s (Err fault) stood made memory = subst (λ (x : ResumeFault). IsKnown h es text (Err x)) (sym memory) tt
+known_made h es text s (Err fault) stood made memory = subst (λ (x : ResumeFault). IsKnownSession h es text (Err x)) (sym memory) tt
 
 -- ---- once more
 
 some_same : (a b : ℕ) → Some a ≡ Some b → a ≡ b
 some_same a b e = cc
 
-pub is_again : (s : State) (small : IsSmall (trail_of s) → AreSmall (history_of s) s.steps) (text : Bytes) (result : Result State ResumeFault)
-    → stands (history_of s) text ≡ Some s.cursor → IsKnown (history_of s) s.steps text result → IsAgain s result
+pub is_again : (s : SessionState) (small : IsSmall (session_trail s) → AreSmall (session_history s) s.steps) (text : Bytes) (result : Result SessionState ResumeFault)
+    → stands (session_history s) text ≡ Some s.cursor → IsKnownSession (session_history s) s.steps text result → IsAgain s result
 is_again s small text (Ok t) there known =
     let at : known.at ≡ s.cursor = some_same known.at s.cursor (sym known.stands_there ∙ there) in
-    (known.history ∙ ap (λ (n : ℕ). let h : History = record (history_of s) { cursor = n; before = n } in h) at, λ own. known.small (small own))
+    (known.history ∙ ap (λ (n : ℕ). let h : History = record (session_history s) { cursor = n; before = n } in h) at, λ own. known.small (small own))
 is_again s small text (Err f.Memory) there known = tt
 is_again s small text (Err f.Stale) there known = let e = sym known ∙ there in absurd (cc)
 is_again s small text (Err f.Damaged) there known = known
@@ -124,13 +124,13 @@ is_again s small text (Err f.Version) there known = known
 
 -- ---- keeping
 
-pub may_resume : (folder : Folder) (file standing told text standing' told' text' : Bytes) (h : History) (s : State) → standing ≡ standing' → told ≡ told' → text ≡ text'
-    → standing' ≡ present h → told' ≡ saved s → text' ≡ present (history_of s) → IsSaved s → Follows h (history_of s) → Resumes folder file h.«package» h.texts
-    → MayResume folder file standing told text h (history_of s) s.steps
+pub may_resume : (folder : Folder) (file standing told text standing' told' text' : Bytes) (h : History) (s : SessionState) → standing ≡ standing' → told ≡ told' → text ≡ text'
+    → standing' ≡ present h → told' ≡ saved s → text' ≡ present (session_history s) → IsSavedSession s → FollowsKept h (session_history s) → Resumes folder file h.«package» h.texts
+    → MayResume folder file standing told text h (session_history s) s.steps
 may_resume folder file standing told text standing' told' text' h s a b c begun journal written own follows resumes = record {
   resumes = resumes;
   begun = a ∙ begun;
   follows = follows;
-  journal = subst (λ (j : Bytes). Journal j (history_of s) s.steps) (sym (b ∙ journal)) own;
+  journal = subst (λ (j : Bytes). Journal j (session_history s) s.steps) (sym (b ∙ journal)) own;
   written = c ∙ written;
 }

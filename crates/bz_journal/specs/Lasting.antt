@@ -8,42 +8,42 @@ use Rattle.bz_resume.specs.declared.fault.ResumeFault.TheVariants as f
 use Rattle.bz_resume.specs.Journals.{Journal, AreSmall, journal_text, stands}
 use Rattle.bz_journal.specs.Actions.{Action}
 use Rattle.bz_journal.specs.History.{History, Answer, Runs}
-use Rattle.bz_journal.specs.Shown.{history_of}
-use Rattle.bz_journal.specs.State.{State, trail_of}
+use Rattle.bz_journal.specs.Shown.{session_history}
+use Rattle.bz_journal.specs.State.{SessionState, session_trail}
 
 -- the journal of a session is that of its history and of its steps
-abbrev pub saved : State → Bytes
-saved s = journal_text (history_of s) s.steps
+abbrev pub saved : SessionState → Bytes
+saved s = journal_text (session_history s) s.steps
 
-abbrev pub IsSaved : State → Type 0
-IsSaved s = Journal (saved s) (history_of s) s.steps
+abbrev pub IsSavedSession : SessionState → Type 0
+IsSavedSession s = Journal (saved s) (session_history s) s.steps
 
 -- What is resumed of a history and its steps at the text of a file: the same path, texts and notes, at the number where the history
 -- stands for that text, which is also the one before. Where the steps are those between the trees of the texts they stay so.
-pub record GoesOn (h : History) (es : List (List Edit)) (text : Bytes) (s : State) : Type 0 where
+pub record GoesOn (h : History) (es : List (List Edit)) (text : Bytes) (s : SessionState) : Type 0 where
   pub at : ℕ
   pub stands_there : stands h text ≡ Some at
-  pub history : history_of s ≡ record h { cursor = at; before = at }
-  pub small : AreSmall h es → IsSmall (trail_of s)
+  pub history : session_history s ≡ record h { cursor = at; before = at }
+  pub small : AreSmall h es → IsSmall (session_trail s)
 
 -- the bytes are a journal, and this session is resumed of it
-abbrev pub IsResumed : Bytes → Bytes → State → Type 0
-IsResumed bytes text s = (h : History) × (es : List (List Edit)) × Journal bytes h es × GoesOn h es text s
+abbrev pub IsResumedSession : Bytes → Bytes → SessionState → Type 0
+IsResumedSession bytes text s = (h : History) × (es : List (List Edit)) × Journal bytes h es × GoesOn h es text s
 
 -- Of the journal of a history and its steps: the session that is resumed is theirs, or they stand nowhere for the text, or memory
 -- was refused.
-abbrev pub IsKnown : History → List (List Edit) → Bytes → Result State ResumeFault → Type 0
-IsKnown h es text (Ok s) = GoesOn h es text s
-IsKnown h es text (Err f.Stale) = stands h text ≡ None
-IsKnown h es text (Err f.Memory) = Unit {0}
-IsKnown h es text (Err f.Damaged) = ⊥
-IsKnown h es text (Err f.Version) = ⊥
+abbrev pub IsKnownSession : History → List (List Edit) → Bytes → Result SessionState ResumeFault → Type 0
+IsKnownSession h es text (Ok s) = GoesOn h es text s
+IsKnownSession h es text (Err f.Stale) = stands h text ≡ None
+IsKnownSession h es text (Err f.Memory) = Unit {0}
+IsKnownSession h es text (Err f.Damaged) = ⊥
+IsKnownSession h es text (Err f.Version) = ⊥
 
 -- ---- laws
 
 -- A session that was saved and resumed at its own text is the same one, but that the present text counts as the one before.
-abbrev pub IsAgain : State → Result State ResumeFault → Type 0
-IsAgain s (Ok t) = (history_of t ≡ record (history_of s) { before = s.cursor }) × (IsSmall (trail_of s) → IsSmall (trail_of t))
+abbrev pub IsAgain : SessionState → Result SessionState ResumeFault → Type 0
+IsAgain s (Ok t) = (session_history t ≡ record (session_history s) { before = s.cursor }) × (IsSmall (session_trail s) → IsSmall (session_trail t))
 IsAgain s (Err f.Memory) = Unit {0}
 IsAgain s (Err f.Stale) = ⊥
 IsAgain s (Err f.Damaged) = ⊥

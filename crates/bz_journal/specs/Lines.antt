@@ -3,7 +3,7 @@ use Rattle.std.specs.Prelude.{◌≡◌, ◌≤◌, ◌+◌, List, [], length}
 use Rattle.bz_tree.specs.declared.tree.Node.{Node}
 use Rattle.bz_tree.specs.Places.{Ascend}
 use Rattle.bz_tree.specs.Spell.{depth_of, depth_limit, limit}
-use Rattle.bz_edit.specs.Places.{put, with_parts}
+use Rattle.bz_edit.specs.Places.{parts_put, with_parts_in}
 use Rattle.bz_value.specs.declared.value.Item.{Item}
 use Rattle.bz_write.specs.Drawn.{drawn}
 use Rattle.bz_write.specs.Written.{layout}
@@ -12,8 +12,8 @@ use Rattle.bz_journal.specs.declared.lines.Lines.TheVariants as l
 
 -- the tree with these lines
 abbrev pub tree_with : Lines → Node → Node
-tree_with (l.Exchanged redrawn) tree = with_parts redrawn.places redrawn.lines tree
-tree_with (l.Spliced respliced) tree = put [] respliced.at respliced.gone respliced.lines tree
+tree_with (l.Exchanged redrawn) tree = with_parts_in redrawn.places redrawn.lines tree
+tree_with (l.Spliced respliced) tree = parts_put [] respliced.at respliced.gone respliced.lines tree
 
 -- their places are in the tree
 abbrev pub AreIn : Lines → Node → Type 0

@@ -21,15 +21,15 @@ text_line present number digest note =
     (if present then codes "* " else codes "  ") ++ (decimal number ++ space ∷ []) ++ encode_lower digest ++ noted note ++ line_feed ∷ []
 
 -- the lines of the texts from a number on, by the notes of the steps to them and by their digests
-abbrev pub lines_from : ℕ → ℕ → List Bytes → List Bytes → Bytes
-lines_from cursor number [] digests = []
-lines_from cursor number (note ∷ notes) [] = []
-lines_from cursor number (note ∷ notes) (digest ∷ digests) = text_line (number == cursor) number digest note ++ lines_from cursor (number + 1) notes digests
+abbrev pub text_lines_from : ℕ → ℕ → List Bytes → List Bytes → Bytes
+text_lines_from cursor number [] digests = []
+text_lines_from cursor number (note ∷ notes) [] = []
+text_lines_from cursor number (note ∷ notes) (digest ∷ digests) = text_line (number == cursor) number digest note ++ text_lines_from cursor (number + 1) notes digests
 
 -- No step leads to the first text.
-abbrev pub listed : ℕ → List Bytes → List Bytes → Bytes
-listed cursor notes [] = []
-listed cursor notes (digest ∷ digests) = text_line (0 == cursor) 0 digest [] ++ lines_from cursor 1 notes digests
+abbrev pub lines_of_texts : ℕ → List Bytes → List Bytes → Bytes
+lines_of_texts cursor notes [] = []
+lines_of_texts cursor notes (digest ∷ digests) = text_line (0 == cursor) 0 digest [] ++ text_lines_from cursor 1 notes digests
 
 abbrev pub listing : History → Bytes
-listing h = listed h.cursor h.notes (map sha256 h.texts)
+listing h = lines_of_texts h.cursor h.notes (map sha256 h.texts)

@@ -12,7 +12,7 @@ use Rattle.bz_journal.specs.History.{most_steps}
 
 -- the tree of the present text, the steps between the texts, a note of each step, the path of the file's package, the number of the
 -- present text, and that of the one that was present before it
-pub record State : Type 0 where
+pub record SessionState : Type 0 where
   pub tree : Node
   pub steps : List (List Edit)
   pub notes : List Bytes
@@ -20,7 +20,7 @@ pub record State : Type 0 where
   pub cursor : ℕ
   pub before : ℕ
 
-abbrev pub state_code : Coded Node → Coded (List Edit) → Coded State
+abbrev pub state_code : Coded Node → Coded (List Edit) → Coded SessionState
 state_code node edits =
     code_by (Node × (List (List Edit) × (List Bytes × (Bytes × (ℕ × ℕ)))))
     (coded× node (coded× (coded_list edits) (coded× (coded_list (coded_list coded_ℕ)) (coded× (coded_list coded_ℕ) (coded× coded_ℕ coded_ℕ)))))
@@ -28,13 +28,13 @@ state_code node edits =
     (λ p. record { tree = p.0; steps = p.1.0; notes = p.1.1.0; «package» = p.1.1.1.0; cursor = p.1.1.1.1.0; before = p.1.1.1.1.1 }) (λ _. refl)
 
 -- the trail of its texts
-abbrev pub trail_of : State → Trail
-trail_of s = trail_at s.tree s.steps s.cursor
+abbrev pub session_trail : SessionState → Trail
+session_trail s = trail_at s.tree s.steps s.cursor
 
 -- The steps lead from text to text, each step has a note, path and notes are texts that fit a journal, and the numbers are within
 -- their bounds.
-pub record IsSession (s : State) : Type 0 where
-  pub trail : IsTrail (trail_of s)
+pub record IsSession (s : SessionState) : Type 0 where
+  pub trail : IsTrail (session_trail s)
   pub named : length s.«package» ≤ 65536
   pub spelled : IsUtf8 s.«package»
   pub noted : length s.notes ≡ length s.steps

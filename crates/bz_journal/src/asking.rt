@@ -9,7 +9,7 @@ ghost use Rattle.bz_command.specs.Effect.{effect, printed};
 ghost use Rattle.bz_names.specs.Index.{IsIndexOf};
 ghost use Rattle.bz_journal.specs.Actions as a;
 ghost use Rattle.bz_journal.specs.History.{Acts, MakesOrWants};
-ghost use Rattle.bz_journal.specs.Shown.{history_of};
+ghost use Rattle.bz_journal.specs.Shown.{session_history};
 
 use crate::action::Reply;
 use crate::beside::{FEWEST, kept, lines_for, value_of};
@@ -66,7 +66,7 @@ fn answer_of(
 ) -> Option<Result<Reply, Refusal>>
     requires value { file.now ≡ view_of session.now.tree }
     requires names { IfSome names (λ index. IsIndexOf index.now file.now) }
-    ensures { IfSome result (λ answer. (note : Bytes) → MakesOrWants (a.Do command.now target.now) note (history_of session.now) answer (history_of session.now)) }
+    ensures { IfSome result (λ answer. (note : Bytes) → MakesOrWants (a.Do command.now target.now) note (session_history session.now) answer (session_history session.now)) }
 {
     let alloc = session.alloc();
     let here = session.present();
@@ -126,7 +126,7 @@ pub(crate) fn answer_noted(
 ) -> Option<Result<Reply, Refusal>>
     requires value { IfSome value.old (λ items. items ≡ view_of session.now.tree) }
     requires names { IfSome names.old (λ index. IsIndexOf index (view_of session.now.tree)) }
-    ensures acts { IfSome result (λ answer. Acts (a.Do command.now target.now) note.now (history_of session.now) answer (history_of session.now)) }
+    ensures acts { IfSome result (λ answer. Acts (a.Do command.now target.now) note.now (session_history session.now) answer (session_history session.now)) }
     ensures value { IfSome value.new (λ items. items ≡ view_of session.now.tree) }
     ensures names { IfSome names.new (λ index. IsIndexOf index (view_of session.now.tree)) }
 {

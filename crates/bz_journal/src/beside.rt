@@ -19,8 +19,8 @@ ghost use Rattle.bz_journal.specs.Actions as a;
 ghost use Rattle.bz_journal.specs.History.{after_meaning, note_limit, present, MakesOrWants};
 ghost use Rattle.bz_journal.specs.Lines.{AreLinesOf};
 ghost use Rattle.bz_journal.specs.Meaning.{gives, refuses, told, written};
-ghost use Rattle.bz_journal.specs.Shown.{history_of};
-ghost use Rattle.bz_journal.specs.State.{trail_of};
+ghost use Rattle.bz_journal.specs.Shown.{session_history};
+ghost use Rattle.bz_journal.specs.State.{session_trail};
 
 use crate::action::Reply;
 use crate::digests::OptionalDigests;
@@ -262,10 +262,10 @@ fn take_up_whole(
 ) -> Result<Reply, Refusal>
     requires short { length note.now ≤ note_limit }
     requires tidy { tidied file.now ≡ file.now }
-    ensures makes { ((result, history_of session.new) ≡ after_meaning note.now (history_of session.old) (written file.now printed))
-        ⊎ ((result ≡ Err Refusal.Memory) × (history_of session.new ≡ history_of session.old)) }
+    ensures makes { ((result, session_history session.new) ≡ after_meaning note.now (session_history session.old) (written file.now printed))
+        ⊎ ((result ≡ Err Refusal.Memory) × (session_history session.new ≡ session_history session.old)) }
     ensures unmoved { OnErr result (session.new ≡ session.old) }
-    ensures small { IsSmall (trail_of session.old) → IsSmall (trail_of session.new) }
+    ensures small { IsSmall (session_trail session.old) → IsSmall (session_trail session.new) }
 {
     match drawn_of(session.alloc(), file) {
         Ok(tree) => session.take_up(tree, printed, note),
@@ -285,10 +285,10 @@ fn take_up_lines(
     requires short { length note.now ≤ note_limit }
     requires tidy { tidied file.now ≡ file.now }
     requires lines { AreLinesOf lines session.old.tree file.now }
-    ensures makes { ((result, history_of session.new) ≡ after_meaning note.now (history_of session.old) (written file.now printed))
-        ⊎ ((result ≡ Err Refusal.Memory) × (history_of session.new ≡ history_of session.old)) }
+    ensures makes { ((result, session_history session.new) ≡ after_meaning note.now (session_history session.old) (written file.now printed))
+        ⊎ ((result ≡ Err Refusal.Memory) × (session_history session.new ≡ session_history session.old)) }
     ensures unmoved { OnErr result (session.new ≡ session.old) }
-    ensures small { IsSmall (trail_of session.old) → IsSmall (trail_of session.new) }
+    ensures small { IsSmall (session_trail session.old) → IsSmall (session_trail session.new) }
 {
     layout_is_accepted();
     reads_back(session.present());
@@ -312,10 +312,10 @@ fn take_up_tidied(
     requires short { length note.now ≤ note_limit }
     requires tidy { tidied file.now ≡ file.now }
     requires lines { IfSome lines (λ lines. AreLinesOf lines session.old.tree file.now) }
-    ensures makes { ((result, history_of session.new) ≡ after_meaning note.now (history_of session.old) (written file.now printed))
-        ⊎ ((result ≡ Err Refusal.Memory) × (history_of session.new ≡ history_of session.old)) }
+    ensures makes { ((result, session_history session.new) ≡ after_meaning note.now (session_history session.old) (written file.now printed))
+        ⊎ ((result ≡ Err Refusal.Memory) × (session_history session.new ≡ session_history session.old)) }
     ensures unmoved { OnErr result (session.new ≡ session.old) }
-    ensures small { IsSmall (trail_of session.old) → IsSmall (trail_of session.new) }
+    ensures small { IsSmall (session_trail session.old) → IsSmall (session_trail session.new) }
 {
     match lines {
         Some(lines) => take_up_lines(session, file, lines, printed, note),
@@ -339,10 +339,10 @@ fn take_up_value(
     requires lines { IfSome done.lines (λ lines. AreLinesOf lines session.old.tree done.file) }
     requires most { length (layout done.file) ≤ limit → length (layout done.file) ≤ done.most }
     requires written { IsWritten (view_of session.old.tree) session.old.tree }
-    ensures makes { ((result, history_of session.new) ≡ after_meaning note.now (history_of session.old) (written done.file printed))
-        ⊎ ((result ≡ Err Refusal.Memory) × (history_of session.new ≡ history_of session.old)) }
+    ensures makes { ((result, session_history session.new) ≡ after_meaning note.now (session_history session.old) (written done.file printed))
+        ⊎ ((result ≡ Err Refusal.Memory) × (session_history session.new ≡ session_history session.old)) }
     ensures unmoved { OnErr result (session.new ≡ session.old) }
-    ensures small { IsSmall (trail_of session.old) → IsSmall (trail_of session.new) }
+    ensures small { IsSmall (session_trail session.old) → IsSmall (session_trail session.new) }
     ensures value { IfSome value.new (λ items. items ≡ view_of session.new.tree) }
     ensures written { IsWritten (view_of session.new.tree) session.new.tree }
     ensures long { length (spell_node session.new.tree) ≤ long.new }
@@ -381,10 +381,10 @@ fn take_up_made(
     requires marked { IfSome changes.marks (λ marks. AreExchanged marks.items (view_of session.old.tree) file) }
     requires spliced { IfSome changes.spliced (λ s. IsSpliced s.from s.gone s.come (view_of session.old.tree) file) }
     requires written { IsWritten (view_of session.old.tree) session.old.tree }
-    ensures makes { ((result, history_of session.new) ≡ after_meaning note.now (history_of session.old) (written file printed))
-        ⊎ ((result ≡ Err Refusal.Memory) × (history_of session.new ≡ history_of session.old)) }
+    ensures makes { ((result, session_history session.new) ≡ after_meaning note.now (session_history session.old) (written file printed))
+        ⊎ ((result ≡ Err Refusal.Memory) × (session_history session.new ≡ session_history session.old)) }
     ensures unmoved { OnErr result (session.new ≡ session.old) }
-    ensures small { IsSmall (trail_of session.old) → IsSmall (trail_of session.new) }
+    ensures small { IsSmall (session_trail session.old) → IsSmall (session_trail session.new) }
     ensures value { IfSome value.new (λ items. items ≡ view_of session.new.tree) }
     ensures written { IsWritten (view_of session.new.tree) session.new.tree }
     ensures long { length (spell_node session.new.tree) ≤ long.new }
@@ -411,9 +411,9 @@ pub(crate) fn edit_beside(
     requires long { length (spell_node session.old.tree) ≤ long.old }
     requires value { IfSome value.old (λ items. items ≡ view_of session.old.tree) }
     requires written { IsWritten (view_of session.old.tree) session.old.tree }
-    ensures makes { MakesOrWants (a.Do command.now target.now) note.now (history_of session.old) result (history_of session.new) }
+    ensures makes { MakesOrWants (a.Do command.now target.now) note.now (session_history session.old) result (session_history session.new) }
     ensures unmoved { OnErr result (session.new ≡ session.old) }
-    ensures small { IsSmall (trail_of session.old) → IsSmall (trail_of session.new) }
+    ensures small { IsSmall (session_trail session.old) → IsSmall (session_trail session.new) }
     ensures value { IfSome value.new (λ items. items ≡ view_of session.new.tree) }
     ensures written { IsWritten (view_of session.new.tree) session.new.tree }
     ensures long { length (spell_node session.new.tree) ≤ long.new }

@@ -20,8 +20,8 @@ ghost use Rattle.bz_journal.specs.Fixed.{IsFormatted};
 ghost use Rattle.bz_journal.specs.History.{note_limit, opened, present, Acts, IsFormat};
 ghost use Rattle.bz_journal.specs.Keeping.{IsRefused, IsWriteOrOpen, Keeps};
 ghost use Rattle.bz_journal.specs.Listing.{listing};
-ghost use Rattle.bz_journal.specs.Shown.{history_of, IsOverEven};
-ghost use Rattle.bz_journal.specs.State.{trail_of};
+ghost use Rattle.bz_journal.specs.Shown.{session_history, IsOverEven};
+ghost use Rattle.bz_journal.specs.State.{session_trail};
 
 use crate::action::{Action, Reply};
 use crate::asking::answer_noted;
@@ -62,10 +62,10 @@ pub struct Editor {
 impl Model for Editor {
     ghost use Rattle.bz_tree.specs.contracts.tree.Tree as t;
     ghost use Rattle.bz_edit.specs.contracts.step.Step as s;
-    ghost use Rattle.bz_journal.specs.State.{State, state_code};
+    ghost use Rattle.bz_journal.specs.State.{SessionState, state_code};
     ghost use Rattle.bz_journal.specs.Editing.{IsBeside};
 
-    ghost Value = { State };
+    ghost Value = { SessionState };
 
     ghost coded = { state_code t.the_row.coded s.the_row.coded };
 
@@ -104,12 +104,12 @@ fn act_by_session(
     written: &mut bool,
     long: &mut usize,
 ) -> Result<Reply, Refusal>
-    ensures acts { Acts (action_in action.now) note.now (history_of session.old) result (history_of session.new) }
-    ensures formatted { OnOk result (IsFormat (action_in action.now) → IsFormatted (present (history_of session.old)) (present (history_of session.new))) }
-    ensures err { OnErr result (history_of session.new ≡ history_of session.old) }
+    ensures acts { Acts (action_in action.now) note.now (session_history session.old) result (session_history session.new) }
+    ensures formatted { OnOk result (IsFormat (action_in action.now) → IsFormatted (present (session_history session.old)) (present (session_history session.new))) }
+    ensures err { OnErr result (session_history session.new ≡ session_history session.old) }
     ensures unmoved { OnErr result (session.new ≡ session.old) }
-    ensures even { length note.now ≤ note_limit → IsOverEven (action_in action.now) (trail_of session.old) → IsOk result }
-    ensures small { IsSmall (trail_of session.old) → IsSmall (trail_of session.new) }
+    ensures even { length note.now ≤ note_limit → IsOverEven (action_in action.now) (session_trail session.old) → IsOk result }
+    ensures small { IsSmall (session_trail session.old) → IsSmall (session_trail session.new) }
     ensures written { written.new ≡ true → IsWritten (view_of session.new.tree) session.new.tree }
     ensures long { length (spell_node session.new.tree) ≤ long.new }
 {
@@ -134,9 +134,9 @@ fn edit_noted(
     requires value { IfSome value.old (λ items. items ≡ view_of session.old.tree) }
     requires long { length (spell_node session.old.tree) ≤ long.old }
     requires written { IsWritten (view_of session.old.tree) session.old.tree }
-    ensures acts { Acts (a.Do command.now target.now) note.now (history_of session.old) result (history_of session.new) }
+    ensures acts { Acts (a.Do command.now target.now) note.now (session_history session.old) result (session_history session.new) }
     ensures unmoved { OnErr result (session.new ≡ session.old) }
-    ensures small { IsSmall (trail_of session.old) → IsSmall (trail_of session.new) }
+    ensures small { IsSmall (session_trail session.old) → IsSmall (session_trail session.new) }
     ensures value { IfSome value.new (λ items. items ≡ view_of session.new.tree) }
     ensures written { IsWritten (view_of session.new.tree) session.new.tree }
     ensures long { length (spell_node session.new.tree) ≤ long.new }
@@ -166,8 +166,8 @@ impl Editor {
     /// An editor at the first text of a file of the package with this path, as `Session::open` makes a session. The errors are those.
     pub fn open(alloc: Global, package: &str, text: &[u8]) -> Result<Editor, ReadFault>
         requires { length «package».now ≤ 65536 }
-        ensures ok { IfOk result (λ editor. history_of editor ≡ opened «package».now text.now) }
-        ensures small { IfOk result (λ editor. IsSmall (trail_of editor)) }
+        ensures ok { IfOk result (λ editor. session_history editor ≡ opened «package».now text.now) }
+        ensures small { IfOk result (λ editor. IsSmall (session_trail editor)) }
         ensures accepted { OnOk result (Accepted text.now) }
         ensures too_large { (result ≡ Err ReadFault.TooLarge) ↔ (limit < length text.now) }
         ensures not_utf8 { (at : ℕ) → ((result ≡ Err (ReadFault.NotUtf8 at)) ↔ ((length text.now ≤ limit) × IsValidUpTo text.now at)) }
@@ -188,14 +188,14 @@ impl Editor {
 
     /// The number of the present text; the first is 0.
     pub fn cursor(&self) -> u32
-        ensures { result ≡ (history_of self.now).cursor }
+        ensures { result ≡ (session_history self.now).cursor }
     {
         self.session.cursor()
     }
 
     /// Appends the present text to `out`. The error: a growth was refused; `out` is then as before.
     pub fn text_into(&self, out: &mut Vec<u8>) -> Result<(), Memory>
-        ensures ok { OnOk result (out.new.items ≡ out.old.items ++ present (history_of self.now)) }
+        ensures ok { OnOk result (out.new.items ≡ out.old.items ++ present (session_history self.now)) }
         ensures err { OnErr result (out.new.items ≡ out.old.items) }
     {
         self.session.text_into(out)
@@ -203,7 +203,7 @@ impl Editor {
 
     /// The texts, one line each, as `Session::listing` gives them. The error: a growth was refused.
     pub fn listing(&self, alloc: Global) -> Result<Text, Memory>
-        ensures { IfOk result (λ text. text ≡ listing (history_of self.now)) }
+        ensures { IfOk result (λ text. text ≡ listing (session_history self.now)) }
     {
         self.session.listing(alloc)
     }
@@ -212,12 +212,12 @@ impl Editor {
     /// they change: the value is kept, and only the lines of the statements that were exchanged are drawn. The errors are those of
     /// `Session::act_noted`.
     pub fn act_noted(&mut self, action: &Action<'_>, note: &str) -> Result<Reply, Refusal>
-        ensures acts { Acts (action_in action.now) note.now (history_of self.old) result (history_of self.new) }
-        ensures formatted { OnOk result (IsFormat (action_in action.now) → IsFormatted (present (history_of self.old)) (present (history_of self.new))) }
-        ensures err { OnErr result (history_of self.new ≡ history_of self.old) }
+        ensures acts { Acts (action_in action.now) note.now (session_history self.old) result (session_history self.new) }
+        ensures formatted { OnOk result (IsFormat (action_in action.now) → IsFormatted (present (session_history self.old)) (present (session_history self.new))) }
+        ensures err { OnErr result (session_history self.new ≡ session_history self.old) }
         ensures unmoved { OnErr result (self.new ≡ self.old) }
-        ensures even { length note.now ≤ note_limit → IsOverEven (action_in action.now) (trail_of self.old) → IsOk result }
-        ensures small { IsSmall (trail_of self.old) → IsSmall (trail_of self.new) }
+        ensures even { length note.now ≤ note_limit → IsOverEven (action_in action.now) (session_trail self.old) → IsOk result }
+        ensures small { IsSmall (session_trail self.old) → IsSmall (session_trail self.new) }
     {
         if let Action::Do(command, target) = *action {
             let asks = command.prints();
@@ -265,24 +265,24 @@ impl Editor {
         file: &str,
         files: &mut F,
     ) -> Result<Reply, KeepFault>
-        ensures keeps { Keeps (action_in action.now) note.now (history_of self.old) result (history_of self.new) }
+        ensures keeps { Keeps (action_in action.now) note.now (session_history self.old) result (session_history self.new) }
         ensures refused { IfErr result (λ fault. IsRefused fault → (self.new ≡ self.old) × (files.new ≡ files.old)) }
-        ensures small { IsSmall (trail_of self.old) → IsSmall (trail_of self.new) }
+        ensures small { IsSmall (session_trail self.old) → IsSmall (session_trail self.new) }
 
         // A stop at any moment leaves a file that goes on with the texts of before or after, and that holds the present text of either.
-        ensures each { F.honest files.old ≡ true → Resumes (F.folder files.old) file.now (history_of self.old).«package» (history_of self.old).texts
+        ensures each { F.honest files.old ≡ true → Resumes (F.folder files.old) file.now (session_history self.old).«package» (session_history self.old).texts
             → (now : Folder) → F.since files.new (F.moment files.old) now
-            → (now ≡ F.folder files.old) ⊎ Survives file.now (history_of self.old) (history_of self.new) (F.folder files.old) now }
-        ensures time { F.honest files.old ≡ true → Resumes (F.folder files.old) file.now (history_of self.old).«package» (history_of self.old).texts
+            → (now ≡ F.folder files.old) ⊎ Survives file.now (session_history self.old) (session_history self.new) (F.folder files.old) now }
+        ensures time { F.honest files.old ≡ true → Resumes (F.folder files.old) file.now (session_history self.old).«package» (session_history self.old).texts
             → Elapses (F.moment files.old) (F.moment files.new) (F.since files.old) (F.since files.new)
-            (λ now. (now ≡ F.folder files.old) ⊎ Survives file.now (history_of self.old) (history_of self.new) (F.folder files.old) now) }
-        ensures kept { F.honest files.old ≡ true → Resumes (F.folder files.old) file.now (history_of self.old).«package» (history_of self.old).texts
-            → OnOk result ((history_of self.new).cursor ≢ (history_of self.old).cursor
-            → Holds (F.folder files.new) file.now (history_of self.old).«package» (present (history_of self.new)) (history_of self.new).texts
+            (λ now. (now ≡ F.folder files.old) ⊎ Survives file.now (session_history self.old) (session_history self.new) (F.folder files.old) now) }
+        ensures kept { F.honest files.old ≡ true → Resumes (F.folder files.old) file.now (session_history self.old).«package» (session_history self.old).texts
+            → OnOk result ((session_history self.new).cursor ≢ (session_history self.old).cursor
+            → Holds (F.folder files.new) file.now (session_history self.old).«package» (present (session_history self.new)) (session_history self.new).texts
             × OthersStay file.now (F.folder files.old) (F.folder files.new)) }
 
         // Nothing is replaced where the present text stays, and at every fault but Write.
-        ensures still { OnOk result ((history_of self.new).cursor ≡ (history_of self.old).cursor → files.new ≡ files.old) }
+        ensures still { OnOk result ((session_history self.new).cursor ≡ (session_history self.old).cursor → files.new ≡ files.old) }
         ensures untouched { F.honest files.old ≡ true → IfErr result (λ fault. fault ≢ KeepFault.Pair PairFault.Write
             → (now : Folder) → F.since files.new (F.moment files.old) now → now ≡ F.folder files.old) }
 

@@ -3,7 +3,7 @@ ghost use Rattle.std.specs.Prelude.{◌≡◌, IfOk, map};
 ghost use Rattle.sha2.specs.Sha256.{sha256};
 ghost use Rattle.bz_trail.specs.Shown.{texts_of};
 ghost use Rattle.bz_trail.specs.Trails.{IsTrail, trail_at};
-ghost use Rattle.bz_journal.specs.Shown.{history_of};
+ghost use Rattle.bz_journal.specs.Shown.{session_history};
 
 use crate::digest::digest_of;
 use crate::digests::{Digests, OptionalDigests, one_digest};
@@ -57,7 +57,7 @@ fn hashed_around(
 impl<D: Digests + Drop> Session<D> {
     /// The digests of all texts, taken of a copy that goes through them. The error: memory was refused.
     pub(crate) fn hashed(&self) -> Result<Vec<[u8; 32]>, Memory>
-        ensures { IfOk result (λ digests. digests.items ≡ map sha256 (history_of self.now).texts) }
+        ensures { IfOk result (λ digests. digests.items ≡ map sha256 (session_history self.now).texts) }
     {
         let alloc = self.alloc();
         let mut tree = self.tree.copy()?;

@@ -2,14 +2,14 @@
 ghost use Rattle.std.specs.Prelude.{◌≡◌, ◌≢◌, ◌⊎◌, ◌≤◌, ◌<◌, [], true, length, IfOk, IfErr, IsErrOf, OnOk};
 ghost use Rattle.bz_files.specs.Faults.{Rises};
 ghost use Rattle.bz_files.specs.Folder.{Elapses, Folder};
-ghost use Rattle.bz_keep.specs.Resuming.{Follows, Holds, OthersStay, Resumes, Survives};
+ghost use Rattle.bz_keep.specs.Resuming.{FollowsKept, Holds, OthersStay, Resumes, Survives};
 ghost use Rattle.bz_trail.specs.Trails.{IsSmall};
 ghost use Rattle.bz_journal.specs.Actions.{action_in};
 ghost use Rattle.bz_journal.specs.History.{History, present};
 ghost use Rattle.bz_journal.specs.Keeping.{IsRefused, IsWriteOrOpen, Keeps};
-ghost use Rattle.bz_journal.specs.Lasting.{IsSaved, saved};
-ghost use Rattle.bz_journal.specs.Shown.{history_of};
-ghost use Rattle.bz_journal.specs.State.{trail_of};
+ghost use Rattle.bz_journal.specs.Lasting.{IsSavedSession, saved};
+ghost use Rattle.bz_journal.specs.Shown.{session_history};
+ghost use Rattle.bz_journal.specs.State.{session_trail};
 
 use crate::action::{Action, Reply};
 use crate::digests::Digests;
@@ -36,24 +36,24 @@ impl<D: Digests + Drop> Session<D> {
         file: &str,
         files: &mut F,
     ) -> Result<Reply, KeepFault>
-        ensures keeps { Keeps (action_in action.now) [] (history_of self.old) result (history_of self.new) }
+        ensures keeps { Keeps (action_in action.now) [] (session_history self.old) result (session_history self.new) }
         ensures refused { IfErr result (λ fault. IsRefused fault → (self.new ≡ self.old) × (files.new ≡ files.old)) }
-        ensures small { IsSmall (trail_of self.old) → IsSmall (trail_of self.new) }
+        ensures small { IsSmall (session_trail self.old) → IsSmall (session_trail self.new) }
 
         // A stop at any moment leaves a file that goes on with the texts of before or after, and that holds the present text of either.
-        ensures each { F.honest files.old ≡ true → Resumes (F.folder files.old) file.now (history_of self.old).«package» (history_of self.old).texts
+        ensures each { F.honest files.old ≡ true → Resumes (F.folder files.old) file.now (session_history self.old).«package» (session_history self.old).texts
             → (now : Folder) → F.since files.new (F.moment files.old) now
-            → (now ≡ F.folder files.old) ⊎ Survives file.now (history_of self.old) (history_of self.new) (F.folder files.old) now }
-        ensures time { F.honest files.old ≡ true → Resumes (F.folder files.old) file.now (history_of self.old).«package» (history_of self.old).texts
+            → (now ≡ F.folder files.old) ⊎ Survives file.now (session_history self.old) (session_history self.new) (F.folder files.old) now }
+        ensures time { F.honest files.old ≡ true → Resumes (F.folder files.old) file.now (session_history self.old).«package» (session_history self.old).texts
             → Elapses (F.moment files.old) (F.moment files.new) (F.since files.old) (F.since files.new)
-            (λ now. (now ≡ F.folder files.old) ⊎ Survives file.now (history_of self.old) (history_of self.new) (F.folder files.old) now) }
-        ensures kept { F.honest files.old ≡ true → Resumes (F.folder files.old) file.now (history_of self.old).«package» (history_of self.old).texts
-            → OnOk result ((history_of self.new).cursor ≢ (history_of self.old).cursor
-            → Holds (F.folder files.new) file.now (history_of self.old).«package» (present (history_of self.new)) (history_of self.new).texts
+            (λ now. (now ≡ F.folder files.old) ⊎ Survives file.now (session_history self.old) (session_history self.new) (F.folder files.old) now) }
+        ensures kept { F.honest files.old ≡ true → Resumes (F.folder files.old) file.now (session_history self.old).«package» (session_history self.old).texts
+            → OnOk result ((session_history self.new).cursor ≢ (session_history self.old).cursor
+            → Holds (F.folder files.new) file.now (session_history self.old).«package» (present (session_history self.new)) (session_history self.new).texts
             × OthersStay file.now (F.folder files.old) (F.folder files.new)) }
 
         // Nothing is replaced where the present text stays, and at every fault but Write.
-        ensures still { OnOk result ((history_of self.new).cursor ≡ (history_of self.old).cursor → files.new ≡ files.old) }
+        ensures still { OnOk result ((session_history self.new).cursor ≡ (session_history self.old).cursor → files.new ≡ files.old) }
         ensures untouched { F.honest files.old ≡ true → IfErr result (λ fault. fault ≢ KeepFault.Pair PairFault.Write
             → (now : Folder) → F.since files.new (F.moment files.old) now → now ≡ F.folder files.old) }
 
@@ -78,24 +78,24 @@ impl<D: Digests + Drop> Session<D> {
         file: &str,
         files: &mut F,
     ) -> Result<Reply, KeepFault>
-        ensures keeps { Keeps (action_in action.now) note.now (history_of self.old) result (history_of self.new) }
+        ensures keeps { Keeps (action_in action.now) note.now (session_history self.old) result (session_history self.new) }
         ensures refused { IfErr result (λ fault. IsRefused fault → (self.new ≡ self.old) × (files.new ≡ files.old)) }
-        ensures small { IsSmall (trail_of self.old) → IsSmall (trail_of self.new) }
+        ensures small { IsSmall (session_trail self.old) → IsSmall (session_trail self.new) }
 
         // A stop at any moment leaves a file that goes on with the texts of before or after, and that holds the present text of either.
-        ensures each { F.honest files.old ≡ true → Resumes (F.folder files.old) file.now (history_of self.old).«package» (history_of self.old).texts
+        ensures each { F.honest files.old ≡ true → Resumes (F.folder files.old) file.now (session_history self.old).«package» (session_history self.old).texts
             → (now : Folder) → F.since files.new (F.moment files.old) now
-            → (now ≡ F.folder files.old) ⊎ Survives file.now (history_of self.old) (history_of self.new) (F.folder files.old) now }
-        ensures time { F.honest files.old ≡ true → Resumes (F.folder files.old) file.now (history_of self.old).«package» (history_of self.old).texts
+            → (now ≡ F.folder files.old) ⊎ Survives file.now (session_history self.old) (session_history self.new) (F.folder files.old) now }
+        ensures time { F.honest files.old ≡ true → Resumes (F.folder files.old) file.now (session_history self.old).«package» (session_history self.old).texts
             → Elapses (F.moment files.old) (F.moment files.new) (F.since files.old) (F.since files.new)
-            (λ now. (now ≡ F.folder files.old) ⊎ Survives file.now (history_of self.old) (history_of self.new) (F.folder files.old) now) }
-        ensures kept { F.honest files.old ≡ true → Resumes (F.folder files.old) file.now (history_of self.old).«package» (history_of self.old).texts
-            → OnOk result ((history_of self.new).cursor ≢ (history_of self.old).cursor
-            → Holds (F.folder files.new) file.now (history_of self.old).«package» (present (history_of self.new)) (history_of self.new).texts
+            (λ now. (now ≡ F.folder files.old) ⊎ Survives file.now (session_history self.old) (session_history self.new) (F.folder files.old) now) }
+        ensures kept { F.honest files.old ≡ true → Resumes (F.folder files.old) file.now (session_history self.old).«package» (session_history self.old).texts
+            → OnOk result ((session_history self.new).cursor ≢ (session_history self.old).cursor
+            → Holds (F.folder files.new) file.now (session_history self.old).«package» (present (session_history self.new)) (session_history self.new).texts
             × OthersStay file.now (F.folder files.old) (F.folder files.new)) }
 
         // Nothing is replaced where the present text stays, and at every fault but Write.
-        ensures still { OnOk result ((history_of self.new).cursor ≡ (history_of self.old).cursor → files.new ≡ files.old) }
+        ensures still { OnOk result ((session_history self.new).cursor ≡ (session_history self.old).cursor → files.new ≡ files.old) }
         ensures untouched { F.honest files.old ≡ true → IfErr result (λ fault. fault ≢ KeepFault.Pair PairFault.Write
             → (now : Folder) → F.since files.new (F.moment files.old) now → now ≡ F.folder files.old) }
 
@@ -122,8 +122,8 @@ impl<D: Digests + Drop> Session<D> {
 
     /// The present text. The error: a growth was refused.
     fn own_text(&self) -> Result<Vec<u8>, Memory>
-        ensures text { IfOk result (λ text. text.items ≡ present (history_of self.now)) }
-        ensures within { (history_of self.now).cursor < length (history_of self.now).texts }
+        ensures text { IfOk result (λ text. text.items ≡ present (session_history self.now)) }
+        ensures within { (session_history self.now).cursor < length (session_history self.now).texts }
     {
         let tree = self.present();
         let mut text = Vec::new(tree.root.parts.alloc());
@@ -134,7 +134,7 @@ impl<D: Digests + Drop> Session<D> {
     /// The journal. The error: a growth was refused.
     fn journal(&self) -> Result<Vec<u8>, Memory>
         ensures told { IfOk result (λ told. told.items ≡ saved self.now) }
-        ensures journal { OnOk result (IsSaved self.now) }
+        ensures journal { OnOk result (IsSavedSession self.now) }
     {
         let mut told = Vec::new(self.alloc());
         match self.digests.list() {
@@ -147,8 +147,8 @@ impl<D: Digests + Drop> Session<D> {
     /// The journal and the present text. The error: a growth was refused.
     fn pair(&self) -> Result<(Vec<u8>, Vec<u8>), Memory>
         ensures told { IfOk result (λ pair. pair.0.items ≡ saved self.now) }
-        ensures text { IfOk result (λ pair. pair.1.items ≡ present (history_of self.now)) }
-        ensures journal { OnOk result (IsSaved self.now) }
+        ensures text { IfOk result (λ pair. pair.1.items ≡ present (session_history self.now)) }
+        ensures journal { OnOk result (IsSavedSession self.now) }
     {
         let told = self.journal()?;
         let text = self.own_text()?;
@@ -162,16 +162,16 @@ impl<D: Digests + Drop> Session<D> {
         file: &str,
         files: &mut F,
     ) -> Result<(), PairFault>
-        ensures each { F.honest files.old ≡ true → (h : History) → IfOk standing (λ text. text.items ≡ present h) → Follows h (history_of self.now)
+        ensures each { F.honest files.old ≡ true → (h : History) → IfOk standing (λ text. text.items ≡ present h) → FollowsKept h (session_history self.now)
             → Resumes (F.folder files.old) file.now h.package h.texts → (now : Folder) → F.since files.new (F.moment files.old) now
-            → (now ≡ F.folder files.old) ⊎ Survives file.now h (history_of self.now) (F.folder files.old) now }
-        ensures time { F.honest files.old ≡ true → (h : History) → IfOk standing (λ text. text.items ≡ present h) → Follows h (history_of self.now)
+            → (now ≡ F.folder files.old) ⊎ Survives file.now h (session_history self.now) (F.folder files.old) now }
+        ensures time { F.honest files.old ≡ true → (h : History) → IfOk standing (λ text. text.items ≡ present h) → FollowsKept h (session_history self.now)
             → Resumes (F.folder files.old) file.now h.package h.texts
             → Elapses (F.moment files.old) (F.moment files.new) (F.since files.old) (F.since files.new)
-            (λ now. (now ≡ F.folder files.old) ⊎ Survives file.now h (history_of self.now) (F.folder files.old) now) }
-        ensures kept { F.honest files.old ≡ true → OnOk result ((h : History) → IfOk standing (λ text. text.items ≡ present h) → Follows h (history_of self.now)
+            (λ now. (now ≡ F.folder files.old) ⊎ Survives file.now h (session_history self.now) (F.folder files.old) now) }
+        ensures kept { F.honest files.old ≡ true → OnOk result ((h : History) → IfOk standing (λ text. text.items ≡ present h) → FollowsKept h (session_history self.now)
             → Resumes (F.folder files.old) file.now h.package h.texts
-            → Holds (F.folder files.new) file.now h.package (present (history_of self.now)) (history_of self.now).texts
+            → Holds (F.folder files.new) file.now h.package (present (session_history self.now)) (session_history self.now).texts
             × OthersStay file.now (F.folder files.old) (F.folder files.new)) }
         ensures untouched { F.honest files.old ≡ true → IfErr result (λ fault. fault ≢ PairFault.Write
             → (now : Folder) → F.since files.new (F.moment files.old) now → now ≡ F.folder files.old) }

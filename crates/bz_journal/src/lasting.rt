@@ -8,9 +8,9 @@ ghost use Rattle.bz_resume.specs.Journals.{AreSmall, Journal, NoJournal};
 ghost use Rattle.bz_resume.specs.Resumed.{IsResumed as WasResumed, IsStale, StandsFor};
 ghost use Rattle.bz_trail.specs.Trails.{IsSmall};
 ghost use Rattle.bz_journal.specs.History.{History};
-ghost use Rattle.bz_journal.specs.Lasting.{GoesOn, IsAgain, IsKnown, IsResumed, IsSaved, saved};
-ghost use Rattle.bz_journal.specs.Shown.{history_of};
-ghost use Rattle.bz_journal.specs.State.{trail_of};
+ghost use Rattle.bz_journal.specs.Lasting.{GoesOn, IsAgain, IsKnownSession, IsResumedSession, IsSavedSession, saved};
+ghost use Rattle.bz_journal.specs.Shown.{session_history};
+ghost use Rattle.bz_journal.specs.State.{session_trail};
 
 use crate::digests::Digests;
 use crate::session::Session;
@@ -32,7 +32,7 @@ fn path_of(alloc: Global, package: &Text) -> Result<String, Memory>
 impl<D: Digests + Drop> Session<D> {
     /// The note of the step between texts i and i + 1; `None` past the last step.
     pub fn note(&self, i: u32) -> Option<&str>
-        ensures { option_map (λ note. note.now) result ≡ slice_get (history_of self.now).notes i }
+        ensures { option_map (λ note. note.now) result ≡ slice_get (session_history self.now).notes i }
     {
         match bz_items::at(self.notes.as_slice(), i as usize) {
             Some(note) => Some(str::from_utf8(note.as_slice()).unwrap()),
@@ -43,10 +43,10 @@ impl<D: Digests + Drop> Session<D> {
     /// Appends the journal of the session, whose texts have these digests, in version 2. The error: a growth was refused; `out` is
     /// then as before.
     pub(crate) fn save_by(&self, digests: &[[u8; 32]], out: &mut Vec<u8>) -> Result<(), Memory>
-        requires { digests.now ≡ map sha256 (history_of self.now).texts }
+        requires { digests.now ≡ map sha256 (session_history self.now).texts }
         ensures ok { OnOk result (out.new.items ≡ out.old.items ++ saved self.now) }
         ensures err { OnErr result (out.new.items ≡ out.old.items) }
-        ensures journal { IsSaved self.now }
+        ensures journal { IsSavedSession self.now }
     {
         texts_kept();
         let saved = Saved {
@@ -69,8 +69,8 @@ impl Session {
         ensures err { OnErr result (out.new.items ≡ out.old.items) }
 
         // It is the journal of its history and steps, also when the steps are small.
-        ensures journal { IsSaved self.now }
-        ensures small { IsSmall (trail_of self.now) → AreSmall (history_of self.now) self.now.steps }
+        ensures journal { IsSavedSession self.now }
+        ensures small { IsSmall (session_trail self.now) → AreSmall (session_history self.now) self.now.steps }
     {
         one_reading();
         texts_kept();
@@ -82,11 +82,11 @@ impl Session {
     /// the cursor before. Errors: `Version` exactly where the first line names another version; `Damaged` only where the bytes
     /// are no journal; `Stale` only where they are one, and the file has neither text; `Memory` where a growth was refused.
     pub fn resume(alloc: Global, journal: &[u8], text: &[u8]) -> Result<Session, ResumeFault>
-        ensures ok { IfOk result (IsResumed journal.now text.now) }
+        ensures ok { IfOk result (IsResumedSession journal.now text.now) }
         ensures version { (result ≡ Err f.Version) ↔ IsOtherVersion journal.now }
         ensures damaged { (result ≡ Err f.Damaged) → NoJournal journal.now }
         ensures stale { (result ≡ Err f.Stale) → IsStale journal.now text.now }
-        ensures known { (h : History) (es : List (List Edit)) → Journal journal.now h es → IsKnown h es text.now result }
+        ensures known { (h : History) (es : List (List Edit)) → Journal journal.now h es → IsKnownSession h es text.now result }
     {
         match resume(alloc, journal, text) {
             Ok(resumed) => Session::of_resumed(alloc, resumed),

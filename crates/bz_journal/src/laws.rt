@@ -6,8 +6,8 @@ ghost use Rattle.bz_journal.specs.Editing.{ChangedIsWritten, WrittenIsDrawn};
 ghost use Rattle.bz_journal.specs.Fixed.{FixedPoint};
 ghost use Rattle.bz_journal.specs.History.{IsKept};
 ghost use Rattle.bz_journal.specs.Lasting.{AlikeGoesOn};
-ghost use Rattle.bz_journal.specs.Shown.{history_of};
-ghost use Rattle.bz_journal.specs.State.{trail_of};
+ghost use Rattle.bz_journal.specs.Shown.{session_history};
+ghost use Rattle.bz_journal.specs.State.{session_trail};
 ghost use Rattle.bz_journal.specs.Worked.{WorkedHistories};
 
 use crate::session::Session;
@@ -31,7 +31,7 @@ pub fn alike_goes_on()
 
 /// What the history of each session keeps.
 pub fn history_kept(session: &Session)
-    ensures { ∥ IsKept (history_of session.now) ∥₁ }
+    ensures { ∥ IsKept (session_history session.now) ∥₁ }
 {
     texts_kept();
     let _tree = &session.tree;
@@ -40,9 +40,9 @@ pub fn history_kept(session: &Session)
 /// What a session holds: each step leads between the trees of two texts that follow one another and differ; those of a small
 /// session are the steps between them, and none that leads there weighs less. (`Session::digests` has the digests.)
 pub fn session_holds(session: &Session)
-    ensures lead { StepsLead (trail_of session.now) }
-    ensures between { IsSmall (trail_of session.now) → StepsAreBetween (trail_of session.now) }
-    ensures least { IsSmall (trail_of session.now) → HasLeast (trail_of session.now) }
+    ensures lead { StepsLead (session_trail session.now) }
+    ensures between { IsSmall (session_trail session.now) → StepsAreBetween (session_trail session.now) }
+    ensures least { IsSmall (session_trail session.now) → HasLeast (session_trail session.now) }
 {
     steps_lead();
     small_steps();

@@ -1,8 +1,8 @@
 //! The texts of a session, listed.
 ghost use Rattle.std.specs.Prelude.{◌≡◌, ◌++◌, IfOk, OnOk, length, map};
 ghost use Rattle.sha2.specs.Sha256.{sha256};
-ghost use Rattle.bz_journal.specs.Listing.{lines_from, listing, noted, text_line};
-ghost use Rattle.bz_journal.specs.Shown.{history_of};
+ghost use Rattle.bz_journal.specs.Listing.{text_lines_from, listing, noted, text_line};
+ghost use Rattle.bz_journal.specs.Shown.{session_history};
 
 use crate::digests::Digests;
 use crate::session::Session;
@@ -55,7 +55,7 @@ fn put_lines(
     digests: &[[u8; 32]],
 ) -> Result<(), Memory>
     requires { length digests.now ≡ length notes.now }
-    ensures { OnOk result (out.new.items ≡ out.old.items ++ lines_from cursor 1 notes.now digests.now) }
+    ensures { OnOk result (out.new.items ≡ out.old.items ++ text_lines_from cursor 1 notes.now digests.now) }
 {
     for i in 0..notes.len() {
         let number = i + 1;
@@ -75,7 +75,7 @@ impl<D: Digests + Drop> Session<D> {
     /// digits, and after a space the note of the step to it where there is one, newlines as `\n`. The error: a growth was
     /// refused.
     pub fn listing(&self, alloc: Global) -> Result<Text, Memory>
-        ensures { IfOk result (λ text. text ≡ listing (history_of self.now)) }
+        ensures { IfOk result (λ text. text ≡ listing (session_history self.now)) }
     {
         match self.digests.list() {
             Some(digests) => self.listed(alloc, digests),
@@ -85,8 +85,8 @@ impl<D: Digests + Drop> Session<D> {
 
     /// The listing of texts that have these digests. The error: a growth was refused.
     fn listed(&self, alloc: Global, digests: &[[u8; 32]]) -> Result<Text, Memory>
-        requires { digests.now ≡ map sha256 (history_of self.now).texts }
-        ensures { IfOk result (λ text. text ≡ listing (history_of self.now)) }
+        requires { digests.now ≡ map sha256 (session_history self.now).texts }
+        ensures { IfOk result (λ text. text ≡ listing (session_history self.now)) }
     {
         texts_kept();
         let mut out = Vec::new(alloc);

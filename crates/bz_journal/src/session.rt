@@ -6,15 +6,15 @@ ghost use Rattle.bz_tree.specs.Spell.{limit, spell_node};
 ghost use Rattle.bz_tree.specs.Legal.{Accepted};
 ghost use Rattle.bz_tree.specs.Faults.{IsOfText};
 ghost use Rattle.bz_edit.specs.Steps.{weight as weight_held};
-ghost use Rattle.bz_trail.specs.Trails.{IsSmall, are_even, behind, ahead};
+ghost use Rattle.bz_trail.specs.Trails.{IsSmall, are_even, steps_back, steps_forward};
 ghost use Rattle.bz_attribute.specs.declared.refusal.Refusal.{Refusal};
 ghost use Rattle.bz_journal.specs.declared.action.Reply.{Reply};
 ghost use Rattle.bz_journal.specs.Actions as a;
 ghost use Rattle.bz_journal.specs.Actions.{action_in};
 ghost use Rattle.bz_journal.specs.History.{present, opened, changed, after_text, unchanged, most_steps, note_limit, IsFormat, Acts, MakesOrWants, Runs};
 ghost use Rattle.bz_journal.specs.Fixed.{IsFormatted};
-ghost use Rattle.bz_journal.specs.State.{trail_of};
-ghost use Rattle.bz_journal.specs.Shown.{history_of, IsOverEven};
+ghost use Rattle.bz_journal.specs.State.{session_trail};
+ghost use Rattle.bz_journal.specs.Shown.{session_history, IsOverEven};
 
 use crate::action::{Action, Reply};
 use crate::digests::{Digests, put_after};
@@ -65,9 +65,9 @@ impl<D: Digests + Drop> Model for Session<D> {
     ghost use Rattle.bz_edit.specs.contracts.step.Step as s;
     ghost use Rattle.bz_trail.specs.Shown.{texts_of};
     ghost use Rattle.bz_trail.specs.Trails.{trail_at};
-    ghost use Rattle.bz_journal.specs.State.{State, IsSession, state_code};
+    ghost use Rattle.bz_journal.specs.State.{SessionState, IsSession, state_code};
 
-    ghost Value = { State };
+    ghost Value = { SessionState };
 
     ghost coded = { state_code t.the_row.coded s.the_row.coded };
 
@@ -83,8 +83,8 @@ impl Session {
     /// UTF-8; a fault with line and column where the text reads as no tree; `Memory` where a growth was refused.
     pub fn open(alloc: Global, package: &str, text: &[u8]) -> Result<Session, ReadFault>
         requires { length «package».now ≤ 65536 }
-        ensures ok { IfOk result (λ session. history_of session ≡ opened «package».now text.now) }
-        ensures small { IfOk result (λ session. IsSmall (trail_of session)) }
+        ensures ok { IfOk result (λ session. session_history session ≡ opened «package».now text.now) }
+        ensures small { IfOk result (λ session. IsSmall (session_trail session)) }
         ensures accepted { OnOk result (Accepted text.now) }
         ensures too_large { (result ≡ Err ReadFault.TooLarge) ↔ (limit < length text.now) }
         ensures not_utf8 { (at : ℕ) → ((result ≡ Err (ReadFault.NotUtf8 at)) ↔ ((length text.now ≤ limit) × IsValidUpTo text.now at)) }
@@ -95,14 +95,14 @@ impl Session {
 
     /// The SHA-256 of each text, in the order in which these came.
     pub fn digests(&self) -> &[[u8; 32]]
-        ensures { result.now ≡ map sha256 (history_of self.now).texts }
+        ensures { result.now ≡ map sha256 (session_history self.now).texts }
     {
         self.digests.as_slice()
     }
 
     /// The SHA-256 of text i; `None` past the last text.
     pub fn digest(&self, i: u32) -> Option<[u8; 32]>
-        ensures { result ≡ option_map sha256 (slice_get (history_of self.now).texts i) }
+        ensures { result ≡ option_map sha256 (slice_get (session_history self.now).texts i) }
     {
         match bz_items::at(self.digests(), i as usize) {
             Some(digest) => Some(*digest),
@@ -118,8 +118,8 @@ pub(crate) fn begin<D: Digests + Drop>(
     text: &[u8],
 ) -> Result<Session<D>, ReadFault>
     requires { length «package».now ≤ 65536 }
-    ensures ok { IfOk result (λ session. history_of session ≡ opened «package».now text.now) }
-    ensures small { IfOk result (λ session. IsSmall (trail_of session)) }
+    ensures ok { IfOk result (λ session. session_history session ≡ opened «package».now text.now) }
+    ensures small { IfOk result (λ session. IsSmall (session_trail session)) }
     ensures accepted { OnOk result (Accepted text.now) }
     ensures too_large { (result ≡ Err ReadFault.TooLarge) ↔ (limit < length text.now) }
     ensures not_utf8 { (at : ℕ) → ((result ≡ Err (ReadFault.NotUtf8 at)) ↔ ((length text.now ≤ limit) × IsValidUpTo text.now at)) }
@@ -144,8 +144,8 @@ fn first<D: Digests + Drop>(
 ) -> Result<Session<D>, Memory>
     requires named { length «package».now ≤ 65536 }
     requires spelled { spell_node tree ≡ text.now }
-    ensures ok { IfOk result (λ session. history_of session ≡ opened «package».now text.now) }
-    ensures small { IfOk result (λ session. IsSmall (trail_of session)) }
+    ensures ok { IfOk result (λ session. session_history session ≡ opened «package».now text.now) }
+    ensures small { IfOk result (λ session. IsSmall (session_trail session)) }
 {
     starts_small();
     let _root = &tree.root;
@@ -165,14 +165,14 @@ fn first<D: Digests + Drop>(
 impl<D: Digests + Drop> Session<D> {
     /// The number of the present text; the first is 0.
     pub fn cursor(&self) -> u32
-        ensures { result ≡ (history_of self.now).cursor }
+        ensures { result ≡ (session_history self.now).cursor }
     {
         self.cursor // from 0
     }
 
     /// How many steps there are between the first text and the last.
     pub fn steps(&self) -> u32
-        ensures { result + 1 ≡ length (history_of self.now).texts }
+        ensures { result + 1 ≡ length (session_history self.now).texts }
     {
         texts_kept();
         self.steps.len() as u32
@@ -190,7 +190,7 @@ impl<D: Digests + Drop> Session<D> {
 
     /// Appends the present text to `out`. The error: a growth was refused; `out` is then as before.
     pub fn text_into(&self, out: &mut Vec<u8>) -> Result<(), Memory>
-        ensures ok { OnOk result (out.new.items ≡ out.old.items ++ present (history_of self.now)) }
+        ensures ok { OnOk result (out.new.items ≡ out.old.items ++ present (session_history self.now)) }
         ensures err { OnErr result (out.new.items ≡ out.old.items) }
     {
         self.present().spell_into(out)
@@ -198,12 +198,12 @@ impl<D: Digests + Drop> Session<D> {
 
     /// Does an action with an empty note, as `act_noted` does.
     pub fn act(&mut self, action: &Action<'_>) -> Result<Reply, Refusal>
-        ensures acts { Acts (action_in action.now) [] (history_of self.old) result (history_of self.new) }
-        ensures formatted { OnOk result (IsFormat (action_in action.now) → IsFormatted (present (history_of self.old)) (present (history_of self.new))) }
-        ensures err { OnErr result (history_of self.new ≡ history_of self.old) }
+        ensures acts { Acts (action_in action.now) [] (session_history self.old) result (session_history self.new) }
+        ensures formatted { OnOk result (IsFormat (action_in action.now) → IsFormatted (present (session_history self.old)) (present (session_history self.new))) }
+        ensures err { OnErr result (session_history self.new ≡ session_history self.old) }
         ensures unmoved { OnErr result (self.new ≡ self.old) }
-        ensures even { IsOverEven (action_in action.now) (trail_of self.old) → IsOk result }
-        ensures small { IsSmall (trail_of self.old) → IsSmall (trail_of self.new) }
+        ensures even { IsOverEven (action_in action.now) (session_trail self.old) → IsOk result }
+        ensures small { IsSmall (session_trail self.old) → IsSmall (session_trail self.new) }
     {
         self.act_noted(action, "")
     }
@@ -215,12 +215,12 @@ impl<D: Digests + Drop> Session<D> {
     /// edits hold as many parts as they cover. After formatting the present text is formatted: to format it once more leaves it
     /// as it is.
     pub fn act_noted(&mut self, action: &Action<'_>, note: &str) -> Result<Reply, Refusal>
-        ensures acts { Acts (action_in action.now) note.now (history_of self.old) result (history_of self.new) }
-        ensures formatted { OnOk result (IsFormat (action_in action.now) → IsFormatted (present (history_of self.old)) (present (history_of self.new))) }
-        ensures err { OnErr result (history_of self.new ≡ history_of self.old) }
+        ensures acts { Acts (action_in action.now) note.now (session_history self.old) result (session_history self.new) }
+        ensures formatted { OnOk result (IsFormat (action_in action.now) → IsFormatted (present (session_history self.old)) (present (session_history self.new))) }
+        ensures err { OnErr result (session_history self.new ≡ session_history self.old) }
         ensures unmoved { OnErr result (self.new ≡ self.old) }
-        ensures even { length note.now ≤ note_limit → IsOverEven (action_in action.now) (trail_of self.old) → IsOk result }
-        ensures small { IsSmall (trail_of self.old) → IsSmall (trail_of self.new) }
+        ensures even { length note.now ≤ note_limit → IsOverEven (action_in action.now) (session_trail self.old) → IsOk result }
+        ensures small { IsSmall (session_trail self.old) → IsSmall (session_trail self.new) }
     {
         if note.len() > MOST_NOTE {
             return Err(Refusal::NoteTooLong);
@@ -231,11 +231,11 @@ impl<D: Digests + Drop> Session<D> {
     /// Does an action whose note isn't too long.
     fn do_action(&mut self, action: &Action<'_>, note: &str) -> Result<Reply, Refusal>
         requires { length note.now ≤ note_limit }
-        ensures makes { MakesOrWants (action_in action.now) note.now (history_of self.old) result (history_of self.new) }
-        ensures formatted { OnOk result (IsFormat (action_in action.now) → IsFormatted (present (history_of self.old)) (present (history_of self.new))) }
+        ensures makes { MakesOrWants (action_in action.now) note.now (session_history self.old) result (session_history self.new) }
+        ensures formatted { OnOk result (IsFormat (action_in action.now) → IsFormatted (present (session_history self.old)) (present (session_history self.new))) }
         ensures unmoved { OnErr result (self.new ≡ self.old) }
-        ensures even { IsOverEven (action_in action.now) (trail_of self.old) → IsOk result }
-        ensures small { IsSmall (trail_of self.old) → IsSmall (trail_of self.new) }
+        ensures even { IsOverEven (action_in action.now) (session_trail self.old) → IsOk result }
+        ensures small { IsSmall (session_trail self.old) → IsSmall (session_trail self.new) }
     {
         match *action {
             Action::Do(command, target) => self.edit(command, target, note),
@@ -252,8 +252,8 @@ impl<D: Digests + Drop> Session<D> {
     /// The tree of the present text.
     pub(crate) fn present(&self) -> &Tree
         ensures tree { result.now ≡ self.now.tree }
-        ensures text { spell_node result.now ≡ present (history_of self.now) }
-        ensures within { (history_of self.now).cursor < length (history_of self.now).texts }
+        ensures text { spell_node result.now ≡ present (session_history self.now) }
+        ensures within { (session_history self.now).cursor < length (session_history self.now).texts }
     {
         texts_kept();
         &self.tree
@@ -261,7 +261,7 @@ impl<D: Digests + Drop> Session<D> {
 
     /// The path of the file's package.
     pub(crate) fn own_package(&self) -> &[u8]
-        ensures { result.now ≡ (history_of self.now).«package» }
+        ensures { result.now ≡ (session_history self.now).«package» }
     {
         self.package.as_bytes()
     }
@@ -269,7 +269,7 @@ impl<D: Digests + Drop> Session<D> {
     /// How many steps there are between the present text and the last.
     fn steps_ahead(&self) -> u32
         ensures steps { self.now.cursor + result ≡ length self.now.steps }
-        ensures texts { (history_of self.now).cursor + result + 1 ≡ length (history_of self.now).texts }
+        ensures texts { (session_history self.now).cursor + result + 1 ≡ length (session_history self.now).texts }
     {
         texts_kept();
         self.steps.len() as u32 - self.cursor
@@ -277,7 +277,7 @@ impl<D: Digests + Drop> Session<D> {
 
     /// Whether a tree spells the present text.
     fn is_present(&self, next: &Tree) -> bool
-        ensures { IsTrue result ↔ (spell_node next.now ≡ present (history_of self.now)) }
+        ensures { IsTrue result ↔ (spell_node next.now ≡ present (session_history self.now)) }
     {
         let here = self.present();
         one_tree(next, here);
@@ -293,10 +293,10 @@ impl<D: Digests + Drop> Session<D> {
         note: &str,
     ) -> Result<Reply, Refusal>
         requires { length note.now ≤ note_limit }
-        ensures makes { ((result, history_of self.new) ≡ after_text note.now (history_of self.old) (spell_node next) printed)
-            ⊎ ((result ≡ Err Refusal.Memory) × (history_of self.new ≡ history_of self.old)) }
+        ensures makes { ((result, session_history self.new) ≡ after_text note.now (session_history self.old) (spell_node next) printed)
+            ⊎ ((result ≡ Err Refusal.Memory) × (session_history self.new ≡ session_history self.old)) }
         ensures unmoved { OnErr result (self.new ≡ self.old) }
-        ensures small { IsSmall (trail_of self.old) → IsSmall (trail_of self.new) }
+        ensures small { IsSmall (session_trail self.old) → IsSmall (session_trail self.new) }
     {
         if self.is_present(&next) {
             return Ok(unchanged(printed));
@@ -312,12 +312,12 @@ impl<D: Digests + Drop> Session<D> {
 
     /// Puts the text of a tree after the present one, with a note of the step to it.
     fn extend(&mut self, next: Tree, note: &str) -> Result<(), Memory>
-        requires other { spell_node next ≡ present (history_of self.old) → ⊥ }
+        requires other { spell_node next ≡ present (session_history self.old) → ⊥ }
         requires room { self.old.cursor < most_steps }
         requires short { length note.now ≤ note_limit }
-        ensures ok { OnOk result (history_of self.new ≡ changed note.now (history_of self.old) (spell_node next)) }
+        ensures ok { OnOk result (session_history self.new ≡ changed note.now (session_history self.old) (spell_node next)) }
         ensures err { OnErr result (self.new ≡ self.old) }
-        ensures small { IsSmall (trail_of self.old) → IsSmall (trail_of self.new) }
+        ensures small { IsSmall (session_trail self.old) → IsSmall (session_trail self.new) }
     {
         texts_kept();
         let alloc = self.alloc();
@@ -336,9 +336,9 @@ impl<D: Digests + Drop> Session<D> {
     /// Does a command on the present text.
     fn edit(&mut self, command: &Command, target: &Target, note: &str) -> Result<Reply, Refusal>
         requires { length note.now ≤ note_limit }
-        ensures makes { MakesOrWants (a.Do command.now target.now) note.now (history_of self.old) result (history_of self.new) }
+        ensures makes { MakesOrWants (a.Do command.now target.now) note.now (session_history self.old) result (session_history self.new) }
         ensures unmoved { OnErr result (self.new ≡ self.old) }
-        ensures small { IsSmall (trail_of self.old) → IsSmall (trail_of self.new) }
+        ensures small { IsSmall (session_trail self.old) → IsSmall (session_trail self.new) }
     {
         let alloc = self.alloc();
         let Meant { tree, printed } = match meaning(
@@ -360,10 +360,10 @@ impl<D: Digests + Drop> Session<D> {
     /// Formats the present text.
     fn format(&mut self, note: &str) -> Result<Reply, Refusal>
         requires { length note.now ≤ note_limit }
-        ensures makes { MakesOrWants a.Format note.now (history_of self.old) result (history_of self.new) }
-        ensures formatted { OnOk result (IsFormatted (present (history_of self.old)) (present (history_of self.new))) }
+        ensures makes { MakesOrWants a.Format note.now (session_history self.old) result (session_history self.new) }
+        ensures formatted { OnOk result (IsFormatted (present (session_history self.old)) (present (session_history self.new))) }
         ensures unmoved { OnErr result (self.new ≡ self.old) }
-        ensures small { IsSmall (trail_of self.old) → IsSmall (trail_of self.new) }
+        ensures small { IsSmall (session_trail self.old) → IsSmall (session_trail self.new) }
     {
         let alloc = self.alloc();
         formatted_once();
@@ -375,10 +375,10 @@ impl<D: Digests + Drop> Session<D> {
 
     /// Goes back by n steps.
     fn undo(&mut self, n: u32) -> Result<Reply, Refusal>
-        ensures makes { (note : List ℕ) → MakesOrWants (a.Undo n) note (history_of self.old) result (history_of self.new) }
+        ensures makes { (note : List ℕ) → MakesOrWants (a.Undo n) note (session_history self.old) result (session_history self.new) }
         ensures unmoved { OnErr result (self.new ≡ self.old) }
-        ensures even { n ≤ self.old.cursor → are_even (take n (behind (trail_of self.old))) ≡ true → IsOk result }
-        ensures small { IsSmall (trail_of self.old) → IsSmall (trail_of self.new) }
+        ensures even { n ≤ self.old.cursor → are_even (take n (steps_back (session_trail self.old))) ≡ true → IsOk result }
+        ensures small { IsSmall (session_trail self.old) → IsSmall (session_trail self.new) }
     {
         if n > self.cursor() {
             return Err(Refusal::TooFar);
@@ -394,10 +394,10 @@ impl<D: Digests + Drop> Session<D> {
 
     /// Goes forward by n steps.
     fn redo(&mut self, n: u32) -> Result<Reply, Refusal>
-        ensures makes { (note : List ℕ) → MakesOrWants (a.Redo n) note (history_of self.old) result (history_of self.new) }
+        ensures makes { (note : List ℕ) → MakesOrWants (a.Redo n) note (session_history self.old) result (session_history self.new) }
         ensures unmoved { OnErr result (self.new ≡ self.old) }
-        ensures even { self.old.cursor + n ≤ length self.old.steps → are_even (take n (ahead (trail_of self.old))) ≡ true → IsOk result }
-        ensures small { IsSmall (trail_of self.old) → IsSmall (trail_of self.new) }
+        ensures even { self.old.cursor + n ≤ length self.old.steps → are_even (take n (steps_forward (session_trail self.old))) ≡ true → IsOk result }
+        ensures small { IsSmall (session_trail self.old) → IsSmall (session_trail self.new) }
     {
         if n > self.steps_ahead() {
             return Err(Refusal::TooFar);
@@ -414,10 +414,10 @@ impl<D: Digests + Drop> Session<D> {
     /// Goes back by n steps, which are there.
     fn back(&mut self, n: u32) -> Result<(), Memory>
         requires { n ≤ self.old.cursor }
-        ensures ok { OnOk result (history_of self.new ≡ record (history_of self.old) { cursor = self.old.cursor - n; before = self.old.cursor }) }
+        ensures ok { OnOk result (session_history self.new ≡ record (session_history self.old) { cursor = self.old.cursor - n; before = self.old.cursor }) }
         ensures err { OnErr result (self.new ≡ self.old) }
-        ensures even { are_even (take n (behind (trail_of self.old))) ≡ true → IsOk result }
-        ensures small { IsSmall (trail_of self.old) → IsSmall (trail_of self.new) }
+        ensures even { are_even (take n (steps_back (session_trail self.old))) ≡ true → IsOk result }
+        ensures small { IsSmall (session_trail self.old) → IsSmall (session_trail self.new) }
     {
         texts_kept();
         let cursor = self.cursor;
@@ -435,10 +435,10 @@ impl<D: Digests + Drop> Session<D> {
     /// Goes forward by n steps, which are there.
     fn forward(&mut self, n: u32) -> Result<(), Memory>
         requires { self.old.cursor + n ≤ length self.old.steps }
-        ensures ok { OnOk result (history_of self.new ≡ record (history_of self.old) { cursor = self.old.cursor + n; before = self.old.cursor }) }
+        ensures ok { OnOk result (session_history self.new ≡ record (session_history self.old) { cursor = self.old.cursor + n; before = self.old.cursor }) }
         ensures err { OnErr result (self.new ≡ self.old) }
-        ensures even { are_even (take n (ahead (trail_of self.old))) ≡ true → IsOk result }
-        ensures small { IsSmall (trail_of self.old) → IsSmall (trail_of self.new) }
+        ensures even { are_even (take n (steps_forward (session_trail self.old))) ≡ true → IsOk result }
+        ensures small { IsSmall (session_trail self.old) → IsSmall (session_trail self.new) }
     {
         texts_kept();
         let cursor = self.cursor;
@@ -461,10 +461,10 @@ impl<D: Digests + Drop> Session<D> {
         replies: &mut Vec<Result<Reply, Refusal>>,
     ) -> Result<(), Memory>
         ensures ok { OnOk result ((added : List (Result Reply Refusal)) × (replies.new.items ≡ replies.old.items ++ added)
-            × Runs (history_of self.old) (map action_in actions.now) added (history_of self.new)) }
-        ensures err { OnErr result ((replies.new.items ≡ replies.old.items) × (history_of self.new ≡ history_of self.old)) }
+            × Runs (session_history self.old) (map action_in actions.now) added (session_history self.new)) }
+        ensures err { OnErr result ((replies.new.items ≡ replies.old.items) × (session_history self.new ≡ session_history self.old)) }
         ensures room { vec_len replies.old + length actions.now ≤ vec_capacity replies.old → IsOk result }
-        ensures small { IsSmall (trail_of self.old) → IsSmall (trail_of self.new) }
+        ensures small { IsSmall (session_trail self.old) → IsSmall (session_trail self.new) }
     {
         replies.reserve(actions.len())?;
         for action in actions {

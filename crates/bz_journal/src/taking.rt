@@ -5,8 +5,8 @@ ghost use Rattle.bz_trail.specs.Trails.{IsSmall, IsTree};
 ghost use Rattle.bz_attribute.specs.declared.refusal.Refusal.{Refusal};
 ghost use Rattle.bz_journal.specs.History.{Answer, History, after_text, changed, most_steps, note_limit, present};
 ghost use Rattle.bz_journal.specs.Lines.{AreIn, tree_with};
-ghost use Rattle.bz_journal.specs.Shown.{history_of};
-ghost use Rattle.bz_journal.specs.State.{trail_of};
+ghost use Rattle.bz_journal.specs.Shown.{session_history};
+ghost use Rattle.bz_journal.specs.State.{session_trail};
 
 use crate::action::Reply;
 use crate::digests::{Digests, put_after};
@@ -23,7 +23,7 @@ impl<D: Digests + Drop> Session<D> {
     fn is_present_with(&self, lines: &Lines) -> bool
         requires next { IsTree (tree_with lines.now self.now.tree) }
         requires placed { AreIn lines.now self.now.tree }
-        ensures { IsTrue result ↔ (spell_node (tree_with lines.now self.now.tree) ≡ present (history_of self.now)) }
+        ensures { IsTrue result ↔ (spell_node (tree_with lines.now self.now.tree) ≡ present (session_history self.now)) }
     {
         one_reading();
         let here = self.present();
@@ -43,12 +43,12 @@ impl<D: Digests + Drop> Session<D> {
         requires short { length note.now ≤ note_limit }
         requires next { IsTree (tree_with lines self.old.tree) }
         requires placed { AreIn lines self.old.tree }
-        ensures some { IfOk result (λ taken. IfSome taken (λ reply. ◌≡◌ {A = Answer × History} (Ok reply, history_of self.new) (after_text note.now (history_of self.old) (spell_node (tree_with lines self.old.tree)) printed.old))) }
+        ensures some { IfOk result (λ taken. IfSome taken (λ reply. ◌≡◌ {A = Answer × History} (Ok reply, session_history self.new) (after_text note.now (session_history self.old) (spell_node (tree_with lines self.old.tree)) printed.old))) }
         ensures none { result ≡ Ok None → (self.new ≡ self.old) × (printed.new ≡ printed.old) }
-        ensures err { IfErr result (λ refusal. (◌≡◌ {A = Answer × History} (Err refusal, history_of self.old) (after_text note.now (history_of self.old) (spell_node (tree_with lines self.old.tree)) printed.old))
+        ensures err { IfErr result (λ refusal. (◌≡◌ {A = Answer × History} (Err refusal, session_history self.old) (after_text note.now (session_history self.old) (spell_node (tree_with lines self.old.tree)) printed.old))
             ⊎ (refusal ≡ Refusal.Memory)) }
         ensures unmoved { OnErr result (self.new ≡ self.old) }
-        ensures small { IsSmall (trail_of self.old) → IsSmall (trail_of self.new) }
+        ensures small { IsSmall (session_trail self.old) → IsSmall (session_trail self.new) }
     {
         if self.is_present_with(&lines) {
             return Ok(Some(unchanged(printed.take())));
@@ -69,13 +69,13 @@ impl<D: Digests + Drop> Session<D> {
     fn extend_with(&mut self, lines: Lines, note: &str) -> Result<bool, Memory>
         requires next { IsTree (tree_with lines self.old.tree) }
         requires placed { AreIn lines self.old.tree }
-        requires other { spell_node (tree_with lines self.old.tree) ≡ present (history_of self.old) → ⊥ }
+        requires other { spell_node (tree_with lines self.old.tree) ≡ present (session_history self.old) → ⊥ }
         requires room { self.old.cursor < most_steps }
         requires short { length note.now ≤ note_limit }
-        ensures ok { IfOk result (λ taken. IsTrue taken → history_of self.new ≡ changed note.now (history_of self.old) (spell_node (tree_with lines self.old.tree))) }
+        ensures ok { IfOk result (λ taken. IsTrue taken → session_history self.new ≡ changed note.now (session_history self.old) (spell_node (tree_with lines self.old.tree))) }
         ensures stays { IfOk result (λ taken. taken ≡ false → self.new ≡ self.old) }
         ensures err { OnErr result (self.new ≡ self.old) }
-        ensures small { IsSmall (trail_of self.old) → IsSmall (trail_of self.new) }
+        ensures small { IsSmall (session_trail self.old) → IsSmall (session_trail self.new) }
     {
         texts_kept();
         let alloc = self.alloc();

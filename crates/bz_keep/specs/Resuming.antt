@@ -3,12 +3,12 @@ use Rattle.std.specs.Prelude.{◌≡◌, ◌≢◌, ◌⊎◌, ℕ, List, [], �
 use Rattle.std.specs.FinMap.{get}
 use Rattle.bz_edit.specs.declared.edit.Edit.{Edit}
 use Rattle.bz_files.specs.Folder.{Folder, Text, new_name}
-use Rattle.bz_resume.specs.Journals.{History, Journal, stands, text_of}
+use Rattle.bz_resume.specs.Journals.{History, Journal, stands, text_at}
 use Rattle.bz_keep.specs.Pair.{journal_name}
 
 -- the present text
 abbrev pub present : History → Text
-present h = text_of h h.cursor
+present h = text_at h h.cursor
 
 -- what tells the texts of a file that holds `text`: it has no journal, and these are that text alone; or its journal tells a
 -- history of this package and these texts, which stands for that text
@@ -27,15 +27,15 @@ abbrev pub Resumes : Folder → Text → Text → List Text → Type 0
 Resumes folder file current texts = (text : Text) × Holds folder file current text texts
 
 -- one action leads from h to this history: the text before its present one is the one that is present in h
-abbrev pub Follows : History → History → Type 0
-Follows h after = (after.package ≡ h.package) × (text_of after after.before ≡ present h)
+abbrev pub FollowsKept : History → History → Type 0
+FollowsKept h after = (after.package ≡ h.package) × (text_at after after.before ≡ present h)
 
 -- An action leads from h to another history, and these are its journal and its text. The folder resumes with the texts of h, and
 -- the text at which the action was begun is its present one; the file may hold another.
 pub record MayResume (folder : Folder) (file standing told text : Text) (h after : History) (es : List (List Edit)) : Type 0 where
   pub resumes : Resumes folder file h.package h.texts
   pub begun : standing ≡ present h
-  pub follows : Follows h after
+  pub follows : FollowsKept h after
   pub journal : Journal told after es
   pub written : text ≡ present after
 

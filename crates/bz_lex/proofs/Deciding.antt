@@ -5,7 +5,7 @@ use Rattle.bz_token.specs.declared.class.Class.{Class}
 use Rattle.bz_token.specs.declared.class.Class.TheVariants.{Newline, End}
 use Rattle.bz_token.specs.declared.state.State.{State}
 use Rattle.bz_token.specs.Tokens.{NoToken, TokenAt}
-use Rattle.bz_token.specs.Scanner.{ends, named, before_third, longest_front}
+use Rattle.bz_token.specs.Scanner.{ends, keyword_or_name, before_third, longest_front}
 use Rattle.bz_token.proofs.Tokens.{none_token, no_class, third_token, some_token}
 use Rattle.bz_lex.specs.declared.gap.GapFront.{GapFront}
 use Rattle.bz_lex.specs.declared.gap.GapState.{GapState}
@@ -13,7 +13,7 @@ use Rattle.bz_lex.specs.declared.gap.GapState.TheVariants.{Open}
 use Rattle.bz_lex.specs.declared.front.Front.{Front}
 use Rattle.bz_lex.specs.declared.front.Stop.{Stop}
 use Rattle.bz_lex.specs.declared.front.Reason.TheVariants.{BadCharacter}
-use Rattle.bz_lex.specs.GapStates.{gap_move, after, Stops, is_end}
+use Rattle.bz_lex.specs.GapStates.{gap_move, gap_state_after, Stops, is_end}
 use Rattle.bz_lex.specs.Places.{Place, Fresh, Behind, Inside, Last, Over, newlines_at}
 use Rattle.bz_lex.specs.Fronts.{IsGapFront, IsFront, NoLeaf}
 use Rattle.bz_lex.proofs.Forms.{form}
@@ -24,7 +24,7 @@ record GapAt (n : Bool) (q : GapState) (s : List ℕ) : Type 0 where
   length_is : ℕ
   state : GapState
   within : length_is ≤ length s
-  taken : after n q (take length_is s) ≡ Some state
+  taken : gap_state_after n q (take length_is s) ≡ Some state
   stops : Stops n state (drop length_is s)
 
 gap_by : (n : Bool) (q : GapState) (c : ℕ) (s : List ℕ) (o : Option GapState) → gap_move n q c ≡ o → ((r : GapState) → GapAt n r s) → GapAt n q (c ∷ s)
@@ -42,7 +42,7 @@ token_found s = by_front (longest_front s) refl
   where
     by_class : (x : State × ℕ) (o : Option Class) → Some x ≡ longest_front s → before_third (x.0) (drop (x.1) s) ≡ false → o ≡ ends (x.0) → ((c : Class) × (k : ℕ) × TokenAt c k s) ⊎ NoToken s
     by_class x None e h f = absurd (no_class s x e f)
-    by_class x (Some k) e h f = inl (named k (take (x.1) s), x.1, some_token s x k e h f)
+    by_class x (Some k) e h f = inl (keyword_or_name k (take (x.1) s), x.1, some_token s x k e h f)
 
     by_front : (o : Option (State × ℕ)) → o ≡ longest_front s → ((c : Class) × (k : ℕ) × TokenAt c k s) ⊎ NoToken s
     by_front None e = inr (none_token s e)

@@ -7,7 +7,7 @@ use Rattle.bz_token.specs.Tokens.{IsToken}
 use Rattle.bz_lex.specs.declared.leaf.Leaf.{Leaf}
 use Rattle.bz_lex.specs.declared.gap.GapState.{GapState}
 use Rattle.bz_lex.specs.declared.gap.GapState.TheVariants.{Open, Escape, EscapeReturn, Comment}
-use Rattle.bz_lex.specs.GapStates.{gap_move, after, Stops, is_end}
+use Rattle.bz_lex.specs.GapStates.{gap_move, gap_state_after, Stops, is_end}
 use Rattle.bz_lex.specs.Places.{Place, Fresh, Behind, Inside, Last, Over, newlines_at, May, first, later, inner, newline, no_newline, end, end_at_once}
 use Rattle.bz_lex.proofs.Gaps.{gap_after, gap_from}
 use Rattle.bz_lex.proofs.Tokens.{token_stops}
@@ -38,7 +38,7 @@ Form Over q l s = ⊥
 
 -- a gap that ends in this state, with which nothing of the text behind it goes on
 pub record Ended (n : Bool) (q : GapState) (g b : List ℕ) : Type 0 where
-  pub taken : after n Open g ≡ Some q
+  pub taken : gap_state_after n Open g ≡ Some q
   pub stops : Stops n q b
 
 pub closed_is : (q : GapState) → is_end false q ≡ true → q ≡ Open
@@ -89,7 +89,7 @@ same_leaf l m a b c =
     x ∙ y ∙ z
 
 -- the leaf of such a form stands there
-pub may : (p : Place) (q : GapState) (l : Leaf) (s : List ℕ) → after (newlines_at p) Open l.gap ≡ Some q → Form p q l s → May IsToken p l s
+pub may : (p : Place) (q : GapState) (l : Leaf) (s : List ℕ) → gap_state_after (newlines_at p) Open l.gap ≡ Some q → Form p q l s → May IsToken p l s
 may Fresh q l s e (inl h) = first (gap_from true false q l.gap e (rw h.closed refl)) h.token
 may Fresh q l s e (inr h) =
     rw (same_leaf l (record { class = End; gap = l.gap; token = [] }) h.class refl h.token, h.rest) (end true (gap_from true true q l.gap e h.ends))

@@ -13,7 +13,7 @@ use Rattle.bz_lex.specs.declared.gap.GapState.{GapState}
 use Rattle.bz_lex.specs.declared.gap.GapState.TheVariants.{Open, Escape, EscapeReturn, Comment}
 use Rattle.bz_lex.specs.declared.front.Front.{Front}
 use Rattle.bz_lex.specs.declared.front.Stop.{Stop}
-use Rattle.bz_lex.specs.GapStates.{after, Stops, is_end}
+use Rattle.bz_lex.specs.GapStates.{gap_state_after, Stops, is_end}
 use Rattle.bz_lex.specs.Places.{Place, Fresh, Behind, Inside, Last, Over, newlines_at, end_at_once}
 use Rattle.bz_lex.specs.Fronts.{IsGapFront, front_leaf, behind_front, IsFront, NoLeaf, TellsFront}
 use Rattle.bz_lex.proofs.Gaps.{one_stop}
@@ -48,7 +48,7 @@ open_false EscapeReturn c r h e i = absurd (both_ways false refl e)
 open_false Comment c r h e i = absurd (let f : Some Comment ≡ None = rw (ne_eqb c 10 i) at h in cc)
 
 -- no leaf, where none has a form
-no_leaf : (p : Place) (q : GapState) (n : ℕ) (s : List ℕ) → after (newlines_at p) Open (take n s) ≡ Some q → Stops (newlines_at p) q (drop n s)
+no_leaf : (p : Place) (q : GapState) (n : ℕ) (s : List ℕ) → gap_state_after (newlines_at p) Open (take n s) ≡ Some q → Stops (newlines_at p) q (drop n s)
     → ((l : Leaf) (t : List ℕ) → Form p q l t → l.gap ≡ take n s → l.token ++ t ≡ drop n s → ⊥) → NoLeaf p s
 no_leaf p q n s e h f l t m i =
     let x = form p l t m in
@@ -66,7 +66,7 @@ form_ends Last q l t h = h.1.ends
 form_ends Over q l t h = absurd h
 
 -- no leaf behind a gap that breaks off
-broken_gap : (p : Place) (q : GapState) (n : ℕ) (s : List ℕ) → after (newlines_at p) Open (take n s) ≡ Some q → Stops (newlines_at p) q (drop n s) → is_end true q ≡ false → NoLeaf p s
+broken_gap : (p : Place) (q : GapState) (n : ℕ) (s : List ℕ) → gap_state_after (newlines_at p) Open (take n s) ≡ Some q → Stops (newlines_at p) q (drop n s) → is_end true q ≡ false → NoLeaf p s
 broken_gap p q n s e h b = no_leaf p q n s e h (λ l t f g i. both_ways (is_end true q) b (form_ends p q l t f))
 
 -- a leaf of the form at hand
@@ -172,5 +172,5 @@ pub refused : (p : Place) (s : List ℕ) (r : Result Front Stop) → IsErr r →
 refused p s (Ok x) i h = absurd (both_ways false refl i)
 refused p s (Err x) i h = h
 
-pub broken_front : (p : Place) (m : Bool) (gap : GapFront) (s : List ℕ) → m ≡ newlines_at p → is_end true gap.state ≡ false → after m Open (take gap.length s) ≡ Some gap.state → Stops m gap.state (drop gap.length s) → NoLeaf p s
+pub broken_front : (p : Place) (m : Bool) (gap : GapFront) (s : List ℕ) → m ≡ newlines_at p → is_end true gap.state ≡ false → gap_state_after m Open (take gap.length s) ≡ Some gap.state → Stops m gap.state (drop gap.length s) → NoLeaf p s
 broken_front p m gap s i b h k = broken_gap p gap.state gap.length s (rw i at h) (rw i at k) b

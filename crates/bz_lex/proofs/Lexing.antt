@@ -10,7 +10,7 @@ use Rattle.bz_lex.specs.declared.gap.GapState.{GapState}
 use Rattle.bz_lex.specs.declared.gap.GapState.TheVariants.{Open}
 use Rattle.bz_lex.specs.declared.front.Front.{Front}
 use Rattle.bz_lex.specs.Gaps.{IsGap}
-use Rattle.bz_lex.specs.GapStates.{after, Stops, is_end}
+use Rattle.bz_lex.specs.GapStates.{gap_state_after, Stops, is_end}
 use Rattle.bz_lex.specs.Fronts.{IsLexemeFront, front_token, behind_front}
 use Rattle.bz_lex.specs.Lexing.{AreLexemes, NoLexemes}
 use Rattle.bz_lex.proofs.Gaps.{gap_after, gap_from, one_stop}
@@ -28,7 +28,7 @@ record First (s : List ℕ) : Type 0 where
   behind : List ℕ
   state : GapState
   parts : s ≡ gap ++ behind
-  taken : after true Open gap ≡ Some state
+  taken : gap_state_after true Open gap ≡ Some state
   stops : Stops true state behind
   begun : Begun state behind
 
@@ -42,7 +42,7 @@ first s (u ∷ us) (k, g, r, e, i, t, m) =
     record { gap = g; behind = u ++ r; state = Open; parts = e; taken = rw o at w.1; stops = token_stops true k u r t; begun = inr (k, u, r, us, refl, refl, t, m) }
 
 -- the first gap as it was read
-met : (q : GapState) (n : ℕ) (s : List ℕ) (us : List (List ℕ)) → after true Open (take n s) ≡ Some q → Stops true q (drop n s) → AreLexemes us s → Begun q (drop n s)
+met : (q : GapState) (n : ℕ) (s : List ℕ) (us : List (List ℕ)) → gap_state_after true Open (take n s) ≡ Some q → Stops true q (drop n s) → AreLexemes us s → Begun q (drop n s)
 met q n s us e h k =
     let f = first s us k in
     let o = one_stop true Open f.state q f.gap f.behind (take n s) (drop n s) f.taken f.stops e h (sym f.parts ∙ sym (take-append-drop n s)) in
@@ -52,23 +52,23 @@ begun_ends : (q : GapState) (b : List ℕ) → Begun q b → is_end true q ≡ t
 begun_ends q b (inl h) = h.1
 begun_ends q b (inr (k, u, r, vs, e, o, t, m)) = rw o refl
 
-pub broken_lexeme : (gap : GapFront) (s : List ℕ) → after true Open (take gap.length s) ≡ Some gap.state → Stops true gap.state (drop gap.length s) → is_end true gap.state ≡ false → NoLexemes s
+pub broken_lexeme : (gap : GapFront) (s : List ℕ) → gap_state_after true Open (take gap.length s) ≡ Some gap.state → Stops true gap.state (drop gap.length s) → is_end true gap.state ≡ false → NoLexemes s
 broken_lexeme gap s e h b us k = both_ways (is_end true gap.state) b (begun_ends gap.state (drop gap.length s) (met gap.state gap.length s us e h k))
 
-pub all_gap : (gap : GapFront) (s : List ℕ) → after true Open (take gap.length s) ≡ Some gap.state → is_end true gap.state ≡ true → gap.length ≡ length s → IsGap true true s
+pub all_gap : (gap : GapFront) (s : List ℕ) → gap_state_after true Open (take gap.length s) ≡ Some gap.state → is_end true gap.state ≡ true → gap.length ≡ length s → IsGap true true s
 all_gap gap s e b i = subst (IsGap true true) (take_all s gap.length i) (gap_from true true gap.state (take gap.length s) e b)
   where
     take_all : (s : List ℕ) (n : ℕ) → n ≡ length s → take n s ≡ s
     take_all s n i = rw i (take-length s)
 
-pub no_lexeme : (gap : GapFront) (s : List ℕ) (c : ℕ) → after true Open (take gap.length s) ≡ Some gap.state → Stops true gap.state (drop gap.length s) → slice_get s gap.length ≡ Some c → NoToken (drop gap.length s) → NoLexemes s
+pub no_lexeme : (gap : GapFront) (s : List ℕ) (c : ℕ) → gap_state_after true Open (take gap.length s) ≡ Some gap.state → Stops true gap.state (drop gap.length s) → slice_get s gap.length ≡ Some c → NoToken (drop gap.length s) → NoLexemes s
 no_lexeme gap s c e h b t us k = by_begun (met gap.state gap.length s us e h k)
   where
     by_begun : Begun gap.state (drop gap.length s) → ⊥
     by_begun (inl w) = let i : c ∷ drop (suc gap.length) s ≡ [] = sym (rest_some s gap.length c b) ∙ w.0 in cc
     by_begun (inr (k, u, r, vs, i, o, m, l)) = t k u r (sym i) m
 
-pub lexeme : (gap : GapFront) (s : List ℕ) (c : ℕ) (front : Front) → gap.length ≤ length s → after true Open (take gap.length s) ≡ Some gap.state → Stops true gap.state (drop gap.length s) → is_end true gap.state ≡ true
+pub lexeme : (gap : GapFront) (s : List ℕ) (c : ℕ) (front : Front) → gap.length ≤ length s → gap_state_after true Open (take gap.length s) ≡ Some gap.state → Stops true gap.state (drop gap.length s) → is_end true gap.state ≡ true
     → slice_get s gap.length ≡ Some c → front.gap ≡ gap.length → TokenAt front.class front.token (drop gap.length s) → IsLexemeFront front s
 lexeme gap s c front w e h b i f t =
     let o = open_true gap.state c (drop (suc gap.length) s) (subst (Stops true gap.state) (rest_some s gap.length c i) h) b in

@@ -6,7 +6,7 @@ use Rattle.bz_token.specs.declared.class.Class.{Class}
 use Rattle.bz_token.specs.declared.class.Class.TheVariants.{Name, Keyword, Number, String, Mark, Newline, End}
 use Rattle.bz_token.specs.Tokens.{IsToken}
 use Rattle.bz_lex.specs.declared.leaf.Leaf.{Leaf}
-use Rattle.bz_lex.specs.Places.{Place, Fresh, Behind, Inside, Last, Over, open_brackets, is_opening, is_closing, same_depth, deeper, shallower, behind, next, May, first, later, inner, newline, no_newline, end, end_at_once}
+use Rattle.bz_lex.specs.Places.{Place, Fresh, Behind, Inside, Last, Over, open_brackets, is_opening, is_closing, same_depth, deeper, shallower, after_token, next, May, first, later, inner, newline, no_newline, end, end_at_once}
 use Rattle.bz_lex.specs.Leaves.{spell_leaves, Stand, AreLeaves, NoLeaves}
 use Rattle.bz_lex.specs.declared.fault.ReadFault.{ReadFault}
 use Rattle.bz_lex.specs.declared.front.Front.{Front}
@@ -41,7 +41,7 @@ same : (p : Place) (t : List ℕ) → open_brackets (same_depth p) ≤ open_brac
 same p t = let d = by_depth p in let k : open_brackets (same_depth p) ≤ open_brackets p = d.0 in omega arith
 
 -- a token opens no more brackets than it has bytes
-pub behind_depth : (k : Class) (t : List ℕ) (p : Place) → open_brackets (behind k t p) ≤ open_brackets p + length t
+pub behind_depth : (k : Class) (t : List ℕ) (p : Place) → open_brackets (after_token k t p) ≤ open_brackets p + length t
 behind_depth Mark t p = by_mark p t (is_opening t) (is_closing t) refl
 behind_depth Newline [] p = omega arith
 behind_depth Newline (c ∷ t) p = omega arith
@@ -102,7 +102,7 @@ no_mark_over p true b = (no_over p).1
 no_mark_over p false true = (no_over p).2
 no_mark_over p false false = (no_over p).0
 
-no_end : (k : Class) (t s : List ℕ) (p : Place) → IsToken k t s → behind k t p ≢ Over
+no_end : (k : Class) (t s : List ℕ) (p : Place) → IsToken k t s → after_token k t p ≢ Over
 no_end Mark t s p h e = no_mark_over p (is_opening t) (is_closing t) e
 no_end Newline t s p h e = absurd h.lexeme
 no_end End t s p h e = absurd h.lexeme
@@ -175,15 +175,15 @@ pub front_text : (front : Front) (s : List ℕ) → front.gap + front.token ≤ 
 front_text front s w = rw (take-append-drop front.token (drop front.gap s)) (take-append-drop front.gap s)
 
 -- one turn of the loop
-pub more : (text : List ℕ) (ls ms : List Leaf) (p q : Place) (rest behind : List ℕ) (front : Front) (l : Leaf) → IsReadTo text ls p rest → IsFront p front rest
-    → l ≡ front_leaf front rest → q ≡ next p l → ms ≡ ls ++ (l ∷ []) → behind ≡ behind_front front rest → IsReadTo text ms q behind
-more text ls ms p q rest behind front l h f e g i j =
+pub more : (text : List ℕ) (ls ms : List Leaf) (p q : Place) (rest after_token : List ℕ) (front : Front) (l : Leaf) → IsReadTo text ls p rest → IsFront p front rest
+    → l ≡ front_leaf front rest → q ≡ next p l → ms ≡ ls ++ (l ∷ []) → after_token ≡ behind_front front rest → IsReadTo text ms q after_token
+more text ls ms p q rest after_token front l h f e g i j =
     rw (i, g, j, e) (stepped text ls p rest (front_leaf front rest) (behind_front front rest) h f.may (front_text front rest f.within))
 
-pub less : (p q : Place) (rest behind : List ℕ) (front : Front) (l : Leaf) → IsFront p front rest → l ≡ front_leaf front rest → q ≡ next p l → behind ≡ behind_front front rest → left q behind < left p rest
-less p q rest behind front l f e g j =
+pub less : (p q : Place) (rest after_token : List ℕ) (front : Front) (l : Leaf) → IsFront p front rest → l ≡ front_leaf front rest → q ≡ next p l → after_token ≡ behind_front front rest → left q after_token < left p rest
+less p q rest after_token front l f e g j =
     let k = smaller p (front_leaf front rest) (behind_front front rest) f.may in
-    let x : left q behind ≡ left (next p (front_leaf front rest)) (behind_front front rest) = rw (g, j, e) refl in
+    let x : left q after_token ≡ left (next p (front_leaf front rest)) (behind_front front rest) = rw (g, j, e) refl in
     let y : left p ((front_leaf front rest).gap ++ ((front_leaf front rest).token ++ behind_front front rest)) ≡ left p rest = ap (left p) (front_text front rest f.within) in
     omega (arith, k, x, y)
 

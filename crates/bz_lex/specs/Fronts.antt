@@ -7,13 +7,13 @@ use Rattle.bz_lex.specs.declared.front.Front.{Front}
 use Rattle.bz_lex.specs.declared.front.Stop.{Stop}
 use Rattle.bz_token.specs.Tokens.{IsToken}
 use Rattle.bz_lex.specs.Gaps.{IsGap}
-use Rattle.bz_lex.specs.GapStates.{after, Stops, is_end}
+use Rattle.bz_lex.specs.GapStates.{gap_state_after, Stops, is_end}
 use Rattle.bz_lex.specs.Places.{Place, May}
 
 -- The gap at the front of a text is read as far as one goes, and may end there.
 pub record IsGapFront (newlines : Bool) (gap : GapFront) (text : List ℕ) : Type 0 where
   pub within : gap.length ≤ length text
-  pub taken : after newlines Open (take gap.length text) ≡ Some gap.state
+  pub taken : gap_state_after newlines Open (take gap.length text) ≡ Some gap.state
   pub stops : Stops newlines gap.state (drop gap.length text)
   pub ends : is_end true gap.state ≡ true
 

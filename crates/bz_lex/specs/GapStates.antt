@@ -21,9 +21,9 @@ and_then None f = None
 and_then (Some x) f = f x
 
 -- the state behind a whole text
-abbrev pub after : Bool → GapState → List ℕ → Option GapState
-after newlines state [] = Some state
-after newlines state (byte ∷ rest) = and_then (gap_move newlines state byte) (λ state. after newlines state rest)
+abbrev pub gap_state_after : Bool → GapState → List ℕ → Option GapState
+gap_state_after newlines state [] = Some state
+gap_state_after newlines state (byte ∷ rest) = and_then (gap_move newlines state byte) (λ state. gap_state_after newlines state rest)
 
 -- no gap goes on
 abbrev pub Stops : Bool → GapState → List ℕ → Type 0

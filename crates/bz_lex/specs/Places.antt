@@ -44,15 +44,15 @@ behind_newline [] = Last
 behind_newline _ = Fresh
 
 -- the place behind a token of this class
-abbrev pub behind : Class → List ℕ → Place → Place
-behind Mark token place = if is_opening token then deeper place else (if is_closing token then shallower place else same_depth place)
-behind Newline token place = behind_newline token
-behind End token place = Over
-behind _ token place = same_depth place
+abbrev pub after_token : Class → List ℕ → Place → Place
+after_token Mark token place = if is_opening token then deeper place else (if is_closing token then shallower place else same_depth place)
+after_token Newline token place = behind_newline token
+after_token End token place = Over
+after_token _ token place = same_depth place
 
 -- the place behind a leaf
 abbrev pub next : Place → Leaf → Place
-next place leaf = behind leaf.class leaf.token place
+next place leaf = after_token leaf.class leaf.token place
 
 -- whether unescaped newlines may stand in the gap of a leaf
 abbrev pub newlines_at : Place → Bool

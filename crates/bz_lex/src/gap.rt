@@ -1,6 +1,6 @@
 ghost use Rattle.std.specs.Prelude.{◌≡◌, ◌≤◌, ◌<◌, ℕ, Some, IsTrue, get_or, length, take, drop, MatchOption, true, false};
 ghost use Rattle.bz_lex.specs.declared.gap.GapState.TheVariants.{Open};
-ghost use Rattle.bz_lex.specs.GapStates.{gap_move, after, Stops, is_end};
+ghost use Rattle.bz_lex.specs.GapStates.{gap_move, gap_state_after, Stops, is_end};
 
 /// How far a gap has been read.
 #[derive(Clone, Copy)]
@@ -76,7 +76,7 @@ impl GapFront {
 /// Reads as much as a gap can go on with; `newlines` says whether unescaped newlines may stand in it.
 pub fn gap_front(text: &[u8], newlines: bool) -> GapFront
     ensures within { result.length ≤ length text.now }
-    ensures taken { after newlines Open (take result.length text.now) ≡ Some result.state }
+    ensures taken { gap_state_after newlines Open (take result.length text.now) ≡ Some result.state }
     ensures stops { Stops newlines result.state (drop result.length text.now) }
 {
     let mut state = GapState::Open;

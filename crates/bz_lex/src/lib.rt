@@ -18,6 +18,6 @@ pub use front::{Front, Reason, Stop, leaf_front};
 pub use leaf::Leaf;
 pub use limits::{DEPTH_LIMIT, LENGTH_LIMIT};
 pub use place::Place;
-pub use position::place_of;
+pub use position::line_and_column;
 pub use read::{Reading, fault_at, read_leaves};
 pub use source::lex;

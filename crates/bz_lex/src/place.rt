@@ -1,5 +1,5 @@
 ghost use Rattle.std.specs.Prelude.{◌≡◌, ◌<◌, ◌^◌, ◌↔◌, IsTrue};
-ghost use Rattle.bz_lex.specs.Places.{behind, is_closing, is_opening, deeper, same_depth, shallower, open_brackets, newlines_at};
+ghost use Rattle.bz_lex.specs.Places.{after_token, is_closing, is_opening, deeper, same_depth, shallower, open_brackets, newlines_at};
 
 use bz_token::Class;
 
@@ -27,9 +27,9 @@ impl Place {
     }
 
     /// The place behind a token of this class.
-    pub fn behind(self, class: Class, token: &[u8]) -> Place
+    pub fn after_token(self, class: Class, token: &[u8]) -> Place
         requires { open_brackets self < 2 ^ 64 }
-        ensures { result ≡ behind class token.now self }
+        ensures { result ≡ after_token class token.now self }
     {
         match class {
             Class::Newline => {

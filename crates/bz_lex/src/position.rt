@@ -3,7 +3,7 @@ ghost use Rattle.bz_lex.specs.Positions.{is_continuation, is_newline, line_at, c
 
 /// The line and the column, both from 1, at which the byte at `offset` stands; columns count characters.
 /// A number past `u32::MAX` is told as `u32::MAX`.
-pub fn place_of(text: &[u8], offset: usize) -> (u32, u32)
+pub fn line_and_column(text: &[u8], offset: usize) -> (u32, u32)
     requires { offset ≤ length text.now }
     ensures line { result.0 ≡ min (line_at text.now offset) u32.MAX }
     ensures column { result.1 ≡ min (column_of text.now offset) u32.MAX }

@@ -6,7 +6,7 @@ use crate::fault::ReadFault;
 use crate::front::{Reason, Stop, leaf_front};
 use crate::leaf::Leaf;
 use crate::place::Place;
-use crate::position::place_of;
+use crate::position::line_and_column;
 use bz_items::Items;
 use bz_token::opens_string;
 use std::alloc::{AllocError, Global};
@@ -34,7 +34,7 @@ pub fn read_leaves(alloc: Global, text: &[u8]) -> Result<Reading, AllocError>
             Err(stop) => return Ok(refused(text, length - rest.len(), stop, leaves)),
         };
         let leaf = front.leaf(alloc, rest)?;
-        place = place.behind(leaf.class, leaf.token.as_slice());
+        place = place.after_token(leaf.class, leaf.token.as_slice());
         leaves.push(leaf)?;
         rest = front.rest_of(rest);
     }
@@ -68,7 +68,7 @@ fn refused(text: &[u8], from: usize, stop: Stop, mut leaves: Items<Leaf>) -> Rea
 pub fn fault_at(text: &[u8], at: usize, reason: Reason) -> ReadFault
     ensures { is_of_leaves result ≡ true }
 {
-    let (line, column) = place_of(text, at.min(text.len()));
+    let (line, column) = line_and_column(text, at.min(text.len()));
     match reason {
         Reason::BadCharacter => ReadFault::BadCharacter { line, column },
         Reason::OpenString => ReadFault::OpenString { line, column },

@@ -5,7 +5,7 @@ ghost use Rattle.bz_lex.specs.Lexing.{AreLexemes, NoLexemes};
 
 use crate::fault::ReadFault;
 use crate::front::{Front, Reason, Stop, lexeme_front};
-use crate::position::place_of;
+use crate::position::line_and_column;
 use bz_items::Items;
 use bz_token::opens_string;
 use std::alloc::Global;
@@ -58,7 +58,7 @@ fn lexical_fault(source: &[u8], from: usize, stop: Stop, tokens: &[&str]) -> Rea
 {
     let at = from + stop.at;
     if !matches!(stop.reason, Reason::OpenString) {
-        let (line, column) = place_of(source, at);
+        let (line, column) = line_and_column(source, at);
         return ReadFault::BadCharacter { line, column };
     }
     let prefix = if stop.at == 0 {
@@ -66,7 +66,7 @@ fn lexical_fault(source: &[u8], from: usize, stop: Stop, tokens: &[&str]) -> Rea
     } else {
         0
     };
-    let (line, column) = place_of(source, at.saturating_sub(prefix));
+    let (line, column) = line_and_column(source, at.saturating_sub(prefix));
     ReadFault::OpenString { line, column }
 }
 

@@ -2,7 +2,7 @@
 use Rattle.std.specs.Prelude.{List, [], ◌∷◌, ◌++◌, if◌then◌else◌, Result, Ok, Err}
 use Rattle.bz_items.specs.Characters.{Bytes}
 use Rattle.bz_label.specs.declared.target.Target.{Target}
-use Rattle.bz_line.specs.Operands.{is_target, target_of, verb_of}
+use Rattle.bz_line.specs.Operands.{is_target, operand_target, verb_of}
 use Rattle.bz_line.specs.declared.verb.Verb.{Verb}
 use Rattle.bz_line.specs.declared.verb.OperandFault.{OperandFault}
 
@@ -20,8 +20,8 @@ pub record Refused : Type 0 where
   pub operand : Bytes
   pub fault : OperandFault
 
-abbrev pub nothing : Asked
-nothing = record { commands = []; targets = [] }
+abbrev pub nothing_asked : Asked
+nothing_asked = record { commands = []; targets = [] }
 
 abbrev pub both : Asked → Asked → Asked
 both first more = record { commands = first.commands ++ more.commands; targets = first.targets ++ more.targets }
@@ -36,17 +36,17 @@ aimed operand (Err fault) = Err (record { operand = operand; fault = fault })
 
 -- what one operand asks for
 abbrev pub asked_by : Bytes → Result Asked Refused
-asked_by operand = if is_target operand then aimed operand (target_of operand) else wanted operand (verb_of operand)
+asked_by operand = if is_target operand then aimed operand (operand_target operand) else wanted operand (verb_of operand)
 
 -- The first refused operand, in order, is told.
-abbrev pub joined : Result Asked Refused → Result Asked Refused → Result Asked Refused
-joined (Ok first) (Ok more) = Ok (both first more)
-joined (Ok first) (Err refused) = Err refused
-joined (Err refused) more = Err refused
+abbrev pub joined_operands : Result Asked Refused → Result Asked Refused → Result Asked Refused
+joined_operands (Ok first) (Ok more) = Ok (both first more)
+joined_operands (Ok first) (Err refused) = Err refused
+joined_operands (Err refused) more = Err refused
 
 abbrev pub asked_of : List Bytes → Result Asked Refused
-asked_of [] = Ok nothing
-asked_of (operand ∷ operands) = joined (asked_by operand) (asked_of operands)
+asked_of [] = Ok nothing_asked
+asked_of (operand ∷ operands) = joined_operands (asked_by operand) (asked_of operands)
 
 -- why commands and targets of one line are none
 pub data Usage : Type 0 where
@@ -66,5 +66,5 @@ accepted (Ok asked) = complete asked.commands asked.targets
 accepted (Err refused) = Err (of_operand refused)
 
 -- one line: its operands, of which one at least is a command and one a target
-abbrev pub group_of : List Bytes → Result Asked Usage
-group_of operands = accepted (asked_of operands)
+abbrev pub operand_group : List Bytes → Result Asked Usage
+operand_group operands = accepted (asked_of operands)

@@ -10,7 +10,7 @@ pub data Given : Type 0 where
   operands : List Text → Given
   script : Text → Given
 
-pub record Line : Type 0 where
+pub record CommandLine : Type 0 where
   pub options : Options
   pub given : Given
 
@@ -21,15 +21,15 @@ pub data LineUsage : Type 0 where
   beside_stdout : LineUsage
 
 -- the flag was given
-abbrev pub is_set : Text → List Row → Bool
-is_set id rows = option_map_or (λ text. bytes_eq text (codes "true")) (first_of id rows) false
+abbrev pub is_flag_set : Text → List Row → Bool
+is_flag_set id rows = option_map_or (λ text. bytes_eq text (codes "true")) (first_of id rows) false
 
 abbrev pub options_of : List Row → Options
 options_of rows = record {
-  keep_going = is_set (codes "keep_going") rows;
-  to_stdout = is_set (codes "stdout") rows;
-  quiet = is_set (codes "quiet") rows;
-  journal = is_set (codes "journal") rows;
+  keep_going = is_flag_set (codes "keep_going") rows;
+  to_stdout = is_flag_set (codes "stdout") rows;
+  quiet = is_flag_set (codes "quiet") rows;
+  journal = is_flag_set (codes "journal") rows;
 }
 
 -- what stands behind `-f`, where it is given, and the operands
@@ -42,13 +42,13 @@ abbrev pub given_of : List Row → Result Given LineUsage
 given_of rows = given_by (first_of (codes "file") rows) (unwrap_or (all_of (codes "operand") rows) [])
 
 -- Operands beside `-f` are told first.
-abbrev pub with_options : Options → Result Given LineUsage → Result Line LineUsage
+abbrev pub with_options : Options → Result Given LineUsage → Result CommandLine LineUsage
 with_options options (Ok given) = if options.journal && options.to_stdout then Err beside_stdout else Ok (record { options = options; given = given })
 with_options options (Err usage) = Err usage
 
 -- the line that the words say, or why they say none
-abbrev pub line_of : List Text → Result Line LineUsage
-line_of words =
+abbrev pub command_line_of : List Text → Result CommandLine LineUsage
+command_line_of words =
     if length (fault_of buildozer_app words) == 0
     then (let rows = matches_of buildozer_app words in with_options (options_of rows) (given_of rows))
     else Err of_clap

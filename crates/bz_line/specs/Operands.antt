@@ -29,8 +29,8 @@ abbrev pub is_target : Bytes → Bool
 is_target operand = not (has_space operand) && (has_colon operand || begins_with (codes "//") operand)
 
 -- the target of this text, of any package
-abbrev pub target_of : Bytes → Result Target OperandFault
-target_of text = ok_or (target_in text) BadTarget
+abbrev pub operand_target : Bytes → Result Target OperandFault
+operand_target text = ok_or (target_in text) BadTarget
 
 -- ---- `undo`, `redo` and `journal`
 

@@ -4,8 +4,8 @@ use Rattle.bz_items.specs.Characters.{Bytes}
 use Rattle.bz_words.specs.Commands.{command_of}
 use Rattle.bz_words.specs.Refused.{HasBadPattern}
 use Rattle.bz_words.specs.declared.fault.CommandFault.TheVariants.{BadPattern}
-use Rattle.bz_line.specs.Asked.{Asked, Refused, Usage, of_operand, no_command, no_target, no_line, asked_by, asked_of, group_of}
-use Rattle.bz_line.specs.Script.{lines_in, operands_in, groups_of}
+use Rattle.bz_line.specs.Asked.{Asked, Refused, Usage, of_operand, no_command, no_target, no_line, asked_by, asked_of, operand_group}
+use Rattle.bz_line.specs.Script.{lines_in, operands_in, operand_groups}
 use Rattle.bz_line.specs.declared.verb.OperandFault.{OperandFault}
 use Rattle.bz_line.specs.declared.verb.OperandFault.TheVariants.{Command}
 
@@ -29,8 +29,8 @@ pub record IsFirstRefused (operands : List Bytes) (refused : Refused) : Type 0 w
 -- why the operands of one line ask for nothing
 abbrev pub IsGroupFault : List Bytes → Usage → Type 0
 IsGroupFault operands (of_operand refused) = IsFirstRefused operands refused
-IsGroupFault operands no_command = group_of operands ≡ Err no_command
-IsGroupFault operands no_target = group_of operands ≡ Err no_target
+IsGroupFault operands no_command = operand_group operands ≡ Err no_command
+IsGroupFault operands no_target = operand_group operands ≡ Err no_target
 IsGroupFault operands no_line = ⊥
 
 -- The first line that asks for nothing: those in front of it ask for something.
@@ -40,7 +40,7 @@ pub record IsFirstFault (lines : List Bytes) (usage : Usage) : Type 0 where
   pub rest : List Bytes
   pub groups : List Asked
   pub split : lines ≡ front ++ line ∷ rest
-  pub before : groups_of front ≡ Ok groups
+  pub before : operand_groups front ≡ Ok groups
   pub fault : IsGroupFault (operands_in line) usage
 
 -- why the lines of a file ask for nothing

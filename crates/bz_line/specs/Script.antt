@@ -2,7 +2,7 @@
 use Rattle.std.specs.Prelude.{◌==◌, Bool, false, not, List, [], ◌∷◌, filter, Result, Ok, Err}
 use Rattle.std.specs.List.{slice_split}
 use Rattle.bz_items.specs.Characters.{Bytes, line_feed, number_sign, vertical_bar}
-use Rattle.bz_line.specs.Asked.{Asked, Usage, no_line, group_of}
+use Rattle.bz_line.specs.Asked.{Asked, Usage, no_line, operand_group}
 
 -- A line is passed over where it is empty or begins with `#`.
 abbrev pub is_read : Bytes → Bool
@@ -22,14 +22,14 @@ in_front (Ok group) (Err usage) = Err usage
 in_front (Err usage) groups = Err usage
 
 -- what each of these lines asks for
-abbrev pub groups_of : List Bytes → Result (List Asked) Usage
-groups_of [] = Ok []
-groups_of (line ∷ lines) = in_front (group_of (operands_in line)) (groups_of lines)
+abbrev pub operand_groups : List Bytes → Result (List Asked) Usage
+operand_groups [] = Ok []
+operand_groups (line ∷ lines) = in_front (operand_group (operands_in line)) (operand_groups lines)
 
 -- There is a line at least.
 abbrev pub some_groups : List Bytes → Result (List Asked) Usage
 some_groups [] = Err no_line
-some_groups (line ∷ lines) = groups_of (line ∷ lines)
+some_groups (line ∷ lines) = operand_groups (line ∷ lines)
 
 -- what the lines of a file ask for
 abbrev pub script_of : Bytes → Result (List Asked) Usage

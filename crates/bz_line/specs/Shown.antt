@@ -11,7 +11,7 @@ use Rattle.bz_line.specs.declared.group.UsageFault.TheVariants as u
 use Rattle.bz_line.specs.declared.hint.Hint.{Hint}
 use Rattle.bz_line.specs.declared.line.Given.{Given}
 use Rattle.bz_line.specs.declared.line.Given.TheVariants as g
-use Rattle.bz_line.specs.declared.line.Line.{Line}
+use Rattle.bz_line.specs.declared.line.CommandLine.{CommandLine}
 use Rattle.bz_line.specs.declared.line.LineFault.{LineFault}
 use Rattle.bz_line.specs.declared.line.LineFault.TheVariants as f
 
@@ -19,7 +19,7 @@ abbrev pub given_in : Given → l.Given
 given_in (g.Operands operands) = l.operands (map (λ s. s.now) operands.items)
 given_in (g.Script file) = l.script file.now
 
-abbrev pub line_in : Line → l.Line
+abbrev pub line_in : CommandLine → l.CommandLine
 line_in line = record { options = line.options; given = given_in line.given }
 
 -- why words are no line, where memory is not the cause

@@ -6,9 +6,9 @@ use Rattle.bz_label.specs.declared.target.Which.TheVariants.{Name}
 use Rattle.bz_words.specs.declared.command.Operation.TheVariants as w
 use Rattle.bz_words.specs.declared.command.RuleOperation.TheVariants as wr
 use Rattle.bz_words.specs.declared.fault.CommandFault.TheVariants.{Unknown, Arguments}
-use Rattle.bz_line.specs.Asked.{Asked, Asking, Usage, of_operand, no_command, no_target, no_line, group_of}
-use Rattle.bz_line.specs.Line.{Line, Given, operands, script, of_clap, beside_script, beside_stdout, line_of}
-use Rattle.bz_line.specs.Operands.{target_of, verb_of}
+use Rattle.bz_line.specs.Asked.{Asked, Asking, Usage, of_operand, no_command, no_target, no_line, operand_group}
+use Rattle.bz_line.specs.Line.{CommandLine, Given, operands, script, of_clap, beside_script, beside_stdout, command_line_of}
+use Rattle.bz_line.specs.Operands.{operand_target, verb_of}
 use Rattle.bz_line.specs.Script.{script_of}
 use Rattle.bz_line.specs.Verbs.{prints}
 use Rattle.bz_line.specs.declared.line.Options.{Options}
@@ -20,41 +20,41 @@ use Rattle.bz_line.specs.declared.verb.Verb.TheVariants.{Do, Undo, Redo, Journal
 abbrev plain : Options
 plain = record { keep_going = false; to_stdout = false; quiet = false; journal = false }
 
-abbrev with_plain : Given → Line
+abbrev with_plain : Given → CommandLine
 with_plain given = record { options = plain; given = given }
 
 -- no word; each option; what stands behind two dashes is an operand; options between operands
 abbrev Words : Type 0
-Words = (line_of [] ≡ Ok (with_plain (operands [])))
-    × (line_of (codes "-k" ∷ []) ≡ Ok (record { options = record plain { keep_going = true }; given = operands [] }))
-    × (line_of (codes "--stdout" ∷ []) ≡ Ok (record { options = record plain { to_stdout = true }; given = operands [] }))
-    × (line_of (codes "--quiet" ∷ []) ≡ Ok (record { options = record plain { quiet = true }; given = operands [] }))
-    × (line_of (codes "--journal" ∷ []) ≡ Ok (record { options = record plain { journal = true }; given = operands [] }))
-    × (line_of (codes "--" ∷ codes "delete" ∷ codes "-:x" ∷ []) ≡ Ok (with_plain (operands (codes "delete" ∷ codes "-:x" ∷ []))))
-    × (line_of (codes "delete" ∷ codes "-k" ∷ codes "//a:x" ∷ [])
+Words = (command_line_of [] ≡ Ok (with_plain (operands [])))
+    × (command_line_of (codes "-k" ∷ []) ≡ Ok (record { options = record plain { keep_going = true }; given = operands [] }))
+    × (command_line_of (codes "--stdout" ∷ []) ≡ Ok (record { options = record plain { to_stdout = true }; given = operands [] }))
+    × (command_line_of (codes "--quiet" ∷ []) ≡ Ok (record { options = record plain { quiet = true }; given = operands [] }))
+    × (command_line_of (codes "--journal" ∷ []) ≡ Ok (record { options = record plain { journal = true }; given = operands [] }))
+    × (command_line_of (codes "--" ∷ codes "delete" ∷ codes "-:x" ∷ []) ≡ Ok (with_plain (operands (codes "delete" ∷ codes "-:x" ∷ []))))
+    × (command_line_of (codes "delete" ∷ codes "-k" ∷ codes "//a:x" ∷ [])
     ≡ Ok (record { options = record plain { keep_going = true }; given = operands (codes "delete" ∷ codes "//a:x" ∷ []) }))
 
 -- a file of lines, standard input as one, `-k` in the same word; operands beside it, a repeated option, one without its value, an
 -- unknown one
 abbrev Scripts : Type 0
-Scripts = (line_of (codes "-f" ∷ codes "lines" ∷ []) ≡ Ok (with_plain (script (codes "lines"))))
-    × (line_of (codes "-f" ∷ codes "-" ∷ []) ≡ Ok (with_plain (script (codes "-"))))
-    × (line_of (codes "-kf" ∷ codes "-" ∷ []) ≡ Ok (record { options = record plain { keep_going = true }; given = script (codes "-") }))
-    × (line_of (codes "delete" ∷ codes "-f" ∷ codes "lines" ∷ []) ≡ Err beside_script)
-    × (line_of (codes "-k" ∷ codes "-k" ∷ []) ≡ Err of_clap) × (line_of (codes "-f" ∷ []) ≡ Err of_clap)
-    × (line_of (codes "delete" ∷ codes "-:x" ∷ []) ≡ Err of_clap)
+Scripts = (command_line_of (codes "-f" ∷ codes "lines" ∷ []) ≡ Ok (with_plain (script (codes "lines"))))
+    × (command_line_of (codes "-f" ∷ codes "-" ∷ []) ≡ Ok (with_plain (script (codes "-"))))
+    × (command_line_of (codes "-kf" ∷ codes "-" ∷ []) ≡ Ok (record { options = record plain { keep_going = true }; given = script (codes "-") }))
+    × (command_line_of (codes "delete" ∷ codes "-f" ∷ codes "lines" ∷ []) ≡ Err beside_script)
+    × (command_line_of (codes "-k" ∷ codes "-k" ∷ []) ≡ Err of_clap) × (command_line_of (codes "-f" ∷ []) ≡ Err of_clap)
+    × (command_line_of (codes "delete" ∷ codes "-:x" ∷ []) ≡ Err of_clap)
 
 -- a journal beside the other options and behind an operand; beside standard output, in both orders; beside operands and a file, which
 -- are told first; a repeated one
 abbrev Journals : Type 0
-Journals = (line_of (codes "-k" ∷ codes "--quiet" ∷ codes "--journal" ∷ codes "-f" ∷ codes "lines" ∷ [])
+Journals = (command_line_of (codes "-k" ∷ codes "--quiet" ∷ codes "--journal" ∷ codes "-f" ∷ codes "lines" ∷ [])
     ≡ Ok (record { options = record plain { keep_going = true; quiet = true; journal = true }; given = script (codes "lines") }))
-    × (line_of (codes "undo" ∷ codes "//a:x" ∷ codes "--journal" ∷ [])
+    × (command_line_of (codes "undo" ∷ codes "//a:x" ∷ codes "--journal" ∷ [])
     ≡ Ok (record { options = record plain { journal = true }; given = operands (codes "undo" ∷ codes "//a:x" ∷ []) }))
-    × (line_of (codes "--journal" ∷ codes "--stdout" ∷ []) ≡ Err beside_stdout)
-    × (line_of (codes "--stdout" ∷ codes "-f" ∷ codes "lines" ∷ codes "--journal" ∷ []) ≡ Err beside_stdout)
-    × (line_of (codes "--journal" ∷ codes "--stdout" ∷ codes "delete" ∷ codes "-f" ∷ codes "lines" ∷ []) ≡ Err beside_script)
-    × (line_of (codes "--journal" ∷ codes "--journal" ∷ []) ≡ Err of_clap)
+    × (command_line_of (codes "--journal" ∷ codes "--stdout" ∷ []) ≡ Err beside_stdout)
+    × (command_line_of (codes "--stdout" ∷ codes "-f" ∷ codes "lines" ∷ codes "--journal" ∷ []) ≡ Err beside_stdout)
+    × (command_line_of (codes "--journal" ∷ codes "--stdout" ∷ codes "delete" ∷ codes "-f" ∷ codes "lines" ∷ []) ≡ Err beside_script)
+    × (command_line_of (codes "--journal" ∷ codes "--journal" ∷ []) ≡ Err of_clap)
 
 -- the rule of this name in the package a
 abbrev meant : Bytes → Target
@@ -71,10 +71,10 @@ refused operand fault = of_operand (record { operand = operand; fault = fault })
 
 -- commands and targets mixed, each in order; the first refused operand; no command; no target; no operand
 abbrev Groups : Type 0
-Groups = (group_of (codes "//a:x" ∷ codes "undo 007" ∷ codes "a:y" ∷ codes " redo" ∷ [])
+Groups = (operand_group (codes "//a:x" ∷ codes "undo 007" ∷ codes "a:y" ∷ codes " redo" ∷ [])
     ≡ Ok (record { commands = asking (Undo 7) (codes "undo 007") ∷ asking (Redo 1) (codes " redo") ∷ []; targets = meant (codes "x") ∷ meant (codes "y") ∷ [] }))
-    × (group_of (codes "delete" ∷ codes "//a:" ∷ codes "grow" ∷ []) ≡ Err (refused (codes "//a:") BadTarget))
-    × (group_of (codes "//a:x" ∷ []) ≡ Err no_command) × (group_of (codes "delete" ∷ []) ≡ Err no_target) × (group_of [] ≡ Err no_command)
+    × (operand_group (codes "delete" ∷ codes "//a:" ∷ codes "grow" ∷ []) ≡ Err (refused (codes "//a:") BadTarget))
+    × (operand_group (codes "//a:x" ∷ []) ≡ Err no_command) × (operand_group (codes "delete" ∷ []) ≡ Err no_target) × (operand_group [] ≡ Err no_command)
 
 -- a byte that ends no line
 abbrev carriage_return : Bytes
@@ -98,7 +98,7 @@ Faults = (script_of [] ≡ Err no_line) × (script_of (codes "#delete|//a:x\n\n"
 
 -- targets and commands, each by its text alone
 abbrev Operands : Type 0
-Operands = (target_of (codes "//a:x") ≡ Ok (meant (codes "x"))) × (target_of (codes "//a/") ≡ Err BadTarget)
+Operands = (operand_target (codes "//a:x") ≡ Ok (meant (codes "x"))) × (operand_target (codes "//a/") ≡ Err BadTarget)
     × (verb_of (codes "redo") ≡ Ok (Redo 1)) × (verb_of (codes "undo 0") ≡ Err (Command Arguments))
     × (verb_of (codes "undo +1") ≡ Err (Command Arguments)) × (verb_of (codes "redo 4294967296") ≡ Err (Command Arguments))
     × (verb_of (codes "journals") ≡ Err (Command Unknown)) × (verb_of [] ≡ Err (Command Unknown))
@@ -106,8 +106,8 @@ Operands = (target_of (codes "//a:x") ≡ Ok (meant (codes "x"))) × (target_of 
 -- the list of texts, which takes no argument and prints, and other steps of a history, which don't
 abbrev Listed : Type 0
 Listed = (verb_of (codes " journal ") ≡ Ok Journal) × (verb_of (codes "journal 1") ≡ Err (Command Arguments))
-    × (group_of (codes "journal" ∷ codes "//a:x" ∷ []) ≡ Ok (record { commands = asking Journal (codes "journal") ∷ []; targets = meant (codes "x") ∷ [] }))
+    × (operand_group (codes "journal" ∷ codes "//a:x" ∷ []) ≡ Ok (record { commands = asking Journal (codes "journal") ∷ []; targets = meant (codes "x") ∷ [] }))
     × (prints Journal ≡ true) × (prints (Undo 1) ≡ false) × (prints (Redo 1) ≡ false)
 
-abbrev pub WorkedLines : Type 0
-WorkedLines = Words × Scripts × Journals × Groups × Lines × Faults × Operands × Listed
+abbrev pub WorkedCommandLines : Type 0
+WorkedCommandLines = Words × Scripts × Journals × Groups × Lines × Faults × Operands × Listed

@@ -2,7 +2,7 @@
 ghost use Rattle.std.specs.Prelude.{◌≡◌, ◌⊎◌, Ok, Err, IfOk, IfErr, OnOk, map};
 ghost use Rattle.std.specs.List.{All};
 ghost use Rattle.bz_line.specs.Asked as a;
-ghost use Rattle.bz_line.specs.Operands.{target_of, verb_of};
+ghost use Rattle.bz_line.specs.Operands.{operand_target, verb_of};
 ghost use Rattle.bz_line.specs.Paths.{HasPath};
 ghost use Rattle.bz_line.specs.Refused.{IsFirstRefused, IsOperandFault, IsPatternFault};
 ghost use Rattle.bz_line.specs.Shown.{asked_in, refused_in};
@@ -35,8 +35,8 @@ pub struct Refused<'a> {
 }
 
 fn add_target(alloc: Global, asked: &mut Asked<'_>, operand: &str) -> Result<(), OperandFault>
-    ensures ok { OnOk result (a.joined (Ok (asked_in asked.old)) (a.aimed operand.now (target_of operand.now)) ≡ Ok (asked_in asked.new)) }
-    ensures err { IfErr result (λ fault. (target_of operand.now ≡ Err fault) ⊎ (fault ≡ OperandFault.Memory)) }
+    ensures ok { OnOk result (a.joined_operands (Ok (asked_in asked.old)) (a.aimed operand.now (operand_target operand.now)) ≡ Ok (asked_in asked.new)) }
+    ensures err { IfErr result (λ fault. (operand_target operand.now ≡ Err fault) ⊎ (fault ≡ OperandFault.Memory)) }
     ensures paths { All HasPath asked.old.targets.items → OnOk result (All HasPath asked.new.targets.items) }
 {
     let target = read_target(alloc, operand)?;
@@ -51,7 +51,7 @@ fn add_command<'a>(
     asked: &mut Asked<'a>,
     operand: &'a str,
 ) -> Result<(), OperandFault>
-    ensures ok { OnOk result (a.joined (Ok (asked_in asked.old)) (a.wanted operand.entry.now (verb_of operand.entry.now)) ≡ Ok (asked_in asked.new)) }
+    ensures ok { OnOk result (a.joined_operands (Ok (asked_in asked.old)) (a.wanted operand.entry.now (verb_of operand.entry.now)) ≡ Ok (asked_in asked.new)) }
     ensures err { IfErr result (λ fault. (verb_of operand.entry.now ≡ Err fault) ⊎ IsPatternFault operand.entry.now fault
         ⊎ (fault ≡ OperandFault.Memory)) }
     ensures paths { All HasPath asked.old.targets.items → OnOk result (All HasPath asked.new.targets.items) }
@@ -69,7 +69,7 @@ fn add_command<'a>(
 }
 
 fn add<'a>(alloc: Global, asked: &mut Asked<'a>, operand: &'a str) -> Result<(), OperandFault>
-    ensures ok { OnOk result (a.joined (Ok (asked_in asked.old)) (a.asked_by operand.entry.now) ≡ Ok (asked_in asked.new)) }
+    ensures ok { OnOk result (a.joined_operands (Ok (asked_in asked.old)) (a.asked_by operand.entry.now) ≡ Ok (asked_in asked.new)) }
     ensures err { IfErr result (λ fault. IsOperandFault operand.entry.now fault ⊎ (fault ≡ OperandFault.Memory)) }
     ensures paths { All HasPath asked.old.targets.items → OnOk result (All HasPath asked.new.targets.items) }
 {

@@ -1,7 +1,7 @@
 //! One line: its commands and its targets.
 ghost use Rattle.std.specs.Prelude.{◌≡◌, ◌≢◌, ◌⊎◌, Ok, Err, Some, None, IfOk, IfErr, IfSome, map};
 ghost use Rattle.std.specs.List.{All};
-ghost use Rattle.bz_line.specs.Asked.{group_of, of_operand};
+ghost use Rattle.bz_line.specs.Asked.{operand_group, of_operand};
 ghost use Rattle.bz_line.specs.Paths.{HasPath};
 ghost use Rattle.bz_line.specs.Refused.{IsGroupFault};
 ghost use Rattle.bz_line.specs.Shown.{asked_in, refused_in, usage_in};
@@ -50,7 +50,7 @@ fn usage_fault(refused: Refused<'_>) -> UsageFault<'_>
 /// is text in UTF-8, of at most 65,536 bytes. Errors, in this order: `Operand` where one is refused, which is the first
 /// such; `NoCommand`; `NoTarget`; and `Memory` where a growth was refused.
 pub fn read_group<'a>(alloc: Global, operands: &[&'a str]) -> Result<Asked<'a>, UsageFault<'a>>
-    ensures ok { IfOk result (λ asked. group_of (map (λ s. s.now) operands.now) ≡ Ok (asked_in asked)) }
+    ensures ok { IfOk result (λ asked. operand_group (map (λ s. s.now) operands.now) ≡ Ok (asked_in asked)) }
     ensures err { IfErr result (λ fault. IfSome (usage_in fault) (IsGroupFault (map (λ s. s.now) operands.now))) }
     ensures paths { IfOk result (λ asked. All HasPath asked.targets.items) }
 {

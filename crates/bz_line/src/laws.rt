@@ -1,7 +1,7 @@
 //! Facts about the definitions, for readers: the functions do nothing.
-ghost use Rattle.bz_line.specs.Worked.{WorkedLines};
+ghost use Rattle.bz_line.specs.Worked.{WorkedCommandLines};
 
 /// What lines of words and files of lines say, worked out by hand.
 pub fn worked_lines()
-    ensures { WorkedLines }
+    ensures { WorkedCommandLines }
 {}

@@ -14,6 +14,6 @@ pub use asked::{Asked, Asking, Refused};
 pub use group::{UsageFault, read_group};
 pub use hint::{Hint, hint_for};
 pub use laws::worked_lines;
-pub use line::{Given, Line, LineFault, Options, read_line};
+pub use line::{CommandLine, Given, LineFault, Options, read_line};
 pub use script::read_script;
 pub use verb::{OperandFault, Verb};

@@ -2,7 +2,7 @@
 ghost use Rattle.std.specs.Prelude.{◌≡◌, [], false, Ok, Err, IfOk, IfErr, IfSome, map};
 ghost use Rattle.clap.specs.Words.{app_of, rule_of, found_of, fault_of, matches_of, rows_of};
 ghost use Rattle.bz_line.specs.App.{nameless, buildozer_app, lines_app, options_app, keep_going_rule, file_rule, stdout_rule, quiet_rule, journal_rule, operand_rule};
-ghost use Rattle.bz_line.specs.Line.{is_set, options_of, given_of, line_of};
+ghost use Rattle.bz_line.specs.Line.{is_flag_set, options_of, given_of, command_line_of};
 ghost use Rattle.bz_line.specs.Shown.{given_in, line_in, line_usage_in};
 
 use bz_ports::{text_of, texts_of};
@@ -35,7 +35,7 @@ pub enum Given<'a> {
 
 /// What the words of a command line say.
 #[derive(Debug, Drop)]
-pub struct Line<'a> {
+pub struct CommandLine<'a> {
     pub options: Options,
     pub given: Given<'a>,
 }
@@ -160,7 +160,7 @@ fn buildozer_command<'a>(alloc: Global) -> Result<Command<'a>, AllocError>
 fn parse<'a, S: AsStr>(alloc: Global, words: &'a [S]) -> Result<ArgMatches<'a>, LineFault>
     ensures ok { IfOk result (λ m. (fault_of buildozer_app (map S.text words.entry.now) ≡ [])
         × (rows_of (found_of m) ≡ matches_of buildozer_app (map S.text words.entry.now))) }
-    ensures err { IfErr result (λ fault. IfSome (line_usage_in fault) (λ usage. line_of (map S.text words.entry.now) ≡ Err usage)) }
+    ensures err { IfErr result (λ fault. IfSome (line_usage_in fault) (λ usage. command_line_of (map S.text words.entry.now) ≡ Err usage)) }
 {
     let command = match buildozer_command(alloc) {
         Ok(command) => command,
@@ -173,8 +173,8 @@ fn parse<'a, S: AsStr>(alloc: Global, words: &'a [S]) -> Result<ArgMatches<'a>, 
     }
 }
 
-fn is_set(matches: &ArgMatches<'_>, id: &str) -> bool
-    ensures { result ≡ is_set id.now (rows_of (found_of matches.now)) }
+fn is_flag_set(matches: &ArgMatches<'_>, id: &str) -> bool
+    ensures { result ≡ is_flag_set id.now (rows_of (found_of matches.now)) }
 {
     match text_of(matches, id) {
         Some(text) => text == "true",
@@ -186,10 +186,10 @@ fn options_of(matches: &ArgMatches<'_>) -> Options
     ensures { result ≡ options_of (rows_of (found_of matches.now)) }
 {
     Options {
-        keep_going: is_set(matches, "keep_going"),
-        to_stdout: is_set(matches, "stdout"),
-        quiet: is_set(matches, "quiet"),
-        journal: is_set(matches, "journal"),
+        keep_going: is_flag_set(matches, "keep_going"),
+        to_stdout: is_flag_set(matches, "stdout"),
+        quiet: is_flag_set(matches, "quiet"),
+        journal: is_flag_set(matches, "journal"),
     }
 }
 
@@ -214,9 +214,9 @@ fn given_of<'a>(alloc: Global, matches: &ArgMatches<'a>) -> Result<Given<'a>, Li
 /// What the words behind the program's name say. Errors: `Clap` where clap finds a fault in them, repeated options among
 /// these; `BesideScript` where operands stand beside `-f`, else `BesideStdout` where `--journal` stands beside `--stdout`;
 /// `Memory`: a growth was refused.
-pub fn read_line<'a, S: AsStr>(alloc: Global, words: &'a [S]) -> Result<Line<'a>, LineFault>
-    ensures ok { IfOk result (λ line. line_of (map S.text words.entry.now) ≡ Ok (line_in line)) }
-    ensures err { IfErr result (λ fault. IfSome (line_usage_in fault) (λ usage. line_of (map S.text words.entry.now) ≡ Err usage)) }
+pub fn read_line<'a, S: AsStr>(alloc: Global, words: &'a [S]) -> Result<CommandLine<'a>, LineFault>
+    ensures ok { IfOk result (λ line. command_line_of (map S.text words.entry.now) ≡ Ok (line_in line)) }
+    ensures err { IfErr result (λ fault. IfSome (line_usage_in fault) (λ usage. command_line_of (map S.text words.entry.now) ≡ Err usage)) }
 {
     let matches = parse(alloc, words)?;
     let given = given_of(alloc, &matches)?;
@@ -224,5 +224,5 @@ pub fn read_line<'a, S: AsStr>(alloc: Global, words: &'a [S]) -> Result<Line<'a>
     if options.journal && options.to_stdout {
         return Err(LineFault::BesideStdout);
     }
-    Ok(Line { options, given })
+    Ok(CommandLine { options, given })
 }

@@ -1,11 +1,11 @@
 //! A file of lines.
 ghost use Rattle.std.specs.Prelude.{◌≡◌, ◌==◌, [], ◌∷◌, ◌++◌, Ok, IfOk, OnOk, IfErr, IfSome, map, filter};
 ghost use Rattle.std.specs.List.{All, slice_split};
-ghost use Rattle.bz_line.specs.Asked.{group_of};
+ghost use Rattle.bz_line.specs.Asked.{operand_group};
 ghost use Rattle.bz_items.specs.Characters.{line_feed};
 ghost use Rattle.bz_line.specs.Paths.{HasPath};
 ghost use Rattle.bz_line.specs.Refused.{IsFirstFault, IsGroupFault, IsScriptFault};
-ghost use Rattle.bz_line.specs.Script.{is_read, lines_in, operands_in, groups_of, script_of};
+ghost use Rattle.bz_line.specs.Script.{is_read, lines_in, operands_in, operand_groups, script_of};
 ghost use Rattle.bz_line.specs.Shown.{asked_in, usage_in};
 
 use crate::asked::Asked;
@@ -55,7 +55,7 @@ fn operands_in<'a>(alloc: Global, line: &'a str) -> Result<Vec<&'a str>, AllocEr
 }
 
 fn read_operands<'a>(alloc: Global, line: &'a str) -> Result<Asked<'a>, UsageFault<'a>>
-    ensures ok { IfOk result (λ asked. group_of (operands_in line.entry.now) ≡ Ok (asked_in asked)) }
+    ensures ok { IfOk result (λ asked. operand_group (operands_in line.entry.now) ≡ Ok (asked_in asked)) }
     ensures err { IfErr result (λ fault. IfSome (usage_in fault) (IsGroupFault (operands_in line.entry.now))) }
     ensures paths { IfOk result (λ asked. All HasPath asked.targets.items) }
 {
@@ -71,7 +71,7 @@ fn add<'a>(groups: &mut Vec<Asked<'a>>, group: Asked<'a>) -> Result<(), AllocErr
 }
 
 fn read_groups<'a>(alloc: Global, lines: &[&'a str]) -> Result<Vec<Asked<'a>>, UsageFault<'a>>
-    ensures ok { IfOk result (λ groups. groups_of (map (λ s. s.now) lines.now) ≡ Ok (map asked_in groups.items)) }
+    ensures ok { IfOk result (λ groups. operand_groups (map (λ s. s.now) lines.now) ≡ Ok (map asked_in groups.items)) }
     ensures err { IfErr result (λ fault. IfSome (usage_in fault) (IsFirstFault (map (λ s. s.now) lines.now))) }
     ensures paths { IfOk result (λ groups. All (λ asked. All HasPath asked.targets.items) groups.items) }
 {

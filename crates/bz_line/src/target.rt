@@ -1,6 +1,6 @@
 //! Operands that are targets.
 ghost use Rattle.std.specs.Prelude.{◌≡◌, ◌⊎◌, Err, IfOk};
-ghost use Rattle.bz_line.specs.Operands.{is_target, target_of};
+ghost use Rattle.bz_line.specs.Operands.{is_target, operand_target};
 ghost use Rattle.bz_line.specs.Paths.{HasPath};
 
 use crate::verb::OperandFault;
@@ -19,7 +19,7 @@ pub(crate) fn is_target(operand: &[u8]) -> bool
 /// The target of this text. Errors: `BadTarget`: it is none; `Memory`: a growth was refused.
 #[tactic(auto, using(crate::proofs::PathTexts::has_path))]
 pub(crate) fn read_target(alloc: Global, text: &str) -> Result<Target, OperandFault>
-    ensures told { (result ≡ target_of text.now) ⊎ (result ≡ Err OperandFault.Memory) }
+    ensures told { (result ≡ operand_target text.now) ⊎ (result ≡ Err OperandFault.Memory) }
     ensures paths { IfOk result HasPath }
 {
     match Target::read(alloc, text) {

@@ -20,7 +20,7 @@ use Rattle.bz_attribute.specs.Attributes.{with_value, with_new, by_value}
 use Rattle.bz_attribute.specs.Lists.{body_of, are_one, is_item, fresh, travelled, is_there, arriving, has_lists, items_in, is_no_list, with_more}
 use Rattle.bz_attribute.specs.Made.{string_of, list_of, plus}
 use Rattle.bz_list.specs.Changes.{with_items_added}
-use Rattle.bz_list.specs.KnownValues.{Asked, none_known, with_word, is_known_item, with_item, with_items, new_words, new_items}
+use Rattle.bz_list.specs.KnownValues.{Membership, none_known, with_word, is_known_item, with_item, with_known_items, new_words, new_items}
 use Rattle.bz_list.specs.Adding.{added_by, added_to, shorter_in, shorter, with_added}
 
 -- ---- an item that comes to another attribute
@@ -41,7 +41,7 @@ travelled_by current attribute x = travelled_in current attribute (body_of x) x
 -- ---- what is known of items that are there
 
 -- an attribute of which these words are known
-abbrev known_as : Bytes → Bytes → (Bytes → Bool) → Asked
+abbrev known_as : Bytes → Bytes → (Bytes → Bool) → Membership
 known_as current attribute test = record { current = current; is_label = is_label_attribute attribute; is_known = test }
 
 item_by : (current attribute : Bytes) (test : Bytes → Bool) (found : Option Bytes)
@@ -54,14 +54,14 @@ item_known : (current attribute : Bytes) (test : Bytes → Bool) (x : Expr) → 
 item_known current attribute test x = item_by current attribute test (body_of x)
 
 items_known : (current attribute : Bytes) (test : Bytes → Bool) (items : List Expr)
-    → with_items items (known_as current attribute test) ≡ known_as current attribute (λ word. list_any (is_item current attribute word) items || test word)
+    → with_known_items items (known_as current attribute test) ≡ known_as current attribute (λ word. list_any (is_item current attribute word) items || test word)
 items_known current attribute test [] = refl
 items_known current attribute test (x ∷ xs) =
-    ap (with_items xs) (item_known current attribute test x)
+    ap (with_known_items xs) (item_known current attribute test x)
     ∙ (items_known current attribute (λ word. is_item current attribute word x || test word) xs
     ∙ ap (known_as current attribute) (fun_ext (λ word. or_group (list_any (is_item current attribute word) xs) (is_item current attribute word x) (test word))))
 
-all_known : (current attribute : Bytes) (items : List Expr) → with_items items (none_known current attribute) ≡ known_as current attribute (λ word. list_any (is_item current attribute word) items)
+all_known : (current attribute : Bytes) (items : List Expr) → with_known_items items (none_known current attribute) ≡ known_as current attribute (λ word. list_any (is_item current attribute word) items)
 all_known current attribute items =
     items_known current attribute (λ word. false) items
     ∙ ap (known_as current attribute) (fun_ext (λ word. or_none (list_any (is_item current attribute word) items)))
@@ -105,7 +105,7 @@ items_new current attribute test there (x ∷ xs) e =
     ∙ items_new current attribute (λ word. is_item current attribute word x || test word) (x ∷ there) xs
     (fun_ext (λ word. ap (λ (t : Bytes → Bool). is_item current attribute word x || t word) e)))
 
-pub added_there : (current name : Bytes) (added : Added) (there : List Expr) → added_to current name added (with_items there (none_known current name)) ≡ added_by current name added there
+pub added_there : (current name : Bytes) (added : Added) (there : List Expr) → added_to current name added (with_known_items there (none_known current name)) ≡ added_by current name added there
 added_there current name (a.Words words) there =
     ap (map (string_of current name))
     (ap (λ known. new_words known words.now) (all_known current name there) ∙ words_new current name there (λ word. list_any (is_item current name word) there) [] words.now refl)

@@ -14,12 +14,12 @@ use Rattle.bz_label.specs.Read.{label_in, is_equal, are_equal, is_same}
 use Rattle.bz_label.specs.Tables.{is_label_attribute}
 use Rattle.bz_value.specs.declared.value.Expr.{Expr}
 use Rattle.bz_items.specs.Characters.{Bytes}
-use Rattle.bz_attribute.specs.Lists.{body_of, items_in, are_one, is_some_item}
+use Rattle.bz_attribute.specs.Lists.{body_of, items_in, are_one, is_some_item, listed}
 use Rattle.bz_attribute.proofs.KeySets.{equal_texts, or_group, or_none}
 use Rattle.bz_list.specs.declared.known.Chosen.TheVariants as h
-use Rattle.bz_list.specs.Listing.{chooses, listed, with_lists}
+use Rattle.bz_list.specs.Listing.{chooses, with_lists}
 use Rattle.bz_attribute.proofs.ListsThere.{items_there}
-use Rattle.bz_list.specs.KnownValues.{are_alike, label_meant, is_among, KnownValues, Asked, asked, none_known, with_word, with_words, is_known_item, with_item, with_items}
+use Rattle.bz_list.specs.KnownValues.{mean_the_same, label_meant, is_among, KnownValues, Membership, asked, none_known, with_word, with_words, is_known_item, with_item, with_known_items}
 
 -- ---- words mean one value both ways
 
@@ -45,7 +45,7 @@ same_alike : (current one other : Bytes) → is_same current one other ≡ is_sa
 same_alike current one other = ap (λ z. z || are_equal (label_in current one) (label_in current other)) (bytes_alike one other)
     ∙ ap (λ z. bytes_eq other one || z) (labels_alike (label_in current one) (label_in current other))
 
-pub alike_both : (is_label : Bool) (current one other : Bytes) → are_alike is_label current one other ≡ are_alike is_label current other one
+pub alike_both : (is_label : Bool) (current one other : Bytes) → mean_the_same is_label current one other ≡ mean_the_same is_label current other one
 alike_both true current one other = same_alike current one other
 alike_both false current one other = bytes_alike one other
 
@@ -83,7 +83,7 @@ same_keys current word other = elim (cases_Bool (bytes_eq word other)) [
       ∙ apart_keys word other (label_in current word) (label_in current other) w
 ]
 
-alike_keys : (is_label : Bool) (current word other : Bytes) → are_alike is_label current word other ≡ are_one_key word other (label_meant is_label current word) (label_meant is_label current other)
+alike_keys : (is_label : Bool) (current word other : Bytes) → mean_the_same is_label current word other ≡ are_one_key word other (label_meant is_label current word) (label_meant is_label current other)
 alike_keys true current word other = same_keys current word other
 alike_keys false current word other = refl
 
@@ -134,37 +134,37 @@ nothing_known current is_label =
     ap (λ (test : Bytes → Bool). record { current = current; is_label = is_label; is_known = test })
     (fun_ext (λ word. none_among word (label_meant is_label current word)))
 
-more_items : (xs ys : List Expr) (known : Asked) → with_items (xs ++ ys) known ≡ with_items ys (with_items xs known)
+more_items : (xs ys : List Expr) (known : Membership) → with_known_items (xs ++ ys) known ≡ with_known_items ys (with_known_items xs known)
 more_items [] ys known = refl
 more_items (x ∷ xs) ys known = more_items xs ys (with_item x known)
 
-lists_known : (xs : List Expr) (known : Asked) → with_items (flat_map listed xs) known ≡ with_lists xs known
+lists_known : (xs : List Expr) (known : Membership) → with_known_items (flat_map listed xs) known ≡ with_lists xs known
 lists_known [] known = refl
-lists_known (x ∷ xs) known = more_items (listed x) (flat_map listed xs) known ∙ lists_known xs (with_items (listed x) known)
+lists_known (x ∷ xs) known = more_items (listed x) (flat_map listed xs) known ∙ lists_known xs (with_known_items (listed x) known)
 
-known_by : (b : Bool) (xs ys : List Expr) (known : Asked) → with_items (if b then flat_map listed xs else ys) known ≡ (if b then with_lists xs known else with_items ys known)
+known_by : (b : Bool) (xs ys : List Expr) (known : Membership) → with_known_items (if b then flat_map listed xs else ys) known ≡ (if b then with_lists xs known else with_known_items ys known)
 known_by true xs ys known = lists_known xs known
 known_by false xs ys known = refl
 
 -- the items of a value
-pub value_known : (value : Expr) (known : Asked) → with_items (items_in value) known ≡ (if has_kind k.Sum value then with_lists (parts_of value) known else with_items (listed value) known)
-value_known value known = ap (λ xs. with_items xs known) (items_there value) ∙ known_by (has_kind k.Sum value) (parts_of value) (listed value) known
+pub value_known : (value : Expr) (known : Membership) → with_known_items (items_in value) known ≡ (if has_kind k.Sum value then with_lists (parts_of value) known else with_known_items (listed value) known)
+value_known value known = ap (λ xs. with_known_items xs known) (items_there value) ∙ known_by (has_kind k.Sum value) (parts_of value) (listed value) known
 
 -- ---- the words as they are asked
 
 -- what words make of what is known
-words_known : (words : List Bytes) (known : Asked) → with_words words known
-    ≡ record { current = known.current; is_label = known.is_label; is_known = λ other. list_any (are_alike known.is_label known.current other) words || known.is_known other }
+words_known : (words : List Bytes) (known : Membership) → with_words words known
+    ≡ record { current = known.current; is_label = known.is_label; is_known = λ other. list_any (mean_the_same known.is_label known.current other) words || known.is_known other }
 words_known [] known = refl
 words_known (word ∷ words) known = words_known words (with_word word known)
     ∙ ap (λ (test : Bytes → Bool). record { current = known.current; is_label = known.is_label; is_known = test })
-    (fun_ext (λ other. or_group (list_any (are_alike known.is_label known.current other) words) (are_alike known.is_label known.current other word) (known.is_known other)))
+    (fun_ext (λ other. or_group (list_any (mean_the_same known.is_label known.current other) words) (mean_the_same known.is_label known.current other word) (known.is_known other)))
 
-any_alike : (is_label : Bool) (current other : Bytes) (words : List Bytes) → list_any (are_alike is_label current other) words ≡ list_any (λ word. are_alike is_label current word other) words
+any_alike : (is_label : Bool) (current other : Bytes) (words : List Bytes) → list_any (mean_the_same is_label current other) words ≡ list_any (λ word. mean_the_same is_label current word other) words
 any_alike is_label current other [] = refl
 any_alike is_label current other (word ∷ words) =
-    ap (λ z. z || list_any (are_alike is_label current other) words) (alike_both is_label current other word)
-    ∙ ap (λ z. are_alike is_label current word other || z) (any_alike is_label current other words)
+    ap (λ z. z || list_any (mean_the_same is_label current other) words) (alike_both is_label current other word)
+    ∙ ap (λ z. mean_the_same is_label current word other || z) (any_alike is_label current other words)
 
 -- an item is one of the words, asked of the body of a plain string
 by_body : (current attribute : Bytes) (words : List Bytes) (found : Option Bytes)
@@ -178,10 +178,10 @@ by_body current attribute words (Some other) = refl
 
 words_asked : (current attribute : Bytes) (words : List Bytes) (x : Expr) → is_known_item (with_words words (none_known current attribute)) x ≡ is_some_item current attribute words x
 words_asked current attribute words x =
-    ap (λ (known : Asked). is_known_item known x) (words_known words (none_known current attribute))
+    ap (λ (known : Membership). is_known_item known x) (words_known words (none_known current attribute))
     ∙ ap (λ (test : Bytes → Bool). option_map_or test (body_of x) false)
-    (fun_ext (λ other. or_none (list_any (are_alike (is_label_attribute attribute) current other) words) ∙ any_alike (is_label_attribute attribute) current other words))
+    (fun_ext (λ other. or_none (list_any (mean_the_same (is_label_attribute attribute) current other) words) ∙ any_alike (is_label_attribute attribute) current other words))
     ∙ by_body current attribute words (body_of x)
 
 pub chosen_words : (current attribute : Bytes) (words : List Bytes) (known : KnownValues) → asked known ≡ with_words words (none_known current attribute) → chooses (h.These known) ≡ is_some_item current attribute words
-chosen_words current attribute words known e = fun_ext (λ x. ap (λ (all : Asked). is_known_item all x) e ∙ words_asked current attribute words x)
+chosen_words current attribute words known e = fun_ext (λ x. ap (λ (all : Membership). is_known_item all x) e ∙ words_asked current attribute words x)

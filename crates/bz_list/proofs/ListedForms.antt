@@ -11,11 +11,11 @@ use Rattle.bz_rule.specs.Rules.{attribute}
 use Rattle.bz_rule.specs.Values.{has_kind, parts_of, items_of, with_parts, with_items, on_row, on_items, on_lists}
 use Rattle.bz_value.specs.Empty.{is_empty}
 use Rattle.bz_attribute.specs.Attributes.{with_value, without}
-use Rattle.bz_attribute.specs.Lists.{items_in, is_empty_list}
+use Rattle.bz_attribute.specs.Lists.{items_in, is_empty_list, listed}
 use Rattle.bz_attribute.proofs.AttributesAgain.{with_value_same}
 use Rattle.bz_attribute.proofs.FormsAgain.{both, own_parts, own_items}
 use Rattle.bz_list.specs.Changes.{cleared}
-use Rattle.bz_list.specs.Listing.{listed, put_back, without_chosen}
+use Rattle.bz_list.specs.Listing.{put_back, without_chosen}
 use Rattle.bz_attribute.proofs.ListsThere.{some_filtered, items_there}
 
 -- ---- lists of which no item passes a test

@@ -12,7 +12,7 @@ use Rattle.bz_list.specs.declared.adding.Added.TheVariants as a
 use Rattle.bz_attribute.specs.declared.refusal.Refusal.TheVariants.{NoAttribute, NotAList}
 use Rattle.bz_attribute.specs.Lists.{has_lists, items_in}
 use Rattle.bz_attribute.specs.Attributes.{Arguments, by_value}
-use Rattle.bz_list.specs.Changes.{cleared, without_items, is_moved, moved, with_items_added, move}
+use Rattle.bz_list.specs.Changes.{cleared, without_items, is_moved, items_moved, with_items_added, move}
 use Rattle.bz_list.specs.Adding.{added_by}
 use Rattle.bz_list.specs.Listing.{without_chosen, chosen_in}
 use Rattle.bz_attribute.proofs.ListsThere.{some_filtered}
@@ -26,7 +26,7 @@ module _ (current from to : Bytes) (values : Values) (arguments : List Expr) whe
       by_value found (Err NoAttribute)
       (λ value.
       if not (has_lists value) then Err NotAList
-      else (if list_any test (items_in value) then moved current from to (filter test (items_in value)) (without_items from test value arguments) else Ok arguments))
+      else (if list_any test (items_in value) then items_moved current from to (filter test (items_in value)) (without_items from test value arguments) else Ok arguments))
 
   second : (b : Bool) (x y : Arguments) → b ≡ true → (if not b then x else y) ≡ y
   second true x y h = refl
@@ -45,7 +45,7 @@ module _ (current from to : Bytes) (values : Values) (arguments : List Expr) whe
   any_taken value taken e = sym (some_filtered test (items_in value)) ∙ ap (λ xs. not (is_empty xs)) (sym e)
 
   from_there : (value : Expr) → attribute from arguments ≡ Some value → has_lists value ≡ true
-      → move current from to values arguments ≡ (if list_any test (items_in value) then moved current from to (filter test (items_in value)) (without_items from test value arguments) else Ok arguments)
+      → move current from to values arguments ≡ (if list_any test (items_in value) then items_moved current from to (filter test (items_in value)) (without_items from test value arguments) else Ok arguments)
   from_there value own lists = ap from_value own ∙ second (has_lists value) (Err NotAList) _ lists
 
   pub nothing_moved : (value : Expr) (taken left : List Expr) → attribute from arguments ≡ Some value → has_lists value ≡ true
@@ -64,5 +64,5 @@ module _ (current from to : Bytes) (values : Values) (arguments : List Expr) whe
       let took' : taken ≡ filter test (items_in value) = took ∙ ap (chosen_in test) own in
       from_there value own lists
       ∙ (any_by (list_any test (items_in value)) _ _ (any_taken value taken took' ∙ ap not some)
-      ∙ (ap (λ xs. moved current from to xs (without_items from test value arguments)) (sym took')
-      ∙ ap (λ xs. moved current from to taken xs) (sym (is ∙ ap (λ found. without_chosen from test found arguments) own))))
+      ∙ (ap (λ xs. items_moved current from to xs (without_items from test value arguments)) (sym took')
+      ∙ ap (λ xs. items_moved current from to taken xs) (sym (is ∙ ap (λ found. without_chosen from test found arguments) own))))

@@ -9,10 +9,9 @@ use Rattle.bz_value.specs.declared.value.Expr.TheVariants as e
 use Rattle.bz_attribute.proofs.ArgumentForms.{parts_Form}
 use Rattle.bz_value.specs.declared.value.Expr.{Expr}
 use Rattle.bz_value.specs.Empty.{is_empty}
-use Rattle.bz_attribute.specs.Lists.{items_in}
+use Rattle.bz_attribute.specs.Lists.{items_in, listed}
 use Rattle.bz_attribute.proofs.ListsThere.{items_there}
 use Rattle.bz_attribute.proofs.MakingForms as forms
-use Rattle.bz_list.specs.Listing.{listed}
 
 -- the items of a form
 pub items_Form : (f : Form) → items_in (e.Form f) ≡ (if is_kind f.kind k.Sum then flat_map listed f.parts else (if is_kind f.kind k.List then f.seq.items else []))

@@ -16,7 +16,7 @@ use Rattle.bz_rule.proofs.ProperSequences.{IsItem, AreOf}
 use Rattle.bz_attribute.specs.Made.{list_of, string_of, plus}
 use Rattle.bz_attribute.specs.Attributes.{is_attribute, is_other_attribute, on_value, with_value, with_new, without}
 use Rattle.bz_attribute.specs.Lists.{has_lists, items_in, is_no_list, is_empty_list, with_more, is_some_item, fresh, arriving}
-use Rattle.bz_list.specs.Changes.{with_items_added, add, cleared, without_items, remove_values, in_value, in_attributes, replaced_item, replace, substituted_item, substitute, is_moved, moved, move}
+use Rattle.bz_list.specs.Changes.{with_items_added, add, cleared, without_items, remove_values, in_value, in_attributes, replaced_item, replace, substituted_item, substitute, is_moved, items_moved, move}
 use Rattle.bz_attribute.specs.declared.refusal.Refusal.TheVariants.{NoAttribute, NotAList}
 use Rattle.bz_attribute.proofs.ProperAttributes.{AreArguments, Made, Keeps, of_attribute, first_that_kept, value_stays, with_value_kept, without_kept, with_new_kept}
 use Rattle.bz_list.proofs.ProperLists.{value_items, more_value, fewer_value, changed_value, KeepsText, replaced_item_stays, substituted_item_stays, fresh_utf8, arriving_items}
@@ -81,7 +81,7 @@ substitute_keeps current attributes pattern template keeps =
 
 -- ---- move
 
-moved_keeps : (current from to : Bytes) (items : List Expr) → IsAttribute to → AreOf s.test items → Keeps (moved current from to items)
+moved_keeps : (current from to : Bytes) (items : List Expr) → IsAttribute to → AreOf s.test items → Keeps (items_moved current from to items)
 moved_keeps current from to items a i = added_keeps to (λ there. arriving current to there items) a (λ there. arriving_items current to there items i)
 
 pub move_keeps : (current from to : Bytes) (values : Values) → IsAttribute to → Keeps (move current from to values)
@@ -91,13 +91,13 @@ move_keeps current from to values a xs h =
     (λ value.
     if not (has_lists value) then Err NotAList
     else (if list_any test (items_in value)
-    then moved current from to (filter test (items_in value)) (without_items from test value xs)
+    then items_moved current from to (filter test (items_in value)) (without_items from test value xs)
     else Ok xs))
     h tt
     (λ value v.
     by_test Made (not (has_lists value)) (Err NotAList)
-    (if list_any test (items_in value) then moved current from to (filter test (items_in value)) (without_items from test value xs) else Ok xs)
+    (if list_any test (items_in value) then items_moved current from to (filter test (items_in value)) (without_items from test value xs) else Ok xs)
     tt
-    (by_test Made (list_any test (items_in value)) (moved current from to (filter test (items_in value)) (without_items from test value xs)) (Ok xs)
+    (by_test Made (list_any test (items_in value)) (items_moved current from to (filter test (items_in value)) (without_items from test value xs)) (Ok xs)
     (moved_keeps current from to (filter test (items_in value)) a (all_kept (IsItem s.test) test (items_in value) (value_items value v)) (without_items from test value xs)
     (without_items_kept from test value xs v h)) h))

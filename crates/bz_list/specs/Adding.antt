@@ -12,7 +12,7 @@ use Rattle.bz_attribute.specs.declared.refusal.Refusal.{Refusal}
 use Rattle.bz_attribute.specs.declared.refusal.Refusal.TheVariants.{NotAList}
 use Rattle.bz_attribute.specs.Lists.{body_of, fresh, arriving, has_lists, items_in, is_no_list, with_more}
 use Rattle.bz_attribute.specs.Made.{list_of, plus, string_of}
-use Rattle.bz_list.specs.KnownValues.{Asked, new_words, new_items}
+use Rattle.bz_list.specs.KnownValues.{Membership, new_words, new_items}
 
 -- the items that are added to the items that are there
 abbrev pub added_by : Bytes → Bytes → Added → List Expr → List Expr
@@ -20,7 +20,7 @@ added_by current name (a.Words words) there = map (string_of current name) (fres
 added_by current name (a.Moved items) there = arriving current name there items
 
 -- and to those that are known
-abbrev pub added_to : Bytes → Bytes → Added → Asked → List Expr
+abbrev pub added_to : Bytes → Bytes → Added → Membership → List Expr
 added_to current name (a.Words words) known = map (string_of current name) (new_words known words.now)
 added_to current name (a.Moved items) known = new_items current name known items
 

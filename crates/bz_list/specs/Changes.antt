@@ -85,8 +85,8 @@ abbrev pub is_moved : Bytes → Bytes → Values → Expr → Bool
 is_moved current name v.All x = true
 is_moved current name (v.These words) x = is_some_item current name words x
 
-abbrev pub moved : Bytes → Bytes → Bytes → List Expr → List Expr → Arguments
-moved current from to items left = with_items_added to (λ there. arriving current to there items) left
+abbrev pub items_moved : Bytes → Bytes → Bytes → List Expr → List Expr → Arguments
+items_moved current from to items left = with_items_added to (λ there. arriving current to there items) left
 
 -- Items leave one attribute as in `remove` and are added to another as in `add`, with their comments unless they are there.
 abbrev pub move : Bytes → Bytes → Bytes → Values → List Expr → Arguments
@@ -95,7 +95,7 @@ move current from to values arguments =
     (λ value.
     if not (has_lists value) then Err NotAList
     else (if list_any (is_moved current from values) (items_in value)
-    then moved current from to (filter (is_moved current from values) (items_in value)) (without_items from (is_moved current from values) value arguments)
+    then items_moved current from to (filter (is_moved current from values) (items_in value)) (without_items from (is_moved current from values) value arguments)
     else Ok arguments))
 
 -- ---- all commands

@@ -10,7 +10,7 @@ ghost use Rattle.bz_attribute.specs.Attributes.{on_first_that};
 ghost use Rattle.bz_attribute.specs.Lists.{items_in, travelled as as_travelled, with_more};
 ghost use Rattle.bz_attribute.specs.Made.{list_of as list_made, plus as sum_made, string_of as string_made};
 ghost use Rattle.bz_list.specs.Changes.{with_items_added};
-ghost use Rattle.bz_list.specs.KnownValues.{Asked, asked, new_words, new_items as items_new};
+ghost use Rattle.bz_list.specs.KnownValues.{Membership, asked, new_words, new_items as items_new};
 ghost use Rattle.bz_list.specs.Adding.{added_by, added_to, shorter, with_added};
 
 use crate::known::Known;

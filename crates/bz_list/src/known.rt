@@ -9,11 +9,11 @@ ghost use Rattle.bz_label.specs.declared.label.Label.{Label};
 ghost use Rattle.bz_items.specs.Characters.{Bytes};
 ghost use Rattle.bz_tree.specs.declared.kind.Kind.TheVariants as kinds;
 ghost use Rattle.bz_rule.specs.Values.{has_kind as is_of, items_of as items};
-ghost use Rattle.bz_attribute.specs.Lists.{items_in, is_some_item};
+ghost use Rattle.bz_attribute.specs.Lists.{items_in, is_some_item, listed};
 ghost use Rattle.bz_list.specs.Changes.{is_moved};
 ghost use Rattle.bz_list.specs.KnownKeys.{label_of_key, labels_of, texts_of};
-ghost use Rattle.bz_list.specs.KnownValues.{label_meant, asked, none_known, with_word, with_words, is_known_item, with_item, with_items};
-ghost use Rattle.bz_list.specs.Listing.{chooses, listed, with_lists};
+ghost use Rattle.bz_list.specs.KnownValues.{label_meant, asked, none_known, with_word, with_words, is_known_item, with_item, with_known_items};
+ghost use Rattle.bz_list.specs.Listing.{chooses, with_lists};
 
 use bz_attribute::{body_of, has_kind, items_of, parts_of};
 use bz_items::{Memory, Text};
@@ -167,7 +167,7 @@ impl Known {
     }
 
     fn insert_items(&mut self, items: &[Expr]) -> Result<(), Memory>
-        ensures { OnOk result (asked self.new ≡ with_items items.now (asked self.old)) }
+        ensures { OnOk result (asked self.new ≡ with_known_items items.now (asked self.old)) }
     {
         for x in items {
             self.insert_item(x)?;
@@ -177,7 +177,7 @@ impl Known {
 
     /// The items of a list.
     fn insert_list(&mut self, x: &Expr) -> Result<(), Memory>
-        ensures { OnOk result (asked self.new ≡ with_items (listed x.now) (asked self.old)) }
+        ensures { OnOk result (asked self.new ≡ with_known_items (listed x.now) (asked self.old)) }
     {
         if has_kind(Kind::List, x) {
             return self.insert_items(items_of(x));
@@ -198,7 +198,7 @@ impl Known {
     /// The items of the lists of a value are some of them from now on.
     #[tactic(auto, using(crate::proofs::KnownSteps::value_known))]
     pub(crate) fn insert_value(&mut self, value: &Expr) -> Result<(), Memory>
-        ensures { OnOk result (asked self.new ≡ with_items (items_in value.now) (asked self.old)) }
+        ensures { OnOk result (asked self.new ≡ with_known_items (items_in value.now) (asked self.old)) }
     {
         if has_kind(Kind::Sum, value) {
             return self.insert_lists(parts_of(value));

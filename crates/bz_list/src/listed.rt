@@ -6,9 +6,9 @@ ghost use Rattle.bz_value.specs.declared.value.Expr.{Expr as Value};
 ghost use Rattle.bz_rule.specs.Rules.{attribute as value_there};
 ghost use Rattle.bz_rule.specs.Values.{on_items, on_lists};
 ghost use Rattle.bz_value.specs.Empty.{is_empty};
-ghost use Rattle.bz_attribute.specs.Lists.{items_in};
+ghost use Rattle.bz_attribute.specs.Lists.{items_in, listed};
 ghost use Rattle.bz_list.specs.Changes.{add, remove_values, is_moved, move};
-ghost use Rattle.bz_list.specs.Listing.{chooses, is_left, listed, put_back, without_chosen, chosen_in};
+ghost use Rattle.bz_list.specs.Listing.{chooses, is_left, put_back, without_chosen, chosen_in};
 
 use crate::adding::{Added, add_items};
 use crate::known::Chosen;

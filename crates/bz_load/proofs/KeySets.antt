@@ -12,7 +12,7 @@ use Rattle.bz_attribute.proofs.KeySets.{any_map, or_twice, or_turn, equal_texts}
 use Rattle.bz_load.specs.declared.readings.Loaded.{Loaded}
 use Rattle.bz_load.specs.contracts.readings.LoadedPartialEq.TheImpl as loaded_eq
 use Rattle.bz_load.specs.NewLoad.{is_symbol}
-use Rattle.bz_load.specs.Known.{knows, and_symbol, has_name, and_name}
+use Rattle.bz_load.specs.Known.{knows, and_symbol, knows_name, and_name}
 use Rattle.bz_load.specs.KnownKeys.{symbol_of_key, symbols_of_keys, texts_of_keys}
 
 -- ---- one key more
@@ -68,11 +68,11 @@ symbol_inserted old new key e = fun_ext (λ other.
 abbrev text_eq : Vec ℕ Global → Vec ℕ Global → Bool
 text_eq one other = bytes_eq one.items other.items
 
-pub text_found : (keys : List (Vec ℕ Global)) (name : Bytes) → list_any (λ (key : Vec ℕ Global). bytes_eq name key.items) keys ≡ has_name (texts_of_keys keys) name
+pub text_found : (keys : List (Vec ℕ Global)) (name : Bytes) → list_any (λ (key : Vec ℕ Global). bytes_eq name key.items) keys ≡ knows_name (texts_of_keys keys) name
 text_found keys name = sym (any_map (bytes_eq name) (λ (key : Vec ℕ Global). key.items) keys)
 
 pub text_inserted : (old new : List (Vec ℕ Global)) (key : Vec ℕ Global) (name : Bytes) → key.items ≡ name → new ≡ insert_key text_eq old key
-    → has_name (texts_of_keys new) ≡ and_name name (has_name (texts_of_keys old))
+    → knows_name (texts_of_keys new) ≡ and_name name (knows_name (texts_of_keys old))
 text_inserted old new key name same e = fun_ext (λ text.
     ap (λ keys. list_any (bytes_eq text) (map (λ (k : Vec ℕ Global). k.items) keys)) e
     ∙ (any_map (bytes_eq text) (λ (k : Vec ℕ Global). k.items) (insert_key text_eq old key)

@@ -28,12 +28,12 @@ use Rattle.bz_attribute.specs.Made.{token, node, mark, name}
 use Rattle.bz_attribute.specs.Attributes.{on_first_that, without_first}
 use Rattle.bz_attribute.proofs.FormsAgain.{if_false, made}
 use Rattle.bz_attribute.proofs.GrownArguments.{whole, row_total}
-use Rattle.bz_load.specs.Loads.{is_load, is_load_from, behind_path}
+use Rattle.bz_load.specs.Loads.{is_load_item, is_load_from, behind_path}
 use Rattle.bz_load.specs.Places.{is_block, behind_last, behind_blocks, behind_loads}
 use Rattle.bz_load.specs.NewLoad.{new_symbols, symbol_made, load_made, with_symbols, new_load}
 use Rattle.bz_load.specs.Uses.{is_used}
-use Rattle.bz_load.specs.Fixes.{has_comments, path_comments, end_of, has_own_comments, stays, is_emptied, used_alone, is_package, first_that, package_behind_blocks, package_moved, move_package_to_top, fix}
-use Rattle.bz_load.specs.Laws.{CommentsStay}
+use Rattle.bz_load.specs.Fixes.{is_commented, path_comments, end_of, has_own_comments, symbol_stays, is_emptied, used_alone, is_package_call, first_that, package_behind_blocks, package_moved, move_package_to_top, fix}
+use Rattle.bz_load.specs.Laws.{LoadsKeepComments}
 use Rattle.bz_load.proofs.PlaceSteps.{block_no_package}
 use Rattle.bz_load.proofs.ProperLoads.{fix_keeps}
 use Rattle.bz_load.proofs.LoadParts.{alias_parts, load_parts}
@@ -125,10 +125,10 @@ module _ (number : Bytes → ℕ) where
       by false rest = refl
 
   loads_total : (new : Item) (xs : List Item) → file (behind_loads new xs) ≡ item_amount number new + file xs
-  loads_total new xs = by (list_any is_load xs)
+  loads_total new xs = by (list_any is_load_item xs)
     where
-      by : (b : Bool) → file (if b then behind_last is_load new xs else behind_blocks new xs) ≡ item_amount number new + file xs
-      by true = last_total is_load new xs
+      by : (b : Bool) → file (if b then behind_last is_load_item new xs else behind_blocks new xs) ≡ item_amount number new + file xs
+      by true = last_total is_load_item new xs
       by false = blocks_total new xs
 
   pub new_load_same : (path : Bytes) (symbols : List Symbol) (items : List Item) → file (new_load path symbols items) ≡ file items
@@ -148,7 +148,7 @@ module _ (number : Bytes → ℕ) where
   by_parts [] (Some text) h = absurd (true≢false h)
   by_parts (text ∷ before) suffix h = absurd (true≢false h)
 
-  host_none : (comments : HostComments) → has_comments comments ≡ false → host comments ≡ 0
+  host_none : (comments : HostComments) → is_commented comments ≡ false → host comments ≡ 0
   host_none comments h = by_parts comments.before comments.suffix h
 
   token_amount : (terminals : List Terminal) (x : Expr) → has_token terminals (root x) ≡ true → whole number x ≡ host (comments_of x)
@@ -158,7 +158,7 @@ module _ (number : Bytes → ℕ) where
   bare_amount : (terminals : List Terminal) (x : Expr) → has_token terminals (root x) ≡ true → comments_of x ≡ no_comments → whole number x ≡ 0
   bare_amount terminals x h e = token_amount terminals x h ∙ ap host e
 
-  loaded_amount : (x : Expr) → IsItem s.loaded x → has_comments (comments_of x) ≡ false → whole number x ≡ 0
+  loaded_amount : (x : Expr) → IsItem s.loaded x → is_commented (comments_of x) ≡ false → whole number x ≡ 0
   loaded_amount (Token t) h e = host_none t.comments e
   loaded_amount (Form' kind m parts m' items end_ split open_ comments) h e =
       let x : Expr = Form' kind m parts m' items end_ split open_ comments in
@@ -172,18 +172,18 @@ module _ (number : Bytes → ℕ) where
       ∙ (ap (λ xs. host comments + (total (whole number) (a.left ∷ a.sign ∷ a.right ∷ []) + (total (whole number) xs + total number (end_of x)))) a.items
       ∙ (ap (λ ts. host comments + (total (whole number) (a.left ∷ a.sign ∷ a.right ∷ []) + (0 + total number ts))) a.ends ∙ omega arith)))
 
-  kept_amount : (used : Bytes → Bool) (xs : List Expr) → AreOf s.loaded xs → total (whole number) (filter (stays used) xs) ≡ total (whole number) xs
+  kept_amount : (used : Bytes → Bool) (xs : List Expr) → AreOf s.loaded xs → total (whole number) (filter (symbol_stays used) xs) ≡ total (whole number) xs
   kept_amount used [] h = refl
-  kept_amount used (x ∷ xs) h = by (stays used x) refl (kept_amount used xs h.1)
+  kept_amount used (x ∷ xs) h = by (symbol_stays used x) refl (kept_amount used xs h.1)
     where
-      by : (b : Bool) → stays used x ≡ b → total (whole number) (filter (stays used) xs) ≡ total (whole number) xs → total (whole number) (if b then x ∷ filter (stays used) xs else filter (stays used) xs) ≡ whole number x + total (whole number) xs
+      by : (b : Bool) → symbol_stays used x ≡ b → total (whole number) (filter (symbol_stays used) xs) ≡ total (whole number) xs → total (whole number) (if b then x ∷ filter (symbol_stays used) xs else filter (symbol_stays used) xs) ≡ whole number x + total (whole number) xs
       by true e rest = ap (λ n. whole number x + n) rest
       by false e rest =
-          let z = loaded_amount x h.0 (or_parts (has_comments (comments_of x)) _ e).0 in
+          let z = loaded_amount x h.0 (or_parts (is_commented (comments_of x)) _ e).0 in
           omega arith
 
   abbrev kept : (Bytes → Bool) → List Expr → List Expr
-  kept used = behind_first (filter (stays used))
+  kept used = behind_first (filter (symbol_stays used))
 
   used_amount : (used : Bytes → Bool) (item : Item) → IsProperItem item → item_amount number (used_alone used item) ≡ item_amount number item
   used_amount used (i.Block lines) h = refl
@@ -211,17 +211,17 @@ module _ (number : Bytes → ℕ) where
   emptied_amount : (used : Bytes → Bool) (item : Item) → IsProperItem item → is_emptied used item ≡ true → item_amount number item ≡ 0
   emptied_amount used (i.Block lines) h e = absurd (true≢false (sym e))
   emptied_amount used (i.Stmt x) h e =
-      let p = and_parts (has_kind k.Load x && not (has_own_comments x)) (not (is_empty (behind_path (items_of x))) && not (list_any (stays used) (behind_path (items_of x)))) e in
+      let p = and_parts (has_kind k.Load x && not (has_own_comments x)) (not (is_empty (behind_path (items_of x))) && not (list_any (symbol_stays used) (behind_path (items_of x)))) e in
       let q = and_parts (has_kind k.Load x) (not (has_own_comments x)) p.0 in
       let a = load_parts Begins x q.0 h.1 in
-      let loose = or_parts (has_comments (comments_of x)) (not (is_empty (end_of x)) || path_comments (items_of x)) (not-true (has_own_comments x) q.1) in
+      let loose = or_parts (is_commented (comments_of x)) (not (is_empty (end_of x)) || path_comments (items_of x)) (not-true (has_own_comments x) q.1) in
       let ends = or_parts (not (is_empty (end_of x))) (path_comments (items_of x)) loose.1 in
-      let gone = not-true (list_any (stays used) (behind_path (items_of x))) (and_parts (not (is_empty (behind_path (items_of x)))) _ p.1).1 in
+      let gone = not-true (list_any (symbol_stays used) (behind_path (items_of x))) (and_parts (not (is_empty (behind_path (items_of x)))) _ p.1).1 in
       let top : host (comments_of x) ≡ 0 = host_none (comments_of x) loose.0 in
-      let word : whole number a.word ≡ 0 = bare_amount (s.keyword (codes "load")) a.word a.at_word a.bare_word in
+      let word : whole number a.word ≡ 0 = bare_amount (s.one_keyword (codes "load")) a.word a.at_word a.bare_word in
       let path : whole number a.path ≡ 0 = token_amount s.string a.path a.at_path ∙ host_none (comments_of a.path) (ap path_comments (sym a.items) ∙ ends.1) in
       let symbols : total (whole number) a.symbols ≡ 0 =
-      sym (kept_amount used a.symbols a.loaded) ∙ ap (total (whole number)) (none_kept (stays used) a.symbols (ap (λ xs. list_any (stays used) (behind_path xs)) (sym a.items) ∙ gone)) in
+      sym (kept_amount used a.symbols a.loaded) ∙ ap (total (whole number)) (none_kept (symbol_stays used) a.symbols (ap (λ xs. list_any (symbol_stays used) (behind_path xs)) (sym a.items) ∙ gone)) in
       let end_ : total number (end_of x) ≡ 0 = ends_none (end_of x) ends.0 in
       amount_told x
       ∙ (ap (λ ps. host (comments_of x) + (total (whole number) ps + (total (whole number) (items_of x) + total number (end_of x)))) a.parts
@@ -251,28 +251,28 @@ module _ (number : Bytes → ℕ) where
       by false None rest = tt
       by false (Some new) rest = omega arith
 
-  top_total : (new : Item) (xs : List Item) → file (package_behind_blocks new xs) ≡ item_amount number new + file (without_first is_package xs)
+  top_total : (new : Item) (xs : List Item) → file (package_behind_blocks new xs) ≡ item_amount number new + file (without_first is_package_call xs)
   top_total new [] = refl
   top_total new (x ∷ xs) = by (is_block x) refl (top_total new xs)
     where
-      by : (b : Bool) → is_block x ≡ b → file (package_behind_blocks new xs) ≡ item_amount number new + file (without_first is_package xs)
-          → file (if b then x ∷ package_behind_blocks new xs else new ∷ without_first is_package (x ∷ xs)) ≡ item_amount number new + file (without_first is_package (x ∷ xs))
+      by : (b : Bool) → is_block x ≡ b → file (package_behind_blocks new xs) ≡ item_amount number new + file (without_first is_package_call xs)
+          → file (if b then x ∷ package_behind_blocks new xs else new ∷ without_first is_package_call (x ∷ xs)) ≡ item_amount number new + file (without_first is_package_call (x ∷ xs))
       by true e rest =
-          let z = ap file (if_false (is_package x) xs (x ∷ without_first is_package xs) (block_no_package x e)) in
+          let z = ap file (if_false (is_package_call x) xs (x ∷ without_first is_package_call xs) (block_no_package x e)) in
           omega arith
       by false e rest = refl
 
-  moved_by : (items : List Item) (found : Option Item) → IfSome found (λ new. file items ≡ item_amount number new + file (without_first is_package items))
+  moved_by : (items : List Item) (found : Option Item) → IfSome found (λ new. file items ≡ item_amount number new + file (without_first is_package_call items))
       → file (option_map_or (package_moved items) found items) ≡ file items
   moved_by items None h = refl
-  moved_by items (Some new) h = by (list_any is_load items)
+  moved_by items (Some new) h = by (list_any is_load_item items)
     where
-      by : (b : Bool) → file (if b then behind_last is_load new (without_first is_package items) else package_behind_blocks new items) ≡ file items
-      by true = last_total is_load new (without_first is_package items) ∙ sym h
+      by : (b : Bool) → file (if b then behind_last is_load_item new (without_first is_package_call items) else package_behind_blocks new items) ≡ file items
+      by true = last_total is_load_item new (without_first is_package_call items) ∙ sym h
       by false = top_total new items ∙ sym h
 
   moved_same : (items : List Item) → file (move_package_to_top items) ≡ file items
-  moved_same items = moved_by items (first_that is_package items) (taken_total is_package items)
+  moved_same items = moved_by items (first_that is_package_call items) (taken_total is_package_call items)
 
   by_fixes : (top unused : Bool) (items : List Item) → AllByRecursion IsProperItem items → file (fix (record { move_package_to_top = top; unused_loads = unused }) items) ≡ file items
   by_fixes false false items h = refl
@@ -281,7 +281,7 @@ module _ (number : Bytes → ℕ) where
   by_fixes true true items h =
       unused_amount (is_used (move_package_to_top items)) (move_package_to_top items) (fix_keeps (record { move_package_to_top = true; unused_loads = false }) items h) ∙ moved_same items
 
-pub comments_stay : CommentsStay
+pub comments_stay : LoadsKeepComments
 comments_stay = (
   λ path symbols items text. new_load_same (one_if text) path symbols items,
   λ fixes items h text. by_fixes (one_if text) fixes.move_package_to_top fixes.unused_loads items (recursion_from_All IsProperItem items h),

@@ -11,10 +11,10 @@ use Rattle.bz_value.specs.Proper.{IsProper, IsProperItem}
 use Rattle.bz_items.specs.Characters.{Bytes}
 use Rattle.bz_attribute.specs.Attributes.{without_first}
 use Rattle.bz_attribute.proofs.FormsAgain.{if_true, if_false}
-use Rattle.bz_load.specs.Loads.{is_load}
+use Rattle.bz_load.specs.Loads.{is_load_item}
 use Rattle.bz_load.specs.Places.{is_block, behind_last}
 use Rattle.bz_load.specs.Uses.{is_used}
-use Rattle.bz_load.specs.Fixes.{is_emptied, used_alone, unused_loads, is_package, first_that, package_behind_blocks, package_moved, move_package_to_top, fix}
+use Rattle.bz_load.specs.Fixes.{is_emptied, used_alone, unused_loads, is_package_call, first_that, package_behind_blocks, package_moved, move_package_to_top, fix}
 use Rattle.bz_load.specs.Laws.{has_second_package, loses_load, FixedAgain}
 use Rattle.bz_load.proofs.PlaceSteps.{package_no_load}
 use Rattle.bz_load.proofs.ProperLoads.{fix_keeps}
@@ -44,34 +44,34 @@ module _ (f : Item → Item) where
   last_map test same new [] = refl
   last_map test same new (x ∷ xs) = by_same (map f) (list_any test (map f (x ∷ xs))) (list_any test (x ∷ xs)) (any_map test same (x ∷ xs)) (ap (λ ys. f x ∷ ys) (last_map test same new xs)) refl
 
-  module _ (loads : (x : Item) → is_load (f x) ≡ is_load x) (blocks : (x : Item) → is_block (f x) ≡ is_block x) (packages : (x : Item) → is_package (f x) ≡ is_package x) where
+  module _ (loads : (x : Item) → is_load_item (f x) ≡ is_load_item x) (blocks : (x : Item) → is_block (f x) ≡ is_block x) (packages : (x : Item) → is_package_call (f x) ≡ is_package_call x) where
     top_map : (new : Item) (xs : List Item) → package_behind_blocks (f new) (map f xs) ≡ map f (package_behind_blocks new xs)
     top_map new [] = refl
     top_map new (x ∷ xs) =
-        by_same (map f) (is_block (f x)) (is_block x) (blocks x) (ap (λ ys. f x ∷ ys) (top_map new xs)) (ap (λ ys. f new ∷ ys) (left_map is_package packages (x ∷ xs)))
+        by_same (map f) (is_block (f x)) (is_block x) (blocks x) (ap (λ ys. f x ∷ ys) (top_map new xs)) (ap (λ ys. f new ∷ ys) (left_map is_package_call packages (x ∷ xs)))
 
     placed_map : (xs : List Item) (found : Option Item) → option_map_or (package_moved (map f xs)) (option_map f found) (map f xs) ≡ map f (option_map_or (package_moved xs) found xs)
     placed_map xs None = refl
     placed_map xs (Some new) =
-        by_same (map f) (list_any is_load (map f xs)) (list_any is_load xs) (any_map is_load loads xs)
-        (ap (behind_last is_load (f new)) (left_map is_package packages xs) ∙ last_map is_load loads new (without_first is_package xs)) (top_map new xs)
+        by_same (map f) (list_any is_load_item (map f xs)) (list_any is_load_item xs) (any_map is_load_item loads xs)
+        (ap (behind_last is_load_item (f new)) (left_map is_package_call packages xs) ∙ last_map is_load_item loads new (without_first is_package_call xs)) (top_map new xs)
 
     moved_map : (xs : List Item) → move_package_to_top (map f xs) ≡ map f (move_package_to_top xs)
-    moved_map xs = ap (λ o. option_map_or (package_moved (map f xs)) o (map f xs)) (found_map is_package packages xs) ∙ placed_map xs (first_that is_package xs)
+    moved_map xs = ap (λ o. option_map_or (package_moved (map f xs)) o (map f xs)) (found_map is_package_call packages xs) ∙ placed_map xs (first_that is_package_call xs)
 
 -- ---- loads without some of their symbols
 
-load_no_package : (item : Item) → is_load item ≡ true → is_package item ≡ false
-load_no_package item is = by (is_package item) refl
+load_no_package : (item : Item) → is_load_item item ≡ true → is_package_call item ≡ false
+load_no_package item is = by (is_package_call item) refl
   where
-    by : (b : Bool) → is_package item ≡ b → b ≡ false
+    by : (b : Bool) → is_package_call item ≡ b → b ≡ false
     by true e = absurd (true≢false (sym is ∙ package_no_load item e))
     by false e = refl
 
-used_package : (used : Bytes → Bool) (item : Item) → is_package (used_alone used item) ≡ is_package item
-used_package used item = elim (cases_Bool (is_load item)) [
+used_package : (used : Bytes → Bool) (item : Item) → is_package_call (used_alone used item) ≡ is_package_call item
+used_package used item = elim (cases_Bool (is_load_item item)) [
   | inl is ↦ load_no_package (used_alone used item) (used_load used item ∙ is) ∙ sym (load_no_package item is)
-  | inr is ↦ ap is_package (other_stays used item is)
+  | inr is ↦ ap is_package_call (other_stays used item is)
 ]
 
 used_block : (used : Bytes → Bool) (item : Item) → is_block (used_alone used item) ≡ is_block item

@@ -21,7 +21,7 @@ use Rattle.bz_attribute.specs.Lists.{body_of}
 use Rattle.bz_attribute.proofs.FormsAgain.{if_true, own_items, items_kind, items_filled}
 use Rattle.bz_attribute.proofs.PlainWords.{IsPlain, equal_self, body_quoted}
 use Rattle.bz_attribute.proofs.KeySets.{or_turn}
-use Rattle.bz_load.specs.Loads.{is_load, path_in, is_load_from, is_alias_of, loads_symbol, behind_path, symbols_of, is_loaded}
+use Rattle.bz_load.specs.Loads.{is_load_item, path_in, is_load_from, is_alias_of, loads_symbol, behind_path, symbols_of, is_loaded}
 use Rattle.bz_load.specs.Places.{is_block, behind_last, behind_blocks, behind_loads}
 use Rattle.bz_load.specs.NewLoad.{is_symbol, new_symbols, symbol_made, load_made, with_symbols, new_load}
 use Rattle.bz_load.specs.Laws.{becomes_plain, LoadedAgain}
@@ -232,10 +232,10 @@ module _ (path : Bytes) (symbols : List Symbol) where
       by false rest = refl
 
   load_any : (other : Item → Bool) (new : Item) (xs : List Item) → list_any other (behind_loads new xs) ≡ (other new || list_any other xs)
-  load_any other new xs = by (list_any is_load xs)
+  load_any other new xs = by (list_any is_load_item xs)
     where
-      by : (b : Bool) → list_any other (if b then behind_last is_load new xs else behind_blocks new xs) ≡ (other new || list_any other xs)
-      by true = any_placed is_load other new xs
+      by : (b : Bool) → list_any other (if b then behind_last is_load_item new xs else behind_blocks new xs) ≡ (other new || list_any other xs)
+      by true = any_placed is_load_item other new xs
       by false = block_any other new xs
 
   abbrev made_items : List Expr

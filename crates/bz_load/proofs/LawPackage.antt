@@ -8,9 +8,9 @@ use Rattle.bz_value.specs.declared.value.Item.{Item}
 use Rattle.bz_attribute.specs.Attributes.{without_first}
 use Rattle.bz_attribute.proofs.FormsAgain.{if_true, if_false}
 use Rattle.bz_attribute.proofs.KeySets.{or_turn}
-use Rattle.bz_load.specs.Loads.{is_load}
+use Rattle.bz_load.specs.Loads.{is_load_item}
 use Rattle.bz_load.specs.Places.{is_block, behind_last}
-use Rattle.bz_load.specs.Fixes.{is_package, first_that, package_behind_blocks, package_moved, move_package_to_top}
+use Rattle.bz_load.specs.Fixes.{is_package_call, first_that, package_behind_blocks, package_moved, move_package_to_top}
 use Rattle.bz_load.specs.Laws.{has_second_package, MovedAgain}
 use Rattle.bz_load.proofs.PlaceSteps.{package_no_load, block_no_package, loads_left}
 
@@ -48,43 +48,43 @@ left_placed test other new (x ∷ xs) is none =
 
 -- ---- an item put behind the leading blocks
 
-found_top : (new : Item) (xs : List Item) → is_package new ≡ true → first_that is_package (package_behind_blocks new xs) ≡ Some new
-found_top new [] is = if_true (is_package new) _ _ is
+found_top : (new : Item) (xs : List Item) → is_package_call new ≡ true → first_that is_package_call (package_behind_blocks new xs) ≡ Some new
+found_top new [] is = if_true (is_package_call new) _ _ is
 found_top new (x ∷ xs) is = by (is_block x) refl (found_top new xs is)
   where
-    by : (b : Bool) → is_block x ≡ b → first_that is_package (package_behind_blocks new xs) ≡ Some new
-        → first_that is_package (if b then x ∷ package_behind_blocks new xs else new ∷ without_first is_package (x ∷ xs)) ≡ Some new
-    by true e rest = if_false (is_package x) (Some x) (first_that is_package (package_behind_blocks new xs)) (block_no_package x e) ∙ rest
-    by false e rest = if_true (is_package new) _ _ is
+    by : (b : Bool) → is_block x ≡ b → first_that is_package_call (package_behind_blocks new xs) ≡ Some new
+        → first_that is_package_call (if b then x ∷ package_behind_blocks new xs else new ∷ without_first is_package_call (x ∷ xs)) ≡ Some new
+    by true e rest = if_false (is_package_call x) (Some x) (first_that is_package_call (package_behind_blocks new xs)) (block_no_package x e) ∙ rest
+    by false e rest = if_true (is_package_call new) _ _ is
 
-loads_top : (new : Item) (xs : List Item) → is_load new ≡ false → list_any is_load xs ≡ false → list_any is_load (package_behind_blocks new xs) ≡ false
+loads_top : (new : Item) (xs : List Item) → is_load_item new ≡ false → list_any is_load_item xs ≡ false → list_any is_load_item (package_behind_blocks new xs) ≡ false
 loads_top new [] apart none = ap (λ z. z || false) apart
 loads_top new (x ∷ xs) apart none =
-    let p = or_parts (is_load x) (list_any is_load xs) none in
-    by (is_block x) (ap (λ z. z || list_any is_load (package_behind_blocks new xs)) p.0 ∙ loads_top new xs apart p.1)
+    let p = or_parts (is_load_item x) (list_any is_load_item xs) none in
+    by (is_block x) (ap (λ z. z || list_any is_load_item (package_behind_blocks new xs)) p.0 ∙ loads_top new xs apart p.1)
   where
-    by : (b : Bool) → list_any is_load (x ∷ package_behind_blocks new xs) ≡ false
-        → list_any is_load (if b then x ∷ package_behind_blocks new xs else new ∷ without_first is_package (x ∷ xs)) ≡ false
+    by : (b : Bool) → list_any is_load_item (x ∷ package_behind_blocks new xs) ≡ false
+        → list_any is_load_item (if b then x ∷ package_behind_blocks new xs else new ∷ without_first is_package_call (x ∷ xs)) ≡ false
     by true rest = rest
-    by false rest = ap (λ z. z || list_any is_load (without_first is_package (x ∷ xs))) apart ∙ (loads_left (x ∷ xs) ∙ none)
+    by false rest = ap (λ z. z || list_any is_load_item (without_first is_package_call (x ∷ xs))) apart ∙ (loads_left (x ∷ xs) ∙ none)
 
-package_no_block : (item : Item) → is_package item ≡ true → is_block item ≡ false
+package_no_block : (item : Item) → is_package_call item ≡ true → is_block item ≡ false
 package_no_block item is = by (is_block item) refl
   where
     by : (b : Bool) → is_block item ≡ b → b ≡ false
     by true e = absurd (true≢false (sym is ∙ block_no_package item e))
     by false e = refl
 
-again_top : (new : Item) (xs : List Item) → is_package new ≡ true → package_behind_blocks new (package_behind_blocks new xs) ≡ package_behind_blocks new xs
-again_top new [] is = if_false (is_block new) _ _ (package_no_block new is) ∙ ap (λ ys. new ∷ ys) (if_true (is_package new) _ _ is)
+again_top : (new : Item) (xs : List Item) → is_package_call new ≡ true → package_behind_blocks new (package_behind_blocks new xs) ≡ package_behind_blocks new xs
+again_top new [] is = if_false (is_block new) _ _ (package_no_block new is) ∙ ap (λ ys. new ∷ ys) (if_true (is_package_call new) _ _ is)
 again_top new (x ∷ xs) is = by (is_block x) refl (again_top new xs is)
   where
     by : (b : Bool) → is_block x ≡ b → package_behind_blocks new (package_behind_blocks new xs) ≡ package_behind_blocks new xs
-        → package_behind_blocks new (if b then x ∷ package_behind_blocks new xs else new ∷ without_first is_package (x ∷ xs)) ≡ (if b then x ∷ package_behind_blocks new xs else new ∷ without_first is_package (x ∷ xs))
+        → package_behind_blocks new (if b then x ∷ package_behind_blocks new xs else new ∷ without_first is_package_call (x ∷ xs)) ≡ (if b then x ∷ package_behind_blocks new xs else new ∷ without_first is_package_call (x ∷ xs))
     by true e rest = if_true (is_block x) _ _ e ∙ ap (λ ys. x ∷ ys) rest
     by false e rest =
-        if_false (is_block new) (new ∷ package_behind_blocks new (without_first is_package (x ∷ xs))) (new ∷ without_first is_package (new ∷ without_first is_package (x ∷ xs))) (package_no_block new is)
-        ∙ ap (λ ys. new ∷ ys) (if_true (is_package new) _ _ is)
+        if_false (is_block new) (new ∷ package_behind_blocks new (without_first is_package_call (x ∷ xs))) (new ∷ without_first is_package_call (new ∷ without_first is_package_call (x ∷ xs))) (package_no_block new is)
+        ∙ ap (λ ys. new ∷ ys) (if_true (is_package_call new) _ _ is)
 
 -- ---- twice
 
@@ -100,32 +100,32 @@ found_passes test (x ∷ xs) = by (test x) refl (found_passes test xs)
 abbrev again : List Item → Type 0
 again ys = move_package_to_top ys ≡ ys
 
-found_again : (new : Item) (ys : List Item) → first_that is_package ys ≡ Some new → package_moved ys new ≡ ys → again ys
+found_again : (new : Item) (ys : List Item) → first_that is_package_call ys ≡ Some new → package_moved ys new ≡ ys → again ys
 found_again new ys found same = ap (λ o. option_map_or (package_moved ys) o ys) found ∙ same
 
-behind_load : (new : Item) (items : List Item) → is_package new ≡ true → has_second_package items ≡ false → list_any is_load items ≡ true → again (behind_last is_load new (without_first is_package items))
+behind_load : (new : Item) (items : List Item) → is_package_call new ≡ true → has_second_package items ≡ false → list_any is_load_item items ≡ true → again (behind_last is_load_item new (without_first is_package_call items))
 behind_load new items is one loads =
-    let rest : List Item = without_first is_package items in
-    let ys : List Item = behind_last is_load new rest in
-    let some : list_any is_load ys ≡ true =
-    any_placed is_load is_load new rest ∙ (ap (λ z. z || list_any is_load rest) (package_no_load new is) ∙ (loads_left items ∙ loads)) in
-    found_again new ys (found_placed is_load is_package new rest is one)
-    (if_true (list_any is_load ys) _ _ some ∙ ap (behind_last is_load new) (left_placed is_load is_package new rest is one))
+    let rest : List Item = without_first is_package_call items in
+    let ys : List Item = behind_last is_load_item new rest in
+    let some : list_any is_load_item ys ≡ true =
+    any_placed is_load_item is_load_item new rest ∙ (ap (λ z. z || list_any is_load_item rest) (package_no_load new is) ∙ (loads_left items ∙ loads)) in
+    found_again new ys (found_placed is_load_item is_package_call new rest is one)
+    (if_true (list_any is_load_item ys) _ _ some ∙ ap (behind_last is_load_item new) (left_placed is_load_item is_package_call new rest is one))
 
-behind_block : (new : Item) (items : List Item) → is_package new ≡ true → list_any is_load items ≡ false → again (package_behind_blocks new items)
+behind_block : (new : Item) (items : List Item) → is_package_call new ≡ true → list_any is_load_item items ≡ false → again (package_behind_blocks new items)
 behind_block new items is loads =
     let ys : List Item = package_behind_blocks new items in
     found_again new ys (found_top new items is)
-    (if_false (list_any is_load ys) _ _ (loads_top new items (package_no_load new is) loads) ∙ again_top new items is)
+    (if_false (list_any is_load_item ys) _ _ (loads_top new items (package_no_load new is) loads) ∙ again_top new items is)
 
-moved_by : (items : List Item) → has_second_package items ≡ false → (found : Option Item) → first_that is_package items ≡ found → IfSome found (λ new. is_package new ≡ true)
+moved_by : (items : List Item) → has_second_package items ≡ false → (found : Option Item) → first_that is_package_call items ≡ found → IfSome found (λ new. is_package_call new ≡ true)
     → again (option_map_or (package_moved items) found items)
 moved_by items one None e is = ap (λ o. option_map_or (package_moved items) o items) e
-moved_by items one (Some new) e is = by (list_any is_load items) refl
+moved_by items one (Some new) e is = by (list_any is_load_item items) refl
   where
-    by : (b : Bool) → list_any is_load items ≡ b → again (if b then behind_last is_load new (without_first is_package items) else package_behind_blocks new items)
+    by : (b : Bool) → list_any is_load_item items ≡ b → again (if b then behind_last is_load_item new (without_first is_package_call items) else package_behind_blocks new items)
     by true loads = behind_load new items is one loads
     by false loads = behind_block new items is loads
 
 pub moved_again : MovedAgain
-moved_again items one = moved_by items one (first_that is_package items) refl (found_passes is_package items)
+moved_again items one = moved_by items one (first_that is_package_call items) refl (found_passes is_package_call items)

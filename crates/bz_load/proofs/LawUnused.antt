@@ -14,9 +14,9 @@ use Rattle.bz_value.specs.Proper.{IsProperItem}
 use Rattle.bz_value.specs.Empty.{is_empty}
 use Rattle.bz_rule.specs.Values.{has_kind, items_of, with_items, on_items, behind_first}
 use Rattle.bz_attribute.proofs.FormsAgain.{if_true, if_false, items_kind, items_filled, items_twice}
-use Rattle.bz_load.specs.Loads.{is_load, behind_path}
+use Rattle.bz_load.specs.Loads.{is_load_item, behind_path}
 use Rattle.bz_load.specs.Uses.{all_of, operands_in, is_used}
-use Rattle.bz_load.specs.Fixes.{has_comments, path_comments, has_own_comments, stays, with_used, is_emptied, used_alone, unused_loads}
+use Rattle.bz_load.specs.Fixes.{is_commented, path_comments, has_own_comments, symbol_stays, with_used, is_emptied, used_alone, unused_loads}
 use Rattle.bz_load.specs.Laws.{UnusedAgain}
 use Rattle.bz_load.proofs.LoadParts.{load_none}
 use Rattle.bz_load.proofs.ProperLoads.{used_statement}
@@ -51,24 +51,24 @@ all_pass test (x ∷ xs) h = if_true (test x) _ _ h.0 ∙ ap (λ ys. x ∷ ys) (
 -- ---- a load that keeps the symbols that are to stay
 
 abbrev kept : Test → List Expr → List Expr
-kept used = behind_first (filter (stays used))
+kept used = behind_first (filter (symbol_stays used))
 
 kept_twice : (used : Test) (xs : List Expr) → kept used (kept used xs) ≡ kept used xs
 kept_twice used [] = refl
-kept_twice used (x ∷ xs) = ap (λ ys. x ∷ ys) (filter_twice (stays used) xs)
+kept_twice used (x ∷ xs) = ap (λ ys. x ∷ ys) (filter_twice (symbol_stays used) xs)
 
 kept_path : (used : Test) (xs : List Expr) → path_comments (kept used xs) ≡ path_comments xs
 kept_path used [] = refl
 kept_path used (x ∷ xs) = refl
 
-kept_behind : (used : Test) (xs : List Expr) → behind_path (kept used xs) ≡ filter (stays used) (behind_path xs)
+kept_behind : (used : Test) (xs : List Expr) → behind_path (kept used xs) ≡ filter (symbol_stays used) (behind_path xs)
 kept_behind used [] = refl
 kept_behind used (x ∷ xs) = refl
 
 own_kept : (ys : List Expr) (x : Expr) → has_kind k.Load x ≡ true → path_comments ys ≡ path_comments (items_of x) → has_own_comments (with_items ys x) ≡ has_own_comments x
 own_kept ys (Token t) is h = refl
 own_kept ys (Form' kind s parts s' items end_ split open_ comments) is h =
-    ap (λ z. has_comments comments || (not (is_empty end_) || z)) (ap path_comments (items_hidden-the_row-Expr-0 ys) ∙ h)
+    ap (λ z. is_commented comments || (not (is_empty end_) || z)) (ap path_comments (items_hidden-the_row-Expr-0 ys) ∙ h)
 
 -- what is left of a load is a load that nothing goes from
 abbrev Settled : Test → Expr → Type 0
@@ -85,8 +85,8 @@ settled_load used x is own =
           ∙ (if_true (has_kind k.Load y) _ _ load
           ∙ (ap (λ zs. with_items (kept used zs) y) filled ∙ (ap (λ zs. with_items zs y) (kept_twice used (items_of x)) ∙ items_twice ys ys x))),
       ap (λ z. has_kind k.Load y && not (has_own_comments y) && z)
-          (ap (λ zs. not (is_empty (behind_path zs)) && not (list_any (stays used) (behind_path zs))) filled
-          ∙ (ap (λ zs. not (is_empty zs) && not (list_any (stays used) zs)) (kept_behind used (items_of x)) ∙ left_passes (stays used) (behind_path (items_of x))))
+          (ap (λ zs. not (is_empty (behind_path zs)) && not (list_any (symbol_stays used) (behind_path zs))) filled
+          ∙ (ap (λ zs. not (is_empty zs) && not (list_any (symbol_stays used) zs)) (kept_behind used (items_of x)) ∙ left_passes (symbol_stays used) (behind_path (items_of x))))
           ∙ never (has_kind k.Load y && not (has_own_comments y)),
     )
   where
@@ -135,15 +135,15 @@ unused_twice used (item ∷ items) = by (is_emptied used item) refl (unused_twic
 
 -- ---- the names that are used stay
 
-load_uses : (item : Item) → is_load item ≡ true → IsProperItem item → operands_in item ≡ []
+load_uses : (item : Item) → is_load_item item ≡ true → IsProperItem item → operands_in item ≡ []
 load_uses (i.Block lines) is h = refl
 load_uses (i.Stmt x) is h = load_none Begins x is h.1
 
-emptied_load : (used : Test) (item : Item) → is_emptied used item ≡ true → is_load item ≡ true
+emptied_load : (used : Test) (item : Item) → is_emptied used item ≡ true → is_load_item item ≡ true
 emptied_load used (i.Block lines) h = h
 emptied_load used (i.Stmt x) h = (and_parts (has_kind k.Load x) (not (has_own_comments x)) (and_parts (has_kind k.Load x && not (has_own_comments x)) _ h).0).0
 
-pub used_load : (used : Test) (item : Item) → is_load (used_alone used item) ≡ is_load item
+pub used_load : (used : Test) (item : Item) → is_load_item (used_alone used item) ≡ is_load_item item
 used_load used (i.Block lines) = refl
 used_load used (i.Stmt x) = by (has_own_comments x)
   where
@@ -156,7 +156,7 @@ used_load used (i.Stmt x) = by (has_own_comments x)
     by false = other (has_kind k.Load x)
 
 -- what is no load stays
-pub other_stays : (used : Test) (item : Item) → is_load item ≡ false → used_alone used item ≡ item
+pub other_stays : (used : Test) (item : Item) → is_load_item item ≡ false → used_alone used item ≡ item
 other_stays used (i.Block lines) h = refl
 other_stays used (i.Stmt x) h = ap i.Stmt (by (has_own_comments x))
   where
@@ -165,7 +165,7 @@ other_stays used (i.Stmt x) h = ap i.Stmt (by (has_own_comments x))
     by false = if_false (has_kind k.Load x) _ _ h
 
 pub used_same : (used : Test) (item : Item) → IsProperItem item → operands_in (used_alone used item) ≡ operands_in item
-used_same used item h = elim (cases_Bool (is_load item)) [
+used_same used item h = elim (cases_Bool (is_load_item item)) [
   | inl is ↦ load_uses (used_alone used item) (used_load used item ∙ is) (used_statement used item h) ∙ sym (load_uses item is h)
   | inr is ↦ ap operands_in (other_stays used item is)
 ]

@@ -12,7 +12,7 @@ use Rattle.bz_value.specs.declared.value.Expr.{Expr, Token, Form', items-the_row
 use Rattle.bz_value.specs.Comments.{no_comments}
 use Rattle.bz_items.specs.Characters.{Bytes}
 use Rattle.bz_value.specs.Proper.{comments_of, ProperExpr}
-use Rattle.bz_value.specs.Roots.{root, mark}
+use Rattle.bz_value.specs.Roots.{root, mark_leaf}
 use Rattle.bz_rule.specs.Values.{has_kind, parts_of, items_of}
 use Rattle.bz_rule.proofs.ProperForms.{AsForm, opened}
 use Rattle.bz_value.proofs.LeadParts.{lead_before}
@@ -76,7 +76,7 @@ pub record IsLoad (ps xs : List Expr) : Type 0 where
   pub symbols : List Expr
   pub parts : ps ≡ word ∷ []
   pub items : xs ≡ path ∷ symbols
-  pub at_word : has_token (s.keyword (codes "load")) (root word) ≡ true
+  pub at_word : has_token (s.one_keyword (codes "load")) (root word) ≡ true
   pub at_path : has_token s.string (root path) ≡ true
   pub loaded : AreOf s.loaded symbols
   pub bare_word : comments_of word ≡ no_comments
@@ -93,7 +93,7 @@ load_of here (p ∷ []) (x ∷ xs) end_ split open_ ((w, (o, (t, inr i))), g) = 
   items = refl;
   at_word = w;
   at_path = t;
-  loaded = items_apart s.loaded s.close_round (mark 41) xs g.1.3 i.1;
+  loaded = items_apart s.loaded s.close_round (mark_leaf 41) xs g.1.3 i.1;
   bare_word = g.0.1.0;
 }
 load_of here (p ∷ q ∷ ps) xs end_ split open_ h = let n = lead_before k.Load (map root (p ∷ q ∷ ps)) (map root xs) h.0 in absurd (omega arith)
@@ -120,7 +120,7 @@ sign_class : (class : Class) (text : Bytes) → is_one_of s.equals (record { cla
 sign_class c.Name text h = absurd (true≢false (sym h))
 sign_class _ text h = refl
 
-word_class : (class : Class) (text : Bytes) → is_one_of (s.keyword (codes "load")) (record { class = class; gap = []; token = text }) ≡ true → names_in class text ≡ []
+word_class : (class : Class) (text : Bytes) → is_one_of (s.one_keyword (codes "load")) (record { class = class; gap = []; token = text }) ≡ true → names_in class text ≡ []
 word_class c.Name text h = absurd (true≢false (sym h))
 word_class _ text h = refl
 
@@ -132,7 +132,7 @@ sign_none : (x : Expr) → has_token s.equals (root x) ≡ true → operands x �
 sign_none (Token t) h = sign_class t.class t.text h
 sign_none (Form' kind s parts s' items end_ split open_ comments) h = absurd (true≢false (sym h))
 
-word_none : (x : Expr) → has_token (s.keyword (codes "load")) (root x) ≡ true → operands x ≡ []
+word_none : (x : Expr) → has_token (s.one_keyword (codes "load")) (root x) ≡ true → operands x ≡ []
 word_none (Token t) h = word_class t.class t.text h
 word_none (Form' kind s parts s' items end_ split open_ comments) h = absurd (true≢false (sym h))
 

@@ -10,9 +10,9 @@ use Rattle.bz_value.specs.declared.value.Item.{Item}
 use Rattle.bz_value.specs.declared.value.Item.TheVariants as i
 use Rattle.bz_attribute.specs.Attributes.{without_first}
 use Rattle.bz_attribute.proofs.ArgumentPlaces.{IsFirst, NonePasses, removed_at, later, none_later}
-use Rattle.bz_load.specs.Loads.{is_load}
+use Rattle.bz_load.specs.Loads.{is_load_item}
 use Rattle.bz_load.specs.Places.{behind_last, is_block}
-use Rattle.bz_load.specs.Fixes.{is_package, first_that, package_behind_blocks, package_moved, move_package_to_top}
+use Rattle.bz_load.specs.Fixes.{is_package_call, first_that, package_behind_blocks, package_moved, move_package_to_top}
 use Rattle.bz_attribute.proofs.FormsAgain.{if_true, if_false}
 
 -- ---- behind the last one that passes
@@ -74,32 +74,32 @@ none_found : (test : Item → Bool) (xs : List Item) → NonePasses test xs → 
 none_found test [] h = refl
 none_found test (x ∷ xs) h = if_false (test x) _ _ (h.all 0 x (omega arith)) ∙ none_found test xs (none_later test x xs h)
 
-pub no_package : (items : List Item) → NonePasses is_package items → items ≡ move_package_to_top items
-no_package items h = sym (ap (λ found. option_map_or (package_moved items) found items) (none_found is_package items h))
+pub no_package : (items : List Item) → NonePasses is_package_call items → items ≡ move_package_to_top items
+no_package items h = sym (ap (λ found. option_map_or (package_moved items) found items) (none_found is_package_call items h))
 
 -- a package is no load
-pub package_no_load : (item : Item) → is_package item ≡ true → is_load item ≡ false
+pub package_no_load : (item : Item) → is_package_call item ≡ true → is_load_item item ≡ false
 package_no_load (i.Block lines) h = refl
 package_no_load (i.Stmt (Token t)) h = refl
 package_no_load (i.Stmt (Form' k.Load s parts s' items end_ split open_ comments)) h = absurd (true≢false (sym h))
 package_no_load (i.Stmt (Form' _ s parts s' items end_ split open_ comments)) h = refl
 
-pub loads_left : (items : List Item) → list_any is_load (without_first is_package items) ≡ list_any is_load items
+pub loads_left : (items : List Item) → list_any is_load_item (without_first is_package_call items) ≡ list_any is_load_item items
 loads_left [] = refl
-loads_left (x ∷ xs) = elim (cases_Bool (is_package x)) [
-  | inl p ↦ ap (list_any is_load) (if_true (is_package x) xs (x ∷ without_first is_package xs) p) ∙ sym (ap (λ z. z || list_any is_load xs) (package_no_load x p))
-  | inr p ↦ ap (list_any is_load) (if_false (is_package x) xs (x ∷ without_first is_package xs) p) ∙ ap (λ z. is_load x || z) (loads_left xs)
+loads_left (x ∷ xs) = elim (cases_Bool (is_package_call x)) [
+  | inl p ↦ ap (list_any is_load_item) (if_true (is_package_call x) xs (x ∷ without_first is_package_call xs) p) ∙ sym (ap (λ z. z || list_any is_load_item xs) (package_no_load x p))
+  | inr p ↦ ap (list_any is_load_item) (if_false (is_package_call x) xs (x ∷ without_first is_package_call xs) p) ∙ ap (λ z. is_load_item x || z) (loads_left xs)
 ]
 
 -- a block is no package
-pub block_no_package : (item : Item) → is_block item ≡ true → is_package item ≡ false
+pub block_no_package : (item : Item) → is_block item ≡ true → is_package_call item ≡ false
 block_no_package (i.Block lines) h = refl
 block_no_package (i.Stmt x) h = absurd (true≢false (sym h))
 
 pub record BlocksStay (items : List Item) (n : ℕ) : Type 0 where
-  pub front : take n (without_first is_package items) ≡ take n items
-  pub behind : drop n (without_first is_package items) ≡ without_first is_package (drop n items)
-  pub within : n ≤ length (without_first is_package items)
+  pub front : take n (without_first is_package_call items) ≡ take n items
+  pub behind : drop n (without_first is_package_call items) ≡ without_first is_package_call (drop n items)
+  pub within : n ≤ length (without_first is_package_call items)
 
 pub blocks_stay : (items : List Item) (n : ℕ) → n ≤ length items → list_all is_block (take n items) ≡ true → BlocksStay items n
 blocks_stay items zero l h = record { front = refl; behind = refl; within = omega arith }
@@ -107,36 +107,36 @@ blocks_stay [] (suc n) l h = absurd (omega (arith, l))
 blocks_stay (x ∷ xs) (suc n) l h =
     let p = and_parts (is_block x) (list_all is_block (take n xs)) h in
     let rest = blocks_stay xs n (omega (arith, l)) p.1 in
-    let same : without_first is_package (x ∷ xs) ≡ x ∷ without_first is_package xs = if_false (is_package x) xs (x ∷ without_first is_package xs) (block_no_package x p.0) in
-    let w : n ≤ length (without_first is_package xs) = rest.within in
+    let same : without_first is_package_call (x ∷ xs) ≡ x ∷ without_first is_package_call xs = if_false (is_package_call x) xs (x ∷ without_first is_package_call xs) (block_no_package x p.0) in
+    let w : n ≤ length (without_first is_package_call xs) = rest.within in
     record {
       front = ap (take (suc n)) same ∙ ap (λ ys. x ∷ ys) rest.front;
       behind = ap (drop (suc n)) same ∙ rest.behind;
       within = subst (λ ys. suc n ≤ length ys) (sym same) (omega (arith, w));
     }
 
-module _ (items rest : List Item) (from : ℕ) (new : Item) (first : IsFirst is_package items from) (is : new ≡ get_or items from new) (left : rest ≡ remove items from) where
-  is_left : rest ≡ without_first is_package items
-  is_left = left ∙ sym (removed_at is_package items from first)
+module _ (items rest : List Item) (from : ℕ) (new : Item) (first : IsFirst is_package_call items from) (is : new ≡ get_or items from new) (left : rest ≡ remove items from) where
+  is_left : rest ≡ without_first is_package_call items
+  is_left = left ∙ sym (removed_at is_package_call items from first)
 
   moved : move_package_to_top items ≡ package_moved items new
-  moved = ap (λ found. option_map_or (package_moved items) found items) (first_found is_package items from new first ∙ ap Some (sym is))
+  moved = ap (λ found. option_map_or (package_moved items) found items) (first_found is_package_call items from new first ∙ ap Some (sym is))
 
-  any_load : list_any is_load items ≡ list_any is_load rest
-  any_load = sym (loads_left items) ∙ ap (list_any is_load) (sym is_left)
+  any_load : list_any is_load_item items ≡ list_any is_load_item rest
+  any_load = sym (loads_left items) ∙ ap (list_any is_load_item) (sym is_left)
 
-  pub behind_load : (loads : ℕ) → list_any is_load rest ≡ nat_lt 0 loads → 0 < loads → behind_last is_load new rest ≡ take loads rest ++ new ∷ drop loads rest
+  pub behind_load : (loads : ℕ) → list_any is_load_item rest ≡ nat_lt 0 loads → 0 < loads → behind_last is_load_item new rest ≡ take loads rest ++ new ∷ drop loads rest
       → insert rest loads new ≡ move_package_to_top items
   behind_load loads some l place =
-      sym (moved ∙ (if_true (list_any is_load items) _ _ (any_load ∙ (some ∙ lt-ltb 0 loads l)) ∙ (ap (behind_last is_load new) (sym is_left) ∙ place)))
+      sym (moved ∙ (if_true (list_any is_load_item items) _ _ (any_load ∙ (some ∙ lt-ltb 0 loads l)) ∙ (ap (behind_last is_load_item new) (sym is_left) ∙ place)))
 
-  pub behind_block : (loads blocks : ℕ) → list_any is_load rest ≡ nat_lt 0 loads → loads ≤ 0 → blocks ≤ length items → list_all is_block (take blocks items) ≡ true
-      → package_behind_blocks new items ≡ take blocks items ++ new ∷ without_first is_package (drop blocks items)
+  pub behind_block : (loads blocks : ℕ) → list_any is_load_item rest ≡ nat_lt 0 loads → loads ≤ 0 → blocks ≤ length items → list_all is_block (take blocks items) ≡ true
+      → package_behind_blocks new items ≡ take blocks items ++ new ∷ without_first is_package_call (drop blocks items)
       → insert rest blocks new ≡ move_package_to_top items
   behind_block loads blocks some l within all place =
       let stay = blocks_stay items blocks within all in
-      sym (moved ∙ (if_false (list_any is_load items) _ _ (any_load ∙ (some ∙ none loads l)) ∙ (place
-      ∙ (ap (λ ys. ys ++ new ∷ without_first is_package (drop blocks items)) (sym stay.front ∙ ap (take blocks) (sym is_left))
+      sym (moved ∙ (if_false (list_any is_load_item items) _ _ (any_load ∙ (some ∙ none loads l)) ∙ (place
+      ∙ (ap (λ ys. ys ++ new ∷ without_first is_package_call (drop blocks items)) (sym stay.front ∙ ap (take blocks) (sym is_left))
       ∙ ap (λ ys. take blocks rest ++ new ∷ ys) (sym stay.behind ∙ ap (drop blocks) (sym is_left))))))
     where
       none : (n : ℕ) → n ≤ 0 → nat_lt 0 n ≡ false

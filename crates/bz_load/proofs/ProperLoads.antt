@@ -32,12 +32,12 @@ use Rattle.bz_attribute.specs.Made.{token, node, mark, name}
 use Rattle.bz_attribute.specs.Attributes.{on_first_that, without_first}
 use Rattle.bz_attribute.proofs.ProperTexts.{one_ascii}
 use Rattle.bz_attribute.proofs.ProperMade.{IsNew, token_new, quoted_string}
-use Rattle.bz_load.specs.Loads.{is_load, path_in, is_load_from, is_loaded}
+use Rattle.bz_load.specs.Loads.{is_load_item, path_in, is_load_from, is_loaded}
 use Rattle.bz_load.specs.Places.{is_block, behind_last, behind_blocks, behind_loads}
 use Rattle.bz_load.specs.NewLoad.{is_symbol, new_symbols, symbol_made, load_made, with_symbols, new_load}
 use Rattle.bz_load.specs.Uses.{is_used}
 use Rattle.bz_load.specs.Laws.{LoadsStayProper}
-use Rattle.bz_load.specs.Fixes.{has_own_comments, stays, with_used, is_emptied, used_alone, unused_loads, is_package, first_that, package_behind_blocks, package_moved, move_package_to_top, fix}
+use Rattle.bz_load.specs.Fixes.{has_own_comments, symbol_stays, with_used, is_emptied, used_alone, unused_loads, is_package_call, first_that, package_behind_blocks, package_moved, move_package_to_top, fix}
 
 abbrev AreFine : List Item → Type 0
 AreFine items = AllByRecursion IsProperItem items
@@ -103,8 +103,8 @@ load_proper path symbols u h =
     let word = token_new c.Keyword (codes "load") refl load_coded in (
       refl,
       form_proper Begins (record { kind = k.Load; parts = token c.Keyword (codes "load") ∷ []; seq = record { items = token c.String (quoted_of path) ∷ map symbol_made symbols; end_ = []; split = false }; open_ = false; comments = no_comments })
-          (refl, (refl, (refl, inr (refl, items_again s.loaded s.close_round (r.mark 41) refl (map symbol_made symbols) all))))
-          ((word.proper Begins, (refl, refl), tt), ((string_new path u).proper Within, none_there, refl, each_item s.loaded s.close_round (r.mark 41) (map symbol_made symbols) all), All-nil IsComment, refl),
+          (refl, (refl, (refl, inr (refl, items_again s.loaded s.close_round (r.mark_leaf 41) refl (map symbol_made symbols) all))))
+          ((word.proper Begins, (refl, refl), tt), ((string_new path u).proper Within, none_there, refl, each_item s.loaded s.close_round (r.mark_leaf 41) (map symbol_made symbols) all), All-nil IsComment, refl),
       none_there,
     )
 
@@ -146,7 +146,7 @@ block_placed new [] n h = (n, tt)
 block_placed new (item ∷ items) n h = by_test AreFine (is_block item) (item ∷ behind_blocks new items) (new ∷ item ∷ items) (h.0, block_placed new items n h.1) (n, h)
 
 load_placed : (new : Item) (items : List Item) → IsProperItem new → AreFine items → AreFine (behind_loads new items)
-load_placed new items n h = by_test AreFine (list_any is_load items) (behind_last is_load new items) (behind_blocks new items) (last_placed is_load new items n h) (block_placed new items n h)
+load_placed new items n h = by_test AreFine (list_any is_load_item items) (behind_last is_load_item new items) (behind_blocks new items) (last_placed is_load_item new items n h) (block_placed new items n h)
 
 pub new_load_keeps : (path : Bytes) (symbols : List Symbol) (items : List Item) → IsUtf8 path → AreSome IsSymbol symbols → AllByRecursion IsProperItem items → AllByRecursion IsProperItem (new_load path symbols items)
 new_load_keeps path symbols items u some h =
@@ -165,9 +165,9 @@ filtered P test (x ∷ xs) h = by_test (AllByRecursion P) (test x) (x ∷ filter
 pub used_statement : (used : Bytes → Bool) (item : Item) → IsProperItem item → IsProperItem (used_alone used item)
 used_statement used (i.Block lines) h = h
 used_statement used (i.Stmt x) h =
-    let change : List Expr → List Expr = filter (stays used) in
+    let change : List Expr → List Expr = filter (symbol_stays used) in
     stays_statement x (with_used used x)
-    (by_test (InPlace x) (has_own_comments x) x (on_items k.Load (behind_first change) x) (itself x) (load_in_place change (λ xs m. filtered (IsItem s.loaded) (stays used) xs m) x)) h
+    (by_test (InPlace x) (has_own_comments x) x (on_items k.Load (behind_first change) x) (itself x) (load_in_place change (λ xs m. filtered (IsItem s.loaded) (symbol_stays used) xs m) x)) h
 
 used_each : (used : Bytes → Bool) (items : List Item) → AreFine items → AreFine (map (used_alone used) items)
 used_each used [] h = tt
@@ -191,17 +191,17 @@ others_fine test (item ∷ items) h = by_test AreFine (test item) items (item �
 top_placed : (new : Item) (items : List Item) → IsProperItem new → AreFine items → AreFine (package_behind_blocks new items)
 top_placed new [] n h = (n, tt)
 top_placed new (item ∷ items) n h =
-    by_test AreFine (is_block item) (item ∷ package_behind_blocks new items) (new ∷ without_first is_package (item ∷ items))
-    (h.0, top_placed new items n h.1) (n, others_fine is_package (item ∷ items) h)
+    by_test AreFine (is_block item) (item ∷ package_behind_blocks new items) (new ∷ without_first is_package_call (item ∷ items))
+    (h.0, top_placed new items n h.1) (n, others_fine is_package_call (item ∷ items) h)
 
 package_placed : (items : List Item) → AreFine items → (found : Option Item) → IfSome found IsProperItem → AreFine (option_map_or (package_moved items) found items)
 package_placed items h None f = h
 package_placed items h (Some new) f =
-    by_test AreFine (list_any is_load items) (behind_last is_load new (without_first is_package items)) (package_behind_blocks new items)
-    (last_placed is_load new (without_first is_package items) f (others_fine is_package items h)) (top_placed new items f h)
+    by_test AreFine (list_any is_load_item items) (behind_last is_load_item new (without_first is_package_call items)) (package_behind_blocks new items)
+    (last_placed is_load_item new (without_first is_package_call items) f (others_fine is_package_call items h)) (top_placed new items f h)
 
 package_keeps : (items : List Item) → AreFine items → AreFine (move_package_to_top items)
-package_keeps items h = package_placed items h (first_that is_package items) (first_fine is_package items h)
+package_keeps items h = package_placed items h (first_that is_package_call items) (first_fine is_package_call items h)
 
 pub fix_keeps : (fixes : Fixes) (items : List Item) → AllByRecursion IsProperItem items → AllByRecursion IsProperItem (fix fixes items)
 fix_keeps fixes items h =

@@ -12,8 +12,8 @@ use Rattle.bz_value.specs.declared.value.Expr.TheVariants as e
 use Rattle.bz_value.specs.declared.value.Item.{Item}
 use Rattle.bz_items.specs.Characters.{Bytes}
 use Rattle.bz_attribute.proofs.KeySets.{or_group, or_none}
-use Rattle.bz_load.specs.Uses.{all_of, behind_head, head, with_operands, operands, operands_in, is_used}
-use Rattle.bz_load.specs.Known.{has_name, and_name, and_names, and_operands, and_uses}
+use Rattle.bz_load.specs.Uses.{all_of, behind_head, first_item, with_operands, operands, operands_in, is_used}
+use Rattle.bz_load.specs.Known.{knows_name, and_name, and_names, and_operands, and_uses}
 use Rattle.bz_load.proofs.UsesForms.{operands_Form}
 
 abbrev Test : Type 0
@@ -31,12 +31,12 @@ behind_map : {X Y : Type 0} (f : X → Y) (xs : List X) → behind_head (map f x
 behind_map f [] = refl
 behind_map f (x ∷ xs) = refl
 
-head_map : {X Y : Type 0} (f : X → Y) (xs : List X) → head (map f xs) ≡ map f (head xs)
+head_map : {X Y : Type 0} (f : X → Y) (xs : List X) → first_item (map f xs) ≡ map f (first_item xs)
 head_map f [] = refl
 head_map f (x ∷ xs) = refl
 
 chosen_map : {X Y : Type 0} (f : X → Y) (a b : Bool) (xs : List X)
-    → (if a then behind_head (map f xs) else (if b then head (map f xs) else map f xs)) ≡ map f (if a then behind_head xs else (if b then head xs else xs))
+    → (if a then behind_head (map f xs) else (if b then first_item (map f xs) else map f xs)) ≡ map f (if a then behind_head xs else (if b then first_item xs else xs))
 chosen_map f true b xs = behind_map f xs
 chosen_map f false true xs = head_map f xs
 chosen_map f false false xs = refl
@@ -60,7 +60,7 @@ names_told : (xs : List Bytes) (test : Test) (text : Bytes) → and_names xs tes
 names_told [] test text = refl
 names_told (x ∷ xs) test text = names_told xs (and_name x test) text ∙ or_group (list_any (bytes_eq text) xs) (bytes_eq text x) (test text)
 
-pub names_used : (items : List Item) → and_uses items (has_name []) ≡ is_used items
+pub names_used : (items : List Item) → and_uses items (knows_name []) ≡ is_used items
 names_used items = fun_ext (λ text.
-    ap (λ (test : Test). test text) (sym (uses_all items (has_name [])))
-    ∙ (names_told (all_of (map operands_in items)) (has_name []) text ∙ or_none (list_any (bytes_eq text) (all_of (map operands_in items)))))
+    ap (λ (test : Test). test text) (sym (uses_all items (knows_name [])))
+    ∙ (names_told (all_of (map operands_in items)) (knows_name []) text ∙ or_none (list_any (bytes_eq text) (all_of (map operands_in items)))))

@@ -13,22 +13,22 @@ use Rattle.bz_value.specs.Proper.{comments_of}
 use Rattle.bz_items.specs.Characters.{Bytes}
 use Rattle.bz_value.specs.Empty.{is_empty, is_none}
 use Rattle.bz_words.specs.declared.command.Fixes.{Fixes}
-use Rattle.bz_rule.specs.Rules.{has_kind as is_rule_of}
+use Rattle.bz_rule.specs.Rules.{is_rule_of_kind as is_rule_of}
 use Rattle.bz_rule.specs.Values.{has_kind, items_of, on_items, behind_first}
 use Rattle.bz_rule.specs.QuoteMarks.{local_name}
 use Rattle.bz_attribute.specs.Attributes.{without_first}
-use Rattle.bz_load.specs.Loads.{is_load, behind_path}
+use Rattle.bz_load.specs.Loads.{is_load_item, behind_path}
 use Rattle.bz_load.specs.Places.{behind_last, is_block}
 use Rattle.bz_load.specs.Uses.{is_used}
 
 -- ---- unusedLoads
 
-abbrev pub has_comments : HostComments → Bool
-has_comments comments = not (is_empty comments.before && is_none comments.suffix)
+abbrev pub is_commented : HostComments → Bool
+is_commented comments = not (is_empty comments.before && is_none comments.suffix)
 
 abbrev pub path_comments : List Expr → Bool
 path_comments [] = false
-path_comments (x ∷ xs) = has_comments (comments_of x)
+path_comments (x ∷ xs) = is_commented (comments_of x)
 
 abbrev pub end_of : Expr → List Bytes
 end_of (e.Token t) = []
@@ -36,20 +36,20 @@ end_of (Form' kind s parts s' items end_ split open_ comments) = end_
 
 -- comments that are no symbol's: above the load, behind it, at its end, and the path's
 abbrev pub has_own_comments : Expr → Bool
-has_own_comments x = has_comments (comments_of x) || (not (is_empty (end_of x)) || path_comments (items_of x))
+has_own_comments x = is_commented (comments_of x) || (not (is_empty (end_of x)) || path_comments (items_of x))
 
 -- a symbol stays where it has a comment, or its local name is used
-abbrev pub stays : (Bytes → Bool) → Expr → Bool
-stays is_used x = has_comments (comments_of x) || is_used (local_name x)
+abbrev pub symbol_stays : (Bytes → Bool) → Expr → Bool
+symbol_stays is_used x = is_commented (comments_of x) || is_used (local_name x)
 
 abbrev pub with_used : (Bytes → Bool) → Expr → Expr
-with_used is_used x = if has_own_comments x then x else on_items k.Load (behind_first (filter (stays is_used))) x
+with_used is_used x = if has_own_comments x then x else on_items k.Load (behind_first (filter (symbol_stays is_used))) x
 
 -- a load that loses its last symbol
 abbrev pub is_emptied : (Bytes → Bool) → Item → Bool
 is_emptied is_used (i.Block lines) = false
 is_emptied is_used (i.Stmt x) =
-    has_kind k.Load x && not (has_own_comments x) && (not (is_empty (behind_path (items_of x))) && not (list_any (stays is_used) (behind_path (items_of x))))
+    has_kind k.Load x && not (has_own_comments x) && (not (is_empty (behind_path (items_of x))) && not (list_any (symbol_stays is_used) (behind_path (items_of x))))
 
 abbrev pub used_alone : (Bytes → Bool) → Item → Item
 used_alone is_used (i.Block lines) = i.Block lines
@@ -60,8 +60,8 @@ unused_loads items = map (used_alone (is_used items)) (filter (λ item. not (is_
 
 -- ---- movePackageToTop
 
-abbrev pub is_package : Item → Bool
-is_package item = is_rule_of (codes "package") item
+abbrev pub is_package_call : Item → Bool
+is_package_call item = is_rule_of (codes "package") item
 
 -- the first item that passes a test
 abbrev pub first_that : (Item → Bool) → List Item → Option Item
@@ -72,14 +72,14 @@ first_that test (item ∷ items) = if test item then Some item else first_that t
 abbrev pub package_behind_blocks : Item → List Item → List Item
 package_behind_blocks new [] = new ∷ []
 package_behind_blocks new (item ∷ items) =
-    if is_block item then item ∷ package_behind_blocks new items else new ∷ without_first is_package (item ∷ items)
+    if is_block item then item ∷ package_behind_blocks new items else new ∷ without_first is_package_call (item ∷ items)
 
 abbrev pub package_moved : List Item → Item → List Item
-package_moved items new = if list_any is_load items then behind_last is_load new (without_first is_package items) else package_behind_blocks new items
+package_moved items new = if list_any is_load_item items then behind_last is_load_item new (without_first is_package_call items) else package_behind_blocks new items
 
 -- the first rule of kind `package` right after the last load; without a load after the leading comment blocks
 abbrev pub move_package_to_top : List Item → List Item
-move_package_to_top items = option_map_or (package_moved items) (first_that is_package items) items
+move_package_to_top items = option_map_or (package_moved items) (first_that is_package_call items) items
 
 -- ---- fix: movePackageToTop first
 

@@ -53,8 +53,8 @@ unknown is_known (first ∷ rest) = if is_known first then unknown is_known rest
 
 -- ---- names
 
-abbrev pub has_name : List Bytes → Bytes → Bool
-has_name names text = list_any (bytes_eq text) names
+abbrev pub knows_name : List Bytes → Bytes → Bool
+knows_name names text = list_any (bytes_eq text) names
 
 abbrev pub and_name : Bytes → (Bytes → Bool) → Bytes → Bool
 and_name added is_there text = bytes_eq text added || is_there text

@@ -12,7 +12,7 @@ use Rattle.bz_words.specs.declared.command.Fixes.{Fixes}
 use Rattle.bz_attribute.specs.Attributes.{without_first}
 use Rattle.bz_load.specs.NewLoad.{new_load}
 use Rattle.bz_load.specs.Uses.{is_used}
-use Rattle.bz_load.specs.Fixes.{is_emptied, unused_loads, is_package, move_package_to_top, fix}
+use Rattle.bz_load.specs.Fixes.{is_emptied, unused_loads, is_package_call, move_package_to_top, fix}
 
 -- What new_load makes of proper items by words that were read is proper, and what fix makes of them too.
 abbrev pub LoadsStayProper : Type 0
@@ -39,7 +39,7 @@ UnusedAgain = (items : List Item) → IsProper items → unused_loads (unused_lo
 
 -- a second rule of kind `package`
 abbrev pub has_second_package : List Item → Bool
-has_second_package items = list_any is_package (without_first is_package items)
+has_second_package items = list_any is_package_call (without_first is_package_call items)
 
 abbrev pub MovedAgain : Type 0
 MovedAgain = (items : List Item) → has_second_package items ≡ false → move_package_to_top (move_package_to_top items) ≡ move_package_to_top items
@@ -57,7 +57,7 @@ FixedAgain =
 -- ---- comments
 
 -- Each comment stands there as often as before.
-abbrev pub CommentsStay : Type 0
-CommentsStay =
+abbrev pub LoadsKeepComments : Type 0
+LoadsKeepComments =
     ((path : Bytes) (symbols : List Symbol) (items : List Item) (text : Bytes) → times text (new_load path symbols items) ≡ times text items)
     × ((fixes : Fixes) (items : List Item) → IsProper items → (text : Bytes) → times text (fix fixes items) ≡ times text items)

@@ -11,9 +11,9 @@ use Rattle.bz_rule.specs.Rules.{is_text}
 use Rattle.bz_rule.specs.Values.{has_kind, parts_of, items_of, text_of}
 use Rattle.bz_attribute.specs.Lists.{body_of}
 
-abbrev pub is_load : Item → Bool
-is_load (i.Block lines) = false
-is_load (i.Stmt x) = has_kind k.Load x
+abbrev pub is_load_item : Item → Bool
+is_load_item (i.Block lines) = false
+is_load_item (i.Stmt x) = has_kind k.Load x
 
 -- the path: the body of the first item, where that is a plain string
 abbrev pub path_in : List Expr → Option Bytes

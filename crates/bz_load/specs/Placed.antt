@@ -14,14 +14,14 @@ use Rattle.bz_attribute.specs.Attributes.{on_first_that}
 use Rattle.bz_load.specs.Loads.{is_load_from}
 use Rattle.bz_load.specs.Places.{behind_loads}
 
-abbrev pub with_more : List Expr → Item → Item
-with_more more (i.Block lines) = i.Block lines
-with_more more (i.Stmt x) = i.Stmt (on_items k.Load (λ items. items ++ more) x)
+abbrev pub with_more_symbols : List Expr → Item → Item
+with_more_symbols more (i.Block lines) = i.Block lines
+with_more_symbols more (i.Stmt x) = i.Stmt (on_items k.Load (λ items. items ++ more) x)
 
 abbrev pub load_of : Bytes → List Expr → Item
 load_of path symbols = i.Stmt (sequence k.Load (token c.Keyword (codes "load") ∷ []) (token c.String (quoted_of path) ∷ symbols))
 
-abbrev pub placed : Bytes → List Expr → List Item → List Item
-placed path more items =
-    if list_any (is_load_from path) items then on_first_that (is_load_from path) (with_more more) items
+abbrev pub with_load : Bytes → List Expr → List Item → List Item
+with_load path more items =
+    if list_any (is_load_from path) items then on_first_that (is_load_from path) (with_more_symbols more) items
     else behind_loads (load_of path more) items

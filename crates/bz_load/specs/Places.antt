@@ -3,7 +3,7 @@ use Rattle.std.specs.Prelude.{Bool, true, false, List, [], ◌∷◌, if◌then�
 use Rattle.std.specs.List.{list_any}
 use Rattle.bz_value.specs.declared.value.Item.{Item}
 use Rattle.bz_value.specs.declared.value.Item.TheVariants as i
-use Rattle.bz_load.specs.Loads.{is_load}
+use Rattle.bz_load.specs.Loads.{is_load_item}
 
 -- right behind the last item that passes a test; before all where none does
 abbrev pub behind_last : (Item → Bool) → Item → List Item → List Item
@@ -21,4 +21,4 @@ behind_blocks new (item ∷ items) = if is_block item then item ∷ behind_block
 
 -- after the last load; where there is none, after the leading comment blocks
 abbrev pub behind_loads : Item → List Item → List Item
-behind_loads new items = if list_any is_load items then behind_last is_load new items else behind_blocks new items
+behind_loads new items = if list_any is_load_item items then behind_last is_load_item new items else behind_blocks new items

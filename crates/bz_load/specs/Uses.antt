@@ -17,13 +17,13 @@ behind_head [] = []
 behind_head (x ∷ xs) = xs
 
 -- only the first part
-abbrev pub head : {X : Type 0} → List X → List X
-head [] = []
-head (x ∷ xs) = x ∷ []
+abbrev pub first_item : {X : Type 0} → List X → List X
+first_item [] = []
+first_item (x ∷ xs) = x ∷ []
 
 -- The parts of a node that hold operands: not the name of an argument or of an alias, and none behind a dot.
 abbrev pub with_operands : {X : Type 0} → Kind → List X → List X
-with_operands kind xs = if is_kind kind k.Named || is_kind kind k.Alias then behind_head xs else (if is_kind kind k.Dot then head xs else xs)
+with_operands kind xs = if is_kind kind k.Named || is_kind kind k.Alias then behind_head xs else (if is_kind kind k.Dot then first_item xs else xs)
 
 abbrev pub all_of : List (List Bytes) → List Bytes
 all_of [] = []

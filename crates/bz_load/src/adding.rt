@@ -10,7 +10,7 @@ ghost use Rattle.bz_rule.specs.Values.{on_items};
 ghost use Rattle.bz_attribute.specs.Made.{token, sequence};
 ghost use Rattle.bz_load.specs.Loads.{is_load_from as is_from};
 ghost use Rattle.bz_load.specs.NewLoad.{new_load, new_symbols, symbol_made};
-ghost use Rattle.bz_load.specs.Placed.{placed, with_more};
+ghost use Rattle.bz_load.specs.Placed.{with_load, with_more_symbols};
 
 use crate::known::Known;
 use crate::making::load_of;
@@ -84,7 +84,7 @@ fn append_to_load(more: &mut Vec<Expr>, x: &mut Expr) -> Result<(), Memory>
 }
 
 fn append_to_item(more: &mut Vec<Expr>, item: &mut Item) -> Result<(), Memory>
-    ensures { OnOk result (item.new ≡ with_more more.old.items item.old) }
+    ensures { OnOk result (item.new ≡ with_more_symbols more.old.items item.old) }
 {
     match item {
         Item::Block(_) => Ok(()),
@@ -106,7 +106,7 @@ fn put(
     more: &mut Vec<Expr>,
     items: Items<Item>,
 ) -> Result<WithLoad, Memory>
-    ensures items { IfOk result (λ made. made.items ≡ placed path.now more.old.items items) }
+    ensures items { IfOk result (λ made. made.items ≡ with_load path.now more.old.items items) }
     ensures same { IfOk result (λ made. IsTrue made.same ↔ (made.items ≡ items)) }
     ensures spliced { IfOk result (λ made. IsSpliced made.at made.gone 1 items made.items) }
 {

@@ -1,5 +1,5 @@
 //! Facts about the definitions, for readers: the functions do nothing.
-ghost use Rattle.bz_load.specs.Laws.{CommentsStay, FixedAgain, LoadedAgain, LoadsStayProper, MovedAgain, UnusedAgain};
+ghost use Rattle.bz_load.specs.Laws.{LoadsKeepComments, FixedAgain, LoadedAgain, LoadsStayProper, MovedAgain, UnusedAgain};
 ghost use Rattle.bz_load.specs.Worked.{WorkedLoads};
 
 /// Worked rows: what new_load and fix make of small files.
@@ -34,5 +34,5 @@ pub fn fixing_again()
 
 /// new_load and fix lose no comment, and make none.
 pub fn comments_stay()
-    ensures { CommentsStay }
+    ensures { LoadsKeepComments }
 {}

@@ -1,6 +1,6 @@
 //! Names that are used, to be asked whether a name is one of them.
 ghost use Rattle.std.specs.Prelude.{◌≡◌, [], OnOk};
-ghost use Rattle.bz_load.specs.Known.{and_name, has_name};
+ghost use Rattle.bz_load.specs.Known.{and_name, knows_name};
 ghost use Rattle.bz_load.specs.KnownKeys.{texts_of_keys};
 
 use bz_items::Memory;
@@ -10,14 +10,14 @@ use std::marker::Model;
 
 /// Whether the name is one of the keys.
 fn has_key(keys: &IndexSet<Vec<u8>>, name: &[u8]) -> bool
-    ensures { result ≡ has_name (texts_of_keys keys.now.keys) name.now }
+    ensures { result ≡ knows_name (texts_of_keys keys.now.keys) name.now }
 {
     keys.contains(name)
 }
 
 /// The name, which is none of the keys, is one of them from now on.
 fn insert_key(alloc: Global, keys: &mut IndexSet<Vec<u8>>, name: &[u8]) -> Result<(), Memory>
-    ensures { OnOk result (has_name (texts_of_keys keys.new.keys) ≡ and_name name.now (has_name (texts_of_keys keys.old.keys))) }
+    ensures { OnOk result (knows_name (texts_of_keys keys.new.keys) ≡ and_name name.now (knows_name (texts_of_keys keys.old.keys))) }
 {
     let key = Vec::from_slice(alloc, name)?;
     keys.insert(key)?;
@@ -54,14 +54,14 @@ impl UsedNames {
 
     /// Whether the name is one of them.
     pub(crate) fn has(&self, name: &[u8]) -> bool
-        ensures { result ≡ has_name self.now name.now }
+        ensures { result ≡ knows_name self.now name.now }
     {
         has_key(&self.keys, name)
     }
 
     /// The name is one of them from now on; one that is there takes no memory. The error: memory was refused.
     pub(crate) fn insert(&mut self, name: &[u8]) -> Result<(), Memory>
-        ensures { OnOk result (has_name self.new ≡ and_name name.now (has_name self.old)) }
+        ensures { OnOk result (knows_name self.new ≡ and_name name.now (knows_name self.old)) }
     {
         if self.has(name) {
             return Ok(());

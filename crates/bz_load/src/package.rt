@@ -1,17 +1,17 @@
 //! The package behind the loads.
 ghost use Rattle.std.specs.Prelude.{◌≡◌, OnOk, codes};
 ghost use Rattle.std.specs.List.{position};
-ghost use Rattle.bz_load.specs.Fixes.{is_package as is_any_package, move_package_to_top};
+ghost use Rattle.bz_load.specs.Fixes.{is_package_call as is_any_package, move_package_to_top};
 
 use crate::places::{count_of_blocks, count_to_last_load};
 use bz_items::Memory;
-use bz_rule::has_kind;
+use bz_rule::is_rule_of_kind;
 use bz_value::Item;
 
 fn is_package(item: &Item) -> bool
     ensures { result ≡ is_any_package item.now }
 {
-    has_kind(b"package", item)
+    is_rule_of_kind(b"package", item)
 }
 
 fn place_of_package(items: &[Item]) -> Option<usize>

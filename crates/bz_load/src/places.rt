@@ -2,8 +2,8 @@
 ghost use Rattle.std.specs.Prelude.{◌≡◌, ◌++◌, ◌∷◌, ◌≤◌, true, length, nat_lt, take, drop, IfOk, OnOk};
 ghost use Rattle.std.specs.List.{insert, list_all, list_any};
 ghost use Rattle.bz_value.specs.declared.value.Item.{Item};
-ghost use Rattle.bz_load.specs.Fixes.{package_behind_blocks, is_package};
-ghost use Rattle.bz_load.specs.Loads.{is_load as is_any_load};
+ghost use Rattle.bz_load.specs.Fixes.{package_behind_blocks, is_package_call};
+ghost use Rattle.bz_load.specs.Loads.{is_load_item as is_any_load};
 ghost use Rattle.bz_load.specs.Places.{behind_blocks, behind_last, behind_loads, is_block as is_any_block};
 ghost use Rattle.bz_attribute.specs.Attributes.{without_first};
 
@@ -38,7 +38,7 @@ pub(crate) fn count_of_blocks(items: &[Item]) -> usize
     ensures within { result ≤ length items.now }
     ensures blocks { list_all is_any_block (take result items.now) ≡ true }
     ensures place { (new : Item) → behind_blocks new items.now ≡ take result items.now ++ new ∷ drop result items.now }
-    ensures top { (new : Item) → package_behind_blocks new items.now ≡ take result items.now ++ new ∷ without_first is_package (drop result items.now) }
+    ensures top { (new : Item) → package_behind_blocks new items.now ≡ take result items.now ++ new ∷ without_first is_package_call (drop result items.now) }
 {
     for at in 0..items.len() {
         if !is_block(&items[at]) {

@@ -4,8 +4,8 @@ ghost use Rattle.std.specs.List.{filter, list_any};
 ghost use Rattle.bz_tree.specs.declared.kind.Kind.TheVariants as k;
 ghost use Rattle.bz_rule.specs.Values.{behind_first, on_items};
 ghost use Rattle.bz_value.specs.Empty.{is_empty};
-ghost use Rattle.bz_load.specs.Fixes.{end_of, has_comments as has_any, has_own_comments as has_own, is_emptied as empties, path_comments as path_has, stays as stays_by, unused_loads, used_alone as alone, with_used as used_in};
-ghost use Rattle.bz_load.specs.Known.{has_name};
+ghost use Rattle.bz_load.specs.Fixes.{end_of, is_commented as has_any, has_own_comments as has_own, is_emptied as empties, path_comments as path_has, symbol_stays as stays_by, unused_loads, used_alone as alone, with_used as used_in};
+ghost use Rattle.bz_load.specs.Known.{knows_name};
 
 use crate::names::UsedNames;
 use crate::readings::behind_path;
@@ -52,26 +52,26 @@ fn has_own_comments(x: &Expr) -> bool
 
 /// Whether a symbol stays: it has a comment, or its local name is used.
 fn stays(names: &UsedNames, x: &Expr) -> bool
-    ensures { result ≡ stays_by (has_name names.now) x.now }
+    ensures { result ≡ stays_by (knows_name names.now) x.now }
 {
     has_comments(x.comments()) || names.has(local_name(x))
 }
 
 fn any_stays(names: &UsedNames, symbols: &[Expr]) -> bool
-    ensures { result ≡ list_any (stays_by (has_name names.now)) symbols.now }
+    ensures { result ≡ list_any (stays_by (knows_name names.now)) symbols.now }
 {
     symbols.iter().any(|x| stays(names, x))
 }
 
 fn keep_used(names: &UsedNames, symbols: &mut Vec<Expr>)
-    ensures { symbols.new.items ≡ filter (stays_by (has_name names.now)) symbols.old.items }
+    ensures { symbols.new.items ≡ filter (stays_by (knows_name names.now)) symbols.old.items }
 {
     symbols.retain(|x| stays(names, x));
 }
 
 /// Of the items of a load the path stays, and of its symbols those that are to stay.
 fn keep_path_and_used(names: &UsedNames, items: &mut Vec<Expr>) -> Result<(), Memory>
-    ensures { OnOk result (items.new.items ≡ behind_first (filter (stays_by (has_name names.now))) items.old.items) }
+    ensures { OnOk result (items.new.items ≡ behind_first (filter (stays_by (knows_name names.now))) items.old.items) }
 {
     if items.is_empty() {
         return Ok(());
@@ -83,7 +83,7 @@ fn keep_path_and_used(names: &UsedNames, items: &mut Vec<Expr>) -> Result<(), Me
 }
 
 fn keep_in_items(names: &UsedNames, items: &mut Items<Expr>) -> Result<(), Memory>
-    ensures { OnOk result (items.new ≡ behind_first (filter (stays_by (has_name names.now))) items.old) }
+    ensures { OnOk result (items.new ≡ behind_first (filter (stays_by (knows_name names.now))) items.old) }
 {
     let alloc = items.alloc();
     let mut all = mem::replace(items, Items::new(alloc)).into_vec();
@@ -93,7 +93,7 @@ fn keep_in_items(names: &UsedNames, items: &mut Items<Expr>) -> Result<(), Memor
 }
 
 fn keep_in_load(names: &UsedNames, x: &mut Expr) -> Result<(), Memory>
-    ensures { OnOk result (x.new ≡ on_items k.Load (behind_first (filter (stays_by (has_name names.now)))) x.old) }
+    ensures { OnOk result (x.new ≡ on_items k.Load (behind_first (filter (stays_by (knows_name names.now)))) x.old) }
 {
     match x {
         Expr::Token(_) => Ok(()),
@@ -108,7 +108,7 @@ fn keep_in_load(names: &UsedNames, x: &mut Expr) -> Result<(), Memory>
 
 /// A load without comments of its own keeps the symbols that are to stay.
 fn keep_in_expr(names: &UsedNames, x: &mut Expr) -> Result<(), Memory>
-    ensures { OnOk result (x.new ≡ used_in (has_name names.now) x.old) }
+    ensures { OnOk result (x.new ≡ used_in (knows_name names.now) x.old) }
 {
     if has_own_comments(x) {
         return Ok(());
@@ -117,7 +117,7 @@ fn keep_in_expr(names: &UsedNames, x: &mut Expr) -> Result<(), Memory>
 }
 
 fn keep_in_item(names: &UsedNames, item: &mut Item) -> Result<(), Memory>
-    ensures { OnOk result (item.new ≡ alone (has_name names.now) item.old) }
+    ensures { OnOk result (item.new ≡ alone (knows_name names.now) item.old) }
 {
     match item {
         Item::Block(_) => Ok(()),
@@ -126,7 +126,7 @@ fn keep_in_item(names: &UsedNames, item: &mut Item) -> Result<(), Memory>
 }
 
 fn keep_in_each(names: &UsedNames, items: &mut Vec<Item>) -> Result<(), Memory>
-    ensures { OnOk result (items.new.items ≡ map (alone (has_name names.now)) items.old.items) }
+    ensures { OnOk result (items.new.items ≡ map (alone (knows_name names.now)) items.old.items) }
 {
     for item in items.iter_mut() {
         keep_in_item(names, item)?;
@@ -136,14 +136,14 @@ fn keep_in_each(names: &UsedNames, items: &mut Vec<Item>) -> Result<(), Memory>
 
 /// Whether none of these symbols, of which there are some, stays.
 fn loses_all(names: &UsedNames, symbols: &[Expr]) -> bool
-    ensures { result ≡ (not (is_empty symbols.now) && not (list_any (stays_by (has_name names.now)) symbols.now)) }
+    ensures { result ≡ (not (is_empty symbols.now) && not (list_any (stays_by (knows_name names.now)) symbols.now)) }
 {
     !symbols.is_empty() && !any_stays(names, symbols)
 }
 
 /// Whether the item is a load that loses its last symbol.
 fn is_emptied(names: &UsedNames, item: &Item) -> bool
-    ensures { result ≡ empties (has_name names.now) item.now }
+    ensures { result ≡ empties (knows_name names.now) item.now }
 {
     match item {
         Item::Block(_) => false,
@@ -156,7 +156,7 @@ fn is_emptied(names: &UsedNames, item: &Item) -> bool
 }
 
 fn drop_emptied(names: &UsedNames, items: &mut Vec<Item>)
-    ensures { items.new.items ≡ filter (λ item. not (empties (has_name names.now) item)) items.old.items }
+    ensures { items.new.items ≡ filter (λ item. not (empties (knows_name names.now) item)) items.old.items }
 {
     items.retain(|item| !is_emptied(names, item));
 }

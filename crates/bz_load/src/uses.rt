@@ -1,6 +1,6 @@
 //! The names that a file uses.
 ghost use Rattle.std.specs.Prelude.{◌≡◌, IfOk, OnOk};
-ghost use Rattle.bz_load.specs.Known.{and_names, and_operands, and_uses, has_name};
+ghost use Rattle.bz_load.specs.Known.{and_names, and_operands, and_uses, knows_name};
 ghost use Rattle.bz_load.specs.Uses.{is_used, operands, operands_in, with_operands};
 
 use crate::names::UsedNames;
@@ -13,7 +13,7 @@ use std::alloc::Global;
 #[cycle(uses)]
 #[tactic(auto, using(crate::proofs::UsesSteps::form_names))]
 fn insert_operands(x: &Expr, names: &mut UsedNames) -> Result<(), Memory>
-    ensures { OnOk result (has_name names.new ≡ and_names (operands x.now) (has_name names.old)) }
+    ensures { OnOk result (knows_name names.new ≡ and_names (operands x.now) (knows_name names.old)) }
 {
     match x {
         Expr::Token(token) => {
@@ -33,7 +33,7 @@ fn insert_operands(x: &Expr, names: &mut UsedNames) -> Result<(), Memory>
 /// The names among the parts of a node: not the name of an argument or of an alias, and none behind a dot.
 #[cycle(uses)]
 fn insert_parts(kind: Kind, parts: &[Expr], names: &mut UsedNames) -> Result<(), Memory>
-    ensures { OnOk result (has_name names.new ≡ and_operands (with_operands kind parts.now) (has_name names.old)) }
+    ensures { OnOk result (knows_name names.new ≡ and_operands (with_operands kind parts.now) (knows_name names.old)) }
 {
     match kind {
         Kind::Named | Kind::Alias => match parts {
@@ -50,7 +50,7 @@ fn insert_parts(kind: Kind, parts: &[Expr], names: &mut UsedNames) -> Result<(),
 
 #[cycle(uses)]
 fn insert_each(exprs: &[Expr], names: &mut UsedNames) -> Result<(), Memory>
-    ensures { OnOk result (has_name names.new ≡ and_operands exprs.now (has_name names.old)) }
+    ensures { OnOk result (knows_name names.new ≡ and_operands exprs.now (knows_name names.old)) }
 {
     for x in exprs {
         insert_operands(x, names)?;
@@ -59,7 +59,7 @@ fn insert_each(exprs: &[Expr], names: &mut UsedNames) -> Result<(), Memory>
 }
 
 fn insert_item(item: &Item, names: &mut UsedNames) -> Result<(), Memory>
-    ensures { OnOk result (has_name names.new ≡ and_names (operands_in item.now) (has_name names.old)) }
+    ensures { OnOk result (knows_name names.new ≡ and_names (operands_in item.now) (knows_name names.old)) }
 {
     match item {
         Item::Block(_) => Ok(()),
@@ -68,7 +68,7 @@ fn insert_item(item: &Item, names: &mut UsedNames) -> Result<(), Memory>
 }
 
 fn insert_items(items: &[Item], names: &mut UsedNames) -> Result<(), Memory>
-    ensures { OnOk result (has_name names.new ≡ and_uses items.now (has_name names.old)) }
+    ensures { OnOk result (knows_name names.new ≡ and_uses items.now (knows_name names.old)) }
 {
     for item in items {
         insert_item(item, names)?;
@@ -79,7 +79,7 @@ fn insert_items(items: &[Item], names: &mut UsedNames) -> Result<(), Memory>
 /// The names that the items use. The error: memory was refused.
 #[tactic(auto, using(crate::proofs::UsesSteps::names_used))]
 pub(crate) fn used_names(alloc: Global, items: &[Item]) -> Result<UsedNames, Memory>
-    ensures { IfOk result (λ names. has_name names ≡ is_used items.now) }
+    ensures { IfOk result (λ names. knows_name names ≡ is_used items.now) }
 {
     let mut names = UsedNames::new(alloc);
     insert_items(items, &mut names)?;

@@ -6,7 +6,7 @@ use Rattle.bz_value.specs.declared.value.Item.{Item}
 use Rattle.bz_items.specs.Characters.{Bytes}
 use Rattle.bz_rule.specs.Rules.{has_name}
 use Rattle.bz_names.specs.Index.{Index, IsIndexOf, places_from, places_of}
-use Rattle.bz_names.specs.Held.{marked}
+use Rattle.bz_names.specs.Held.{marked_at}
 
 -- ---- places, item by item
 
@@ -39,29 +39,29 @@ length_more : {X : Type 0} (front : List X) (x : X) → length (front ++ x ∷ [
 length_more front x = length-append front (x ∷ [])
 
 all_marked : (name : Bytes) (items : List Item) (front : List Bool)
-    → marked (places_from (length front) name items) (front ++ replicate (length items) false) ≡ front ++ map (has_name name) items
+    → marked_at (places_from (length front) name items) (front ++ replicate (length items) false) ≡ front ++ map (has_name name) items
 all_marked name [] front = refl
 all_marked name (item ∷ items) front = by (λ b. all_marked name items (front ++ b ∷ [])) (has_name name item)
   where
     Rest : Type 0
-    Rest = (b : Bool) → marked (places_from (length (front ++ b ∷ [])) name items) ((front ++ b ∷ []) ++ replicate (length items) false) ≡ (front ++ b ∷ []) ++ map (has_name name) items
+    Rest = (b : Bool) → marked_at (places_from (length (front ++ b ∷ [])) name items) ((front ++ b ∷ []) ++ replicate (length items) false) ≡ (front ++ b ∷ []) ++ map (has_name name) items
 
-    behind : Rest → (b : Bool) → marked (places_from (length front + 1) name items) (front ++ b ∷ replicate (length items) false) ≡ front ++ b ∷ map (has_name name) items
+    behind : Rest → (b : Bool) → marked_at (places_from (length front + 1) name items) (front ++ b ∷ replicate (length items) false) ≡ front ++ b ∷ map (has_name name) items
     behind rest b =
-        ap (λ n. marked (places_from n name items) (front ++ b ∷ replicate (length items) false)) (sym (length_more front b))
-        ∙ (ap (marked (places_from (length (front ++ b ∷ [])) name items)) (sym (append_assoc front (b ∷ []) (replicate (length items) false)))
+        ap (λ n. marked_at (places_from n name items) (front ++ b ∷ replicate (length items) false)) (sym (length_more front b))
+        ∙ (ap (marked_at (places_from (length (front ++ b ∷ [])) name items)) (sym (append_assoc front (b ∷ []) (replicate (length items) false)))
         ∙ (rest b
         ∙ append_assoc front (b ∷ []) (map (has_name name) items)))
 
-    by : Rest → (b : Bool) → marked (if b then length front ∷ places_from (length front + 1) name items else places_from (length front + 1) name items)
+    by : Rest → (b : Bool) → marked_at (if b then length front ∷ places_from (length front + 1) name items else places_from (length front + 1) name items)
         (front ++ false ∷ replicate (length items) false) ≡ front ++ b ∷ map (has_name name) items
-    by rest true = ap (marked (places_from (length front + 1) name items)) (set_behind front false true (replicate (length items) false)) ∙ behind rest true
+    by rest true = ap (marked_at (places_from (length front + 1) name items)) (set_behind front false true (replicate (length items) false)) ∙ behind rest true
     by rest false = behind rest false
 
 pub marks_of_index : (index : Index) (name : Bytes) (items : List Item) (count : ℕ) (places : List ℕ)
     → count ≡ index.count → places ≡ places_of name index.places → IsIndexOf index items
-    → marked places (replicate count false) ≡ map (has_name name) items
+    → marked_at places (replicate count false) ≡ map (has_name name) items
 marks_of_index index name items count places many there is =
-    ap (λ z. marked z (replicate count false)) (there ∙ is.places name)
-    ∙ (ap (λ n. marked (places_from 0 name items) (replicate n false)) (many ∙ is.count)
+    ap (λ z. marked_at z (replicate count false)) (there ∙ is.places name)
+    ∙ (ap (λ n. marked_at (places_from 0 name items) (replicate n false)) (many ∙ is.count)
     ∙ all_marked name items [])

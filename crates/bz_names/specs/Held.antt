@@ -8,8 +8,8 @@ use Rattle.bz_rule.specs.Rules.{rule_of, name_of}
 use Rattle.bz_names.specs.Index.{places_of}
 
 -- the name of an item, where it is a rule that has one: `has_name` asks whether it is this one
-abbrev pub name_in : Item → Option Bytes
-name_in item = option_and_then name_of (rule_of item)
+abbrev pub held_name : Item → Option Bytes
+held_name item = option_and_then name_of (rule_of item)
 
 -- the keys of the map are bytes, its values places
 abbrev pub Entries : Type 0
@@ -23,6 +23,6 @@ abbrev pub AddsPlace : (Bytes → Bool) → ℕ → Entries → Entries → Type
 AddsPlace test at before after = (name : Bytes) → places_of name (held after) ≡ places_of name (held before) ++ (if test name then at ∷ [] else [])
 
 -- the marks with those at the places set
-abbrev pub marked : List ℕ → List Bool → List Bool
-marked [] marks = marks
-marked (at ∷ places) marks = marked places (slice_set marks at true)
+abbrev pub marked_at : List ℕ → List Bool → List Bool
+marked_at [] marks = marks
+marked_at (at ∷ places) marks = marked_at places (slice_set marks at true)

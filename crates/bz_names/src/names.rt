@@ -3,7 +3,7 @@ ghost use Rattle.std.specs.Prelude.{◌≡◌, List, false, IfOk, map, replicate
 ghost use Rattle.bz_value.specs.declared.value.Item.{Item};
 ghost use Rattle.bz_rule.specs.Rules.{has_name};
 ghost use Rattle.bz_names.specs.Index.{IsIndexOf, places_from, places_of};
-ghost use Rattle.bz_names.specs.Held.{marked};
+ghost use Rattle.bz_names.specs.Held.{marked_at};
 
 use crate::places::{Places, all_places, places_of};
 use bz_items::Memory;
@@ -21,7 +21,7 @@ fn mark_place(marks: &mut [bool], at: usize)
 }
 
 fn mark_places(marks: &mut [bool], places: &[usize])
-    ensures { marks.new ≡ marked places.now marks.old }
+    ensures { marks.new ≡ marked_at places.now marks.old }
 {
     for at in places {
         mark_place(marks, *at);
@@ -30,7 +30,7 @@ fn mark_places(marks: &mut [bool], places: &[usize])
 
 /// So many marks, of which those at the places are set.
 fn marks_at(alloc: Global, count: usize, places: &[usize]) -> Result<Vec<bool>, Memory>
-    ensures { IfOk result (λ marks. marks.items ≡ marked places.now (replicate count false)) }
+    ensures { IfOk result (λ marks. marks.items ≡ marked_at places.now (replicate count false)) }
 {
     let mut marks = vec![in alloc; false; count]?;
     mark_places(marks.as_mut_slice(), places);

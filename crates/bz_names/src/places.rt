@@ -4,7 +4,7 @@ ghost use Rattle.std.specs.Option.{option_copied};
 ghost use Rattle.bz_items.specs.Characters.{Bytes};
 ghost use Rattle.bz_rule.specs.Rules.{has_name};
 ghost use Rattle.bz_names.specs.Index.{places_from, places_of};
-ghost use Rattle.bz_names.specs.Held.{AddsPlace, held, name_in};
+ghost use Rattle.bz_names.specs.Held.{AddsPlace, held, held_name};
 
 use bz_items::Memory;
 use bz_rule::{call_of, is_named, name_of};
@@ -17,8 +17,8 @@ pub(crate) type Places = HashMap<Vec<u8>, Vec<usize>>;
 
 /// The name of an item, where it is a rule that has one.
 #[tactic(auto, using(crate::proofs::NamedItems::name_of_call))]
-fn name_in(item: &Item) -> Option<&[u8]>
-    ensures { option_copied result ≡ name_in item.now }
+fn held_name(item: &Item) -> Option<&[u8]>
+    ensures { option_copied result ≡ held_name item.now }
 {
     match call_of(item) {
         Some(call) if is_named(call.function) => name_of(&call),
@@ -65,7 +65,7 @@ fn push_place(alloc: Global, places: &mut Places, name: &[u8], at: usize) -> Res
 fn push_item(alloc: Global, places: &mut Places, item: &Item, at: usize) -> Result<(), Memory>
     ensures { OnOk result (AddsPlace (λ name. has_name name item.now) at places.old.entries places.new.entries) }
 {
-    match name_in(item) {
+    match held_name(item) {
         Some(name) => push_place(alloc, places, name, at),
         None => Ok(()),
     }

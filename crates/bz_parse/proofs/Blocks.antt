@@ -17,9 +17,9 @@ use Rattle.bz_tree.specs.declared.tree.Part.TheVariants as v
 use Rattle.bz_states.specs.declared.state.NodeState.{NodeState}
 use Rattle.bz_parse.specs.declared.indented.Header.{Header}
 use Rattle.bz_parse.specs.declared.indented.Header.TheVariants as h
-use Rattle.bz_tree.specs.Shapes.{Terminal, is_one_of, line, stmt, end, newline, keyword, tok, done}
+use Rattle.bz_tree.specs.Shapes.{Terminal, is_one_of, line, stmt, end, newline, one_keyword, tok, done}
 use Rattle.bz_tree.specs.Indents.{first_indent}
-use Rattle.bz_tree.specs.Reading.{◌>>=◌, Plan, starts_with, starts, put, run, wrap, node, token_of, reading}
+use Rattle.bz_tree.specs.Reading.{◌>>=◌, Plan, starts_with, starts, with_part_first, run, wrap, node_part, token_part, reading}
 use Rattle.bz_tree.specs.Suites.{test_header, stands_at, begins_at, is_deeper, put_all, alone, while_next, with_suite, branches_of, statement, suite_of, if_all, read_file}
 use Rattle.bz_states.specs.Tokens.{token_at, Fails}
 use Rattle.bz_parse.specs.Words.{part_at, found_by, Pushes, found_from}
@@ -70,12 +70,12 @@ memory_fails (Err halt.Unexpected) o h = absurd cc
 -- ---- nodes of what was put
 
 pub closed : {X : Type 0} (result : Result X ParseHalt) (kind : Kind) (o : Option (List Part × List Leaf)) (o' : Option (Part × List Leaf)) (front all all' : List Part) (new : List Leaf) (from : ℕ)
-    → o' ≡ wrap kind o → PutsAll o front all new → from ≡ length front → OnOk result (all' ≡ take from all ++ node kind (drop from all) ∷ []) → OnOk result (PutsOne o' front all' new)
+    → o' ≡ wrap kind o → PutsAll o front all new → from ≡ length front → OnOk result (all' ≡ take from all ++ node_part kind (drop from all) ∷ []) → OnOk result (PutsOne o' front all' new)
 closed (Err x) kind o o' front all all' new from g w e f = tt
 closed (Ok x) kind o o' front all all' new from g w e f =
     let front_is : take from all ≡ front = ap (λ (n : ℕ). take n all) e ∙ ap (take (length front)) w.2 ∙ take-append_seam front w.0 in
     let back_is : drop from all ≡ w.0 = ap (λ (n : ℕ). drop n all) e ∙ ap (drop (length front)) w.2 ∙ drop-append_seam front w.0 in
-    (node kind w.0, g ∙ rw w.1 refl, f ∙ ap (λ (qs : List Part). qs ++ node kind (drop from all) ∷ []) front_is ∙ ap (λ (qs : List Part). front ++ node kind qs ∷ []) back_is)
+    (node_part kind w.0, g ∙ rw w.1 refl, f ∙ ap (λ (qs : List Part). qs ++ node_part kind (drop from all) ∷ []) front_is ∙ ap (λ (qs : List Part). front ++ node_part kind qs ∷ []) back_is)
 
 pub wrap_none : (kind : Kind) (o : Option (List Part × List Leaf)) → o ≡ None → wrap kind o ≡ None
 wrap_none kind o e = rw e refl
@@ -96,25 +96,25 @@ module _ (d : ℕ) (i : List ℕ) (ts : List Leaf) where
   suite_zero e = ap (λ (n : ℕ). suite_of n i ts) e
 
   module _ (pos : d ≡ 0 → ⊥) where
-    pub statement_def : starts_with (keyword (codes "def")) ts ≡ true → statement_at d i ts ≡ wrap k.Def (owner_at (d - 1) h.Def i ts)
+    pub statement_def : starts_with (one_keyword (codes "def")) ts ≡ true → statement_at d i ts ≡ wrap k.Def (owner_at (d - 1) h.Def i ts)
     unfolding statement_at owner_at
-    statement_def a = ap (λ (n : ℕ). statement n i ts) (one_less d pos) ∙ cond-true (starts_with (keyword (codes "def")) ts) _ _ a
+    statement_def a = ap (λ (n : ℕ). statement n i ts) (one_less d pos) ∙ cond-true (starts_with (one_keyword (codes "def")) ts) _ _ a
 
-    pub statement_if : starts_with (keyword (codes "def")) ts ≡ false → starts_with (keyword (codes "if")) ts ≡ true → statement_at d i ts ≡ wrap k.IfStmt (if_at (d - 1) i ts)
+    pub statement_if : starts_with (one_keyword (codes "def")) ts ≡ false → starts_with (one_keyword (codes "if")) ts ≡ true → statement_at d i ts ≡ wrap k.IfStmt (if_at (d - 1) i ts)
     unfolding statement_at owner_at if_at branches_at
-    statement_if a b = ap (λ (n : ℕ). statement n i ts) (one_less d pos) ∙ cond-false (starts_with (keyword (codes "def")) ts) _ _ a ∙ cond-true (starts_with (keyword (codes "if")) ts) _ _ b
+    statement_if a b = ap (λ (n : ℕ). statement n i ts) (one_less d pos) ∙ cond-false (starts_with (one_keyword (codes "def")) ts) _ _ a ∙ cond-true (starts_with (one_keyword (codes "if")) ts) _ _ b
 
-    pub statement_for : starts_with (keyword (codes "def")) ts ≡ false → starts_with (keyword (codes "if")) ts ≡ false → starts_with (keyword (codes "for")) ts ≡ true → statement_at d i ts ≡ wrap k.ForStmt (owner_at (d - 1) h.For i ts)
+    pub statement_for : starts_with (one_keyword (codes "def")) ts ≡ false → starts_with (one_keyword (codes "if")) ts ≡ false → starts_with (one_keyword (codes "for")) ts ≡ true → statement_at d i ts ≡ wrap k.ForStmt (owner_at (d - 1) h.For i ts)
     unfolding statement_at owner_at
-    statement_for a b c = ap (λ (n : ℕ). statement n i ts) (one_less d pos) ∙ cond-false (starts_with (keyword (codes "def")) ts) _ _ a ∙ cond-false (starts_with (keyword (codes "if")) ts) _ _ b ∙ cond-true (starts_with (keyword (codes "for")) ts) _ _ c
+    statement_for a b c = ap (λ (n : ℕ). statement n i ts) (one_less d pos) ∙ cond-false (starts_with (one_keyword (codes "def")) ts) _ _ a ∙ cond-false (starts_with (one_keyword (codes "if")) ts) _ _ b ∙ cond-true (starts_with (one_keyword (codes "for")) ts) _ _ c
 
-    pub statement_line : starts_with (keyword (codes "def")) ts ≡ false → starts_with (keyword (codes "if")) ts ≡ false → starts_with (keyword (codes "for")) ts ≡ false → statement_at d i ts ≡ part_at d line ts
+    pub statement_line : starts_with (one_keyword (codes "def")) ts ≡ false → starts_with (one_keyword (codes "if")) ts ≡ false → starts_with (one_keyword (codes "for")) ts ≡ false → statement_at d i ts ≡ part_at d line ts
     unfolding statement_at part_at
-    statement_line a b c = ap (λ (n : ℕ). statement n i ts) (one_less d pos) ∙ cond-false (starts_with (keyword (codes "def")) ts) _ _ a ∙ cond-false (starts_with (keyword (codes "if")) ts) _ _ b ∙ cond-false (starts_with (keyword (codes "for")) ts) _ _ c ∙ ap (λ (n : ℕ). reading n line ts) (sym (one_less d pos))
+    statement_line a b c = ap (λ (n : ℕ). statement n i ts) (one_less d pos) ∙ cond-false (starts_with (one_keyword (codes "def")) ts) _ _ a ∙ cond-false (starts_with (one_keyword (codes "if")) ts) _ _ b ∙ cond-false (starts_with (one_keyword (codes "for")) ts) _ _ c ∙ ap (λ (n : ℕ). reading n line ts) (sym (one_less d pos))
 
 -- ---- statements at an indent
 
-put_all_put : (xs : List Part) (x : Part) (o : Option (List Part × List Leaf)) → put_all xs (put x o) ≡ put_all (xs ++ x ∷ []) o
+put_all_put : (xs : List Part) (x : Part) (o : Option (List Part × List Leaf)) → put_all xs (with_part_first x o) ≡ put_all (xs ++ x ∷ []) o
 put_all_put xs x None = refl
 put_all_put xs x (Some y) = ap (λ (qs : List Part). Some (qs, y.1)) (sym (append_assoc xs (x ∷ []) y.0))
 
@@ -137,25 +137,25 @@ module _ (d : ℕ) (i : List ℕ) where
   while_same (suc n) zero [] a b = refl
   while_same (suc n) zero (t ∷ ts) a b = absurd (omega arith)
   while_same (suc n) (suc m) ts a b =
-      while_by ts (λ x. put x.0 (while_next n (begins_at i) (statement d i) x.1)) (λ x. put x.0 (while_next m (begins_at i) (statement d i) x.1))
-      (λ x t. ap (put x.0) (while_same n m x.1 (omega (arith, t)) (omega (arith, t)))) (begins_at i ts) refl
+      while_by ts (λ x. with_part_first x.0 (while_next n (begins_at i) (statement d i) x.1)) (λ x. with_part_first x.0 (while_next m (begins_at i) (statement d i) x.1))
+      (λ x t. ap (with_part_first x.0) (while_same n m x.1 (omega (arith, t)) (omega (arith, t)))) (begins_at i ts) refl
 
   pub rows_end : (ts : List Leaf) → begins_at i ts ≡ false → statements_at d i ts ≡ Some ([], ts)
   unfolding statements_at
   rows_end ts e = while_same (length ts) (suc (length ts)) ts (omega arith) (omega arith) ∙ cond-false (begins_at i ts) _ _ e
 
-  rows_step : (ts : List Leaf) → begins_at i ts ≡ true → statements_at d i ts ≡ (statement_at d i ts >>= λ x. put x.0 (statements_at d i x.1))
+  rows_step : (ts : List Leaf) → begins_at i ts ≡ true → statements_at d i ts ≡ (statement_at d i ts >>= λ x. with_part_first x.0 (statements_at d i x.1))
   unfolding statements_at statement_at
   rows_step ts e =
       while_same (length ts) (suc (length ts)) ts (omega arith) (omega arith) ∙ cond-true (begins_at i ts) _ _ e ∙
-      bind_same (statement d i ts) (λ x. put x.0 (while_next (length ts) (begins_at i) (statement d i) x.1)) (λ x. put x.0 (while_next (length x.1) (begins_at i) (statement d i) x.1))
-      (λ x g. let t = statement_takes d i ts x (begins_there ts e) g in ap (put x.0) (while_same (length ts) (length x.1) x.1 (omega (arith, t)) (omega arith)))
+      bind_same (statement d i ts) (λ x. with_part_first x.0 (while_next (length ts) (begins_at i) (statement d i) x.1)) (λ x. with_part_first x.0 (while_next (length x.1) (begins_at i) (statement d i) x.1))
+      (λ x g. let t = statement_takes d i ts x (begins_there ts e) g in ap (with_part_first x.0) (while_same (length ts) (length x.1) x.1 (omega (arith, t)) (omega arith)))
 
   pub rows_go : (xs : List Part) (ts rest : List Leaf) (x : Part) → begins_at i ts ≡ true → statement_at d i ts ≡ Some (x, rest) → put_all (xs ++ x ∷ []) (statements_at d i rest) ≡ put_all xs (statements_at d i ts)
-  rows_go xs ts rest x e g = sym (ap (put_all xs) (rows_step ts e ∙ ap (λ (o : Option (Part × List Leaf)). o >>= λ x. put x.0 (statements_at d i x.1)) g) ∙ put_all_put xs x (statements_at d i rest))
+  rows_go xs ts rest x e g = sym (ap (put_all xs) (rows_step ts e ∙ ap (λ (o : Option (Part × List Leaf)). o >>= λ x. with_part_first x.0 (statements_at d i x.1)) g) ∙ put_all_put xs x (statements_at d i rest))
 
   pub rows_none : (xs : List Part) (ts : List Leaf) → begins_at i ts ≡ true → statement_at d i ts ≡ None → put_all xs (statements_at d i ts) ≡ None
-  rows_none xs ts e g = ap (put_all xs) (rows_step ts e ∙ ap (λ (o : Option (Part × List Leaf)). o >>= λ x. put x.0 (statements_at d i x.1)) g)
+  rows_none xs ts e g = ap (put_all xs) (rows_step ts e ∙ ap (λ (o : Option (Part × List Leaf)). o >>= λ x. with_part_first x.0 (statements_at d i x.1)) g)
 
   pub rows_shorter : (ts rest : List Leaf) (x : Part) → begins_at i ts ≡ true → statement_at d i ts ≡ Some (x, rest) → suc (length rest) ≤ length ts
   unfolding statement_at
@@ -181,9 +181,9 @@ suite_line d i ts pos h = ap (λ (n : ℕ). suite_of n i ts) (one_less d pos) �
 
 -- the statements of a suite at an indent, behind its newline
 abbrev block : ℕ → List ℕ → Part × List Leaf → Option (Part × List Leaf)
-block d i y = cond (is_deeper i (first_indent y.1) && begins_at (first_indent y.1) y.1) (wrap k.Suite (put y.0 (while_next (length y.1) (begins_at (first_indent y.1)) (statement d (first_indent y.1)) y.1))) None
+block d i y = cond (is_deeper i (first_indent y.1) && begins_at (first_indent y.1) y.1) (wrap k.Suite (with_part_first y.0 (while_next (length y.1) (begins_at (first_indent y.1)) (statement d (first_indent y.1)) y.1))) None
 
-suite_front : (d : ℕ) (i : List ℕ) (ts : List Leaf) (y : Part × List Leaf) → token_of newline ts ≡ Some y → suite_of (suc d) i ts ≡ block d i y
+suite_front : (d : ℕ) (i : List ℕ) (ts : List Leaf) (y : Part × List Leaf) → token_part newline ts ≡ Some y → suite_of (suc d) i ts ≡ block d i y
 suite_front d i [] y e = absurd (none-some y e)
 suite_front d i (t ∷ ts) y e =
     let w = if_some (is_one_of newline t) (Some (v.Leaf t, ts)) y e in
@@ -198,7 +198,7 @@ module _ (d : ℕ) (i : List ℕ) (ts : List Leaf) (pos : d ≡ 0 → ⊥) where
   unfolding token_at
   suite_no_newline h e = absurd (none_here ts h e)
     where
-      none_here : (us : List Leaf) → starts_with newline us ≡ true → token_of newline us ≡ None → ⊥
+      none_here : (us : List Leaf) → starts_with newline us ≡ true → token_part newline us ≡ None → ⊥
       none_here [] g f = both_ways false refl g
       none_here (u ∷ us) g f = none-some (v.Leaf u, us) (sym f ∙ cond-true (is_one_of newline u) (Some (v.Leaf u, us)) None g)
 
@@ -207,11 +207,11 @@ module _ (d : ℕ) (i : List ℕ) (ts : List Leaf) (pos : d ≡ 0 → ⊥) where
     unfolding suite_at token_at
     suite_block = ap (λ (n : ℕ). suite_of n i ts) (one_less d pos) ∙ suite_front (d - 1) i ts (x, us) e
 
-    pub suite_rows : is_deeper i j ≡ true → starts_with (starts stmt) us ≡ true → suite_at d i ts ≡ wrap k.Suite (put x (statements_at (d - 1) j us))
+    pub suite_rows : is_deeper i j ≡ true → starts_with (starts stmt) us ≡ true → suite_at d i ts ≡ wrap k.Suite (with_part_first x (statements_at (d - 1) j us))
     unfolding statements_at
     suite_rows h g =
         suite_block ∙ cond-true (is_deeper i (first_indent us) && begins_at (first_indent us) us) _ _ (and_from (is_deeper i (first_indent us)) _ (ap (is_deeper i) (sym here) ∙ h) (and_from (starts_with (starts stmt) us) _ g (text_same (first_indent us) (first_indent us) refl))) ∙
-        ap (λ (z : List ℕ). wrap k.Suite (put x (while_next (length us) (begins_at z) (statement (d - 1) z) us))) (sym here)
+        ap (λ (z : List ℕ). wrap k.Suite (with_part_first x (while_next (length us) (begins_at z) (statement (d - 1) z) us))) (sym here)
 
     pub suite_not_deeper : is_deeper i j ≡ false → suite_at d i ts ≡ None
     suite_not_deeper h = suite_block ∙ cond-false (is_deeper i (first_indent us) && begins_at (first_indent us) us) _ _ (ap (λ (b : Bool). b && begins_at (first_indent us) us) (ap (is_deeper i) (sym here) ∙ h))
@@ -220,20 +220,20 @@ module _ (d : ℕ) (i : List ℕ) (ts : List Leaf) (pos : d ≡ 0 → ⊥) where
     suite_no_statement g = suite_block ∙ cond-false (is_deeper i (first_indent us) && begins_at (first_indent us) us) _ _ (no_and (is_deeper i (first_indent us)) _ (ap (λ (b : Bool). b && bytes_eq (first_indent us) (first_indent us)) g))
 
 -- a token in front of parts
-pub token_put : (s : List Terminal) (ts us vs : List Leaf) (o : Option (List Part × List Leaf)) (front all all' : List Part) (m : ℕ) (w : Pushes (token_at s ts) front all us m) → PutsAll o all all' vs → PutsAll (put w.0 o) front all' vs
-token_put s ts us vs o front all all' m w u = (w.0 ∷ u.0, ap (put w.0) u.1, u.2 ∙ ap (λ (qs : List Part). qs ++ u.0) w.2 ∙ append_assoc front (w.0 ∷ []) u.0)
+pub token_put : (s : List Terminal) (ts us vs : List Leaf) (o : Option (List Part × List Leaf)) (front all all' : List Part) (m : ℕ) (w : Pushes (token_at s ts) front all us m) → PutsAll o all all' vs → PutsAll (with_part_first w.0 o) front all' vs
+token_put s ts us vs o front all all' m w u = (w.0 ∷ u.0, ap (with_part_first w.0) u.1, u.2 ∙ ap (λ (qs : List Part). qs ++ u.0) w.2 ∙ append_assoc front (w.0 ∷ []) u.0)
 
-pub put_none : (x : Part) (o : Option (List Part × List Leaf)) → o ≡ None → wrap k.Suite (put x o) ≡ None
-put_none x o e = ap (λ (z : Option (List Part × List Leaf)). wrap k.Suite (put x z)) e
+pub put_none : (x : Part) (o : Option (List Part × List Leaf)) → o ≡ None → wrap k.Suite (with_part_first x o) ≡ None
+put_none x o e = ap (λ (z : Option (List Part × List Leaf)). wrap k.Suite (with_part_first x z)) e
 
 -- ---- elif and else
 
 module _ (d : ℕ) (i : List ℕ) where
   abbrev elif_with : List Leaf → Option (List Part × List Leaf)
-  elif_with ts = with_suite (run (reading d) (test_header (keyword (codes "elif")))) (suite_of d i) ts
+  elif_with ts = with_suite (run (reading d) (test_header (one_keyword (codes "elif")))) (suite_of d i) ts
 
   elif_takes : (ts : List Leaf) (y : List Part × List Leaf) → elif_with ts ≡ Some y → suc (length y.1) ≤ length ts
-  elif_takes ts y e = owner_takes d i (test_header (keyword (codes "elif"))) refl refl refl ts y e
+  elif_takes ts y e = owner_takes d i (test_header (one_keyword (codes "elif"))) refl refl refl ts y e
 
   branch_by : (ts : List Leaf) (f g : List Part × List Leaf → Option (List Part × List Leaf)) (o : Option (List Part × List Leaf)) → ((x : List Part × List Leaf) → suc (length x.1) ≤ length ts → f x ≡ g x) → (c : Bool) → cond c (elif_with ts >>= f) o ≡ cond c (elif_with ts >>= g) o
   branch_by ts f g o h false = refl
@@ -250,22 +250,22 @@ module _ (d : ℕ) (i : List ℕ) where
   branches_same (suc n) zero (t ∷ ts) a b = absurd (omega arith)
   branches_same (suc n) (suc m) ts a b =
       branch_by ts (λ x. put_all x.0 (rest_of n x.1)) (λ x. put_all x.0 (rest_of m x.1)) _
-      (λ x t. ap (put_all x.0) (branches_same n m x.1 (omega (arith, t)) (omega (arith, t)))) (stands_at (keyword (codes "elif")) i ts)
+      (λ x t. ap (put_all x.0) (branches_same n m x.1 (omega (arith, t)) (omega (arith, t)))) (stands_at (one_keyword (codes "elif")) i ts)
 
-  branches_step : (ts : List Leaf) → stands_at (keyword (codes "elif")) i ts ≡ true → branches_at d i ts ≡ (owner_at d h.Elif i ts >>= λ x. put_all x.0 (branches_at d i x.1))
+  branches_step : (ts : List Leaf) → stands_at (one_keyword (codes "elif")) i ts ≡ true → branches_at d i ts ≡ (owner_at d h.Elif i ts >>= λ x. put_all x.0 (branches_at d i x.1))
   unfolding branches_at owner_at
   branches_step ts e =
-      branches_same (length ts) (suc (length ts)) ts (omega arith) (omega arith) ∙ cond-true (stands_at (keyword (codes "elif")) i ts) _ _ e ∙
+      branches_same (length ts) (suc (length ts)) ts (omega arith) (omega arith) ∙ cond-true (stands_at (one_keyword (codes "elif")) i ts) _ _ e ∙
       bind_same (elif_with ts) (λ x. put_all x.0 (rest_of (length ts) x.1)) (λ x. put_all x.0 (rest_of (length x.1) x.1))
       (λ x r. let t = elif_takes ts x r in ap (put_all x.0) (branches_same (length ts) (length x.1) x.1 (omega (arith, t)) (omega arith)))
 
-  branches_last : (ts : List Leaf) → stands_at (keyword (codes "elif")) i ts ≡ false → stands_at (keyword (codes "else")) i ts ≡ true → branches_at d i ts ≡ owner_at d h.Else i ts
+  branches_last : (ts : List Leaf) → stands_at (one_keyword (codes "elif")) i ts ≡ false → stands_at (one_keyword (codes "else")) i ts ≡ true → branches_at d i ts ≡ owner_at d h.Else i ts
   unfolding branches_at owner_at
-  branches_last ts e f = branches_same (length ts) (suc (length ts)) ts (omega arith) (omega arith) ∙ cond-false (stands_at (keyword (codes "elif")) i ts) _ _ e ∙ cond-true (stands_at (keyword (codes "else")) i ts) _ _ f
+  branches_last ts e f = branches_same (length ts) (suc (length ts)) ts (omega arith) (omega arith) ∙ cond-false (stands_at (one_keyword (codes "elif")) i ts) _ _ e ∙ cond-true (stands_at (one_keyword (codes "else")) i ts) _ _ f
 
-  branches_none : (ts : List Leaf) → stands_at (keyword (codes "elif")) i ts ≡ false → stands_at (keyword (codes "else")) i ts ≡ false → branches_at d i ts ≡ Some ([], ts)
+  branches_none : (ts : List Leaf) → stands_at (one_keyword (codes "elif")) i ts ≡ false → stands_at (one_keyword (codes "else")) i ts ≡ false → branches_at d i ts ≡ Some ([], ts)
   unfolding branches_at
-  branches_none ts e f = branches_same (length ts) (suc (length ts)) ts (omega arith) (omega arith) ∙ cond-false (stands_at (keyword (codes "elif")) i ts) _ _ e ∙ cond-false (stands_at (keyword (codes "else")) i ts) _ _ f
+  branches_none ts e f = branches_same (length ts) (suc (length ts)) ts (omega arith) (omega arith) ∙ cond-false (stands_at (one_keyword (codes "elif")) i ts) _ _ e ∙ cond-false (stands_at (one_keyword (codes "else")) i ts) _ _ f
 
   pub if_begins : (ts new : List Leaf) (xs : List Part) → owner_at d h.If i ts ≡ Some (xs, new) → put_all xs (branches_at d i new) ≡ if_at d i ts
   unfolding if_at
@@ -275,35 +275,35 @@ module _ (d : ℕ) (i : List ℕ) where
   unfolding if_at
   if_none ts e = ap (λ (o : Option (List Part × List Leaf)). o >>= λ x. put_all x.0 (branches_at d i x.1)) e
 
-  pub elif_goes : (xs ys : List Part) (ts rest : List Leaf) → stands_at (keyword (codes "elif")) i ts ≡ true → owner_at d h.Elif i ts ≡ Some (ys, rest) → put_all (xs ++ ys) (branches_at d i rest) ≡ put_all xs (branches_at d i ts)
+  pub elif_goes : (xs ys : List Part) (ts rest : List Leaf) → stands_at (one_keyword (codes "elif")) i ts ≡ true → owner_at d h.Elif i ts ≡ Some (ys, rest) → put_all (xs ++ ys) (branches_at d i rest) ≡ put_all xs (branches_at d i ts)
   elif_goes xs ys ts rest e g = sym (ap (put_all xs) (branches_step ts e ∙ ap (λ (o : Option (List Part × List Leaf)). o >>= λ x. put_all x.0 (branches_at d i x.1)) g) ∙ put_all_twice xs ys (branches_at d i rest))
 
-  pub elif_none : (xs : List Part) (ts : List Leaf) → stands_at (keyword (codes "elif")) i ts ≡ true → owner_at d h.Elif i ts ≡ None → put_all xs (branches_at d i ts) ≡ None
+  pub elif_none : (xs : List Part) (ts : List Leaf) → stands_at (one_keyword (codes "elif")) i ts ≡ true → owner_at d h.Elif i ts ≡ None → put_all xs (branches_at d i ts) ≡ None
   elif_none xs ts e g = ap (put_all xs) (branches_step ts e ∙ ap (λ (o : Option (List Part × List Leaf)). o >>= λ x. put_all x.0 (branches_at d i x.1)) g)
 
   pub elif_shorter : (ts rest : List Leaf) (ys : List Part) → owner_at d h.Elif i ts ≡ Some (ys, rest) → suc (length rest) ≤ length ts
   unfolding owner_at
   elif_shorter ts rest ys e = elif_takes ts (ys, rest) e
 
-  pub else_goes : (xs : List Part) (ts : List Leaf) (o : Option (List Part × List Leaf)) → stands_at (keyword (codes "elif")) i ts ≡ false → stands_at (keyword (codes "else")) i ts ≡ true → owner_at d h.Else i ts ≡ o → put_all xs (branches_at d i ts) ≡ put_all xs o
+  pub else_goes : (xs : List Part) (ts : List Leaf) (o : Option (List Part × List Leaf)) → stands_at (one_keyword (codes "elif")) i ts ≡ false → stands_at (one_keyword (codes "else")) i ts ≡ true → owner_at d h.Else i ts ≡ o → put_all xs (branches_at d i ts) ≡ put_all xs o
   else_goes xs ts o e f g = ap (put_all xs) (branches_last ts e f ∙ g)
 
   pub else_puts : {X : Type 0} (result : Result X ParseHalt) (xs front stack all : List Part) (ts new : List Leaf) (o : Option (List Part × List Leaf)) → stack ≡ front ++ xs → put_all xs (branches_at d i ts) ≡ o →
-      stands_at (keyword (codes "elif")) i ts ≡ false → stands_at (keyword (codes "else")) i ts ≡ true → OnOk result (PutsAll (owner_at d h.Else i ts) stack all new) → OnOk result (PutsAll o front all new)
+      stands_at (one_keyword (codes "elif")) i ts ≡ false → stands_at (one_keyword (codes "else")) i ts ≡ true → OnOk result (PutsAll (owner_at d h.Else i ts) stack all new) → OnOk result (PutsAll o front all new)
   else_puts (Err x) xs front stack all ts new o s g e f w = tt
   else_puts (Ok x) xs front stack all ts new o s g e f w =
       (xs ++ w.0, sym g ∙ else_goes xs ts (Some (w.0, new)) e f w.1, w.2 ∙ ap (λ (qs : List Part). qs ++ w.0) s ∙ append_assoc front xs w.0)
 
-  pub branches_done : (xs : List Part) (ts : List Leaf) → stands_at (keyword (codes "elif")) i ts ≡ false → stands_at (keyword (codes "else")) i ts ≡ false → put_all xs (branches_at d i ts) ≡ Some (xs, ts)
+  pub branches_done : (xs : List Part) (ts : List Leaf) → stands_at (one_keyword (codes "elif")) i ts ≡ false → stands_at (one_keyword (codes "else")) i ts ≡ false → put_all xs (branches_at d i ts) ≡ Some (xs, ts)
   branches_done xs ts e f = ap (put_all xs) (branches_none ts e f) ∙ ap (λ (qs : List Part). Some (qs, ts)) (append-nil xs)
 
 -- ---- a whole file
 
-end_run : (d : ℕ) (us : List Leaf) → run (reading d) (tok end done) us ≡ alone (token_of end us)
+end_run : (d : ℕ) (us : List Leaf) → run (reading d) (tok end done) us ≡ alone (token_part end us)
 end_run d [] = refl
 end_run d (t ∷ us) = by (is_one_of end t)
   where
-    by : (b : Bool) → cond b (put (v.Leaf t) (Some ([], us))) None ≡ alone (cond b (Some (v.Leaf t, us)) None)
+    by : (b : Bool) → cond b (with_part_first (v.Leaf t) (Some ([], us))) None ≡ alone (cond b (Some (v.Leaf t, us)) None)
     by true = refl
     by false = refl
 

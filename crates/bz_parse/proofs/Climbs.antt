@@ -26,8 +26,8 @@ use Rattle.bz_parse.specs.declared.indented.Header.{Header}
 use Rattle.bz_states.specs.declared.state.RoundAt.TheVariants as round_at
 use Rattle.bz_states.specs.declared.state.SuffixAt.TheVariants as suffix_at
 use Rattle.bz_states.specs.declared.state.StatementAt.TheVariants as statement_at
-use Rattle.bz_tree.specs.Shapes.{Terminal, has_token, Sort, level, argument, entry, clause, first_clause, loaded, small, line, param, Shape, done, tok, list, starred, bzl_shape, name, simple, string, equals, stars, products, sums, shifts, comma, open_round, open_square, open_curly}
-use Rattle.bz_tree.specs.Reading.{◌>>=◌, Read, starts_with, first, put, run, finish, first_of, Found, as_kind, put_found, follow, node, wrap, wrap_found, infix_at, fits_in, suffixes, climb, named_tail, param_tail, token_of, reading, round, square, curly, suffix, clause_plan, small_plan}
+use Rattle.bz_tree.specs.Shapes.{Terminal, has_token, Sort, level, argument, entry, clause, first_clause, loaded, small, line, param, Shape, done, tok, list, starred, bzl_shape, name, simple, string, equals, stars, products, sums, shifts, comma_mark, open_round, open_square, open_curly}
+use Rattle.bz_tree.specs.Reading.{◌>>=◌, Read, starts_with, first, with_part_first, run, finish, first_of, FoundLevel, as_kind, put_found, follow, node_part, wrap, wrap_found, infix_at, fits_in, suffixes, climb, named_tail, param_tail, token_part, reading, round, square, curly, suffix_plan, clause_plan, small_plan}
 use Rattle.bz_states.specs.Tokens.{terminals_of, token_at, Halts, Fails}
 use Rattle.bz_parse.specs.Words.{part_at, with_found, found_by, found_from}
 use Rattle.bz_states.specs.States.{sort_of, compare_tail, cond_tail, rung_of}
@@ -49,15 +49,15 @@ wrapped : (kind : Kind) (o : Option (List Part × List Leaf)) → wrap kind o �
 wrapped kind None = refl
 wrapped kind (Some x) = refl
 
-wrapped_one : (kind : Kind) (a : Part) (o : Option (List Part × List Leaf)) → wrap kind (put a o) ≡ wrap_found (with_found (a ∷ []) (as_kind kind o))
+wrapped_one : (kind : Kind) (a : Part) (o : Option (List Part × List Leaf)) → wrap kind (with_part_first a o) ≡ wrap_found (with_found (a ∷ []) (as_kind kind o))
 wrapped_one kind a None = refl
 wrapped_one kind a (Some x) = refl
 
-found_plain : (o : Option (Found × List Leaf)) → wrap_found o ≡ wrap_found (with_found [] o)
+found_plain : (o : Option (FoundLevel × List Leaf)) → wrap_found o ≡ wrap_found (with_found [] o)
 found_plain None = refl
 found_plain (Some x) = refl
 
-found_one : (a : Part) (o : Option (Found × List Leaf)) → wrap_found (put_found a o) ≡ wrap_found (with_found (a ∷ []) o)
+found_one : (a : Part) (o : Option (FoundLevel × List Leaf)) → wrap_found (put_found a o) ≡ wrap_found (with_found (a ∷ []) o)
 found_one a None = refl
 found_one a (Some x) = refl
 
@@ -130,7 +130,7 @@ infix_is : (d : ℕ) (kind : Kind) (r : Shape) (n : ℕ) (ts : List Leaf) → in
     (level_at d n ts >>= λ a. cond (starts_with (first r) a.1) (cond (fits_in d a.0) (found_by d (a.0 ∷ []) (finish kind r) a.1) None) (Some (a.0, a.1)))
 unfolding level_at found_by
 infix_is d kind r n ts =
-    bind_same (climb d (reading d) n ts) (λ a. cond (starts_with (first r) a.1) (cond (fits_in d a.0) (wrap kind (put a.0 (run (reading d) r a.1))) None) (Some a))
+    bind_same (climb d (reading d) n ts) (λ a. cond (starts_with (first r) a.1) (cond (fits_in d a.0) (wrap kind (with_part_first a.0 (run (reading d) r a.1))) None) (Some a))
     (λ a. cond (starts_with (first r) a.1) (cond (fits_in d a.0) (wrap_found (with_found (a.0 ∷ []) (as_kind kind (run (reading d) r a.1)))) None) (Some (a.0, a.1)))
     (λ a e. ap (λ o. cond (starts_with (first r) a.1) (cond (fits_in d a.0) o None) (Some a)) (wrapped_one kind a.0 (run (reading d) r a.1)))
 
@@ -156,7 +156,7 @@ level_step d (suc (suc (suc (suc (suc (suc (suc (suc (suc zero))))))))) ts = inf
 level_step d (suc (suc (suc (suc (suc (suc (suc (suc (suc (suc zero)))))))))) ts = infix_is d k.Or (tail_of 10 (terminals_of t.Or)) 10 ts
 level_step d (suc (suc (suc (suc (suc (suc (suc (suc (suc (suc (suc zero))))))))))) ts = infix_is d k.Cond (tok (terminals_of t.If) cond_tail) 11 ts
 level_step d (suc (suc (suc (suc (suc (suc (suc (suc (suc (suc (suc (suc zero)))))))))))) ts = prefix_is d k.Lambda (bzl_shape k.Lambda) 12 ts
-level_step d (suc (suc (suc (suc (suc (suc (suc (suc (suc (suc (suc (suc (suc zero))))))))))))) ts = infix_is d k.Row (tail_of 13 comma) 13 ts
+level_step d (suc (suc (suc (suc (suc (suc (suc (suc (suc (suc (suc (suc (suc zero))))))))))))) ts = infix_is d k.Row (tail_of 13 comma_mark) 13 ts
 level_step d (suc (suc (suc (suc (suc (suc (suc (suc (suc (suc (suc (suc (suc (suc n)))))))))))))) ts = refl
 
 module _ (d n : ℕ) (ts : List Leaf) (h : n ≡ 0 → ⊥) where
@@ -223,15 +223,15 @@ pub primary_none : (d : ℕ) (ts : List Leaf) → atom_at d ts ≡ None → leve
 primary_none d ts e = primary_is d ts ∙ ap (λ (o : Option (Part × List Leaf)). o >>= λ a. suffixes_at d a.0 a.1) e
 
 abbrev suffixed : ℕ → Part → Read Part
-suffixed d a ts = wrap_found (put_found a (follow (reading d) suffix ts))
+suffixed d a ts = wrap_found (put_found a (follow (reading d) suffix_plan ts))
 
 suffixed_takes : (d : ℕ) (a : Part) (ts : List Leaf) (y : Part × List Leaf) → suffixed d a ts ≡ Some y → suc (length y.1) ≤ length ts
 suffixed_takes d a ts y e =
-    let w = wrap_found_some (put_found a (follow (reading d) suffix ts)) y e in
-    let p = put_found_some a (follow (reading d) suffix ts) w.0 w.1 in
-    let x = (plan_exact (At d) (begins d) goes (reading d) (reading_exact d) suffix refl).sound ts p.0 p.1 in
-    let some = full_front (first_of suffix) (all_leaves p.0.0.1) (not_empty_plan (At d) (begins d) suffix p.0.0.0 p.0.0.1 [] x.0 refl) in
-    omega (arith, ap length x.1, length-append (all_leaves p.0.0.1) p.0.1, ap (λ (z : Part × List Leaf). length z.1) w.2, ap (λ (z : Found × List Leaf). length z.1) p.2)
+    let w = wrap_found_some (put_found a (follow (reading d) suffix_plan ts)) y e in
+    let p = put_found_some a (follow (reading d) suffix_plan ts) w.0 w.1 in
+    let x = (plan_exact (At d) (begins d) goes (reading d) (reading_exact d) suffix_plan refl).sound ts p.0 p.1 in
+    let some = full_front (first_of suffix_plan) (all_leaves p.0.0.1) (not_empty_plan (At d) (begins d) suffix_plan p.0.0.0 p.0.0.1 [] x.0 refl) in
+    omega (arith, ap length x.1, length-append (all_leaves p.0.0.1) p.0.1, ap (λ (z : Part × List Leaf). length z.1) w.2, ap (λ (z : FoundLevel × List Leaf). length z.1) p.2)
 
 suffixes_same : (d n m : ℕ) (a : Part) (ts : List Leaf) → length ts ≤ n → length ts ≤ m → suffixes n d (reading d) a ts ≡ suffixes m d (reading d) a ts
 suffixes_same d zero zero a ts g h = refl
@@ -240,31 +240,31 @@ suffixes_same d zero (suc m) a (t ∷ ts) g h = absurd (omega arith)
 suffixes_same d (suc n) zero a [] g h = refl
 suffixes_same d (suc n) zero a (t ∷ ts) g h = absurd (omega arith)
 suffixes_same d (suc n) (suc m) a ts g h =
-    ap (λ o. cond (starts_with (first_of suffix) ts) (cond (fits_in d a) o None) (Some (a, ts)))
+    ap (λ o. cond (starts_with (first_of suffix_plan) ts) (cond (fits_in d a) o None) (Some (a, ts)))
     (bind_same (suffixed d a ts) (λ x. suffixes n d (reading d) x.0 x.1) (λ x. suffixes m d (reading d) x.0 x.1)
     (λ x e. suffixes_same d n m x.0 x.1 (omega (arith, suffixed_takes d a ts x e)) (omega (arith, suffixed_takes d a ts x e))))
 
 suffix_is : (d : ℕ) (a : Part) (ts : List Leaf) → found_from d (a ∷ []) (s.Suffix suffix_at.Begin) ts ≡ suffixed d a ts
 unfolding found_from found_by
-suffix_is d a ts = sym (found_one a (follow (reading d) suffix ts))
+suffix_is d a ts = sym (found_one a (follow (reading d) suffix_plan ts))
 
-suffix_step : (d : ℕ) (a : Part) (ts : List Leaf) → suffixes_at d a ts ≡ cond (starts_with (first_of suffix) ts) (cond (fits_in d a) (suffixed d a ts >>= λ x. suffixes_at d x.0 x.1) None) (Some (a, ts))
+suffix_step : (d : ℕ) (a : Part) (ts : List Leaf) → suffixes_at d a ts ≡ cond (starts_with (first_of suffix_plan) ts) (cond (fits_in d a) (suffixed d a ts >>= λ x. suffixes_at d x.0 x.1) None) (Some (a, ts))
 unfolding suffixes_at
 suffix_step d a ts =
     suffixes_same d (length ts) (suc (length ts)) a ts (omega arith) (omega arith) ∙
-    ap (λ o. cond (starts_with (first_of suffix) ts) (cond (fits_in d a) o None) (Some (a, ts)))
+    ap (λ o. cond (starts_with (first_of suffix_plan) ts) (cond (fits_in d a) o None) (Some (a, ts)))
     (bind_same (suffixed d a ts) (λ x. suffixes (length ts) d (reading d) x.0 x.1) (λ x. suffixes (length x.1) d (reading d) x.0 x.1)
     (λ x e. suffixes_same d (length ts) (length x.1) x.0 x.1 (omega (arith, suffixed_takes d a ts x e)) (omega arith)))
 
 module _ (d : ℕ) (a : Part) (ts : List Leaf) where
   pub suffix_stops : starts_with (terminals_of t.Suffixes) ts ≡ false → suffixes_at d a ts ≡ Some (a, ts)
-  suffix_stops h = suffix_step d a ts ∙ cond-false (starts_with (first_of suffix) ts) _ _ h
+  suffix_stops h = suffix_step d a ts ∙ cond-false (starts_with (first_of suffix_plan) ts) _ _ h
 
   pub suffix_unfit : starts_with (terminals_of t.Suffixes) ts ≡ true → cond (fits_in d a) (Some a) None ≡ None → suffixes_at d a ts ≡ None
-  suffix_unfit h f = suffix_step d a ts ∙ cond-true (starts_with (first_of suffix) ts) _ _ h ∙ unfit (fits_in d a) a _ f
+  suffix_unfit h f = suffix_step d a ts ∙ cond-true (starts_with (first_of suffix_plan) ts) _ _ h ∙ unfit (fits_in d a) a _ f
 
   suffix_reads : starts_with (terminals_of t.Suffixes) ts ≡ true → fits_in d a ≡ true → suffixes_at d a ts ≡ (found_from d (a ∷ []) (s.Suffix suffix_at.Begin) ts >>= λ x. suffixes_at d x.0 x.1)
-  suffix_reads h f = suffix_step d a ts ∙ cond-true (starts_with (first_of suffix) ts) _ _ h ∙ cond-true (fits_in d a) _ _ f ∙ ap (λ (o : Option (Part × List Leaf)). o >>= λ x. suffixes_at d x.0 x.1) (sym (suffix_is d a ts))
+  suffix_reads h f = suffix_step d a ts ∙ cond-true (starts_with (first_of suffix_plan) ts) _ _ h ∙ cond-true (fits_in d a) _ _ f ∙ ap (λ (o : Option (Part × List Leaf)). o >>= λ x. suffixes_at d x.0 x.1) (sym (suffix_is d a ts))
 
   pub suffix_goes : (x : Part) (rest : List Leaf) → starts_with (terminals_of t.Suffixes) ts ≡ true → fits_in d a ≡ true → found_from d (a ∷ []) (s.Suffix suffix_at.Begin) ts ≡ Some (x, rest) → suffixes_at d x rest ≡ suffixes_at d a ts
   suffix_goes x rest h f e = sym (suffix_reads h f ∙ ap (λ (o : Option (Part × List Leaf)). o >>= λ x. suffixes_at d x.0 x.1) e)
@@ -289,7 +289,7 @@ module _ (d : ℕ) (ts : List Leaf) where
   unfolding argument_at found_from found_by level_at
   named_is h =
       cond-false (starts_with stars ts) _ _ h ∙
-      bind_same (climb d (reading d) 13 ts) (λ a. cond (starts_with equals a.1) (cond (has_token name a.0) (wrap k.Named (put a.0 (run (reading d) named_tail a.1))) None) (Some a))
+      bind_same (climb d (reading d) 13 ts) (λ a. cond (starts_with equals a.1) (cond (has_token name a.0) (wrap k.Named (with_part_first a.0 (run (reading d) named_tail a.1))) None) (Some a))
       (λ a. cond (starts_with equals a.1) (cond (has_token name a.0) (wrap_found (with_found (a.0 ∷ []) (as_kind k.Named (run (reading d) named_tail a.1)))) None) (Some a))
       (λ a e. ap (λ o. cond (starts_with equals a.1) (cond (has_token name a.0) o None) (Some a)) (wrapped_one k.Named a.0 (run (reading d) named_tail a.1)))
 
@@ -330,7 +330,7 @@ module _ (d : ℕ) (ts : List Leaf) where
   unfolding param_at found_from found_by token_at
   valued_is h =
       cond-false (starts_with stars ts) _ _ h ∙
-      bind_same (token_of name ts) (λ a. cond (starts_with equals a.1) (cond (has_token name a.0) (wrap k.Param (put a.0 (run (reading d) param_tail a.1))) None) (Some a))
+      bind_same (token_part name ts) (λ a. cond (starts_with equals a.1) (cond (has_token name a.0) (wrap k.Param (with_part_first a.0 (run (reading d) param_tail a.1))) None) (Some a))
       (λ a. cond (starts_with equals a.1) (cond (has_token name a.0) (wrap_found (with_found (a.0 ∷ []) (as_kind k.Param (run (reading d) param_tail a.1)))) None) (Some a))
       (λ a e. ap (λ o. cond (starts_with equals a.1) (cond (has_token name a.0) o None) (Some a)) (wrapped_one k.Param a.0 (run (reading d) param_tail a.1)))
 
@@ -355,16 +355,16 @@ abbrev back : Part → List Part
 back (p.Leaf l) = []
 back (p.Node' kind size row) = items-the_row-Part _ row
 
-back_is : (kind : Kind) (ps : List Part) → back (node kind ps) ≡ ps
+back_is : (kind : Kind) (ps : List Part) → back (node_part kind ps) ≡ ps
 back_is kind ps = items_of_row (record { kind = kind; parts = ps })
 
-same_parts : (kind kind' : Kind) (ps qs : List Part) → node kind ps ≡ node kind' qs → ps ≡ qs
+same_parts : (kind kind' : Kind) (ps qs : List Part) → node_part kind ps ≡ node_part kind' qs → ps ≡ qs
 same_parts kind kind' ps qs h = sym (back_is kind ps) ∙ ap back h ∙ back_is kind' qs
 
-framed_some : (kind kind' : Kind) (o : Option (List Part × List Leaf)) (ps : List Part) (rest : List Leaf) → wrap_found (with_found [] (as_kind kind o)) ≡ Some (node kind' ps, rest) → o ≡ Some (ps, rest)
+framed_some : (kind kind' : Kind) (o : Option (List Part × List Leaf)) (ps : List Part) (rest : List Leaf) → wrap_found (with_found [] (as_kind kind o)) ≡ Some (node_part kind' ps, rest) → o ≡ Some (ps, rest)
 framed_some kind kind' None ps rest e = absurd cc
 framed_some kind kind' (Some y) ps rest e =
-    let w = same_Some (node kind y.0, y.1) (node kind' ps, rest) e in
+    let w = same_Some (node_part kind y.0, y.1) (node_part kind' ps, rest) e in
     ap (λ (z : List Part). Some (z, y.1)) (same_parts kind kind' y.0 ps (ap (λ (z : Part × List Leaf). z.0) w)) ∙ ap (λ (z : List Leaf). Some (ps, z)) (ap (λ (z : Part × List Leaf). z.1) w)
 
 framed_none : (kind : Kind) (o : Option (List Part × List Leaf)) → wrap_found (with_found [] (as_kind kind o)) ≡ None → o ≡ None
@@ -372,7 +372,7 @@ framed_none kind None e = refl
 framed_none kind (Some y) e = absurd cc
 
 module _ (d : ℕ) (header : Header) (ts : List Leaf) where
-  pub header_some : (kind : Kind) (ps : List Part) (rest : List Leaf) → found_by d [] (plan_of_header header) ts ≡ Some (node kind ps, rest) → header_at d header ts ≡ Some (ps, rest)
+  pub header_some : (kind : Kind) (ps : List Part) (rest : List Leaf) → found_by d [] (plan_of_header header) ts ≡ Some (node_part kind ps, rest) → header_at d header ts ≡ Some (ps, rest)
   unfolding found_by header_at
   header_some kind ps rest e = framed_some k.Suite kind (run (reading d) (shape_of_header header) ts) ps rest e
 

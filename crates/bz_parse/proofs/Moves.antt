@@ -11,7 +11,7 @@ use Rattle.bz_states.specs.declared.state.NodeState.{NodeState}
 use Rattle.bz_states.specs.declared.state.Move.{Move}
 use Rattle.bz_states.specs.declared.state.Move.TheVariants as m
 use Rattle.bz_tree.specs.Shapes.{Terminal, is_one_of, Sort, Shape, none, done, tok, sub, alt, list, each, times}
-use Rattle.bz_tree.specs.Reading.{◌>>=◌, Read, starts_with, starts, first, put, run, Plan, finish, one, piece, choose, first_of, Found, as_kind, put_found, follow, node, wrap_found, reading}
+use Rattle.bz_tree.specs.Reading.{◌>>=◌, Read, starts_with, starts, first, with_part_first, run, Plan, finish, one, piece, choose, first_of, FoundLevel, as_kind, put_found, follow, node_part, wrap_found, reading}
 use Rattle.bz_states.specs.Tokens.{terminals_of, token_at}
 use Rattle.bz_parse.specs.Words.{part_at, with_found, found_by, found_from, read_by_move}
 use Rattle.bz_states.specs.States.{sort_of, plan_at, again, AskedMove, never, whole, one_token, one_part, either, asked_move, Meets, Asks, choices, Few}
@@ -23,19 +23,19 @@ Adds read front old all new = (x : Part) × (read old ≡ Some (x, new)) × (all
 
 -- ---- by the front of a plan
 
-put_one : (kind : Kind) (front : List Part) (x : Part) (o : Option (List Part × List Leaf)) → wrap_found (with_found front (as_kind kind (put x o))) ≡ wrap_found (with_found (front ++ (x ∷ [])) (as_kind kind o))
+put_one : (kind : Kind) (front : List Part) (x : Part) (o : Option (List Part × List Leaf)) → wrap_found (with_found front (as_kind kind (with_part_first x o))) ≡ wrap_found (with_found (front ++ (x ∷ [])) (as_kind kind o))
 put_one kind front x None = refl
-put_one kind front x (Some y) = ap (λ (ps : List Part). Some (node kind ps, y.1)) (sym (append_assoc front (x ∷ []) y.0))
+put_one kind front x (Some y) = ap (λ (ps : List Part). Some (node_part kind ps, y.1)) (sym (append_assoc front (x ∷ []) y.0))
 
-put_run : (kind : Kind) (front : List Part) (o : Option (Part × List Leaf)) (f : Read (List Part)) → wrap_found (with_found front (as_kind kind (o >>= λ x. put x.0 (f x.1)))) ≡ (o >>= λ x. wrap_found (with_found (front ++ (x.0 ∷ [])) (as_kind kind (f x.1))))
+put_run : (kind : Kind) (front : List Part) (o : Option (Part × List Leaf)) (f : Read (List Part)) → wrap_found (with_found front (as_kind kind (o >>= λ x. with_part_first x.0 (f x.1)))) ≡ (o >>= λ x. wrap_found (with_found (front ++ (x.0 ∷ [])) (as_kind kind (f x.1))))
 put_run kind front None f = refl
 put_run kind front (Some x) f = put_one kind front x.0 (f x.1)
 
-put_plan_one : (front : List Part) (x : Part) (o : Option (Found × List Leaf)) → wrap_found (with_found front (put_found x o)) ≡ wrap_found (with_found (front ++ (x ∷ [])) o)
+put_plan_one : (front : List Part) (x : Part) (o : Option (FoundLevel × List Leaf)) → wrap_found (with_found front (put_found x o)) ≡ wrap_found (with_found (front ++ (x ∷ [])) o)
 put_plan_one front x None = refl
-put_plan_one front x (Some y) = ap (λ (ps : List Part). Some (node y.0.0 ps, y.1)) (sym (append_assoc front (x ∷ []) y.0.1))
+put_plan_one front x (Some y) = ap (λ (ps : List Part). Some (node_part y.0.0 ps, y.1)) (sym (append_assoc front (x ∷ []) y.0.1))
 
-put_plan : (front : List Part) (o : Option (Part × List Leaf)) (f : Read Found) → wrap_found (with_found front (o >>= λ x. put_found x.0 (f x.1))) ≡ (o >>= λ x. wrap_found (with_found (front ++ (x.0 ∷ [])) (f x.1)))
+put_plan : (front : List Part) (o : Option (Part × List Leaf)) (f : Read FoundLevel) → wrap_found (with_found front (o >>= λ x. put_found x.0 (f x.1))) ≡ (o >>= λ x. wrap_found (with_found (front ++ (x.0 ∷ [])) (f x.1)))
 put_plan front None f = refl
 put_plan front (Some x) f = put_plan_one front x.0 (f x.1)
 
@@ -54,12 +54,12 @@ behind_again d q sep false r [] = refl
 behind_again d q sep true r (t ∷ ts) = elim (cases_Bool (is_one_of sep t)) [ inl h ↦ rw h refl | inr h ↦ rw h refl ]
 behind_again d q sep false r (t ∷ ts) = elim (cases_Bool (is_one_of sep t)) [ inl h ↦ rw h refl | inr h ↦ rw h refl ]
 
-list_again : (d : ℕ) (q : Sort) (sep : List Terminal) (last : Bool) (r : Shape) (ts : List Leaf) → run (reading d) (list q sep last r) ts ≡ (reading d q ts >>= λ x. put x.0 (run (reading d) (again q sep last r) x.1))
-list_again d q sep last r ts = list_step d q sep last r ts ∙ bind_same (reading d q ts) (λ x. put x.0 (behind_at d q sep last r x.1)) (λ x. put x.0 (run (reading d) (again q sep last r) x.1)) (λ x e. ap (put x.0) (behind_again d q sep last r x.1))
+list_again : (d : ℕ) (q : Sort) (sep : List Terminal) (last : Bool) (r : Shape) (ts : List Leaf) → run (reading d) (list q sep last r) ts ≡ (reading d q ts >>= λ x. with_part_first x.0 (run (reading d) (again q sep last r) x.1))
+list_again d q sep last r ts = list_step d q sep last r ts ∙ bind_same (reading d q ts) (λ x. with_part_first x.0 (behind_at d q sep last r x.1)) (λ x. with_part_first x.0 (run (reading d) (again q sep last r) x.1)) (λ x e. ap (with_part_first x.0) (behind_again d q sep last r x.1))
 
 abbrev stepped : ℕ → List Part → AskedMove → Read Part
 stepped d front never ts = None
-stepped d front (whole kind) ts = Some (node kind front, ts)
+stepped d front (whole kind) ts = Some (node_part kind front, ts)
 stepped d front (one_token terminals p) ts = token_at terminals ts >>= λ x. found_by d (front ++ (x.0 ∷ [])) p x.1
 stepped d front (one_part q p) ts = part_at d q ts >>= λ x. found_by d (front ++ (x.0 ∷ [])) p x.1
 stepped d front (either terminals p p') ts = cond (starts_with terminals ts) (found_by d front p ts) (found_by d front p' ts)
@@ -67,7 +67,7 @@ stepped d front (either terminals p p') ts = cond (starts_with terminals ts) (fo
 by_plan : (d : ℕ) (front : List Part) (p : Plan) (ts : List Leaf) → found_by d front p ts ≡ stepped d front (asked_move p) ts
 unfolding found_by part_at
 by_plan d front (finish kind none) ts = refl
-by_plan d front (finish kind done) ts = ap (λ (ps : List Part). Some (node kind ps, ts)) (append-nil front)
+by_plan d front (finish kind done) ts = ap (λ (ps : List Part). Some (node_part kind ps, ts)) (append-nil front)
 by_plan d front (finish kind (tok terminals r)) ts = ap (λ o. wrap_found (with_found front (as_kind kind o))) (token_run (reading d) terminals r ts) ∙ put_run kind front (token_at terminals ts) (run (reading d) r)
 by_plan d front (finish kind (sub q r)) ts = put_run kind front (reading d q ts) (run (reading d) r)
 by_plan d front (finish kind (alt r r')) ts = by_either (starts_with (first r) ts) (λ o. wrap_found (with_found front (as_kind kind o))) (run (reading d) r ts) (run (reading d) r' ts)
@@ -81,7 +81,7 @@ by_plan d front (choose left right) ts = by_either (starts_with (first_of left) 
 -- the move that is asked for reads what is left to read
 pub meets : (d : ℕ) (front : List Part) (a : AskedMove) (action : Move) (ts : List Leaf) → Meets a action → stepped d front a ts ≡ read_by_move d front action ts
 unfolding found_from
-meets d front (whole kind) (m.Finish kind') ts h = ap (λ (z : Kind). Some (node z front, ts)) (sym h)
+meets d front (whole kind) (m.Finish kind') ts h = ap (λ (z : Kind). Some (node_part z front, ts)) (sym h)
 meets d front (one_token terminals p) (m.Take token state) ts h =
     ap (λ (s : List Terminal). stepped d front (one_token s p) ts) (sym h.0) ∙ ap (λ (q : Plan). stepped d front (one_token (terminals_of token) q) ts) (sym h.1)
 meets d front (one_part q p) (m.Read place state) ts h =
@@ -112,7 +112,7 @@ module _ (d : ℕ) (front : List Part) (state : NodeState) (ts : List Leaf) wher
   unfolding found_from
   by_move action e = by_plan d front (plan_at state) ts ∙ meets d front (asked_move (plan_at state)) action ts e
 
-  pub finishes : (kind : Kind) → Asks (plan_at state) (m.Finish kind) → found_from d front state ts ≡ Some (node kind front, ts)
+  pub finishes : (kind : Kind) → Asks (plan_at state) (m.Finish kind) → found_from d front state ts ≡ Some (node_part kind front, ts)
   finishes kind e = by_move (m.Finish kind) e
 
   pub takes : (token : TokenSet) (next : NodeState) (more : List Part) (rest : List Leaf) → Asks (plan_at state) (m.Take token next) → Adds (token_at (terminals_of token)) front ts more rest → found_from d more next rest ≡ found_from d front state ts

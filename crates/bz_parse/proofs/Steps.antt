@@ -7,7 +7,7 @@ use Rattle.bz_tree.specs.declared.tree.Part.{Part}
 use Rattle.bz_tree.specs.declared.tree.Part.TheVariants as v
 use Rattle.bz_tree.specs.Spell.{leaves_part}
 use Rattle.bz_tree.specs.Shapes.{Terminal, is_one_of, Sort, level, stmt, suite, Shape, tok, list, each}
-use Rattle.bz_tree.specs.Reading.{◌>>=◌, Read, starts_with, starts, first, put, behind, listed, several, run, reading}
+use Rattle.bz_tree.specs.Reading.{◌>>=◌, Read, starts_with, starts, first, with_part_first, after_item, separated_parts, several, run, reading}
 use Rattle.bz_states.specs.Tokens.{token_at, Halts, Fails}
 use Rattle.bz_states.specs.declared.token.ParseHalt.{ParseHalt}
 use Rattle.bz_states.specs.declared.token.ParseHalt.TheVariants as h
@@ -53,28 +53,28 @@ bind_none (Some x) f h = absurd (h x refl)
 
 -- ---- loops, whatever the fuel, once there is enough
 
-behind_same : (again again' : Read (List Part)) (sep : List Terminal) (last : Bool) (stop : List Terminal) (K : Read (List Part)) (ts : List Leaf) → ((us : List Leaf) → length us ≤ length ts → again us ≡ again' us) → behind again sep last stop K ts ≡ behind again' sep last stop K ts
+behind_same : (again again' : Read (List Part)) (sep : List Terminal) (last : Bool) (stop : List Terminal) (K : Read (List Part)) (ts : List Leaf) → ((us : List Leaf) → length us ≤ length ts → again us ≡ again' us) → after_item again sep last stop K ts ≡ after_item again' sep last stop K ts
 behind_same again again' sep last stop K [] h = refl
 behind_same again again' sep last stop K (t ∷ ts) h = rw (h ts (omega arith)) refl
 
-listed_same : (next : Read Part) (sep : List Terminal) (last : Bool) (stop : List Terminal) (K : Read (List Part)) → Takes next → (n m : ℕ) (ts : List Leaf) → length ts ≤ n → length ts ≤ m → listed n next sep last stop K ts ≡ listed m next sep last stop K ts
+listed_same : (next : Read Part) (sep : List Terminal) (last : Bool) (stop : List Terminal) (K : Read (List Part)) → Takes next → (n m : ℕ) (ts : List Leaf) → length ts ≤ n → length ts ≤ m → separated_parts n next sep last stop K ts ≡ separated_parts m next sep last stop K ts
 listed_same next sep last stop K takes zero zero ts a b = refl
-listed_same next sep last stop K takes zero (suc m) ts a b = sym (bind_none (next ts) (λ x. put x.0 (behind (listed m next sep last stop K) sep last stop K x.1)) (λ x e. omega (arith, takes ts x e)))
-listed_same next sep last stop K takes (suc n) zero ts a b = bind_none (next ts) (λ x. put x.0 (behind (listed n next sep last stop K) sep last stop K x.1)) (λ x e. omega (arith, takes ts x e))
+listed_same next sep last stop K takes zero (suc m) ts a b = sym (bind_none (next ts) (λ x. with_part_first x.0 (after_item (separated_parts m next sep last stop K) sep last stop K x.1)) (λ x e. omega (arith, takes ts x e)))
+listed_same next sep last stop K takes (suc n) zero ts a b = bind_none (next ts) (λ x. with_part_first x.0 (after_item (separated_parts n next sep last stop K) sep last stop K x.1)) (λ x e. omega (arith, takes ts x e))
 listed_same next sep last stop K takes (suc n) (suc m) ts a b =
-    bind_same (next ts) (λ x. put x.0 (behind (listed n next sep last stop K) sep last stop K x.1)) (λ x. put x.0 (behind (listed m next sep last stop K) sep last stop K x.1))
-    (λ x e. ap (put x.0) (behind_same (listed n next sep last stop K) (listed m next sep last stop K) sep last stop K x.1 (λ us le. listed_same next sep last stop K takes n m us (omega (arith, takes ts x e)) (omega (arith, takes ts x e)))))
+    bind_same (next ts) (λ x. with_part_first x.0 (after_item (separated_parts n next sep last stop K) sep last stop K x.1)) (λ x. with_part_first x.0 (after_item (separated_parts m next sep last stop K) sep last stop K x.1))
+    (λ x e. ap (with_part_first x.0) (behind_same (separated_parts n next sep last stop K) (separated_parts m next sep last stop K) sep last stop K x.1 (λ us le. listed_same next sep last stop K takes n m us (omega (arith, takes ts x e)) (omega (arith, takes ts x e)))))
 
 -- a list without fuel
 pub list_step : (d : ℕ) (q : Sort) (sep : List Terminal) (last : Bool) (r : Shape) (ts : List Leaf) →
-    run (reading d) (list q sep last r) ts ≡ (reading d q ts >>= λ x. put x.0 (behind (run (reading d) (list q sep last r)) sep last (first r) (run (reading d) r) x.1))
+    run (reading d) (list q sep last r) ts ≡ (reading d q ts >>= λ x. with_part_first x.0 (after_item (run (reading d) (list q sep last r)) sep last (first r) (run (reading d) r) x.1))
 list_step d q sep last r ts =
     let K = run (reading d) r in
     let stop = first r in
     let n = length ts in
     listed_same (reading d q) sep last stop K (reading_takes d q) n (suc n) ts (omega arith) (omega arith) ∙
-    bind_same (reading d q ts) (λ x. put x.0 (behind (listed n (reading d q) sep last stop K) sep last stop K x.1)) (λ x. put x.0 (behind (run (reading d) (list q sep last r)) sep last stop K x.1))
-    (λ x e. ap (put x.0) (behind_same (listed n (reading d q) sep last stop K) (run (reading d) (list q sep last r)) sep last stop K x.1 (λ us le. listed_same (reading d q) sep last stop K (reading_takes d q) n (length us) us (omega (arith, reading_takes d q ts x e)) (omega arith))))
+    bind_same (reading d q ts) (λ x. with_part_first x.0 (after_item (separated_parts n (reading d q) sep last stop K) sep last stop K x.1)) (λ x. with_part_first x.0 (after_item (run (reading d) (list q sep last r)) sep last stop K x.1))
+    (λ x e. ap (with_part_first x.0) (behind_same (separated_parts n (reading d q) sep last stop K) (run (reading d) (list q sep last r)) sep last stop K x.1 (λ us le. listed_same (reading d q) sep last stop K (reading_takes d q) n (length us) us (omega (arith, reading_takes d q ts x e)) (omega arith))))
 
 several_same : (next : Read Part) (begin : List Terminal) (K : Read (List Part)) → Takes next → (n m : ℕ) (ts : List Leaf) → length ts ≤ n → length ts ≤ m → several n next begin K ts ≡ several m next begin K ts
 several_same next begin K takes zero zero ts a b = refl
@@ -83,23 +83,23 @@ several_same next begin K takes zero (suc m) (t ∷ ts) a b = absurd (omega arit
 several_same next begin K takes (suc n) zero [] a b = refl
 several_same next begin K takes (suc n) zero (t ∷ ts) a b = absurd (omega arith)
 several_same next begin K takes (suc n) (suc m) ts a b =
-    ap (λ o. cond (starts_with begin ts) o (K ts)) (bind_same (next ts) (λ x. put x.0 (several n next begin K x.1)) (λ x. put x.0 (several m next begin K x.1))
-    (λ x e. ap (put x.0) (several_same next begin K takes n m x.1 (omega (arith, takes ts x e)) (omega (arith, takes ts x e)))))
+    ap (λ o. cond (starts_with begin ts) o (K ts)) (bind_same (next ts) (λ x. with_part_first x.0 (several n next begin K x.1)) (λ x. with_part_first x.0 (several m next begin K x.1))
+    (λ x e. ap (with_part_first x.0) (several_same next begin K takes n m x.1 (omega (arith, takes ts x e)) (omega (arith, takes ts x e)))))
 
 -- parts behind each other without fuel
 pub each_step : (d : ℕ) (q : Sort) (r : Shape) (ts : List Leaf) →
-    run (reading d) (each q r) ts ≡ cond (starts_with (starts q) ts) (reading d q ts >>= λ x. put x.0 (run (reading d) (each q r) x.1)) (run (reading d) r ts)
+    run (reading d) (each q r) ts ≡ cond (starts_with (starts q) ts) (reading d q ts >>= λ x. with_part_first x.0 (run (reading d) (each q r) x.1)) (run (reading d) r ts)
 each_step d q r ts =
     let K = run (reading d) r in
     let n = length ts in
     several_same (reading d q) (starts q) K (reading_takes d q) n (suc n) ts (omega arith) (omega arith) ∙
-    ap (λ o. cond (starts_with (starts q) ts) o (K ts)) (bind_same (reading d q ts) (λ x. put x.0 (several n (reading d q) (starts q) K x.1)) (λ x. put x.0 (run (reading d) (each q r) x.1))
-    (λ x e. ap (put x.0) (several_same (reading d q) (starts q) K (reading_takes d q) n (length x.1) x.1 (omega (arith, reading_takes d q ts x e)) (omega arith))))
+    ap (λ o. cond (starts_with (starts q) ts) o (K ts)) (bind_same (reading d q ts) (λ x. with_part_first x.0 (several n (reading d q) (starts q) K x.1)) (λ x. with_part_first x.0 (run (reading d) (each q r) x.1))
+    (λ x e. ap (with_part_first x.0) (several_same (reading d q) (starts q) K (reading_takes d q) n (length x.1) x.1 (omega (arith, reading_takes d q ts x e)) (omega arith))))
 
 pub each_none : (d : ℕ) (q : Sort) (r : Shape) (ts : List Leaf) → starts_with (starts q) ts ≡ true → reading d q ts ≡ None → run (reading d) (each q r) ts ≡ None
 each_none d q r ts h e = each_step d q r ts ∙ rw (h, e) refl
 
-pub each_more : (d : ℕ) (q : Sort) (r : Shape) (ts a : List Leaf) (x : Part) → starts_with (starts q) ts ≡ true → reading d q ts ≡ Some (x, a) → run (reading d) (each q r) ts ≡ put x (run (reading d) (each q r) a)
+pub each_more : (d : ℕ) (q : Sort) (r : Shape) (ts a : List Leaf) (x : Part) → starts_with (starts q) ts ≡ true → reading d q ts ≡ Some (x, a) → run (reading d) (each q r) ts ≡ with_part_first x (run (reading d) (each q r) a)
 each_more d q r ts a x h e = each_step d q r ts ∙ rw (h, e) refl
 
 pub each_end : (d : ℕ) (q : Sort) (r : Shape) (ts : List Leaf) → starts_with (starts q) ts ≡ false → run (reading d) (each q r) ts ≡ run (reading d) r ts
@@ -125,7 +125,7 @@ starts_token s [] h e = absurd (both_ways false refl h)
 starts_token s (t ∷ ts) h e = let w : Some (v.Leaf t, ts) ≡ None = rw h at e in absurd (none-some (v.Leaf t, ts) (sym w))
 
 -- a token, and what comes of the rest
-pub token_run : (inner : Sort → Read Part) (s : List Terminal) (r : Shape) (ts : List Leaf) → run inner (tok s r) ts ≡ (token_at s ts >>= λ t. put t.0 (run inner r t.1))
+pub token_run : (inner : Sort → Read Part) (s : List Terminal) (r : Shape) (ts : List Leaf) → run inner (tok s r) ts ≡ (token_at s ts >>= λ t. with_part_first t.0 (run inner r t.1))
 unfolding token_at
 token_run inner s r [] = refl
 token_run inner s r (t ∷ ts) = elim (cases_Bool (is_one_of s t)) [ inl h ↦ rw h refl | inr h ↦ rw h refl ]
@@ -143,4 +143,4 @@ fails (Err e) o all w f = halts e o all w f
 -- ---- parts with separators: what comes behind one of them
 
 abbrev pub behind_at : ℕ → Sort → List Terminal → Bool → Shape → Read (List Part)
-behind_at d q sep last r ts = behind (run (reading d) (list q sep last r)) sep last (first r) (run (reading d) r) ts
+behind_at d q sep last r ts = after_item (run (reading d) (list q sep last r)) sep last (first r) (run (reading d) r) ts

@@ -5,15 +5,15 @@ use Rattle.bz_tree.specs.declared.kind.Kind.TheVariants as k
 use Rattle.bz_tree.specs.declared.tree.Part.{Part}
 use Rattle.bz_parse.specs.declared.indented.Header.{Header}
 use Rattle.bz_parse.specs.declared.indented.Header.TheVariants as h
-use Rattle.bz_tree.specs.Shapes.{Shape, keyword}
+use Rattle.bz_tree.specs.Shapes.{Shape, one_keyword}
 use Rattle.bz_tree.specs.Reading.{◌>>=◌, Read, run, Plan, finish, reading}
 use Rattle.bz_tree.specs.Suites.{def_header, for_header, test_header, else_header, begins_at, put_all, while_next, with_suite, branches_of, statement, suite_of}
 
 abbrev pub shape_of_header : Header → Shape
 shape_of_header h.Def = def_header
 shape_of_header h.For = for_header
-shape_of_header h.If = test_header (keyword (codes "if"))
-shape_of_header h.Elif = test_header (keyword (codes "elif"))
+shape_of_header h.If = test_header (one_keyword (codes "if"))
+shape_of_header h.Elif = test_header (one_keyword (codes "elif"))
 shape_of_header h.Else = else_header
 
 -- a header, as if a node were made of it

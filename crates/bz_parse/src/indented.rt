@@ -5,7 +5,7 @@ ghost use Rattle.bz_tree.specs.declared.tree.Part.{Part};
 ghost use Rattle.bz_states.specs.declared.token.ParseHalt.TheVariants as h;
 ghost use Rattle.bz_tree.specs.Spell.{depth_limit};
 ghost use Rattle.bz_tree.specs.Shapes.{line};
-ghost use Rattle.bz_tree.specs.Reading.{node};
+ghost use Rattle.bz_tree.specs.Reading.{node_part};
 ghost use Rattle.bz_tree.specs.Legal.{IsFileOf};
 ghost use Rattle.bz_tree.specs.Suites.{file_of, read_file, is_deeper};
 ghost use Rattle.bz_states.specs.Tokens.{Fails};
@@ -120,7 +120,7 @@ fn one_line(depth: u32, stack: &mut Stack, leaves: &mut Leaves) -> Result<(), Pa
 /// Puts the parts from a place on into a node of this kind. The error, `Memory` alone: a growth was refused.
 fn close(kind: Kind, from: usize, stack: &mut Stack) -> Result<(), ParseHalt>
     requires { from ≤ length stack.old }
-    ensures ok { OnOk result (stack.new ≡ take from stack.old ++ node kind (drop from stack.old) ∷ []) }
+    ensures ok { OnOk result (stack.new ≡ take from stack.old ++ node_part kind (drop from stack.old) ∷ []) }
     ensures err { IfErr result (λ halt. halt ≡ h.Memory) }
 {
     stack.close(kind, from)?;

@@ -9,7 +9,7 @@ ghost use Rattle.bz_tree.specs.Faults.{IsOfText, IsOther};
 
 use crate::indented::{file, read_so_far};
 use crate::row::Stack;
-use bz_lex::{DEPTH_LIMIT, LENGTH_LIMIT, ReadFault, fault_at, place_of};
+use bz_lex::{DEPTH_LIMIT, LENGTH_LIMIT, ReadFault, fault_at, line_and_column};
 use bz_states::{Leaves, ParseHalt, deeper_at};
 use bz_tree::{BzlTree, Kind, Tree};
 use std::alloc::Global;
@@ -168,7 +168,7 @@ fn first_too_deep(alloc: Global, text: &[u8]) -> Result<Option<usize>, ParseHalt
 fn too_deep(text: &[u8], at: usize) -> ReadFault
     ensures { IsOther result }
 {
-    let (line, column) = place_of(text, at.min(text.len()));
+    let (line, column) = line_and_column(text, at.min(text.len()));
     ReadFault::TooDeep { line, column }
 }
 
@@ -176,6 +176,6 @@ fn too_deep(text: &[u8], at: usize) -> ReadFault
 pub fn unexpected_at(text: &[u8], at: usize) -> ReadFault
     ensures told { result ≡ ReadFault.Unexpected (min (line_at text.now (min at (length text.now))) u32.MAX) (min (column_of text.now (min at (length text.now))) u32.MAX) }
 {
-    let (line, column) = place_of(text, at.min(text.len()));
+    let (line, column) = line_and_column(text, at.min(text.len()));
     ReadFault::Unexpected { line, column }
 }

@@ -6,7 +6,7 @@ ghost use Rattle.bz_tree.specs.declared.tree.Part.{Part};
 ghost use Rattle.bz_tree.specs.declared.tree.Part.TheVariants as p;
 ghost use Rattle.bz_tree.specs.Legal.{IsBuildPart};
 ghost use Rattle.bz_tree.specs.Shapes.{name, has_token};
-ghost use Rattle.bz_tree.specs.Reading.{node};
+ghost use Rattle.bz_tree.specs.Reading.{node_part};
 ghost use Rattle.bz_states.specs.Tokens.{terminals_of, token_at, Fails};
 ghost use Rattle.bz_parse.specs.Words.{Pushes};
 
@@ -115,7 +115,7 @@ impl Stack {
     /// Puts the parts from a place on into a node of this kind. The error: a growth was refused.
     pub fn close(&mut self, kind: Kind, from: usize) -> Result<(), Memory>
         requires { from ≤ length self.old }
-        ensures { OnOk result (self.new ≡ take from self.old ++ node kind (drop from self.old) ∷ []) }
+        ensures { OnOk result (self.new ≡ take from self.old ++ node_part kind (drop from self.old) ∷ []) }
     {
         let _whole = self.parts.len();
         // The room comes first: a push that fails gives the node back, and the proof that it is let go is long.

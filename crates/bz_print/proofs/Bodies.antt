@@ -9,8 +9,8 @@ use Rattle.bz_items.specs.Characters.{Bytes}
 use Rattle.bz_write.specs.Written as written
 use Rattle.bz_rule.specs.Values.{has_kind, items_of}
 use Rattle.bz_attribute.specs.Lists.{body_of}
-use Rattle.bz_print.specs.Prints.{spaced, bodies_of, strings_in, bracketed, printed_value}
-use Rattle.bz_print.specs.Steps.{space_before, body_text, is_string}
+use Rattle.bz_print.specs.Prints.{spaced, bodies_of, strings_in, in_brackets, printed_value}
+use Rattle.bz_print.specs.Steps.{space_between, printed_body, is_string}
 
 -- ---- all bodies
 
@@ -31,30 +31,30 @@ put None bodies texts more h = absurd cc
 put (Some b) None texts more h = absurd cc
 put (Some b) (Some bs) texts more h = ap (λ all. option_map_or (λ zs. Some (b ∷ zs)) all None) (more refl)
 
-bodies_are : (xs : List Expr) → is_some (bodies_of xs) ≡ true → bodies_of xs ≡ Some (map body_text xs)
+bodies_are : (xs : List Expr) → is_some (bodies_of xs) ≡ true → bodies_of xs ≡ Some (map printed_body xs)
 bodies_are [] h = refl
-bodies_are (x ∷ xs) h = put (body_of x) (bodies_of xs) (map body_text xs) (bodies_are xs) h
+bodies_are (x ∷ xs) h = put (body_of x) (bodies_of xs) (map printed_body xs) (bodies_are xs) h
 
 -- ---- texts with a space between two of them
 
-spaced_first : (x : Expr) (xs : List Expr) → spaced (map body_text (x ∷ xs)) ≡ body_text x ++ (space_before xs ++ spaced (map body_text xs))
-spaced_first x [] = sym (append-nil (body_text x))
+spaced_first : (x : Expr) (xs : List Expr) → spaced (map printed_body (x ∷ xs)) ≡ printed_body x ++ (space_between xs ++ spaced (map printed_body xs))
+spaced_first x [] = sym (append-nil (printed_body x))
 spaced_first x (y ∷ ys) = refl
 
 pub bodies_next : (xs : List Expr) (k : ℕ) (d : Expr) → k < length xs →
-    spaced (map body_text (drop k xs)) ≡ body_text (get_or xs k d) ++ (space_before (drop (k + 1) xs) ++ spaced (map body_text (drop (k + 1) xs)))
-bodies_next xs k d h = ap (λ ys. spaced (map body_text ys)) (drop_more xs k d h) ∙ spaced_first (get_or xs k d) (drop (k + 1) xs)
+    spaced (map printed_body (drop k xs)) ≡ printed_body (get_or xs k d) ++ (space_between (drop (k + 1) xs) ++ spaced (map printed_body (drop (k + 1) xs)))
+bodies_next xs k d h = ap (λ ys. spaced (map printed_body ys)) (drop_more xs k d h) ∙ spaced_first (get_or xs k d) (drop (k + 1) xs)
 
 -- ---- what values print
 
 pub string_printed : (x : Expr) (body : Bytes) → body_of x ≡ Some body → printed_value x ≡ body
-string_printed x body h = ap (λ b. option_map_or (λ t. t) b (option_map_or bracketed (strings_in x) (written.text_of x 0))) h
+string_printed x body h = ap (λ b. option_map_or (λ t. t) b (option_map_or in_brackets (strings_in x) (written.text_of x 0))) h
 
-pub strings_printed : (x : Expr) → body_of x ≡ None → has_kind k.List x ≡ true → list_all is_string (items_of x) ≡ true → printed_value x ≡ bracketed (map body_text (items_of x))
+pub strings_printed : (x : Expr) → body_of x ≡ None → has_kind k.List x ≡ true → list_all is_string (items_of x) ≡ true → printed_value x ≡ in_brackets (map printed_body (items_of x))
 strings_printed x h list all =
-    ap (λ b. option_map_or (λ t. t) b (option_map_or bracketed (strings_in x) (written.text_of x 0))) h ∙
-    (ap (λ b. option_map_or bracketed (if b then bodies_of (items_of x) else None) (written.text_of x 0)) list ∙
-    ap (λ bs. option_map_or bracketed bs (written.text_of x 0)) (bodies_are (items_of x) (all_bodies (items_of x) ∙ all)))
+    ap (λ b. option_map_or (λ t. t) b (option_map_or in_brackets (strings_in x) (written.text_of x 0))) h ∙
+    (ap (λ b. option_map_or in_brackets (if b then bodies_of (items_of x) else None) (written.text_of x 0)) list ∙
+    ap (λ bs. option_map_or in_brackets bs (written.text_of x 0)) (bodies_are (items_of x) (all_bodies (items_of x) ∙ all)))
 
 no_strings : (list : Bool) (bodies : Option (List Bytes)) → (list && is_some bodies) ≡ false → (if list then bodies else None) ≡ None
 no_strings false bodies h = refl
@@ -63,5 +63,5 @@ no_strings true (Some bs) h = absurd cc
 
 pub layout_printed : (x : Expr) → body_of x ≡ None → (has_kind k.List x && list_all is_string (items_of x)) ≡ false → printed_value x ≡ written.text_of x 0
 layout_printed x h none =
-    ap (λ b. option_map_or (λ t. t) b (option_map_or bracketed (strings_in x) (written.text_of x 0))) h ∙
-    ap (λ bs. option_map_or bracketed bs (written.text_of x 0)) (no_strings (has_kind k.List x) (bodies_of (items_of x)) (ap (λ b. has_kind k.List x && b) (all_bodies (items_of x)) ∙ none))
+    ap (λ b. option_map_or (λ t. t) b (option_map_or in_brackets (strings_in x) (written.text_of x 0))) h ∙
+    ap (λ bs. option_map_or in_brackets bs (written.text_of x 0)) (no_strings (has_kind k.List x) (bodies_of (items_of x)) (ap (λ b. has_kind k.List x && b) (all_bodies (items_of x)) ∙ none))

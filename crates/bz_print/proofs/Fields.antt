@@ -6,14 +6,14 @@ use Rattle.bz_items.specs.Characters.{Bytes}
 use Rattle.bz_words.specs.declared.command.Field.{Field}
 use Rattle.bz_rule.specs.Rules.{Rule}
 use Rattle.bz_print.specs.Prints.{spaced, printed_field, printed_fields}
-use Rattle.bz_print.specs.Steps.{space_before}
+use Rattle.bz_print.specs.Steps.{space_between}
 
 fields_first : (line : Option Bytes) (item : Item) (rule : Rule) (x : Field) (xs : List Field) →
-    spaced (printed_fields line item rule (x ∷ xs)) ≡ printed_field line item rule x ++ (space_before xs ++ spaced (printed_fields line item rule xs))
+    spaced (printed_fields line item rule (x ∷ xs)) ≡ printed_field line item rule x ++ (space_between xs ++ spaced (printed_fields line item rule xs))
 fields_first line item rule x [] = sym (append-nil (printed_field line item rule x))
 fields_first line item rule x (y ∷ ys) = refl
 
 pub fields_next : (line : Option Bytes) (item : Item) (rule : Rule) (xs : List Field) (k : ℕ) (d : Field) → k < length xs →
     spaced (printed_fields line item rule (drop k xs)) ≡
-    printed_field line item rule (get_or xs k d) ++ (space_before (drop (k + 1) xs) ++ spaced (printed_fields line item rule (drop (k + 1) xs)))
+    printed_field line item rule (get_or xs k d) ++ (space_between (drop (k + 1) xs) ++ spaced (printed_fields line item rule (drop (k + 1) xs)))
 fields_next line item rule xs k d h = ap (λ ys. spaced (printed_fields line item rule ys)) (drop_more xs k d h) ∙ fields_first line item rule (get_or xs k d) (drop (k + 1) xs)

@@ -32,12 +32,12 @@ abbrev pub strings_in : Expr → Option (List Bytes)
 strings_in value = if has_kind k.List value then bodies_of (items_of value) else None
 
 -- [a b]
-abbrev pub bracketed : List Bytes → Bytes
-bracketed texts = codes "[" ++ (spaced texts ++ codes "]")
+abbrev pub in_brackets : List Bytes → Bytes
+in_brackets texts = codes "[" ++ (spaced texts ++ codes "]")
 
 -- a plain string prints its body, a list of plain strings their bodies, any other value its layout at margin 0
 abbrev pub printed_value : Expr → Bytes
-printed_value value = option_map_or (λ body. body) (body_of value) (option_map_or bracketed (strings_in value) (written.text_of value 0))
+printed_value value = option_map_or (λ body. body) (body_of value) (option_map_or in_brackets (strings_in value) (written.text_of value 0))
 
 -- ---- fields
 

@@ -12,17 +12,17 @@ abbrev pub text_or_nothing : Option Bytes → Bytes
 text_or_nothing text = option_map_or (λ bytes. bytes) text []
 
 -- the body of a plain string
-abbrev pub body_text : Expr → Bytes
-body_text x = text_or_nothing (body_of x)
+abbrev pub printed_body : Expr → Bytes
+printed_body x = text_or_nothing (body_of x)
 
 abbrev pub is_string : Expr → Bool
 is_string x = is_some (body_of x)
 
 -- a space, where others follow
-abbrev pub space_before : {X : Type 0} → List X → Bytes
-space_before [] = []
-space_before (x ∷ xs) = space ∷ []
+abbrev pub space_between : {X : Type 0} → List X → Bytes
+space_between [] = []
+space_between (x ∷ xs) = space ∷ []
 
 -- a rule that the code has found, as definitions see it
-abbrev pub seen : Rule → r.Rule
-seen found = record { kind = found.kind; arguments = found.arguments.now }
+abbrev pub seen_rule : Rule → r.Rule
+seen_rule found = record { kind = found.kind; arguments = found.arguments.now }

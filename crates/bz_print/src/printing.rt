@@ -4,7 +4,7 @@ ghost use Rattle.std.specs.Option.{option_map, option_map_or};
 ghost use Rattle.bz_rule.specs.Rules as r;
 ghost use Rattle.bz_write.specs.Written as written;
 ghost use Rattle.bz_print.specs.Prints.{missing, spaced, printed_value, without_last, printed_field, printed_fields, printed_item};
-ghost use Rattle.bz_print.specs.Steps.{seen};
+ghost use Rattle.bz_print.specs.Steps.{seen_rule};
 
 use crate::rules::{Rule, rule_of};
 use crate::values::{push_space, push_value};
@@ -77,7 +77,7 @@ fn push_field(
     subject: &Subject<'_>,
     field: &Field,
 ) -> Result<(), Memory>
-    ensures { OnOk result (out.new.items ≡ out.old.items ++ printed_field (option_map decimal subject.now.line) subject.now.item.now (seen subject.now.rule) field.now) }
+    ensures { OnOk result (out.new.items ≡ out.old.items ++ printed_field (option_map decimal subject.now.line) subject.now.item.now (seen_rule subject.now.rule) field.now) }
 {
     match field {
         Field::Kind => {
@@ -100,7 +100,7 @@ fn push_fields(
     subject: &Subject<'_>,
     fields: &[Field],
 ) -> Result<(), Memory>
-    ensures { OnOk result (out.new.items ≡ out.old.items ++ spaced (printed_fields (option_map decimal subject.now.line) subject.now.item.now (seen subject.now.rule) fields.now)) }
+    ensures { OnOk result (out.new.items ≡ out.old.items ++ spaced (printed_fields (option_map decimal subject.now.line) subject.now.item.now (seen_rule subject.now.rule) fields.now)) }
 {
     for (i, field) in fields.iter().enumerate() {
         push_field(alloc, out, subject, field)?;

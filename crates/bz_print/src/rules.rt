@@ -2,7 +2,7 @@
 ghost use Rattle.std.specs.Prelude.{◌≡◌, IfOk};
 ghost use Rattle.std.specs.Option.{option_map};
 ghost use Rattle.bz_rule.specs.Rules as r;
-ghost use Rattle.bz_print.specs.Steps.{seen};
+ghost use Rattle.bz_print.specs.Steps.{seen_rule};
 
 use crate::names::push_dotted;
 use bz_items::{Memory, Text};
@@ -19,7 +19,7 @@ pub struct Rule<'a> {
 
 /// The rule that an item is; `None` where it is none. The error: a growth was refused.
 pub fn rule_of(alloc: Global, item: &Item) -> Result<Option<Rule<'_>>, Memory>
-    ensures { IfOk result (λ rule. option_map seen rule ≡ r.rule_of item.now) }
+    ensures { IfOk result (λ rule. option_map seen_rule rule ≡ r.rule_of item.now) }
 {
     let Some(call) = call_of(item) else {
         return Ok(None);

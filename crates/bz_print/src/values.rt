@@ -1,8 +1,8 @@
 //! What the values of attributes print.
 ghost use Rattle.std.specs.Prelude.{◌≡◌, ◌++◌, OnOk, map};
 ghost use Rattle.std.specs.List.{list_all};
-ghost use Rattle.bz_print.specs.Prints.{spaced, bracketed, printed_value};
-ghost use Rattle.bz_print.specs.Steps.{space_before, body_text, is_string};
+ghost use Rattle.bz_print.specs.Prints.{spaced, in_brackets, printed_value};
+ghost use Rattle.bz_print.specs.Steps.{space_between, printed_body, is_string};
 
 use bz_attribute::{body_of, has_kind, items_of};
 use bz_items::Memory;
@@ -13,7 +13,7 @@ use std::alloc::Global;
 
 /// Appends a space, where others follow.
 pub fn push_space<T>(out: &mut Vec<u8>, others: &[T]) -> Result<(), Memory>
-    ensures { OnOk result (out.new.items ≡ out.old.items ++ space_before others.now) }
+    ensures { OnOk result (out.new.items ≡ out.old.items ++ space_between others.now) }
 {
     if !others.is_empty() {
         out.push(b' ')?;
@@ -36,7 +36,7 @@ fn are_strings(items: &[Expr]) -> bool
 
 /// Appends the body of a plain string; of another item nothing.
 fn push_body(out: &mut Vec<u8>, item: &Expr) -> Result<(), Memory>
-    ensures { OnOk result (out.new.items ≡ out.old.items ++ body_text item.now) }
+    ensures { OnOk result (out.new.items ≡ out.old.items ++ printed_body item.now) }
 {
     if let Some(body) = body_of(item) {
         out.extend_from_slice(body)?;
@@ -47,7 +47,7 @@ fn push_body(out: &mut Vec<u8>, item: &Expr) -> Result<(), Memory>
 /// Appends the bodies of plain strings, with a space between two of them.
 #[tactic(auto, using(crate::proofs::Bodies::bodies_next))]
 fn push_bodies(out: &mut Vec<u8>, items: &[Expr]) -> Result<(), Memory>
-    ensures { OnOk result (out.new.items ≡ out.old.items ++ spaced (map body_text items.now)) }
+    ensures { OnOk result (out.new.items ≡ out.old.items ++ spaced (map printed_body items.now)) }
 {
     for (i, item) in items.iter().enumerate() {
         push_body(out, item)?;
@@ -58,7 +58,7 @@ fn push_bodies(out: &mut Vec<u8>, items: &[Expr]) -> Result<(), Memory>
 
 /// Appends a list of plain strings: their bodies in square brackets.
 fn push_strings(out: &mut Vec<u8>, items: &[Expr]) -> Result<(), Memory>
-    ensures { OnOk result (out.new.items ≡ out.old.items ++ bracketed (map body_text items.now)) }
+    ensures { OnOk result (out.new.items ≡ out.old.items ++ in_brackets (map printed_body items.now)) }
 {
     out.push(b'[')?;
     push_bodies(out, items)?;

@@ -7,7 +7,7 @@ use Rattle.bz_tree.specs.declared.tree.Node.{Node}
 use Rattle.bz_tree.specs.Spell.{spell_node}
 use Rattle.bz_edit.specs.declared.edit.Edit.{Edit}
 use Rattle.bz_edit.specs.Steps.{swap_node}
-use Rattle.bz_trail.specs.Trails.{IsTree, LeadOn, behind, ahead, trees}
+use Rattle.bz_trail.specs.Trails.{IsTree, LeadOn, steps_back, steps_forward, trees}
 use Rattle.bz_trail.proofs.Keeps.{trees_length}
 use Rattle.bz_record.specs.declared.content.Record.{Record}
 use Rattle.bz_resume.specs.Told.{AreTold, AreToldAround, IsCounted, IsToldOf, edits_of, told_trail}
@@ -65,14 +65,14 @@ pub to_whole : (r : Record) (n : Node) → IsTree n → IsCounted r → AreToldA
 to_whole r n tree counted h =
     let w = told_trail r n in
     let ds = r.digests in
-    let back = to_lead n (behind w) (reverse (take r.cursor ds)) h.1 in
-    let forward = to_lead n (ahead w) (drop (r.cursor + 1) ds) h.2 in
+    let back = to_lead n (steps_back w) (reverse (take r.cursor ds)) h.1 in
+    let forward = to_lead n (steps_forward w) (drop (r.cursor + 1) ds) h.2 in
     let all : length (edits_of r.steps) ≡ length r.steps = length-map r.steps (λ t. t.edits) in (
       record { tree = tree; within = omega (arith, all, counted.0); back = back.0; forward = forward.0 },
-      around n (behind w) (ahead w)
-          ∙ ap (λ l. reverse l ++ digest_of n ∷ digests_on n (ahead w)) back.1
-          ∙ ap (λ l. l ++ digest_of n ∷ digests_on n (ahead w)) (reverse-reverse (take r.cursor ds))
-          ∙ ap (λ d. take r.cursor ds ++ d ∷ digests_on n (ahead w)) h.0
+      around n (steps_back w) (steps_forward w)
+          ∙ ap (λ l. reverse l ++ digest_of n ∷ digests_on n (steps_forward w)) back.1
+          ∙ ap (λ l. l ++ digest_of n ∷ digests_on n (steps_forward w)) (reverse-reverse (take r.cursor ds))
+          ∙ ap (λ d. take r.cursor ds ++ d ∷ digests_on n (steps_forward w)) h.0
           ∙ ap (λ l. take r.cursor ds ++ get_or ds r.cursor [] ∷ l) forward.1
           ∙ cut_at ds r.cursor [] (omega (arith, counted.0, counted.2)),
     )
@@ -81,14 +81,14 @@ pub from_whole : (r : Record) (n : Node) → IsCounted r → IsToldOf r n → Ar
 from_whole r n counted h =
     let w = told_trail r n in
     let ds = r.digests in
-    let back = digests_on n (behind w) in
-    let forward = digests_on n (ahead w) in
-    let is : reverse back ++ digest_of n ∷ forward ≡ ds = sym (around n (behind w) (ahead w)) ∙ h.1 in
+    let back = digests_on n (steps_back w) in
+    let forward = digests_on n (steps_forward w) in
+    let is : reverse back ++ digest_of n ∷ forward ≡ ds = sym (around n (steps_back w) (steps_forward w)) ∙ h.1 in
     let size : length (reverse back) ≡ r.cursor =
-    length-reverse back ∙ length-map (trees n (behind w)) digest_of ∙ trees_length n (behind w) ∙ length-reverse (take r.cursor w.steps) ∙ length-take-le r.cursor w.steps h.0.within in
+    length-reverse back ∙ length-map (trees n (steps_back w)) digest_of ∙ trees_length n (steps_back w) ∙ length-reverse (take r.cursor w.steps) ∙ length-take-le r.cursor w.steps h.0.within in
     let front : take r.cursor ds ≡ reverse back = ap (take r.cursor) (sym is) ∙ take_at (reverse back) (digest_of n ∷ forward) r.cursor size in
     let rest : drop (r.cursor + 1) ds ≡ forward = ap (drop (r.cursor + 1)) (sym is) ∙ after_at (reverse back) (digest_of n) forward r.cursor size in (
       sym (ap (λ l. get_or l r.cursor []) (sym is) ∙ get_or_at (reverse back) (digest_of n) forward [] r.cursor size),
-      subst (AreTold n (behind w)) (sym (reverse-reverse back) ∙ ap reverse (sym front)) (own_told n (behind w) h.0.back),
-      subst (AreTold n (ahead w)) (sym rest) (own_told n (ahead w) h.0.forward),
+      subst (AreTold n (steps_back w)) (sym (reverse-reverse back) ∙ ap reverse (sym front)) (own_told n (steps_back w) h.0.back),
+      subst (AreTold n (steps_forward w)) (sym rest) (own_told n (steps_forward w) h.0.forward),
     )

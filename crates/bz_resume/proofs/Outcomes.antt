@@ -22,8 +22,8 @@ use Rattle.bz_record.specs.Texts.{record_text, short_limit, IsNotedStep, IsNote,
 use Rattle.bz_record.proofs.Whole.{one_record}
 use Rattle.bz_record.proofs.Own.{own_version}
 use Rattle.bz_resume.specs.declared.resumed.Resumed.{Resumed}
-use Rattle.bz_resume.specs.Journals.{History, Journal, NoJournal, AreSmall, entries_of, record_of, stands, text_of}
-use Rattle.bz_resume.specs.Told.{IsCounted, IsOpened, IsToldOf, NoneTold, edits_of, notes_of, place_in, told_trail}
+use Rattle.bz_resume.specs.Journals.{History, Journal, NoJournal, AreSmall, entries_of, record_of, stands, text_at}
+use Rattle.bz_resume.specs.Told.{IsCounted, IsOpened, IsToldOf, NoneTold, edits_of, notes_of, standing_place, told_trail}
 use Rattle.bz_resume.specs.Resumed.{IsResumed, IsStale, StandsFor, trail_of}
 use Rattle.bz_resume.proofs.Entries.{entries_back, entries_edits, entries_notes}
 
@@ -44,7 +44,7 @@ record_is r text ds es t d e =
 
 same_record : (r : Record) (n : Node) → Reads r.text n → IsToldOf r n → record_of (history_at r n) (edits_of r.steps) ≡ r
 same_record r n reads told =
-    record_is r (text_of (history_at r n) r.cursor) (map sha256 (texts_of (told_trail r n))) (entries_of (notes_of r.steps) (edits_of r.steps)) (present_text (told_trail r n) told.0 ∙ reads.1) told.1 (entries_back r.steps)
+    record_is r (text_at (history_at r n) r.cursor) (map sha256 (texts_of (told_trail r n))) (entries_of (notes_of r.steps) (edits_of r.steps)) (present_text (told_trail r n) told.0 ∙ reads.1) told.1 (entries_back r.steps)
 
 journal_made : (j : Text) (r : Record) (n : Node) → IsRead j r → Reads r.text n → IsToldOf r n → Journal j (history_at r n) (edits_of r.steps)
 journal_made j r n (v, h, e) reads told =
@@ -66,7 +66,7 @@ trail_told h es n noted = ap (λ l. trail_at n l h.cursor) (entries_edits h.note
 tree_told : (h : History) (es : List (List Edit)) (n : Node) → length h.notes ≡ length es → IsTrail (trail_at n es h.cursor) → texts_of (trail_at n es h.cursor) ≡ h.texts
     → Reads (record_of h es).text n × IsToldOf (record_of h es) n
 tree_told h es n noted trail is =
-    let shown : spell_node n ≡ text_of h h.cursor = sym (present_text (trail_at n es h.cursor) trail) ∙ ap (λ l. slice_index_or l h.cursor []) is in
+    let shown : spell_node n ≡ text_at h h.cursor = sym (present_text (trail_at n es h.cursor) trail) ∙ ap (λ l. slice_index_or l h.cursor []) is in
     let same = trail_told h es n noted in (
       (trail.tree.0, shown, subst (λ (t : Text). length t ≤ limit) shown trail.tree.1),
       (subst (λ (t : Trail). IsTrail t) (sym same) trail, ap (λ (t : Trail). map sha256 (texts_of t)) same ∙ ap (map sha256) is),
@@ -117,8 +117,8 @@ one_journal j h es g fs k l =
     let both : entries_of g.notes fs ≡ entries_of h.notes es = ap (λ (r : Record). r.steps) same in
     let steps : fs ≡ es = sym (entries_edits g.notes fs l.noted) ∙ ap edits_of both ∙ entries_edits h.notes es k.noted in
     let notes : g.notes ≡ h.notes = sym (entries_notes g.notes fs l.noted) ∙ ap notes_of both ∙ entries_notes h.notes es k.noted in
-    let own : text_of g g.cursor ≡ spell_node m.0 = sym (ap (λ t. slice_index_or t g.cursor []) m.2) ∙ present_text (trail_at m.0 fs g.cursor) m.1 in
-    let other : text_of h h.cursor ≡ spell_node n.0 = sym (ap (λ t. slice_index_or t h.cursor []) n.2) ∙ present_text (trail_at n.0 es h.cursor) n.1 in
+    let own : text_at g g.cursor ≡ spell_node m.0 = sym (ap (λ t. slice_index_or t g.cursor []) m.2) ∙ present_text (trail_at m.0 fs g.cursor) m.1 in
+    let other : text_at h h.cursor ≡ spell_node n.0 = sym (ap (λ t. slice_index_or t h.cursor []) n.2) ∙ present_text (trail_at n.0 es h.cursor) n.1 in
     let shown : spell_node m.0 ≡ spell_node n.0 = sym own ∙ ap (λ (r : Record). r.text) same ∙ other in
     let tree : m.0 ≡ n.0 = one_tree m.0 n.0 m.1.tree.0 n.1.tree.0 shown in
     let texts : g.texts ≡ h.texts = sym m.2 ∙ ap (λ (z : Node). texts_of (trail_at z fs g.cursor)) tree ∙ ap (λ z. texts_of (trail_at n.0 z g.cursor)) steps ∙ ap (λ z. texts_of (trail_at n.0 es z)) cursors ∙ n.2 in
@@ -172,16 +172,16 @@ module _ (j text : Text) (r : Record) (read : IsRead j r) (s : Resumed) (opened 
   pub within : r.before ≤ length s.steps
   within = omega (arith, (counted j r read).1, ap length opened.steps, length-map r.steps (λ t. t.edits))
 
-  placed : place_in (texts_of (trail_of s)) s.cursor r.before text ≡ stands here text
-  placed = ap (λ (t : Trail). place_in (texts_of t) s.cursor r.before text) trail_is ∙ ap (λ c. place_in (texts_of (told_trail r s.tree)) c r.before text) opened.cursor
+  placed : standing_place (texts_of (trail_of s)) s.cursor r.before text ≡ stands here text
+  placed = ap (λ (t : Trail). standing_place (texts_of t) s.cursor r.before text) trail_is ∙ ap (λ c. standing_place (texts_of (told_trail r s.tree)) c r.before text) opened.cursor
 
-  pub is_stale : place_in (texts_of (trail_of s)) s.cursor r.before text ≡ None → IsStale j text
+  pub is_stale : standing_place (texts_of (trail_of s)) s.cursor r.before text ≡ None → IsStale j text
   is_stale e = (here, es, own, sym placed ∙ e)
 
   small_here : AreSmall here es → IsSmall (trail_of s)
   small_here small = subst (λ (t : Trail). IsSmall t) (sym trail_is) (small s.tree opened.told.0 refl)
 
-  pub is_resumed : (tree : Node) (steps : List (List Edit)) (cursor : ℕ) → place_in (texts_of (trail_of s)) s.cursor r.before text ≡ Some cursor → Moves (trail_of s) (trail_at tree steps cursor)
+  pub is_resumed : (tree : Node) (steps : List (List Edit)) (cursor : ℕ) → standing_place (texts_of (trail_of s)) s.cursor r.before text ≡ Some cursor → Moves (trail_of s) (trail_at tree steps cursor)
       → IsResumed j text (record { «package» = s.package; tree = tree; steps = steps; digests = s.digests; notes = s.notes; cursor = cursor })
   is_resumed tree steps cursor stood moves =
       let texts : texts_of (trail_at tree steps cursor) ≡ here.texts = moves.texts ∙ ap (λ (t : Trail). texts_of t) trail_is in
@@ -219,5 +219,5 @@ module _ (j text : Text) (r : Record) (read : IsRead j r) (s : Resumed) (opened 
 
 -- ---- laws
 
-pub stands_at_cursor : (h : History) → stands h (text_of h h.cursor) ≡ Some h.cursor
-stands_at_cursor h = let e : bytes_eq (text_of h h.cursor) (text_of h h.cursor) ≡ true = (bytes_eq-Decides (text_of h h.cursor) (text_of h h.cursor)).1 refl in rw e refl
+pub stands_at_cursor : (h : History) → stands h (text_at h h.cursor) ≡ Some h.cursor
+stands_at_cursor h = let e : bytes_eq (text_at h h.cursor) (text_at h h.cursor) ≡ true = (bytes_eq-Decides (text_at h h.cursor) (text_at h h.cursor)).1 refl in rw e refl

@@ -15,7 +15,7 @@ use Rattle.bz_edit.specs.declared.edit.Edit.{Edit}
 use Rattle.bz_edit.specs.Places.{has_place}
 use Rattle.bz_edit.specs.Steps.{all_there, swap_node}
 use Rattle.bz_edit.proofs.Puts.{child_found}
-use Rattle.bz_trail.specs.Trails.{Trail, IsTrail, IsTree, Leads, LeadOn}
+use Rattle.bz_trail.specs.Trails.{Trail, IsTrail, IsTree, StepLeads, LeadOn}
 use Rattle.bz_resume.specs.Told.{MayLead, are_short}
 
 item_depth : (xs : List Part) (i : ℕ) (x : Part) → slice_get xs i ≡ Some x → depth_part x ≤ deepest xs
@@ -38,7 +38,7 @@ short_edits (e ∷ es) n h d =
     both_true : {a b : Bool} → a ≡ true → b ≡ true → (a && b) ≡ true
     both_true a b = rw (a, b) refl
 
-may_lead : (n : Node) (e : List Edit) → IsTree n → Leads e n → MayLead e
+may_lead : (n : Node) (e : List Edit) → IsTree n → StepLeads e n → MayLead e
 may_lead n e t l = let d = t.0.depth in (l.is_step, short_edits e n l.there (omega arith))
 
 each_may : (n : Node) (es : List (List Edit)) → IsTree n → LeadOn n es → AllByRecursion MayLead es

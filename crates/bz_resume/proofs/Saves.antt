@@ -17,7 +17,7 @@ use Rattle.bz_record.specs.declared.content.Version.TheVariants.{Two}
 use Rattle.bz_exact.specs.Spellings.{number_limit, IsDigest}
 use Rattle.bz_record.specs.Texts.{IsEdit, IsNotedStep, IsNote, IsRecord}
 use Rattle.bz_record.proofs.Digests.{digest_fits}
-use Rattle.bz_resume.specs.Journals.{History, Journal, MaySave, entries_of, journal_text, record_of, text_of}
+use Rattle.bz_resume.specs.Journals.{History, Journal, MaySave, entries_of, journal_text, record_of, text_at}
 use Rattle.bz_resume.proofs.Entries.{entries_length}
 use Rattle.bz_resume.proofs.Paths.{all_joined, all_reversed}
 use Rattle.bz_resume.proofs.Sized.{step_fits}
@@ -59,7 +59,7 @@ module _ (h : History) (es : List (List Edit)) (n : Node) (trail : IsTrail (trai
       let steps = saves.steps_length in
       let cursor = trail.within in
       let before = saves.known in
-      let shown : text_of h h.cursor ≡ spell_node n = sym (ap (λ l. slice_index_or l h.cursor []) is) ∙ present_text t trail in
+      let shown : text_at h h.cursor ≡ spell_node n = sym (ap (λ l. slice_index_or l h.cursor []) is) ∙ present_text t trail in
       record {
         package_length = saves.package_length;
         package_text = saves.package_text;
@@ -77,10 +77,10 @@ module _ (h : History) (es : List (List Edit)) (n : Node) (trail : IsTrail (trai
 
 -- ---- what is written
 
-pub record_made : (h : History) (es : List (List Edit)) (p t : Text) (ds : List Text) (fs : List Entry) → p ≡ h.package → t ≡ text_of h h.cursor → ds ≡ map sha256 h.texts → fs ≡ entries_of h.notes es
+pub record_made : (h : History) (es : List (List Edit)) (p t : Text) (ds : List Text) (fs : List Entry) → p ≡ h.package → t ≡ text_at h h.cursor → ds ≡ map sha256 h.texts → fs ≡ entries_of h.notes es
     → (let r : Record = record { «package» = p; text = t; cursor = h.cursor; before = h.before; digests = ds; steps = fs } in r) ≡ record_of h es
 record_made h es p t ds fs a e g f =
     ap (λ z. let r : Record = record { «package» = z; text = t; cursor = h.cursor; before = h.before; digests = ds; steps = fs } in r) a
     ∙ ap (λ z. let r : Record = record { «package» = h.package; text = z; cursor = h.cursor; before = h.before; digests = ds; steps = fs } in r) e
-    ∙ ap (λ z. let r : Record = record { «package» = h.package; text = text_of h h.cursor; cursor = h.cursor; before = h.before; digests = z; steps = fs } in r) g
-    ∙ ap (λ z. let r : Record = record { «package» = h.package; text = text_of h h.cursor; cursor = h.cursor; before = h.before; digests = map sha256 h.texts; steps = z } in r) f
+    ∙ ap (λ z. let r : Record = record { «package» = h.package; text = text_at h h.cursor; cursor = h.cursor; before = h.before; digests = z; steps = fs } in r) g
+    ∙ ap (λ z. let r : Record = record { «package» = h.package; text = text_at h h.cursor; cursor = h.cursor; before = h.before; digests = map sha256 h.texts; steps = z } in r) f

@@ -13,14 +13,14 @@ use Rattle.bz_tree.proofs.Nested.{part_ind, row_of, items_of_row}
 use Rattle.bz_tree.proofs.Spells.{depth_Node, spell_Node}
 use Rattle.bz_edit.specs.declared.edit.Edit.{Edit}
 use Rattle.bz_edit.specs.Places.{has_place, covered, if_node, node_in, opened_node}
-use Rattle.bz_edit.specs.Plans.{parts_in, total}
+use Rattle.bz_edit.specs.Plans.{parts_in, total_length}
 use Rattle.bz_edit.specs.Steps.{CountsFit, all_there, swap_node, turned_all}
 use Rattle.bz_edit.proofs.Planning.{parts_Node, length_total}
 use Rattle.bz_edit.proofs.Puts.{child_found}
 use Rattle.bz_edit.proofs.Sizes.{counted}
 use Rattle.bz_edit.proofs.Turns.{apart_of}
 use Rattle.bz_edit.proofs.Twice.{twice}
-use Rattle.bz_trail.specs.Trails.{IsTree, Leads}
+use Rattle.bz_trail.specs.Trails.{IsTree, StepLeads}
 use Rattle.bz_exact.specs.Spellings.{number_limit}
 use Rattle.bz_record.specs.Texts.{row_length, IsSmallPart, AreSmallParts, IsHeld, IsEdit}
 
@@ -44,7 +44,7 @@ small_Node n h all =
 abbrev Fits : Part → Type 0
 Fits x = length (spell_part x) ≤ limit → parts_in x < number_limit → IsSmallPart x
 
-fit_all : (xs : List Part) → AllByRecursion Fits xs → length (flat_map spell_part xs) ≤ limit → total xs < number_limit → AllByRecursion IsSmallPart xs
+fit_all : (xs : List Part) → AllByRecursion Fits xs → length (flat_map spell_part xs) ≤ limit → total_length xs < number_limit → AllByRecursion IsSmallPart xs
 fit_all [] h l t = tt
 fit_all (x ∷ xs) h l t =
     let cut = length-append (spell_part x) (flat_map spell_part xs) in
@@ -52,7 +52,7 @@ fit_all (x ∷ xs) h l t =
 
 fit_node : (n : Node) → AllByRecursion Fits n.parts → Fits (p.Node n)
 fit_node n h l t =
-    let few : total n.parts < number_limit = omega (arith, parts_Node n) in
+    let few : total_length n.parts < number_limit = omega (arith, parts_Node n) in
     small_Node n (omega (arith, few, length_total n.parts)) (fit_all n.parts h (omega (arith, ap length (spell_Node n))) few)
 
 fits : (x : Part) → Fits x
@@ -62,7 +62,7 @@ fits = part_ind Fits (λ l h t. (omega (arith, length-append l.gap l.token), ome
 
 pub record IsLow (xs : List Part) : Type 0 where
   pub deep : deepest xs < depth_limit
-  pub few : total xs < number_limit
+  pub few : total_length xs < number_limit
   pub short : length (flat_map spell_part xs) ≤ limit
 
 each_held : (xs : List Part) → IsLow xs → AllByRecursion (IsHeld depth_limit) xs
@@ -88,7 +88,7 @@ all_dropped P (suc n) (x ∷ xs) h = all_dropped P n xs h.1
 
 record IsItem (xs : List Part) (i : ℕ) (x : Part) : Type 0 where
   deep : depth_part x ≤ deepest xs
-  few : parts_in x ≤ total xs
+  few : parts_in x ≤ total_length xs
   short : length (spell_part x) ≤ length (flat_map spell_part xs)
   within : i < length xs
 
@@ -186,7 +186,7 @@ edits_fit m (f ∷ fs) h low sizes =
 pub low_tree : (n : Node) → IsTree n → IsLow n.parts
 low_tree n tree = let d = tree.0.depth in record { deep = omega arith; few = counted n tree.0 tree.1; short = tree.1 }
 
-pub step_fits : (n : Node) (e : List Edit) → Leads e n → AllByRecursion (IsEdit depth_limit) e
+pub step_fits : (n : Node) (e : List Edit) → StepLeads e n → AllByRecursion (IsEdit depth_limit) e
 step_fits n e leads =
     let b = twice n e (apart_of e leads.is_step.0) leads.there in
     let m : Node = swap_node e n in

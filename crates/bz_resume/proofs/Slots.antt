@@ -10,16 +10,16 @@ use Rattle.bz_tree.specs.declared.tree.Part.TheVariants as p
 use Rattle.bz_tree.specs.declared.tree.Part.TheViews.{outs-Node}
 use Rattle.bz_edit.specs.declared.edit.Edit.{Edit}
 use Rattle.bz_edit.specs.Places.{has_place, child, if_node, node_in, opened_node}
-use Rattle.bz_edit.specs.Plans.{parts_in, total}
+use Rattle.bz_edit.specs.Plans.{parts_in, total_length}
 use Rattle.bz_edit.specs.Steps.{IsBefore, WellFormed, MayFollow, all_there}
 use Rattle.bz_edit.proofs.Planning.{parts_Node, length_total}
 use Rattle.bz_edit.proofs.Puts.{child_found}
 use Rattle.bz_edit.proofs.Sizes.{few_parts}
-use Rattle.bz_trail.specs.Trails.{IsTree, Leads}
+use Rattle.bz_trail.specs.Trails.{IsTree, StepLeads}
 
 -- ---- parts before a place
 
-more : (xs : List Part) (i j : ℕ) → i ≤ j → total (take i xs) ≤ total (take j xs)
+more : (xs : List Part) (i j : ℕ) → i ≤ j → total_length (take i xs) ≤ total_length (take j xs)
 more [] zero zero h = omega arith
 more [] zero (suc j) h = omega arith
 more [] (suc i) zero h = omega arith
@@ -29,19 +29,19 @@ more (x ∷ xs) zero (suc j) h = omega arith
 more (x ∷ xs) (suc i) zero h = omega arith
 more (x ∷ xs) (suc i) (suc j) h = omega (arith, more xs i j (omega arith))
 
-within : (xs : List Part) (i : ℕ) → total (take i xs) ≤ total xs
+within : (xs : List Part) (i : ℕ) → total_length (take i xs) ≤ total_length xs
 within [] zero = omega arith
 within [] (suc i) = omega arith
 within (x ∷ xs) zero = omega arith
 within (x ∷ xs) (suc i) = omega (arith, within xs i)
 
 -- the next part is there, and counts
-after : (xs : List Part) (i : ℕ) (x : Part) → slice_get xs i ≡ Some x → total (take (suc i) xs) ≡ total (take i xs) + parts_in x
+after : (xs : List Part) (i : ℕ) (x : Part) → slice_get xs i ≡ Some x → total_length (take (suc i) xs) ≡ total_length (take i xs) + parts_in x
 after [] i x e = cc
 after (y ∷ ys) zero x e = let s = same_Some y x e in omega (arith, ap parts_in s)
 after (y ∷ ys) (suc i) x e = omega (arith, after ys i x e)
 
-strictly : (xs : List Part) (i j : ℕ) → i < j → j ≤ length xs → total (take i xs) < total (take j xs)
+strictly : (xs : List Part) (i j : ℕ) → i < j → j ≤ length xs → total_length (take i xs) < total_length (take j xs)
 strictly [] i j h k = absurd (omega arith)
 strictly (x ∷ xs) i zero h k = absurd (omega arith)
 strictly (x ∷ xs) zero (suc j) h k = omega (arith, length_total (x ∷ []))
@@ -50,14 +50,14 @@ strictly (x ∷ xs) (suc i) (suc j) h k = omega (arith, strictly xs i j (omega a
 -- ---- the number of a place
 
 abbrev rank : List ℕ → ℕ → Node → ℕ
-rank [] at n = 2 * total (take at n.parts)
-rank (i ∷ path) at n = 2 * total (take i n.parts) + 1 + if_node 0 (rank path at) (child i n)
+rank [] at n = 2 * total_length (take at n.parts)
+rank (i ∷ path) at n = 2 * total_length (take i n.parts) + 1 + if_node 0 (rank path at) (child i n)
 
-rank_at : (i : ℕ) (path : List ℕ) (at : ℕ) (n m : Node) → slice_get n.parts i ≡ Some (p.Node m) → rank (i ∷ path) at n ≡ 2 * total (take i n.parts) + 1 + rank path at m
+rank_at : (i : ℕ) (path : List ℕ) (at : ℕ) (n m : Node) → slice_get n.parts i ≡ Some (p.Node m) → rank (i ∷ path) at n ≡ 2 * total_length (take i n.parts) + 1 + rank path at m
 rank_at i path at n m e =
-    ap (λ o. 2 * total (take i n.parts) + 1 + if_node 0 (rank path at) (node_in o)) e ∙ ap (λ z. 2 * total (take i n.parts) + 1 + if_node 0 (rank path at) (opened_node z)) (outs-Node m)
+    ap (λ o. 2 * total_length (take i n.parts) + 1 + if_node 0 (rank path at) (node_in o)) e ∙ ap (λ z. 2 * total_length (take i n.parts) + 1 + if_node 0 (rank path at) (opened_node z)) (outs-Node m)
 
-rank_within : (path : List ℕ) (at count : ℕ) (n : Node) → has_place path at count n ≡ true → rank path at n ≤ 2 * total n.parts
+rank_within : (path : List ℕ) (at count : ℕ) (n : Node) → has_place path at count n ≡ true → rank path at n ≤ 2 * total_length n.parts
 rank_within [] at count n h = omega (arith, within n.parts at)
 rank_within (i ∷ path) at count n h =
     let w = child_found i n (has_place path at count) h in
@@ -65,7 +65,7 @@ rank_within (i ∷ path) at count n h =
     omega (arith, rank_at i path at n m w.1, rank_within path at count m w.2, after n.parts i (p.Node m) w.1, within n.parts (suc i), parts_Node m)
 
 -- below part i, all comes before part i + 1
-rank_below : (i : ℕ) (path : List ℕ) (at count : ℕ) (n : Node) → has_place (i ∷ path) at count n ≡ true → rank (i ∷ path) at n < 2 * total (take (suc i) n.parts)
+rank_below : (i : ℕ) (path : List ℕ) (at count : ℕ) (n : Node) → has_place (i ∷ path) at count n ≡ true → rank (i ∷ path) at n < 2 * total_length (take (suc i) n.parts)
 rank_below i path at count n h =
     let w = child_found i n (has_place path at count) h in
     let m : Node = w.0 in
@@ -118,7 +118,7 @@ all_above n e (f ∷ es) h there follow =
     let w = and_parts (has_place f.path f.at f.count n) (all_there es n) there in
     (omega (arith, ranked e.path e.at e.count f.path f.at f.count n h w.0 follow.0.0), all_above n e es h w.1 follow.1)
 
-counted : (n : Node) (es : List Edit) (k : ℕ) → k ≤ 2 * total n.parts + 1 → all_there es n ≡ true → WellFormed es → AllByRecursion (Above n k) es → length es + k ≤ 2 * total n.parts + 1
+counted : (n : Node) (es : List Edit) (k : ℕ) → k ≤ 2 * total_length n.parts + 1 → all_there es n ≡ true → WellFormed es → AllByRecursion (Above n k) es → length es + k ≤ 2 * total_length n.parts + 1
 counted n [] k h there fine above = omega (arith, h)
 counted n (e ∷ es) k h there fine above =
     let w = and_parts (has_place e.path e.at e.count n) (all_there es n) there in
@@ -130,5 +130,5 @@ all_zero : (n : Node) (es : List Edit) → AllByRecursion (Above n 0) es
 all_zero n [] = tt
 all_zero n (e ∷ es) = (omega arith, all_zero n es)
 
-pub few_edits : (n : Node) (e : List Edit) → IsTree n → Leads e n → length e < 2 ^ 32
+pub few_edits : (n : Node) (e : List Edit) → IsTree n → StepLeads e n → length e < 2 ^ 32
 few_edits n e tree leads = omega (arith, counted n e 0 (omega arith) leads.there leads.is_step.0 (all_zero n e), few_parts n tree.0 tree.1)

@@ -23,8 +23,8 @@ pub record History : Type 0 where
   pub cursor : ℕ
   pub before : ℕ
 
-abbrev pub text_of : History → ℕ → Text
-text_of h i = slice_index_or h.texts i []
+abbrev pub text_at : History → ℕ → Text
+text_at h i = slice_index_or h.texts i []
 
 -- each note with the edits of its step
 abbrev pub entries_of : List Text → List (List Edit) → List Entry
@@ -34,7 +34,7 @@ entries_of (n ∷ ns) (e ∷ es) = record { note = n; edits = e } ∷ entries_of
 
 -- what a journal says of a history and the steps between its texts
 abbrev pub record_of : History → List (List Edit) → Record
-record_of h es = record { «package» = h.package; text = text_of h h.cursor; cursor = h.cursor; before = h.before; digests = map sha256 h.texts; steps = entries_of h.notes es }
+record_of h es = record { «package» = h.package; text = text_at h h.cursor; cursor = h.cursor; before = h.before; digests = map sha256 h.texts; steps = entries_of h.notes es }
 
 -- There is a tree at the cursor from which the steps lead to the trees of the other texts: those before the cursor lead back, and
 -- hold the earlier side, the others forward; each text is accepted and differs from its neighbours.
@@ -56,7 +56,7 @@ NoJournal bytes = (h : History) (es : List (List Edit)) → Journal bytes h es �
 -- where a history stands for the text of a file: at its cursor where that is the text there, else at the cursor before, where it
 -- is that one, else nowhere
 abbrev pub stands : History → Text → Option ℕ
-stands h text = if bytes_eq text (text_of h h.cursor) then Some h.cursor else (if bytes_eq text (text_of h h.before) then Some h.before else None)
+stands h text = if bytes_eq text (text_at h h.cursor) then Some h.cursor else (if bytes_eq text (text_at h h.before) then Some h.before else None)
 
 -- the steps are those between the trees of the texts
 abbrev pub AreSmall : History → List (List Edit) → Type 0

@@ -7,7 +7,7 @@ use Rattle.bz_tree.specs.Legal.{Reads}
 use Rattle.bz_tree.specs.Spell.{spell_node, depth_limit}
 use Rattle.bz_edit.specs.declared.edit.Edit.{Edit}
 use Rattle.bz_edit.specs.Steps.{IsStep, swap_node}
-use Rattle.bz_trail.specs.Trails.{Leads, IsTrail, Trail, trail_at}
+use Rattle.bz_trail.specs.Trails.{StepLeads, IsTrail, Trail, trail_at}
 use Rattle.bz_trail.specs.Shown.{Moves, Text, texts_of}
 use Rattle.bz_record.specs.declared.content.Entry.{Entry}
 use Rattle.bz_record.specs.declared.content.Record.{Record}
@@ -30,7 +30,7 @@ MayLead es = IsStep es × (are_short es ≡ true)
 
 -- the step leads to a text with this digest
 abbrev pub IsTold : List Edit → Node → Text → Type 0
-IsTold e n d = Leads e n × (sha256 (spell_node (swap_node e n)) ≡ d)
+IsTold e n d = StepLeads e n × (sha256 (spell_node (swap_node e n)) ≡ d)
 
 -- each step leads on from the tree that those before it lead to, to a text with its digest
 abbrev pub AreTold : Node → List (List Edit) → List Text → Type 0
@@ -71,11 +71,11 @@ pub record IsOpened (r : Record) (s : Resumed) : Type 0 where
   pub told : IsToldOf r s.tree
 
 -- where texts stand for another one: at the cursor, else at the cursor before, else nowhere
-abbrev pub place_in : List Text → ℕ → ℕ → Text → Option ℕ
-place_in texts cursor before text =
+abbrev pub standing_place : List Text → ℕ → ℕ → Text → Option ℕ
+standing_place texts cursor before text =
     if bytes_eq text (slice_index_or texts cursor []) then Some cursor else (if bytes_eq text (slice_index_or texts before []) then Some before else None)
 
 -- a trail stands where its texts stand for a text, or they stand nowhere
 abbrev pub HasStood : Trail → ℕ → Text → Node → List (List Edit) → Option ℕ → Type 0
-HasStood t before text tree steps (Some cursor) = (place_in (texts_of t) t.cursor before text ≡ Some cursor) × Moves t (trail_at tree steps cursor)
-HasStood t before text tree steps None = place_in (texts_of t) t.cursor before text ≡ None
+HasStood t before text tree steps (Some cursor) = (standing_place (texts_of t) t.cursor before text ≡ Some cursor) × Moves t (trail_at tree steps cursor)
+HasStood t before text tree steps None = standing_place (texts_of t) t.cursor before text ≡ None

@@ -2,11 +2,11 @@
 ghost use Rattle.std.specs.Prelude.{◌≡◌, List, Some};
 ghost use Rattle.bz_edit.specs.declared.edit.Edit.{Edit};
 ghost use Rattle.bz_trail.specs.Shown.{Text};
-ghost use Rattle.bz_resume.specs.Journals.{History, Journal, stands, text_of};
+ghost use Rattle.bz_resume.specs.Journals.{History, Journal, stands, text_at};
 
 /// A history stands at its cursor for the text there.
 pub fn reopened()
-    ensures { (h : History) → stands h (text_of h h.cursor) ≡ Some h.cursor }
+    ensures { (h : History) → stands h (text_at h h.cursor) ≡ Some h.cursor }
 {}
 
 /// No bytes are the journal of two histories, or of two lists of steps.

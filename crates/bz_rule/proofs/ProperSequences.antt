@@ -12,7 +12,7 @@ use Rattle.bz_tree.specs.Spots.{Spot, Within}
 use Rattle.bz_value.specs.declared.value.Expr.{Expr, Token, Form', items-the_row-Expr}
 use Rattle.bz_items.specs.Characters.{Bytes, comma}
 use Rattle.bz_value.specs.Proper.{AreComments, comments_of, has_break, ProperExpr}
-use Rattle.bz_value.specs.Roots.{root, mark, each_with_comma}
+use Rattle.bz_value.specs.Roots.{root, mark_leaf, each_with_comma}
 use Rattle.bz_value.proofs.FormParts.{AreItems}
 use Rattle.bz_rule.specs.Values.{has_kind, items_of, with_items, on_items, behind_first}
 use Rattle.bz_value.proofs.LeadParts.{lead_before}
@@ -28,7 +28,7 @@ AreOf sort xs = AllByRecursion (IsItem sort) xs
 -- ---- items, each with a comma behind it
 
 module _ (sort : Sort) (close : List Terminal) (closer : Part) where
-  behind_apart : (xs : List Expr) → AreItems xs → Behind (IsSort sort) s.comma true (Fits IsSort (s.tok close s.done)) (mark comma ∷ (each_with_comma (map root xs) ++ closer ∷ [])) → AreOf sort xs
+  behind_apart : (xs : List Expr) → AreItems xs → Behind (IsSort sort) s.comma_mark true (Fits IsSort (s.tok close s.done)) (mark_leaf comma ∷ (each_with_comma (map root xs) ++ closer ∷ [])) → AreOf sort xs
   behind_apart [] a h = tt
   behind_apart (y ∷ ys) a (inl i) = absurd i.1
   behind_apart (y ∷ ys) a (inr (m, inl i)) = (((a.0, a.1, a.2), i.0), behind_apart ys a.3 i.1)
@@ -43,7 +43,7 @@ module _ (sort : Sort) (close : List Terminal) (closer : Part) where
   each_item [] h = tt
   each_item (x ∷ xs) h = (h.0.0.0, h.0.0.1, h.0.0.2, each_item xs h.1)
 
-  listed_again : has_token close closer ≡ true → (x : Expr) (xs : List Expr) → AreOf sort (x ∷ xs) → Listed (IsSort sort) s.comma true (Fits IsSort (s.tok close s.done)) (each_with_comma (map root (x ∷ xs)) ++ closer ∷ [])
+  listed_again : has_token close closer ≡ true → (x : Expr) (xs : List Expr) → AreOf sort (x ∷ xs) → Listed (IsSort sort) s.comma_mark true (Fits IsSort (s.tok close s.done)) (each_with_comma (map root (x ∷ xs)) ++ closer ∷ [])
   listed_again closes x [] h = (h.0.1, inr (refl, inr (refl, (closes, tt))))
   listed_again closes x (y ∷ ys) h = (h.0.1, inr (refl, inl (listed_again closes y ys h.1)))
 
@@ -62,25 +62,25 @@ abbrev KeepsForms : Kind → (List Expr → List Expr) → Type 0
 KeepsForms kind change = (here : Spot) (end_ : List Bytes) (split open_ : Bool) (ps xs : List Expr) → AsForm here kind ps xs end_ split open_ → AsForm here kind ps (change xs) end_ split open_
 
 pub list_apart : (here : Spot) (end_ : List Bytes) (split open_ : Bool) (ps xs : List Expr) → AsForm here k.List ps xs end_ split open_ → AreOf s.test xs
-list_apart here end_ split open_ [] xs h = items_apart s.test s.close_square (mark 93) xs h.1.1 h.0.1
+list_apart here end_ split open_ [] xs h = items_apart s.test s.close_square (mark_leaf 93) xs h.1.1 h.0.1
 list_apart here end_ split open_ (p ∷ ps) xs h = let n = lead_before k.List (map root (p ∷ ps)) (map root xs) h.0 in absurd (omega arith)
 
 pub call_apart : (here : Spot) (end_ : List Bytes) (split open_ : Bool) (ps xs : List Expr) → AsForm here k.Call ps xs end_ split open_ → AreOf s.argument xs
 call_apart here end_ split open_ [] xs h = let n = lead_before k.Call [] (map root xs) h.0 in absurd (omega arith)
-call_apart here end_ split open_ (p ∷ []) xs h = items_apart s.argument s.close_round (mark 41) xs h.1.1 h.0.1.1
+call_apart here end_ split open_ (p ∷ []) xs h = items_apart s.argument s.close_round (mark_leaf 41) xs h.1.1 h.0.1.1
 call_apart here end_ split open_ (p ∷ q ∷ ps) xs h = let n = lead_before k.Call (map root (p ∷ q ∷ ps)) (map root xs) h.0 in absurd (omega arith)
 
 list_items : (change : List Expr → List Expr) → Keeps s.test change → KeepsForms k.List change
 list_items change keeps here end_ split open_ [] xs h =
-    let all : AreOf s.test (change xs) = keeps xs (items_apart s.test s.close_square (mark 93) xs h.1.1 h.0.1) in
-    ((h.0.0, items_again s.test s.close_square (mark 93) refl (change xs) all), (h.1.0, each_item s.test s.close_square (mark 93) (change xs) all, h.1.2, h.1.3))
+    let all : AreOf s.test (change xs) = keeps xs (items_apart s.test s.close_square (mark_leaf 93) xs h.1.1 h.0.1) in
+    ((h.0.0, items_again s.test s.close_square (mark_leaf 93) refl (change xs) all), (h.1.0, each_item s.test s.close_square (mark_leaf 93) (change xs) all, h.1.2, h.1.3))
 list_items change keeps here end_ split open_ (p ∷ ps) xs h = let n = lead_before k.List (map root (p ∷ ps)) (map root xs) h.0 in absurd (omega arith)
 
 call_items : (change : List Expr → List Expr) → Keeps s.argument change → KeepsForms k.Call change
 call_items change keeps here end_ split open_ [] xs h = let n = lead_before k.Call [] (map root xs) h.0 in absurd (omega arith)
 call_items change keeps here end_ split open_ (p ∷ []) xs h =
-    let all : AreOf s.argument (change xs) = keeps xs (items_apart s.argument s.close_round (mark 41) xs h.1.1 h.0.1.1) in
-    ((h.0.0, (h.0.1.0, items_again s.argument s.close_round (mark 41) refl (change xs) all)), (h.1.0, each_item s.argument s.close_round (mark 41) (change xs) all, h.1.2, h.1.3))
+    let all : AreOf s.argument (change xs) = keeps xs (items_apart s.argument s.close_round (mark_leaf 41) xs h.1.1 h.0.1.1) in
+    ((h.0.0, (h.0.1.0, items_again s.argument s.close_round (mark_leaf 41) refl (change xs) all)), (h.1.0, each_item s.argument s.close_round (mark_leaf 41) (change xs) all, h.1.2, h.1.3))
 call_items change keeps here end_ split open_ (p ∷ q ∷ ps) xs h = let n = lead_before k.Call (map root (p ∷ q ∷ ps)) (map root xs) h.0 in absurd (omega arith)
 
 load_items : (change : List Expr → List Expr) → Keeps s.loaded change → KeepsForms k.Load (behind_first change)
@@ -88,8 +88,8 @@ load_items change keeps here end_ split open_ [] xs h = let n = lead_before k.Lo
 load_items change keeps here end_ split open_ (p ∷ []) [] h = h
 load_items change keeps here end_ split open_ (p ∷ []) (x ∷ xs) ((w, (o, (t, inl i))), g) = absurd (true≢false (sym i.0))
 load_items change keeps here end_ split open_ (p ∷ []) (x ∷ xs) ((w, (o, (t, inr i))), g) =
-    let all : AreOf s.loaded (change xs) = keeps xs (items_apart s.loaded s.close_round (mark 41) xs g.1.3 i.1) in
-    ((w, (o, (t, inr (i.0, items_again s.loaded s.close_round (mark 41) refl (change xs) all)))), (g.0, (g.1.0, g.1.1, g.1.2, each_item s.loaded s.close_round (mark 41) (change xs) all), g.2, g.3))
+    let all : AreOf s.loaded (change xs) = keeps xs (items_apart s.loaded s.close_round (mark_leaf 41) xs g.1.3 i.1) in
+    ((w, (o, (t, inr (i.0, items_again s.loaded s.close_round (mark_leaf 41) refl (change xs) all)))), (g.0, (g.1.0, g.1.1, g.1.2, each_item s.loaded s.close_round (mark_leaf 41) (change xs) all), g.2, g.3))
 load_items change keeps here end_ split open_ (p ∷ q ∷ ps) xs h = let n = lead_before k.Load (map root (p ∷ q ∷ ps)) (map root xs) h.0 in absurd (omega arith)
 
 -- ---- in place of the sequence

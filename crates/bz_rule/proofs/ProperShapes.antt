@@ -12,7 +12,7 @@ use Rattle.bz_tree.specs.Shapes.{Sort, Terminal, Shape, Fits, Listed, Behind, Se
 use Rattle.bz_tree.specs.Legal.{IsSort}
 use Rattle.bz_items.specs.Characters.{comma}
 use Rattle.bz_value.specs.Frames.{Frame, row, sequence}
-use Rattle.bz_value.specs.Roots.{mark, each_with_comma, row_in}
+use Rattle.bz_value.specs.Roots.{mark_leaf, each_with_comma, row_in}
 
 -- ---- which tokens a shape names by their texts
 
@@ -125,7 +125,7 @@ alike_itself (x ∷ xs) = more x x xs xs (itself x) (alike_itself xs)
 
 commas_alike : (xs ys : List Part) (closer : Part) → Alike xs ys → Alike (each_with_comma xs ++ closer ∷ []) (each_with_comma ys ++ closer ∷ [])
 commas_alike xs ys closer over = more closer closer [] [] (itself closer) over
-commas_alike xs ys closer (more x y xs' ys' r w) = more x y _ _ r (more (mark comma) (mark comma) _ _ (itself (mark comma)) (commas_alike xs' ys' closer w))
+commas_alike xs ys closer (more x y xs' ys' r w) = more x y _ _ r (more (mark_leaf comma) (mark_leaf comma) _ _ (itself (mark_leaf comma)) (commas_alike xs' ys' closer w))
 
 behind_parts : (xs ys us vs : List Part) → Alike xs ys → Alike us vs → Alike (xs ++ us) (ys ++ vs)
 behind_parts xs ys us vs over i = i
@@ -133,7 +133,7 @@ behind_parts xs ys us vs (more x y xs' ys' r w) i = more x y _ _ r (behind_parts
 
 row_alike : (f : Frame) (xs ys us vs : List Part) → Alike xs ys → Alike us vs → Alike (row_in f xs us) (row_in f ys vs)
 row_alike row xs ys us vs h i = h
-row_alike (sequence opener closer) xs ys us vs h i = behind_parts xs ys _ _ h (more (mark opener) (mark opener) _ _ (itself (mark opener)) (commas_alike us vs (mark closer) i))
+row_alike (sequence opener closer) xs ys us vs h i = behind_parts xs ys _ _ h (more (mark_leaf opener) (mark_leaf opener) _ _ (itself (mark_leaf opener)) (commas_alike us vs (mark_leaf closer) i))
 
 -- What is alike to the parts and items of a node fits its shape too.
 pub kind_alike : (kind : Kind) (f : Frame) (xs ys us vs : List Part) → Alike xs ys → Alike us vs → Fits IsSort (shape kind) (row_in f xs us) → Fits IsSort (shape kind) (row_in f ys vs)

@@ -88,8 +88,8 @@ named call = option_map (λ kind. record { kind = kind; arguments = call.argumen
 abbrev pub rule_of : Item → Option Rule
 rule_of item = option_and_then named (call_of item)
 
-abbrev pub has_kind : Bytes → Item → Bool
-has_kind kind item = is_text kind (option_map (λ rule. rule.kind) (rule_of item))
+abbrev pub is_rule_of_kind : Bytes → Item → Bool
+is_rule_of_kind kind item = is_text kind (option_map (λ rule. rule.kind) (rule_of item))
 
 -- An attribute is a named argument, name = value; of several with one name the first is meant.
 abbrev pub value_behind : Bytes → List Expr → Option Expr

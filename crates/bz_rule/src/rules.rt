@@ -1,7 +1,7 @@
 //! Rules: statements that call a name, or names joined by dots.
 ghost use Rattle.std.specs.Prelude.{◌≡◌, Option};
 ghost use Rattle.std.specs.Option.{option_copied, option_map};
-ghost use Rattle.bz_rule.specs.Rules.{called, call_of, has_kind, value_behind, value_named, attribute, name_in, has_name};
+ghost use Rattle.bz_rule.specs.Rules.{called, call_of, is_rule_of_kind, value_behind, value_named, attribute, name_in, has_name};
 ghost use Rattle.bz_rule.specs.Seen.{seen};
 
 use crate::names::{is_dotted, is_named};
@@ -79,8 +79,8 @@ pub fn name_of<'a>(call: &Call<'a>) -> Option<&'a [u8]>
 
 /// Whether the item is a rule of this kind.
 #[tactic(auto, using(crate::proofs::Named::kind_of_call))]
-pub fn has_kind(kind: &[u8], item: &Item) -> bool
-    ensures { result ≡ has_kind kind.now item.now }
+pub fn is_rule_of_kind(kind: &[u8], item: &Item) -> bool
+    ensures { result ≡ is_rule_of_kind kind.now item.now }
 {
     match call_of(item) {
         Some(call) => is_dotted(kind, call.function),

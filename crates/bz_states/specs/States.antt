@@ -48,8 +48,8 @@ use Rattle.bz_states.specs.declared.state.Move.{Move}
 use Rattle.bz_states.specs.declared.state.Move.TheVariants as m
 use Rattle.bz_states.specs.declared.state.Rung.{Rung}
 use Rattle.bz_states.specs.declared.state.Rung.TheVariants as g
-use Rattle.bz_tree.specs.Shapes.{Terminal, Sort, rank, level, argument, entry, clause, first_clause, loaded, small, line, param, or_level, test, expr, Shape, none, done, tok, sub, alt, list, each, times, items, slice_end, starred, bzl_shape, assigns, comma, colon, keyword, open_round, close_round, open_square, close_square}
-use Rattle.bz_tree.specs.Reading.{starts, starts_with, first, first_of, Plan, finish, one, piece, choose, round, square, curly, suffix, clause_plan, small_plan, more_items, clauses}
+use Rattle.bz_tree.specs.Shapes.{Terminal, Sort, rank, level, argument, entry, clause, first_clause, loaded, small, line, param, or_level, test, expr, Shape, none, done, tok, sub, alt, list, each, times, items, slice_end, starred, bzl_shape, assigns, comma_mark, colon_mark, one_keyword, open_round, close_round, open_square, close_square}
+use Rattle.bz_tree.specs.Reading.{starts, starts_with, first, first_of, Plan, finish, one, piece, choose, round, square, curly, suffix_plan, clause_plan, small_plan, more_items, clauses}
 use Rattle.bz_tree.specs.Suites.{def_header, for_header, test_header, else_header}
 use Rattle.bz_states.specs.Tokens.{terminals_of}
 
@@ -85,7 +85,7 @@ names = after_first (bzl_shape k.For)
 
 -- behind the names of a `for`
 abbrev pub in_or : Shape
-in_or = tok (keyword (codes "in")) (sub or_level done)
+in_or = tok (one_keyword (codes "in")) (sub or_level done)
 
 -- behind the second place of a slice
 abbrev pub slice_stop : Shape
@@ -98,16 +98,16 @@ abbrev pub cond_tail : Shape
 cond_tail = after_first (after_first (bzl_shape k.Cond))
 
 abbrev pub round_end : Plan
-round_end = choose (finish k.Paren (tok close_round done)) (finish k.Tuple (tok comma (items test close_round)))
+round_end = choose (finish k.Paren (tok close_round done)) (finish k.Tuple (tok comma_mark (items test close_round)))
 
 abbrev pub round_item : Plan
 round_item = choose (finish k.Tuple (tok close_round done)) (piece test round_end)
 
 abbrev pub index_end : Plan
-index_end = choose (finish k.Index (tok close_square done)) (finish k.Slice (tok colon slice_end))
+index_end = choose (finish k.Index (tok close_square done)) (finish k.Slice (tok colon_mark slice_end))
 
 abbrev pub index_item : Plan
-index_item = choose (finish k.Slice (tok colon slice_end)) (piece expr index_end)
+index_item = choose (finish k.Slice (tok colon_mark slice_end)) (piece expr index_end)
 
 abbrev pub call_or_index : Plan
 call_or_index = choose (finish k.Call (tok open_round (items argument close_round))) (one open_square index_item)
@@ -185,8 +185,8 @@ left_of_clauses close clauses_at.Clause = sub clause (after_first (clauses (term
 
 abbrev pub left_of_names : NamesAt → Shape
 left_of_names names_at.Name = names
-left_of_names names_at.Behind = alt (tok comma names) in_or
-left_of_names names_at.Comma = tok comma names
+left_of_names names_at.Behind = alt (tok comma_mark names) in_or
+left_of_names names_at.Comma = tok comma_mark names
 
 -- behind the keyword of a lambda
 abbrev pub lambda_tail : Shape
@@ -196,8 +196,8 @@ abbrev pub left_of_lambda : LambdaAt → Shape
 left_of_lambda lambda_at.Begin = bzl_shape k.Lambda
 left_of_lambda lambda_at.Params = lambda_tail
 left_of_lambda lambda_at.Param = right lambda_tail
-left_of_lambda lambda_at.Behind = alt (tok comma (right lambda_tail)) (left lambda_tail)
-left_of_lambda lambda_at.Comma = tok comma (right lambda_tail)
+left_of_lambda lambda_at.Behind = alt (tok comma_mark (right lambda_tail)) (left lambda_tail)
+left_of_lambda lambda_at.Comma = tok comma_mark (right lambda_tail)
 
 abbrev pub left_of_starred : StarredAt → Shape
 left_of_starred starred_at.Begin = starred
@@ -213,7 +213,7 @@ for_names = after_first for_header
 
 -- behind the names of a `for`
 abbrev pub in_expression : Shape
-in_expression = tok (keyword (codes "in")) (sub expr (tok colon done))
+in_expression = tok (one_keyword (codes "in")) (sub expr (tok colon_mark done))
 
 abbrev pub left_of_header : HeaderAt → Shape
 left_of_header header_at.Def = def_header
@@ -221,20 +221,20 @@ left_of_header header_at.DefName = after_first def_header
 left_of_header header_at.DefOpen = after_first (after_first def_header)
 left_of_header header_at.Params = params
 left_of_header header_at.Param = right params
-left_of_header header_at.BehindParam = alt (tok comma params) (left params)
-left_of_header header_at.Comma = tok comma params
+left_of_header header_at.BehindParam = alt (tok comma_mark params) (left params)
+left_of_header header_at.Comma = tok comma_mark params
 left_of_header header_at.For = for_header
 left_of_header header_at.Name = for_names
-left_of_header header_at.BehindName = alt (tok comma for_names) in_expression
-left_of_header header_at.NameComma = tok comma for_names
+left_of_header header_at.BehindName = alt (tok comma_mark for_names) in_expression
+left_of_header header_at.NameComma = tok comma_mark for_names
 left_of_header header_at.In = in_expression
 left_of_header header_at.InExpression = after_first in_expression
 left_of_header (header_at.Test token) = test_header (terminals_of token)
-left_of_header header_at.TestColon = sub test (tok colon done)
+left_of_header header_at.TestColon = sub test (tok colon_mark done)
 left_of_header header_at.Else = else_header
 
 abbrev pub left_of_slice : SliceAt → Shape
-left_of_slice slice_at.Colon = tok colon slice_end
+left_of_slice slice_at.Colon = tok colon_mark slice_end
 left_of_slice slice_at.End = slice_end
 left_of_slice slice_at.EndTest = right slice_end
 left_of_slice slice_at.BehindEnd = slice_stop
@@ -264,7 +264,7 @@ abbrev pub left_in_brackets : SquareOrCurly → BracketsAt → Plan
 left_in_brackets all here = left_of_brackets (row_of_brackets all) here
 
 abbrev pub left_of_suffix : SuffixAt → Plan
-left_of_suffix suffix_at.Begin = suffix
+left_of_suffix suffix_at.Begin = suffix_plan
 left_of_suffix suffix_at.CallOrIndex = call_or_index
 left_of_suffix suffix_at.Call = finish k.Call (tok open_round (items argument close_round))
 left_of_suffix suffix_at.Index = one open_square index_item

@@ -460,7 +460,9 @@ impl<'a> Leaves<'a> {
         ensures { self.new ≡ drop 1 self.old }
     {
         if let Ok(front) = self.next {
-            let place = self.place.behind(front.class, front.token_of(self.rest));
+            let place = self
+                .place
+                .after_token(front.class, front.token_of(self.rest));
             let rest = front.rest_of(self.rest);
             self.last = self.offset.saturating_add(front.gap);
             self.offset = self.last.saturating_add(front.token);

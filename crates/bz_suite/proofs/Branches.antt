@@ -8,15 +8,15 @@ use Rattle.bz_value.specs.Indented.{IndentedGapLine}
 use Rattle.bz_view.specs.View.{Seen}
 use Rattle.bz_suite.specs.declared.value.Statement.{Statement}
 use Rattle.bz_suite.specs.declared.value.Branch.{Branch}
-use Rattle.bz_suite.specs.View.{Stated, stated, branches, with_suite, head, lines_before, comments_of}
+use Rattle.bz_suite.specs.View.{Stated, stated, branches, with_suite, head, indented_lines_before, indented_comments}
 
 abbrev Lines : Type 0
 Lines = List IndentedGapLine
 
 pub branch_more : (kind : Kind) (parts : List Seen) (above above' : List Bytes) (left after behind lines : Lines) (x : Part) (rest : List Stated) (form : Form) (suffix : Option Bytes)
     (statements : List Statement) (ends : List Bytes) (own own' all : List Branch) (left_of_all : Lines)
-    → behind ≡ lines_before rest after → suffix ≡ (stated x).suffix → form ≡ head kind parts above suffix
-    → statements ≡ ((stated x).suite behind).0.0 → ends ≡ ((stated x).suite behind).0.1 → lines ≡ ((stated x).suite behind).1 → above' ≡ comments_of lines
+    → behind ≡ indented_lines_before rest after → suffix ≡ (stated x).suffix → form ≡ head kind parts above suffix
+    → statements ≡ ((stated x).suite behind).0.0 → ends ≡ ((stated x).suite behind).0.1 → lines ≡ ((stated x).suite behind).1 → above' ≡ indented_comments lines
     → own ++ (with_suite kind parts above left (stated x ∷ rest) after).0 ≡ all → (with_suite kind parts above left (stated x ∷ rest) after).1 ≡ left_of_all
     → own' ≡ own ++ record { head = form; statements = statements; end_ = ends } ∷ []
     → (own' ++ (branches kind [] above' lines rest after).0 ≡ all) × ((branches kind [] above' lines rest after).1 ≡ left_of_all)

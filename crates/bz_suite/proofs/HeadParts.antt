@@ -6,7 +6,7 @@ use Rattle.bz_tree.specs.declared.kind.Kind.TheVariants as k
 use Rattle.bz_tree.specs.declared.tree.Part.{Part, Node'}
 use Rattle.bz_tree.specs.declared.tree.Part.TheVariants as p
 use Rattle.bz_tree.specs.Shapes as s
-use Rattle.bz_tree.specs.Shapes.{Sort, Terminal, Shape, Fits, Listed, Behind, tok, sub, owned, enclosed, done, has_kind, has_token}
+use Rattle.bz_tree.specs.Shapes.{Sort, Terminal, Shape, Fits, Listed, Behind, tok, sub, owned, enclosed, done, sort_has_kind, has_token}
 use Rattle.bz_tree.specs.Legal.{IsSort}
 use Rattle.bz_tree.specs.Spots.{Spot, Begins, Within, Along, onward, behind_node, behind_part, BzlStands, AtLeaves, AtParts}
 use Rattle.bz_tree.proofs.Balance.{no_such, inner_sort}
@@ -20,12 +20,12 @@ use Rattle.bz_suite.proofs.KeptGaps.{NoColon, no_colons, token_plain, sort_plain
 
 -- ---- behind a suite and behind a statement a line begins
 
-suite_ends : (kind : Kind) (here : Spot) → has_kind s.suite kind ≡ true → behind_node kind here ≡ Begins
+suite_ends : (kind : Kind) (here : Spot) → sort_has_kind s.suite kind ≡ true → behind_node kind here ≡ Begins
 suite_ends k.Line here h = refl
 suite_ends k.Suite here h = refl
 suite_ends _ here h = no_such h
 
-stmt_ends : (kind : Kind) (here : Spot) → has_kind s.stmt kind ≡ true → behind_node kind here ≡ Begins
+stmt_ends : (kind : Kind) (here : Spot) → sort_has_kind s.stmt kind ≡ true → behind_node kind here ≡ Begins
 stmt_ends k.Line here h = refl
 stmt_ends k.Def here h = refl
 stmt_ends k.IfStmt here h = refl
@@ -62,7 +62,7 @@ pub record Headed (P : List Part → Type 0) (back xs : List Part) : Type 0 wher
   pub cut : xs ≡ front ++ mark ∷ own ∷ back
   pub such : P front
   pub plain : AllByRecursion InHeader front
-  pub colon : has_token s.colon mark ≡ true
+  pub colon : has_token s.colon_mark mark ≡ true
   pub gap : AtLeaves BzlStands Along mark
   pub suite : IsSort s.suite own
   pub there : AtLeaves BzlStands Along own
@@ -106,9 +106,9 @@ abbrev pub None_before : List Part → Type 0
 None_before front = front ≡ []
 
 -- a colon and a suite
-pub colon_headed : (mark own : Part) (back : List Part) → has_token s.colon mark ≡ true → IsSort s.suite own → AtParts BzlStands Begins Along (mark ∷ own ∷ back) → Headed None_before back (mark ∷ own ∷ back)
+pub colon_headed : (mark own : Part) (back : List Part) → has_token s.colon_mark mark ≡ true → IsSort s.suite own → AtParts BzlStands Begins Along (mark ∷ own ∷ back) → Headed None_before back (mark ∷ own ∷ back)
 colon_headed mark own back h i at_ =
-    let first : behind_part Begins Along mark ≡ Along = token_goes s.colon mark refl h Begins Along in
+    let first : behind_part Begins Along mark ≡ Along = token_goes s.colon_mark mark refl h Begins Along in
     let second : behind_part Begins (behind_part Begins Along mark) own ≡ Begins = behind_suite own Begins (behind_part Begins Along mark) i in
     record {
       front = [];
@@ -134,18 +134,18 @@ owned_headed (mark ∷ own ∷ x ∷ xs) h at_ = absurd h.1.1
 
 -- a colon behind these parts
 abbrev pub with_colon : List Part → List Part
-with_colon front = front ++ r.mark 58 ∷ []
+with_colon front = front ++ r.mark_leaf 58 ∷ []
 
 abbrev pub FitsHeader : Shape → List Part → Type 0
 FitsHeader shape front = Fits IsSort shape (with_colon front)
 
-pub colon_alone : (front : List Part) → None_before front → FitsHeader (tok s.colon done) front
-colon_alone front e = subst (λ zs. FitsHeader (tok s.colon done) zs) (sym e) (refl, tt)
+pub colon_alone : (front : List Part) → None_before front → FitsHeader (tok s.colon_mark done) front
+colon_alone front e = subst (λ zs. FitsHeader (tok s.colon_mark done) zs) (sym e) (refl, tt)
 
 -- behind if or elif
-pub test_headed : (x mark own : Part) (back : List Part) → IsSort s.test x → has_token s.colon mark ≡ true → IsSort s.suite own → AtParts BzlStands Begins Along (x ∷ mark ∷ own ∷ back) → Headed (FitsHeader (sub s.test (tok s.colon done))) back (x ∷ mark ∷ own ∷ back)
+pub test_headed : (x mark own : Part) (back : List Part) → IsSort s.test x → has_token s.colon_mark mark ≡ true → IsSort s.suite own → AtParts BzlStands Begins Along (x ∷ mark ∷ own ∷ back) → Headed (FitsHeader (sub s.test (tok s.colon_mark done))) back (x ∷ mark ∷ own ∷ back)
 test_headed x mark own back h i j at_ =
-    cons None_before (FitsHeader (sub s.test (tok s.colon done))) back x (mark ∷ own ∷ back) (sort_in s.test x refl h) (λ front e. (h, colon_alone front e))
+    cons None_before (FitsHeader (sub s.test (tok s.colon_mark done))) back x (mark ∷ own ∷ back) (sort_in s.test x refl h) (λ front e. (h, colon_alone front e))
     (colon_headed mark own back i j (moved (mark ∷ own ∷ back) (sort_goes s.test x refl h Begins Along) at_.1))
 
 -- ---- lists
@@ -153,59 +153,59 @@ test_headed x mark own back h i j at_ =
 -- P: of what begins with an item; Q: of what follows one; R: of what follows all
 module _ (q : Sort) (inner : inner_sort q ≡ true) (here : Spot) (stays : onward here ≡ here) (last : Bool) (K P Q R : List Part → Type 0)
     (item : (x : Part) (front : List Part) → IsSort q x → Q front → P (x ∷ front))
-    (comma : (x : Part) (front : List Part) → has_token s.comma x ≡ true → P front → Q (x ∷ front))
-    (trailing : (x : Part) (front : List Part) → last ≡ true → has_token s.comma x ≡ true → R front → Q (x ∷ front))
+    (comma : (x : Part) (front : List Part) → has_token s.comma_mark x ≡ true → P front → Q (x ∷ front))
+    (trailing : (x : Part) (front : List Part) → last ≡ true → has_token s.comma_mark x ≡ true → R front → Q (x ∷ front))
     (over : (front : List Part) → R front → Q front)
     (rest : (xs : List Part) → K xs → AtParts BzlStands Begins here xs → Headed R [] xs) where
   mutual
-    listed_headed : (xs : List Part) → Listed (IsSort q) s.comma last K xs → AtParts BzlStands Begins here xs → Headed P [] xs
+    listed_headed : (xs : List Part) → Listed (IsSort q) s.comma_mark last K xs → AtParts BzlStands Begins here xs → Headed P [] xs
     listed_headed [] h at_ = absurd h
     listed_headed (x ∷ xs) h at_ = cons Q P [] x xs (sort_in q x inner h.0) (λ front w. item x front h.0 w) (behind_headed xs h.1 (moved xs (sort_goes q x inner h.0 Begins here ∙ stays) at_.1))
 
-    behind_headed : (xs : List Part) → Behind (IsSort q) s.comma last K xs → AtParts BzlStands Begins here xs → Headed Q [] xs
+    behind_headed : (xs : List Part) → Behind (IsSort q) s.comma_mark last K xs → AtParts BzlStands Begins here xs → Headed Q [] xs
     behind_headed [] h at_ = weaker R Q [] [] over (rest [] h at_)
     behind_headed (x ∷ xs) (inl h) at_ = weaker R Q [] (x ∷ xs) over (rest (x ∷ xs) h at_)
     behind_headed (x ∷ xs) (inr (m, inl h)) at_ =
-        cons P Q [] x xs (token_in s.comma x refl refl m) (λ front w. comma x front m w) (listed_headed xs h (moved xs (token_goes s.comma x refl m Begins here ∙ stays) at_.1))
+        cons P Q [] x xs (token_in s.comma_mark x refl refl m) (λ front w. comma x front m w) (listed_headed xs h (moved xs (token_goes s.comma_mark x refl m Begins here ∙ stays) at_.1))
     behind_headed (x ∷ xs) (inr (m, inr h)) at_ =
-        cons R Q [] x xs (token_in s.comma x refl refl m) (λ front w. trailing x front h.0 m w) (rest xs h.1 (moved xs (token_goes s.comma x refl m Begins here ∙ stays) at_.1))
+        cons R Q [] x xs (token_in s.comma_mark x refl refl m) (λ front w. trailing x front h.0 m w) (rest xs h.1 (moved xs (token_goes s.comma_mark x refl m Begins here ∙ stays) at_.1))
 
 -- ---- for
 
 abbrev in_shape : Shape
-in_shape = tok (s.keyword (codes "in")) (sub s.expr (tok s.colon done))
+in_shape = tok (s.one_keyword (codes "in")) (sub s.expr (tok s.colon_mark done))
 
-in_headed : (xs : List Part) → Fits IsSort (tok (s.keyword (codes "in")) (sub s.expr owned)) xs → AtParts BzlStands Begins Along xs → Headed (FitsHeader in_shape) [] xs
+in_headed : (xs : List Part) → Fits IsSort (tok (s.one_keyword (codes "in")) (sub s.expr owned)) xs → AtParts BzlStands Begins Along xs → Headed (FitsHeader in_shape) [] xs
 in_headed [] h at_ = absurd h
 in_headed (x ∷ []) h at_ = absurd h.1
 in_headed (x ∷ y ∷ xs) h at_ =
-    let first : behind_part Begins Along x ≡ Along = token_goes (s.keyword (codes "in")) x refl h.0 Begins Along in
+    let first : behind_part Begins Along x ≡ Along = token_goes (s.one_keyword (codes "in")) x refl h.0 Begins Along in
     let there : AtParts BzlStands Begins Along (y ∷ xs) = moved (y ∷ xs) first at_.1 in
     let behind : Headed None_before [] xs = owned_headed xs h.1.1 (moved xs (sort_goes s.expr y refl h.1.0 Begins Along) there.1) in
-    cons (FitsHeader (sub s.expr (tok s.colon done))) (FitsHeader in_shape) [] x (y ∷ xs) (token_in (s.keyword (codes "in")) x refl refl h.0) (λ front w. (h.0, w))
-    (cons None_before (FitsHeader (sub s.expr (tok s.colon done))) [] y xs (sort_in s.expr y refl h.1.0) (λ front e. (h.1.0, colon_alone front e)) behind)
+    cons (FitsHeader (sub s.expr (tok s.colon_mark done))) (FitsHeader in_shape) [] x (y ∷ xs) (token_in (s.one_keyword (codes "in")) x refl refl h.0) (λ front w. (h.0, w))
+    (cons None_before (FitsHeader (sub s.expr (tok s.colon_mark done))) [] y xs (sort_in s.expr y refl h.1.0) (λ front e. (h.1.0, colon_alone front e)) behind)
 
 abbrev BehindName : List Part → Type 0
-BehindName front = Behind (IsSort s.primary) s.comma false (Fits IsSort in_shape) (with_colon front)
+BehindName front = Behind (IsSort s.primary) s.comma_mark false (Fits IsSort in_shape) (with_colon front)
 
 no_names : (front : List Part) → FitsHeader in_shape front → BehindName front
 no_names [] h = inl h
 no_names (x ∷ front) h = inl h
 
 -- behind for
-pub for_headed : (xs : List Part) → Fits IsSort (s.list s.primary s.comma false (tok (s.keyword (codes "in")) (sub s.expr owned))) xs → AtParts BzlStands Begins Along xs → Headed (FitsHeader (s.list s.primary s.comma false in_shape)) [] xs
+pub for_headed : (xs : List Part) → Fits IsSort (s.list s.primary s.comma_mark false (tok (s.one_keyword (codes "in")) (sub s.expr owned))) xs → AtParts BzlStands Begins Along xs → Headed (FitsHeader (s.list s.primary s.comma_mark false in_shape)) [] xs
 for_headed xs h at_ =
-    listed_headed s.primary refl Along refl false (Fits IsSort (tok (s.keyword (codes "in")) (sub s.expr owned))) (FitsHeader (s.list s.primary s.comma false in_shape)) BehindName (FitsHeader in_shape)
+    listed_headed s.primary refl Along refl false (Fits IsSort (tok (s.one_keyword (codes "in")) (sub s.expr owned))) (FitsHeader (s.list s.primary s.comma_mark false in_shape)) BehindName (FitsHeader in_shape)
     (λ x front q w. (q, w)) (λ x front m w. inr (m, inl w)) (λ x front e m w. no_such e) no_names in_headed xs h at_
 
 -- ---- def
 
 -- the items among these parts, each with a comma behind it, then the closing bracket and a colon
 abbrev pub closed_row : List Part → List Part
-closed_row front = each_with_comma (places front) ++ r.mark 41 ∷ r.mark 58 ∷ []
+closed_row front = each_with_comma (places front) ++ r.mark_leaf 41 ∷ r.mark_leaf 58 ∷ []
 
 abbrev close_shape : Shape
-close_shape = tok s.close_round (tok s.colon done)
+close_shape = tok s.close_round (tok s.colon_mark done)
 
 -- parameters, commas and the closing bracket
 pub record AreParameterParts (shape : Shape) (front : List Part) : Type 0 where
@@ -214,7 +214,7 @@ pub record AreParameterParts (shape : Shape) (front : List Part) : Type 0 where
   pub fits : Fits IsSort shape (closed_row front)
 
 abbrev Parameters : List Part → Type 0
-Parameters front = AreParameterParts (s.list s.param s.comma true close_shape) front
+Parameters front = AreParameterParts (s.list s.param s.comma_mark true close_shape) front
 
 -- behind a parameter
 abbrev Closing : List Part → Type 0
@@ -227,17 +227,17 @@ alternate_more : (x y : Part) (front : List Part) → GoesOn x → GoesOn y → 
 alternate_more x y [] g i h = tt
 alternate_more x y (z ∷ front) g i h = (g, i, h)
 
-comma_before : (y : Part) (front : List Part) → has_token s.comma y ≡ true → Parameters front → Closing (y ∷ front)
+comma_before : (y : Part) (front : List Part) → has_token s.comma_mark y ≡ true → Parameters front → Closing (y ∷ front)
 comma_before y front m w x h = record {
-  paired = (token s.comma y m, w.paired);
-  alternate = alternate_more x y front (sort_goes s.param x refl h) (token_goes s.comma y refl m) w.alternate;
+  paired = (token s.comma_mark y m, w.paired);
+  alternate = alternate_more x y front (sort_goes s.param x refl h) (token_goes s.comma_mark y refl m) w.alternate;
   fits = (h, inr (refl, inl w.fits));
 }
 
-comma_last : (y : Part) (front : List Part) → has_token s.comma y ≡ true → Close front → Closing (y ∷ front)
+comma_last : (y : Part) (front : List Part) → has_token s.comma_mark y ≡ true → Close front → Closing (y ∷ front)
 comma_last y front m w x h = subst (λ zs. Parameters (x ∷ y ∷ zs)) (sym w.1) (record {
-  paired = (token s.comma y m, token s.close_round w.0 w.2);
-  alternate = (sort_goes s.param x refl h, token_goes s.comma y refl m, tt);
+  paired = (token s.comma_mark y m, token s.close_round w.0 w.2);
+  alternate = (sort_goes s.param x refl h, token_goes s.comma_mark y refl m, tt);
   fits = (h, inr (refl, inr (refl, (refl, (refl, tt)))));
 })
 
@@ -255,7 +255,7 @@ close_headed (y ∷ xs) h at_ =
     cons None_before Close [] y xs (token_in s.close_round y refl refl h.0) (λ front e. (y, ap (λ (zs : List Part). y ∷ zs) e, h.0)) behind
 
 abbrev Enclosed : List Part → Type 0
-Enclosed front = AreParameterParts (enclosed s.param s.close_round (tok s.colon done)) front
+Enclosed front = AreParameterParts (enclosed s.param s.close_round (tok s.colon_mark done)) front
 
 no_parameters : (front : List Part) → Close front → Enclosed front
 no_parameters front w = subst Enclosed (sym w.1) (record { paired = token s.close_round w.0 w.2; alternate = tt; fits = inl (refl, (refl, tt)) })
@@ -272,7 +272,7 @@ record AreInBrackets (front : List Part) : Type 0 where
   behind : List Part
   cut : front ≡ opener ∷ behind
   opens : has_token s.open_round opener ≡ true
-  parameters : AreParameterParts (enclosed s.param s.close_round (tok s.colon done)) behind
+  parameters : AreParameterParts (enclosed s.param s.close_round (tok s.colon_mark done)) behind
 
 -- a name before them
 pub record Named (front : List Part) : Type 0 where
@@ -282,7 +282,7 @@ pub record Named (front : List Part) : Type 0 where
   pub cut : front ≡ name ∷ opener ∷ behind
   pub named : has_token s.name name ≡ true
   pub opens : has_token s.open_round opener ≡ true
-  pub parameters : AreParameterParts (enclosed s.param s.close_round (tok s.colon done)) behind
+  pub parameters : AreParameterParts (enclosed s.param s.close_round (tok s.colon_mark done)) behind
 
 -- behind def
 pub def_headed : (xs : List Part) → Fits IsSort (tok s.name (tok s.open_round (enclosed s.param s.close_round owned))) xs → AtParts BzlStands Begins Along xs → Headed Named [] xs

@@ -7,7 +7,7 @@ use Rattle.bz_tree.specs.declared.kind.Kind.{Kind}
 use Rattle.bz_tree.specs.declared.kind.Kind.TheVariants as k
 use Rattle.bz_tree.specs.declared.tree.Part.{Part}
 use Rattle.bz_tree.specs.Shapes as s
-use Rattle.bz_tree.specs.Shapes.{Terminal, Fits, Times, has_kind, has_token, is_kind, no_more, once_more, tok, sub, owned, done, bzl_shape}
+use Rattle.bz_tree.specs.Shapes.{Terminal, Fits, Times, sort_has_kind, has_token, is_kind, no_more, once_more, tok, sub, owned, done, bzl_shape}
 use Rattle.bz_tree.specs.Legal.{IsSort}
 use Rattle.bz_tree.specs.Spots.{Begins, Along, BzlStands, AtLeaves, AtParts}
 use Rattle.bz_tree.proofs.Balance.{no_such}
@@ -17,7 +17,7 @@ use Rattle.bz_items.specs.Characters.{Bytes}
 use Rattle.bz_value.specs.Gaps.{all_in}
 use Rattle.bz_value.specs.Indented.{IndentedGapLine, indented}
 use Rattle.bz_value.proofs.Totals.{append_total, form_amount}
-use Rattle.bz_view.specs.View.{Seen, seen, first_gap, loose_in, items_in}
+use Rattle.bz_view.specs.View.{Seen, seen, first_seen_gap, loose_in, items_in}
 use Rattle.bz_view.proofs.InnerParts.{token_inner, token_goes, plain_tokens}
 use Rattle.bz_view.proofs.KeptParts.{AllKept, token_part, row_kept, head_kept, found_kept, cut_total}
 use Rattle.bz_view.proofs.Pairs.{TokenAt, Paired, token}
@@ -25,7 +25,7 @@ use Rattle.bz_view.proofs.ProperParts.{dropped}
 use Rattle.bz_view.proofs.QuietGaps.{Silent}
 use Rattle.bz_view.proofs.SeenParts.{all_parted}
 use Rattle.bz_view.proofs.Sums.{gap_amount, part_amount}
-use Rattle.bz_suite.specs.View.{Stated, stated, branches, with_suite, head, def_head, row_head, lines_before, comments_of}
+use Rattle.bz_suite.specs.View.{Stated, stated, branches, with_suite, head, def_head, row_head, indented_lines_before, indented_comments}
 use Rattle.bz_suite.proofs.KeptGaps.{colon_is}
 use Rattle.bz_suite.proofs.HeadParts.{Headed, InHeader, None_before, Named, FitsHeader, token_in, colon_headed, test_headed, for_headed, def_headed}
 use Rattle.bz_suite.proofs.KeptValues.{stated_amount, branch_amount, lines_amount, indented_amount}
@@ -58,10 +58,10 @@ header_ends kind above left hs mark own back after h i =
 -- ---- the alternatives of an if
 
 abbrev pub elif_word : List Terminal
-elif_word = s.keyword (codes "elif")
+elif_word = s.one_keyword (codes "elif")
 
 abbrev pub else_word : List Terminal
-else_word = s.keyword (codes "else")
+else_word = s.one_keyword (codes "else")
 
 abbrev pub Elif : List Part → Type 0
 Elif xs = Fits IsSort (tok elif_word (sub s.test owned)) xs
@@ -77,10 +77,10 @@ module _ (number : Bytes → ℕ) where
 
   -- the comments of a header are those above it, its suffix, and those in its parts
   abbrev HeadKept : Kind → List Part → Type 0
-  HeadKept kind hs = (above : List Bytes) (suffix : Option Bytes) → gap_amount number (first_gap (map seen hs)) + amount number (e.Form (head kind (map seen hs) above suffix)) ≡ total number above + (suffix_amount number suffix + total (part_amount number) hs)
+  HeadKept kind hs = (above : List Bytes) (suffix : Option Bytes) → gap_amount number (first_seen_gap (map seen hs)) + amount number (e.Form (head kind (map seen hs) above suffix)) ≡ total number above + (suffix_amount number suffix + total (part_amount number) hs)
 
   row_head_kept : (kind : Kind) (hs : List Part) → AllKept number hs → (above : List Bytes) (suffix : Option Bytes)
-      → gap_amount number (first_gap (map seen hs)) + amount number (e.Form (row_head kind (map seen hs) above suffix)) ≡ total number above + (suffix_amount number suffix + total (part_amount number) hs)
+      → gap_amount number (first_seen_gap (map seen hs)) + amount number (e.Form (row_head kind (map seen hs) above suffix)) ≡ total number above + (suffix_amount number suffix + total (part_amount number) hs)
   row_head_kept kind hs h above suffix =
       let form = form_amount number (row_head kind (map seen hs) above suffix) in
       let both = append_total number above (loose_in (map seen hs)) in
@@ -88,15 +88,15 @@ module _ (number : Bytes → ℕ) where
       omega arith
 
   def_head_kept : (hs : List Part) → AllKept number hs → TokenAt 2 hs → Paired (drop 3 hs) → (above : List Bytes) (suffix : Option Bytes)
-      → gap_amount number (first_gap (map seen hs)) + amount number (e.Form (def_head (map seen hs) above suffix)) ≡ total number above + (suffix_amount number suffix + total (part_amount number) hs)
+      → gap_amount number (first_seen_gap (map seen hs)) + amount number (e.Form (def_head (map seen hs) above suffix)) ≡ total number above + (suffix_amount number suffix + total (part_amount number) hs)
   def_head_kept hs h t q above suffix =
       let form = form_amount number (def_head (map seen hs) above suffix) in
       let both = append_total number above (loose_in (take 3 (map seen hs))) in
       let front = head_kept number 2 hs h t in
       let found = found_kept number (drop 3 hs) (dropped _ 3 hs h) q in
-      let same : total (amount number) (items_in (all_in (first_gap (drop 3 (map seen hs)))) (drop 3 (map seen hs))).0 + total number (items_in (all_in (first_gap (drop 3 (map seen hs)))) (drop 3 (map seen hs))).1
-      ≡ total (amount number) (items_in (all_in (first_gap (map seen (drop 3 hs)))) (map seen (drop 3 hs))).0 + total number (items_in (all_in (first_gap (map seen (drop 3 hs)))) (map seen (drop 3 hs))).1 =
-      ap (λ ss. total (amount number) (items_in (all_in (first_gap ss)) ss).0 + total number (items_in (all_in (first_gap ss)) ss).1) (drop-map seen 3 hs) in
+      let same : total (amount number) (items_in (all_in (first_seen_gap (drop 3 (map seen hs)))) (drop 3 (map seen hs))).0 + total number (items_in (all_in (first_seen_gap (drop 3 (map seen hs)))) (drop 3 (map seen hs))).1
+      ≡ total (amount number) (items_in (all_in (first_seen_gap (map seen (drop 3 hs)))) (map seen (drop 3 hs))).0 + total number (items_in (all_in (first_seen_gap (map seen (drop 3 hs)))) (map seen (drop 3 hs))).1 =
+      ap (λ ss. total (amount number) (items_in (all_in (first_seen_gap ss)) ss).0 + total number (items_in (all_in (first_seen_gap ss)) ss).1) (drop-map seen 3 hs) in
       let cut = cut_total number 3 hs in
       omega arith
 
@@ -104,7 +104,7 @@ module _ (number : Bytes → ℕ) where
 
   -- the lines of the gap before the first of these parts; where there is none, those behind all
   abbrev pub before_amount : List Part → Lines → ℕ
-  before_amount xs after = lines_amount number (lines_before (map stated xs) after)
+  before_amount xs after = lines_amount number (indented_lines_before (map stated xs) after)
 
   -- Of a part that is a suite: its suffix, its statements, its end comments and the lines left are what its leaves and the
   -- lines behind it have.
@@ -116,7 +116,7 @@ module _ (number : Bytes → ℕ) where
 
   -- of further headers of a statement, where these lines are left of what stands before them
   abbrev BranchesKept : Kind → List Part → Type 0
-  BranchesKept kind xs = (left after : Lines) → before_amount xs after + (total (branch_amount number) (branches kind [] (comments_of left) left (map stated xs) after).0 + lines_amount number (branches kind [] (comments_of left) left (map stated xs) after).1)
+  BranchesKept kind xs = (left after : Lines) → before_amount xs after + (total (branch_amount number) (branches kind [] (indented_comments left) left (map stated xs) after).0 + lines_amount number (branches kind [] (indented_comments left) left (map stated xs) after).1)
       ≡ lines_amount number left + (total (part_amount number) xs + lines_amount number after)
 
   -- of the headers of a statement, where x is the first part
@@ -124,13 +124,13 @@ module _ (number : Bytes → ℕ) where
   HeadersKept kind x xs = (above : List Bytes) (left after : Lines) → gap_amount number (seen x).gap + (total (branch_amount number) (branches kind [] above left (map stated (x ∷ xs)) after).0 + lines_amount number (branches kind [] above left (map stated (x ∷ xs)) after).1)
       ≡ total number above + (total (part_amount number) (x ∷ xs) + lines_amount number after)
 
-  silent_mark : (mark : Part) → has_token s.colon mark ≡ true → Silent BzlStands mark → AtLeaves BzlStands Along mark → part_amount number mark ≡ 0
-  silent_mark mark h i at_ = token_part number mark (token s.colon mark h) ∙ ap (total number) (i (token_inner s.colon mark refl h) at_)
+  silent_mark : (mark : Part) → has_token s.colon_mark mark ≡ true → Silent BzlStands mark → AtLeaves BzlStands Along mark → part_amount number mark ≡ 0
+  silent_mark mark h i at_ = token_part number mark (token s.colon_mark mark h) ∙ ap (total number) (i (token_inner s.colon_mark mark refl h) at_)
 
   one_header : (kind : Kind) (x : Part) (hs : List Part) (mark own : Part) (back : List Part) → HeadKept kind (x ∷ hs) → AllByRecursion InHeader (x ∷ hs) → (stated mark).is_colon ≡ true → part_amount number mark ≡ 0
       → SuiteKept own → BranchesKept kind back → HeadersKept kind x (hs ++ mark ∷ own ∷ back)
   one_header kind x hs mark own back w n c m o b above left after =
-      let lines : Lines = lines_before (map stated back) after in
+      let lines : Lines = indented_lines_before (map stated back) after in
       let ends = header_ends kind above left (x ∷ hs) mark own back after n c in
       let branch = ap (λ r. total (branch_amount number) r.0 + lines_amount number r.1) ends in
       let here = w above (stated own).suffix in
@@ -168,18 +168,18 @@ module _ (number : Bytes → ℕ) where
   further : (kind : Kind) (x : Part) (xs : List Part) → HeadersKept kind x xs → BranchesKept kind (x ∷ xs)
   further kind x xs h left after =
       let gap = ap (λ s. lines_amount number (indented s.gap)) (part_of x) ∙ indented_amount number (seen x).gap in
-      let all = h (comments_of left) left after in
+      let all = h (indented_comments left) left after in
       omega arith
 
   -- ---- if, elif, else
 
-  if_kept : (word x mark own : Part) (back : List Part) → InHeader word → IsSort s.test x → has_token s.colon mark ≡ true → IsSort s.suite own → Known (word ∷ x ∷ mark ∷ own ∷ back) → AtParts BzlStands Begins Along (x ∷ mark ∷ own ∷ back)
+  if_kept : (word x mark own : Part) (back : List Part) → InHeader word → IsSort s.test x → has_token s.colon_mark mark ≡ true → IsSort s.suite own → Known (word ∷ x ∷ mark ∷ own ∷ back) → AtParts BzlStands Begins Along (x ∷ mark ∷ own ∷ back)
       → BranchesKept k.IfStmt back → HeadersKept k.IfStmt word (x ∷ mark ∷ own ∷ back)
   if_kept word x mark own back n h i j g at_ b =
-      let headed : Headed (FitsHeader (sub s.test (tok s.colon done))) back (x ∷ mark ∷ own ∷ back) = test_headed x mark own back h i j at_ in
-      headed_kept k.IfStmt (FitsHeader (sub s.test (tok s.colon done))) word back (x ∷ mark ∷ own ∷ back) headed n g (λ w. row_head_kept k.IfStmt (word ∷ headed.front) w) b
+      let headed : Headed (FitsHeader (sub s.test (tok s.colon_mark done))) back (x ∷ mark ∷ own ∷ back) = test_headed x mark own back h i j at_ in
+      headed_kept k.IfStmt (FitsHeader (sub s.test (tok s.colon_mark done))) word back (x ∷ mark ∷ own ∷ back) headed n g (λ w. row_head_kept k.IfStmt (word ∷ headed.front) w) b
 
-  else_kept : (word mark own : Part) → InHeader word → has_token s.colon mark ≡ true → IsSort s.suite own → Known (word ∷ mark ∷ own ∷ []) → AtParts BzlStands Begins Along (mark ∷ own ∷ []) → HeadersKept k.IfStmt word (mark ∷ own ∷ [])
+  else_kept : (word mark own : Part) → InHeader word → has_token s.colon_mark mark ≡ true → IsSort s.suite own → Known (word ∷ mark ∷ own ∷ []) → AtParts BzlStands Begins Along (mark ∷ own ∷ []) → HeadersKept k.IfStmt word (mark ∷ own ∷ [])
   else_kept word mark own n h i g at_ =
       let headed : Headed None_before [] (mark ∷ own ∷ []) = colon_headed mark own [] h i at_ in
       headed_kept k.IfStmt None_before word [] (mark ∷ own ∷ []) headed n g (λ w. row_head_kept k.IfStmt (word ∷ headed.front) w) (none_left k.IfStmt)
@@ -219,18 +219,18 @@ module _ (number : Bytes → ℕ) where
   if_statement (word ∷ x ∷ []) h g at_ = absurd h.1.1
   if_statement (word ∷ x ∷ mark ∷ []) h g at_ = absurd h.1.1.1
   if_statement (word ∷ x ∷ mark ∷ own ∷ back) h g at_ =
-      let there : AtParts BzlStands Begins Along (x ∷ mark ∷ own ∷ back) = behind_word (s.keyword (codes "if")) word (x ∷ mark ∷ own ∷ back) refl h.0 at_ in
+      let there : AtParts BzlStands Begins Along (x ∷ mark ∷ own ∷ back) = behind_word (s.one_keyword (codes "if")) word (x ∷ mark ∷ own ∷ back) refl h.0 at_ in
       let rest : BranchesKept k.IfStmt back = branches_kept back h.1.1.1.1 (known_parts (word ∷ x ∷ mark ∷ own ∷ []) back g).1 (test_headed x mark own back h.1.0 h.1.1.0 h.1.1.1.0 there).behind in
-      if_kept word x mark own back (token_in (s.keyword (codes "if")) word refl refl h.0) h.1.0 h.1.1.0 h.1.1.1.0 g there rest
+      if_kept word x mark own back (token_in (s.one_keyword (codes "if")) word refl refl h.0) h.1.0 h.1.1.0 h.1.1.1.0 g there rest
 
   abbrev ForParts : List Part → Type 0
-  ForParts front = FitsHeader (s.list s.primary s.comma false (tok (s.keyword (codes "in")) (sub s.expr (tok s.colon done)))) front
+  ForParts front = FitsHeader (s.list s.primary s.comma_mark false (tok (s.one_keyword (codes "in")) (sub s.expr (tok s.colon_mark done)))) front
 
   for_statement : (xs : List Part) → Fits IsSort (bzl_shape k.ForStmt) xs → Known xs → AtParts BzlStands Begins Begins xs → Compound_kept k.ForStmt xs
   for_statement [] h g at_ = absurd h
   for_statement (word ∷ xs) h g at_ =
-      let headed : Headed ForParts [] xs = for_headed xs h.1 (behind_word (s.keyword (codes "for")) word xs refl h.0 at_) in
-      headed_kept k.ForStmt ForParts word [] xs headed (token_in (s.keyword (codes "for")) word refl refl h.0) g (λ w. row_head_kept k.ForStmt (word ∷ headed.front) w) (none_left k.ForStmt)
+      let headed : Headed ForParts [] xs = for_headed xs h.1 (behind_word (s.one_keyword (codes "for")) word xs refl h.0 at_) in
+      headed_kept k.ForStmt ForParts word [] xs headed (token_in (s.one_keyword (codes "for")) word refl refl h.0) g (λ w. row_head_kept k.ForStmt (word ∷ headed.front) w) (none_left k.ForStmt)
 
   bracket_at : (front : List Part) → Named front → TokenAt 1 front
   bracket_at front w = subst (TokenAt 1) (sym w.cut) (token s.open_round w.opener w.opens)
@@ -241,10 +241,10 @@ module _ (number : Bytes → ℕ) where
   def_statement : (xs : List Part) → Fits IsSort (bzl_shape k.Def) xs → Known xs → AtParts BzlStands Begins Begins xs → Compound_kept k.Def xs
   def_statement [] h g at_ = absurd h
   def_statement (word ∷ xs) h g at_ =
-      let headed : Headed Named [] xs = def_headed xs h.1 (behind_word (s.keyword (codes "def")) word xs refl h.0 at_) in
-      headed_kept k.Def Named word [] xs headed (token_in (s.keyword (codes "def")) word refl refl h.0) g (λ w. def_head_kept (word ∷ headed.front) w (bracket_at headed.front headed.such) (parameters_paired headed.front headed.such)) (none_left k.Def)
+      let headed : Headed Named [] xs = def_headed xs h.1 (behind_word (s.one_keyword (codes "def")) word xs refl h.0 at_) in
+      headed_kept k.Def Named word [] xs headed (token_in (s.one_keyword (codes "def")) word refl refl h.0) g (λ w. def_head_kept (word ∷ headed.front) w (bracket_at headed.front headed.such) (parameters_paired headed.front headed.such)) (none_left k.Def)
 
-  pub compound_kept : (kind : Kind) (xs : List Part) → has_kind s.stmt kind ≡ true → is_kind kind k.Line ≡ false → Fits IsSort (bzl_shape kind) xs → Known xs → AtParts BzlStands Begins Begins xs → Compound_kept kind xs
+  pub compound_kept : (kind : Kind) (xs : List Part) → sort_has_kind s.stmt kind ≡ true → is_kind kind k.Line ≡ false → Fits IsSort (bzl_shape kind) xs → Known xs → AtParts BzlStands Begins Begins xs → Compound_kept kind xs
   compound_kept k.Def xs h i f g at_ = def_statement xs f g at_
   compound_kept k.IfStmt xs h i f g at_ = if_statement xs f g at_
   compound_kept k.ForStmt xs h i f g at_ = for_statement xs f g at_

@@ -19,7 +19,7 @@ use Rattle.bz_view.proofs.Sums.{all_blocks, front_blocks, part_amount, leaf_amou
 use Rattle.bz_suite.specs.declared.value.Statement.{Statement}
 use Rattle.bz_suite.specs.declared.value.BzlItem.TheVariants as b
 use Rattle.bz_suite.specs.Kept.{bzl_item_amount, BzlCommentsKept}
-use Rattle.bz_suite.specs.View.{Read, stated, lines_before, block_items, bzl_items}
+use Rattle.bz_suite.specs.View.{Read, stated, indented_lines_before, block_items, bzl_items}
 use Rattle.bz_suite.proofs.KeptBranches.{before_amount}
 use Rattle.bz_suite.proofs.HeadParts.{behind_stmt}
 use Rattle.bz_suite.proofs.KeptSuites.{AsStatement, part_read}
@@ -48,7 +48,7 @@ module _ (number : Bytes → ℕ) where
   file_kept lines (Node' kind n r ∷ xs) (inl h) w at_ = no_such h.0
   file_kept lines (Node' kind n r ∷ xs) (inr h) w at_ =
       let groups : List (List Bytes) = groups_of (plain_lines lines) in
-      let after : List IndentedGapLine = lines_before (map stated xs) [] in
+      let after : List IndentedGapLine = indented_lines_before (map stated xs) [] in
       let own : Read (List Statement) = (stated (Node' kind n r)).statement (last_group groups) after in
       let there : AtParts BzlStands Begins Begins xs = subst (λ z. AtParts BzlStands Begins z xs) (behind_stmt (Node' kind n r) Begins Begins h.0) at_.1 in
       let gap = indented_amount number (seen (Node' kind n r)).gap in
@@ -64,6 +64,6 @@ module _ (number : Bytes → ℕ) where
 pub bzl_comments_kept : BzlCommentsKept
 bzl_comments_kept n h text =
     let fits : Fits IsSort (bzl_shape k.File) n.parts = subst (λ kd. Fits IsSort (bzl_shape kd) n.parts) h.file.root h.file.shapes.0 in
-    let all = file_kept (one_if text) (lines_before (map stated n.parts) []) n.parts fits (all_read (one_if text) n.parts h.file.shapes.1) h.gaps in
+    let all = file_kept (one_if text) (indented_lines_before (map stated n.parts) []) n.parts fits (all_read (one_if text) n.parts h.file.shapes.1) h.gaps in
     let leaves = parts_leaves (one_if text) n.parts in
     omega arith

@@ -14,14 +14,14 @@ use Rattle.bz_tree.specs.declared.kind.Kind.TheVariants as k
 use Rattle.bz_tree.specs.declared.tree.Part.{Part, Row_of-Part, end_of-Part, more_of-Part, Node', items-the_row-Part}
 use Rattle.bz_tree.specs.declared.tree.Part.TheVariants as p
 use Rattle.bz_tree.specs.Shapes as s
-use Rattle.bz_tree.specs.Shapes.{Sort, Terminal, Fits, bzl_shape, has_token, is_one_of, is_terminal, leaves_at, colon}
+use Rattle.bz_tree.specs.Shapes.{Sort, Terminal, Fits, bzl_shape, has_token, is_one_of, is_terminal, leaves_at, colon_mark}
 use Rattle.bz_tree.specs.Legal.{IsSort, LegalBzlPart, LegalBzlRow}
 use Rattle.bz_tree.specs.Spots.{Spot, Begins, Along, role, behind_token, behind_part, BzlGapStands, BzlStands, AtLeaves, AtRow}
 use Rattle.bz_tree.proofs.Balance.{no_such, same_class, inner_sort}
 use Rattle.bz_items.specs.Characters.{Bytes, line_feed}
 use Rattle.bz_value.specs.Frames.{frame}
-use Rattle.bz_value.specs.Gaps.{in_comment, listed, all_in}
-use Rattle.bz_view.specs.View.{seen, seen_row, node_in, first_gap}
+use Rattle.bz_value.specs.Gaps.{in_comment, as_list, all_in}
+use Rattle.bz_view.specs.View.{seen, seen_row, seen_node, first_seen_gap}
 use Rattle.bz_view.proofs.InnerParts.{ends_line, is_inner, inner_kind, inner_tokens, every, every_part, token_inner, sort_inner}
 use Rattle.bz_view.proofs.KeptParts.{KeptPart, AllKept, held, node_kept}
 use Rattle.bz_view.proofs.Pairs.{BracketedIn, node_bracketed}
@@ -54,7 +54,7 @@ mutual
   part_silent (p.Leaf l) g i h = gap_silent l.class l.gap i h
   part_silent (Node' kind n r) g i h = ap all_in (node_gap kind (seen_row r) (frame kind)) ∙ row_silent _ r (inner_parts kind i (items-the_row-Part _ r) g.0) g.1 h
 
-  row_silent : (m : _) (r : Row_of-Part m) → AllByRecursion (λ x. is_inner x ≡ true) (items-the_row-Part m r) → LegalBzlRow r → AtRow BzlStands Along Along r → all_in (first_gap (seen_row r)) ≡ []
+  row_silent : (m : _) (r : Row_of-Part m) → AllByRecursion (λ x. is_inner x ≡ true) (items-the_row-Part m r) → LegalBzlRow r → AtRow BzlStands Along Along r → all_in (first_seen_gap (seen_row r)) ≡ []
   row_silent m end_of-Part i g h = refl
   row_silent m (more_of-Part x rest) i g h = part_silent x g.0 i.0 h.0
 
@@ -70,7 +70,7 @@ one_line (byte ∷ words) h =
     let other : eqb byte line_feed ≡ false = grind (arith, nat_tests, h.0) in
     rw other (one_line words h.1)
 
-only_one : (unclosed : Bool) (gap : Bytes) → IsGap false unclosed gap → all_in gap ≡ listed (only_comment (all_in gap))
+only_one : (unclosed : Bool) (gap : Bytes) → IsGap false unclosed gap → all_in gap ≡ as_list (only_comment (all_in gap))
 only_one u gap (nothing e) = rw e refl
 only_one u gap (blank byte rest e b h) = rw e (rw (blank_silent byte rest b) (only_one u rest h))
 only_one u gap (escaped rest e h) = rw e (only_one u rest h)
@@ -79,14 +79,14 @@ only_one u gap (unescaped rest e n h) = absurd (both_ways false refl n)
 only_one u gap (comment words rest e o n h) = absurd (both_ways false refl n)
 only_one u gap (last_comment words e o n) = rw e (rw (one_line words o) refl)
 
-newline_gap : (class : Class) (gap : Bytes) → class ≡ c.Newline → BzlGapStands class Along gap → all_in gap ≡ listed (only_comment (all_in gap))
+newline_gap : (class : Class) (gap : Bytes) → class ≡ c.Newline → BzlGapStands class Along gap → all_in gap ≡ as_list (only_comment (all_in gap))
 newline_gap class gap e h = let w = subst (λ z. BzlGapStands z Along gap) e h in only_one w.0 gap w.1
 
 newline_class : (l : Leaf) → is_one_of s.newline l ≡ true → l.class ≡ c.Newline
 newline_class l i = elim (or_cases (is_terminal (s.any c.Newline) l) (is_one_of [] l) i) [ inl e ↦ same_class l.class c.Newline e | inr e ↦ no_such e ]
 
 -- the comment in the gap of a suite's newline is its only one
-pub newline_comment : (x : Part) → has_token s.newline x ≡ true → AtLeaves BzlStands Along x → all_in (seen x).gap ≡ listed (only_comment (all_in (seen x).gap))
+pub newline_comment : (x : Part) → has_token s.newline x ≡ true → AtLeaves BzlStands Along x → all_in (seen x).gap ≡ as_list (only_comment (all_in (seen x).gap))
 newline_comment (p.Leaf l) i h = newline_gap l.class l.gap (newline_class l i) h
 newline_comment (Node' kind n r) i h = no_such i
 
@@ -114,7 +114,7 @@ module _ (number : Bytes → ℕ) where
     part_kept (p.Leaf l) h = let all = leaf_amount number l in omega arith
     part_kept (Node' kind n r) h =
         let xs : List Part = items-the_row-Part _ r in
-        ap (λ ss. gap_amount number (node_in (frame kind) kind ss).gap + held number (node_in (frame kind) kind ss)) (seen_rows _ r)
+        ap (λ ss. gap_amount number (seen_node (frame kind) kind ss).gap + held number (seen_node (frame kind) kind ss)) (seen_rows _ r)
         ∙ (node_kept number (frame kind) kind xs (parts_kept _ r h.1) (bracketed kind xs h.0) ∙ sym (row_leaves number _ r))
 
     pub parts_kept : (m : _) (r : Row_of-Part m) → LegalBzlRow r → AllKept number (items-the_row-Part m r)
@@ -162,6 +162,6 @@ pub sort_plain : (a : Sort) (x : Part) → IsSort a x → NoColon x
 sort_plain a (p.Leaf l) i = leaf_plain (leaves_at a) l (leaves_plain a) i
 sort_plain a (Node' kind n r) i = refl
 
-pub colon_is : (x : Part) → has_token colon x ≡ true → (stated x).is_colon ≡ true
+pub colon_is : (x : Part) → has_token colon_mark x ≡ true → (stated x).is_colon ≡ true
 colon_is (p.Leaf l) h = h
 colon_is (Node' kind n r) h = no_such h

@@ -6,7 +6,7 @@ use Rattle.bz_tree.specs.declared.kind.Kind.TheVariants as k
 use Rattle.bz_tree.specs.declared.tree.Part.{Part, Row_of-Part, end_of-Part, more_of-Part, Node', items-the_row-Part}
 use Rattle.bz_tree.specs.declared.tree.Part.TheVariants as p
 use Rattle.bz_tree.specs.Shapes as s
-use Rattle.bz_tree.specs.Shapes.{Fits, Several, done, bzl_shape, has_kind, has_token, is_kind}
+use Rattle.bz_tree.specs.Shapes.{Fits, Several, done, bzl_shape, sort_has_kind, has_token, is_kind}
 use Rattle.bz_tree.specs.Legal.{IsSort, LegalBzlPart, LegalBzlRow}
 use Rattle.bz_tree.specs.Spell.{leaves_row}
 use Rattle.bz_tree.specs.Spots.{Spot, Begins, Along, BzlStands, AtLeaves, AtParts}
@@ -17,7 +17,7 @@ use Rattle.bz_items.specs.Characters.{Bytes}
 use Rattle.bz_value.specs.Gaps.{all_in}
 use Rattle.bz_value.specs.Indented.{IndentedGapLine, indented}
 use Rattle.bz_value.proofs.Totals.{append_total}
-use Rattle.bz_view.specs.View.{seen, seen_row, node_in, first_gap, last_gap}
+use Rattle.bz_view.specs.View.{seen, seen_row, seen_node, first_seen_gap, last_gap}
 use Rattle.bz_view.proofs.InnerParts.{sort_inner}
 use Rattle.bz_view.proofs.KeptFiles.{statements_kept}
 use Rattle.bz_view.proofs.KeptParts.{AllKept, token_part}
@@ -27,7 +27,7 @@ use Rattle.bz_view.proofs.SeenParts.{node_gap, seen_rows}
 use Rattle.bz_view.proofs.Sums.{gap_amount, suffix_total, leaves_amount, part_amount, row_leaves}
 use Rattle.bz_suite.specs.declared.value.Statement.{Statement}
 use Rattle.bz_suite.specs.Kept.{statement_amount}
-use Rattle.bz_suite.specs.View.{Read, SuiteRead, stated, stated_row, lines_before, line_read, behind_first, walked, margin_of, suite_read, suite_in, suffix_before, only_comment, statement_read, compound_read, branches, comments_of, end_comments, behind_end, is_taken}
+use Rattle.bz_suite.specs.View.{Read, SuiteRead, stated, stated_row, indented_lines_before, line_read, after_first_line, walked, margin_of, suite_read, suite_in, suffix_before, only_comment, statement_read, compound_read, branches, indented_comments, end_comments, behind_end, is_taken_line}
 use Rattle.bz_suite.proofs.KeptBranches.{Lines, Known, AsSuite, before_amount, Compound_kept, compound_kept}
 use Rattle.bz_suite.proofs.KeptGaps.{parts_silent, parts_kept, newline_comment, newline_ends}
 use Rattle.bz_suite.proofs.HeadParts.{behind_stmt}
@@ -49,18 +49,18 @@ module _ (number : Bytes → ℕ) where
 
   -- ---- lines
 
-  line_kept : (xs : List Part) → Statements xs → AllKept number xs → Quiet xs → Reads (first_gap (map seen xs)) (line_read (map seen xs)) (total (part_amount number) xs)
+  line_kept : (xs : List Part) → Statements xs → AllKept number xs → Quiet xs → Reads (first_seen_gap (map seen xs)) (line_read (map seen xs)) (total (part_amount number) xs)
   line_kept [] h g q above after = absurd h
   line_kept (x ∷ []) h g q above after = absurd h.1
   line_kept (x ∷ y ∷ xs) h g q above after =
       let made = statements_kept number above x y xs g (listed_paired s.semicolon s.newline s.small (x ∷ y ∷ xs) h) q in
       let simple = simple_amount number above (map seen (x ∷ y ∷ xs)) in
       let behind = behind_amount number (last_gap (map seen (x ∷ y ∷ xs))) in
-      let both = lines_append number (behind_first (indented (last_gap (map seen (x ∷ y ∷ xs))))) after in
+      let both = lines_append number (after_first_line (indented (last_gap (map seen (x ∷ y ∷ xs))))) after in
       omega arith
 
   -- in the place of a suite nothing stands before it
-  first_silent : (xs : List Part) → Statements xs → AllByRecursion (Silent BzlStands) xs → AtParts BzlStands Along Along xs → gap_amount number (first_gap (map seen xs)) ≡ 0
+  first_silent : (xs : List Part) → Statements xs → AllByRecursion (Silent BzlStands) xs → AtParts BzlStands Along Along xs → gap_amount number (first_seen_gap (map seen xs)) ≡ 0
   first_silent [] h g at_ = absurd h
   first_silent (x ∷ xs) h g at_ = ap (total number) (g.0 (sort_inner s.small x refl h.0) at_.0)
 
@@ -75,18 +75,18 @@ module _ (number : Bytes → ℕ) where
   walked_kept outer lines (x ∷ xs) after h w at_ =
       let there : AtParts BzlStands outer Begins xs = subst (λ z. AtParts BzlStands outer z xs) (behind_stmt x outer Begins h.0) at_.1 in
       let gap = ap (λ s. lines_amount number (indented s.gap)) (part_of x) ∙ indented_amount number (seen x).gap in
-      let one = w.0 h.0 at_.0 (comments_of lines) (lines_before (map stated xs) after) in
-      let left : Lines = ((stated x).statement (comments_of lines) (lines_before (map stated xs) after)).1 in
+      let one = w.0 h.0 at_.0 (indented_comments lines) (indented_lines_before (map stated xs) after) in
+      let left : Lines = ((stated x).statement (indented_comments lines) (indented_lines_before (map stated xs) after)).1 in
       let more = walked_kept outer left xs after h.1 w.1 there in
-      let both = append_total (statement_amount number) ((stated x).statement (comments_of lines) (lines_before (map stated xs) after)).0 (walked left (map stated xs) after).0 in
+      let both = append_total (statement_amount number) ((stated x).statement (indented_comments lines) (indented_lines_before (map stated xs) after)).0 (walked left (map stated xs) after).0 in
       omega arith
 
   -- ---- suites
 
   ends_step : (b : Bool) (m : ℕ) (x : IndentedGapLine) (xs : Lines) → total number (end_comments m xs) + lines_amount number (behind_end m xs) ≡ lines_amount number xs
-      → total number (if b then comments_of (x ∷ []) ++ end_comments m xs else []) + lines_amount number (if b then behind_end m xs else x ∷ xs) ≡ lines_amount number (x ∷ xs)
+      → total number (if b then indented_comments (x ∷ []) ++ end_comments m xs else []) + lines_amount number (if b then behind_end m xs else x ∷ xs) ≡ lines_amount number (x ∷ xs)
   ends_step true m x xs h =
-      let both = append_total number (comments_of (x ∷ [])) (end_comments m xs) in
+      let both = append_total number (indented_comments (x ∷ [])) (end_comments m xs) in
       let one = lines_append number (x ∷ []) xs in
       omega arith
   ends_step false m x xs h = omega arith
@@ -94,28 +94,28 @@ module _ (number : Bytes → ℕ) where
   -- the end comments of a suite, and what is left behind them
   ends_kept : (m : ℕ) (xs : Lines) → total number (end_comments m xs) + lines_amount number (behind_end m xs) ≡ lines_amount number xs
   ends_kept m [] = refl
-  ends_kept m (x ∷ xs) = ends_step (is_taken m x.indent x.line.comment) m x xs (ends_kept m xs)
+  ends_kept m (x ∷ xs) = ends_step (is_taken_line m x.indent x.line.comment) m x xs (ends_kept m xs)
 
   suite_kept : (outer : Spot) (x : Part) (xs : List Part) (after : Lines) → Statement_parts (x ∷ xs) → AllByRecursion AsStatement (x ∷ xs) → AtParts BzlStands outer Begins (x ∷ xs) →
       stated_amount number (suite_read (map stated (x ∷ xs)) after).0.0 + (total number (suite_read (map stated (x ∷ xs)) after).0.1 + lines_amount number (suite_read (map stated (x ∷ xs)) after).1) ≡ total (part_amount number) (x ∷ xs) + lines_amount number after
   suite_kept outer x xs after h w at_ =
-      let lines : Lines = lines_before (map stated (x ∷ xs)) [] in
+      let lines : Lines = indented_lines_before (map stated (x ∷ xs)) [] in
       let all = walked_kept outer lines (x ∷ xs) after h w at_ in
       let ends = ends_kept (margin_of (map stated (x ∷ xs))) (walked lines (map stated (x ∷ xs)) after).1 in
       omega arith
 
   -- ---- nodes
 
-  compound_reads : (kind : Kind) (xs : List Part) → Compound_kept number kind xs → Reads (first_gap (map seen xs)) (compound_read kind (map stated xs)) (total (part_amount number) xs)
+  compound_reads : (kind : Kind) (xs : List Part) → Compound_kept number kind xs → Reads (first_seen_gap (map seen xs)) (compound_read kind (map stated xs)) (total (part_amount number) xs)
   compound_reads kind [] h above after = absurd h
   compound_reads kind (x ∷ xs) h above after =
       let all = h above after after in
       let compound = compound_amount number (branches kind [] above after (map stated (x ∷ xs)) after).0 in
       omega arith
 
-  node_reads : (kind : Kind) (xs : List Part) → has_kind s.stmt kind ≡ true → Fits IsSort (bzl_shape kind) xs → Known number xs → AtParts BzlStands Begins Begins xs → Reads (first_gap (map seen xs)) (statement_read kind (map stated xs)) (total (part_amount number) xs)
+  node_reads : (kind : Kind) (xs : List Part) → sort_has_kind s.stmt kind ≡ true → Fits IsSort (bzl_shape kind) xs → Known number xs → AtParts BzlStands Begins Begins xs → Reads (first_seen_gap (map seen xs)) (statement_read kind (map stated xs)) (total (part_amount number) xs)
   node_reads k.Line xs h f g at_ = λ above after.
-      ap (λ ss. gap_amount number (first_gap (map seen xs)) + (stated_amount number (line_read ss above after).0 + lines_amount number (line_read ss above after).1)) (parts_seen xs)
+      ap (λ ss. gap_amount number (first_seen_gap (map seen xs)) + (stated_amount number (line_read ss above after).0 + lines_amount number (line_read ss above after).1)) (parts_seen xs)
       ∙ line_kept xs f g.kept (quiet_where BzlStands Begins Begins xs refl f g.silent at_) above after
   node_reads k.Def xs h f g at_ = compound_reads k.Def xs (compound_kept number k.Def xs refl refl f g at_)
   node_reads k.IfStmt xs h f g at_ = compound_reads k.IfStmt xs (compound_kept number k.IfStmt xs refl refl f g at_)
@@ -144,7 +144,7 @@ module _ (number : Bytes → ℕ) where
       let newline = token_part number mark (token s.newline mark f.0) in
       omega arith
 
-  node_ends : (kind : Kind) (xs : List Part) → has_kind s.suite kind ≡ true → Fits IsSort (bzl_shape kind) xs → Known number xs → AllByRecursion AsStatement xs → AtParts BzlStands Along Along xs
+  node_ends : (kind : Kind) (xs : List Part) → sort_has_kind s.suite kind ≡ true → Fits IsSort (bzl_shape kind) xs → Known number xs → AllByRecursion AsStatement xs → AtParts BzlStands Along Along xs
       → Ends (suffix_before kind (map stated xs)) (suite_in kind (map stated xs)) (total (part_amount number) xs)
   node_ends k.Line xs h f g w at_ = line_ends xs f g at_
   node_ends k.Suite xs h f g w at_ = suite_ends xs f w at_
@@ -152,14 +152,14 @@ module _ (number : Bytes → ℕ) where
 
   -- ---- parts
 
-  row_reads : (kind : Kind) (m : _) (r : Row_of-Part m) → Reads (first_gap (map seen (items-the_row-Part m r))) (statement_read kind (map stated (items-the_row-Part m r))) (total (part_amount number) (items-the_row-Part m r))
-      → Reads (node_in (frame kind) kind (seen_row r)).gap (statement_read kind (stated_row r)) (leaves_amount number (leaves_row r))
+  row_reads : (kind : Kind) (m : _) (r : Row_of-Part m) → Reads (first_seen_gap (map seen (items-the_row-Part m r))) (statement_read kind (map stated (items-the_row-Part m r))) (total (part_amount number) (items-the_row-Part m r))
+      → Reads (seen_node (frame kind) kind (seen_row r)).gap (statement_read kind (stated_row r)) (leaves_amount number (leaves_row r))
   row_reads kind m r h =
       let xs : List Part = items-the_row-Part m r in
-      let gap : (node_in (frame kind) kind (seen_row r)).gap ≡ first_gap (map seen xs) = node_gap kind (seen_row r) (frame kind) ∙ ap first_gap (seen_rows m r) in
+      let gap : (seen_node (frame kind) kind (seen_row r)).gap ≡ first_seen_gap (map seen xs) = node_gap kind (seen_row r) (frame kind) ∙ ap first_seen_gap (seen_rows m r) in
       subst (λ g. Reads g (statement_read kind (stated_row r)) (leaves_amount number (leaves_row r))) (sym gap)
-      (subst (λ ss. Reads (first_gap (map seen xs)) (statement_read kind ss) (leaves_amount number (leaves_row r))) (sym (stated_rows m r))
-      (subst (λ a. Reads (first_gap (map seen xs)) (statement_read kind (map stated xs)) a) (sym (row_leaves number m r)) h))
+      (subst (λ ss. Reads (first_seen_gap (map seen xs)) (statement_read kind ss) (leaves_amount number (leaves_row r))) (sym (stated_rows m r))
+      (subst (λ a. Reads (first_seen_gap (map seen xs)) (statement_read kind (map stated xs)) a) (sym (row_leaves number m r)) h))
 
   row_ends : (kind : Kind) (m : _) (r : Row_of-Part m) → Ends (suffix_before kind (map stated (items-the_row-Part m r))) (suite_in kind (map stated (items-the_row-Part m r))) (total (part_amount number) (items-the_row-Part m r))
       → Ends (suffix_before kind (stated_row r)) (suite_in kind (stated_row r)) (leaves_amount number (leaves_row r))

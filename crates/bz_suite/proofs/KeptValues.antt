@@ -7,7 +7,7 @@ use Rattle.bz_value.specs.declared.value.Item.{Item}
 use Rattle.bz_value.specs.declared.value.Item.TheVariants as i
 use Rattle.bz_value.specs.Counted.{total, amount, item_amount}
 use Rattle.bz_items.specs.Characters.{Bytes}
-use Rattle.bz_value.specs.Gaps.{comments_in, behind_first as behind_first_line}
+use Rattle.bz_value.specs.Gaps.{comments_in, after_first_comment as behind_first_line}
 use Rattle.bz_value.specs.Indented.{IndentedGapLine, indented}
 use Rattle.bz_view.specs.View.{Seen, statements_in, statement_in, blocks}
 use Rattle.bz_view.proofs.KeptFiles.{left_amount}
@@ -17,7 +17,7 @@ use Rattle.bz_suite.specs.declared.value.Statement.TheVariants as s
 use Rattle.bz_suite.specs.declared.value.Branch.{Branch}
 use Rattle.bz_suite.specs.declared.value.BzlItem.TheVariants as b
 use Rattle.bz_suite.specs.Kept.{statement_amount, branches_amount, statements_amount, bzl_item_amount}
-use Rattle.bz_suite.specs.View.{comments_of, behind_first, simple, bzl_item, block_items}
+use Rattle.bz_suite.specs.View.{indented_comments, after_first_line, simple_statements, bzl_item, block_items}
 use Rattle.bz_suite.proofs.Lined.{plain_lines, lines_are}
 
 -- the row of the headers of a statement
@@ -54,11 +54,11 @@ module _ (number : Bytes → ℕ) where
   -- ---- simple statements
 
   mutual
-    pub simple_amount : (above : List Bytes) (ss : List Seen) → stated_amount (simple (statements_in above ss)) ≡ total (item_amount number) (statements_in above ss)
+    pub simple_amount : (above : List Bytes) (ss : List Seen) → stated_amount (simple_statements (statements_in above ss)) ≡ total (item_amount number) (statements_in above ss)
     simple_amount above [] = refl
     simple_amount above (s ∷ ss) = simple_one above s ss
 
-    simple_one : (above : List Bytes) (s : Seen) (ss : List Seen) → stated_amount (simple (statement_in above s ss)) ≡ total (item_amount number) (statement_in above s ss)
+    simple_one : (above : List Bytes) (s : Seen) (ss : List Seen) → stated_amount (simple_statements (statement_in above s ss)) ≡ total (item_amount number) (statement_in above s ss)
     simple_one above s [] = refl
     simple_one above s (mark ∷ []) = refl
     simple_one above s (mark ∷ t ∷ []) = refl
@@ -80,7 +80,7 @@ module _ (number : Bytes → ℕ) where
   -- ---- lines
 
   abbrev pub lines_amount : List IndentedGapLine → ℕ
-  lines_amount lines = total number (comments_of lines)
+  lines_amount lines = total number (indented_comments lines)
 
   pub lines_append : (xs ys : List IndentedGapLine) → lines_amount (xs ++ ys) ≡ lines_amount xs + lines_amount ys
   lines_append xs ys = ap (λ ls. total number (comments_in ls)) (map-append (λ l. l.line) xs ys) ∙ lines_joined number (plain_lines xs) (plain_lines ys)
@@ -89,10 +89,10 @@ module _ (number : Bytes → ℕ) where
   pub indented_amount : (gap : Bytes) → lines_amount (indented gap) ≡ gap_amount number gap
   indented_amount gap = ap (λ ls. total number (comments_in ls)) (lines_are gap)
 
-  first_gone : (lines : List IndentedGapLine) → plain_lines (behind_first lines) ≡ behind_first_line (plain_lines lines)
+  first_gone : (lines : List IndentedGapLine) → plain_lines (after_first_line lines) ≡ behind_first_line (plain_lines lines)
   first_gone [] = refl
   first_gone (line ∷ lines) = refl
 
   -- and those behind the first line of one
-  pub behind_amount : (gap : Bytes) → lines_amount (behind_first (indented gap)) ≡ left_amount number gap
+  pub behind_amount : (gap : Bytes) → lines_amount (after_first_line (indented gap)) ≡ left_amount number gap
   behind_amount gap = ap (λ ls. total number (comments_in ls)) (first_gone (indented gap) ∙ ap behind_first_line (lines_are gap))

@@ -2,9 +2,9 @@
 use Rattle.std.proofs.Common.{ℕ, suc, Bool, true, false, ◌≡◌, ◌||◌, List, [], ◌∷◌, ◌++◌, Some, None, refl, sym, ap, ◌∙◌, map, nat_eq, if◌then◌else◌, append_assoc}
 use Rattle.std.proofs.lemmas.List.{map-append}
 use Rattle.bz_items.specs.Characters.{Bytes, backslash, line_feed, number_sign, space, tab}
-use Rattle.bz_value.specs.Gaps.{GapLine, CommentRest, trimmed, lines_of, in_comment, behind_backslash, comments_in, all_in, listed}
+use Rattle.bz_value.specs.Gaps.{GapLine, CommentRest, trimmed, lines_of, in_comment, behind_backslash, comments_in, all_in, as_list}
 use Rattle.bz_value.specs.Indented.{IndentedGapLine, indented, indented_from, indented_behind}
-use Rattle.bz_suite.specs.View.{comments_of}
+use Rattle.bz_suite.specs.View.{indented_comments}
 
 abbrev pub plain_lines : List IndentedGapLine → List GapLine
 plain_lines lines = map (λ l. l.line) lines
@@ -44,11 +44,11 @@ lines_are g = (lined g).here 0
 
 pub comments_append : (xs ys : List GapLine) → comments_in (xs ++ ys) ≡ comments_in xs ++ comments_in ys
 comments_append [] ys = refl
-comments_append (x ∷ xs) ys = ap (λ t. listed x.comment ++ t) (comments_append xs ys) ∙ sym (append_assoc (listed x.comment) (comments_in xs) (comments_in ys))
+comments_append (x ∷ xs) ys = ap (λ t. as_list x.comment ++ t) (comments_append xs ys) ∙ sym (append_assoc (as_list x.comment) (comments_in xs) (comments_in ys))
 
 -- the lines of two gaps
 pub two_lines : (left gap : Bytes) → plain_lines (indented left ++ indented gap) ≡ lines_of left ++ lines_of gap
 two_lines left gap = map-append (λ l. l.line) (indented left) (indented gap) ∙ (ap (λ t. t ++ plain_lines (indented gap)) (lines_are left) ∙ ap (λ t. lines_of left ++ t) (lines_are gap))
 
-pub two_comments : (left gap : Bytes) → comments_of (indented left ++ indented gap) ≡ all_in left ++ all_in gap
+pub two_comments : (left gap : Bytes) → indented_comments (indented left ++ indented gap) ≡ all_in left ++ all_in gap
 two_comments left gap = ap comments_in (two_lines left gap) ∙ comments_append (lines_of left) (lines_of gap)

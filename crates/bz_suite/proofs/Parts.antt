@@ -9,8 +9,8 @@ use Rattle.bz_tree.proofs.Nested.{row_of, items_of_row}
 use Rattle.std.proofs.lemmas.Bool.{cond-true, cond-false}
 use Rattle.bz_items.specs.Characters.{Bytes}
 use Rattle.bz_value.specs.Indented.{IndentedGapLine, indented}
-use Rattle.bz_view.specs.View.{seen, first_gap}
-use Rattle.bz_suite.specs.View.{stated, stated_row, statement_read, suite_in, suffix_before, lines_before, line_read, compound_read, is_compound, SuiteRead}
+use Rattle.bz_view.specs.View.{seen, first_seen_gap}
+use Rattle.bz_suite.specs.View.{stated, stated_row, statement_read, suite_in, suffix_before, indented_lines_before, line_read, compound_read, is_compound, SuiteRead}
 
 pub stated_rows : (m : _) (r : Row_of-Part m) → stated_row r ≡ map stated (items-the_row-Part m r)
 stated_rows m end_of-Part = refl
@@ -38,13 +38,13 @@ parts_seen [] = refl
 parts_seen (x ∷ xs) = ap (λ s. s ∷ map (λ y. y.part) (map stated xs)) (part_of x) ∙ ap (λ t. seen x ∷ t) (parts_seen xs)
 
 -- the gap of the part with this index
-pub lines_at : (ps : List Part) (at : ℕ) (x : Part) (g after : Bytes) → at < length ps → x ≡ get_or ps at x → g ≡ (seen x).gap → indented g ≡ lines_before (map stated (drop at ps)) (indented after)
+pub lines_at : (ps : List Part) (at : ℕ) (x : Part) (g after : Bytes) → at < length ps → x ≡ get_or ps at x → g ≡ (seen x).gap → indented g ≡ indented_lines_before (map stated (drop at ps)) (indented after)
 lines_at [] at x g after l e f = absurd (omega arith)
 lines_at (y ∷ ps) zero x g after l e f = ap indented (f ∙ (ap (λ z. (seen z).gap) e ∙ sym (ap (λ s. s.gap) (part_of y))))
 lines_at (y ∷ ps) (suc at) x g after l e f = lines_at ps at x g after (omega arith) e f
 
 -- the lines before the first of these parts
-pub lines_first : (ps : List Part) → indented (first_gap (map seen ps)) ≡ lines_before (map stated ps) []
+pub lines_first : (ps : List Part) → indented (first_seen_gap (map seen ps)) ≡ indented_lines_before (map stated ps) []
 lines_first [] = refl
 lines_first (x ∷ ps) = sym (ap (λ s. indented s.gap) (part_of x))
 

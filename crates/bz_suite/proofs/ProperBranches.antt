@@ -7,7 +7,7 @@ use Rattle.bz_tree.specs.declared.kind.Kind.{Kind}
 use Rattle.bz_tree.specs.declared.kind.Kind.TheVariants as k
 use Rattle.bz_tree.specs.declared.tree.Part.{Part}
 use Rattle.bz_tree.specs.Shapes as s
-use Rattle.bz_tree.specs.Shapes.{Terminal, Shape, Fits, Times, has_kind, has_token, is_kind, no_more, once_more, tok, sub, done, bzl_shape}
+use Rattle.bz_tree.specs.Shapes.{Terminal, Shape, Fits, Times, sort_has_kind, has_token, is_kind, no_more, once_more, tok, sub, done, bzl_shape}
 use Rattle.bz_tree.specs.Legal.{IsSort}
 use Rattle.bz_tree.specs.Spots.{Begins, Along, BzlStands, AtLeaves, AtParts}
 use Rattle.bz_tree.specs.Suites.{def_header, for_header, test_header, else_header}
@@ -24,7 +24,7 @@ use Rattle.bz_view.proofs.SeenParts.{Told, AllTold, all_parted}
 use Rattle.bz_suite.specs.declared.value.Branch.{Branch}
 use Rattle.bz_suite.specs.declared.value.Statement.{Statement}
 use Rattle.bz_suite.specs.Proper.{IsHeader, AreAlternatives, AreHeaders}
-use Rattle.bz_suite.specs.View.{Read, SuiteRead, stated, branches, with_suite, lines_before, comments_of}
+use Rattle.bz_suite.specs.View.{Read, SuiteRead, stated, branches, with_suite, indented_lines_before, indented_comments}
 use Rattle.bz_suite.proofs.HeadParts.{Headed, InHeader, None_before, Named, FitsHeader, colon_alone, token_in, colon_headed, test_headed, for_headed, def_headed}
 use Rattle.bz_suite.proofs.KeptBranches.{Lines, Else, Elif, elif_word, else_word, behind_word, header_ends}
 use Rattle.bz_suite.proofs.KeptGaps.{colon_is}
@@ -68,7 +68,7 @@ all_fit [] g n = tt
 all_fit (x ∷ xs) g n = (g.0.fit n.0.1, all_fit xs g.1 n.1)
 
 -- the lines before the first of these parts, or behind all
-pub before_lines : (xs : List Part) (after : Lines) → AllKnown xs → AreFineLines after → AreFineLines (lines_before (map stated xs) after)
+pub before_lines : (xs : List Part) (after : Lines) → AllKnown xs → AreFineLines after → AreFineLines (indented_lines_before (map stated xs) after)
 before_lines [] after g f = f
 before_lines (x ∷ xs) after g f = subst (λ y. AreFineLines (indented y.gap)) (sym (part_of x)) (gap_lines (seen x).gap g.0.told.coded)
 
@@ -90,10 +90,10 @@ HeadThen kind shape P (f ∷ fs) = IsHeader kind shape f × P fs
 one_branch : (kind : Kind) (shape : Shape) (P : List Form → Type 0) (xs : List Part) (mark own : Part) (back : List Part) → AllByRecursion InHeader xs → (stated mark).is_colon ≡ true → HeadProper kind shape xs
     → MaybeComment (stated own).suffix × Ends (stated own).suite → AllKnown back → Branches P kind back → Branches (HeadThen kind shape P) kind (xs ++ mark ∷ own ∷ back)
 one_branch kind shape P xs mark own back n c w o g b above left after a l f =
-    let lines : Lines = lines_before (map stated back) after in
+    let lines : Lines = indented_lines_before (map stated back) after in
     let read : SuiteRead = (stated own).suite lines in
     let suite : AreSome read.0.0 × (Group read.0.1 × AreFineLines read.1) = o.1 lines (before_lines back after g f) in
-    let behind : Branched P (branches kind [] (comments_of read.1) read.1 (map stated back) after) = b (comments_of read.1) read.1 after (comments_fine read.1 suite.1.1) suite.1.1 f in
+    let behind : Branched P (branches kind [] (indented_comments read.1) read.1 (map stated back) after) = b (indented_comments read.1) read.1 after (comments_fine read.1 suite.1.1) suite.1.1 f in
     let all : Branched (HeadThen kind shape P) (with_suite kind (map seen xs) above left (stated own ∷ map stated back) after) =
     ((w above (stated own).suffix a o.0, behind.0), (((suite.0, All-from_recursion IsComment read.0.1 suite.1.0), behind.1.0), behind.1.1)) in
     subst (Branched (HeadThen kind shape P)) (sym (header_ends kind above left xs mark own back after n c)) all
@@ -132,11 +132,11 @@ as_else : (fs : List Form) → HeadThen k.IfStmt else_header IsOver fs → AreAl
 as_else [] h = absurd h
 as_else (f ∷ fs) h = inr h
 
-test_branch : (ts : List Terminal) (word x mark own : Part) (back : List Part) → InHeader word → has_token ts word ≡ true → IsSort s.test x → has_token s.colon mark ≡ true → IsSort s.suite own → AllKnown (word ∷ x ∷ mark ∷ own ∷ back)
+test_branch : (ts : List Terminal) (word x mark own : Part) (back : List Part) → InHeader word → has_token ts word ≡ true → IsSort s.test x → has_token s.colon_mark mark ≡ true → IsSort s.suite own → AllKnown (word ∷ x ∷ mark ∷ own ∷ back)
     → AtParts BzlStands Begins Begins (word ∷ x ∷ mark ∷ own ∷ back) → AtParts BzlStands Begins Along (x ∷ mark ∷ own ∷ back) → Branches AreAlternatives k.IfStmt back → Branches (Tested ts) k.IfStmt (word ∷ x ∷ mark ∷ own ∷ back)
 test_branch ts word x mark own back n t h i j g at_ there b =
-    let headed : Headed (FitsHeader (sub s.test (tok s.colon done))) back (x ∷ mark ∷ own ∷ back) = test_headed x mark own back h i j there in
-    headed_branch k.IfStmt (test_header ts) AreAlternatives (FitsHeader (sub s.test (tok s.colon done))) word back (x ∷ mark ∷ own ∷ back) headed n g at_ (λ w. if_proper (test_header ts) (word ∷ headed.front) (t, headed.such) w) b
+    let headed : Headed (FitsHeader (sub s.test (tok s.colon_mark done))) back (x ∷ mark ∷ own ∷ back) = test_headed x mark own back h i j there in
+    headed_branch k.IfStmt (test_header ts) AreAlternatives (FitsHeader (sub s.test (tok s.colon_mark done))) word back (x ∷ mark ∷ own ∷ back) headed n g at_ (λ w. if_proper (test_header ts) (word ∷ headed.front) (t, headed.such) w) b
 
 last_branch : (xs : List Part) → Else xs → AllKnown xs → AtParts BzlStands Begins Begins xs → Branches AreAlternatives k.IfStmt xs
 last_branch [] h g at_ = λ above left after a l f. (tt, (tt, l))
@@ -178,7 +178,7 @@ as_for : (fs : List Form) → HeadThen k.ForStmt for_header IsOver fs → AreHea
 as_for [] h = absurd h
 as_for (f ∷ fs) h = inr (inl h)
 
-as_if : (fs : List Form) → Tested (s.keyword (codes "if")) fs → AreHeaders fs
+as_if : (fs : List Form) → Tested (s.one_keyword (codes "if")) fs → AreHeaders fs
 as_if [] h = absurd h
 as_if (f ∷ fs) h = inr (inr h)
 
@@ -188,29 +188,29 @@ if_statement (word ∷ []) h g at_ = absurd h.1
 if_statement (word ∷ x ∷ []) h g at_ = absurd h.1.1
 if_statement (word ∷ x ∷ mark ∷ []) h g at_ = absurd h.1.1.1
 if_statement (word ∷ x ∷ mark ∷ own ∷ back) h g at_ =
-    let there : AtParts BzlStands Begins Along (x ∷ mark ∷ own ∷ back) = behind_word (s.keyword (codes "if")) word (x ∷ mark ∷ own ∷ back) refl h.0 at_ in
+    let there : AtParts BzlStands Begins Along (x ∷ mark ∷ own ∷ back) = behind_word (s.one_keyword (codes "if")) word (x ∷ mark ∷ own ∷ back) refl h.0 at_ in
     let rest : Branches AreAlternatives k.IfStmt back = alternatives back h.1.1.1.1 g.1.1.1.1 (test_headed x mark own back h.1.0 h.1.1.0 h.1.1.1.0 there).behind in
-    branches_as k.IfStmt (Tested (s.keyword (codes "if"))) AreHeaders (word ∷ x ∷ mark ∷ own ∷ back) as_if
-    (test_branch (s.keyword (codes "if")) word x mark own back (token_in (s.keyword (codes "if")) word refl refl h.0) h.0 h.1.0 h.1.1.0 h.1.1.1.0 g at_ there rest)
+    branches_as k.IfStmt (Tested (s.one_keyword (codes "if"))) AreHeaders (word ∷ x ∷ mark ∷ own ∷ back) as_if
+    (test_branch (s.one_keyword (codes "if")) word x mark own back (token_in (s.one_keyword (codes "if")) word refl refl h.0) h.0 h.1.0 h.1.1.0 h.1.1.1.0 g at_ there rest)
 
 abbrev ForParts : List Part → Type 0
-ForParts front = FitsHeader (s.list s.primary s.comma false (tok (s.keyword (codes "in")) (sub s.expr (tok s.colon done)))) front
+ForParts front = FitsHeader (s.list s.primary s.comma_mark false (tok (s.one_keyword (codes "in")) (sub s.expr (tok s.colon_mark done)))) front
 
 for_statement : (xs : List Part) → Fits IsSort (bzl_shape k.ForStmt) xs → AllKnown xs → AtParts BzlStands Begins Begins xs → Compound k.ForStmt xs
 for_statement [] h g at_ = absurd h
 for_statement (word ∷ xs) h g at_ =
-    let headed : Headed ForParts [] xs = for_headed xs h.1 (behind_word (s.keyword (codes "for")) word xs refl h.0 at_) in
+    let headed : Headed ForParts [] xs = for_headed xs h.1 (behind_word (s.one_keyword (codes "for")) word xs refl h.0 at_) in
     branches_as k.ForStmt (HeadThen k.ForStmt for_header IsOver) AreHeaders (word ∷ xs) as_for
-    (headed_branch k.ForStmt for_header IsOver ForParts word [] xs headed (token_in (s.keyword (codes "for")) word refl refl h.0) g at_ (λ w. for_proper for_header (word ∷ headed.front) (h.0, headed.such) w) (none_left k.ForStmt))
+    (headed_branch k.ForStmt for_header IsOver ForParts word [] xs headed (token_in (s.one_keyword (codes "for")) word refl refl h.0) g at_ (λ w. for_proper for_header (word ∷ headed.front) (h.0, headed.such) w) (none_left k.ForStmt))
 
 def_statement : (xs : List Part) → Fits IsSort (bzl_shape k.Def) xs → AllKnown xs → AtParts BzlStands Begins Begins xs → Compound k.Def xs
 def_statement [] h g at_ = absurd h
 def_statement (word ∷ xs) h g at_ =
-    let headed : Headed Named [] xs = def_headed xs h.1 (behind_word (s.keyword (codes "def")) word xs refl h.0 at_) in
+    let headed : Headed Named [] xs = def_headed xs h.1 (behind_word (s.one_keyword (codes "def")) word xs refl h.0 at_) in
     branches_as k.Def (HeadThen k.Def def_header IsOver) AreHeaders (word ∷ xs) as_def
-    (headed_branch k.Def def_header IsOver Named word [] xs headed (token_in (s.keyword (codes "def")) word refl refl h.0) g at_ (λ w. def_proper word headed.front h.0 headed.such w) (none_left k.Def))
+    (headed_branch k.Def def_header IsOver Named word [] xs headed (token_in (s.one_keyword (codes "def")) word refl refl h.0) g at_ (λ w. def_proper word headed.front h.0 headed.such w) (none_left k.Def))
 
-pub compound_statement : (kind : Kind) (xs : List Part) → has_kind s.stmt kind ≡ true → is_kind kind k.Line ≡ false → Fits IsSort (bzl_shape kind) xs → AllKnown xs → AtParts BzlStands Begins Begins xs → Compound kind xs
+pub compound_statement : (kind : Kind) (xs : List Part) → sort_has_kind s.stmt kind ≡ true → is_kind kind k.Line ≡ false → Fits IsSort (bzl_shape kind) xs → AllKnown xs → AtParts BzlStands Begins Begins xs → Compound kind xs
 compound_statement k.Def xs h i f g at_ = def_statement xs f g at_
 compound_statement k.IfStmt xs h i f g at_ = if_statement xs f g at_
 compound_statement k.ForStmt xs h i f g at_ = for_statement xs f g at_

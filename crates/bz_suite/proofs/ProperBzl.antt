@@ -23,7 +23,7 @@ use Rattle.bz_suite.specs.declared.value.BzlItem.{BzlItem}
 use Rattle.bz_suite.specs.declared.value.BzlItem.TheVariants as b
 use Rattle.bz_suite.specs.Laws.{BzlViewIsProper}
 use Rattle.bz_suite.specs.Proper.{IsProperBzlItem}
-use Rattle.bz_suite.specs.View.{Read, stated, lines_before, block_items, bzl_items, bzl_view_of}
+use Rattle.bz_suite.specs.View.{Read, stated, indented_lines_before, block_items, bzl_items, bzl_view_of}
 use Rattle.bz_suite.proofs.HeadParts.{behind_stmt}
 use Rattle.bz_suite.proofs.KeptBranches.{Lines}
 use Rattle.bz_suite.proofs.Lined.{plain_lines}
@@ -51,7 +51,7 @@ items_proper lines (Node' kind n r ∷ xs) f (inl h) g at_ = no_such h.0
 items_proper lines (Node' kind n r ∷ xs) f (inr h) g at_ =
     let groups : List (List Bytes) = groups_of (plain_lines lines) in
     let fine : Groups groups = groups_fine (plain_lines lines) f in
-    let after : Lines = lines_before (map stated xs) [] in
+    let after : Lines = indented_lines_before (map stated xs) [] in
     let read : Read (List Statement) = (stated (Node' kind n r)).statement (last_group groups) after in
     let there : AtParts BzlStands Begins Begins xs = subst (λ z. AtParts BzlStands Begins z xs) (behind_stmt (Node' kind n r) Begins Begins h.0) at_.1 in
     let one : AreSome read.0 × AreFineLines read.1 = g.0.statement h.0 at_.0 (last_group groups) after (groups_last groups fine) (before_lines xs [] g.1 tt) in
@@ -69,4 +69,4 @@ pub bzl_view_proper : BzlViewIsProper
 bzl_view_proper n h =
     let fits : Fits IsSort (bzl_shape k.File) n.parts = subst (λ kd. Fits IsSort (bzl_shape kd) n.parts) h.file.root h.file.shapes.0 in
     let known : AllKnown n.parts = all_known n.parts h.file.shapes.1 (lexed (leaves_of n) h.tokens) h.coded in
-    All-from_recursion IsProperBzlItem (bzl_view_of n) (items_proper (lines_before (map stated n.parts) []) n.parts (before_lines n.parts [] known tt) fits known h.gaps)
+    All-from_recursion IsProperBzlItem (bzl_view_of n) (items_proper (indented_lines_before (map stated n.parts) []) n.parts (before_lines n.parts [] known tt) fits known h.gaps)

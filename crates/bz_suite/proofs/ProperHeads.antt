@@ -70,10 +70,10 @@ row_proper : (kind : Kind) (shape : Shape) (xs : List Part) → is_kind kind k.D
     → IsHeader kind shape (row_head kind (map seen xs) above suffix)
 row_proper kind shape xs e h g above suffix a m =
     let f : Form = row_head kind (map seen xs) above suffix in
-    let ends : header_end f ≡ r.mark 58 ∷ [] = cond-false (is_kind kind k.Def) _ _ e in
+    let ends : header_end f ≡ r.mark_leaf 58 ∷ [] = cond-false (is_kind kind k.Def) _ _ e in
     record {
       kinds = refl;
-      fits = subst (λ back. Fits IsSort shape (map root f.parts ++ back)) (sym ends) (fits_same shape (with_colon xs) (with_colon (map root f.parts)) (behind_same_parts xs (map root f.parts) (r.mark 58 ∷ []) (r.mark 58 ∷ []) (row_roots false false false xs) (same_itself (r.mark 58 ∷ []))) h);
+      fits = subst (λ back. Fits IsSort shape (map root f.parts ++ back)) (sym ends) (fits_same shape (with_colon xs) (with_colon (map root f.parts)) (behind_same_parts xs (map root f.parts) (r.mark_leaf 58 ∷ []) (r.mark_leaf 58 ∷ []) (row_roots false false false xs) (same_itself (r.mark_leaf 58 ∷ []))) h);
       parts = row_parts false false Begins xs g.fit g.there;
       parameters = tt;
       ends = All-from_recursion IsComment [] tt;
@@ -95,20 +95,20 @@ parameters_of [] h = tt
 parameters_of (x ∷ xs) h = (h.0, h.1, h.2, parameters_of xs h.3)
 
 -- def, a name and parameters
-named_proper : (word name opener : Part) (ps : List Part) → has_token (s.keyword (codes "def")) word ≡ true → has_token s.name name ≡ true → has_token s.open_round opener ≡ true
-    → Alternate ps → Fits IsSort (s.enclosed s.param s.close_round (s.tok s.colon s.done)) (closed_row ps) → HeadKnown (word ∷ name ∷ opener ∷ ps) → HeadProper k.Def def_header (word ∷ name ∷ opener ∷ ps)
+named_proper : (word name opener : Part) (ps : List Part) → has_token (s.one_keyword (codes "def")) word ≡ true → has_token s.name name ≡ true → has_token s.open_round opener ≡ true
+    → Alternate ps → Fits IsSort (s.enclosed s.param s.close_round (s.tok s.colon_mark s.done)) (closed_row ps) → HeadKnown (word ∷ name ∷ opener ∷ ps) → HeadProper k.Def def_header (word ∷ name ∷ opener ∷ ps)
 named_proper word name opener ps h i j alternate fits g above suffix a m =
     let ss : List Seen = map seen (word ∷ name ∷ opener ∷ ps) in
     let f : Form = def_head ss above suffix in
     let there : AtParts BzlStands Begins Within ps = subst (λ z. AtParts BzlStands Begins z ps) (token_opens s.open_round opener Begins _ refl j) g.there.1.1.1 in
     let inside : FoundProper line_shape ps (map seen ps) = found_proper line_shape Begins ps g.told.1.1.1 g.fit.1.1.1 there alternate in
-    let same : Same (word ∷ name ∷ r.mark 40 ∷ closed_row ps) (map root f.parts ++ header_end f) =
+    let same : Same (word ∷ name ∷ r.mark_leaf 40 ∷ closed_row ps) (map root f.parts ++ header_end f) =
     more word _ _ _ (root_made word no_comments false) (
     more name _ _ _ (root_made name no_comments false) (
-    more (r.mark 40) (r.mark 40) _ _ (itself (r.mark 40)) (commas_same (places ps) (map root f.seq.items) (r.mark 41 ∷ r.mark 58 ∷ []) inside.roots))) in
+    more (r.mark_leaf 40) (r.mark_leaf 40) _ _ (itself (r.mark_leaf 40)) (commas_same (places ps) (map root f.seq.items) (r.mark_leaf 41 ∷ r.mark_leaf 58 ∷ []) inside.roots))) in
     record {
       kinds = refl;
-      fits = fits_same def_header (word ∷ name ∷ r.mark 40 ∷ closed_row ps) (map root f.parts ++ header_end f) same (h, (i, (refl, fits)));
+      fits = fits_same def_header (word ∷ name ∷ r.mark_leaf 40 ∷ closed_row ps) (map root f.parts ++ header_end f) same (h, (i, (refl, fits)));
       parts = row_parts false false Begins (word ∷ name ∷ []) (g.fit.0, (g.fit.1.0, tt)) (g.there.0, (g.there.1.0, tt));
       parameters = parameters_of f.seq.items inside.items.0;
       ends = All-from_recursion IsComment f.seq.end_ inside.items.1;
@@ -117,7 +117,7 @@ named_proper word name opener ps h i j alternate fits g above suffix a m =
       comments = (before_fine above (take 3 ss) a (g.told.0, (g.told.1.0, (g.told.1.1.0, tt))), m);
     }
 
-pub def_proper : (word : Part) (front : List Part) → has_token (s.keyword (codes "def")) word ≡ true → Named front → HeadKnown (word ∷ front) → HeadProper k.Def def_header (word ∷ front)
+pub def_proper : (word : Part) (front : List Part) → has_token (s.one_keyword (codes "def")) word ≡ true → Named front → HeadKnown (word ∷ front) → HeadProper k.Def def_header (word ∷ front)
 def_proper word front h w g =
     subst (λ xs. HeadProper k.Def def_header (word ∷ xs)) (sym w.cut)
     (named_proper word w.name w.opener w.behind h w.named w.opens w.parameters.alternate w.parameters.fits (subst (λ xs. HeadKnown (word ∷ xs)) w.cut g))

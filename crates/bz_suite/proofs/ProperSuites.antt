@@ -9,7 +9,7 @@ use Rattle.bz_tree.specs.declared.kind.Kind.TheVariants as k
 use Rattle.bz_tree.specs.declared.tree.Part.{Part, Row_of-Part, end_of-Part, more_of-Part, Node', items-the_row-Part}
 use Rattle.bz_tree.specs.declared.tree.Part.TheVariants as p
 use Rattle.bz_tree.specs.Shapes as s
-use Rattle.bz_tree.specs.Shapes.{Fits, Several, done, bzl_shape, has_kind, has_token}
+use Rattle.bz_tree.specs.Shapes.{Fits, Several, done, bzl_shape, sort_has_kind, has_token}
 use Rattle.bz_tree.specs.Legal.{IsSort, LegalBzlPart, LegalBzlRow}
 use Rattle.bz_tree.specs.Spell.{leaves_part, leaves_row}
 use Rattle.bz_tree.specs.Spots.{Spot, Begins, Along, onward, behind_part, BzlStands, AtLeaves, AtParts}
@@ -22,7 +22,7 @@ use Rattle.bz_value.specs.LineShapes.{line_shape}
 use Rattle.bz_value.specs.Proper.{IsComment, MaybeComment, AreComments}
 use Rattle.bz_value.proofs.Begun.{moved_expr}
 use Rattle.bz_value.proofs.GapComments.{Group, all_joined, suffix_fine, all_fine}
-use Rattle.bz_view.specs.View.{Seen, seen, seen_row, node_in, last_gap, statements_in}
+use Rattle.bz_view.specs.View.{Seen, seen, seen_row, seen_node, last_gap, statements_in}
 use Rattle.bz_view.proofs.InnerParts.{sort_inner, sort_goes, token_goes}
 use Rattle.bz_view.proofs.ProperFiles.{last_told}
 use Rattle.bz_view.proofs.ProperParts.{IsLexed, line_proper}
@@ -32,7 +32,7 @@ use Rattle.bz_view.proofs.SeenParts.{all_parted, comments_made, part_told}
 use Rattle.bz_suite.specs.declared.value.Statement.{Statement}
 use Rattle.bz_suite.specs.declared.value.Statement.TheVariants as st
 use Rattle.bz_suite.specs.Proper.{is_simple, has_simple_kind, IsProperStatement}
-use Rattle.bz_suite.specs.View.{Read, stated, simple, line_read, lines_before, behind_first, walked, margin_of, suite_read, suite_in, suffix_before, only_comment, statement_read, compound_read, branches, comments_of}
+use Rattle.bz_suite.specs.View.{Read, stated, simple_statements, line_read, indented_lines_before, after_first_line, walked, margin_of, suite_read, suite_in, suffix_before, only_comment, statement_read, compound_read, branches, indented_comments}
 use Rattle.bz_suite.proofs.HeadParts.{behind_stmt}
 use Rattle.bz_suite.proofs.KeptBranches.{Lines}
 use Rattle.bz_suite.proofs.KeptGaps.{newline_ends}
@@ -43,11 +43,11 @@ use Rattle.bz_suite.proofs.ProperValues.{HasSome, AreSome, some_joined, compound
 
 -- ---- simple statements
 
-node_simple : (kind : Kind) (ss : List Seen) (cs : HostComments) (f : Frame) → has_simple_kind ((node_in f kind ss).make cs false) ≡ is_simple kind
+node_simple : (kind : Kind) (ss : List Seen) (cs : HostComments) (f : Frame) → has_simple_kind ((seen_node f kind ss).make cs false) ≡ is_simple kind
 node_simple kind ss cs row = refl
 node_simple kind ss cs (sequence opener closer) = refl
 
-small_simple : (kind : Kind) → has_kind s.small kind ≡ true → is_simple kind ≡ true
+small_simple : (kind : Kind) → sort_has_kind s.small kind ≡ true → is_simple kind ≡ true
 small_simple k.Bare h = refl
 small_simple k.Assign h = refl
 small_simple k.Load h = refl
@@ -72,7 +72,7 @@ simple_proper here x above suffix e h g at_ a m =
     )
 
 -- the statements of a line, from one on that stands here
-simple_some : (outer here : Spot) (above : List Bytes) (xs : List Part) → onward here ≡ onward Begins → Statements xs → AllKnown xs → AtParts BzlStands outer here xs → Group above → AreSome (simple (statements_in above (map seen xs)))
+simple_some : (outer here : Spot) (above : List Bytes) (xs : List Part) → onward here ≡ onward Begins → Statements xs → AllKnown xs → AtParts BzlStands outer here xs → Group above → AreSome (simple_statements (statements_in above (map seen xs)))
 simple_some outer here above [] e h g at_ a = absurd h
 simple_some outer here above (x ∷ []) e h g at_ a = absurd h.1
 simple_some outer here above (x ∷ y ∷ []) e h g at_ a = (tt, (simple_proper here x above (suffix_in (seen y).gap) e h.0 g.0 at_.0 a (suffix_fine (seen y).gap g.1.0.told.coded), tt))
@@ -81,15 +81,15 @@ simple_some outer here above (x ∷ y ∷ z ∷ u ∷ xs) e (h, inl j) g at_ a =
 simple_some outer here above (x ∷ y ∷ z ∷ u ∷ xs) e (h, inr (m, inr j)) g at_ a = absurd j.1.1
 simple_some outer here above (x ∷ y ∷ z ∷ u ∷ xs) e (h, inr (m, inl j)) g at_ a =
     let there : behind_part outer (behind_part outer here x) y ≡ onward here = token_goes s.semicolon y refl m outer (behind_part outer here x) ∙ (ap onward (sort_goes s.small x refl h outer here) ∙ on_twice here) in
-    let rest : AreSome (simple (statements_in [] (map seen (z ∷ u ∷ xs)))) = simple_some outer (onward here) [] (z ∷ u ∷ xs) (on_twice here ∙ e) j g.1.1 (subst (λ q. AtParts BzlStands outer q (z ∷ u ∷ xs)) there at_.1.1) tt in
+    let rest : AreSome (simple_statements (statements_in [] (map seen (z ∷ u ∷ xs)))) = simple_some outer (onward here) [] (z ∷ u ∷ xs) (on_twice here ∙ e) j g.1.1 (subst (λ q. AtParts BzlStands outer q (z ∷ u ∷ xs)) there at_.1.1) tt in
     (tt, (simple_proper here x above None e h g.0 at_.0 a tt, rest.1))
 
 -- the gap of a line's newline
 line_reads : (outer here : Spot) (xs : List Part) → onward here ≡ onward Begins → Statements xs → AllKnown xs → AtParts BzlStands outer here xs → Reads (line_read (map seen xs))
 line_reads outer here xs e h g at_ above after a f =
     let gap : Bytes = last_gap (map seen xs) in
-    let behind : AreFineLines (behind_first (indented gap)) = lines_behind (indented gap) (gap_lines gap (last_told (map seen xs) (all_told xs g))) in
-    (simple_some outer here above xs e h g at_ a, lines_joined (behind_first (indented gap)) after behind f)
+    let behind : AreFineLines (after_first_line (indented gap)) = lines_behind (indented gap) (gap_lines gap (last_told (map seen xs) (all_told xs g))) in
+    (simple_some outer here above xs e h g at_ a, lines_joined (after_first_line (indented gap)) after behind f)
 
 -- ---- statements one after the other
 
@@ -104,23 +104,23 @@ walked_proper : (outer : Spot) (lines : Lines) (xs : List Part) (after : Lines) 
 walked_proper outer lines [] after l h g at_ f = (tt, l)
 walked_proper outer lines (x ∷ xs) after l h g at_ f =
     let there : AtParts BzlStands outer Begins xs = subst (λ z. AtParts BzlStands outer z xs) (behind_stmt x outer Begins h.0) at_.1 in
-    let read : Read (List Statement) = (stated x).statement (comments_of lines) (lines_before (map stated xs) after) in
-    let one : AreSome read.0 × AreFineLines read.1 = g.0.statement h.0 at_.0 (comments_of lines) (lines_before (map stated xs) after) (comments_fine lines l) (before_lines xs after g.1 f) in
+    let read : Read (List Statement) = (stated x).statement (indented_comments lines) (indented_lines_before (map stated xs) after) in
+    let one : AreSome read.0 × AreFineLines read.1 = g.0.statement h.0 at_.0 (indented_comments lines) (indented_lines_before (map stated xs) after) (comments_fine lines l) (before_lines xs after g.1 f) in
     let more : Walks (walked read.1 (map stated xs) after) = walked_proper outer read.1 xs after one.1 h.1 g.1 there f in
     (all_joined IsProperStatement read.0 (walked read.1 (map stated xs) after).0 one.0.1 more.0, more.1)
 
 -- and there is at least one
 walked_some : (lines : Lines) (x : Part) (xs : List Part) (after : Lines) → AreFineLines lines → IsSort s.stmt x → Known x → AllKnown xs → AtLeaves BzlStands Begins x → AreFineLines after → HasSome (walked lines (map stated (x ∷ xs)) after).0
 walked_some lines x xs after l h g i at_ f =
-    let read : Read (List Statement) = (stated x).statement (comments_of lines) (lines_before (map stated xs) after) in
-    let one : AreSome read.0 × AreFineLines read.1 = g.statement h at_ (comments_of lines) (lines_before (map stated xs) after) (comments_fine lines l) (before_lines xs after i f) in
+    let read : Read (List Statement) = (stated x).statement (indented_comments lines) (indented_lines_before (map stated xs) after) in
+    let one : AreSome read.0 × AreFineLines read.1 = g.statement h at_ (indented_comments lines) (indented_lines_before (map stated xs) after) (comments_fine lines l) (before_lines xs after i f) in
     some_joined read.0 (walked read.1 (map stated xs) after).0 one.0.0
 
 -- ---- suites
 
 suite_reads : (outer : Spot) (x : Part) (xs : List Part) → StatementParts (x ∷ xs) → AllKnown (x ∷ xs) → AtParts BzlStands outer Begins (x ∷ xs) → Ends (suite_read (map stated (x ∷ xs)))
 suite_reads outer x xs h g at_ after f =
-    let lines : Lines = lines_before (map stated (x ∷ xs)) [] in
+    let lines : Lines = indented_lines_before (map stated (x ∷ xs)) [] in
     let fine : AreFineLines lines = before_lines (x ∷ xs) [] g tt in
     let all : Walks (walked lines (map stated (x ∷ xs)) after) = walked_proper outer lines (x ∷ xs) after fine h g at_ f in
     ((walked_some lines x xs after fine h.0 g.0 g.1 at_.0 f, all.0), ends_fine (margin_of (map stated (x ∷ xs))) (walked lines (map stated (x ∷ xs)) after).1 all.1)
@@ -154,7 +154,7 @@ line_node xs f g at_ = (
       (one.0, (tt, one.1)),
 )
 
-node_suite : (kind : Kind) (xs : List Part) → has_kind s.suite kind ≡ true → Fits IsSort (bzl_shape kind) xs → AllKnown xs → AtParts BzlStands Along Along xs → SuiteOf kind xs
+node_suite : (kind : Kind) (xs : List Part) → sort_has_kind s.suite kind ≡ true → Fits IsSort (bzl_shape kind) xs → AllKnown xs → AtParts BzlStands Along Along xs → SuiteOf kind xs
 node_suite k.Line xs h f g at_ = line_node xs f g at_
 node_suite k.Suite xs h f g at_ = suite_node xs f g at_
 node_suite _ xs h f g at_ = no_such h
@@ -164,7 +164,7 @@ compound_reads kind xs h above after a f =
     let all = h above after after a f f in
     ((tt, (compound_proper (branches kind [] above after (map stated xs) after).0 all.0 all.1.0, tt)), all.1.1)
 
-node_statement : (kind : Kind) (xs : List Part) → has_kind s.stmt kind ≡ true → Fits IsSort (bzl_shape kind) xs → AllKnown xs → AtParts BzlStands Begins Begins xs → Reads (statement_read kind (map stated xs))
+node_statement : (kind : Kind) (xs : List Part) → sort_has_kind s.stmt kind ≡ true → Fits IsSort (bzl_shape kind) xs → AllKnown xs → AtParts BzlStands Begins Begins xs → Reads (statement_read kind (map stated xs))
 node_statement k.Line xs h f g at_ = subst (λ ss. Reads (line_read ss)) (sym (parts_seen xs)) (line_reads Begins Begins xs refl f g at_)
 node_statement k.Def xs h f g at_ = compound_reads k.Def xs (compound_statement k.Def xs refl refl f g at_)
 node_statement k.IfStmt xs h f g at_ = compound_reads k.IfStmt xs (compound_statement k.IfStmt xs refl refl f g at_)

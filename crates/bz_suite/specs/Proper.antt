@@ -3,7 +3,7 @@ use Rattle.std.specs.Prelude.{◌≡◌, ◌≢◌, ◌⊎◌, Bool, true, false
 use Rattle.bz_tree.specs.declared.kind.Kind.{Kind}
 use Rattle.bz_tree.specs.declared.kind.Kind.TheVariants as k
 use Rattle.bz_tree.specs.declared.tree.Part.{Part}
-use Rattle.bz_tree.specs.Shapes.{Shape, Fits, is_kind, keyword}
+use Rattle.bz_tree.specs.Shapes.{Shape, Fits, is_kind, one_keyword}
 use Rattle.bz_tree.specs.Legal.{IsSort}
 use Rattle.bz_tree.specs.Spots.{Spot, Begins, Within}
 use Rattle.bz_tree.specs.Suites.{def_header, for_header, test_header, else_header}
@@ -11,7 +11,7 @@ use Rattle.bz_value.specs.declared.value.Expr.{Expr, Token, Form'}
 use Rattle.bz_value.specs.declared.value.Form.{Form}
 use Rattle.bz_value.specs.LineShapes.{line_shape}
 use Rattle.bz_value.specs.Proper.{IsComment, AreComments, IsBare, ProperBy, behind_expr, comments_of, has_break}
-use Rattle.bz_value.specs.Roots.{root, mark, each_with_comma}
+use Rattle.bz_value.specs.Roots.{root, mark_leaf, each_with_comma}
 use Rattle.bz_suite.specs.declared.value.Statement.{Statement, Simple, Compound', Row_of-Branch, end_of-Branch, more_of-Branch, Row_of-Statement, end_of-Statement, more_of-Statement}
 use Rattle.bz_suite.specs.declared.value.BzlItem.{BzlItem}
 use Rattle.bz_suite.specs.declared.value.BzlItem.TheVariants as b
@@ -43,7 +43,7 @@ AreParameters (x ∷ xs) = ProperBy line_shape Within x × AreComments (comments
 
 -- what stands behind the parts of a header: of a function its parameters in brackets, and then the colon
 abbrev pub header_end : Form → List Part
-header_end f = if is_kind f.kind k.Def then mark 40 ∷ (each_with_comma (map root f.seq.items) ++ mark 41 ∷ mark 58 ∷ []) else mark 58 ∷ []
+header_end f = if is_kind f.kind k.Def then mark_leaf 40 ∷ (each_with_comma (map root f.seq.items) ++ mark_leaf 41 ∷ mark_leaf 58 ∷ []) else mark_leaf 58 ∷ []
 
 -- only a function has parameters
 abbrev pub HasNone : Form → Type 0
@@ -65,7 +65,7 @@ pub record IsHeader (kind : Kind) (shape : Shape) (f : Form) : Type 0 where
 abbrev pub AreAlternatives : List Form → Type 0
 AreAlternatives [] = Unit {0}
 AreAlternatives (f ∷ fs) =
-    (IsHeader k.IfStmt (test_header (keyword (codes "elif"))) f × AreAlternatives fs)
+    (IsHeader k.IfStmt (test_header (one_keyword (codes "elif"))) f × AreAlternatives fs)
     ⊎ (IsHeader k.IfStmt else_header f × (fs ≡ []))
 
 -- the headers of one statement: def, for, or if with its alternatives
@@ -74,7 +74,7 @@ AreHeaders [] = ⊥
 AreHeaders (f ∷ fs) =
     (IsHeader k.Def def_header f × (fs ≡ []))
     ⊎ ((IsHeader k.ForStmt for_header f × (fs ≡ []))
-    ⊎ (IsHeader k.IfStmt (test_header (keyword (codes "if"))) f × AreAlternatives fs))
+    ⊎ (IsHeader k.IfStmt (test_header (one_keyword (codes "if"))) f × AreAlternatives fs))
 
 abbrev pub heads : {m : _} → Row_of-Branch m → List Form
 heads end_of-Branch = []

@@ -6,14 +6,14 @@ use Rattle.bz_tree.specs.declared.kind.Kind.TheVariants as k
 use Rattle.bz_tree.specs.declared.tree.Node.{Node}
 use Rattle.bz_tree.specs.declared.tree.Part.{Part, Row_of-Part, end_of-Part, more_of-Part, Node'}
 use Rattle.bz_tree.specs.declared.tree.Part.TheVariants as p
-use Rattle.bz_tree.specs.Shapes.{is_kind, is_one_of, colon}
+use Rattle.bz_tree.specs.Shapes.{is_kind, is_one_of, colon_mark}
 use Rattle.bz_value.specs.declared.value.Form.{Form}
 use Rattle.bz_value.specs.declared.value.Item.{Item}
 use Rattle.bz_value.specs.declared.value.Item.TheVariants as i
 use Rattle.bz_items.specs.Characters.{Bytes}
 use Rattle.bz_value.specs.Gaps.{comments_in, all_in, groups_of, all_but_last, last_group}
 use Rattle.bz_value.specs.Indented.{IndentedGapLine, indented}
-use Rattle.bz_view.specs.View.{Seen, seen, plain, first_gap, last_gap, loose_in, row_exprs, items_in, is_split, statements_in, blocks}
+use Rattle.bz_view.specs.View.{Seen, seen, plain, first_seen_gap, last_gap, loose_in, row_exprs, items_in, is_split, statements_in, blocks}
 use Rattle.bz_suite.specs.declared.value.Statement.{Statement}
 use Rattle.bz_suite.specs.declared.value.Statement.TheVariants as s
 use Rattle.bz_suite.specs.declared.value.Branch.{Branch}
@@ -23,28 +23,28 @@ use Rattle.bz_suite.specs.declared.value.BzlItem.TheVariants as b
 -- ---- lines
 
 -- the comments of lines, in their order
-abbrev pub comments_of : List IndentedGapLine → List Bytes
-comments_of lines = comments_in (map (λ l. l.line) lines)
+abbrev pub indented_comments : List IndentedGapLine → List Bytes
+indented_comments lines = comments_in (map (λ l. l.line) lines)
 
 -- the lines behind the first one of a gap
-abbrev pub behind_first : List IndentedGapLine → List IndentedGapLine
-behind_first [] = []
-behind_first (line ∷ lines) = lines
+abbrev pub after_first_line : List IndentedGapLine → List IndentedGapLine
+after_first_line [] = []
+after_first_line (line ∷ lines) = lines
 
 -- Of the comment lines behind the last statement of a suite with an indent of this length: its end comments are those up to the
 -- first one that is indented less.
-abbrev pub is_taken : ℕ → ℕ → Option Bytes → Bool
-is_taken margin indent None = true
-is_taken margin indent (Some comment) = nat_le margin indent
+abbrev pub is_taken_line : ℕ → ℕ → Option Bytes → Bool
+is_taken_line margin indent None = true
+is_taken_line margin indent (Some comment) = nat_le margin indent
 
 abbrev pub end_comments : ℕ → List IndentedGapLine → List Bytes
 end_comments margin [] = []
-end_comments margin (l ∷ lines) = if is_taken margin l.indent l.line.comment then comments_of (l ∷ []) ++ end_comments margin lines else []
+end_comments margin (l ∷ lines) = if is_taken_line margin l.indent l.line.comment then indented_comments (l ∷ []) ++ end_comments margin lines else []
 
 -- what is left of the lines behind them
 abbrev pub behind_end : ℕ → List IndentedGapLine → List IndentedGapLine
 behind_end margin [] = []
-behind_end margin (l ∷ lines) = if is_taken margin l.indent l.line.comment then behind_end margin lines else l ∷ lines
+behind_end margin (l ∷ lines) = if is_taken_line margin l.indent l.line.comment then behind_end margin lines else l ∷ lines
 
 -- ---- parts
 
@@ -66,20 +66,20 @@ pub record Stated : Type 0 where
   pub suite : List IndentedGapLine → SuiteRead
 
 -- the lines right before the first of these parts; where there is none, those that stand behind all
-abbrev pub lines_before : List Stated → List IndentedGapLine → List IndentedGapLine
-lines_before [] after = after
-lines_before (x ∷ xs) after = indented x.part.gap
+abbrev pub indented_lines_before : List Stated → List IndentedGapLine → List IndentedGapLine
+indented_lines_before [] after = after
+indented_lines_before (x ∷ xs) after = indented x.part.gap
 
 -- ---- lines of simple statements
 
-abbrev pub simple : List Item → List Statement
-simple [] = []
-simple (i.Block texts ∷ items) = simple items
-simple (i.Stmt x ∷ items) = s.Simple x ∷ simple items
+abbrev pub simple_statements : List Item → List Statement
+simple_statements [] = []
+simple_statements (i.Block texts ∷ items) = simple_statements items
+simple_statements (i.Stmt x ∷ items) = s.Simple x ∷ simple_statements items
 
 -- What stands in the gap of a Newline behind its first line stands before what follows.
 abbrev pub line_read : List Seen → List Bytes → List IndentedGapLine → Read (List Statement)
-line_read ss above after = (simple (statements_in above ss), behind_first (indented (last_gap ss)) ++ after)
+line_read ss above after = (simple_statements (statements_in above ss), after_first_line (indented (last_gap ss)) ++ after)
 
 -- ---- statements one after the other
 
@@ -87,7 +87,7 @@ line_read ss above after = (simple (statements_in above ss), behind_first (inden
 abbrev pub walked : List IndentedGapLine → List Stated → List IndentedGapLine → Read (List Statement)
 walked above [] after = ([], above)
 walked above (x ∷ xs) after =
-    let one : Read (List Statement) = x.statement (comments_of above) (lines_before xs after) in
+    let one : Read (List Statement) = x.statement (indented_comments above) (indented_lines_before xs after) in
     let more : Read (List Statement) = walked one.1 xs after in
     (one.0 ++ more.0, more.1)
 
@@ -95,12 +95,12 @@ walked above (x ∷ xs) after =
 
 -- the length of the indent of the first statement
 abbrev pub margin_of : List Stated → ℕ
-margin_of xs = length (indent (first_gap (map (λ x. x.part) xs)))
+margin_of xs = length (indent (first_seen_gap (map (λ x. x.part) xs)))
 
 -- the statements behind a suite's newline
 abbrev pub suite_read : List Stated → List IndentedGapLine → SuiteRead
 suite_read xs after =
-    let all : Read (List Statement) = walked (lines_before xs []) xs after in
+    let all : Read (List Statement) = walked (indented_lines_before xs []) xs after in
     ((all.0, end_comments (margin_of xs) all.1), behind_end (margin_of xs) all.1)
 
 -- ---- headers
@@ -115,7 +115,7 @@ abbrev pub def_head : List Seen → List Bytes → Option Bytes → Form
 def_head ss above suffix = record {
   kind = k.Def;
   parts = map plain (take 2 ss);
-  seq = record { items = (items_in (all_in (first_gap (drop 3 ss))) (drop 3 ss)).0; end_ = (items_in (all_in (first_gap (drop 3 ss))) (drop 3 ss)).1; split = is_split (drop 3 ss) };
+  seq = record { items = (items_in (all_in (first_seen_gap (drop 3 ss))) (drop 3 ss)).0; end_ = (items_in (all_in (first_seen_gap (drop 3 ss))) (drop 3 ss)).1; split = is_split (drop 3 ss) };
   open_ = false;
   comments = record { before = above ++ loose_in (take 3 ss); suffix = suffix };
 }
@@ -143,8 +143,8 @@ abbrev mutual
   pub with_suite : Kind → List Seen → List Bytes → List IndentedGapLine → List Stated → List IndentedGapLine → Read (List Branch)
   with_suite kind parts above left [] after = ([], left)
   with_suite kind parts above left (x ∷ xs) after =
-      let own : SuiteRead = x.suite (lines_before xs after) in
-      let more : Read (List Branch) = branches kind [] (comments_of own.1) own.1 xs after in
+      let own : SuiteRead = x.suite (indented_lines_before xs after) in
+      let more : Read (List Branch) = branches kind [] (indented_comments own.1) own.1 xs after in
       (record { head = head kind parts above x.suffix; statements = own.0.0; end_ = own.0.1 } ∷ more.0, more.1)
 
 -- ---- parts of each kind
@@ -169,13 +169,13 @@ suite_in kind xs after =
     else (if is_kind kind k.Suite then suite_read (drop 1 xs) after else (([], []), after))
 
 abbrev pub suffix_before : Kind → List Stated → Option Bytes
-suffix_before kind xs = if is_kind kind k.Suite then only_comment (all_in (first_gap (map (λ x. x.part) xs))) else None
+suffix_before kind xs = if is_kind kind k.Suite then only_comment (all_in (first_seen_gap (map (λ x. x.part) xs))) else None
 
 abbrev mutual
   pub stated : Part → Stated
   stated (p.Leaf l) = record {
     part = seen (p.Leaf l);
-    is_colon = is_one_of colon l;
+    is_colon = is_one_of colon_mark l;
     suffix = None;
     statement = λ above after. ([], after);
     suite = λ after. (([], []), after);
@@ -211,9 +211,9 @@ bzl_items lines [] = []
 bzl_items lines (p.Leaf l ∷ xs) = block_items (groups_of (map (λ l. l.line) lines)) ++ bzl_items [] xs
 bzl_items lines (Node' kind size row ∷ xs) =
     let groups : List (List Bytes) = groups_of (map (λ l. l.line) lines) in
-    let own : Read (List Statement) = (stated (Node' kind size row)).statement (last_group groups) (lines_before (map stated xs) []) in
+    let own : Read (List Statement) = (stated (Node' kind size row)).statement (last_group groups) (indented_lines_before (map stated xs) []) in
     block_items (all_but_last groups) ++ (map b.Statement own.0 ++ bzl_items own.1 xs)
 
 -- what a .bzl file's tree says
 abbrev pub bzl_view_of : Node → List BzlItem
-bzl_view_of n = bzl_items (lines_before (map stated n.parts) []) n.parts
+bzl_view_of n = bzl_items (indented_lines_before (map stated n.parts) []) n.parts

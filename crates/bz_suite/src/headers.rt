@@ -1,6 +1,6 @@
 //! Headers: what stands before a suite, up to the colon.
 ghost use Rattle.std.specs.Prelude.{◌≡◌, ◌≤◌, ◌<◌, ◌-◌, ◌+◌, [], List, map, take, drop, length, MatchOption, IfOk};
-ghost use Rattle.bz_tree.specs.Shapes.{is_kind, is_one_of, colon};
+ghost use Rattle.bz_tree.specs.Shapes.{is_kind, is_one_of, colon_mark};
 ghost use Rattle.bz_items.specs.Characters.{Bytes};
 ghost use Rattle.bz_value.specs.Gaps.{all_in};
 ghost use Rattle.bz_value.specs.Indented.{IndentedGapLine};

@@ -1,7 +1,7 @@
 //! Lines of a text that stand before a part of a tree: those of two gaps that follow each other.
 ghost use Rattle.std.specs.Prelude.{◌≡◌, ◌↔◌, ◌++◌, [], IfOk, OnOk, IsTrue};
 ghost use Rattle.bz_value.specs.Indented.{indented};
-ghost use Rattle.bz_suite.specs.View.{behind_end, behind_first, comments_of, end_comments};
+ghost use Rattle.bz_suite.specs.View.{behind_end, after_first_line, indented_comments, end_comments};
 
 use bz_items::{Items, Memory, Text};
 use bz_value::{first_indented_line, push_all};
@@ -23,7 +23,7 @@ pub fn only(gap: &[u8]) -> Rest<'_>
 
 /// The comments of the lines. The error: memory was refused.
 pub fn comments(alloc: Global, rest: Rest<'_>) -> Result<Items<Text>, Memory>
-    ensures { IfOk result (λ texts. texts ≡ comments_of (indented rest.entry.left.now ++ indented rest.entry.gap.now)) }
+    ensures { IfOk result (λ texts. texts ≡ indented_comments (indented rest.entry.left.now ++ indented rest.entry.gap.now)) }
 {
     let mut texts = Items::new(alloc);
     push_all(alloc, rest.left, &mut texts)?;
@@ -33,7 +33,7 @@ pub fn comments(alloc: Global, rest: Rest<'_>) -> Result<Items<Text>, Memory>
 
 /// The gap behind its first line.
 pub fn behind_first_line(gap: &[u8]) -> &[u8]
-    ensures { indented result.now ≡ behind_first (indented gap.now) }
+    ensures { indented result.now ≡ after_first_line (indented gap.now) }
 {
     match first_indented_line(gap) {
         None => &[],

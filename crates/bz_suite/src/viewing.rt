@@ -4,7 +4,7 @@ ghost use Rattle.bz_lex.specs.Gaps.{indent};
 ghost use Rattle.bz_value.specs.Indented.{indented};
 ghost use Rattle.bz_tree.specs.declared.tree.Part.{Part};
 ghost use Rattle.bz_view.specs.View.{seen};
-ghost use Rattle.bz_suite.specs.View.{bzl_items, bzl_view_of, block_items, branches, bzl_item, compound_read, line_read, lines_before, margin_of, simple, stated, statement_read, suite_in, walked};
+ghost use Rattle.bz_suite.specs.View.{bzl_items, bzl_view_of, block_items, branches, bzl_item, compound_read, line_read, indented_lines_before, margin_of, simple_statements, stated, statement_read, suite_in, walked};
 ghost use Rattle.bz_value.specs.Gaps.{groups_of, all_but_last, last_group};
 
 use crate::headers::{behind_first, colon_from, head, is_compound, is_kind, suffix_before};
@@ -40,7 +40,7 @@ fn margin_of(parts: &[Part]) -> usize
 
 /// The gap of the part with this index; past the last part the one behind all of them.
 fn gap_behind<'a>(parts: &'a [Part], at: usize, after: &'a [u8]) -> &'a [u8]
-    ensures { indented result.now ≡ lines_before (map stated (drop at parts.now)) (indented after.now) }
+    ensures { indented result.now ≡ indented_lines_before (map stated (drop at parts.now)) (indented after.now) }
 {
     match parts.get(at) {
         Some(part) => gap_before(part),
@@ -50,7 +50,7 @@ fn gap_behind<'a>(parts: &'a [Part], at: usize, after: &'a [u8]) -> &'a [u8]
 
 /// Appends simple statements that stand as items.
 fn push_simple(items: Items<Item>, out: &mut Items<Statement>) -> Result<(), Memory>
-    ensures { OnOk result (out.new ≡ out.old ++ simple items) }
+    ensures { OnOk result (out.new ≡ out.old ++ simple_statements items) }
 {
     for item in items.into_vec() {
         if let Item::Stmt(expr) = item {
@@ -239,8 +239,8 @@ fn push_all_statements<'a>(
     after: &'a [u8],
     out: &mut Items<Statement>,
 ) -> Result<Rest<'a>, Memory>
-    ensures out { OnOk result (out.new ≡ out.old ++ (walked (lines_before (map stated parts.now) []) (map stated parts.now) (indented after.now)).0) }
-    ensures rest { IfOk result (λ rest. indented rest.left.now ++ indented rest.gap.now ≡ (walked (lines_before (map stated parts.now) []) (map stated parts.now) (indented after.now)).1) }
+    ensures out { OnOk result (out.new ≡ out.old ++ (walked (indented_lines_before (map stated parts.now) []) (map stated parts.now) (indented after.now)).0) }
+    ensures rest { IfOk result (λ rest. indented rest.left.now ++ indented rest.gap.now ≡ (walked (indented_lines_before (map stated parts.now) []) (map stated parts.now) (indented after.now)).1) }
 {
     let mut rest = only(gap_at(parts, 0));
     for at in 0..parts.len() {
@@ -327,7 +327,7 @@ pub fn view_bzl(alloc: Global, tree: &BzlTree) -> Result<BzlFile, Memory>
 
 /// The items of the statements of a file and of its end.
 fn items_of(alloc: Global, parts: &[Part]) -> Result<Items<BzlItem>, Memory>
-    ensures { IfOk result (λ items. items ≡ bzl_items (lines_before (map stated parts.now) []) parts.now) }
+    ensures { IfOk result (λ items. items ≡ bzl_items (indented_lines_before (map stated parts.now) []) parts.now) }
 {
     let mut items = Items::new(alloc);
     let mut rest = only(gap_at(parts, 0));
@@ -352,7 +352,7 @@ fn push_part<'a>(
     after: &'a [u8],
     items: &mut Items<BzlItem>,
 ) -> Result<Rest<'a>, Memory>
-    ensures { IfOk result (λ left. (xs : List Part) → indented after.now ≡ lines_before (map stated xs) []
+    ensures { IfOk result (λ left. (xs : List Part) → indented after.now ≡ indented_lines_before (map stated xs) []
         → items.new ++ bzl_items (indented left.left.now ++ indented left.gap.now) xs ≡ items.old ++ bzl_items (indented rest.entry.left.now ++ indented rest.entry.gap.now) (part.now ∷ xs)) }
 {
     match part {

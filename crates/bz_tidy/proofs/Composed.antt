@@ -10,7 +10,7 @@ use Rattle.bz_rule.specs.Values.{has_kind, above, on_first, on_third, behind_fir
 use Rattle.bz_tidy.specs.Orders.{sort_by}
 use Rattle.bz_tidy.specs.Marks.{any_marked, leave_alone}
 use Rattle.bz_tidy.specs.Lists.{settled_list}
-use Rattle.bz_tidy.specs.Passes.{on_statement, taken, on_taken, on_call, on_rule, on_attribute, quoted, quotes, labelled_value, labels_in, labels, sorted_value, in_assign, lists_in, lists, argument_precedes, arguments_in, arguments, symbol_precedes, symbols_in, symbols}
+use Rattle.bz_tidy.specs.Passes.{on_statement, taken, on_taken, on_call, on_rule_arguments, on_attribute, quoted, quotes, labelled_value, labels_in, labels, sorted_value, in_assign, lists_in, lists, argument_precedes, arguments_in, arguments, symbol_precedes, symbols_in, symbols}
 use Rattle.bz_tidy.proofs.Keeping.{both}
 use Rattle.bz_tidy.proofs.Parts.{the_parts, the_items, above_quoted}
 use Rattle.bz_tidy.proofs.Levels.{above_within}
@@ -23,7 +23,7 @@ SameAbove change = (x : Expr) → above (change x) ≡ above x
 pub quoted_above : SameAbove quoted
 quoted_above = above_quoted
 
-pub rule_above : (change : Bytes → List Expr → List Expr) → SameAbove (on_rule change)
+pub rule_above : (change : Bytes → List Expr → List Expr) → SameAbove (on_rule_arguments change)
 rule_above change = above_within the_parts k.Bare (λ x. on_first (on_call change))
 
 pub labels_above : SameAbove labels_in
@@ -35,7 +35,7 @@ either_above false y z x h i = i
 
 pub lists_above : SameAbove lists_in
 lists_above x =
-    either_above (has_kind k.Assign x) (in_assign x) (on_rule (λ kind. map (on_attribute (sorted_value kind))) x) x
+    either_above (has_kind k.Assign x) (in_assign x) (on_rule_arguments (λ kind. map (on_attribute (sorted_value kind))) x) x
     (above_within the_parts k.Assign (λ y. on_third (on_lists (settled_list (above y) false))) x)
     (rule_above (λ kind. map (on_attribute (sorted_value kind))) x)
 

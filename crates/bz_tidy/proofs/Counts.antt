@@ -22,8 +22,8 @@ use Rattle.bz_write.specs.Flags.{settled_split, with_flags, each_with_flags, ite
 use Rattle.bz_rule.specs.Values.{has_kind, has_class, text_of, parts_of, above, with_above, on_items, on_row, on_first, on_third, behind_first, first_text, on_lists}
 use Rattle.bz_tidy.specs.Orders.{insert_by, sort_by}
 use Rattle.bz_tidy.specs.Marks.{is_marked, any_marked, leave_alone, keep_sorted, keep_marks, other_comments}
-use Rattle.bz_tidy.specs.Lists.{is_taken, precedes, has_no_comment, unrepeated, in_order, unmarked, marked_by, sorted, settled_list}
-use Rattle.bz_tidy.specs.Passes.{on_statement, taken, on_taken, rule_kind, of_rule, on_call, on_rule, on_attribute, quoted, each_quoted, quotes, labelled, labelled_value, labels_in, labels, sorted_value, in_assign, lists_in, lists, argument_precedes, arguments_in, arguments, symbol_precedes, symbols_in, symbols, load_precedes, loads, tidied}
+use Rattle.bz_tidy.specs.Lists.{is_taken, precedes, has_no_comment, without_repeats, in_order, without_marks, marked_by, sorted, settled_list}
+use Rattle.bz_tidy.specs.Passes.{on_statement, taken, on_taken, rule_kind, of_rule, on_call, on_rule_arguments, on_attribute, quoted, each_quoted, quotes, labelled, labelled_value, labels_in, labels, sorted_value, in_assign, lists_in, lists, argument_precedes, arguments_in, arguments, symbol_precedes, symbols_in, symbols, load_precedes, loads, tidied}
 use Rattle.bz_tidy.proofs.Keeping.{both}
 use Rattle.bz_tidy.proofs.Sorting.{sort_all, sort_total}
 use Rattle.bz_tidy.proofs.Parts.{Place, the_parts, the_items, made, parts_behind, items_behind, parts_are, items_are}
@@ -164,9 +164,9 @@ module _ (number : Bytes → ℕ) where
   bare_host [] (Some s) h = cc
   bare_host (b ∷ bs) suffix h = cc
 
-  unrepeated_total : (earlier : List Bytes) (xs : List Expr) → AllByRecursion IsText xs → total whole (unrepeated earlier xs) ≡ total whole xs
+  unrepeated_total : (earlier : List Bytes) (xs : List Expr) → AllByRecursion IsText xs → total whole (without_repeats earlier xs) ≡ total whole xs
   unrepeated_total earlier [] h = refl
-  unrepeated_total earlier (x ∷ xs) h = let more : total whole (unrepeated earlier xs) ≡ total whole xs = unrepeated_total earlier xs h.1 in elim (cases_Bool (has_no_comment x && list_any (bytes_eq (text_of x)) earlier)) [
+  unrepeated_total earlier (x ∷ xs) h = let more : total whole (without_repeats earlier xs) ≡ total whole xs = unrepeated_total earlier xs h.1 in elim (cases_Bool (has_no_comment x && list_any (bytes_eq (text_of x)) earlier)) [
     | inl t ↦
         let none : amount number x ≡ 0 = text_amount x h.0 ∙ bare_host (comments_of x).before (comments_of x).suffix (and_parts (has_no_comment x) _ t).0 in
         rw t (omega arith)
@@ -179,9 +179,9 @@ module _ (number : Bytes → ℕ) where
   own_amount : (x : Expr) → IsText x → amount number x ≡ total number (above x) + suffix_amount number (comments_of x).suffix
   own_amount x h = text_amount x h
 
-  unmarked_amount : (x : Expr) → IsText x → total number (keep_marks (above x)) + amount number (unmarked x) ≡ amount number x
+  unmarked_amount : (x : Expr) → IsText x → total number (keep_marks (above x)) + amount number (without_marks x) ≡ amount number x
   unmarked_amount x h =
-      let a : amount number (unmarked x) ≡ total number (other_comments (above x)) + suffix_amount number (comments_of x).suffix = above_amount (other_comments (above x)) x h in
+      let a : amount number (without_marks x) ≡ total number (other_comments (above x)) + suffix_amount number (comments_of x).suffix = above_amount (other_comments (above x)) x h in
       let b : amount number x ≡ total number (above x) + suffix_amount number (comments_of x).suffix = own_amount x h in
       let s : total number (keep_marks (above x)) + total number (other_comments (above x)) ≡ total number (above x) = filter_total number (is_marked keep_sorted) (above x) in
       omega arith
@@ -201,14 +201,14 @@ module _ (number : Bytes → ℕ) where
     | inr f ↦ (x, (y ∷ ys, rw f refl))
   ]
 
-  first_stays : (y : Expr) (ys : List Expr) → unrepeated [] (y ∷ ys) ≡ y ∷ unrepeated (text_of y ∷ []) ys
+  first_stays : (y : Expr) (ys : List Expr) → without_repeats [] (y ∷ ys) ≡ y ∷ without_repeats (text_of y ∷ []) ys
   first_stays y ys = let none : (has_no_comment y && false) ≡ false = and_right (has_no_comment y) false refl in rw none refl
 
   marked_total : (marks : List Bytes) (y : Expr) (ys zs : List Expr) → zs ≡ y ∷ ys → AllByRecursion IsText zs → total whole (marked_by marks zs) ≡ total number marks + total whole zs
   marked_total marks y ys [] e h = cc
   marked_total marks y ys (z ∷ zs) e h = let a : amount number (with_above (marks ++ above z) z) ≡ total number marks + amount number z = ahead_amount marks z h.0 in omega arith
 
-  unrepeated_texts : (earlier : List Bytes) (xs : List Expr) → AllByRecursion IsText xs → AllByRecursion IsText (unrepeated earlier xs)
+  unrepeated_texts : (earlier : List Bytes) (xs : List Expr) → AllByRecursion IsText xs → AllByRecursion IsText (without_repeats earlier xs)
   unrepeated_texts earlier [] h = tt
   unrepeated_texts earlier (x ∷ xs) h = elim (cases_Bool (has_no_comment x && list_any (bytes_eq (text_of x)) earlier)) [
     | inl t ↦ rw t (unrepeated_texts earlier xs h.1)
@@ -218,16 +218,16 @@ module _ (number : Bytes → ℕ) where
   moved_total : (marks : List Bytes) (x : Expr) (xs : List Expr) → AllByRecursion IsText (x ∷ xs) → total whole (marked_by marks (in_order (x ∷ xs))) ≡ total number marks + total whole (x ∷ xs)
   moved_total marks x xs h =
       let i : (y : Expr) × ((ys : List Expr) × (insert_by precedes x (sort_by precedes xs) ≡ y ∷ ys)) = inserted x (sort_by precedes xs) in
-      marked_total marks i.0 (unrepeated (text_of i.0 ∷ []) i.1.0) (in_order (x ∷ xs)) (ap (unrepeated []) i.1.1 ∙ first_stays i.0 i.1.0) (unrepeated_texts [] (sort_by precedes (x ∷ xs)) (sort_all precedes IsText (x ∷ xs) h))
+      marked_total marks i.0 (without_repeats (text_of i.0 ∷ []) i.1.0) (in_order (x ∷ xs)) (ap (without_repeats []) i.1.1 ∙ first_stays i.0 i.1.0) (unrepeated_texts [] (sort_by precedes (x ∷ xs)) (sort_all precedes IsText (x ∷ xs) h))
       ∙ ap (λ a. total number marks + a) (in_order_total (x ∷ xs) h)
 
   sorted_total : (xs : List Expr) → AllByRecursion IsText xs → total whole (sorted xs) ≡ total whole xs
   sorted_total [] h = refl
   sorted_total (x ∷ xs) h = elim (cases_Bool (list_any (λ y. precedes y x) xs)) [
     | inl t ↦
-        let a : total whole (marked_by (keep_marks (above x)) (in_order (unmarked x ∷ xs))) ≡ total number (keep_marks (above x)) + (amount number (unmarked x) + total whole xs) =
-        moved_total (keep_marks (above x)) (unmarked x) xs (text_above (other_comments (above x)) x h.0, h.1) in
-        let b : total number (keep_marks (above x)) + amount number (unmarked x) ≡ amount number x = unmarked_amount x h.0 in
+        let a : total whole (marked_by (keep_marks (above x)) (in_order (without_marks x ∷ xs))) ≡ total number (keep_marks (above x)) + (amount number (without_marks x) + total whole xs) =
+        moved_total (keep_marks (above x)) (without_marks x) xs (text_above (other_comments (above x)) x h.0, h.1) in
+        let b : total number (keep_marks (above x)) + amount number (without_marks x) ≡ amount number x = unmarked_amount x h.0 in
         rw t (omega arith)
     | inr f ↦ rw f (in_order_total (x ∷ xs) h)
   ]
@@ -260,7 +260,7 @@ module _ (number : Bytes → ℕ) where
   of_total g h None xs = refl
   of_total g h (Some kind) xs = h kind xs
 
-  rule_amount : (g : Bytes → List Expr → List Expr) → ((kind : Bytes) → SameTotal whole (g kind)) → Same whole (on_rule g)
+  rule_amount : (g : Bytes → List Expr → List Expr) → ((kind : Bytes) → SameTotal whole (g kind)) → Same whole (on_rule_arguments g)
   rule_amount g h = row_amount_within k.Bare (λ x. on_first (on_call g)) (λ x. first_total whole (on_call g) (items_amount_within k.Call (λ y. of_rule g (rule_kind (parts_of y))) (λ y. of_total g h (rule_kind (parts_of y)))))
 
   when_amount : (b : Bool) (g : Expr → Expr) → Same whole g → Same whole (λ x. if b then g x else x)
@@ -273,7 +273,7 @@ module _ (number : Bytes → ℕ) where
 
   lists_in_amount : Same whole lists_in
   lists_in_amount x =
-      either_total whole (has_kind k.Assign x) (in_assign x) (on_rule (λ kind. map (on_attribute (sorted_value kind))) x) x
+      either_total whole (has_kind k.Assign x) (in_assign x) (on_rule_arguments (λ kind. map (on_attribute (sorted_value kind))) x) x
       (row_amount_within k.Assign (λ y. on_third (on_lists (settled_list (above y) false))) (λ y. third_total whole _ (lists_amount (settled_list (above y) false) (list_total (above y) false))) x)
       (rule_amount (λ kind. map (on_attribute (sorted_value kind))) (λ kind. map_total whole (on_attribute (sorted_value kind))
       (attribute_amount (sorted_value kind) (λ name a. lists_amount (settled_list a (is_sorted kind name)) (list_total a (is_sorted kind name))))) x)

@@ -14,8 +14,8 @@ use Rattle.bz_value.specs.declared.value.Expr.{Expr}
 use Rattle.bz_items.specs.Characters.{Bytes}
 use Rattle.bz_rule.specs.Values.{text_of}
 use Rattle.bz_rule.specs.QuoteMarks.{between}
-use Rattle.bz_tidy.specs.Lists.{precedes, unrepeated, has_no_comment}
-use Rattle.bz_tidy.specs.Repeats.{AreKept, key_of, last_of, ties_last, precedes_last, is_text_at, stands_at, tied_places}
+use Rattle.bz_tidy.specs.Lists.{precedes, without_repeats, has_no_comment}
+use Rattle.bz_tidy.specs.Repeats.{AreKept, sort_key, last_of, ties_last, precedes_last, is_text_at, repeats_at, tied_places}
 use Rattle.bz_tidy.specs.Rising.{NoneBefore, Rises}
 
 -- ---- keys of which none comes before the other
@@ -94,48 +94,48 @@ within_tied : (kept : List Expr) (d : Bool) (places : List ℕ) → Within kept 
 within_tied kept true places h = h
 within_tied kept false places h = tt
 
-stands_tied : (kept : List Expr) (d : Bool) (places : List ℕ) (text : Bytes) → stands_at kept (if d then places else []) text ≡ (d && stands_at kept places text)
+stands_tied : (kept : List Expr) (d : Bool) (places : List ℕ) (text : Bytes) → repeats_at kept (if d then places else []) text ≡ (d && repeats_at kept places text)
 stands_tied kept true places text = refl
 stands_tied kept false places text = refl
 
-stands_more : (kept : List Expr) (x : Expr) (places : List ℕ) (text : Bytes) → Within kept places → stands_at (kept ++ x ∷ []) places text ≡ stands_at kept places text
+stands_more : (kept : List Expr) (x : Expr) (places : List ℕ) (text : Bytes) → Within kept places → repeats_at (kept ++ x ∷ []) places text ≡ repeats_at kept places text
 stands_more kept x [] text h = refl
 stands_more kept x (place ∷ places) text h =
-    ap (λ (found : Option Expr). option_map_or (λ x. bytes_eq text (text_of x)) found false || stands_at (kept ++ x ∷ []) places text) (unchanged kept x place h.0)
+    ap (λ (found : Option Expr). option_map_or (λ x. bytes_eq text (text_of x)) found false || repeats_at (kept ++ x ∷ []) places text) (unchanged kept x place h.0)
     ∙ ap (λ z. is_text_at kept text place || z) (stands_more kept x places text h.1)
 
-stands_new : (kept : List Expr) (x : Expr) (places : List ℕ) (text : Bytes) → Within kept places → stands_at (kept ++ x ∷ []) (places ++ length kept ∷ []) text ≡ (stands_at kept places text || bytes_eq text (text_of x))
+stands_new : (kept : List Expr) (x : Expr) (places : List ℕ) (text : Bytes) → Within kept places → repeats_at (kept ++ x ∷ []) (places ++ length kept ∷ []) text ≡ (repeats_at kept places text || bytes_eq text (text_of x))
 stands_new kept x places text h =
     list_any-append (is_text_at (kept ++ x ∷ []) text) places (length kept ∷ [])
     ∙ ap (λ z. z || (is_text_at (kept ++ x ∷ []) text (length kept) || false)) (stands_more kept x places text h)
-    ∙ ap (λ z. stands_at kept places text || z) (or_none (is_text_at (kept ++ x ∷ []) text (length kept))
+    ∙ ap (λ z. repeats_at kept places text || z) (or_none (is_text_at (kept ++ x ∷ []) text (length kept))
     ∙ ap (λ (found : Option Expr). option_map_or (λ x. bytes_eq text (text_of x)) found false) (pushed kept x))
 
 -- ---- one later item
 
 abbrev Sees : List Expr → List ℕ → List Bytes → Expr → Type 0
-Sees kept places earlier x = (precedes_last kept x ≡ false) × (list_any (bytes_eq (text_of x)) earlier ≡ (ties_last kept x && stands_at kept places (text_of x)))
+Sees kept places earlier x = (precedes_last kept x ≡ false) × (list_any (bytes_eq (text_of x)) earlier ≡ (ties_last kept x && repeats_at kept places (text_of x)))
 
-ties_pushed : (kept : List Expr) (x y : Expr) → ties_last (kept ++ x ∷ []) y ≡ bytes_eq (key_of x) (key_of y)
-ties_pushed kept x y = ap (λ (last : Option Expr). option_map_or (λ l. bytes_eq (key_of l) (key_of y)) last false) (last_pushed kept x)
+ties_pushed : (kept : List Expr) (x y : Expr) → ties_last (kept ++ x ∷ []) y ≡ bytes_eq (sort_key x) (sort_key y)
+ties_pushed kept x y = ap (λ (last : Option Expr). option_map_or (λ l. bytes_eq (sort_key l) (sort_key y)) last false) (last_pushed kept x)
 
 precedes_pushed : (kept : List Expr) (x y : Expr) → precedes_last (kept ++ x ∷ []) y ≡ precedes y x
 precedes_pushed kept x y = ap (λ (last : Option Expr). option_map_or (λ l. precedes y l) last false) (last_pushed kept x)
 
-same_text_ties : (x y : Expr) → bytes_eq (text_of y) (text_of x) ≡ true → bytes_eq (key_of x) (key_of y) ≡ true
-same_text_ties x y h = (bytes_eq-Decides (key_of x) (key_of y)).1 (ap between (sym ((bytes_eq-Decides (text_of y) (text_of x)).0 h)))
+same_text_ties : (x y : Expr) → bytes_eq (text_of y) (text_of x) ≡ true → bytes_eq (sort_key x) (sort_key y) ≡ true
+same_text_ties x y h = (bytes_eq-Decides (sort_key x) (sort_key y)).1 (ap between (sym ((bytes_eq-Decides (text_of y) (text_of x)).0 h)))
 
-tied_alike : (kept : List Expr) (x y : Expr) → bytes_eq (key_of x) (key_of y) ≡ true → ties_last kept y ≡ ties_last kept x
+tied_alike : (kept : List Expr) (x y : Expr) → bytes_eq (sort_key x) (sort_key y) ≡ true → ties_last kept y ≡ ties_last kept x
 tied_alike kept x y h =
-    ap (λ (key : Bytes). option_map_or (λ last. bytes_eq (key_of last) key) (last_of kept) false) (sym ((bytes_eq-Decides (key_of x) (key_of y)).0 h))
+    ap (λ (key : Bytes). option_map_or (λ last. bytes_eq (sort_key last) key) (last_of kept) false) (sym ((bytes_eq-Decides (sort_key x) (sort_key y)).0 h))
 
 tied_through : (last : Option Expr) (x y : Expr) → option_map_or (λ l. precedes x l) last false ≡ false → precedes y x ≡ false
-    → option_map_or (λ l. bytes_eq (key_of l) (key_of y)) last false ≡ true → bytes_eq (key_of x) (key_of y) ≡ true
+    → option_map_or (λ l. bytes_eq (sort_key l) (sort_key y)) last false ≡ true → bytes_eq (sort_key x) (sort_key y) ≡ true
 tied_through None x y a b h = let e : false ≡ true = h in cc
 tied_through (Some l) x y a b h =
-    let e : key_of l ≡ key_of y = (bytes_eq-Decides (key_of l) (key_of y)).0 h in
-    let f : is_lt (key_order (key_of l) (key_of x)) ≡ false = ap (λ key. is_lt (key_order key (key_of x))) e ∙ b in
-    (bytes_eq-Decides (key_of x) (key_of y)).1 (same_key (key_of x) (key_of l) a f ∙ e)
+    let e : sort_key l ≡ sort_key y = (bytes_eq-Decides (sort_key l) (sort_key y)).0 h in
+    let f : is_lt (key_order (sort_key l) (sort_key x)) ≡ false = ap (λ key. is_lt (key_order key (sort_key x))) e ∙ b in
+    (bytes_eq-Decides (sort_key x) (sort_key y)).1 (same_key (sort_key x) (sort_key l) a f ∙ e)
 
 module _ (kept : List Expr) (places : List ℕ) (earlier : List Bytes) (x : Expr) (w : Within kept places) (mine : Sees kept places earlier x) where
   abbrev tied : List ℕ
@@ -144,59 +144,59 @@ module _ (kept : List Expr) (places : List ℕ) (earlier : List Bytes) (x : Expr
   within : Within kept tied
   within = within_tied kept (ties_last kept x) places w
 
-  seen_text : (y : Expr) → stands_at kept tied (text_of y) ≡ (ties_last kept x && stands_at kept places (text_of y))
+  seen_text : (y : Expr) → repeats_at kept tied (text_of y) ≡ (ties_last kept x && repeats_at kept places (text_of y))
   seen_text y = stands_tied kept (ties_last kept x) places (text_of y)
 
   seen_new : (y : Expr) → precedes y x ≡ false → Sees kept places earlier y → Sees (kept ++ x ∷ []) (tied ++ length kept ∷ []) (text_of x ∷ earlier) y
   seen_new y n s =
-      let e : stands_at (kept ++ x ∷ []) (tied ++ length kept ∷ []) (text_of y) ≡ ((ties_last kept x && stands_at kept places (text_of y)) || bytes_eq (text_of y) (text_of x)) =
+      let e : repeats_at (kept ++ x ∷ []) (tied ++ length kept ∷ []) (text_of y) ≡ ((ties_last kept x && repeats_at kept places (text_of y)) || bytes_eq (text_of y) (text_of x)) =
       stands_new kept x tied (text_of y) within ∙ ap (λ z. z || bytes_eq (text_of y) (text_of x)) (seen_text y) in (
         precedes_pushed kept x y ∙ n,
         ap (λ z. bytes_eq (text_of y) (text_of x) || z) s.1
-            ∙ (new_token (bytes_eq (key_of x) (key_of y)) (bytes_eq (text_of y) (text_of x)) (ties_last kept y) (ties_last kept x) (stands_at kept places (text_of y))
+            ∙ (new_token (bytes_eq (sort_key x) (sort_key y)) (bytes_eq (text_of y) (text_of x)) (ties_last kept y) (ties_last kept x) (repeats_at kept places (text_of y))
             (same_text_ties x y) (tied_alike kept x y) (tied_through (last_of kept) x y mine.0 n)
-            ∙ (ap (λ z. bytes_eq (key_of x) (key_of y) && z) (sym e)
-            ∙ ap (λ z. z && stands_at (kept ++ x ∷ []) (tied ++ length kept ∷ []) (text_of y)) (sym (ties_pushed kept x y)))),
+            ∙ (ap (λ z. bytes_eq (sort_key x) (sort_key y) && z) (sym e)
+            ∙ ap (λ z. z && repeats_at (kept ++ x ∷ []) (tied ++ length kept ∷ []) (text_of y)) (sym (ties_pushed kept x y)))),
       )
 
-  seen_old : (y : Expr) → stands_at kept tied (text_of x) ≡ true → precedes y x ≡ false → Sees kept places earlier y → Sees (kept ++ x ∷ []) tied (text_of x ∷ earlier) y
+  seen_old : (y : Expr) → repeats_at kept tied (text_of x) ≡ true → precedes y x ≡ false → Sees kept places earlier y → Sees (kept ++ x ∷ []) tied (text_of x ∷ earlier) y
   seen_old y t n s =
-      let joined : (ties_last kept x ≡ true) × (stands_at kept places (text_of x) ≡ true) = both_true (ties_last kept x) (stands_at kept places (text_of x)) (sym (seen_text x) ∙ t) in
-      let e : stands_at (kept ++ x ∷ []) tied (text_of y) ≡ stands_at kept places (text_of y) =
-      stands_more kept x tied (text_of y) within ∙ (seen_text y ∙ ap (λ z. z && stands_at kept places (text_of y)) joined.0) in (
+      let joined : (ties_last kept x ≡ true) × (repeats_at kept places (text_of x) ≡ true) = both_true (ties_last kept x) (repeats_at kept places (text_of x)) (sym (seen_text x) ∙ t) in
+      let e : repeats_at (kept ++ x ∷ []) tied (text_of y) ≡ repeats_at kept places (text_of y) =
+      stands_more kept x tied (text_of y) within ∙ (seen_text y ∙ ap (λ z. z && repeats_at kept places (text_of y)) joined.0) in (
         precedes_pushed kept x y ∙ n,
         ap (λ z. bytes_eq (text_of y) (text_of x) || z) s.1
-            ∙ (old_token (bytes_eq (key_of x) (key_of y)) (bytes_eq (text_of y) (text_of x)) (ties_last kept y) (stands_at kept places (text_of y))
+            ∙ (old_token (bytes_eq (sort_key x) (sort_key y)) (bytes_eq (text_of y) (text_of x)) (ties_last kept y) (repeats_at kept places (text_of y))
             (same_text_ties x y) (λ h. tied_alike kept x y h ∙ joined.0) (tied_through (last_of kept) x y mine.0 n)
-            (λ h. ap (stands_at kept places) ((bytes_eq-Decides (text_of y) (text_of x)).0 h) ∙ joined.1)
-            ∙ (ap (λ z. bytes_eq (key_of x) (key_of y) && z) (sym e)
-            ∙ ap (λ z. z && stands_at (kept ++ x ∷ []) tied (text_of y)) (sym (ties_pushed kept x y)))),
+            (λ h. ap (repeats_at kept places) ((bytes_eq-Decides (text_of y) (text_of x)).0 h) ∙ joined.1)
+            ∙ (ap (λ z. bytes_eq (sort_key x) (sort_key y) && z) (sym e)
+            ∙ ap (λ z. z && repeats_at (kept ++ x ∷ []) tied (text_of y)) (sym (ties_pushed kept x y)))),
       )
 
   all_new : (rest : List Expr) → NoneBefore precedes x rest → AllByRecursion (Sees kept places earlier) rest → AllByRecursion (Sees (kept ++ x ∷ []) (tied ++ length kept ∷ []) (text_of x ∷ earlier)) rest
   all_new [] n s = tt
   all_new (y ∷ rest) n s = (seen_new y n.0 s.0, all_new rest n.1 s.1)
 
-  all_old : (rest : List Expr) → stands_at kept tied (text_of x) ≡ true → NoneBefore precedes x rest → AllByRecursion (Sees kept places earlier) rest → AllByRecursion (Sees (kept ++ x ∷ []) tied (text_of x ∷ earlier)) rest
+  all_old : (rest : List Expr) → repeats_at kept tied (text_of x) ≡ true → NoneBefore precedes x rest → AllByRecursion (Sees kept places earlier) rest → AllByRecursion (Sees (kept ++ x ∷ []) tied (text_of x ∷ earlier)) rest
   all_old [] t n s = tt
   all_old (y ∷ rest) t n s = (seen_old y t n.0 s.0, all_old rest t n.1 s.1)
 
-  stands_earlier : list_any (bytes_eq (text_of x)) earlier ≡ stands_at kept tied (text_of x)
+  stands_earlier : list_any (bytes_eq (text_of x)) earlier ≡ repeats_at kept tied (text_of x)
   stands_earlier = mine.1 ∙ sym (seen_text x)
 
 -- ---- the three turns
 
 kept_goes : (kept rest all : List Expr) (earlier : List Bytes) (x : Expr) → (has_no_comment x && list_any (bytes_eq (text_of x)) earlier) ≡ false
-    → kept ++ unrepeated earlier (x ∷ rest) ≡ unrepeated [] all → (kept ++ x ∷ []) ++ unrepeated (text_of x ∷ earlier) rest ≡ unrepeated [] all
+    → kept ++ without_repeats earlier (x ∷ rest) ≡ without_repeats [] all → (kept ++ x ∷ []) ++ without_repeats (text_of x ∷ earlier) rest ≡ without_repeats [] all
 kept_goes kept rest all earlier x h g =
-    append_assoc kept (x ∷ []) (unrepeated (text_of x ∷ earlier) rest)
-    ∙ (ap (λ (t : Bool). kept ++ (if t then unrepeated earlier rest else (x ∷ unrepeated (text_of x ∷ earlier) rest))) (sym h) ∙ g)
+    append_assoc kept (x ∷ []) (without_repeats (text_of x ∷ earlier) rest)
+    ∙ (ap (λ (t : Bool). kept ++ (if t then without_repeats earlier rest else (x ∷ without_repeats (text_of x ∷ earlier) rest))) (sym h) ∙ g)
 
 and_none : (a : Bool) → (a && false) ≡ false
 and_none true = refl
 and_none false = refl
 
-pub turn_new : (all kept : List Expr) (places : List ℕ) (rest : List Expr) (x : Expr) → stands_at kept (tied_places kept x places) (text_of x) ≡ false
+pub turn_new : (all kept : List Expr) (places : List ℕ) (rest : List Expr) (x : Expr) → repeats_at kept (tied_places kept x places) (text_of x) ≡ false
     → AreKept all kept places (x ∷ rest) → AreKept all (kept ++ x ∷ []) (tied_places kept x places ++ length kept ∷ []) rest
 turn_new all kept places rest x f k = record {
   earlier = text_of x ∷ k.earlier;
@@ -207,7 +207,7 @@ turn_new all kept places rest x f k = record {
   rises = k.rises.1;
 }
 
-pub turn_old : (all kept : List Expr) (places : List ℕ) (rest : List Expr) (x : Expr) → stands_at kept (tied_places kept x places) (text_of x) ≡ true → has_no_comment x ≡ false
+pub turn_old : (all kept : List Expr) (places : List ℕ) (rest : List Expr) (x : Expr) → repeats_at kept (tied_places kept x places) (text_of x) ≡ true → has_no_comment x ≡ false
     → AreKept all kept places (x ∷ rest) → AreKept all (kept ++ x ∷ []) (tied_places kept x places) rest
 turn_old all kept places rest x t f k = record {
   earlier = text_of x ∷ k.earlier;
@@ -217,17 +217,17 @@ turn_old all kept places rest x t f k = record {
   rises = k.rises.1;
 }
 
-pub turn_dropped : (all kept : List Expr) (places : List ℕ) (rest : List Expr) (x : Expr) → stands_at kept (tied_places kept x places) (text_of x) ≡ true → has_no_comment x ≡ true
+pub turn_dropped : (all kept : List Expr) (places : List ℕ) (rest : List Expr) (x : Expr) → repeats_at kept (tied_places kept x places) (text_of x) ≡ true → has_no_comment x ≡ true
     → AreKept all kept places (x ∷ rest) → AreKept all kept (tied_places kept x places) rest
 turn_dropped all kept places rest x t h k =
-    let joined : (ties_last kept x ≡ true) × (stands_at kept places (text_of x) ≡ true) =
-    both_true (ties_last kept x) (stands_at kept places (text_of x)) (sym (stands_tied kept (ties_last kept x) places (text_of x)) ∙ t) in
+    let joined : (ties_last kept x ≡ true) × (repeats_at kept places (text_of x) ≡ true) =
+    both_true (ties_last kept x) (repeats_at kept places (text_of x)) (sym (stands_tied kept (ties_last kept x) places (text_of x)) ∙ t) in
     let same : places ≡ tied_places kept x places = ap (λ (d : Bool). if d then places else []) (sym joined.0) in
     let skip : (has_no_comment x && list_any (bytes_eq (text_of x)) k.earlier) ≡ true =
     ap (λ z. z && list_any (bytes_eq (text_of x)) k.earlier) h ∙ (stands_earlier kept places k.earlier x k.within k.sees.0 ∙ t) in
     subst (λ (ps : List ℕ). AreKept all kept ps rest) same (record {
       earlier = k.earlier;
-      goes = ap (λ (t : Bool). kept ++ (if t then unrepeated k.earlier rest else (x ∷ unrepeated (text_of x ∷ k.earlier) rest))) (sym skip) ∙ k.goes;
+      goes = ap (λ (t : Bool). kept ++ (if t then without_repeats k.earlier rest else (x ∷ without_repeats (text_of x ∷ k.earlier) rest))) (sym skip) ∙ k.goes;
       within = k.within;
       sees = k.sees.1;
       rises = k.rises.1;

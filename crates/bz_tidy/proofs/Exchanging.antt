@@ -16,7 +16,7 @@ use Rattle.bz_tidy.specs.Exchanged.{item_tidied, tidied_where, ExchangedTidied}
 use Rattle.bz_tidy.specs.Lists.{settled_list}
 use Rattle.bz_tidy.specs.Marks.{any_marked, leave_alone}
 use Rattle.bz_tidy.specs.Orders.{sort_by}
-use Rattle.bz_tidy.specs.Passes.{on_statement, taken, on_taken, on_call, on_rule, on_attribute, quoted, labelled_value, labels_in, sorted_value, in_assign, lists_in, argument_precedes, arguments_in, symbol_precedes, is_loose_load, is_run_load, load_precedes, loads, tidied}
+use Rattle.bz_tidy.specs.Passes.{on_statement, taken, on_taken, on_call, on_rule_arguments, on_attribute, quoted, labelled_value, labels_in, sorted_value, in_assign, lists_in, argument_precedes, arguments_in, symbol_precedes, is_loose_load, is_run_load, load_precedes, loads, tidied}
 use Rattle.bz_tidy.proofs.Composed.{five_composed}
 use Rattle.bz_tidy.proofs.Keeping.{both, same_first, same_behind}
 use Rattle.bz_tidy.proofs.Levels.{kind_within}
@@ -34,12 +34,12 @@ either_kind : (kind : Kind) (b : Bool) (y z x : Expr) → has_kind kind y ≡ ha
 either_kind kind true y z x h h' = h
 either_kind kind false y z x h h' = h'
 
-rule_kept : (change : Bytes → List Expr → List Expr) (kind : Kind) (x : Expr) → has_kind kind (on_rule change x) ≡ has_kind kind x
+rule_kept : (change : Bytes → List Expr → List Expr) (kind : Kind) (x : Expr) → has_kind kind (on_rule_arguments change x) ≡ has_kind kind x
 rule_kept change kind x = kind_within the_parts k.Bare kind (on_first (on_call change)) x
 
 lists_kept : (kind : Kind) (x : Expr) → has_kind kind (lists_in x) ≡ has_kind kind x
 lists_kept kind x =
-    either_kind kind (has_kind k.Assign x) (in_assign x) (on_rule (λ own. map (on_attribute (sorted_value own))) x) x
+    either_kind kind (has_kind k.Assign x) (in_assign x) (on_rule_arguments (λ own. map (on_attribute (sorted_value own))) x) x
     (kind_within the_parts k.Assign kind (on_third (on_lists (settled_list (above x) false))) x)
     (rule_kept (λ own. map (on_attribute (sorted_value own))) kind x)
 

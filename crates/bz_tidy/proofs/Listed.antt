@@ -16,7 +16,7 @@ use Rattle.bz_rule.specs.Values.{has_class, text_of, above, with_above}
 use Rattle.bz_tidy.specs.Orders.{sort_by}
 use Rattle.bz_rule.specs.QuoteMarks.{between}
 use Rattle.bz_tidy.specs.Marks.{keep_marks, other_comments}
-use Rattle.bz_tidy.specs.Lists.{above_first, has_above, is_taken, precedes, has_no_comment, unrepeated, in_order, unmarked, marked_by, sorted, settled_list}
+use Rattle.bz_tidy.specs.Lists.{above_first, has_above, is_taken, precedes, has_no_comment, without_repeats, in_order, without_marks, marked_by, sorted, settled_list}
 use Rattle.bz_tidy.proofs.Keeping.{Keeps, Settles, both, same_first, same_behind}
 use Rattle.bz_tidy.proofs.Sorting.{sort_all, Ordered, Starts, ordered_stays, sort_ordered, sort_map}
 
@@ -61,25 +61,25 @@ abbrev Clean : List Bytes → List Expr → Type 0
 Clean earlier [] = Unit {0}
 Clean earlier (x ∷ xs) = (is_repeated earlier x ≡ false) × Clean (text_of x ∷ earlier) xs
 
-clean_stays : (earlier : List Bytes) (xs : List Expr) → Clean earlier xs → unrepeated earlier xs ≡ xs
+clean_stays : (earlier : List Bytes) (xs : List Expr) → Clean earlier xs → without_repeats earlier xs ≡ xs
 clean_stays earlier [] h = refl
 clean_stays earlier (x ∷ xs) h = rw h.0 (ap (λ z. x ∷ z) (clean_stays (text_of x ∷ earlier) xs h.1))
 
-unrepeated_clean : (earlier : List Bytes) (xs : List Expr) → Clean earlier (unrepeated earlier xs)
+unrepeated_clean : (earlier : List Bytes) (xs : List Expr) → Clean earlier (without_repeats earlier xs)
 unrepeated_clean earlier [] = tt
 unrepeated_clean earlier (x ∷ xs) = elim (cases_Bool (is_repeated earlier x)) [
   | inl t ↦ rw t (unrepeated_clean earlier xs)
   | inr f ↦ rw f (f, unrepeated_clean (text_of x ∷ earlier) xs)
 ]
 
-unrepeated_all : (P : Expr → Type 0) (earlier : List Bytes) (xs : List Expr) → AllByRecursion P xs → AllByRecursion P (unrepeated earlier xs)
+unrepeated_all : (P : Expr → Type 0) (earlier : List Bytes) (xs : List Expr) → AllByRecursion P xs → AllByRecursion P (without_repeats earlier xs)
 unrepeated_all P earlier [] h = tt
 unrepeated_all P earlier (x ∷ xs) h = elim (cases_Bool (is_repeated earlier x)) [
   | inl t ↦ rw t (unrepeated_all P earlier xs h.1)
   | inr f ↦ rw f (h.0, unrepeated_all P (text_of x ∷ earlier) xs h.1)
 ]
 
-unrepeated_rises : (earlier : List Bytes) (xs : List Expr) → Rises xs → Rises (unrepeated earlier xs)
+unrepeated_rises : (earlier : List Bytes) (xs : List Expr) → Rises xs → Rises (without_repeats earlier xs)
 unrepeated_rises earlier [] h = tt
 unrepeated_rises earlier (x ∷ xs) h = elim (cases_Bool (is_repeated earlier x)) [
   | inl t ↦ rw t (unrepeated_rises earlier xs h.1)
@@ -103,7 +103,7 @@ none_precedes x [] a = refl
 none_precedes x (y ∷ ys) a = rw a.0 (none_precedes x ys a.1)
 
 fine_in_order : (xs : List Expr) → Fine xs → in_order xs ≡ xs
-fine_in_order xs f = ap (unrepeated []) (ordered_stays precedes xs (ordered xs f.rising)) ∙ clean_stays [] xs f.clean
+fine_in_order xs f = ap (without_repeats []) (ordered_stays precedes xs (ordered xs f.rising)) ∙ clean_stays [] xs f.clean
 
 fine_stays : (xs : List Expr) → Fine xs → sorted xs ≡ xs
 fine_stays [] f = refl
@@ -127,7 +127,7 @@ marked_fine marks (x ∷ xs) f = record {
 sorted_fine : (xs : List Expr) → Fine (sorted xs)
 sorted_fine [] = record { rising = tt; clean = tt }
 sorted_fine (x ∷ xs) = elim (cases_Bool (list_any (λ y. precedes y x) xs)) [
-  | inl t ↦ rw t (marked_fine (keep_marks (above x)) (in_order (unmarked x ∷ xs)) (in_order_fine (unmarked x ∷ xs)))
+  | inl t ↦ rw t (marked_fine (keep_marks (above x)) (in_order (without_marks x ∷ xs)) (in_order_fine (without_marks x ∷ xs)))
   | inr f ↦ rw f (in_order_fine (x ∷ xs))
 ]
 
@@ -153,7 +153,7 @@ module _ (P : Expr → Type 0) (anyway : (a : List Bytes) (x : Expr) → P x →
   sorted_all : (xs : List Expr) → AllByRecursion P xs → AllByRecursion P (sorted xs)
   sorted_all [] h = tt
   sorted_all (x ∷ xs) h = elim (cases_Bool (list_any (λ y. precedes y x) xs)) [
-    | inl t ↦ rw t (marked_all (keep_marks (above x)) (in_order (unmarked x ∷ xs)) (in_order_all (unmarked x ∷ xs) (anyway (other_comments (above x)) x h.0, h.1)))
+    | inl t ↦ rw t (marked_all (keep_marks (above x)) (in_order (without_marks x ∷ xs)) (in_order_all (without_marks x ∷ xs) (anyway (other_comments (above x)) x h.0, h.1)))
     | inr f ↦ rw f (in_order_all (x ∷ xs) h)
   ]
 
@@ -205,7 +205,7 @@ module _ (g : Expr → Expr) (text : (x : Expr) → text_of (g x) ≡ text_of x)
   same_taken outside b xs =
       rw (first_above xs, all_map g (has_class c.String) (has_class c.String) class xs, any_map g has_above has_above (λ x. ap (λ (k : HostComments). not (is_empty k.before)) (comments x)) xs) refl
 
-  unrepeated_map : (earlier : List Bytes) (xs : List Expr) → unrepeated earlier (map g xs) ≡ map g (unrepeated earlier xs)
+  unrepeated_map : (earlier : List Bytes) (xs : List Expr) → without_repeats earlier (map g xs) ≡ map g (without_repeats earlier xs)
   unrepeated_map earlier [] = refl
   unrepeated_map earlier (x ∷ xs) = elim (cases_Bool (is_repeated earlier x)) [
     | inl t ↦ rw (same_bare x, text x, t) (unrepeated_map earlier xs)
@@ -213,21 +213,21 @@ module _ (g : Expr → Expr) (text : (x : Expr) → text_of (g x) ≡ text_of x)
   ]
 
   in_order_map : (xs : List Expr) → in_order (map g xs) ≡ map g (in_order xs)
-  in_order_map xs = ap (unrepeated []) (sort_map precedes g unseen xs) ∙ unrepeated_map [] (sort_by precedes xs)
+  in_order_map xs = ap (without_repeats []) (sort_map precedes g unseen xs) ∙ unrepeated_map [] (sort_by precedes xs)
 
   marked_map : (marks : List Bytes) (xs : List Expr) → marked_by marks (map g xs) ≡ map g (marked_by marks xs)
   marked_map marks [] = refl
   marked_map marks (x ∷ xs) = ap (λ z. z ∷ map g xs) (ap (λ a. with_above (marks ++ a) (g x)) (same_above x) ∙ put (marks ++ above x) x)
 
-  unmarked_map : (x : Expr) → unmarked (g x) ≡ g (unmarked x)
+  unmarked_map : (x : Expr) → without_marks (g x) ≡ g (without_marks x)
   unmarked_map x = ap (λ a. with_above (other_comments a) (g x)) (same_above x) ∙ put (other_comments (above x)) x
 
   sorted_map : (xs : List Expr) → sorted (map g xs) ≡ map g (sorted xs)
   sorted_map [] = refl
   sorted_map (x ∷ xs) = elim (cases_Bool (list_any (λ y. precedes y x) xs)) [
     | inl t ↦ rw (any_map g (λ y. precedes y (g x)) (λ y. precedes y x) (λ y. unseen y x) xs, t) (
-        both (λ a ys. marked_by (keep_marks a) ys) (same_above x) (ap (λ y. in_order (y ∷ map g xs)) (unmarked_map x) ∙ in_order_map (unmarked x ∷ xs))
-        ∙ marked_map (keep_marks (above x)) (in_order (unmarked x ∷ xs)))
+        both (λ a ys. marked_by (keep_marks a) ys) (same_above x) (ap (λ y. in_order (y ∷ map g xs)) (unmarked_map x) ∙ in_order_map (without_marks x ∷ xs))
+        ∙ marked_map (keep_marks (above x)) (in_order (without_marks x ∷ xs)))
     | inr f ↦ rw (any_map g (λ y. precedes y (g x)) (λ y. precedes y x) (λ y. unseen y x) xs, f) (in_order_map (x ∷ xs))
   ]
 

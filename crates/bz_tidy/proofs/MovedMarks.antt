@@ -12,7 +12,7 @@ use Rattle.bz_rule.specs.Values.{text_of, above}
 use Rattle.bz_tidy.specs.Orders.{insert_by, sort_by}
 use Rattle.bz_rule.specs.QuoteMarks.{between}
 use Rattle.bz_tidy.specs.Marks.{keep_marks, other_comments}
-use Rattle.bz_tidy.specs.Lists.{precedes, has_no_comment, unrepeated, in_order, unmarked, marked_by, sorted}
+use Rattle.bz_tidy.specs.Lists.{precedes, has_no_comment, without_repeats, in_order, without_marks, marked_by, sorted}
 use Rattle.bz_tidy.specs.MovedMarks.{MovesMarks}
 use Rattle.bz_tidy.proofs.Keeping.{both}
 use Rattle.bz_tidy.proofs.Sorting.{sort_all, sort_ordered, insert_starts}
@@ -65,22 +65,22 @@ differs y x t = elim (cases_Bool (bytes_eq (text_of x) (text_of y))) [
   | inr f ↦ f
 ]
 
-kept : (z : Expr) (text : Bytes) (earlier : List Bytes) (zs : List Expr) → text_of z ≡ text → list_any (bytes_eq text) earlier ≡ false → unrepeated earlier (z ∷ zs) ≡ z ∷ unrepeated (text ∷ earlier) zs
+kept : (z : Expr) (text : Bytes) (earlier : List Bytes) (zs : List Expr) → text_of z ≡ text → list_any (bytes_eq text) earlier ≡ false → without_repeats earlier (z ∷ zs) ≡ z ∷ without_repeats (text ∷ earlier) zs
 kept z text earlier zs e h =
     let none : is_repeated earlier z ≡ false = and_right (has_no_comment z) (list_any (bytes_eq (text_of z)) earlier) (ap (λ t. list_any (bytes_eq t) earlier) e ∙ h) in
-    rw none (ap (λ t. z ∷ unrepeated (t ∷ earlier) zs) e)
+    rw none (ap (λ t. z ∷ without_repeats (t ∷ earlier) zs) e)
 
 record Placed (x : Expr) (earlier : List Bytes) (ys : List Expr) : Type 0 where
   front : List Expr
   rest : List Expr
   before : list_all (λ y. precedes y x) front ≡ true
-  marked : unrepeated earlier (insert_by precedes x ys) ≡ front ++ x ∷ rest
-  bare : unrepeated earlier (insert_by precedes (unmarked x) ys) ≡ front ++ unmarked x ∷ rest
+  marked : without_repeats earlier (insert_by precedes x ys) ≡ front ++ x ∷ rest
+  bare : without_repeats earlier (insert_by precedes (without_marks x) ys) ≡ front ++ without_marks x ∷ rest
 
-same_text : (x : Expr) → text_of (unmarked x) ≡ text_of x
+same_text : (x : Expr) → text_of (without_marks x) ≡ text_of x
 same_text x = text_above (other_comments (above x)) x
 
-same_before : (y x : Expr) → precedes y (unmarked x) ≡ precedes y x
+same_before : (y x : Expr) → precedes y (without_marks x) ≡ precedes y x
 same_before y x = ap (λ t. is_lt (key_order (between (text_of y)) (between t))) (same_text x)
 
 placed : (x : Expr) (earlier : List Bytes) (ys : List Expr) → list_any (bytes_eq (text_of x)) earlier ≡ false → Placed x earlier ys
@@ -89,7 +89,7 @@ placed x earlier [] h = record {
   rest = [];
   before = refl;
   marked = kept x (text_of x) earlier [] refl h;
-  bare = kept (unmarked x) (text_of x) earlier [] (same_text x) h;
+  bare = kept (without_marks x) (text_of x) earlier [] (same_text x) h;
 }
 placed x earlier (y ∷ ys) h = elim (cases_Bool (precedes y x)) [
   | inl t ↦ elim (cases_Bool (is_repeated earlier y)) [
@@ -108,29 +108,29 @@ placed x earlier (y ∷ ys) h = elim (cases_Bool (precedes y x)) [
   ]
   | inr f ↦ record {
     front = [];
-    rest = unrepeated (text_of x ∷ earlier) (y ∷ ys);
+    rest = without_repeats (text_of x ∷ earlier) (y ∷ ys);
     before = refl;
     marked = rw f (kept x (text_of x) earlier (y ∷ ys) refl h);
-    bare = rw (same_before y x, f) (kept (unmarked x) (text_of x) earlier (y ∷ ys) (same_text x) h);
+    bare = rw (same_before y x, f) (kept (without_marks x) (text_of x) earlier (y ∷ ys) (same_text x) h);
   }
 ]
 
 -- ---- the law
 
-first_stays : (x : Expr) (xs : List Expr) → list_any (λ y. precedes y x) xs ≡ false → in_order (x ∷ xs) ≡ x ∷ unrepeated (text_of x ∷ []) (sort_by precedes xs)
+first_stays : (x : Expr) (xs : List Expr) → list_any (λ y. precedes y x) xs ≡ false → in_order (x ∷ xs) ≡ x ∷ without_repeats (text_of x ∷ []) (sort_by precedes xs)
 first_stays x xs f =
     let none : After x (sort_by precedes xs) = sort_all precedes (λ z. precedes z x ≡ false) xs (none_before x xs f) in
-    ap (unrepeated []) (insert_starts precedes x (sort_by precedes xs) (starts x (sort_by precedes xs) none)) ∙ kept x (text_of x) [] (sort_by precedes xs) refl refl
+    ap (without_repeats []) (insert_starts precedes x (sort_by precedes xs) (starts x (sort_by precedes xs) none)) ∙ kept x (text_of x) [] (sort_by precedes xs) refl refl
 
 -- behind one that precedes it
 passed : (z y : Expr) (ys : List Expr) → precedes y z ≡ true → insert_by precedes z (y ∷ ys) ≡ y ∷ insert_by precedes z ys
 passed z y ys t = rw t refl
 
-one_stays : (z y : Expr) (xs ys : List Expr) → sort_by precedes xs ≡ y ∷ ys → precedes y z ≡ true → in_order (z ∷ xs) ≡ y ∷ unrepeated (text_of y ∷ []) (insert_by precedes z ys)
+one_stays : (z y : Expr) (xs ys : List Expr) → sort_by precedes xs ≡ y ∷ ys → precedes y z ≡ true → in_order (z ∷ xs) ≡ y ∷ without_repeats (text_of y ∷ []) (insert_by precedes z ys)
 one_stays z y xs ys e t =
-    ap (λ zs. unrepeated [] (insert_by precedes z zs)) e ∙ (ap (unrepeated []) (passed z y ys t) ∙ kept y (text_of y) [] (insert_by precedes z ys) refl refl)
+    ap (λ zs. without_repeats [] (insert_by precedes z zs)) e ∙ (ap (without_repeats []) (passed z y ys t) ∙ kept y (text_of y) [] (insert_by precedes z ys) refl refl)
 
-gives_marks : (x : Expr) (xs : List Expr) → list_any (λ y. precedes y x) xs ≡ true → sorted (x ∷ xs) ≡ marked_by (keep_marks (above x)) (in_order (unmarked x ∷ xs))
+gives_marks : (x : Expr) (xs : List Expr) → list_any (λ y. precedes y x) xs ≡ true → sorted (x ∷ xs) ≡ marked_by (keep_marks (above x)) (in_order (without_marks x ∷ xs))
 gives_marks x xs t = rw t refl
 
 pub marks_move : (x : Expr) (xs : List Expr) → MovesMarks x xs
@@ -145,11 +145,11 @@ marks_move x xs = elim (cases_Bool (list_any (λ y. precedes y x) xs)) [
         before = and_from (precedes b.first x) (list_all (λ z. precedes z x) p.front) b.precede p.before;
         moved =
             gives_marks x xs t
-            ∙ ap (marked_by (keep_marks (above x))) (one_stays (unmarked x) b.first xs b.behind b.is (same_before b.first x ∙ b.precede) ∙ ap (λ zs. b.first ∷ zs) p.bare);
+            ∙ ap (marked_by (keep_marks (above x))) (one_stays (without_marks x) b.first xs b.behind b.is (same_before b.first x ∙ b.precede) ∙ ap (λ zs. b.first ∷ zs) p.bare);
       }
   | inr f ↦ record {
     front = [];
-    rest = unrepeated (text_of x ∷ []) (sort_by precedes xs);
+    rest = without_repeats (text_of x ∷ []) (sort_by precedes xs);
     placed = first_stays x xs f;
     before = refl;
     moved = rw f (first_stays x xs f);

@@ -8,7 +8,7 @@ use Rattle.bz_value.specs.declared.value.Expr.{Expr, Token, Form'}
 use Rattle.bz_items.specs.Characters.{Bytes}
 use Rattle.bz_write.specs.Flags.{with_flags}
 use Rattle.bz_rule.specs.Values.{has_kind, parts_of, items_of, with_items, with_parts, above, on_items, on_row, on_first, on_third, first_text, on_lists}
-use Rattle.bz_tidy.specs.Passes.{rule_kind, of_rule, on_call, on_rule, on_attribute, quoted}
+use Rattle.bz_tidy.specs.Passes.{rule_kind, of_rule, on_call, on_rule_arguments, on_attribute, quoted}
 use Rattle.bz_tidy.proofs.Keeping.{Keeps, Settles, both, map_keeps, map_settles, first_keeps, first_settles, first_keeps_map, map_keeps_first, third_keeps, third_settles, third_keeps_map, map_keeps_third, test_keeps, test_settles, keeps_tested, tested_keeps}
 use Rattle.bz_tidy.proofs.Parts.{the_parts, the_items, kind_flags, text_flags, above_flags, parts_flags, parts_filled, parts_with_items}
 use Rattle.bz_tidy.proofs.Levels.{kind_within, above_put, within_keeps, within_settles, within_quoted, flags_within}
@@ -56,16 +56,16 @@ call_quoted g h = within_quoted the_items k.Call (called g) (λ x. of_keeps_map 
 call_flags : (p : Bytes → List Expr → List Expr) → ((kind : Bytes) → Keeps (map with_flags) (p kind)) → Keeps with_flags (on_call p)
 call_flags p h = flags_within the_items k.Call (called p) (λ x. ap (of_rule p) (ap rule_kind (parts_flags x) ∙ same_kind (parts_of x))) (λ x. map_keeps_of with_flags p h (rule_kind (parts_of x)))
 
-pub rule_keeps : (g p : Bytes → List Expr → List Expr) → ((kind : Bytes) → Keeps (g kind) (p kind)) → Keeps (on_rule g) (on_rule p)
+pub rule_keeps : (g p : Bytes → List Expr → List Expr) → ((kind : Bytes) → Keeps (g kind) (p kind)) → Keeps (on_rule_arguments g) (on_rule_arguments p)
 rule_keeps g p h = within_keeps the_parts k.Bare (λ x. on_first (on_call g)) (λ x. on_first (on_call p)) (λ x t. refl) (λ x. first_keeps (on_call g) (on_call p) (call_keeps g p h))
 
-pub rule_settles : (p : Bytes → List Expr → List Expr) → ((kind : Bytes) → Settles (p kind)) → Settles (on_rule p)
+pub rule_settles : (p : Bytes → List Expr → List Expr) → ((kind : Bytes) → Settles (p kind)) → Settles (on_rule_arguments p)
 rule_settles p h = within_settles the_parts k.Bare (λ x. on_first (on_call p)) (λ x t. refl) (λ x. first_settles (on_call p) (call_settles p h))
 
-pub rule_quoted : (g : Bytes → List Expr → List Expr) → ((kind : Bytes) → Keeps (g kind) (map quoted)) → Keeps (on_rule g) quoted
+pub rule_quoted : (g : Bytes → List Expr → List Expr) → ((kind : Bytes) → Keeps (g kind) (map quoted)) → Keeps (on_rule_arguments g) quoted
 rule_quoted g h = within_quoted the_parts k.Bare (λ x. on_first (on_call g)) (λ x. first_keeps_map (on_call g) quoted (call_quoted g h))
 
-pub rule_flags : (p : Bytes → List Expr → List Expr) → ((kind : Bytes) → Keeps (map with_flags) (p kind)) → Keeps with_flags (on_rule p)
+pub rule_flags : (p : Bytes → List Expr → List Expr) → ((kind : Bytes) → Keeps (map with_flags) (p kind)) → Keeps with_flags (on_rule_arguments p)
 rule_flags p h = flags_within the_parts k.Bare (λ x. on_first (on_call p)) (λ x. refl) (λ x. map_keeps_first with_flags (on_call p) (call_flags p h))
 
 -- ---- in attributes

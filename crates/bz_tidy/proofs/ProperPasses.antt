@@ -24,7 +24,7 @@ use Rattle.bz_tidy.specs.Orders.{sort_by}
 use Rattle.bz_tidy.specs.Strings.{with_double, shorter_string}
 use Rattle.bz_tidy.specs.Marks.{any_marked, leave_alone}
 use Rattle.bz_tidy.specs.Lists.{settled_list}
-use Rattle.bz_tidy.specs.Passes.{on_statement, taken, on_taken, rule_kind, of_rule, on_call, on_rule, on_attribute, quoted, each_quoted, quotes, labelled, labelled_value, labels_in, labels, sorted_value, in_assign, lists_in, lists, argument_precedes, arguments_in, arguments, symbol_precedes, symbols_in, symbols, load_precedes, loads, tidied}
+use Rattle.bz_tidy.specs.Passes.{on_statement, taken, on_taken, rule_kind, of_rule, on_call, on_rule_arguments, on_attribute, quoted, each_quoted, quotes, labelled, labelled_value, labels_in, labels, sorted_value, in_assign, lists_in, lists, argument_precedes, arguments_in, arguments, symbol_precedes, symbols_in, symbols, load_precedes, loads, tidied}
 use Rattle.bz_rule.proofs.ProperForms.{InPlace, itself, EachInPlace, none, both, all_itself, each_mapped, lists_in_place}
 use Rattle.bz_rule.proofs.ProperShapes.{other_string}
 use Rattle.bz_tidy.proofs.ProperStrings.{Strung, double_string, shorter_is_string}
@@ -65,7 +65,7 @@ third_stays change h (x ∷ []) = all_itself (x ∷ [])
 third_stays change h (x ∷ y ∷ []) = all_itself (x ∷ y ∷ [])
 third_stays change h (x ∷ y ∷ z ∷ rest) = both x x _ _ (itself x) (both y y _ _ (itself y) (both z (change z) rest rest (h z) (all_itself rest)))
 
-rule_stays : (change : Bytes → List Expr → List Expr) → ((o : Option Bytes) → Stays (on_items k.Call (of_rule change o))) → Stays (on_rule change)
+rule_stays : (change : Bytes → List Expr → List Expr) → ((o : Option Bytes) → Stays (on_items k.Call (of_rule change o))) → Stays (on_rule_arguments change)
 rule_stays change h = row_stays k.Bare (on_first (on_call change)) (first_stays (on_call change) (λ x. h (rule_kind (parts_of x)) x))
 
 attributes_stay : (change : Bytes → Bytes → List Bytes → Expr → Expr) → ((kind name : Bytes) (outside : List Bytes) → Stays (change kind name outside)) → (o : Option Bytes) → EachStays (of_rule (λ kind. map (on_attribute (change kind))) o)
@@ -74,7 +74,7 @@ attributes_stay change h (Some kind) xs =
     each_mapped (on_attribute (change kind)) (λ x. row_stays k.Named (on_third (change kind (first_text (parts_of x)) (above x))) (third_stays (change kind (first_text (parts_of x)) (above x)) (h kind (first_text (parts_of x)) (above x))) x) xs
 
 -- the values of a rule's attributes
-values_stay : (change : Bytes → Bytes → List Bytes → Expr → Expr) → ((kind name : Bytes) (outside : List Bytes) → Stays (change kind name outside)) → Stays (on_rule (λ kind. map (on_attribute (change kind))))
+values_stay : (change : Bytes → Bytes → List Bytes → Expr → Expr) → ((kind name : Bytes) (outside : List Bytes) → Stays (change kind name outside)) → Stays (on_rule_arguments (λ kind. map (on_attribute (change kind))))
 values_stay change h = rule_stays (λ kind. map (on_attribute (change kind))) (λ o. items_stay k.Call (of_rule (λ kind. map (on_attribute (change kind))) o) (attributes_stay change h o))
 
 lists_stay : (change : List Expr → List Expr) → Stays (on_items k.List change) → Stays (on_lists change)
@@ -147,7 +147,7 @@ settled_stays outside by_table = lists_stay (settled_list outside by_table) (lis
 
 lists_in_stays : Stays lists_in
 lists_in_stays x =
-    by_test (InPlace x) (has_kind k.Assign x) (in_assign x) (on_rule (λ kind. map (on_attribute (sorted_value kind))) x)
+    by_test (InPlace x) (has_kind k.Assign x) (in_assign x) (on_rule_arguments (λ kind. map (on_attribute (sorted_value kind))) x)
     (row_stays k.Assign (on_third (on_lists (settled_list (above x) false))) (third_stays (on_lists (settled_list (above x) false)) (settled_stays (above x) false)) x)
     (values_stay sorted_value (λ kind name outside. settled_stays outside (is_sorted kind name)) x)
 

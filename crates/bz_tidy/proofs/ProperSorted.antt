@@ -12,7 +12,7 @@ use Rattle.bz_value.specs.Proper.{IsComment, AreComments, comments_of}
 use Rattle.bz_rule.specs.Values.{above, with_above, text_of}
 use Rattle.bz_tidy.specs.Orders.{insert_by, sort_by}
 use Rattle.bz_tidy.specs.Marks.{is_marked, keep_sorted, keep_marks, other_comments}
-use Rattle.bz_tidy.specs.Lists.{precedes, has_no_comment, is_taken, unrepeated, in_order, unmarked, marked_by, sorted, settled_list}
+use Rattle.bz_tidy.specs.Lists.{precedes, has_no_comment, is_taken, without_repeats, in_order, without_marks, marked_by, sorted, settled_list}
 use Rattle.bz_rule.proofs.ProperSequences.{IsItem, AreOf, Keeps}
 
 pub by_test : {X : Type 0} (P : X → Type 0) (b : Bool) (x y : X) → P x → P y → P (if b then x else y)
@@ -38,10 +38,10 @@ module _ {X : Type 0} (P : X → Type 0) where
 
 -- ---- the items of a list
 
-all_unrepeated : (P : Expr → Type 0) (earlier : List Bytes) (xs : List Expr) → AllByRecursion P xs → AllByRecursion P (unrepeated earlier xs)
+all_unrepeated : (P : Expr → Type 0) (earlier : List Bytes) (xs : List Expr) → AllByRecursion P xs → AllByRecursion P (without_repeats earlier xs)
 all_unrepeated P earlier [] h = tt
 all_unrepeated P earlier (x ∷ xs) h =
-    by_test (AllByRecursion P) (has_no_comment x && list_any (bytes_eq (text_of x)) earlier) (unrepeated earlier xs) (x ∷ unrepeated (text_of x ∷ earlier) xs)
+    by_test (AllByRecursion P) (has_no_comment x && list_any (bytes_eq (text_of x)) earlier) (without_repeats earlier xs) (x ∷ without_repeats (text_of x ∷ earlier) xs)
     (all_unrepeated P earlier xs h.1) (h.0, all_unrepeated P (text_of x ∷ earlier) xs h.1)
 
 all_in_order : (P : Expr → Type 0) (xs : List Expr) → AllByRecursion P xs → AllByRecursion P (in_order xs)
@@ -55,7 +55,7 @@ with_item sort (Form' kind s parts s' items end_ split open_ old) comments c h =
 above_item : (sort : Sort) (x : Expr) (comments : List Bytes) → All IsComment comments → IsItem sort x → IsItem sort (with_above comments x)
 above_item sort x comments c h = with_item sort x (record (comments_of x) { before = comments }) (c, h.0.1.1) h
 
-unmarked_item : (sort : Sort) (x : Expr) → IsItem sort x → IsItem sort (unmarked x)
+unmarked_item : (sort : Sort) (x : Expr) → IsItem sort x → IsItem sort (without_marks x)
 unmarked_item sort x h = above_item sort x (other_comments (above x)) (some_filtered IsComment (λ c. not (is_marked keep_sorted c)) (above x) h.0.1.0) h
 
 marked_items : (sort : Sort) (marks : List Bytes) (xs : List Expr) → All IsComment marks → AreOf sort xs → AreOf sort (marked_by marks xs)
@@ -65,8 +65,8 @@ marked_items sort marks (x ∷ xs) c h = (above_item sort x (marks ++ above x) (
 sorted_items : (sort : Sort) → Keeps sort sorted
 sorted_items sort [] h = tt
 sorted_items sort (x ∷ xs) h =
-    by_test (AreOf sort) (list_any (λ y. precedes y x) xs) (marked_by (keep_marks (above x)) (in_order (unmarked x ∷ xs))) (in_order (x ∷ xs))
-    (marked_items sort (keep_marks (above x)) (in_order (unmarked x ∷ xs)) (some_filtered IsComment (is_marked keep_sorted) (above x) h.0.0.1.0) (all_in_order (IsItem sort) (unmarked x ∷ xs) (unmarked_item sort x h.0, h.1)))
+    by_test (AreOf sort) (list_any (λ y. precedes y x) xs) (marked_by (keep_marks (above x)) (in_order (without_marks x ∷ xs))) (in_order (x ∷ xs))
+    (marked_items sort (keep_marks (above x)) (in_order (without_marks x ∷ xs)) (some_filtered IsComment (is_marked keep_sorted) (above x) h.0.0.1.0) (all_in_order (IsItem sort) (without_marks x ∷ xs) (unmarked_item sort x h.0, h.1)))
     (all_in_order (IsItem sort) (x ∷ xs) h)
 
 pub settled_items : (sort : Sort) (outside : List Bytes) (by_table : Bool) → Keeps sort (settled_list outside by_table)

@@ -16,7 +16,7 @@ use Rattle.bz_label.specs.Pieces.{is_colon}
 use Rattle.bz_label.specs.Shorter.{before_colon, behind_colon, is_repeated, unrepeated}
 use Rattle.bz_items.specs.Characters.{Bytes, apostrophe, backslash, quotation_mark}
 use Rattle.bz_rule.specs.Rules.{inner, is_plain_in}
-use Rattle.bz_tidy.specs.Strings.{holds, begins_single, in_double, with_double, shorter_string}
+use Rattle.bz_tidy.specs.Strings.{has_character, begins_single, in_double, with_double, shorter_string}
 use Rattle.bz_rule.specs.QuoteMarks.{begins_thrice, marks_of, inside}
 
 -- a string that is a text of characters
@@ -57,21 +57,21 @@ same_byte c q h = grind (arith, nat_tests)
 
 -- without double marks and backslashes
 record Free (s : Bytes) : Type 0 where
-  mark : holds quotation_mark s ≡ false
-  slash : holds backslash s ≡ false
+  mark : has_character quotation_mark s ≡ false
+  slash : has_character backslash s ≡ false
 
 free_rest : (c : ℕ) (s : Bytes) → Free (c ∷ s) → Free s
-free_rest c s f = record { mark = (or_parts (nat_eq c quotation_mark) (holds quotation_mark s) f.mark).1; slash = (or_parts (nat_eq c backslash) (holds backslash s) f.slash).1 }
+free_rest c s f = record { mark = (or_parts (nat_eq c quotation_mark) (has_character quotation_mark s) f.mark).1; slash = (or_parts (nat_eq c backslash) (has_character backslash s) f.slash).1 }
 
 long_free : (s : Bytes) → Free s → IsLong quotation_mark s
 long_free [] f = long_end
 long_free (c ∷ s) f =
-    long_plain 0 c s (omega arith) (or_from _ _ (or_parts (nat_eq c quotation_mark) (holds quotation_mark s) f.mark).0 (or_from _ _ (or_parts (nat_eq c backslash) (holds backslash s) f.slash).0 refl)) (long_free s (free_rest c s f))
+    long_plain 0 c s (omega arith) (or_from _ _ (or_parts (nat_eq c quotation_mark) (has_character quotation_mark s) f.mark).0 (or_from _ _ (or_parts (nat_eq c backslash) (has_character backslash s) f.slash).0 refl)) (long_free s (free_rest c s f))
 
 short_free : (s : Bytes) → Free s → IsShort apostrophe s → IsShort quotation_mark s
 short_free [] f h = short_end
 short_free (c ∷ s) f (short_plain a h) =
-    short_plain (or_from _ _ (or_parts (nat_eq c quotation_mark) (holds quotation_mark s) f.mark).0 (or_parts (nat_eq c apostrophe) _ a).1) (short_free s (free_rest c s f) h)
+    short_plain (or_from _ _ (or_parts (nat_eq c quotation_mark) (has_character quotation_mark s) f.mark).0 (or_parts (nat_eq c apostrophe) _ a).1) (short_free s (free_rest c s f) h)
 short_free (c ∷ d ∷ s) f (short_taken h) = absurd (true≢false f.slash)
 short_free (c ∷ d ∷ e ∷ s) f (short_line h) = absurd (true≢false f.slash)
 
@@ -84,8 +84,8 @@ inside_of n m s d l =
 
 free_front : (s t : Bytes) → Free (s ++ t) → Free s
 free_front s t f = record {
-  mark = (or_parts (holds quotation_mark s) (holds quotation_mark t) (sym (list_any-append (λ c. nat_eq c quotation_mark) s t) ∙ f.mark)).0;
-  slash = (or_parts (holds backslash s) (holds backslash t) (sym (list_any-append (λ c. nat_eq c backslash) s t) ∙ f.slash)).0;
+  mark = (or_parts (has_character quotation_mark s) (has_character quotation_mark t) (sym (list_any-append (λ c. nat_eq c quotation_mark) s t) ∙ f.mark)).0;
+  slash = (or_parts (has_character backslash s) (has_character backslash t) (sym (list_any-append (λ c. nat_eq c backslash) s t) ∙ f.slash)).0;
 }
 
 turned : (c : ℕ) → nat_eq c apostrophe ≡ false → nat_eq apostrophe c ≡ false
@@ -143,13 +143,13 @@ not_false true h = sym h
 not_false false h = refl
 
 pub double_string : (t : Bytes) → Strung t → Strung (with_double t)
-double_string t ((p, q, e, h, i), u) = elim (cases_Bool (begins_single t && not (holds quotation_mark t || holds backslash t))) [
+double_string t ((p, q, e, h, i), u) = elim (cases_Bool (begins_single t && not (has_character quotation_mark t || has_character backslash t))) [
   | inl w ↦
       let first : begins_single t ≡ true = (and_parts (begins_single t) _ w).0 in
       let none : p ≡ [] = no_prefix p q t e h first in
       let same : t ≡ q = e ∙ ap (λ z. z ++ q) none in
-      let bare : (holds quotation_mark t || holds backslash t) ≡ false = not_false _ (and_parts (begins_single t) _ w).1 in
-      let parts : (holds quotation_mark t ≡ false) × (holds backslash t ≡ false) = or_parts (holds quotation_mark t) (holds backslash t) bare in
+      let bare : (has_character quotation_mark t || has_character backslash t) ≡ false = not_false _ (and_parts (begins_single t) _ w).1 in
+      let parts : (has_character quotation_mark t ≡ false) × (has_character backslash t ≡ false) = or_parts (has_character quotation_mark t) (has_character backslash t) bare in
       let good : Good (in_double (marks_of t) t) = subst (λ z. Good (in_double (marks_of z) z)) (sym same) (free_quoted q i (sym (ap begins_single same) ∙ first) (subst Free same (record { mark = parts.0; slash = parts.1 })) (subst IsUtf8 same u)) in
       rw w (([], in_double (marks_of t) t, refl, refl, good.0), good.1)
   | inr w ↦ rw w ((p, q, e, h, i), u)

@@ -20,7 +20,7 @@ use Rattle.bz_tidy.specs.Orders.{sort_by}
 use Rattle.bz_rule.specs.QuoteMarks.{between}
 use Rattle.bz_tidy.specs.Marks.{any_marked, leave_alone}
 use Rattle.bz_tidy.specs.Lists.{settled_list}
-use Rattle.bz_tidy.specs.Passes.{on_statement, taken, on_taken, on_call, on_rule, on_attribute, quoted, quotes, labelled, labelled_value, labels_in, labels, sorted_value, in_assign, lists_in, lists, argument_order, argument_name, argument_precedes, arguments_in, arguments, symbol_precedes, symbols_in, symbols, path_group, path_order, path_of, is_loose_load, load_precedes, loads, tidied}
+use Rattle.bz_tidy.specs.Passes.{on_statement, taken, on_taken, on_call, on_rule_arguments, on_attribute, quoted, quotes, labelled, labelled_value, labels_in, labels, sorted_value, in_assign, lists_in, lists, argument_order, argument_name, argument_precedes, arguments_in, arguments, symbol_precedes, symbols_in, symbols, path_group, path_order, path_of, is_loose_load, load_precedes, loads, tidied}
 use Rattle.bz_rule.specs.QuoteMarks.{local_name}
 use Rattle.bz_tidy.proofs.Keeping.{Keeps, Settles, both, map_keeps, map_settles, third_settles, third_keeps_map, map_keeps_third, behind_settles, behind_keeps_map, map_keeps_behind, test_keeps, test_settles, keeps_tested, tested_keeps}
 use Rattle.bz_tidy.proofs.Sorting.{sort_settles, sort_keeps, map_keeps_sort}
@@ -76,7 +76,7 @@ abbrev sorted_lists : Bytes → List Expr → List Expr
 sorted_lists kind = map (on_attribute (sorted_value kind))
 
 abbrev lists_of_rules : Expr → Expr
-lists_of_rules = on_rule sorted_lists
+lists_of_rules = on_rule_arguments sorted_lists
 
 abbrev assigned : Expr → List Expr → List Expr
 assigned x = on_third (on_lists (settled_list (above x) false))

@@ -14,7 +14,7 @@ use Rattle.bz_label.specs.Pieces.{is_empty, last_piece, is_joined, is_present, h
 use Rattle.bz_label.specs.Labels.{is_barred, is_plain, is_path, is_repository_name}
 use Rattle.bz_label.specs.Forms.{is_repository, are_whole}
 use Rattle.bz_label.specs.Shorter.{before_colon, behind_colon, before_slashes, behind_slashes, is_repeated, unrepeated}
-use Rattle.bz_tidy.specs.Strings.{holds, begins_single, in_double, with_double, shorter_string}
+use Rattle.bz_tidy.specs.Strings.{has_character, begins_single, in_double, with_double, shorter_string}
 use Rattle.bz_rule.specs.QuoteMarks.{begins_thrice, marks_of}
 use Rattle.bz_tidy.proofs.Keeping.{Keeps, Settles, same_first, same_behind}
 
@@ -36,7 +36,7 @@ not_single t = elim (cases_Bool (begins_thrice t && nat_le 6 (length t))) [
 ]
 
 abbrev is_free : Bytes → Bool
-is_free t = begins_single t && not (holds quotation_mark t || holds backslash t)
+is_free t = begins_single t && not (has_character quotation_mark t || has_character backslash t)
 
 pub double_settles : Settles with_double
 double_settles t = elim (cases_Bool (is_free t)) [
@@ -77,7 +77,7 @@ record Barred (q : ℕ) : Type 0 where
   slash : nat_eq 47 q ≡ false
   at_sign : nat_eq 64 q ≡ false
 
-plain_free : (q : ℕ) (s : Bytes) → is_barred q ≡ true → is_plain s ≡ true → holds q s ≡ false
+plain_free : (q : ℕ) (s : Bytes) → is_barred q ≡ true → is_plain s ≡ true → has_character q s ≡ false
 plain_free q [] b h = refl
 plain_free q (c ∷ s) b h = elim (cases_Bool (is_barred c)) [
   | inl w ↦ let h' : false ≡ true = rw w at h in cc
@@ -87,24 +87,24 @@ plain_free q (c ∷ s) b h = elim (cases_Bool (is_barred c)) [
   ]
 ]
 
-path_free : (q : ℕ) (s : Bytes) → is_barred q ≡ true → is_path s ≡ true → holds q s ≡ false
+path_free : (q : ℕ) (s : Bytes) → is_barred q ≡ true → is_path s ≡ true → has_character q s ≡ false
 path_free q s b h = plain_free q s b (and_parts (is_joined s) (is_plain s) h).1
 
-maybe_path_free : (q : ℕ) (s : Bytes) → is_barred q ≡ true → (is_empty s || is_path s) ≡ true → holds q s ≡ false
+maybe_path_free : (q : ℕ) (s : Bytes) → is_barred q ≡ true → (is_empty s || is_path s) ≡ true → has_character q s ≡ false
 maybe_path_free q [] b h = refl
 maybe_path_free q (c ∷ s) b h = path_free q (c ∷ s) b h
 
-name_free : (q : ℕ) (s : Bytes) → is_barred q ≡ true → (is_empty s || is_repository_name s) ≡ true → holds q s ≡ false
+name_free : (q : ℕ) (s : Bytes) → is_barred q ≡ true → (is_empty s || is_repository_name s) ≡ true → has_character q s ≡ false
 name_free q [] b h = refl
 name_free q (c ∷ s) b h = plain_free q (c ∷ s) b (and_parts (is_present (c ∷ s) && not (has_slash (c ∷ s))) (is_plain (c ∷ s)) h).1
 
-repository_free : (q : ℕ) (s : Bytes) → Barred q → is_repository s ≡ true → holds q s ≡ false
+repository_free : (q : ℕ) (s : Bytes) → Barred q → is_repository s ≡ true → has_character q s ≡ false
 repository_free q [] b h = refl
 repository_free q (c ∷ s) b h =
     let at : c ≡ 64 = same_byte c 64 (and_parts (is_at c) (is_empty s || is_repository_name s) h).0 in
-    or_from (nat_eq c q) (holds q s) (ap (λ z. nat_eq z q) at ∙ b.at_sign) (name_free q s b.barred (and_parts (is_at c) (is_empty s || is_repository_name s) h).1)
+    or_from (nat_eq c q) (has_character q s) (ap (λ z. nat_eq z q) at ∙ b.at_sign) (name_free q s b.barred (and_parts (is_at c) (is_empty s || is_repository_name s) h).1)
 
-front_free : (q : ℕ) (front name : Bytes) → Barred q → is_repeated front name ≡ true → (holds q front ≡ false) × (holds q name ≡ false)
+front_free : (q : ℕ) (front name : Bytes) → Barred q → is_repeated front name ≡ true → (has_character q front ≡ false) × (has_character q name ≡ false)
 front_free q front name b h =
     let whole = are_whole (before_slashes front) (behind_slashes front) name in
     let last = bytes_eq (last_piece (behind_slashes front)) name in
@@ -113,25 +113,25 @@ front_free q front name b h =
     let spelled : front ≡ before_slashes front ++ (codes "//" ++ behind_slashes front) = same_text front _ (and_parts (whole && last) again h).1 in
     let repository = is_repository (before_slashes front) in
     let path = is_empty (behind_slashes front) || is_path (behind_slashes front) in
-    let r : holds q (before_slashes front) ≡ false = repository_free q (before_slashes front) b (and_parts repository path (and_parts (repository && path) (is_path name) w).0).0 in
-    let k : holds q (behind_slashes front) ≡ false = maybe_path_free q (behind_slashes front) b.barred (and_parts repository path (and_parts (repository && path) (is_path name) w).0).1 in (
-      ap (holds q) spelled
+    let r : has_character q (before_slashes front) ≡ false = repository_free q (before_slashes front) b (and_parts repository path (and_parts (repository && path) (is_path name) w).0).0 in
+    let k : has_character q (behind_slashes front) ≡ false = maybe_path_free q (behind_slashes front) b.barred (and_parts repository path (and_parts (repository && path) (is_path name) w).0).1 in (
+      ap (has_character q) spelled
           ∙ (list_any-append (λ c. nat_eq c q) (before_slashes front) (codes "//" ++ behind_slashes front)
-          ∙ or_from (holds q (before_slashes front)) (holds q (codes "//" ++ behind_slashes front)) r (or_from (nat_eq 47 q) (holds q (47 ∷ behind_slashes front)) b.slash (or_from (nat_eq 47 q) (holds q (behind_slashes front)) b.slash k))),
+          ∙ or_from (has_character q (before_slashes front)) (has_character q (codes "//" ++ behind_slashes front)) r (or_from (nat_eq 47 q) (has_character q (47 ∷ behind_slashes front)) b.slash (or_from (nat_eq 47 q) (has_character q (behind_slashes front)) b.slash k))),
       path_free q name b.barred (and_parts (repository && path) (is_path name) w).1,
     )
 
-halves_free : (q : ℕ) (s : Bytes) → Barred q → holds q (before_colon s) ≡ false → holds q (behind_colon s) ≡ false → holds q s ≡ false
+halves_free : (q : ℕ) (s : Bytes) → Barred q → has_character q (before_colon s) ≡ false → has_character q (behind_colon s) ≡ false → has_character q s ≡ false
 halves_free q [] b f n = refl
 halves_free q (c ∷ s) b f n = elim (cases_Bool (is_colon c)) [
-  | inl w ↦ let n' : holds q s ≡ false = rw w at n in or_from (nat_eq c q) (holds q s) (ap (λ z. nat_eq z q) (same_byte c 58 w) ∙ b.colon) n'
+  | inl w ↦ let n' : has_character q s ≡ false = rw w at n in or_from (nat_eq c q) (has_character q s) (ap (λ z. nat_eq z q) (same_byte c 58 w) ∙ b.colon) n'
   | inr w ↦
-      let f' : (nat_eq c q || holds q (before_colon s)) ≡ false = rw w at f in
-      let n' : holds q (behind_colon s) ≡ false = rw w at n in
-      or_from (nat_eq c q) (holds q s) (or_parts (nat_eq c q) (holds q (before_colon s)) f').0 (halves_free q s b (or_parts (nat_eq c q) (holds q (before_colon s)) f').1 n')
+      let f' : (nat_eq c q || has_character q (before_colon s)) ≡ false = rw w at f in
+      let n' : has_character q (behind_colon s) ≡ false = rw w at n in
+      or_from (nat_eq c q) (has_character q s) (or_parts (nat_eq c q) (has_character q (before_colon s)) f').0 (halves_free q s b (or_parts (nat_eq c q) (has_character q (before_colon s)) f').1 n')
 ]
 
-repeat_free : (q : ℕ) (s : Bytes) → Barred q → is_repeated (before_colon s) (behind_colon s) ≡ true → holds q s ≡ false
+repeat_free : (q : ℕ) (s : Bytes) → Barred q → is_repeated (before_colon s) (behind_colon s) ≡ true → has_character q s ≡ false
 repeat_free q s b h = let f = front_free q (before_colon s) (behind_colon s) b h in halves_free q s b f.0 f.1
 
 barred_quote : Barred quotation_mark
@@ -195,11 +195,11 @@ string_settles text = by_settles text (body text) refl
 no_repeat_left : (q : ℕ) (label : Bytes) → nat_eq q apostrophe ≡ true → is_free (in_marks q label) ≡ false → is_repeated (before_colon label) (behind_colon label) ≡ true → ⊥
 no_repeat_left q label m h r =
     let is : q ≡ apostrophe = same_byte q apostrophe m in
-    let free : (p : ℕ) → Barred p → nat_eq apostrophe p ≡ false → holds p (in_marks q label) ≡ false =
-    λ p bar n. or_from (nat_eq q p) (holds p (label ++ q ∷ [])) (ap (λ z. nat_eq z p) is ∙ n)
-    (list_any-append (λ c. nat_eq c p) label (q ∷ []) ∙ or_from (holds p label) (holds p (q ∷ [])) (repeat_free p label bar r) (or_from (nat_eq q p) false (ap (λ z. nat_eq z p) is ∙ n) refl)) in
-    true≢false (sym (and_from (nat_eq q apostrophe) (not (holds quotation_mark (in_marks q label) || holds backslash (in_marks q label))) m
-    (ap not (or_from (holds quotation_mark (in_marks q label)) (holds backslash (in_marks q label)) (free quotation_mark barred_quote refl) (free backslash barred_slash refl)))) ∙ h)
+    let free : (p : ℕ) → Barred p → nat_eq apostrophe p ≡ false → has_character p (in_marks q label) ≡ false =
+    λ p bar n. or_from (nat_eq q p) (has_character p (label ++ q ∷ [])) (ap (λ z. nat_eq z p) is ∙ n)
+    (list_any-append (λ c. nat_eq c p) label (q ∷ []) ∙ or_from (has_character p label) (has_character p (q ∷ [])) (repeat_free p label bar r) (or_from (nat_eq q p) false (ap (λ z. nat_eq z p) is ∙ n) refl)) in
+    true≢false (sym (and_from (nat_eq q apostrophe) (not (has_character quotation_mark (in_marks q label) || has_character backslash (in_marks q label))) m
+    (ap not (or_from (has_character quotation_mark (in_marks q label)) (has_character backslash (in_marks q label)) (free quotation_mark barred_quote refl) (free backslash barred_slash refl)))) ∙ h)
 
 shorter_in : (q : ℕ) (label : Bytes) → with_double (in_marks q label) ≡ in_marks q label → with_double (in_marks q (unrepeated label)) ≡ in_marks q (unrepeated label)
 shorter_in q label d = elim (cases_Bool (nat_eq q apostrophe)) [

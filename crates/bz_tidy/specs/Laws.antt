@@ -31,8 +31,8 @@ pub record FlagsSettle : Type 0 where
   pub comments : (number : Bytes → ℕ) (x : Expr) → amount number (with_flags x) ≡ amount number x
 
 -- Each comment stands in the tidy file as often as before.
-abbrev pub CommentsStay : Type 0
-CommentsStay = (text : Bytes) (items : List Item) → times text (tidied items) ≡ times text items
+abbrev pub TidyingKeepsComments : Type 0
+TidyingKeepsComments = (text : Bytes) (items : List Item) → times text (tidied items) ≡ times text items
 
 -- A proper file value stays proper.
 abbrev pub ProperStays : Type 0

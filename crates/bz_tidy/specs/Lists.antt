@@ -37,18 +37,18 @@ abbrev pub has_no_comment : Expr → Bool
 has_no_comment x = is_empty (above x) && is_none (comments_of x).suffix
 
 -- An item without comments whose token equals an earlier one's is dropped.
-abbrev pub unrepeated : List Bytes → List Expr → List Expr
-unrepeated earlier [] = []
-unrepeated earlier (x ∷ xs) =
-    if has_no_comment x && list_any (bytes_eq (text_of x)) earlier then unrepeated earlier xs
-    else (x ∷ unrepeated (text_of x ∷ earlier) xs)
+abbrev pub without_repeats : List Bytes → List Expr → List Expr
+without_repeats earlier [] = []
+without_repeats earlier (x ∷ xs) =
+    if has_no_comment x && list_any (bytes_eq (text_of x)) earlier then without_repeats earlier xs
+    else (x ∷ without_repeats (text_of x ∷ earlier) xs)
 
 -- In order, those that tie as they stood (the one such list: law `sorting_is_the_one`), and then without repeats.
 abbrev pub in_order : List Expr → List Expr
-in_order xs = unrepeated [] (sort_by precedes xs)
+in_order xs = without_repeats [] (sort_by precedes xs)
 
-abbrev pub unmarked : Expr → Expr
-unmarked x = with_above (other_comments (above x)) x
+abbrev pub without_marks : Expr → Expr
+without_marks x = with_above (other_comments (above x)) x
 
 abbrev pub marked_by : List Bytes → List Expr → List Expr
 marked_by marks [] = []
@@ -59,7 +59,7 @@ marked_by marks (x ∷ xs) = with_above (marks ++ above x) x ∷ xs
 abbrev pub sorted : List Expr → List Expr
 sorted [] = []
 sorted (x ∷ xs) =
-    if list_any (λ y. precedes y x) xs then marked_by (keep_marks (above x)) (in_order (unmarked x ∷ xs))
+    if list_any (λ y. precedes y x) xs then marked_by (keep_marks (above x)) (in_order (without_marks x ∷ xs))
     else in_order (x ∷ xs)
 
 abbrev pub settled_list : List Bytes → Bool → List Expr → List Expr

@@ -49,8 +49,8 @@ of_rule change (Some kind) xs = change kind xs
 abbrev pub on_call : (Bytes → List Expr → List Expr) → Expr → Expr
 on_call change x = on_items k.Call (of_rule change (rule_kind (parts_of x))) x
 
-abbrev pub on_rule : (Bytes → List Expr → List Expr) → Expr → Expr
-on_rule change = on_row k.Bare (on_first (on_call change))
+abbrev pub on_rule_arguments : (Bytes → List Expr → List Expr) → Expr → Expr
+on_rule_arguments change = on_row k.Bare (on_first (on_call change))
 
 -- the value of a named argument is changed, knowing its name and the comments above it
 abbrev pub on_attribute : (Bytes → List Bytes → Expr → Expr) → Expr → Expr
@@ -80,7 +80,7 @@ abbrev pub labelled_value : Bytes → List Bytes → Expr → Expr
 labelled_value name outside x = if is_label_attribute name then on_lists (map labelled) x else x
 
 abbrev pub labels_in : Expr → Expr
-labels_in = on_rule (λ kind. map (on_attribute labelled_value))
+labels_in = on_rule_arguments (λ kind. map (on_attribute labelled_value))
 
 abbrev pub labels : List Item → List Item
 labels = on_taken labels_in
@@ -94,7 +94,7 @@ abbrev pub in_assign : Expr → Expr
 in_assign x = on_row k.Assign (on_third (on_lists (settled_list (above x) false))) x
 
 abbrev pub lists_in : Expr → Expr
-lists_in x = if has_kind k.Assign x then in_assign x else on_rule (λ kind. map (on_attribute (sorted_value kind))) x
+lists_in x = if has_kind k.Assign x then in_assign x else on_rule_arguments (λ kind. map (on_attribute (sorted_value kind))) x
 
 abbrev pub lists : List Item → List Item
 lists = on_taken lists_in
@@ -116,7 +116,7 @@ abbrev pub argument_precedes : Expr → Expr → Bool
 argument_precedes x y = has_kind k.Named x && has_kind k.Named y && name_precedes x y
 
 abbrev pub arguments_in : Expr → Expr
-arguments_in = on_rule (λ kind. sort_by argument_precedes)
+arguments_in = on_rule_arguments (λ kind. sort_by argument_precedes)
 
 abbrev pub arguments : List Item → List Item
 arguments = on_taken arguments_in

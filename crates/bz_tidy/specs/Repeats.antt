@@ -6,19 +6,19 @@ use Rattle.bz_value.specs.declared.value.Expr.{Expr}
 use Rattle.bz_items.specs.Characters.{Bytes}
 use Rattle.bz_rule.specs.Values.{text_of}
 use Rattle.bz_rule.specs.QuoteMarks.{between}
-use Rattle.bz_tidy.specs.Lists.{precedes, unrepeated}
+use Rattle.bz_tidy.specs.Lists.{precedes, without_repeats}
 use Rattle.bz_tidy.specs.Rising.{Rises}
 
 -- what an item is sorted by
-abbrev pub key_of : Expr → Bytes
-key_of x = between (text_of x)
+abbrev pub sort_key : Expr → Bytes
+sort_key x = between (text_of x)
 
 abbrev pub last_of : List Expr → Option Expr
 last_of xs = slice_get xs (length xs - 1)
 
 -- whether the item ties with the last one
 abbrev pub ties_last : List Expr → Expr → Bool
-ties_last xs x = option_map_or (λ last. bytes_eq (key_of last) (key_of x)) (last_of xs) false
+ties_last xs x = option_map_or (λ last. bytes_eq (sort_key last) (sort_key x)) (last_of xs) false
 
 abbrev pub precedes_last : List Expr → Expr → Bool
 precedes_last xs x = option_map_or (λ last. precedes x last) (last_of xs) false
@@ -27,8 +27,8 @@ precedes_last xs x = option_map_or (λ last. precedes x last) (last_of xs) false
 abbrev pub is_text_at : List Expr → Bytes → ℕ → Bool
 is_text_at xs text place = option_map_or (λ x. bytes_eq text (text_of x)) (slice_get xs place) false
 
-abbrev pub stands_at : List Expr → List ℕ → Bytes → Bool
-stands_at xs places text = list_any (is_text_at xs text) places
+abbrev pub repeats_at : List Expr → List ℕ → Bytes → Bool
+repeats_at xs places text = list_any (is_text_at xs text) places
 
 -- the places that matter to the item: none where it begins a tie
 abbrev pub tied_places : List Expr → Expr → List ℕ → List ℕ
@@ -38,7 +38,7 @@ tied_places xs x places = if ties_last xs x then places else []
 -- different tokens of the last tie stand: whether a token of the rest stands earlier is seen there.
 pub record AreKept (all kept : List Expr) (places : List ℕ) (rest : List Expr) : Type 0 where
   pub earlier : List Bytes
-  pub goes : kept ++ unrepeated earlier rest ≡ unrepeated [] all
+  pub goes : kept ++ without_repeats earlier rest ≡ without_repeats [] all
   pub within : AllByRecursion (λ place. place < length kept) places
-  pub sees : AllByRecursion (λ x. (precedes_last kept x ≡ false) × (list_any (bytes_eq (text_of x)) earlier ≡ (ties_last kept x && stands_at kept places (text_of x)))) rest
+  pub sees : AllByRecursion (λ x. (precedes_last kept x ≡ false) × (list_any (bytes_eq (text_of x)) earlier ≡ (ties_last kept x && repeats_at kept places (text_of x)))) rest
   pub rises : Rises precedes rest

@@ -7,8 +7,8 @@ use Rattle.bz_rule.specs.QuoteMarks.{marks_of, inside}
 use Rattle.bz_rule.specs.Rules.{body}
 use Rattle.bz_label.specs.Shorter.{unrepeated}
 
-abbrev pub holds : ℕ → Bytes → Bool
-holds character text = list_any (λ c. nat_eq c character) text
+abbrev pub has_character : ℕ → Bytes → Bool
+has_character character text = list_any (λ c. nat_eq c character) text
 
 abbrev pub begins_single : Bytes → Bool
 begins_single [] = false
@@ -20,7 +20,7 @@ in_double n text = replicate n quotation_mark ++ (inside n text ++ replicate n q
 -- A string without prefix in ' or ''' that holds no " and no backslash takes " or """.
 abbrev pub with_double : Bytes → Bytes
 with_double text =
-    if begins_single text && not (holds quotation_mark text || holds backslash text) then in_double (marks_of text) text else text
+    if begins_single text && not (has_character quotation_mark text || has_character backslash text) then in_double (marks_of text) text else text
 
 -- A plain string keeps its quote marks around the label without a repeated name; any other string stays.
 abbrev pub shorter_string : Bytes → Bytes

@@ -1,6 +1,6 @@
 //! Facts about the definitions, for readers: the functions do nothing.
 ghost use Rattle.bz_tidy.specs.Exchanged.{ExchangedTidied};
-ghost use Rattle.bz_tidy.specs.Laws.{CommentsStay, FlagsSettle, SortingIsTheOne, TidySettles, TidyStays};
+ghost use Rattle.bz_tidy.specs.Laws.{TidyingKeepsComments, FlagsSettle, SortingIsTheOne, TidySettles, TidyStays};
 ghost use Rattle.bz_tidy.specs.MovedMarks.{MarksMove};
 ghost use Rattle.bz_tidy.specs.Rows.{WorkedPasses};
 
@@ -27,7 +27,7 @@ pub fn flags_settle()
 
 /// Each comment stands in the tidy file value as often as before.
 pub fn comments_stay()
-    ensures { CommentsStay }
+    ensures { TidyingKeepsComments }
 {}
 
 /// What is sorted is the one list in order that has the same items, those that tie as they stood; where only some items are

@@ -2,7 +2,7 @@
 ghost use Rattle.std.specs.Prelude.{◌≡◌, ◌++◌, ◌∷◌, ℕ, List, [], IfOk, OnOk};
 ghost use Rattle.std.specs.List.{list_all, list_any};
 ghost use Rattle.bz_token.specs.declared.class.Class.TheVariants as classes;
-ghost use Rattle.bz_tidy.specs.Lists.{above_first, has_above as has_comment_above, in_order, is_taken as is_taken_in, marked_by, precedes, settled_list, sorted, unmarked};
+ghost use Rattle.bz_tidy.specs.Lists.{above_first, has_above as has_comment_above, in_order, is_taken as is_taken_in, marked_by, precedes, settled_list, sorted, without_marks};
 ghost use Rattle.bz_tidy.specs.Marks.{any_marked as marked_in_any, keep_marks, other_comments};
 ghost use Rattle.bz_tidy.specs.Sorted.{is_passed};
 ghost use Rattle.bz_rule.specs.Values.{has_class, on_first, with_above};
@@ -141,7 +141,7 @@ fn set_above(alloc: Global, before: Items<Text>, x: &mut Expr) -> Result<(), Mem
 
 /// Takes the marks off the first item.
 fn take_marks(alloc: Global, items: &mut [Expr]) -> Result<Items<Text>, Memory>
-    ensures { IfOk result (λ marks. (marks ≡ keep_marks (above_first items.old)) × (items.new ≡ on_first unmarked items.old)) }
+    ensures { IfOk result (λ marks. (marks ≡ keep_marks (above_first items.old)) × (items.new ≡ on_first without_marks items.old)) }
 {
     match items {
         [] => Ok(Items::new(alloc)),

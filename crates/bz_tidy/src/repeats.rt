@@ -1,8 +1,8 @@
 //! Repeats in a list that is in order.
 ghost use Rattle.std.specs.Prelude.{◌≡◌, [], ◌∷◌, IfOk, OnOk, List};
 ghost use Rattle.bz_value.specs.declared.value.Expr.{Expr as Value};
-ghost use Rattle.bz_tidy.specs.Lists.{has_no_comment as is_bare, precedes, unrepeated};
-ghost use Rattle.bz_tidy.specs.Repeats.{AreKept, is_text_at, stands_at, tied_places, ties_last};
+ghost use Rattle.bz_tidy.specs.Lists.{has_no_comment as is_bare, precedes, without_repeats};
+ghost use Rattle.bz_tidy.specs.Repeats.{AreKept, is_text_at, repeats_at, tied_places, ties_last};
 ghost use Rattle.bz_tidy.specs.Rising.{Rises};
 
 use bz_items::Memory;
@@ -38,7 +38,7 @@ fn has_text_at(kept: &[Expr], text: &[u8], place: usize) -> bool
 
 /// Whether the token stands at one of these places.
 fn stands(kept: &[Expr], places: &[usize], text: &[u8]) -> bool
-    ensures { result ≡ stands_at kept.now places.now text.now }
+    ensures { result ≡ repeats_at kept.now places.now text.now }
 {
     places.iter().any(|place| has_text_at(kept, text, *place))
 }
@@ -76,7 +76,7 @@ fn keep(kept: &mut Vec<Expr>, places: &mut Vec<usize>, x: Expr) -> Result<(), Me
 /// a growth was refused.
 pub(crate) fn drop_repeats(alloc: Global, items: Vec<Expr>) -> Result<Vec<Expr>, Memory>
     requires { Rises precedes items.items }
-    ensures { IfOk result (λ kept. kept.items ≡ unrepeated [] items.items) }
+    ensures { IfOk result (λ kept. kept.items ≡ without_repeats [] items.items) }
 {
     let mut kept = Vec::new(alloc);
     let mut places = Vec::new(alloc);

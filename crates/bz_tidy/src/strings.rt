@@ -2,7 +2,7 @@
 ghost use Rattle.std.specs.Prelude.{◌≡◌, ◌++◌, ◌≤◌, ◌&&◌, ◌||◌, not, take, replicate, IfOk, OnOk};
 ghost use Rattle.bz_items.specs.Characters.{backslash, quotation_mark};
 ghost use Rattle.bz_rule.specs.QuoteMarks.{marks_of};
-ghost use Rattle.bz_tidy.specs.Strings.{begins_single, holds, in_double, with_double, shorter_string};
+ghost use Rattle.bz_tidy.specs.Strings.{begins_single, has_character, in_double, with_double, shorter_string};
 
 use bz_items::{Memory, Text};
 use bz_label::bytes::unrepeated;
@@ -18,8 +18,8 @@ fn begins_single(text: &[u8]) -> bool
     }
 }
 
-fn holds(character: u8, text: &[u8]) -> bool
-    ensures { result ≡ holds character text.now }
+fn has_character(character: u8, text: &[u8]) -> bool
+    ensures { result ≡ has_character character text.now }
 {
     text.iter().any(|byte| *byte == character)
 }
@@ -27,9 +27,9 @@ fn holds(character: u8, text: &[u8]) -> bool
 /// Whether double quote marks may stand for those of the string: it has no prefix and single marks, and holds neither a
 /// double mark nor a backslash.
 fn takes_double(text: &[u8]) -> bool
-    ensures { result ≡ (begins_single text.now && not (holds quotation_mark text.now || holds backslash text.now)) }
+    ensures { result ≡ (begins_single text.now && not (has_character quotation_mark text.now || has_character backslash text.now)) }
 {
-    begins_single(text) && !(holds(b'"', text) || holds(b'\\', text))
+    begins_single(text) && !(has_character(b'"', text) || has_character(b'\\', text))
 }
 
 fn double_marks(count: usize) -> &'static [u8]

@@ -4,7 +4,7 @@ ghost use Rattle.std.specs.Prelude.{◌≡◌, OnOk, map, codes, bytes_eq};
 ghost use Rattle.bz_tree.specs.declared.kind.Kind.TheVariants as k;
 ghost use Rattle.bz_rule.specs.Rules.{is_text, dotted_name};
 ghost use Rattle.bz_rule.specs.Values.{on_first, on_items, on_third, on_lists};
-ghost use Rattle.bz_tidy.specs.Passes.{lists_in, on_attribute, on_call, on_rule};
+ghost use Rattle.bz_tidy.specs.Passes.{lists_in, on_attribute, on_call, on_rule_arguments};
 ghost use Rattle.bz_tidy.specs.Changes.{list_change, maybe_lists, value_change, rule_change};
 
 use crate::arguments::sort_arguments;
@@ -242,7 +242,7 @@ fn change_first(alloc: Global, change: RuleChange, parts: &mut Items<Expr>) -> R
 /// Changes the arguments of a rule; any other statement stays. The error: memory was refused; part of the statement is then
 /// lost.
 pub(crate) fn change_rule(alloc: Global, change: RuleChange, x: &mut Expr) -> Result<(), Memory>
-    ensures { OnOk result (x.new ≡ on_rule (rule_change change) x.old) }
+    ensures { OnOk result (x.new ≡ on_rule_arguments (rule_change change) x.old) }
 {
     match x {
         Expr::Token(_) => Ok(()),

@@ -15,7 +15,7 @@ use Rattle.bz_token.specs.declared.state.Quote.{Quote}
 use Rattle.bz_token.specs.declared.state.Quote.TheVariants.{Single, Double}
 use Rattle.bz_token.specs.Bytes.{is_digit, is_octal, is_hexadecimal, is_high, is_letter}
 use Rattle.bz_token.specs.Machine.{after}
-use Rattle.bz_token.specs.Scanner.{lone_marks, operator_marks, word_move, quote_or_word, quote_byte, move, ends, named}
+use Rattle.bz_token.specs.Scanner.{lone_marks, operator_marks, word_move, quote_or_word, quote_byte, move, ends, keyword_or_name}
 use Rattle.bz_token.specs.Tokens.{IsToken, TokenAt}
 use Rattle.bz_token.proofs.Fronts.{some_next, after_append}
 use Rattle.bz_token.proofs.Laws.{state_of}
@@ -162,7 +162,7 @@ not_inside c (a ∷ t) r b h u l m =
           let s : move (w.0) b ≡ Some Word = name_goes_on (w.0) b (w.3 ∙ ap Some n) y z in
           let more : after move Start ((a ∷ t) ++ (b ∷ [])) ≡ Some Word = after_append move Start (w.0) (a ∷ t) (b ∷ []) w.2 ∙ rw s refl in
           let lexeme = sound v.Name ((a ∷ t) ++ (b ∷ [])) (rw more refl) in
-          let k = h.longest (named v.Name ((a ∷ t) ++ (b ∷ []))) ((a ∷ t) ++ (b ∷ [])) r (append_assoc (a ∷ t) (b ∷ []) r) lexeme in
+          let k = h.longest (keyword_or_name v.Name ((a ∷ t) ++ (b ∷ []))) ((a ∷ t) ++ (b ∷ [])) r (append_assoc (a ∷ t) (b ∷ []) r) lexeme in
           absurd (omega (arith, k, length-append (a ∷ t) (b ∷ [])))
     ]
 

@@ -7,7 +7,7 @@ use Rattle.bz_token.specs.declared.class.Class.TheVariants as v
 use Rattle.bz_token.specs.declared.state.State.TheVariants.{Start, Word, PrefixR, PrefixB, PrefixBoth, Zero, Whole, HexMark, Hex, OctMark, Oct, Fraction, ExponentMark, ExponentSign, Exponent}
 use Rattle.bz_token.specs.Bytes.{is_digit, is_octal, is_hexadecimal, is_e, is_letter}
 use Rattle.bz_token.specs.Lexemes.{keywords, marks, IsLetters, none, one, three, IsWord, Each, SomeOf, IsDigits, IsSigned, IsExponent, MayBeExponent, IsNumber, whole, hexadecimal, octal, pointed, point_first, scaled, IsLexeme}
-use Rattle.bz_token.specs.Scanner.{lone_marks, operator_marks, mark_start, text_start, quote_or_word, move, reads, named}
+use Rattle.bz_token.specs.Scanner.{lone_marks, operator_marks, mark_start, text_start, quote_or_word, move, reads, keyword_or_name}
 use Rattle.bz_token.proofs.Strings.{string_taken}
 use Rattle.bz_token.proofs.Tables.{every, none_of, is_not, one_text}
 
@@ -189,7 +189,7 @@ number_taken s (point_first (b ∷ d) e h m) = rw h.0 (fractions d e h.1 m)
 number_taken s (scaled [] e h x) = absurd h
 number_taken s (scaled (b ∷ d) e h x) = first_digit b (d ++ e) h.0 (wholes d e h.1 (whole_exponent e x))
 
-pub complete : (c : Class) (s : List ℕ) → IsLexeme c s → (k : Class) × (reads Start s ≡ Some k) × (named k s ≡ c)
+pub complete : (c : Class) (s : List ℕ) → IsLexeme c s → (k : Class) × (reads Start s ≡ Some k) × (keyword_or_name k s ≡ c)
 complete v.Name s h = (v.Name, word_taken s h.0, rw h.1 refl)
 complete v.Keyword s h = (v.Name, at_1 (reads Start s) (one_text (λ t. is_class_1 (reads Start t)) keywords refl s h), rw h refl)
 complete v.Number s h = (v.Number, number_taken s h, refl)

@@ -11,13 +11,13 @@ use Rattle.bz_token.specs.Bytes.{among, is_solid, separators, is_separator, brac
 use Rattle.bz_token.specs.Lexemes.{IsLexeme, is_mark}
 use Rattle.bz_token.specs.Laws.{OneToken, Begins, Separated, Single as SingleLaw}
 use Rattle.bz_token.specs.Machine.{after}
-use Rattle.bz_token.specs.Scanner.{move, ends, named}
+use Rattle.bz_token.specs.Scanner.{move, ends, keyword_or_name}
 use Rattle.bz_token.proofs.Fronts.{longer, same_front, some_next, after_append}
 use Rattle.bz_token.proofs.Tables.{every, one_of, is_none_at}
 use Rattle.bz_token.proofs.Complete.{complete}
 
 -- the state behind a lexeme
-pub state_of : (c : Class) (s : List ℕ) → IsLexeme c s → (q : State) × (k : Class) × (after move Start s ≡ Some q) × (ends q ≡ Some k) × (named k s ≡ c)
+pub state_of : (c : Class) (s : List ℕ) → IsLexeme c s → (q : State) × (k : Class) × (after move Start s ≡ Some q) × (ends q ≡ Some k) × (keyword_or_name k s ≡ c)
 state_of c s h =
     let w = complete c s h in
     let x = some_next (after move Start s) ends w.0 w.1 in
@@ -45,7 +45,7 @@ one_class c d t h k =
     let x = complete c t h in
     let y = complete d t k in
     let e : x.0 ≡ y.0 = same_Some x.0 y.0 (sym x.1 ∙ y.1) in
-    sym x.2 ∙ ap (λ (j : Class). named j t) e ∙ y.2
+    sym x.2 ∙ ap (λ (j : Class). keyword_or_name j t) e ∙ y.2
 
 pub one_token : OneToken
 one_token c d t r u s h k e =

@@ -6,7 +6,7 @@ use Rattle.bz_token.specs.declared.class.Class.TheVariants as v
 use Rattle.bz_token.specs.declared.state.State.TheVariants.{Start, Fraction, Point, Word}
 use Rattle.bz_token.specs.Laws.{AllTokens, EachMark, EachKeyword, EachNumber, numbers, Cuts}
 use Rattle.bz_token.specs.Lexemes.{marks, keywords, IsLexeme}
-use Rattle.bz_token.specs.Scanner.{reads, named, longest_front}
+use Rattle.bz_token.specs.Scanner.{reads, keyword_or_name, longest_front}
 use Rattle.bz_token.proofs.Laws.{separated}
 use Rattle.bz_token.proofs.Sound.{sound}
 use Rattle.bz_token.proofs.Tables.{every}
@@ -21,7 +21,7 @@ as_class _ _ = false
 
 abbrev taken_by : Class → List ℕ → Option Class → Bool
 taken_by c s None = false
-taken_by c s (Some k) = as_class c (named k s)
+taken_by c s (Some k) = as_class c (keyword_or_name k s)
 
 abbrev taken_as : Class → List ℕ → Bool
 taken_as c s = taken_by c s (reads Start s)
@@ -34,7 +34,7 @@ same_class _ _ h = absurd (both_ways false refl h)
 
 lexeme_by : (c : Class) (s : List ℕ) (o : Option Class) → reads Start s ≡ o → taken_by c s o ≡ true → IsLexeme c s
 lexeme_by c s None e h = absurd (both_ways false refl h)
-lexeme_by c s (Some k) e h = subst (λ (d : Class). IsLexeme d s) (same_class c (named k s) h) (sound k s e)
+lexeme_by c s (Some k) e h = subst (λ (d : Class). IsLexeme d s) (same_class c (keyword_or_name k s) h) (sound k s e)
 
 rows : (c : Class) (ss : List (List ℕ)) → every (taken_as c) ss ≡ true → AllTokens c ss
 rows c [] h = tt

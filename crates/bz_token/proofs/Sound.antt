@@ -12,7 +12,7 @@ use Rattle.bz_token.specs.declared.state.Quote.TheVariants.{Single, Double}
 use Rattle.bz_token.specs.Bytes.{among, is_digit, is_letter}
 use Rattle.bz_token.specs.Lexemes.{none, is_keyword, is_mark, IsLetters, one, IsNumber, whole, hexadecimal, octal, pointed, point_first, scaled, IsQuoted, single, triple, is_prefix, IsString, IsWord, short_end, IsLexeme}
 use Rattle.bz_token.specs.Machine.{after, and_next}
-use Rattle.bz_token.specs.Scanner.{lone_marks, operator_marks, mark_start, number_start, text_start, quote_or_word, doubled_move, quote_byte, move, ends, reads, named}
+use Rattle.bz_token.specs.Scanner.{lone_marks, operator_marks, mark_start, number_start, text_start, quote_or_word, doubled_move, quote_byte, move, ends, reads, keyword_or_name}
 use Rattle.bz_token.proofs.Strings.{quote_is}
 use Rattle.bz_token.proofs.Tables.{one_of}
 use Rattle.bz_token.proofs.Taken.{ended_reads, operator_reads, star_reads, bang_reads, doubled_reads, IsFraction, BehindDigit, whole_reads, BehindZero, zero_reads, point_reads, EndsShort, short_reads, EndsLong, long_reads, high_reads, three_letters, word_reads}
@@ -256,17 +256,17 @@ no_digit b h = elim (cases_Bool (is_digit b)) [ inl d ↦ absurd (some_number (m
     some_number (Some x) b d h = none-some x (sym h)
     some_number None b d h = elim (cases_Bool (eqb b 48)) [ inl e ↦ none-some Zero (sym (rw e at h)) | inr e ↦ none-some Whole (sym (rw (e, d) at h)) ]
 
-name_is : (s : List ℕ) → IsWord s → IsLexeme (named v.Name s) s
+name_is : (s : List ℕ) → IsWord s → IsLexeme (keyword_or_name v.Name s) s
 name_is s h =
     elim (cases_Bool (is_keyword s)) [
-      | inl e ↦ let i : v.Keyword ≡ named v.Name s = rw e refl in subst (λ (c : Class). IsLexeme c s) i e
-      | inr e ↦ let i : v.Name ≡ named v.Name s = rw e refl in subst (λ (c : Class). IsLexeme c s) i (h, e)
+      | inl e ↦ let i : v.Keyword ≡ keyword_or_name v.Name s = rw e refl in subst (λ (c : Class). IsLexeme c s) i e
+      | inr e ↦ let i : v.Name ≡ keyword_or_name v.Name s = rw e refl in subst (λ (c : Class). IsLexeme c s) i (h, e)
     ]
 
-pub sound : (k : Class) (s : List ℕ) → reads Start s ≡ Some k → IsLexeme (named k s) s
+pub sound : (k : Class) (s : List ℕ) → reads Start s ≡ Some k → IsLexeme (keyword_or_name k s) s
 sound k [] h = absurd (none-some k h)
 sound k (b ∷ s) h =
-    let lexeme = λ (c : Class). IsLexeme (named c (b ∷ s)) (b ∷ s) in
+    let lexeme = λ (c : Class). IsLexeme (keyword_or_name c (b ∷ s)) (b ∷ s) in
     elim (picked k (option_or (mark_start b) (number_start b)) (text_start b) s h) [
       | inl g ↦ elim (picked k (mark_start b) (number_start b) s g) [
         | inl f ↦ let w = mark_sound k b s f in subst lexeme (sym w.0) w.1

@@ -13,7 +13,7 @@ use Rattle.bz_token.specs.Bytes.{is_quote}
 use Rattle.bz_token.specs.Lexemes.{IsLexeme, IsString, is_prefix}
 use Rattle.bz_token.specs.Tokens.{NoToken, TokenAt}
 use Rattle.bz_token.specs.Machine.{after, takes}
-use Rattle.bz_token.specs.Scanner.{quote_byte, move, ends, may_end, named, before_third, longest_front}
+use Rattle.bz_token.specs.Scanner.{quote_byte, move, ends, may_end, keyword_or_name, before_third, longest_front}
 use Rattle.bz_token.proofs.Fronts.{same_front, rest_same}
 use Rattle.bz_token.proofs.Laws.{state_of}
 use Rattle.bz_token.proofs.Longest.{IsLongest, Found, found}
@@ -42,7 +42,7 @@ pub no_class : (s : List ℕ) (x : State × ℕ) → Some x ≡ longest_front s 
 no_class s x e n = let f = front_of s x e in both_ways (is_some (ends (x.0))) (rw (← n) refl) f.ended
 
 -- the longest front is a lexeme
-lexeme_at : (s : List ℕ) (x : State × ℕ) (k : Class) → Front s x → Some k ≡ ends (x.0) → IsLexeme (named k (take (x.1) s)) (take (x.1) s)
+lexeme_at : (s : List ℕ) (x : State × ℕ) (k : Class) → Front s x → Some k ≡ ends (x.0) → IsLexeme (keyword_or_name k (take (x.1) s)) (take (x.1) s)
 lexeme_at s x k f e = sound k (take (x.1) s) (rw f.taken (sym e))
 
 front_length : (s : List ℕ) (n : ℕ) → n ≤ length s → length (take n s) ≡ n
@@ -63,7 +63,7 @@ third_at q s p m t u a y n e i =
     let w = quote_of m n in
     rw i (third_of q p (w.0) m t u a y w.1 (subst (λ (x : ℕ). t ≡ p ++ (x ∷ x ∷ [])) w.1 e))
 
-pub some_token : (s : List ℕ) (x : State × ℕ) (k : Class) → Some x ≡ longest_front s → before_third (x.0) (drop (x.1) s) ≡ false → Some k ≡ ends (x.0) → TokenAt (named k (take (x.1) s)) (x.1) s
+pub some_token : (s : List ℕ) (x : State × ℕ) (k : Class) → Some x ≡ longest_front s → before_third (x.0) (drop (x.1) s) ≡ false → Some k ≡ ends (x.0) → TokenAt (keyword_or_name k (take (x.1) s)) (x.1) s
 some_token s x k e n i =
     let f = front_of s x e in (
       f.within,

@@ -136,9 +136,9 @@ abbrev pub reads : State → List ℕ → Option Class
 reads q s = and_next (after move q s) ends
 
 -- a Name of the table is a Keyword
-abbrev pub named : Class → List ℕ → Class
-named v.Name s = if is_keyword s then v.Keyword else v.Name
-named c s = c
+abbrev pub keyword_or_name : Class → List ℕ → Class
+keyword_or_name v.Name s = if is_keyword s then v.Keyword else v.Name
+keyword_or_name c s = c
 
 -- an empty string, with or without a prefix, right before a third mark
 abbrev pub before_third : State → List ℕ → Bool

@@ -1,6 +1,6 @@
 ghost use Rattle.std.specs.Prelude.{◌≡◌, ◌≤◌, ◌<◌, ℕ, Some, None, take, drop, length, get_or, MatchOption, IfSome, IsUtf8, IsCharBoundary};
 ghost use Rattle.bz_token.specs.Lexemes.{is_keyword};
-ghost use Rattle.bz_token.specs.Scanner.{move, longest_front, before_third, named};
+ghost use Rattle.bz_token.specs.Scanner.{move, longest_front, before_third, keyword_or_name};
 ghost use Rattle.bz_token.specs.Tokens.{NoToken, TokenAt};
 
 use crate::Class;
@@ -23,7 +23,7 @@ pub fn token(text: &[u8]) -> Option<Found>
     if before_third(state, &text[len..]) {
         return None;
     }
-    let class = named(state.class()?, &text[..len]);
+    let class = keyword_or_name(state.class()?, &text[..len]);
     Some(Found { class, len })
 }
 
@@ -51,8 +51,8 @@ fn before_third(state: State, rest: &[u8]) -> bool
 }
 
 /// A Name of the table of keywords is a Keyword.
-fn named(class: Class, text: &[u8]) -> Class
-    ensures { result ≡ named class text.now }
+fn keyword_or_name(class: Class, text: &[u8]) -> Class
+    ensures { result ≡ keyword_or_name class text.now }
 {
     match class {
         Class::Name if is_keyword(text) => Class::Keyword,

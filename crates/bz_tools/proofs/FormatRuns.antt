@@ -10,8 +10,8 @@ use Rattle.bz_ports.specs.declared.exit.Cut.{Cut}
 use Rattle.bz_ports.specs.declared.exit.Cut.TheVariants as c
 use Rattle.bz_ports.proofs.Outputs.{rises_more}
 use Rattle.bz_tools.specs.Modes as m
-use Rattle.bz_tools.specs.FormatRun.{Effect, Run, Files, FileStep, InputStep, FormatOutcome, RunOf, IsFormatUsageLine, begun, IsCutBy, grown, worse}
-use Rattle.bz_tools.specs.FormatShown.{effect_of, progress_of}
+use Rattle.bz_tools.specs.FormatRun.{Effect, Run, FilesFormatted, FileStep, InputStep, FormatOutcome, RunOf, IsFormatUsageLine, begun, IsCutBy, grown, worse}
+use Rattle.bz_tools.specs.FormatShown.{effect_seen, progress_of}
 use Rattle.bz_tools.specs.declared.effect.Effect as e
 use Rattle.bz_tools.specs.declared.effect.Progress.{Progress}
 use Rattle.bz_tools.specs.declared.file_type.FileType.{FileType}
@@ -46,8 +46,8 @@ status_more c.Files later a b first last other = rw (first other) refl
 
 pub files_more : (mode : Mode) (file_type : FileType) (names left rest : List (List ℕ)) (name : List ℕ) (start run : Run) (before folder mid : Folder) (effect : Effect)
     → left ≡ name ∷ rest → FileStep mode file_type name run.closed folder effect mid
-    → ((after : Run) (last : Folder) → Files mode file_type left run folder after last → Files mode file_type names start before after last)
-    → (after : Run) (last : Folder) → Files mode file_type rest (grown run effect) mid after last → Files mode file_type names start before after last
+    → ((after : Run) (last : Folder) → FilesFormatted mode file_type left run folder after last → FilesFormatted mode file_type names start before after last)
+    → (after : Run) (last : Folder) → FilesFormatted mode file_type rest (grown run effect) mid after last → FilesFormatted mode file_type names start before after last
 files_more mode file_type names left rest name start run before folder mid effect split step runs after last more =
     runs after last (rw (split) (effect, mid, step, more))
 
@@ -59,7 +59,7 @@ made progress effect = record {
   closed = progress.closed || effect.closes;
 }
 
-pub grown_is : (progress result : Progress) (held : e.Effect) (run : Run) (effect : Effect) → progress ≡ progress_of run → held ≡ effect_of effect
+pub grown_is : (progress result : Progress) (held : e.Effect) (run : Run) (effect : Effect) → progress ≡ progress_of run → held ≡ effect_seen effect
     → result ≡ record {
       status = worse progress.status held.status;
       cut = first_cut progress.cut held.cut;
@@ -76,10 +76,10 @@ pub input_outcome : (words : List (List ℕ)) (line : m.FormatLine) (known : Opt
 input_outcome words line known folder effect read none step = inr (rw (read, none) (effect, step, refl, refl))
 
 pub files_outcome : (words : List (List ℕ)) (line : m.FormatLine) (known : Option (List ℕ)) (folder after : Folder) (run : Run)
-    → m.format_line words ≡ Ok line → (line.files ≡ [] → ⊥) → Files line.mode line.file_type line.files begun folder run after → FormatOutcome words known folder run after
+    → m.format_line words ≡ Ok line → (line.files ≡ [] → ⊥) → FilesFormatted line.mode line.file_type line.files begun folder run after → FormatOutcome words known folder run after
 files_outcome words line known folder after run read some runs = inr (rw (read) (go line.files some runs))
   where
-    go : (names : List (List ℕ)) → (names ≡ [] → ⊥) → Files line.mode line.file_type names begun folder run after → RunOf line.mode line.file_type names known folder run after
+    go : (names : List (List ℕ)) → (names ≡ [] → ⊥) → FilesFormatted line.mode line.file_type names begun folder run after → RunOf line.mode line.file_type names known folder run after
     go [] other all = absurd (other refl)
     go (name ∷ names) other all = all
 

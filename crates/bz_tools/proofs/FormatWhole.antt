@@ -10,7 +10,7 @@ use Rattle.bz_items.specs.Characters.{Bytes}
 use Rattle.bz_files.specs.Folder.{Folder, IsAside, SameFolders, SameBut, with_file, new_name}
 use Rattle.bz_files.specs.declared.files.FileFault.{FileFault}
 use Rattle.bz_files.specs.declared.files.FileFault.TheVariants as file
-use Rattle.bz_tools.specs.FormatRun.{Effect, Run, Files, FileStep, unread, without_memory, unformatted, kept, rewritten, grown, printed, file_out, text_status, is_rewritten, unread_file}
+use Rattle.bz_tools.specs.FormatRun.{Effect, Run, FilesFormatted, FileStep, unread, without_memory, unformatted, kept, rewritten, grown, output_effect, file_out, text_status, is_rewritten, unread_file}
 use Rattle.bz_tools.specs.FormatExact.{ExactStep, exact_absent, exact_unformatted, exact_formatted, Exact}
 use Rattle.bz_ports.specs.Exits.{first_cut}
 use Rattle.bz_ports.specs.declared.exit.Cut.{Cut}
@@ -34,7 +34,7 @@ whole_later c.Write b is = absurd (cc is)
 whole_later c.Files b is = absurd (cc is)
 
 -- a run that is whole at its end was so at each file
-whole_start : (mode : Mode) (file_type : FileType) (names : List Bytes) (run last : Run) (folder after : Folder) → Files mode file_type names run folder last after
+whole_start : (mode : Mode) (file_type : FileType) (names : List Bytes) (run last : Run) (folder after : Folder) → FilesFormatted mode file_type names run folder last after
     → last.cut ≡ c.Whole → run.cut ≡ c.Whole
 whole_start mode file_type [] run last folder after runs is = ap (λ (r : Run). r.cut) (sym runs.0) ∙ is
 whole_start mode file_type (name ∷ names) run last folder after runs is =
@@ -76,7 +76,7 @@ by_fault mode file_type name pure folder after effect file.Memory none is whole 
 
 -- Only in mode `fix` is a file rewritten.
 fixed_effect : (mode : Mode) (name text new : Bytes) → is_rewritten mode text new ≡ true
-    → printed [] 0 ≡ printed (file_out mode name text new) (text_status mode text new)
+    → output_effect [] 0 ≡ output_effect (file_out mode name text new) (text_status mode text new)
 fixed_effect m.Fix name text new differs = refl
 fixed_effect m.Check name text new differs = absurd (cc differs)
 fixed_effect m.PrintIfChanged name text new differs = absurd (cc differs)
@@ -109,7 +109,7 @@ exact_step mode file_type name closed pure folder after effect (rewritten text n
 abbrev Other : Bytes → Type 0
 Other name = IsAside name → ⊥
 
-pub exact_run : (mode : Mode) (file_type : FileType) (names : List Bytes) (run last : Run) (pure folder after : Folder) → Files mode file_type names run folder last after
+pub exact_run : (mode : Mode) (file_type : FileType) (names : List Bytes) (run last : Run) (pure folder after : Folder) → FilesFormatted mode file_type names run folder last after
     → last.cut ≡ c.Whole → SameFolders pure folder → All (λ name. IsAside name → ⊥) names
     → (exact : Folder) × Exact mode file_type names run pure last exact × SameFolders exact after
 unfolding Stepped

@@ -6,7 +6,7 @@ use Rattle.bz_items.specs.Characters.{Bytes}
 use Rattle.bz_files.specs.Folder.{Folder, IsAside, SameFolders, with_file}
 use Rattle.bz_journal.specs.declared.formatter.FormatFault.{FormatFault}
 use Rattle.bz_tools.specs.FileKinds.{FormatsAs, is_bzl}
-use Rattle.bz_tools.specs.FormatRun.{Effect, Run, Files, begun, grown, printed, refused, unopened, file_out, text_status, is_rewritten}
+use Rattle.bz_tools.specs.FormatRun.{Effect, Run, FilesFormatted, begun, grown, output_effect, refused, unopened, file_out, text_status, is_rewritten}
 use Rattle.bz_ports.specs.declared.exit.Cut.TheVariants as c
 use Rattle.bz_tools.specs.declared.file_type.FileType.{FileType}
 use Rattle.bz_tools.specs.declared.mode.Mode.{Mode}
@@ -18,7 +18,7 @@ pub data ExactStep (mode : Mode) (file_type : FileType) (name : Bytes) (folder :
   exact_unformatted : (text : Bytes) (fault : FormatFault) → get folder name ≡ Some text → FormatsAs (is_bzl file_type name) text (Err fault) → effect ≡ refused name fault
       → effect.cut ≡ c.Whole → after ≡ folder → ExactStep mode file_type name folder effect after
   exact_formatted : (text new : Bytes) → get folder name ≡ Some text → FormatsAs (is_bzl file_type name) text (Ok new)
-      → effect ≡ printed (file_out mode name text new) (text_status mode text new)
+      → effect ≡ output_effect (file_out mode name text new) (text_status mode text new)
       → after ≡ (if is_rewritten mode text new then with_file folder name new else folder) → ExactStep mode file_type name folder effect after
 
 abbrev pub Exact : Mode → FileType → List Bytes → Run → Folder → Run → Folder → Type 0
@@ -28,6 +28,6 @@ Exact mode file_type (name ∷ names) run folder after folder' =
 
 -- A whole run over files of other names does exactly that, and the folder then is the one that this gives.
 abbrev pub WholeRunsAreExact : Type 0
-WholeRunsAreExact = (mode : Mode) (file_type : FileType) (names : List Bytes) (run : Run) (folder after : Folder) → Files mode file_type names begun folder run after
+WholeRunsAreExact = (mode : Mode) (file_type : FileType) (names : List Bytes) (run : Run) (folder after : Folder) → FilesFormatted mode file_type names begun folder run after
     → run.cut ≡ c.Whole → All (λ name. IsAside name → ⊥) names
     → (exact : Folder) × Exact mode file_type names begun folder run exact × SameFolders exact after

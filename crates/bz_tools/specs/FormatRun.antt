@@ -31,30 +31,30 @@ pub record Effect : Type 0 where
   pub cut : Cut
   pub closes : Bool
 
-abbrev pub printed : Bytes → ℕ → Effect
-printed out status = record { out = out; lines = []; status = status; cut = c.Whole; closes = false }
+abbrev pub output_effect : Bytes → ℕ → Effect
+output_effect out status = record { out = out; lines = []; status = status; cut = c.Whole; closes = false }
 
 -- standard output fails
 abbrev pub unprinted : Bytes → Effect
 unprinted out = record { out = out; lines = named_line (codes "<stdout>") (codes "cannot write") ∷ []; status = 3; cut = c.Write; closes = true }
 
-abbrev pub told : Bytes → ℕ → Cut → Effect
-told line status cut = record { out = []; lines = line ∷ []; status = status; cut = cut; closes = false }
+abbrev pub report_effect : Bytes → ℕ → Cut → Effect
+report_effect line status cut = record { out = []; lines = line ∷ []; status = status; cut = cut; closes = false }
 
 abbrev pub unopened : Bytes → Cut → Effect
-unopened name cut = told (named_line name (codes "cannot open")) 3 cut
+unopened name cut = report_effect (named_line name (codes "cannot open")) 3 cut
 
 abbrev pub wanting : Bytes → Effect
-wanting name = told (named_line name (codes "Memory")) 3 c.Memory
+wanting name = report_effect (named_line name (codes "Memory")) 3 c.Memory
 
 abbrev pub unwritten : Bytes → Effect
-unwritten name = told (named_line name (codes "cannot write")) 3 c.Files
+unwritten name = report_effect (named_line name (codes "cannot write")) 3 c.Files
 
 -- a text that is not formatted
 abbrev pub refused : Bytes → FormatFault → Effect
-refused name (f.Unread fault) = told (fault_line name fault) 1 c.Whole
-refused name f.TooLarge = told (named_line name (codes "TooLarge")) 3 c.Whole
-refused name f.TooDeep = told (named_line name (codes "TooDeep")) 3 c.Whole
+refused name (f.Unread fault) = report_effect (fault_line name fault) 1 c.Whole
+refused name f.TooLarge = report_effect (named_line name (codes "TooLarge")) 3 c.Whole
+refused name f.TooDeep = report_effect (named_line name (codes "TooDeep")) 3 c.Whole
 refused name f.Memory = wanting name
 
 -- ---- the modes
@@ -85,13 +85,13 @@ text_status PrintIfChanged text new = 0
 
 -- Standard output takes a text, or fails, unless it is closed.
 abbrev pub Prints : Bool → Bytes → ℕ → Effect → Type 0
-Prints closed out status effect = (effect ≡ printed out status) ⊎ ((closed ≡ false) × (effect ≡ unprinted out))
+Prints closed out status effect = (effect ≡ output_effect out status) ⊎ ((closed ≡ false) × (effect ≡ unprinted out))
 
 -- The file holds the text that was formatted right before it is written, and the folder then has the formatted text at its name; or that
 -- fails, and where the file doesn't hold the text the folder stays.
 abbrev pub Rewrites : Bytes → Bytes → Bytes → Folder → Effect → Folder → Type 0
 Rewrites name text new folder effect after =
-    ((effect ≡ printed [] 0) × (get folder name ≡ Some text) × SameBut (λ other. other ≡ new_name name) (with_file folder name new) after)
+    ((effect ≡ output_effect [] 0) × (get folder name ≡ Some text) × SameBut (λ other. other ≡ new_name name) (with_file folder name new) after)
     ⊎ ((effect ≡ unwritten name) × ((get folder name ≡ Some text → ⊥) → after ≡ folder) × IsReplacing name new folder after)
 
 -- ---- one file
@@ -154,15 +154,15 @@ grown run effect = record {
 }
 
 -- One file after the other.
-abbrev pub Files : Mode → FileType → List Bytes → Run → Folder → Run → Folder → Type 0
-Files mode file_type [] run folder after folder' = (after ≡ run) × (folder' ≡ folder)
-Files mode file_type (name ∷ names) run folder after folder' =
-    (effect : Effect) × (mid : Folder) × FileStep mode file_type name run.closed folder effect mid × Files mode file_type names (grown run effect) mid after folder'
+abbrev pub FilesFormatted : Mode → FileType → List Bytes → Run → Folder → Run → Folder → Type 0
+FilesFormatted mode file_type [] run folder after folder' = (after ≡ run) × (folder' ≡ folder)
+FilesFormatted mode file_type (name ∷ names) run folder after folder' =
+    (effect : Effect) × (mid : Folder) × FileStep mode file_type name run.closed folder effect mid × FilesFormatted mode file_type names (grown run effect) mid after folder'
 
 -- Without files it is standard input.
 abbrev pub RunOf : Mode → FileType → List Bytes → Option Bytes → Folder → Run → Folder → Type 0
 RunOf mode file_type [] known folder after folder' = (effect : Effect) × InputStep mode file_type known effect × (after ≡ grown begun effect) × (folder' ≡ folder)
-RunOf mode file_type (name ∷ names) known folder after folder' = Files mode file_type (name ∷ names) begun folder after folder'
+RunOf mode file_type (name ∷ names) known folder after folder' = FilesFormatted mode file_type (name ∷ names) begun folder after folder'
 
 -- a word of an option that may have been meant
 abbrev pub meant_word : Bytes → Option Bytes → Bytes

@@ -19,8 +19,8 @@ usage_of (u.NoType name) = Some (m.no_type name.now)
 usage_of u.Memory = None
 
 -- an effect as the code holds it
-abbrev pub effect_of : r.Effect → Effect
-effect_of effect = record { status = effect.status; cut = effect.cut; closes = effect.closes }
+abbrev pub effect_seen : r.Effect → Effect
+effect_seen effect = record { status = effect.status; cut = effect.cut; closes = effect.closes }
 
 -- how far a run is, as the code holds it
 abbrev pub progress_of : r.Run → Progress

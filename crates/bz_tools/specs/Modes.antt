@@ -59,10 +59,10 @@ pub data FormatUsage : Type 0 where
   no_type : Bytes → FormatUsage
 
 -- the mode is looked at first
-abbrev pub line_of : Bytes → Option Mode → Bytes → Option FileType → List Bytes → Result FormatLine FormatUsage
-line_of mode_word None type_word file_type files = Err (no_mode mode_word)
-line_of mode_word (Some mode) type_word None files = Err (no_type type_word)
-line_of mode_word (Some mode) type_word (Some file_type) files = Ok (record { mode = mode; file_type = file_type; files = files })
+abbrev pub format_line_of : Bytes → Option Mode → Bytes → Option FileType → List Bytes → Result FormatLine FormatUsage
+format_line_of mode_word None type_word file_type files = Err (no_mode mode_word)
+format_line_of mode_word (Some mode) type_word None files = Err (no_type type_word)
+format_line_of mode_word (Some mode) type_word (Some file_type) files = Ok (record { mode = mode; file_type = file_type; files = files })
 
 -- The mode is `fix` where none is named, and the type `auto`.
 abbrev pub mode_name : List Row → Bytes
@@ -71,10 +71,10 @@ mode_name rows = unwrap_or (first_of (codes "mode") rows) (codes "fix")
 abbrev pub type_name : List Row → Bytes
 type_name rows = unwrap_or (first_of (codes "type") rows) (codes "auto")
 
-abbrev pub line_in : List Row → Result FormatLine FormatUsage
-line_in rows = line_of (mode_name rows) (mode_called (mode_name rows)) (type_name rows) (type_called (type_name rows)) (unwrap_or (all_of (codes "file") rows) [])
+abbrev pub format_line_in : List Row → Result FormatLine FormatUsage
+format_line_in rows = format_line_of (mode_name rows) (mode_called (mode_name rows)) (type_name rows) (type_called (type_name rows)) (unwrap_or (all_of (codes "file") rows) [])
 
 -- the line of the words, or why they are none
 abbrev pub format_line : List Bytes → Result FormatLine FormatUsage
 format_line words =
-    if length (fault_of buildifier_app words) == 0 then line_in (matches_of buildifier_app words) else Err clap_fault
+    if length (fault_of buildifier_app words) == 0 then format_line_in (matches_of buildifier_app words) else Err clap_fault

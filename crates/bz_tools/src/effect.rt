@@ -5,7 +5,7 @@ ghost use Rattle.bz_ports.specs.Outputs.{Tells, Counts, WritesUnlessClosed};
 ghost use Rattle.bz_ports.specs.Told.{stdin, named_line};
 ghost use Rattle.bz_tools.specs.FormatRun.{Prints, IsCutBy, unread_file, refused, file_out, input_out, is_rewritten, text_status, worse};
 ghost use Rattle.bz_tools.specs.FormatRun as r;
-ghost use Rattle.bz_tools.specs.FormatShown.{effect_of};
+ghost use Rattle.bz_tools.specs.FormatShown.{effect_seen};
 
 use crate::mode::Mode;
 use crate::{Cut, Sink};
@@ -95,7 +95,7 @@ pub(crate) fn fail<'a, E: Sink>(err: &mut E, name: &'a str, word: &'a str, cut: 
 
 /// Tells why a file was not read.
 pub(crate) fn unread_file<E: Sink>(err: &mut E, name: &str, fault: FileFault) -> Effect
-    ensures effect { result ≡ effect_of (unread_file name.now fault) }
+    ensures effect { result ≡ effect_seen (unread_file name.now fault) }
     ensures told { Tells (E.faults err.old) (E.faults err.new) (E.contents err.old) (E.contents err.new) (unread_file name.now fault).lines }
 {
     match fault {
@@ -107,7 +107,7 @@ pub(crate) fn unread_file<E: Sink>(err: &mut E, name: &str, fault: FileFault) ->
 
 /// Tells why a text has no formatted text.
 pub(crate) fn refused<E: Sink>(err: &mut E, name: &str, fault: &FormatFault) -> Effect
-    ensures effect { result ≡ effect_of (refused name.now fault.now) }
+    ensures effect { result ≡ effect_seen (refused name.now fault.now) }
     ensures told { Tells (E.faults err.old) (E.faults err.new) (E.contents err.old) (E.contents err.new) (refused name.now fault.now).lines }
 {
     match fault {
@@ -192,7 +192,7 @@ pub(crate) fn print<W: Sink, E: Sink>(
     text: &[u8],
     status: u8,
 ) -> Effect
-    ensures step { (effect : r.Effect) × Prints closed text.now status effect × (result ≡ effect_of effect)
+    ensures step { (effect : r.Effect) × Prints closed text.now status effect × (result ≡ effect_seen effect)
         × WritesUnlessClosed closed effect.closes (W.faults out.old) (W.faults out.new) (W.contents out.old) (W.contents out.new) effect.out
         × Tells (E.faults err.old) (E.faults err.new) (E.contents err.old) (E.contents err.new) effect.lines }
     ensures cut { IsCutBy result.cut 0 0 (W.faults out.old) (W.faults out.new) }

@@ -9,7 +9,7 @@ ghost use Rattle.bz_tools.specs.Modes.{format_line};
 ghost use Rattle.bz_tools.specs.FileKinds.{FormatsAs, is_bzl};
 ghost use Rattle.bz_tools.specs.FormatRun as r;
 ghost use Rattle.bz_tools.specs.FormatRun.{IsCutBy, Rewrites, FileStep, InputStep, FormatOutcome, IsFormatUsageLine, no_word_line, begun};
-ghost use Rattle.bz_tools.specs.FormatShown.{effect_of, progress_of, usage_of};
+ghost use Rattle.bz_tools.specs.FormatShown.{effect_seen, progress_of, usage_of};
 
 use crate::effect::{
     BEGUN, Effect, Progress, fail, file_out, grown, input_out, is_rewritten, print, refused,
@@ -39,7 +39,7 @@ fn rewrite<F: Files, E: Sink>(
     new: &[u8],
 ) -> Effect
     ensures step { F.honest files.old ≡ true → (effect : r.Effect) × Rewrites name.now text.now new.now (F.folder files.old) effect (F.folder files.new)
-        × (result ≡ effect_of effect)
+        × (result ≡ effect_seen effect)
         × Tells (E.faults err.old) (E.faults err.new) (E.contents err.old) (E.contents err.new) effect.lines }
     ensures open { result.closes ≡ false }
     ensures status { result.cut ≢ Cut.Whole → result.status ≡ 3 }
@@ -86,7 +86,7 @@ fn file_effect<F: Files, W: Sink, E: Sink>(
     err: &mut E,
 ) -> Effect
     ensures step { F.honest files.old ≡ true → (effect : r.Effect) × FileStep mode file_type name.now closed (F.folder files.old) effect (F.folder files.new)
-        × (result ≡ effect_of effect)
+        × (result ≡ effect_seen effect)
         × WritesUnlessClosed closed effect.closes (W.faults out.old) (W.faults out.new) (W.contents out.old) (W.contents out.new) effect.out
         × Tells (E.faults err.old) (E.faults err.new) (E.contents err.old) (E.contents err.new) effect.lines }
     ensures status { result.cut ≢ Cut.Whole → result.status ≡ 3 }
@@ -124,7 +124,7 @@ fn input_effect<R: Source, W: Sink, E: Sink>(
     err: &mut E,
 ) -> Effect
     ensures step { (effect : r.Effect) × InputStep mode file_type (R.remaining input.old) effect
-        × (result ≡ effect_of effect)
+        × (result ≡ effect_seen effect)
         × Writes effect.closes (W.faults out.old) (W.faults out.new) (W.contents out.old) (W.contents out.new) effect.out
         × Tells (E.faults err.old) (E.faults err.new) (E.contents err.old) (E.contents err.new) effect.lines }
     ensures status { result.cut ≢ Cut.Whole → result.status ≡ 3 }
@@ -162,7 +162,7 @@ fn run_files<F: Files, W: Sink, E: Sink>(
     err: &mut E,
 ) -> Progress
     ensures runs { F.honest files.old ≡ true → (run : r.Run) × (result ≡ progress_of run)
-        × r.Files mode file_type (map (λ name. name.now) names.now) begun (F.folder files.old) run (F.folder files.new)
+        × r.FilesFormatted mode file_type (map (λ name. name.now) names.now) begun (F.folder files.old) run (F.folder files.new)
         × Writes run.closed (W.faults out.old) (W.faults out.new) (W.contents out.old) (W.contents out.new) run.out
         × Tells (E.faults err.old) (E.faults err.new) (E.contents err.old) (E.contents err.new) run.lines }
     ensures status { result.cut ≢ Cut.Whole → result.status ≡ 3 }

@@ -7,12 +7,12 @@ use Rattle.bz_tree.specs.declared.tree.Node.{Node}
 use Rattle.bz_tree.specs.Spell.{spell_node}
 use Rattle.bz_edit.specs.declared.edit.Edit.{Edit}
 use Rattle.bz_edit.specs.Steps.{swap_node}
-use Rattle.bz_trail.specs.Trails.{are_even, Trail, IsTrail, LeadOn, AreSteps, behind, ahead, reached, crossed, trail_at}
+use Rattle.bz_trail.specs.Trails.{are_even, Trail, IsTrail, LeadOn, AreSteps, steps_back, steps_forward, reached, crossed, trail_at}
 use Rattle.bz_trail.specs.Shown.{Moves, trees_around}
 use Rattle.bz_trail.proofs.Sides.{AreSides, AreKept, passed, passed_on}
 
 -- a move over steps, whatever its two sides are made of
-moved : (w v : Trail) (a b c d : List (List Edit)) → behind w ≡ a → ahead w ≡ b → behind v ≡ c → ahead v ≡ d → v.cursor ≤ length v.steps
+moved : (w v : Trail) (a b c d : List (List Edit)) → steps_back w ≡ a → steps_forward w ≡ b → steps_back v ≡ c → steps_forward v ≡ d → v.cursor ≤ length v.steps
     → (AreSides w.tree a b → AreKept w.tree a b v.tree c d) → IsTrail w → Moves w v
 moved w v a b c d wa wb vc vd within kept h =
     let k = kept (record { tree = h.tree; leads_back = subst (LeadOn w.tree) wa h.back; leads_on = subst (LeadOn w.tree) wb h.forward }) in
@@ -20,7 +20,7 @@ moved w v a b c d wa wb vc vd within kept h =
       trail = record { tree = k.sides.tree; within = within; back = subst (LeadOn v.tree) (sym vc) k.sides.leads_back; forward = subst (LeadOn v.tree) (sym vd) k.sides.leads_on };
       texts =
           ap (map spell_node)
-          (ap (λ l. trees_around l v.tree (ahead v)) vc ∙ ap (trees_around c v.tree) vd ∙ k.trees_are ∙ sym (ap (λ l. trees_around l w.tree (ahead w)) wa ∙ ap (trees_around a w.tree) wb));
+          (ap (λ l. trees_around l v.tree (steps_forward v)) vc ∙ ap (trees_around c v.tree) vd ∙ k.trees_are ∙ sym (ap (λ l. trees_around l w.tree (steps_forward w)) wa ∙ ap (trees_around a w.tree) wb));
       small = λ s.
           let i = k.small_sides (subst (AreSteps w.tree) wa s.0) (subst (AreSteps w.tree) wb s.1) in
           (subst (AreSteps v.tree) (sym vc) i.0, subst (AreSteps v.tree) (sym vd) i.1);
@@ -61,13 +61,13 @@ moved_back w to h trail =
     let es = reverse m in
     let new = reverse (crossed w.tree es) in
     let size : length (take to w.steps) ≡ to = length-take-le to w.steps (omega (arith, trail.within)) in
-    let joined : take to w.steps ++ new ++ ahead w ≡ take to w.steps ++ (new ++ ahead w) = append_assoc (take to w.steps) new (ahead w) in
-    moved w (back_at w to) (es ++ reverse (take to w.steps)) (ahead w) (reverse (take to w.steps)) (new ++ ahead w)
+    let joined : take to w.steps ++ new ++ steps_forward w ≡ take to w.steps ++ (new ++ steps_forward w) = append_assoc (take to w.steps) new (steps_forward w) in
+    moved w (back_at w to) (es ++ reverse (take to w.steps)) (steps_forward w) (reverse (take to w.steps)) (new ++ steps_forward w)
     (cut_back w.steps to w.cursor h) refl
-    (ap (λ l. reverse (take to l)) joined ∙ ap reverse (take_at (take to w.steps) (new ++ ahead w) to size))
-    (ap (drop to) joined ∙ drop_at (take to w.steps) (new ++ ahead w) to size)
-    (omega (arith, ap length joined, size, length-append (take to w.steps) (new ++ ahead w)))
-    (passed w.tree es (reverse (take to w.steps)) (ahead w)) trail
+    (ap (λ l. reverse (take to l)) joined ∙ ap reverse (take_at (take to w.steps) (new ++ steps_forward w) to size))
+    (ap (drop to) joined ∙ drop_at (take to w.steps) (new ++ steps_forward w) to size)
+    (omega (arith, ap length joined, size, length-append (take to w.steps) (new ++ steps_forward w)))
+    (passed w.tree es (reverse (take to w.steps)) (steps_forward w)) trail
 
 abbrev pub forward_at : Trail → ℕ → Trail
 forward_at w to =
@@ -81,12 +81,12 @@ moved_forward w to h k trail =
     let front = take w.cursor w.steps ++ new in
     let first : length (take w.cursor w.steps) ≡ w.cursor = length-take-le w.cursor w.steps trail.within in
     let size : length front ≡ to = omega (arith, first, length-append (take w.cursor w.steps) new, crossed_length w.tree es, length-drop w.cursor (take to w.steps), length-take-le to w.steps k, ap length (between_is w.steps w.cursor to)) in
-    moved w (forward_at w to) (behind w) (es ++ drop to w.steps) (reverse new ++ behind w) (drop to w.steps)
+    moved w (forward_at w to) (steps_back w) (es ++ drop to w.steps) (reverse new ++ steps_back w) (drop to w.steps)
     refl (cut_forward w.steps w.cursor to h k)
     (ap reverse (take_at front (drop to w.steps) to size) ∙ reverse-append (take w.cursor w.steps) new)
     (drop_at front (drop to w.steps) to size)
     (omega (arith, size, length-append front (drop to w.steps)))
-    (passed_on w.tree es (behind w) (drop to w.steps)) trail
+    (passed_on w.tree es (steps_back w) (drop to w.steps)) trail
 
 -- ---- as the code has it
 
@@ -126,12 +126,12 @@ lead_forward w to old h le within o =
     subst (λ l. LeadOn w.tree (slice_range l w.cursor to)) (sym o)
     (lead_front w.tree (slice_range w.steps w.cursor to) (drop to w.steps) (subst (LeadOn w.tree) (cut_forward w.steps w.cursor to le within) h.forward))
 
-pub even_back : (w : Trail) (n : ℕ) (old : List (List Edit)) → IsTrail w → n ≤ w.cursor → old ≡ w.steps → are_even (take n (behind w)) ≡ true
+pub even_back : (w : Trail) (n : ℕ) (old : List (List Edit)) → IsTrail w → n ≤ w.cursor → old ≡ w.steps → are_even (take n (steps_back w)) ≡ true
     → are_even (reverse (slice_range old (w.cursor - n) w.cursor)) ≡ true
 even_back w n old h le o e =
     let to = w.cursor - n in
     let m = slice_range w.steps to w.cursor in
     let size : length (reverse m) ≡ n =
     omega (arith, h.within, length-reverse m, ap length (between_is w.steps to w.cursor), length-drop to (take w.cursor w.steps), length-take-le w.cursor w.steps h.within) in
-    let nearest : take n (behind w) ≡ reverse m = ap (take n) (cut_back w.steps to w.cursor (omega arith)) ∙ take_at (reverse m) (reverse (take to w.steps)) n size in
+    let nearest : take n (steps_back w) ≡ reverse m = ap (take n) (cut_back w.steps to w.cursor (omega arith)) ∙ take_at (reverse m) (reverse (take to w.steps)) n size in
     ap (λ l. are_even (reverse (slice_range l to w.cursor))) o ∙ sym (ap are_even nearest) ∙ e

@@ -11,7 +11,7 @@ use Rattle.bz_edit.specs.Between.{step}
 use Rattle.bz_edit.proofs.Turns.{apart_of, turned_step}
 use Rattle.bz_edit.proofs.Twice.{Back, twice}
 use Rattle.bz_edit.proofs.Turning.{step_turned}
-use Rattle.bz_trail.specs.Trails.{IsTree, Leads, LeadOn, AreSteps, trees, reached, crossed}
+use Rattle.bz_trail.specs.Trails.{IsTree, StepLeads, LeadOn, AreSteps, trees, reached, crossed}
 use Rattle.bz_trail.specs.Shown.{trees_around}
 
 pub record AreSides (n : Node) (back forward : List (List Edit)) : Type 0 where
@@ -30,11 +30,11 @@ cons_onto x xs ys = ap (λ zs. zs ++ ys) (reverse_onto xs x []) ∙ append_assoc
 
 -- ---- one step
 
-back_of : (n : Node) (e : List Edit) → Leads e n → Back n e
+back_of : (n : Node) (e : List Edit) → StepLeads e n → Back n e
 back_of n e leads = twice n e (apart_of e leads.is_step.0) leads.there
 
 -- the step that is turned leads back
-pub leads_back_of : (n : Node) (e : List Edit) → IsTree n → Leads e n → Leads (turned_all n e) (swap_node e n)
+pub leads_back_of : (n : Node) (e : List Edit) → IsTree n → StepLeads e n → StepLeads (turned_all n e) (swap_node e n)
 leads_back_of n e tree leads =
     let t = back_of n e leads in
     record {
@@ -44,11 +44,11 @@ leads_back_of n e tree leads =
       other = λ h. leads.other (sym h ∙ ap spell_node t.node);
     }
 
-pub returned : (n : Node) (e : List Edit) → Leads e n → swap_node (turned_all n e) (swap_node e n) ≡ n
+pub returned : (n : Node) (e : List Edit) → StepLeads e n → swap_node (turned_all n e) (swap_node e n) ≡ n
 returned n e leads = Back.node (back_of n e leads)
 
 -- and is the one between the two trees, where the step was
-small_back : (n : Node) (e : List Edit) → Leads e n → e ≡ step (swap_node e n) n → turned_all n e ≡ step (swap_node (turned_all n e) (swap_node e n)) (swap_node e n)
+small_back : (n : Node) (e : List Edit) → StepLeads e n → e ≡ step (swap_node e n) n → turned_all n e ≡ step (swap_node (turned_all n e) (swap_node e n)) (swap_node e n)
 small_back n e leads is =
     ap (turned_all n) is ∙ step_turned (swap_node e n) n ∙ sym (ap (λ (z : Node). step z (swap_node e n)) (returned n e leads))
 

@@ -8,7 +8,7 @@ use Rattle.bz_edit.specs.declared.edit.Edit.{Edit}
 use Rattle.bz_edit.specs.Steps.{IsStep, swap_node}
 use Rattle.bz_edit.specs.Between.{Least, step}
 use Rattle.bz_edit.proofs.Leads.{step_is_least}
-use Rattle.bz_trail.specs.Trails.{Trail, IsTrail, IsTree, Leads, LeadOn, AreSteps, behind, ahead, trees}
+use Rattle.bz_trail.specs.Trails.{Trail, IsTrail, IsTree, StepLeads, LeadOn, AreSteps, steps_back, steps_forward, trees}
 use Rattle.bz_trail.proofs.Passing.{trail_is}
 use Rattle.bz_trail.specs.Shown.{TakesUp, texts_of, trees_around}
 
@@ -18,7 +18,7 @@ kinds x y h k = h.0.file.root ∙ sym k.0.file.root
 least_of : (x y : Node) → IsTree x → IsTree y → Least (step x y) x y
 least_of x y h k = step_is_least x y (kinds x y h k)
 
-new_leads : (x y : Node) → IsTree x → IsTree y → IsStep (step x y) → (spell_node y ≡ spell_node x → ⊥) → Leads (step x y) y
+new_leads : (x y : Node) → IsTree x → IsTree y → IsStep (step x y) → (spell_node y ≡ spell_node x → ⊥) → StepLeads (step x y) y
 new_leads x y h k fine other =
     let l = least_of x y h k in
     record { is_step = fine; there = l.there; tree = subst IsTree (sym l.leads) h; other = λ e. other (sym e ∙ ap spell_node l.leads) }
@@ -46,10 +46,10 @@ trees_length n (e ∷ es) = ap (λ k. suc k) (trees_length (swap_node e n) es)
 append_one : {X : Type 0} (xs : List X) (x : X) (ys : List X) → xs ++ x ∷ [] ++ ys ≡ xs ++ x ∷ ys
 append_one xs x ys = append_assoc xs (x ∷ []) ys
 
-texts_before : (w : Trail) → w.cursor ≤ length w.steps → take (w.cursor + 1) (texts_of w) ≡ map spell_node (reverse (trees w.tree (behind w)) ++ w.tree ∷ [])
+texts_before : (w : Trail) → w.cursor ≤ length w.steps → take (w.cursor + 1) (texts_of w) ≡ map spell_node (reverse (trees w.tree (steps_back w)) ++ w.tree ∷ [])
 texts_before w h =
-    let back = reverse (trees w.tree (behind w)) in
-    let forward = trees w.tree (ahead w) in
+    let back = reverse (trees w.tree (steps_back w)) in
+    let forward = trees w.tree (steps_forward w) in
     let front = map spell_node (back ++ w.tree ∷ []) in
     let split : map spell_node (back ++ w.tree ∷ forward) ≡ front ++ map spell_node forward =
     map-append spell_node back (w.tree ∷ forward) ∙ sym (append_one (map spell_node back) (spell_node w.tree) (map spell_node forward)) ∙ ap (λ l. l ++ map spell_node forward) (sym (map-append spell_node back (w.tree ∷ []))) in
@@ -57,8 +57,8 @@ texts_before w h =
       arith,
       length-map (back ++ w.tree ∷ []) spell_node,
       length-append back (w.tree ∷ []),
-      length-reverse (trees w.tree (behind w)),
-      trees_length w.tree (behind w),
+      length-reverse (trees w.tree (steps_back w)),
+      trees_length w.tree (steps_back w),
       length-reverse (take w.cursor w.steps),
       length-take-le w.cursor w.steps h,
     ) in
@@ -68,11 +68,11 @@ texts_after : (w : Trail) (next : Node) → w.cursor ≤ length w.steps → swap
     → texts_of (taken_up w next) ≡ take (w.cursor + 1) (texts_of w) ++ spell_node next ∷ []
 texts_after w next h leads =
     let s = step w.tree next in
-    let around : trees_around (behind (taken_up w next)) next (ahead (taken_up w next)) ≡ reverse (trees next (s ∷ behind w)) ++ next ∷ [] =
-    ap (λ l. trees_around l next (ahead (taken_up w next))) (behind_new w.steps s w.cursor h) ∙ ap (trees_around (s ∷ behind w) next) (ahead_new w.steps s w.cursor h) in
-    let back : reverse (trees next (s ∷ behind w)) ≡ reverse (trees w.tree (behind w)) ++ w.tree ∷ [] =
-    ap (λ (z : Node). reverse (z ∷ trees z (behind w))) leads ∙ reverse_onto (trees w.tree (behind w)) w.tree [] in
-    ap (map spell_node) (around ∙ ap (λ l. l ++ next ∷ []) back) ∙ map-append spell_node (reverse (trees w.tree (behind w)) ++ w.tree ∷ []) (next ∷ [])
+    let around : trees_around (steps_back (taken_up w next)) next (steps_forward (taken_up w next)) ≡ reverse (trees next (s ∷ steps_back w)) ++ next ∷ [] =
+    ap (λ l. trees_around l next (steps_forward (taken_up w next))) (behind_new w.steps s w.cursor h) ∙ ap (trees_around (s ∷ steps_back w) next) (ahead_new w.steps s w.cursor h) in
+    let back : reverse (trees next (s ∷ steps_back w)) ≡ reverse (trees w.tree (steps_back w)) ++ w.tree ∷ [] =
+    ap (λ (z : Node). reverse (z ∷ trees z (steps_back w))) leads ∙ reverse_onto (trees w.tree (steps_back w)) w.tree [] in
+    ap (map spell_node) (around ∙ ap (λ l. l ++ next ∷ []) back) ∙ map-append spell_node (reverse (trees w.tree (steps_back w)) ++ w.tree ∷ []) (next ∷ [])
     ∙ ap (λ l. l ++ spell_node next ∷ []) (sym (texts_before w h))
 
 pub taken : (w : Trail) (next : Node) → IsTrail w → IsTree next → IsStep (step w.tree next) → (spell_node next ≡ spell_node w.tree → ⊥) → TakesUp w next (taken_up w next)
@@ -80,20 +80,20 @@ taken w next h k fine other =
     let s = step w.tree next in
     let v = taken_up w next in
     let l = least_of w.tree next h.tree k in
-    let back : behind v ≡ s ∷ behind w = behind_new w.steps s w.cursor h.within in
-    let on : ahead v ≡ [] = ahead_new w.steps s w.cursor h.within in
+    let back : steps_back v ≡ s ∷ steps_back w = behind_new w.steps s w.cursor h.within in
+    let on : steps_forward v ≡ [] = ahead_new w.steps s w.cursor h.within in
     let size : length (take w.cursor w.steps) ≡ w.cursor = length-take-le w.cursor w.steps h.within in
     record {
       trail = record {
         tree = k;
         within = omega (arith, size, length-append (take w.cursor w.steps) (s ∷ []));
-        back = subst (LeadOn next) (sym back) (new_leads w.tree next h.tree k fine other, subst (λ (z : Node). LeadOn z (behind w)) (sym l.leads) h.back);
+        back = subst (LeadOn next) (sym back) (new_leads w.tree next h.tree k fine other, subst (λ (z : Node). LeadOn z (steps_back w)) (sym l.leads) h.back);
         forward = subst (LeadOn next) (sym on) tt;
       };
       tree = refl;
       texts = texts_after w next h.within l.leads;
       small = λ i. (
-        subst (AreSteps next) (sym back) (ap (λ (z : Node). step z next) (sym l.leads), subst (λ (z : Node). AreSteps z (behind w)) (sym l.leads) i.0),
+        subst (AreSteps next) (sym back) (ap (λ (z : Node). step z next) (sym l.leads), subst (λ (z : Node). AreSteps z (steps_back w)) (sym l.leads) i.0),
         subst (AreSteps next) (sym on) tt,
       );
     }

@@ -7,7 +7,7 @@ use Rattle.bz_tree.specs.Spell.{spell_node}
 use Rattle.bz_edit.specs.declared.edit.Edit.{Edit}
 use Rattle.bz_edit.specs.Steps.{swap_node}
 use Rattle.bz_edit.specs.Between.{step}
-use Rattle.bz_trail.specs.Trails.{HasLeast, IsSmall, IsTrail, IsTree, Leads, Trail, behind, ahead, trail_at, trees}
+use Rattle.bz_trail.specs.Trails.{HasLeast, IsSmall, IsTrail, IsTree, StepLeads, Trail, steps_back, steps_forward, trail_at, trees}
 
 abbrev pub Text : Type 0
 Text = List ℕ
@@ -18,14 +18,14 @@ trees_around back n forward = reverse (trees n back) ++ n ∷ trees n forward
 
 -- the trees of the texts, in the order in which they came
 abbrev pub trees_of : Trail → List Node
-trees_of t = trees_around (behind t) t.tree (ahead t)
+trees_of t = trees_around (steps_back t) t.tree (steps_forward t)
 
 -- the texts, in the order in which they came
 abbrev pub texts_of : Trail → List Text
 texts_of t = map spell_node (trees_of t)
 
 -- what the texts of each trail are: accepted, one more than steps, the one at the cursor that of the tree
-pub record IsKept (t : Trail) : Type 0 where
+pub record IsKeptTrail (t : Trail) : Type 0 where
   pub accepted : All Accepted (texts_of t)
   pub counted : length (texts_of t) ≡ length t.steps + 1
   pub within : t.cursor < length (texts_of t)
@@ -50,7 +50,7 @@ pub record TakesUp (old : Trail) (next : Node) (new : Trail) : Type 0 where
 
 -- the step leads from the second tree to the first
 abbrev pub LeadsTo : List Edit → Node → Node → Type 0
-LeadsTo e y x = Leads e y × (swap_node e y ≡ x)
+LeadsTo e y x = StepLeads e y × (swap_node e y ≡ x)
 
 -- Step i stands between trees i and i + 1: before the cursor it leads back, and from there on forward.
 abbrev pub StepsLead : Trail → Type 0
@@ -71,7 +71,7 @@ StepsAreBetween t = (i : ℕ) (d : Node) → i < length t.steps →
 -- ---- laws
 
 abbrev pub TrailsKeep : Type 0
-TrailsKeep = (t : Trail) → IsTrail t → IsKept t
+TrailsKeep = (t : Trail) → IsTrail t → IsKeptTrail t
 
 abbrev pub TrailsLead : Type 0
 TrailsLead = (t : Trail) → IsTrail t → StepsLead t

@@ -17,12 +17,12 @@ abbrev pub trail_at : Node → List (List Edit) → ℕ → Trail
 trail_at tree steps cursor = record { tree = tree; steps = steps; cursor = cursor }
 
 -- the steps that lead back, the nearest first
-abbrev pub behind : Trail → List (List Edit)
-behind t = reverse (take t.cursor t.steps)
+abbrev pub steps_back : Trail → List (List Edit)
+steps_back t = reverse (take t.cursor t.steps)
 
 -- those that lead forward, the nearest first
-abbrev pub ahead : Trail → List (List Edit)
-ahead t = drop t.cursor t.steps
+abbrev pub steps_forward : Trail → List (List Edit)
+steps_forward t = drop t.cursor t.steps
 
 -- ---- over steps, the nearest first
 
@@ -53,7 +53,7 @@ abbrev pub IsTree : Node → Type 0
 IsTree n = Legal n × (length (spell_node n) ≤ limit)
 
 -- the step is well formed and small enough, its places are there, and it leads to a tree that spells another text
-pub record Leads (e : List Edit) (n : Node) : Type 0 where
+pub record StepLeads (e : List Edit) (n : Node) : Type 0 where
   pub is_step : IsStep e
   pub there : all_there e n ≡ true
   pub tree : IsTree (swap_node e n)
@@ -62,13 +62,13 @@ pub record Leads (e : List Edit) (n : Node) : Type 0 where
 -- each step leads on from the tree that those before it lead to
 abbrev pub LeadOn : Node → List (List Edit) → Type 0
 LeadOn n [] = Unit {0}
-LeadOn n (e ∷ es) = Leads e n × LeadOn (swap_node e n) es
+LeadOn n (e ∷ es) = StepLeads e n × LeadOn (swap_node e n) es
 
 pub record IsTrail (t : Trail) : Type 0 where
   pub tree : IsTree t.tree
   pub within : t.cursor ≤ length t.steps
-  pub back : LeadOn t.tree (behind t)
-  pub forward : LeadOn t.tree (ahead t)
+  pub back : LeadOn t.tree (steps_back t)
+  pub forward : LeadOn t.tree (steps_forward t)
 
 -- ---- which trails are small
 
@@ -78,7 +78,7 @@ AreSteps n [] = Unit {0}
 AreSteps n (e ∷ es) = (e ≡ step (swap_node e n) n) × AreSteps (swap_node e n) es
 
 abbrev pub IsSmall : Trail → Type 0
-IsSmall t = AreSteps t.tree (behind t) × AreSteps t.tree (ahead t)
+IsSmall t = AreSteps t.tree (steps_back t) × AreSteps t.tree (steps_forward t)
 
 -- no well-formed step that leads to the same tree weighs less
 abbrev pub AreLeast : Node → List (List Edit) → Type 0
@@ -86,4 +86,4 @@ AreLeast n [] = Unit {0}
 AreLeast n (e ∷ es) = Least e (swap_node e n) n × AreLeast (swap_node e n) es
 
 abbrev pub HasLeast : Trail → Type 0
-HasLeast t = AreLeast t.tree (behind t) × AreLeast t.tree (ahead t)
+HasLeast t = AreLeast t.tree (steps_back t) × AreLeast t.tree (steps_forward t)

@@ -1,7 +1,7 @@
 //! Over steps, from tree to tree.
 ghost use Rattle.std.specs.Prelude.{◌≡◌, ◌≤◌, true, drop, take, slice_range, reverse, length, ◌++◌, IfOk, OnOk, OnErr, IsOk};
 ghost use Rattle.bz_edit.specs.Steps.{all_even as even_edits, swap_node, turned_all};
-ghost use Rattle.bz_trail.specs.Trails.{IsTree, Leads, LeadOn, reached, crossed, are_even as even_steps};
+ghost use Rattle.bz_trail.specs.Trails.{IsTree, StepLeads, LeadOn, reached, crossed, are_even as even_steps};
 
 use bz_edit::{EditFault, Step, all_even, exchange, swap_each};
 use bz_items::{Items, Memory};
@@ -46,7 +46,7 @@ fn cross_even(tree: &mut Tree, steps: &mut [Step])
 
 /// Over one step. An even one takes no memory. The error: a growth was refused; both are then as before.
 fn cross(tree: &mut Tree, step: &mut Step) -> Result<(), Memory>
-    requires { Leads step.old tree.old }
+    requires { StepLeads step.old tree.old }
     ensures tree { OnOk result (tree.new ≡ swap_node step.old tree.old) }
     ensures step { OnOk result (step.new ≡ turned_all tree.old step.old) }
     ensures err { OnErr result ((tree.new ≡ tree.old) × (step.new ≡ step.old)) }
@@ -62,7 +62,7 @@ fn cross(tree: &mut Tree, step: &mut Step) -> Result<(), Memory>
 /// Over one step, whose edits may be uneven. The error: a growth was refused; root and step are then somewhere between.
 fn cross_one(root: &mut Node, step: &mut Step) -> Result<(), Memory>
     requires tree { IsTree root.old }
-    requires lead { Leads step.old root.old }
+    requires lead { StepLeads step.old root.old }
     ensures root { OnOk result (root.new ≡ swap_node step.old root.old) }
     ensures step { OnOk result (step.new ≡ turned_all root.old step.old) }
 {

@@ -2,9 +2,9 @@
 ghost use Rattle.std.specs.Prelude.{◌≡◌, ◌-◌, ◌+◌, ◌≤◌, ◌<◌, ◌++◌, ◌∷◌, [], true, false, take, length, vec_len, vec_capacity, IfOk, OnOk, OnErr, IsOk, IsTrue};
 ghost use Rattle.bz_tree.specs.Spell.{spell_node};
 ghost use Rattle.bz_tree.specs.Places.{Ascend};
-ghost use Rattle.bz_edit.specs.Places.{put, with_parts};
+ghost use Rattle.bz_edit.specs.Places.{parts_put, with_parts_in};
 ghost use Rattle.bz_trail.specs.Shown.{Moves, TakesUp};
-ghost use Rattle.bz_trail.specs.Trails.{IsTrail, IsTree, trail_at, behind, ahead, are_even};
+ghost use Rattle.bz_trail.specs.Trails.{IsTrail, IsTree, trail_at, steps_back, steps_forward, are_even};
 
 use crate::crossing::{cross_back, cross_forward};
 use bz_edit::{Step, advance, advance_across, advance_at};
@@ -50,11 +50,11 @@ pub fn take_up_at(
     lines: &mut [Part],
 ) -> Result<(), Memory>
     requires trail { IsTrail (trail_at tree.old steps.old.items cursor) }
-    requires next { IsTree (with_parts places.now lines.old tree.old) }
+    requires next { IsTree (with_parts_in places.now lines.old tree.old) }
     requires count { length places.now ≡ length lines.old }
     requires ascend { Ascend 0 (length tree.old.parts) places.now }
-    requires other { spell_node (with_parts places.now lines.old tree.old) ≡ spell_node tree.old → ⊥ }
-    ensures ok { OnOk result (TakesUp (trail_at tree.old steps.old.items cursor) (with_parts places.now lines.old tree.old) (trail_at tree.new steps.new.items (cursor + 1))) }
+    requires other { spell_node (with_parts_in places.now lines.old tree.old) ≡ spell_node tree.old → ⊥ }
+    ensures ok { OnOk result (TakesUp (trail_at tree.old steps.old.items cursor) (with_parts_in places.now lines.old tree.old) (trail_at tree.new steps.new.items (cursor + 1))) }
     ensures err { OnErr result ((tree.new ≡ tree.old) × (steps.new.items ≡ steps.old.items)) }
 {
     steps.reserve(1)?;
@@ -76,9 +76,9 @@ pub fn take_up_across(
 ) -> Result<bool, Memory>
     requires trail { IsTrail (trail_at tree.old steps.old.items cursor) }
     requires there { at + gone ≤ length tree.old.parts }
-    requires next { IsTree (put [] at gone lines tree.old) }
-    requires other { spell_node (put [] at gone lines tree.old) ≡ spell_node tree.old → ⊥ }
-    ensures ok { IfOk result (λ taken. IsTrue taken → TakesUp (trail_at tree.old steps.old.items cursor) (put [] at gone lines tree.old) (trail_at tree.new steps.new.items (cursor + 1))) }
+    requires next { IsTree (parts_put [] at gone lines tree.old) }
+    requires other { spell_node (parts_put [] at gone lines tree.old) ≡ spell_node tree.old → ⊥ }
+    ensures ok { IfOk result (λ taken. IsTrue taken → TakesUp (trail_at tree.old steps.old.items cursor) (parts_put [] at gone lines tree.old) (trail_at tree.new steps.new.items (cursor + 1))) }
     ensures stays { IfOk result (λ taken. taken ≡ false → (tree.new ≡ tree.old) × (steps.new.items ≡ steps.old.items)) }
     ensures err { OnErr result ((tree.new ≡ tree.old) × (steps.new.items ≡ steps.old.items)) }
 {
@@ -97,7 +97,7 @@ pub fn go_back(tree: &mut Tree, steps: &mut [Step], cursor: usize, n: usize) -> 
     requires trail { IsTrail (trail_at tree.old steps.old cursor) }
     requires within { n ≤ cursor }
     ensures ok { OnOk result (Moves (trail_at tree.old steps.old cursor) (trail_at tree.new steps.new (cursor - n))) }
-    ensures even { are_even (take n (behind (trail_at tree.old steps.old cursor))) ≡ true → IsOk result }
+    ensures even { are_even (take n (steps_back (trail_at tree.old steps.old cursor))) ≡ true → IsOk result }
     ensures err { OnErr result ((tree.new ≡ tree.old) × (steps.new ≡ steps.old)) }
 {
     cross_back(tree, steps, cursor - n, cursor)
@@ -114,7 +114,7 @@ pub fn go_forward(
     requires trail { IsTrail (trail_at tree.old steps.old cursor) }
     requires within { cursor + n ≤ length steps.old }
     ensures ok { OnOk result (Moves (trail_at tree.old steps.old cursor) (trail_at tree.new steps.new (cursor + n))) }
-    ensures even { are_even (take n (ahead (trail_at tree.old steps.old cursor))) ≡ true → IsOk result }
+    ensures even { are_even (take n (steps_forward (trail_at tree.old steps.old cursor))) ≡ true → IsOk result }
     ensures err { OnErr result ((tree.new ≡ tree.old) × (steps.new ≡ steps.old)) }
 {
     cross_forward(tree, steps, cursor, cursor + n)

@@ -19,7 +19,7 @@ use Rattle.bz_tree.specs.declared.tree.Part.TheVariants as v
 use Rattle.bz_tree.specs.Spell.{leaves_part, leaves_of, deepest}
 use Rattle.bz_tree.specs.Kinds.{kind_number}
 use Rattle.bz_tree.specs.Shapes as s
-use Rattle.bz_tree.specs.Shapes.{Sort, Terminal, Shape, Fits, Listed, Several, shape, bzl_shape, is_kind, has_token, is_one_of, is_terminal, has_kind, leaves_at}
+use Rattle.bz_tree.specs.Shapes.{Sort, Terminal, Shape, Fits, Listed, Several, shape, bzl_shape, is_kind, has_token, is_one_of, is_terminal, sort_has_kind, leaves_at}
 use Rattle.bz_tree.specs.Reading.{starts, starts_with}
 use Rattle.bz_tree.specs.Spots.{Spot, Begins, Within, Along, GapStands, Stands, BzlGapStands, BzlStands}
 use Rattle.bz_tree.specs.Indents.{first_indent, Indented, AreIndented}
@@ -109,7 +109,7 @@ quiet (s.list a ts last r) = inner_sort a && (all_quiet ts && quiet r)
 quiet (s.each a r) = inner_sort a && quiet r
 quiet (s.times group r) = false
 
-kind_quiet : (a : Sort) (kind : Kind) → inner_sort a ≡ true → has_kind a kind ≡ true → quiet (bzl_shape kind) ≡ true
+kind_quiet : (a : Sort) (kind : Kind) → inner_sort a ≡ true → sort_has_kind a kind ≡ true → quiet (bzl_shape kind) ≡ true
 kind_quiet a k.File h i = no_such (sym (not_file a) ∙ i)
 kind_quiet a k.Line h i = no_such (sym (not_lines a k.Line refl h) ∙ i)
 kind_quiet a k.Def h i = no_such (sym (not_lines a k.Def refl h) ∙ i)
@@ -229,7 +229,7 @@ shallower_inside (Inside zero) = refl
 shallower_inside (Inside (suc n)) = refl
 shallower_inside _ = refl
 
-next_inside : (p : Place) (class : Class) (token : List ℕ) → quiet_class class ≡ true → inside (z.behind class token p) ≡ true
+next_inside : (p : Place) (class : Class) (token : List ℕ) → quiet_class class ≡ true → inside (z.after_token class token p) ≡ true
 next_inside p c.Newline token h = no_such h
 next_inside p c.End token h = no_such h
 next_inside p c.Mark token h = cond_inside (is_opening token) _ _ (deeper_inside p) (cond_inside (is_closing token) _ _ (shallower_inside p) (same_inside p))
@@ -242,7 +242,7 @@ inside_any _ l h = no_such h
 
 flat_line : (p : Place) → inside p ≡ true → (ls : List Leaf) → Quiet ls → (l : Leaf) → l.class ≡ c.Newline → (rest : List Leaf) → Flat F p (ls ++ l ∷ rest) ↔ Flat F (behind_newline l.token) rest
 flat_line p i [] q l e rest =
-    let there : next p l ≡ behind_newline l.token = ap (λ class. z.behind class l.token p) e in
+    let there : next p l ≡ behind_newline l.token = ap (λ class. z.after_token class l.token p) e in
     ((λ h. subst (λ place. Flat F place rest) there h.1), (λ h. (inside_any p l i, subst (λ place. Flat F place rest) (sym there) h)))
 flat_line p i (m ∷ ls) q l e rest =
     let w = flat_line (next p m) (next_inside p m.class m.token q.0) ls q.1 l e rest in
@@ -270,7 +270,7 @@ line_here p b (m ∷ ls) q l e o rest =
       from = λ g h. (subst (λ (here : Spot). F here m) (sym b) (λ _. flush_none m.gap g), subst (Flat F (next p m)) (sym text) (w.1 h));
     }
 
-line_kind : (kind : Kind) → has_kind s.stmt kind ≡ true → kind_number kind < kind_number k.Def → kind ≡ k.Line
+line_kind : (kind : Kind) → sort_has_kind s.stmt kind ≡ true → kind_number kind < kind_number k.Def → kind ≡ k.Line
 line_kind k.Line h g = refl
 line_kind k.Def h g = absurd (omega (arith, g))
 line_kind k.IfStmt h g = absurd (omega (arith, g))
@@ -284,7 +284,7 @@ module _ (n : Node) (kind : n.kind ≡ k.Line) (legal : LegalBzlPart (v.Node n))
 
   line_starts : starts_with (starts s.stmt) (leaves_of n) ≡ true
   line_starts =
-      let here : At (deepest (v.Node n ∷ [])) s.stmt (v.Node n) = (subst (λ kd. has_kind s.stmt kd ≡ true) (sym kind) refl, legal, omega arith) in
+      let here : At (deepest (v.Node n ∷ [])) s.stmt (v.Node n) = (subst (λ kd. sort_has_kind s.stmt kd ≡ true) (sym kind) refl, legal, omega arith) in
       ap (starts_with (starts s.stmt)) (sym (append-nil (leaves_part (v.Node n)) ∙ leaves_Node n)) ∙ begins _ s.stmt (v.Node n) [] here
 
   node_here : (p : Place) → spot_of p ≡ Begins → (rest : List Leaf) → LineHere p (leaves_of n) rest
@@ -332,7 +332,7 @@ only_lines : (K : List Part → Type 0) (ps : List Part) → Several (IsSort s.s
 only_lines K [] h u = h
 only_lines K (x ∷ xs) (inl h) u = inl h
 only_lines K (v.Leaf l ∷ xs) (inr h) u = no_such h.0
-only_lines K (Node' kind size row ∷ xs) (inr h) u = inr (subst (λ kd. has_kind s.line kd ≡ true) (sym (line_kind kind h.0 u.0.0)) refl, only_lines K xs h.1 u.1)
+only_lines K (Node' kind size row ∷ xs) (inr h) u = inr (subst (λ kd. sort_has_kind s.line kd ≡ true) (sym (line_kind kind h.0 u.0.0)) refl, only_lines K xs h.1 u.1)
 
 -- ---- the shapes of BUILD files
 

@@ -8,8 +8,8 @@ use Rattle.bz_tree.specs.declared.tree.Node.{Node}
 use Rattle.bz_tree.specs.declared.tree.Part.{Part}
 use Rattle.bz_tree.specs.declared.tree.Part.TheVariants as v
 use Rattle.bz_tree.specs.Spell.{leaves_part}
-use Rattle.bz_tree.specs.Shapes.{is_one_of, has_token, Sort, level, argument, entry, clause, first_clause, loaded, small, line, param, stmt, suite, test, starred, simple, string, name, leaves_at, has_kind, Fits, bzl_shape}
-use Rattle.bz_tree.specs.Reading.{Read, starts_with, starts_level, first, run, node, wrap, wrap_found, follow, token_of, infix_at, prefix_at, climb, shape_at, named_tail, param_tail, read_argument, read_param, reading, clause_plan, small_plan}
+use Rattle.bz_tree.specs.Shapes.{is_one_of, has_token, Sort, level, argument, entry, clause, first_clause, loaded, small, line, param, stmt, suite, test, starred, simple, string, name, leaves_at, sort_has_kind, Fits, bzl_shape}
+use Rattle.bz_tree.specs.Reading.{Read, starts_with, starts_level, first, run, node_part, wrap, wrap_found, follow, token_part, infix_at, prefix_at, climb, shape_at, named_tail, param_tail, read_argument, read_param, reading, clause_plan, small_plan}
 use Rattle.bz_tree.proofs.Nested.{leaf_or_node}
 use Rattle.bz_tree.proofs.Terminals.{disjoint_at, subset, subset-one_of}
 use Rattle.bz_tree.proofs.Exact.{all_leaves, token_leaf, Exact}
@@ -43,7 +43,7 @@ IsNamed d x = Begun k.Named (has_token name) (At (suc d) test) (Fits (At d) name
 abbrev Argument : ℕ → Part → Type 0
 Argument d x = (IsTest d x ⊎ IsNamed d x) ⊎ Wrapped k.Star (Fits (At d) (bzl_shape k.Star)) x
 
-test_kind : (kind : Kind) → has_kind test kind ≡ true → has_kind argument kind ≡ true
+test_kind : (kind : Kind) → sort_has_kind test kind ≡ true → sort_has_kind argument kind ≡ true
 test_kind k.File e = no e
 test_kind k.Line e = no e
 test_kind k.Bare e = no e
@@ -87,11 +87,11 @@ name_test d a h =
       | inr (n, is) ↦ let g : false ≡ true = rw is at h in no g
     ]
 
-named_begun : (d : ℕ) (ps : List Part) → Fits (At d) (bzl_shape k.Named) ps → IsNamed d (node k.Named ps)
+named_begun : (d : ℕ) (ps : List Part) → Fits (At d) (bzl_shape k.Named) ps → IsNamed d (node_part k.Named ps)
 named_begun d [] h = absurd h
 named_begun d (a ∷ ps) h = (a, ps, refl, name_test (suc d) a h.0, h.0, h.1)
 
-argument_node : (d : ℕ) (kind : Kind) (ps : List Part) → At (suc d) argument (node kind ps) → Argument d (node kind ps)
+argument_node : (d : ℕ) (kind : Kind) (ps : List Part) → At (suc d) argument (node_part kind ps) → Argument d (node_part kind ps)
 argument_node d k.Named ps h = inl (inr (named_begun d ps (node_fits d argument (record { kind = k.Named; parts = ps }) h)))
 argument_node d k.Star ps h = inr (ps, refl, node_fits d argument (record { kind = k.Star; parts = ps }) h)
 argument_node d k.File ps h = no h.0
@@ -128,35 +128,35 @@ no_star d x rest (inr (a, ps, e, h, m, t)) =
 -- ---- nodes of one kind
 
 -- a sort that one kind has, and no leaf
-one_kind : (d : ℕ) (q : Sort) (kind : Kind) (x : Part) → ((l : Leaf) → is_one_of (leaves_at q) l ≡ false) → ((other : Kind) → has_kind q other ≡ true → other ≡ kind) → At (suc d) q x → Wrapped kind (Fits (At d) (bzl_shape kind)) x
+one_kind : (d : ℕ) (q : Sort) (kind : Kind) (x : Part) → ((l : Leaf) → is_one_of (leaves_at q) l ≡ false) → ((other : Kind) → sort_has_kind q other ≡ true → other ≡ kind) → At (suc d) q x → Wrapped kind (Fits (At d) (bzl_shape kind)) x
 one_kind d q kind x no_leaf only h =
     elim (by_part (suc d) q x h) [
       | inl l ↦ absurd (both_ways (is_one_of (leaves_at q) l.0) (no_leaf l.0) l.2)
       | inr (n, is, g) ↦
           let e = only n.kind g.0 in
-          (n.parts, is ∙ ap (λ (other : Kind). node other n.parts) e, rw e at (node_fits d q n g))
+          (n.parts, is ∙ ap (λ (other : Kind). node_part other n.parts) e, rw e at (node_fits d q n g))
     ]
 
-wrapped_at : (d : ℕ) (q : Sort) (kind : Kind) (x : Part) → has_kind q kind ≡ true → Wrapped kind (Fits (At d) (bzl_shape kind)) x → At (suc d) q x
+wrapped_at : (d : ℕ) (q : Sort) (kind : Kind) (x : Part) → sort_has_kind q kind ≡ true → Wrapped kind (Fits (At d) (bzl_shape kind)) x → At (suc d) q x
 wrapped_at d q kind x e h = rw h.1 (made_node d q kind h.0 e h.2)
 
-only_entry : (other : Kind) → has_kind entry other ≡ true → other ≡ k.Entry
+only_entry : (other : Kind) → sort_has_kind entry other ≡ true → other ≡ k.Entry
 only_entry k.Entry e = refl
 only_entry other e = no e
 
-only_for : (other : Kind) → has_kind first_clause other ≡ true → other ≡ k.For
+only_for : (other : Kind) → sort_has_kind first_clause other ≡ true → other ≡ k.For
 only_for k.For e = refl
 only_for other e = no e
 
-only_alias : (other : Kind) → has_kind loaded other ≡ true → other ≡ k.Alias
+only_alias : (other : Kind) → sort_has_kind loaded other ≡ true → other ≡ k.Alias
 only_alias k.Alias e = refl
 only_alias other e = no e
 
-only_param : (other : Kind) → has_kind param other ≡ true → other ≡ k.Param
+only_param : (other : Kind) → sort_has_kind param other ≡ true → other ≡ k.Param
 only_param k.Param e = refl
 only_param other e = no e
 
-only_line : (other : Kind) → has_kind line other ≡ true → other ≡ k.Line
+only_line : (other : Kind) → sort_has_kind line other ≡ true → other ≡ k.Line
 only_line k.Line e = refl
 only_line other e = no e
 
@@ -177,21 +177,21 @@ module _ (d : ℕ) (inner : Sort → Read Part) (exact : (q : Sort) → by_table
       (λ x rest h. disjoint_at (starts_level 13) (first (bzl_shape k.Star)) (leaves_part x ++ rest) refl (no_star d x rest h)) refl refl)
 
   -- a sort that one kind has is read by the kind's shape
-  kind_exact : (q : Sort) (kind : Kind) → tells goes (bzl_shape kind) ≡ true → subset (go goes (bzl_shape kind)) (goes q) ≡ true → has_kind q kind ≡ true → ((l : Leaf) → is_one_of (leaves_at q) l ≡ false) → ((other : Kind) → has_kind q other ≡ true → other ≡ kind)
+  kind_exact : (q : Sort) (kind : Kind) → tells goes (bzl_shape kind) ≡ true → subset (go goes (bzl_shape kind)) (goes q) ≡ true → sort_has_kind q kind ≡ true → ((l : Leaf) → is_one_of (leaves_at q) l ≡ false) → ((other : Kind) → sort_has_kind q other ≡ true → other ≡ kind)
       → Exact Part leaves_part (At (suc d) q) (goes q) (λ ts. wrap kind (run inner (bzl_shape kind) ts))
   kind_exact q kind ok within e no_leaf only =
       exact_like leaves_part (Wrapped kind (Fits (At d) (bzl_shape kind))) (At (suc d) q) (goes q) (λ ts. wrap kind (run inner (bzl_shape kind) ts)) (λ x h. wrapped_at d q kind x e h) (λ x h. one_kind d q kind x no_leaf only h)
       (exact_within leaves_part (Wrapped kind (Fits (At d) (bzl_shape kind))) (go goes (bzl_shape kind)) (goes q) (λ ts. wrap kind (run inner (bzl_shape kind) ts)) within
       (wrapped_exact kind (bzl_shape kind) inner (Fits (At d) (bzl_shape kind)) (go goes (bzl_shape kind)) (run_exact (At d) (begins d) goes inner exact (bzl_shape kind) ok)))
 
-  clause_from : (x : Part) → At (suc d) clause x → (f : Kind × List Part) × (x ≡ node f.0 f.1) × Finds (At d) clause_plan f.0 f.1
+  clause_from : (x : Part) → At (suc d) clause x → (f : Kind × List Part) × (x ≡ node_part f.0 f.1) × Finds (At d) clause_plan f.0 f.1
   clause_from x h =
       elim (by_part (suc d) clause x h) [
         | inl l ↦ no l.2
         | inr (n, is, g) ↦ ((n.kind, n.parts), is, finds_clause (At d) n.kind n.parts g.0 (node_fits d clause n g))
       ]
 
-  small_from : (x : Part) → At (suc d) small x → (f : Kind × List Part) × (x ≡ node f.0 f.1) × Finds (At d) small_plan f.0 f.1
+  small_from : (x : Part) → At (suc d) small x → (f : Kind × List Part) × (x ≡ node_part f.0 f.1) × Finds (At d) small_plan f.0 f.1
   small_from x h =
       elim (by_part (suc d) small x h) [
         | inl l ↦ no l.2
@@ -202,14 +202,14 @@ module _ (d : ℕ) (inner : Sort → Read Part) (exact : (q : Sort) → by_table
   clause_exact =
       let found = made_exact (At d) clause_plan inner (go_on goes clause_plan) (plan_exact (At d) (begins d) goes inner exact clause_plan refl) in
       exact_within leaves_part (At (suc d) clause) (go_on goes clause_plan) (goes clause) (λ ts. wrap_found (follow inner clause_plan ts)) refl
-      (exact_like leaves_part (λ x. (f : Kind × List Part) × (x ≡ node f.0 f.1) × Finds (At d) clause_plan f.0 f.1) (At (suc d) clause) (go_on goes clause_plan) (λ ts. wrap_found (follow inner clause_plan ts))
+      (exact_like leaves_part (λ x. (f : Kind × List Part) × (x ≡ node_part f.0 f.1) × Finds (At d) clause_plan f.0 f.1) (At (suc d) clause) (go_on goes clause_plan) (λ ts. wrap_found (follow inner clause_plan ts))
       (λ x h. rw h.1 (made_at d clause clause_plan (clause_agrees (At d)) h.0.0 h.0.1 h.2)) clause_from found)
 
   small_exact : Exact Part leaves_part (At (suc d) small) (goes small) (λ ts. wrap_found (follow inner small_plan ts))
   small_exact =
       let found = made_exact (At d) small_plan inner (go_on goes small_plan) (plan_exact (At d) (begins d) goes inner exact small_plan refl) in
       exact_within leaves_part (At (suc d) small) (go_on goes small_plan) (goes small) (λ ts. wrap_found (follow inner small_plan ts)) refl
-      (exact_like leaves_part (λ x. (f : Kind × List Part) × (x ≡ node f.0 f.1) × Finds (At d) small_plan f.0 f.1) (At (suc d) small) (go_on goes small_plan) (λ ts. wrap_found (follow inner small_plan ts))
+      (exact_like leaves_part (λ x. (f : Kind × List Part) × (x ≡ node_part f.0 f.1) × Finds (At d) small_plan f.0 f.1) (At (suc d) small) (go_on goes small_plan) (λ ts. wrap_found (follow inner small_plan ts))
       (λ x h. rw h.1 (made_at d small small_plan (small_agrees (At d)) h.0.0 h.0.1 h.2)) small_from found)
 
   loaded_is : (x : Part) → (IsLeaf string x ⊎ Wrapped k.Alias (Fits (At d) (bzl_shape k.Alias)) x) → At (suc d) loaded x
@@ -222,13 +222,13 @@ module _ (d : ℕ) (inner : Sort → Read Part) (exact : (q : Sort) → by_table
         | inl l ↦ inl l
         | inr (n, is, g) ↦
             let e = only_alias n.kind g.0 in
-            inr (n.parts, is ∙ ap (λ (other : Kind). node other n.parts) e, rw e at (node_fits d loaded n g))
+            inr (n.parts, is ∙ ap (λ (other : Kind). node_part other n.parts) e, rw e at (node_fits d loaded n g))
       ]
 
-  loaded_exact : Exact Part leaves_part (At (suc d) loaded) (goes loaded) (prefix_at k.Alias (bzl_shape k.Alias) inner (token_of string))
+  loaded_exact : Exact Part leaves_part (At (suc d) loaded) (goes loaded) (prefix_at k.Alias (bzl_shape k.Alias) inner (token_part string))
   loaded_exact =
-      exact_like leaves_part (λ x. IsLeaf string x ⊎ Wrapped k.Alias (Fits (At d) (bzl_shape k.Alias)) x) (At (suc d) loaded) (goes loaded) (prefix_at k.Alias (bzl_shape k.Alias) inner (token_of string)) loaded_is loaded_from
-      (prefix_exact k.Alias (bzl_shape k.Alias) inner (token_of string) (IsLeaf string) (Fits (At d) (bzl_shape k.Alias)) [] (go goes (bzl_shape k.Alias)) (goes loaded) (token_exact string)
+      exact_like leaves_part (λ x. IsLeaf string x ⊎ Wrapped k.Alias (Fits (At d) (bzl_shape k.Alias)) x) (At (suc d) loaded) (goes loaded) (prefix_at k.Alias (bzl_shape k.Alias) inner (token_part string)) loaded_is loaded_from
+      (prefix_exact k.Alias (bzl_shape k.Alias) inner (token_part string) (IsLeaf string) (Fits (At d) (bzl_shape k.Alias)) [] (go goes (bzl_shape k.Alias)) (goes loaded) (token_exact string)
       (run_exact (At d) (begins d) goes inner exact (bzl_shape k.Alias) refl) (λ ps rest h. not_empty (At d) (begins d) (bzl_shape k.Alias) ps rest h refl)
       (λ x rest h. disjoint_at string (first (bzl_shape k.Alias)) (leaves_part x ++ rest) refl (leaf_starts string x rest h)) refl refl)
 
@@ -245,7 +245,7 @@ module _ (d : ℕ) (inner : Sort → Read Part) (exact : (q : Sort) → by_table
   param_is x (inl (inr (a, ps, e, h, m, t))) = rw e (made_node d param k.Param (a ∷ ps) refl (inl (m, t)))
   param_is x (inr (ps, e, t)) = rw e (made_node d param k.Param ps refl (inr t))
 
-  param_node : (ps : List Part) → Fits (At d) (bzl_shape k.Param) ps → IsParam (node k.Param ps)
+  param_node : (ps : List Part) → Fits (At d) (bzl_shape k.Param) ps → IsParam (node_part k.Param ps)
   param_node [] (inl h) = absurd h
   param_node (a ∷ ps) (inl h) = inl (inr (a, ps, refl, token_leaf name a h.0, h.0, h.1))
   param_node ps (inr h) = inr (ps, refl, h)
@@ -256,7 +256,7 @@ module _ (d : ℕ) (inner : Sort → Read Part) (exact : (q : Sort) → by_table
         | inl l ↦ inl (inl l)
         | inr (n, is, g) ↦
             let e = only_param n.kind g.0 in
-            rw (is, ap (λ (other : Kind). node other n.parts) e) (param_node n.parts (rw e at (node_fits d param n g)))
+            rw (is, ap (λ (other : Kind). node_part other n.parts) e) (param_node n.parts (rw e at (node_fits d param n g)))
       ]
 
   no_stars : (x : Part) (rest : List Leaf) → (IsLeaf name x ⊎ IsValued x) → starts_with name (leaves_part x ++ rest) ≡ true
@@ -268,19 +268,19 @@ module _ (d : ℕ) (inner : Sort → Read Part) (exact : (q : Sort) → by_table
   param_exact =
       let tail = run_exact (At d) (begins d) goes inner exact param_tail refl in
       let stars_read = run_exact (At d) (begins d) goes inner exact starred refl in
-      let valued = infix_exact k.Param (has_token name) param_tail inner (token_of name) (IsLeaf name) (Fits (At d) param_tail) [] (go goes param_tail) (goes param) (token_exact name)
+      let valued = infix_exact k.Param (has_token name) param_tail inner (token_part name) (IsLeaf name) (Fits (At d) param_tail) [] (go goes param_tail) (goes param) (token_exact name)
       tail (λ ps rest h. not_empty (At d) (begins d) param_tail ps rest h refl) refl refl refl refl in
       exact_like leaves_part IsParam (At (suc d) param) (goes param) (read_param inner) param_is param_from
-      (prefix_exact k.Param starred inner (infix_at k.Param (has_token name) param_tail inner (token_of name)) (λ x. IsLeaf name x ⊎ IsValued x) (Fits (At d) starred) (goes param) (go goes starred) (goes param) valued
+      (prefix_exact k.Param starred inner (infix_at k.Param (has_token name) param_tail inner (token_part name)) (λ x. IsLeaf name x ⊎ IsValued x) (Fits (At d) starred) (goes param) (go goes starred) (goes param) valued
       stars_read (λ ps rest h. not_empty (At d) (begins d) starred ps rest h refl)
       (λ x rest h. disjoint_at name (first starred) (leaves_part x ++ rest) refl (no_stars x rest h)) refl refl)
 
 -- ---- parts of each sort, of at most that depth
 
-leaf_sound : (q : Sort) (ts : List Leaf) (y : Part × List Leaf) → token_of (leaves_at q) ts ≡ Some y → At 0 q y.0 × (ts ≡ leaves_part y.0 ++ y.1)
+leaf_sound : (q : Sort) (ts : List Leaf) (y : Part × List Leaf) → token_part (leaves_at q) ts ≡ Some y → At 0 q y.0 × (ts ≡ leaves_part y.0 ++ y.1)
 leaf_sound q ts y e = let s = (token_exact (leaves_at q)).sound ts y e in (leaf_part 0 q y.0 s.0, s.1)
 
-leaf_complete : (q : Sort) (x : Part) (rest : List Leaf) → At 0 q x → token_of (leaves_at q) (leaves_part x ++ rest) ≡ Some (x, rest)
+leaf_complete : (q : Sort) (x : Part) (rest : List Leaf) → At 0 q x → token_part (leaves_at q) (leaves_part x ++ rest) ≡ Some (x, rest)
 leaf_complete q x rest h =
     elim (by_part 0 q x h) [
       | inl l ↦ (token_exact (leaves_at q)).complete x rest l (starts_none rest)

@@ -6,8 +6,8 @@ use Rattle.bz_tree.specs.declared.kind.Kind.{Kind}
 use Rattle.bz_tree.specs.declared.kind.Kind.TheVariants as k
 use Rattle.bz_tree.specs.declared.tree.Part.{Part}
 use Rattle.bz_tree.specs.Spell.{leaves_part}
-use Rattle.bz_tree.specs.Shapes.{Terminal, Sort, clause, small, entry, primary, test, has_kind, Shape, done, tok, sub, alt, items, Fits, bzl_shape, open_square, close_square, open_curly, close_curly}
-use Rattle.bz_tree.specs.Reading.{Read, Plan, finish, one, piece, choose, Found, follow, node, wrap_found, round, square, curly, suffix, clause_plan, small_plan, more_items}
+use Rattle.bz_tree.specs.Shapes.{Terminal, Sort, clause, small, entry, primary, test, sort_has_kind, Shape, done, tok, sub, alt, items, Fits, bzl_shape, open_square, close_square, open_curly, close_curly}
+use Rattle.bz_tree.specs.Reading.{Read, Plan, finish, one, piece, choose, FoundLevel, follow, node_part, wrap_found, round, square, curly, suffix_plan, clause_plan, small_plan, more_items}
 use Rattle.bz_tree.proofs.Exact.{Exact}
 use Rattle.bz_tree.proofs.Nodes.{node_leaves, wrap_found_some}
 use Rattle.bz_tree.proofs.Plans.{Finds, shape_in, shape_of_plan, plan_of_shape, found_leaves}
@@ -64,7 +64,7 @@ module _ (P : Sort → Part → Type 0) (sort : Sort) (opening closing : List Te
 module _ (P : Sort → Part → Type 0) where
   -- the kind has this sort, and what the plan asks for on the way to it is its shape, both ways
   abbrev pub Agrees : Sort → Plan → Kind → Type 0
-  Agrees sort plan kind = (has_kind sort kind ≡ true) × ((ps : List Part) → Fits P (shape_in kind plan) ps → Fits P (bzl_shape kind) ps)
+  Agrees sort plan kind = (sort_has_kind sort kind ≡ true) × ((ps : List Part) → Fits P (shape_in kind plan) ps → Fits P (bzl_shape kind) ps)
 
   pub round_agrees : Each (Agrees primary round) round
   round_agrees = ((refl, λ ps h. h), ((refl, λ ps h. h), (refl, λ ps h. h)))
@@ -75,7 +75,7 @@ module _ (P : Sort → Part → Type 0) where
   pub curly_agrees : Each (Agrees primary curly) curly
   curly_agrees = ((refl, roll P entry open_curly close_curly), ((refl, λ ps h. h), (refl, roll P entry open_curly close_curly)))
 
-  pub suffix_agrees : Each (Agrees primary (piece primary suffix)) suffix
+  pub suffix_agrees : Each (Agrees primary (piece primary suffix_plan)) suffix_plan
   suffix_agrees = ((refl, λ ps h. h), ((refl, λ ps h. h), ((refl, λ ps h. h), ((refl, λ ps h. h), (refl, λ ps h. h)))))
 
   pub clause_agrees : Each (Agrees clause clause_plan) clause_plan
@@ -106,24 +106,24 @@ module _ (P : Sort → Part → Type 0) where
   pub finds_tuple : (ps : List Part) → Fits P (bzl_shape k.Tuple) ps → Finds P round k.Tuple ps
   finds_tuple ps h = plan_of_shape P round k.Tuple ps h
 
-  pub finds_dot : (ps : List Part) → Fits P (bzl_shape k.Dot) ps → Finds P (piece primary suffix) k.Dot ps
-  finds_dot ps h = plan_of_shape P (piece primary suffix) k.Dot ps h
+  pub finds_dot : (ps : List Part) → Fits P (bzl_shape k.Dot) ps → Finds P (piece primary suffix_plan) k.Dot ps
+  finds_dot ps h = plan_of_shape P (piece primary suffix_plan) k.Dot ps h
 
-  pub finds_call : (ps : List Part) → Fits P (bzl_shape k.Call) ps → Finds P (piece primary suffix) k.Call ps
-  finds_call ps h = plan_of_shape P (piece primary suffix) k.Call ps h
+  pub finds_call : (ps : List Part) → Fits P (bzl_shape k.Call) ps → Finds P (piece primary suffix_plan) k.Call ps
+  finds_call ps h = plan_of_shape P (piece primary suffix_plan) k.Call ps h
 
-  pub finds_index : (ps : List Part) → Fits P (bzl_shape k.Index) ps → Finds P (piece primary suffix) k.Index ps
-  finds_index ps h = plan_of_shape P (piece primary suffix) k.Index ps h
+  pub finds_index : (ps : List Part) → Fits P (bzl_shape k.Index) ps → Finds P (piece primary suffix_plan) k.Index ps
+  finds_index ps h = plan_of_shape P (piece primary suffix_plan) k.Index ps h
 
-  pub finds_slice : (ps : List Part) → Fits P (bzl_shape k.Slice) ps → Finds P (piece primary suffix) k.Slice ps
-  finds_slice ps h = plan_of_shape P (piece primary suffix) k.Slice ps h
+  pub finds_slice : (ps : List Part) → Fits P (bzl_shape k.Slice) ps → Finds P (piece primary suffix_plan) k.Slice ps
+  finds_slice ps h = plan_of_shape P (piece primary suffix_plan) k.Slice ps h
 
-  pub finds_clause : (kind : Kind) (ps : List Part) → has_kind clause kind ≡ true → Fits P (bzl_shape kind) ps → Finds P clause_plan kind ps
+  pub finds_clause : (kind : Kind) (ps : List Part) → sort_has_kind clause kind ≡ true → Fits P (bzl_shape kind) ps → Finds P clause_plan kind ps
   finds_clause k.For ps e h = plan_of_shape P clause_plan k.For ps h
   finds_clause k.If ps e h = plan_of_shape P clause_plan k.If ps h
   finds_clause kind ps e h = absurd (both_ways false refl e)
 
-  pub finds_small : (kind : Kind) (ps : List Part) → has_kind small kind ≡ true → Fits P (bzl_shape kind) ps → Finds P small_plan kind ps
+  pub finds_small : (kind : Kind) (ps : List Part) → sort_has_kind small kind ≡ true → Fits P (bzl_shape kind) ps → Finds P small_plan kind ps
   finds_small k.Bare ps e h = plan_of_shape P small_plan k.Bare ps h
   finds_small k.Assign ps e h = plan_of_shape P small_plan k.Assign ps h
   finds_small k.Load ps e h = plan_of_shape P small_plan k.Load ps h
@@ -134,9 +134,9 @@ module _ (P : Sort → Part → Type 0) where
 -- ---- reading a node by a plan
 
 module _ (P : Sort → Part → Type 0) (plan : Plan) (inner : Sort → Read Part) (g : List Terminal)
-    (exact : Exact Found found_leaves (λ x. Finds P plan x.0 x.1) g (follow inner plan)) where
+    (exact : Exact FoundLevel found_leaves (λ x. Finds P plan x.0 x.1) g (follow inner plan)) where
   abbrev pub MadeBy : Part → Type 0
-  MadeBy y = (x : Found) × (y ≡ node x.0 x.1) × Finds P plan x.0 x.1
+  MadeBy y = (x : FoundLevel) × (y ≡ node_part x.0 x.1) × Finds P plan x.0 x.1
 
   pub made_exact : Exact Part leaves_part MadeBy g (λ ts. wrap_found (follow inner plan ts))
   made_exact = record {
@@ -150,7 +150,7 @@ module _ (P : Sort → Part → Type 0) (plan : Plan) (inner : Sort → Read Par
   }
 
 -- a node that a plan made is legal where its parts are
-pub made_at : (d : ℕ) (sort : Sort) (plan : Plan) → Each (Agrees (At d) sort plan) plan → (kind : Kind) (ps : List Part) → Finds (At d) plan kind ps → At (suc d) sort (node kind ps)
+pub made_at : (d : ℕ) (sort : Sort) (plan : Plan) → Each (Agrees (At d) sort plan) plan → (kind : Kind) (ps : List Part) → Finds (At d) plan kind ps → At (suc d) sort (node_part kind ps)
 made_at d sort plan agrees kind ps h =
     let a = each_found (At d) (Agrees (At d) sort plan) plan kind ps h agrees in
     made_node d sort kind ps a.0 (a.1 ps (shape_of_plan (At d) plan kind ps h))

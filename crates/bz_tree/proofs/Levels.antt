@@ -8,8 +8,8 @@ use Rattle.bz_tree.specs.declared.tree.Node.{Node}
 use Rattle.bz_tree.specs.declared.tree.Part.{Part}
 use Rattle.bz_tree.specs.declared.tree.Part.TheVariants as v
 use Rattle.bz_tree.specs.Spell.{leaves_part, depth_part}
-use Rattle.bz_tree.specs.Shapes.{Terminal, Sort, level, argument, entry, clause, first_clause, loaded, small, line, param, stmt, suite, has_kind, rank, is_expression, leaves_at, Shape, none, done, tok, sub, alt, list, each, times, Fits, bzl_shape, simple, name, string, equals, assigns, open_round, open_square, open_curly}
-use Rattle.bz_tree.specs.Reading.{Read, starts_with, starts, starts_level, own_token, first, kind_at, shape_at, suffix, first_of, node, by_shape, infix_at, prefix_at, fits_in}
+use Rattle.bz_tree.specs.Shapes.{Terminal, Sort, level, argument, entry, clause, first_clause, loaded, small, line, param, stmt, suite, sort_has_kind, rank, is_expression, leaves_at, Shape, none, done, tok, sub, alt, list, each, times, Fits, bzl_shape, simple, name, string, equals, assigns, open_round, open_square, open_curly}
+use Rattle.bz_tree.specs.Reading.{Read, starts_with, starts, starts_level, own_token, first, kind_at, shape_at, suffix_plan, first_of, node_part, by_shape, infix_at, prefix_at, fits_in}
 use Rattle.bz_tree.proofs.Nested.{leaf_or_node}
 use Rattle.bz_tree.proofs.Spells.{leaves_Node, depth_Node}
 use Rattle.bz_tree.proofs.Terminals.{disjoint, disjoint_at, subset, subset_at, starts-append_left, starts-append_right, stops_right}
@@ -58,7 +58,7 @@ full_expression k.Bare e = refl
 full_expression _ e = refl
 
 -- what stands in a node of a kind that a sort has begins as the sort does
-sort_first : (q : Sort) (kind : Kind) (ts : List Leaf) → has_kind q kind ≡ true → starts_with (first (bzl_shape kind)) ts ≡ true → starts_with (starts q) ts ≡ true
+sort_first : (q : Sort) (kind : Kind) (ts : List Leaf) → sort_has_kind q kind ≡ true → starts_with (first (bzl_shape kind)) ts ≡ true → starts_with (starts q) ts ≡ true
 sort_first (level n) kind ts e h =
     let w = and_parts (is_expression kind) (leb (rank kind) n) e in
     up_to (rank kind) n ts (leb-true (rank kind) n w.1) (subset_at (first (bzl_shape kind)) (starts_level (rank kind)) ts (own_first kind w.0) h)
@@ -111,7 +111,7 @@ sort_first suite k.Line ts e h = subset_at (first (bzl_shape k.Line)) (starts su
 sort_first suite kind ts e h = no e
 
 -- only a File may be empty, which no sort has
-full_kind : (q : Sort) (kind : Kind) → has_kind q kind ≡ true → nullable (bzl_shape kind) ≡ false
+full_kind : (q : Sort) (kind : Kind) → sort_has_kind q kind ≡ true → nullable (bzl_shape kind) ≡ false
 full_kind (level n) k.File e = no e
 full_kind argument k.File e = no e
 full_kind entry k.File e = no e
@@ -163,7 +163,7 @@ tail_of (sub q r) = r
 tail_of _ = done
 
 abbrev pub goes_level : ℕ → List Terminal
-goes_level zero = first_of suffix
+goes_level zero = first_of suffix_plan
 goes_level (suc n) = first (tail_of (shape_at n)) ++ goes_level n
 
 abbrev pub goes : Sort → List Terminal
@@ -246,7 +246,7 @@ node_split d n m h =
       | inr ge ↦
           let e : rank m.kind ≡ suc n = omega (arith, leb-true (rank m.kind) (suc n) s.1) in
           let w = kind_of_rank m.kind n s.0 e in
-          inr (rw w.1 (full_expression m.kind s.0), (m.parts, ap (λ (kind : Kind). node kind m.parts) w.0, rw w.1 (node_fits d (level (suc n)) m h)))
+          inr (rw w.1 (full_expression m.kind s.0), (m.parts, ap (λ (kind : Kind). node_part kind m.parts) w.0, rw w.1 (node_fits d (level (suc n)) m h)))
     ]
 
 pub level_split : (d n : ℕ) (x : Part) → At (suc d) (level (suc n)) x → At (suc d) (level n) x ⊎ AtNode d n x
@@ -273,10 +273,10 @@ rank_of_kind (suc (suc (suc (suc (suc (suc (suc (suc (suc (suc (suc (suc zero)))
 rank_of_kind (suc (suc (suc (suc (suc (suc (suc (suc (suc (suc (suc (suc (suc zero))))))))))))) h = (refl, refl, refl)
 rank_of_kind (suc (suc (suc (suc (suc (suc (suc (suc (suc (suc (suc (suc (suc (suc n)))))))))))))) h = absurd (both_ways true h refl)
 
-pub made_node : (d : ℕ) (q : Sort) (kind : Kind) (ps : List Part) → has_kind q kind ≡ true → Fits (At d) (bzl_shape kind) ps → At (suc d) q (node kind ps)
+pub made_node : (d : ℕ) (q : Sort) (kind : Kind) (ps : List Part) → sort_has_kind q kind ≡ true → Fits (At d) (bzl_shape kind) ps → At (suc d) q (node_part kind ps)
 made_node d q kind ps s h = let n : Node = record { kind = kind; parts = ps } in legal_node d q n s h
 
-pub level_node : (d n : ℕ) (ps : List Part) → nullable (shape_at n) ≡ false → Fits (At d) (shape_at n) ps → At (suc d) (level (suc n)) (node (kind_at n) ps)
+pub level_node : (d n : ℕ) (ps : List Part) → nullable (shape_at n) ≡ false → Fits (At d) (shape_at n) ps → At (suc d) (level (suc n)) (node_part (kind_at n) ps)
 level_node d n ps z h =
     let w = rank_of_kind n z in
     made_node d (level (suc n)) (kind_at n) ps (and_from (is_expression (kind_at n)) (leb (rank (kind_at n)) (suc n)) w.0 (le-leb (rank (kind_at n)) (suc n) (omega (arith, w.1)))) (rw (← w.2) h)
@@ -288,7 +288,7 @@ level_join : (d n : ℕ) (r : Shape) → shape_at n ≡ sub (level n) r → (x :
 level_join d n r e x (inl a) = level_up (suc d) n x a
 level_join d n r e x (inr (a, ps, is, h, l, t)) = rw is (level_node d n (a ∷ ps) (ap nullable e) (rw e ((h.0, h.1, leb-true (depth_part a) d l), t)))
 
-level_begun : (d n : ℕ) (r : Shape) (x : Part) (ps : List Part) → x ≡ node (kind_at n) ps → Fits (At d) (sub (level n) r) ps → BegunAt d n r x
+level_begun : (d n : ℕ) (r : Shape) (x : Part) (ps : List Part) → x ≡ node_part (kind_at n) ps → Fits (At d) (sub (level n) r) ps → BegunAt d n r x
 level_begun d n r x [] is h = absurd h
 level_begun d n r x (a ∷ ps) is h = (a, ps, is, (h.0.0, h.0.1, omega (arith, h.0.2)), le-leb (depth_part a) d h.0.2, h.1)
 

@@ -13,10 +13,10 @@ use Rattle.bz_tree.specs.declared.tree.Node.{Node}
 use Rattle.bz_tree.specs.declared.tree.Part.{Part, Row_of-Part, end_of-Part, more_of-Part, items-the_row-Part}
 use Rattle.bz_tree.specs.declared.tree.Part.TheVariants as v
 use Rattle.bz_tree.specs.Spell.{leaves_part, leaves_of, depth_of}
-use Rattle.bz_tree.specs.Shapes.{Terminal, is_one_of, has_token, Sort, level, stmt, suite, line, test, newline, end, colon, keyword, leaves_at, has_kind, Shape, none, done, tok, sub, alt, list, each, times, Listed, Behind, Several, Times, no_more, once_more, Fits, bzl_shape, owned, branches}
+use Rattle.bz_tree.specs.Shapes.{Terminal, is_one_of, has_token, Sort, level, stmt, suite, line, test, newline, end, colon_mark, one_keyword, leaves_at, sort_has_kind, Shape, none, done, tok, sub, alt, list, each, times, Listed, Behind, Several, Times, no_more, once_more, Fits, bzl_shape, owned, branches}
 use Rattle.bz_tree.specs.Legal.{IsBzlFile}
 use Rattle.bz_tree.specs.Indents.{alternatives, first_indent, Indented, Owner, Owned, AllIndented, AreIndented}
-use Rattle.bz_tree.specs.Reading.{◌>>=◌, Read, starts_with, starts, first, put, run, wrap, node, reading}
+use Rattle.bz_tree.specs.Reading.{◌>>=◌, Read, starts_with, starts, first, with_part_first, run, wrap, node_part, reading}
 use Rattle.bz_tree.specs.Suites.{def_header, for_header, test_header, else_header, stands_at, begins_at, is_deeper, put_all, alone, while_next, with_suite, branches_of, statement, suite_of, if_all, statements_of, read_file}
 use Rattle.bz_tree.proofs.Nested.{row_of, items_of_row, leaf_or_node}
 use Rattle.bz_tree.proofs.Numbers.{same_kind}
@@ -127,22 +127,22 @@ pub parts_indented : (i : List ℕ) (n : Node) → first_indent (leaves_of n) �
 parts_indented i n e h = (ap first_indent (leaves_Node n) ∙ e, owned_row i _ (row_of n).1 (subst (AllOwned i) (sym (items_of_row n)) h))
 
 -- a suite by its statements
-suite_parts : (i : List ℕ) (ps : List Part) → Owned i (node k.Suite ps) → (c : ℕ) × (more : List ℕ) × AreIndented (i ++ c ∷ more) ps
+suite_parts : (i : List ℕ) (ps : List Part) → Owned i (node_part k.Suite ps) → (c : ℕ) × (more : List ℕ) × AreIndented (i ++ c ∷ more) ps
 suite_parts i ps h = let n : Node = record { kind = k.Suite; parts = ps } in (h.0, h.1, subst (AreIndented (i ++ h.0 ∷ h.1)) (items_of_row n) (row_indented (i ++ h.0 ∷ h.1) _ (row_of n).1 h.2))
 
-parts_suite : (i : List ℕ) (ps : List Part) (c : ℕ) (more : List ℕ) → AreIndented (i ++ c ∷ more) ps → Owned i (node k.Suite ps)
+parts_suite : (i : List ℕ) (ps : List Part) (c : ℕ) (more : List ℕ) → AreIndented (i ++ c ∷ more) ps → Owned i (node_part k.Suite ps)
 parts_suite i ps c more h = let n : Node = record { kind = k.Suite; parts = ps } in (c, more, indented_row (i ++ c ∷ more) _ (row_of n).1 (subst (AreIndented (i ++ c ∷ more)) (sym (items_of_row n)) h))
 
 -- ---- what stands in lines and headers has no rule of indent
 
-no_suite : (q : Sort) → by_table q ≡ true → has_kind q k.Suite ≡ false
+no_suite : (q : Sort) → by_table q ≡ true → sort_has_kind q k.Suite ≡ false
 no_suite stmt h = no h
 no_suite suite h = no h
 no_suite (level n) h = refl
 no_suite _ h = refl
 
-owned_kind : (i : List ℕ) (q : Sort) (kind : Kind) (ps : List Part) → has_kind q k.Suite ≡ false → has_kind q kind ≡ true → Owned i (node kind ps)
-owned_kind i q k.Suite ps h g = absurd (both_ways (has_kind q k.Suite) h g)
+owned_kind : (i : List ℕ) (q : Sort) (kind : Kind) (ps : List Part) → sort_has_kind q k.Suite ≡ false → sort_has_kind q kind ≡ true → Owned i (node_part kind ps)
+owned_kind i q k.Suite ps h g = absurd (both_ways (sort_has_kind q k.Suite) h g)
 owned_kind i q _ ps h g = tt
 
 plain_leaves : (q : Sort) → disjoint (leaves_at q) alternatives ≡ true
@@ -223,9 +223,9 @@ module _ (P : Part → Type 0) (next : Read Part) (more : List Leaf → Bool) wh
   while_sound : ((us : List Leaf) (z : Part × List Leaf) → more us ≡ true → next us ≡ Some z → P z.0 × (us ≡ leaves_part z.0 ++ z.1)) → (n : ℕ) (ts : List Leaf) (y : List Part × List Leaf) → while_next n more next ts ≡ Some y → Taken (AllByRecursion P) ts y
   while_sound f zero ts y e = nothing_taken (AllByRecursion P) ts y tt e
   while_sound f (suc n) ts y e =
-      elim (cond_parts (more ts) (next ts >>= λ x. put x.0 (while_next n more next x.1)) (Some ([], ts)) (Some y) e) [
+      elim (cond_parts (more ts) (next ts >>= λ x. with_part_first x.0 (while_next n more next x.1)) (Some ([], ts)) (Some y) e) [
         | inl h ↦
-            let a = bind_some (next ts) (λ x. put x.0 (while_next n more next x.1)) y h.1 in
+            let a = bind_some (next ts) (λ x. with_part_first x.0 (while_next n more next x.1)) y h.1 in
             let b = put_some a.0.0 (while_next n more next a.0.1) y a.2 in
             let p = f ts a.0 h.0 a.1 in
             let s = while_sound f n a.0.1 b.0 b.1 in
@@ -278,14 +278,14 @@ full_row : (d : ℕ) (r : Shape) (ps : List Part) → nullable r ≡ false → F
 full_row d r ps n h = full_front (first r) (all_leaves ps) (not_empty (At d) (begins d) r ps [] h n)
 
 -- the parts of a statement or suite of a kind
-node_of : (d : ℕ) (q : Sort) (x : Part) → ((l : Leaf) → is_one_of (leaves_at q) l ≡ false) → At (suc d) q x → (n : Node) × (x ≡ v.Node n) × (has_kind q n.kind ≡ true) × Fits (At d) (bzl_shape n.kind) n.parts
+node_of : (d : ℕ) (q : Sort) (x : Part) → ((l : Leaf) → is_one_of (leaves_at q) l ≡ false) → At (suc d) q x → (n : Node) × (x ≡ v.Node n) × (sort_has_kind q n.kind ≡ true) × Fits (At d) (bzl_shape n.kind) n.parts
 node_of d q x none_is h =
     elim (leaf_or_node x) [
       | inl (l, is) ↦ let g : At (suc d) q (v.Leaf l) = rw is at h in absurd (both_ways (is_one_of (leaves_at q) l) (none_is l) g.0)
       | inr (n, is) ↦ let g : At (suc d) q (v.Node n) = rw is at h in (n, is, g.0, node_fits d q n g)
     ]
 
-made_statement : (d : ℕ) (i : List ℕ) (kind : Kind) (ps : List Part) (ts rest : List Leaf) → has_kind stmt kind ≡ true → nullable (bzl_shape kind) ≡ false → Fits (At d) (bzl_shape kind) ps → AllOwned i ps → first_indent ts ≡ i → ts ≡ all_leaves ps ++ rest → GoodStatement (suc d) i (node kind ps) × (ts ≡ leaves_part (node kind ps) ++ rest)
+made_statement : (d : ℕ) (i : List ℕ) (kind : Kind) (ps : List Part) (ts rest : List Leaf) → sort_has_kind stmt kind ≡ true → nullable (bzl_shape kind) ≡ false → Fits (At d) (bzl_shape kind) ps → AllOwned i ps → first_indent ts ≡ i → ts ≡ all_leaves ps ++ rest → GoodStatement (suc d) i (node_part kind ps) × (ts ≡ leaves_part (node_part kind ps) ++ rest)
 made_statement d i kind ps ts rest s n f o is e =
     let there : first_indent (all_leaves ps) ≡ i = sym (front_indent (all_leaves ps) rest (full_row d (bzl_shape kind) ps n f)) ∙ (sym (ap first_indent e) ∙ is) in
     ((made_node d stmt kind ps s f, parts_indented i (record { kind = kind; parts = ps }) there o), e ∙ ap (λ (u : List Leaf). u ++ rest) (sym (node_leaves kind ps)))
@@ -330,10 +330,10 @@ module _ (d : ℕ) (i : List ℕ) (suite_read : Read Part)
   -- ---- elif and else
 
   abbrev elif : List Terminal
-  elif = keyword (codes "elif")
+  elif = one_keyword (codes "elif")
 
   abbrev else_ : List Terminal
-  else_ = keyword (codes "else")
+  else_ = one_keyword (codes "else")
 
   abbrev group : Shape
   group = tok elif (sub test owned)
@@ -359,7 +359,7 @@ module _ (d : ℕ) (i : List ℕ) (suite_read : Read Part)
             let b = put_all_some a.0.0 (branches_of n (run (reading d)) suite_read i a.0.1) y a.2 in
             let s = header_sound (test_header elif) refl refl ts a.0 a.1 in
             let r = branches_sound n a.0.1 b.0 b.1 in
-            let own = at_front (test_header elif) a.0.0 a.0.1 s.0 (λ hs more f is. first_token d elif (sub test (tok colon done)) hs i more f refl is) (ap first_indent (sym s.1) ∙ same_text (first_indent ts) i st.1) in
+            let own = at_front (test_header elif) a.0.0 a.0.1 s.0 (λ hs more f is. first_token d elif (sub test (tok colon_mark done)) hs i more f refl is) (ap first_indent (sym s.1) ∙ same_text (first_indent ts) i st.1) in
             subst (Taken Branches ts) (sym b.2) (
               (once_more a.0.0 b.0.0 refl (joined d i (test_header elif) a.0.0 tt s.0) r.0.0, owned_both i a.0.0 b.0.0 own r.0.1),
               s.1 ∙ (ap (λ (u : List Leaf). all_leaves a.0.0 ++ u) r.1 ∙ (sym (append_assoc (all_leaves a.0.0) (all_leaves b.0.0) b.0.1) ∙ ap (λ (u : List Leaf). u ++ b.0.1) (sym (leaves_join a.0.0 b.0.0)))),
@@ -369,7 +369,7 @@ module _ (d : ℕ) (i : List ℕ) (suite_read : Read Part)
               | inl g ↦
                   let st = and_parts (starts_with else_ ts) _ g.0 in
                   let s = header_sound else_header refl refl ts y g.1 in
-                  let own = at_front else_header y.0 y.1 s.0 (λ hs more f is. first_token d else_ (tok colon done) hs i more f refl is) (ap first_indent (sym s.1) ∙ same_text (first_indent ts) i st.1) in
+                  let own = at_front else_header y.0 y.1 s.0 (λ hs more f is. first_token d else_ (tok colon_mark done) hs i more f refl is) (ap first_indent (sym s.1) ∙ same_text (first_indent ts) i st.1) in
                   ((no_more (inl (joined d i else_header y.0 tt s.0)), own), s.1)
               | inr g ↦ nothing_taken Branches ts y (no_more (inr tt), tt) g.1
             ]
@@ -421,7 +421,7 @@ module _ (d : ℕ) (i : List ℕ) (suite_read : Read Part)
   stmt_leaf : (l : Leaf) → is_one_of (leaves_at stmt) l ≡ false
   stmt_leaf l = refl
 
-  header_statement : (kind : Kind) (r : Shape) → has_kind stmt kind ≡ true → nullable (bzl_shape kind) ≡ false → bzl_shape kind ≡ then_sub suite r → tells goes r ≡ true → go goes r ≡ [] → Ends r → plain i d r ≡ true
+  header_statement : (kind : Kind) (r : Shape) → sort_has_kind stmt kind ≡ true → nullable (bzl_shape kind) ≡ false → bzl_shape kind ≡ then_sub suite r → tells goes r ≡ true → go goes r ≡ [] → Ends r → plain i d r ≡ true
       → (ts : List Leaf) (y : Part × List Leaf) → first_indent ts ≡ i → wrap kind (with_suite (run (reading d) r) suite_read ts) ≡ Some y → GoodStatement (suc d) i y.0 × (ts ≡ leaves_part y.0 ++ y.1)
   header_statement kind r s n same ok e ends p ts y is r_e =
       let w = wrap_some kind (with_suite (run (reading d) r) suite_read ts) y r_e in
@@ -430,28 +430,28 @@ module _ (d : ℕ) (i : List ℕ) (suite_read : Read Part)
       subst (λ (z : Part × List Leaf). GoodStatement (suc d) i z.0 × (ts ≡ leaves_part z.0 ++ z.1)) (sym w.2)
       (made_statement d i kind w.0.0 ts w.0.1 s n (subst (λ (z : Shape). Fits (At d) z w.0.0) (sym same) (joined d i r w.0.0 ends h.0)) own is h.1)
 
-  if_parts : (ps bs : List Part) → With (test_header (keyword (codes "if"))) ps → Branches bs → Fits (At d) (bzl_shape k.IfStmt) (ps ++ bs) × AllOwned i (ps ++ bs)
+  if_parts : (ps bs : List Part) → With (test_header (one_keyword (codes "if"))) ps → Branches bs → Fits (At d) (bzl_shape k.IfStmt) (ps ++ bs) × AllOwned i (ps ++ bs)
   if_parts ps bs (hs, x, is, h, g) b = (
-    subst (λ (zs : List Part). Fits (At d) (bzl_shape k.IfStmt) (zs ++ bs)) (sym is) (test_join (At d) (keyword (codes "if")) branches hs bs x h g.0 b.0),
-    owned_both i ps bs (header_parts d i (Fits (At d) (test_header (keyword (codes "if")))) ps (hs, x, is, h, g) (λ zs f. owned_shape i d (test_header (keyword (codes "if"))) refl zs f)) b.1,
+    subst (λ (zs : List Part). Fits (At d) (bzl_shape k.IfStmt) (zs ++ bs)) (sym is) (test_join (At d) (one_keyword (codes "if")) branches hs bs x h g.0 b.0),
+    owned_both i ps bs (header_parts d i (Fits (At d) (test_header (one_keyword (codes "if")))) ps (hs, x, is, h, g) (λ zs f. owned_shape i d (test_header (one_keyword (codes "if"))) refl zs f)) b.1,
   )
 
   abbrev if_read : Read (List Part)
-  if_read ts = with_suite (run (reading d) (test_header (keyword (codes "if")))) suite_read ts >>= λ x. put_all x.0 (branches_of (length x.1) (run (reading d)) suite_read i x.1)
+  if_read ts = with_suite (run (reading d) (test_header (one_keyword (codes "if")))) suite_read ts >>= λ x. put_all x.0 (branches_of (length x.1) (run (reading d)) suite_read i x.1)
 
   if_statement : (ts : List Leaf) (y : Part × List Leaf) → first_indent ts ≡ i → wrap k.IfStmt (if_read ts) ≡ Some y → GoodStatement (suc d) i y.0 × (ts ≡ leaves_part y.0 ++ y.1)
   if_statement ts y is e =
       let w = wrap_some k.IfStmt (if_read ts) y e in
-      let a = bind_some (with_suite (run (reading d) (test_header (keyword (codes "if")))) suite_read ts) (λ x. put_all x.0 (branches_of (length x.1) (run (reading d)) suite_read i x.1)) w.0 w.1 in
+      let a = bind_some (with_suite (run (reading d) (test_header (one_keyword (codes "if")))) suite_read ts) (λ x. put_all x.0 (branches_of (length x.1) (run (reading d)) suite_read i x.1)) w.0 w.1 in
       let b = put_all_some a.0.0 (branches_of (length a.0.1) (run (reading d)) suite_read i a.0.1) w.0 a.2 in
-      let s = header_sound (test_header (keyword (codes "if"))) refl refl ts a.0 a.1 in
+      let s = header_sound (test_header (one_keyword (codes "if"))) refl refl ts a.0 a.1 in
       let r = branches_sound (length a.0.1) a.0.1 b.0 b.1 in
       let f = if_parts a.0.0 b.0.0 s.0 r.0 in
       let text : ts ≡ all_leaves (a.0.0 ++ b.0.0) ++ b.0.1 = s.1 ∙ (ap (λ (u : List Leaf). all_leaves a.0.0 ++ u) r.1 ∙ (sym (append_assoc (all_leaves a.0.0) (all_leaves b.0.0) b.0.1) ∙ ap (λ (u : List Leaf). u ++ b.0.1) (sym (leaves_join a.0.0 b.0.0)))) in
-      subst (λ (z : Part × List Leaf). GoodStatement (suc d) i z.0 × (ts ≡ leaves_part z.0 ++ z.1)) (sym (w.2 ∙ ap (λ (z : List Part × List Leaf). (node k.IfStmt z.0, z.1)) b.2))
+      subst (λ (z : Part × List Leaf). GoodStatement (suc d) i z.0 × (ts ≡ leaves_part z.0 ++ z.1)) (sym (w.2 ∙ ap (λ (z : List Part × List Leaf). (node_part k.IfStmt z.0, z.1)) b.2))
       (made_statement d i k.IfStmt (a.0.0 ++ b.0.0) ts b.0.1 refl refl f.0 f.1 is text)
 
-  is_line : (other : Kind) → has_kind line other ≡ true → other ≡ k.Line
+  is_line : (other : Kind) → sort_has_kind line other ≡ true → other ≡ k.Line
   is_line other h = same_kind other k.Line (eqb-true _ _ h)
 
   line_statement : (ts : List Leaf) (y : Part × List Leaf) → first_indent ts ≡ i → reading (suc d) line ts ≡ Some y → GoodStatement (suc d) i y.0 × (ts ≡ leaves_part y.0 ++ y.1)
@@ -459,7 +459,7 @@ module _ (d : ℕ) (i : List ℕ) (suite_read : Read Part)
       let s = (reading_exact (suc d) line refl).sound ts y e in
       let n = node_of d line y.0 (λ l. refl) s.0 in
       let kind : n.0.kind ≡ k.Line = is_line n.0.kind n.2 in
-      let there : y.0 ≡ node k.Line n.0.parts = n.1 ∙ ap (λ (other : Kind). node other n.0.parts) kind in
+      let there : y.0 ≡ node_part k.Line n.0.parts = n.1 ∙ ap (λ (other : Kind). node_part other n.0.parts) kind in
       let f : Fits (At d) (bzl_shape k.Line) n.0.parts = subst (λ (other : Kind). Fits (At d) (bzl_shape other) n.0.parts) kind n.3 in
       let text : ts ≡ all_leaves n.0.parts ++ y.1 = s.1 ∙ (ap (λ (z : Part). leaves_part z ++ y.1) there ∙ ap (λ (u : List Leaf). u ++ y.1) (node_leaves k.Line n.0.parts)) in
       let made = made_statement d i k.Line n.0.parts ts y.1 refl refl f (owned_shape i d (bzl_shape k.Line) refl n.0.parts f) is text in
@@ -468,40 +468,40 @@ module _ (d : ℕ) (i : List ℕ) (suite_read : Read Part)
   abbrev Reads_it : Part → List Leaf → Type 0
   Reads_it x rest =
       (let ts : List Leaf = leaves_part x ++ rest in
-      (cond (starts_with (keyword (codes "def")) ts) (wrap k.Def (with_suite (run (reading d) def_header) suite_read ts))
-      (cond (starts_with (keyword (codes "if")) ts) (wrap k.IfStmt (if_read ts))
-      (cond (starts_with (keyword (codes "for")) ts) (wrap k.ForStmt (with_suite (run (reading d) for_header) suite_read ts)) (reading (suc d) line ts))) ≡ Some (x, rest)))
+      (cond (starts_with (one_keyword (codes "def")) ts) (wrap k.Def (with_suite (run (reading d) def_header) suite_read ts))
+      (cond (starts_with (one_keyword (codes "if")) ts) (wrap k.IfStmt (if_read ts))
+      (cond (starts_with (one_keyword (codes "for")) ts) (wrap k.ForStmt (with_suite (run (reading d) for_header) suite_read ts)) (reading (suc d) line ts))) ≡ Some (x, rest)))
 
-  by_header : (kind : Kind) (r : Shape) → bzl_shape kind ≡ then_sub suite r → tells goes r ≡ true → go goes r ≡ [] → (ps : List Part) (rest : List Leaf) → Fits (At d) (bzl_shape kind) ps → AllOwned i ps → NoDeeper i rest → wrap kind (with_suite (run (reading d) r) suite_read (all_leaves ps ++ rest)) ≡ Some (node kind ps, rest)
+  by_header : (kind : Kind) (r : Shape) → bzl_shape kind ≡ then_sub suite r → tells goes r ≡ true → go goes r ≡ [] → (ps : List Part) (rest : List Leaf) → Fits (At d) (bzl_shape kind) ps → AllOwned i ps → NoDeeper i rest → wrap kind (with_suite (run (reading d) r) suite_read (all_leaves ps ++ rest)) ≡ Some (node_part kind ps, rest)
   by_header kind r same ok e ps rest f o p =
       let w = with_of r ps (subst (λ (z : Shape). Fits (At d) z ps) same f) o in
       ap (wrap kind) (header_complete r ok e ps rest w p)
 
-  by_if : (ps : List Part) (rest : List Leaf) → Fits (At d) (bzl_shape k.IfStmt) ps → AllOwned i ps → Past i rest → wrap k.IfStmt (if_read (all_leaves ps ++ rest)) ≡ Some (node k.IfStmt ps, rest)
+  by_if : (ps : List Part) (rest : List Leaf) → Fits (At d) (bzl_shape k.IfStmt) ps → AllOwned i ps → Past i rest → wrap k.IfStmt (if_read (all_leaves ps ++ rest)) ≡ Some (node_part k.IfStmt ps, rest)
   by_if ps rest f o p =
-      let w = test_split (At d) (keyword (codes "if")) branches ps f in
+      let w = test_split (At d) (one_keyword (codes "if")) branches ps f in
       let own = owned_parts i w.0 w.1 (subst (AllOwned i) w.2 o) in
       let regroup : all_leaves ps ++ rest ≡ all_leaves w.0 ++ (all_leaves w.1 ++ rest) = ap (λ (zs : List Part). all_leaves zs ++ rest) w.2 ∙ (ap (λ (u : List Leaf). u ++ rest) (leaves_join w.0 w.1) ∙ append_assoc (all_leaves w.0) (all_leaves w.1) rest) in
       let b = branches_complete (length (all_leaves w.1 ++ rest)) w.1 rest w.4 own.1 p (omega arith) in
-      let h = header_complete (test_header (keyword (codes "if"))) refl refl w.0 (all_leaves w.1 ++ rest) (good_suite d i (Fits (At d) (test_header (keyword (codes "if")))) w.0 w.3 own.0) b.0 in
+      let h = header_complete (test_header (one_keyword (codes "if"))) refl refl w.0 (all_leaves w.1 ++ rest) (good_suite d i (Fits (At d) (test_header (one_keyword (codes "if")))) w.0 w.3 own.0) b.0 in
       let all : if_read (all_leaves w.0 ++ (all_leaves w.1 ++ rest)) ≡ Some (w.0 ++ w.1, rest) = rw (h, b.1) refl in
       ap (wrap k.IfStmt) (ap if_read regroup ∙ (all ∙ ap (λ (zs : List Part). Some (zs, rest)) (sym w.2)))
 
-  starts_kind : (kind : Kind) (ps : List Part) (rest : List Leaf) → nullable (bzl_shape kind) ≡ false → Fits (At d) (bzl_shape kind) ps → starts_with (first (bzl_shape kind)) (leaves_part (node kind ps) ++ rest) ≡ true
+  starts_kind : (kind : Kind) (ps : List Part) (rest : List Leaf) → nullable (bzl_shape kind) ≡ false → Fits (At d) (bzl_shape kind) ps → starts_with (first (bzl_shape kind)) (leaves_part (node_part kind ps) ++ rest) ≡ true
   starts_kind kind ps rest n f = rw (node_leaves kind ps) (not_empty (At d) (begins d) (bzl_shape kind) ps rest f n)
 
-  by_kind : (kind : Kind) (ps : List Part) (rest : List Leaf) → has_kind stmt kind ≡ true → Fits (At d) (bzl_shape kind) ps → AllOwned i ps → At (suc d) stmt (node kind ps) → Past i rest → Reads_it (node kind ps) rest
+  by_kind : (kind : Kind) (ps : List Part) (rest : List Leaf) → sort_has_kind stmt kind ≡ true → Fits (At d) (bzl_shape kind) ps → AllOwned i ps → At (suc d) stmt (node_part kind ps) → Past i rest → Reads_it (node_part kind ps) rest
   by_kind k.Def ps rest s f o g p = rw (starts_kind k.Def ps rest refl f) (rw (node_leaves k.Def ps) (by_header k.Def def_header refl refl refl ps rest f o p.0))
   by_kind k.IfStmt ps rest s f o g p =
       let st = starts_kind k.IfStmt ps rest refl f in
-      rw (disjoint_at (keyword (codes "if")) (keyword (codes "def")) _ refl st, st) (rw (node_leaves k.IfStmt ps) (by_if ps rest f o p))
+      rw (disjoint_at (one_keyword (codes "if")) (one_keyword (codes "def")) _ refl st, st) (rw (node_leaves k.IfStmt ps) (by_if ps rest f o p))
   by_kind k.ForStmt ps rest s f o g p =
       let st = starts_kind k.ForStmt ps rest refl f in
-      rw (disjoint_at (keyword (codes "for")) (keyword (codes "def")) _ refl st, disjoint_at (keyword (codes "for")) (keyword (codes "if")) _ refl st, st) (rw (node_leaves k.ForStmt ps) (by_header k.ForStmt for_header refl refl refl ps rest f o p.0))
+      rw (disjoint_at (one_keyword (codes "for")) (one_keyword (codes "def")) _ refl st, disjoint_at (one_keyword (codes "for")) (one_keyword (codes "if")) _ refl st, st) (rw (node_leaves k.ForStmt ps) (by_header k.ForStmt for_header refl refl refl ps rest f o p.0))
   by_kind k.Line ps rest s f o g p =
       let st = starts_kind k.Line ps rest refl f in
-      rw (disjoint_at (starts line) (keyword (codes "def")) _ refl st, disjoint_at (starts line) (keyword (codes "if")) _ refl st, disjoint_at (starts line) (keyword (codes "for")) _ refl st)
-      ((reading_exact (suc d) line refl).complete (node k.Line ps) rest (refl, g.1, g.2) (starts_none rest))
+      rw (disjoint_at (starts line) (one_keyword (codes "def")) _ refl st, disjoint_at (starts line) (one_keyword (codes "if")) _ refl st, disjoint_at (starts line) (one_keyword (codes "for")) _ refl st)
+      ((reading_exact (suc d) line refl).complete (node_part k.Line ps) rest (refl, g.1, g.2) (starts_none rest))
   by_kind kind ps rest s f o g p = no s
 
 -- ---- statements and suites of each depth
@@ -534,9 +534,9 @@ statement_opens d i x rest h =
 while_some : (next : Read Part) (more : List Leaf → Bool) (n : ℕ) (ts : List Leaf) (y : List Part × List Leaf) → more ts ≡ true → 1 ≤ n → while_next n more next ts ≡ Some y → (x : Part) × (xs : List Part) × (y.0 ≡ x ∷ xs)
 while_some next more zero ts y m le e = absurd (omega arith)
 while_some next more (suc n) ts y m le e =
-    elim (cond_parts (more ts) (next ts >>= λ x. put x.0 (while_next n more next x.1)) (Some ([], ts)) (Some y) e) [
+    elim (cond_parts (more ts) (next ts >>= λ x. with_part_first x.0 (while_next n more next x.1)) (Some ([], ts)) (Some y) e) [
       | inl h ↦
-          let a = bind_some (next ts) (λ x. put x.0 (while_next n more next x.1)) y h.1 in
+          let a = bind_some (next ts) (λ x. with_part_first x.0 (while_next n more next x.1)) y h.1 in
           let b = put_some a.0.0 (while_next n more next a.0.1) y a.2 in
           (a.0.0, b.0.0, ap (λ (z : List Part × List Leaf). z.0) b.2)
       | inr h ↦ absurd (both_ways (more ts) h.0 m)
@@ -559,9 +559,9 @@ module _ (d : ℕ) (exact : AllExact d) where
   -- ---- suites
 
   suite_step : (i : List ℕ) (t : Leaf) (us : List Leaf) (j : List ℕ) (ps : List Part) (rest : List Leaf) → is_one_of newline t ≡ true → first_indent us ≡ j → is_deeper i j ≡ true → begins_at j us ≡ true → while_next (length us) (begins_at j) (statement d j) us ≡ Some (ps, rest)
-      → suite_of (suc d) i (t ∷ us) ≡ Some (node k.Suite (v.Leaf t ∷ ps), rest)
+      → suite_of (suc d) i (t ∷ us) ≡ Some (node_part k.Suite (v.Leaf t ∷ ps), rest)
   suite_step i t us j ps rest n is =
-      subst (λ (j : List ℕ). is_deeper i j ≡ true → begins_at j us ≡ true → while_next (length us) (begins_at j) (statement d j) us ≡ Some (ps, rest) → suite_of (suc d) i (t ∷ us) ≡ Some (node k.Suite (v.Leaf t ∷ ps), rest)) is
+      subst (λ (j : List ℕ). is_deeper i j ≡ true → begins_at j us ≡ true → while_next (length us) (begins_at j) (statement d j) us ≡ Some (ps, rest) → suite_of (suc d) i (t ∷ us) ≡ Some (node_part k.Suite (v.Leaf t ∷ ps), rest)) is
       (λ a b c. rw (n, a, b, c) refl)
 
   line_step : (i : List ℕ) (us : List Leaf) → starts_with newline us ≡ false → 1 ≤ length us → suite_of (suc d) i us ≡ reading (suc d) line us
@@ -569,10 +569,10 @@ module _ (d : ℕ) (exact : AllExact d) where
   line_step i (t ∷ us) h le = rw h refl
 
   block_sound : (i : List ℕ) (t : Leaf) (us : List Leaf) (z : Part × List Leaf) → is_one_of newline t ≡ true → is_deeper i (first_indent us) ≡ true → begins_at (first_indent us) us ≡ true
-      → wrap k.Suite (put (v.Leaf t) (while_next (length us) (begins_at (first_indent us)) (statement d (first_indent us)) us)) ≡ Some z → GoodSuite (suc d) i z.0 × (t ∷ us ≡ leaves_part z.0 ++ z.1)
+      → wrap k.Suite (with_part_first (v.Leaf t) (while_next (length us) (begins_at (first_indent us)) (statement d (first_indent us)) us)) ≡ Some z → GoodSuite (suc d) i z.0 × (t ∷ us ≡ leaves_part z.0 ++ z.1)
   block_sound i t us z n deep opens e =
       let j : List ℕ = first_indent us in
-      let w = wrap_some k.Suite (put (v.Leaf t) (while_next (length us) (begins_at j) (statement d j) us)) z e in
+      let w = wrap_some k.Suite (with_part_first (v.Leaf t) (while_next (length us) (begins_at j) (statement d j) us)) z e in
       let p = put_some (v.Leaf t) (while_next (length us) (begins_at j) (statement d j) us) w.0 w.1 in
       let s = while_sound (GoodStatement d j) (statement d j) (begins_at j) (λ vs y m r. exact.statements_sound j vs y (same_text (first_indent vs) j (and_parts (starts_with (starts stmt) vs) _ m).1) r) (length us) us p.0 p.1 in
       let size : 1 ≤ length us = full_leaf (starts stmt) us (and_parts (starts_with (starts stmt) us) _ opens).0 in
@@ -580,8 +580,8 @@ module _ (d : ℕ) (exact : AllExact d) where
       let under = deeper_is i j deep in
       let ps : List Part = v.Leaf t ∷ p.0.0 in
       let fits : Fits (At d) (bzl_shape k.Suite) ps = (n, suite_fits p.0.0 one s.0) in
-      let own : Owned i (node k.Suite ps) = parts_suite i ps under.0 under.1 (subst (λ (u : List ℕ). AreIndented u ps) under.2 (tt, statements_indented d j p.0.0 s.0)) in
-      let is : z ≡ (node k.Suite ps, p.0.1) = w.2 ∙ ap (λ (u : List Part × List Leaf). (node k.Suite u.0, u.1)) p.2 in
+      let own : Owned i (node_part k.Suite ps) = parts_suite i ps under.0 under.1 (subst (λ (u : List ℕ). AreIndented u ps) under.2 (tt, statements_indented d j p.0.0 s.0)) in
+      let is : z ≡ (node_part k.Suite ps, p.0.1) = w.2 ∙ ap (λ (u : List Part × List Leaf). (node_part k.Suite u.0, u.1)) p.2 in
       subst (λ (u : Part × List Leaf). GoodSuite (suc d) i u.0 × (t ∷ us ≡ leaves_part u.0 ++ u.1)) (sym is)
       ((made_node d suite k.Suite ps refl fits, own), ap (λ (ls : List Leaf). t ∷ ls) s.1 ∙ ap (λ (ls : List Leaf). ls ++ p.0.1) (sym (node_leaves k.Suite ps)))
     where
@@ -597,22 +597,22 @@ module _ (d : ℕ) (exact : AllExact d) where
   one_line_sound i us z e =
       let s = (reading_exact (suc d) line refl).sound us z e in
       let n = node_of d line z.0 (λ l. refl) s.0 in
-      let there : z.0 ≡ node k.Line n.0.parts = n.1 ∙ ap (λ (other : Kind). node other n.0.parts) (same_kind n.0.kind k.Line (eqb-true _ _ n.2)) in
-      let g : At (suc d) line (node k.Line n.0.parts) = subst (At (suc d) line) there s.0 in
+      let there : z.0 ≡ node_part k.Line n.0.parts = n.1 ∙ ap (λ (other : Kind). node_part other n.0.parts) (same_kind n.0.kind k.Line (eqb-true _ _ n.2)) in
+      let g : At (suc d) line (node_part k.Line n.0.parts) = subst (At (suc d) line) there s.0 in
       (subst (GoodSuite (suc d) i) (sym there) ((refl, g.1, g.2), tt), s.1)
 
   suite_sound : (i : List ℕ) (us : List Leaf) (z : Part × List Leaf) → suite_of (suc d) i us ≡ Some z → GoodSuite (suc d) i z.0 × (us ≡ leaves_part z.0 ++ z.1)
   suite_sound i [] z e = absurd cc
   suite_sound i (t ∷ us) z e =
-      elim (cond_parts (is_one_of newline t) (cond (is_deeper i (first_indent us) && begins_at (first_indent us) us) (wrap k.Suite (put (v.Leaf t) (while_next (length us) (begins_at (first_indent us)) (statement d (first_indent us)) us))) None) (reading (suc d) line (t ∷ us)) (Some z) e) [
+      elim (cond_parts (is_one_of newline t) (cond (is_deeper i (first_indent us) && begins_at (first_indent us) us) (wrap k.Suite (with_part_first (v.Leaf t) (while_next (length us) (begins_at (first_indent us)) (statement d (first_indent us)) us))) None) (reading (suc d) line (t ∷ us)) (Some z) e) [
         | inl h ↦
-            let g = if_some (is_deeper i (first_indent us) && begins_at (first_indent us) us) (wrap k.Suite (put (v.Leaf t) (while_next (length us) (begins_at (first_indent us)) (statement d (first_indent us)) us))) z h.1 in
+            let g = if_some (is_deeper i (first_indent us) && begins_at (first_indent us) us) (wrap k.Suite (with_part_first (v.Leaf t) (while_next (length us) (begins_at (first_indent us)) (statement d (first_indent us)) us))) z h.1 in
             let b = and_parts (is_deeper i (first_indent us)) (begins_at (first_indent us) us) g.0 in
             block_sound i t us z h.0 b.0 b.1 g.1
         | inr h ↦ one_line_sound i (t ∷ us) z h.1
       ]
 
-  block_complete : (i : List ℕ) (ps : List Part) (rest : List Leaf) → Fits (At d) (bzl_shape k.Suite) ps → Owned i (node k.Suite ps) → NoDeeper i rest → suite_of (suc d) i (all_leaves ps ++ rest) ≡ Some (node k.Suite ps, rest)
+  block_complete : (i : List ℕ) (ps : List Part) (rest : List Leaf) → Fits (At d) (bzl_shape k.Suite) ps → Owned i (node_part k.Suite ps) → NoDeeper i rest → suite_of (suc d) i (all_leaves ps ++ rest) ≡ Some (node_part k.Suite ps, rest)
   block_complete i [] rest f o p = absurd f
   block_complete i (a ∷ []) rest f o p = absurd f.1
   block_complete i (a ∷ x ∷ xs) rest f o p =
@@ -628,13 +628,13 @@ module _ (d : ℕ) (exact : AllExact d) where
       (length us) (x ∷ xs) rest good (longer i u.0 u.1 rest p) (no_statement i u.0 u.1 rest p) (omega arith) in
       rw t.1 (suite_step i t.0 us j (x ∷ xs) rest t.2 (ap first_indent regroup ∙ first_one.1) (is_deeper_at i u.0 u.1) opens w.1)
 
-  suite_by_kind : (i : List ℕ) (kind : Kind) (ps : List Part) (rest : List Leaf) → has_kind suite kind ≡ true → Fits (At d) (bzl_shape kind) ps → GoodSuite (suc d) i (node kind ps) → NoDeeper i rest → suite_of (suc d) i (leaves_part (node kind ps) ++ rest) ≡ Some (node kind ps, rest)
+  suite_by_kind : (i : List ℕ) (kind : Kind) (ps : List Part) (rest : List Leaf) → sort_has_kind suite kind ≡ true → Fits (At d) (bzl_shape kind) ps → GoodSuite (suc d) i (node_part kind ps) → NoDeeper i rest → suite_of (suc d) i (leaves_part (node_part kind ps) ++ rest) ≡ Some (node_part kind ps, rest)
   suite_by_kind i k.Suite ps rest s f g p = ap (λ (ls : List Leaf). suite_of (suc d) i (ls ++ rest)) (node_leaves k.Suite ps) ∙ block_complete i ps rest f g.1 p
   suite_by_kind i k.Line ps rest s f g p =
-      let st : starts_with (starts line) (leaves_part (node k.Line ps) ++ rest) ≡ true = begins (suc d) line (node k.Line ps) rest (refl, g.0.1, g.0.2) in
+      let st : starts_with (starts line) (leaves_part (node_part k.Line ps) ++ rest) ≡ true = begins (suc d) line (node_part k.Line ps) rest (refl, g.0.1, g.0.2) in
       let size = full_row d (bzl_shape k.Line) ps refl f in
-      line_step i (leaves_part (node k.Line ps) ++ rest) (disjoint_at (starts line) newline (leaves_part (node k.Line ps) ++ rest) refl st) (omega (arith, size, ap length (node_leaves k.Line ps), length-append (leaves_part (node k.Line ps)) rest))
-      ∙ (reading_exact (suc d) line refl).complete (node k.Line ps) rest (refl, g.0.1, g.0.2) (starts_none rest)
+      line_step i (leaves_part (node_part k.Line ps) ++ rest) (disjoint_at (starts line) newline (leaves_part (node_part k.Line ps) ++ rest) refl st) (omega (arith, size, ap length (node_leaves k.Line ps), length-append (leaves_part (node_part k.Line ps)) rest))
+      ∙ (reading_exact (suc d) line refl).complete (node_part k.Line ps) rest (refl, g.0.1, g.0.2) (starts_none rest)
   suite_by_kind i kind ps rest s f g p = no s
 
   suite_complete : (i : List ℕ) (x : Part) (rest : List Leaf) → GoodSuite (suc d) i x → NoDeeper i rest → suite_of (suc d) i (leaves_part x ++ rest) ≡ Some (x, rest)
@@ -649,13 +649,13 @@ module _ (d : ℕ) (exact : AllExact d) where
   statement_sound i ts y is e =
       let so : (us : List Leaf) (z : Part × List Leaf) → suite_of d i us ≡ Some z → GoodSuite d i z.0 × (us ≡ leaves_part z.0 ++ z.1) = exact.suites_sound i in
       let co : (x : Part) (rest : List Leaf) → GoodSuite d i x → NoDeeper i rest → suite_of d i (leaves_part x ++ rest) ≡ Some (x, rest) = exact.suites_complete i in
-      let by_for = cond (starts_with (keyword (codes "for")) ts) (wrap k.ForStmt (with_suite (run (reading d) for_header) (suite_of d i) ts)) (reading (suc d) line ts) in
-      let by_if_ = cond (starts_with (keyword (codes "if")) ts) (wrap k.IfStmt (if_read d i (suite_of d i) so co ts)) by_for in
-      elim (cond_parts (starts_with (keyword (codes "def")) ts) (wrap k.Def (with_suite (run (reading d) def_header) (suite_of d i) ts)) by_if_ (Some y) e) [
+      let by_for = cond (starts_with (one_keyword (codes "for")) ts) (wrap k.ForStmt (with_suite (run (reading d) for_header) (suite_of d i) ts)) (reading (suc d) line ts) in
+      let by_if_ = cond (starts_with (one_keyword (codes "if")) ts) (wrap k.IfStmt (if_read d i (suite_of d i) so co ts)) by_for in
+      elim (cond_parts (starts_with (one_keyword (codes "def")) ts) (wrap k.Def (with_suite (run (reading d) def_header) (suite_of d i) ts)) by_if_ (Some y) e) [
         | inl h ↦ header_statement d i (suite_of d i) so co k.Def def_header refl refl refl refl refl (tt, tt) refl ts y is h.1
-        | inr h ↦ elim (cond_parts (starts_with (keyword (codes "if")) ts) (wrap k.IfStmt (if_read d i (suite_of d i) so co ts)) by_for (Some y) h.1) [
+        | inr h ↦ elim (cond_parts (starts_with (one_keyword (codes "if")) ts) (wrap k.IfStmt (if_read d i (suite_of d i) so co ts)) by_for (Some y) h.1) [
           | inl g ↦ if_statement d i (suite_of d i) so co ts y is g.1
-          | inr g ↦ elim (cond_parts (starts_with (keyword (codes "for")) ts) (wrap k.ForStmt (with_suite (run (reading d) for_header) (suite_of d i) ts)) (reading (suc d) line ts) (Some y) g.1) [
+          | inr g ↦ elim (cond_parts (starts_with (one_keyword (codes "for")) ts) (wrap k.ForStmt (with_suite (run (reading d) for_header) (suite_of d i) ts)) (reading (suc d) line ts) (Some y) g.1) [
             | inl f ↦ header_statement d i (suite_of d i) so co k.ForStmt for_header refl refl refl refl refl tt refl ts y is f.1
             | inr f ↦ line_statement d i (suite_of d i) so co ts y is f.1
           ]

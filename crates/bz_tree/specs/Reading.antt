@@ -7,7 +7,7 @@ use Rattle.bz_tree.specs.declared.kind.Kind.TheVariants as k
 use Rattle.bz_tree.specs.declared.tree.Part.{Part}
 use Rattle.bz_tree.specs.declared.tree.Part.TheVariants as p
 use Rattle.bz_tree.specs.Spell.{depth_part}
-use Rattle.bz_tree.specs.Shapes.{Terminal, is_one_of, has_token, Sort, rank, level, argument, entry, clause, first_clause, loaded, small, line, param, stmt, suite, test, expr, leaves_at, Shape, none, done, tok, sub, alt, list, each, times, items, newline, flows, starred, slice_end, bzl_shape, name, simple, string, equals, stars, assigns, dot, comma, colon, keyword, open_round, close_round, open_square, close_square, open_curly, close_curly}
+use Rattle.bz_tree.specs.Shapes.{Terminal, is_one_of, has_token, Sort, rank, level, argument, entry, clause, first_clause, loaded, small, line, param, stmt, suite, test, expr, leaves_at, Shape, none, done, tok, sub, alt, list, each, times, items, newline, flows, starred, slice_end, bzl_shape, name, simple, string, equals, stars, assigns, dot, comma_mark, colon_mark, one_keyword, open_round, close_round, open_square, close_square, open_curly, close_curly}
 
 infixl 10 ◌>>=◌
 abbrev pub ◌>>=◌ : {A B : Type 0} → Option A → (A → Option B) → Option B
@@ -53,18 +53,18 @@ starts_level zero = simple ++ (open_round ++ (open_square ++ open_curly))
 starts_level (suc n) = own_token (shape_at n) ++ starts_level n
 
 abbrev starts_small : List Terminal
-starts_small = keyword (codes "load") ++ (keyword (codes "return") ++ (flows ++ starts_level (rank k.Row)))
+starts_small = one_keyword (codes "load") ++ (one_keyword (codes "return") ++ (flows ++ starts_level (rank k.Row)))
 
 -- the tokens with which a statement begins that has a suite
 abbrev pub headed : List Terminal
-headed = keyword (codes "def") ++ (keyword (codes "if") ++ keyword (codes "for"))
+headed = one_keyword (codes "def") ++ (one_keyword (codes "if") ++ one_keyword (codes "for"))
 
 abbrev pub starts : Sort → List Terminal
 starts (level n) = starts_level n
 starts argument = stars ++ starts_level (rank k.Lambda)
 starts entry = starts_level (rank k.Lambda)
-starts clause = keyword (codes "for") ++ keyword (codes "if")
-starts first_clause = keyword (codes "for")
+starts clause = one_keyword (codes "for") ++ one_keyword (codes "if")
+starts first_clause = one_keyword (codes "for")
 starts loaded = string ++ name
 starts small = starts_small
 starts line = starts_small
@@ -84,32 +84,32 @@ first (each q r) = starts q ++ first r
 first (times group r) = first group ++ first r
 
 -- a part in front of what was read
-abbrev pub put : Part → Option (List Part × List Leaf) → Option (List Part × List Leaf)
-put part None = None
-put part (Some x) = Some (part ∷ x.0, x.1)
+abbrev pub with_part_first : Part → Option (List Part × List Leaf) → Option (List Part × List Leaf)
+with_part_first part None = None
+with_part_first part (Some x) = Some (part ∷ x.0, x.1)
 
-abbrev pub behind : Read (List Part) → List Terminal → Bool → List Terminal → Read (List Part) → Read (List Part)
-behind again separators last stop K [] = K []
-behind again separators last stop K (t ∷ ts) =
-    if is_one_of separators t then put (p.Leaf t) (if last && starts_with stop ts then K ts else again ts) else K (t ∷ ts)
+abbrev pub after_item : Read (List Part) → List Terminal → Bool → List Terminal → Read (List Part) → Read (List Part)
+after_item again separators last stop K [] = K []
+after_item again separators last stop K (t ∷ ts) =
+    if is_one_of separators t then with_part_first (p.Leaf t) (if last && starts_with stop ts then K ts else again ts) else K (t ∷ ts)
 
-abbrev pub listed : ℕ → Read Part → List Terminal → Bool → List Terminal → Read (List Part) → Read (List Part)
-listed zero next separators last stop K ts = None
-listed (suc n) next separators last stop K ts = next ts >>= λ x. put x.0 (behind (listed n next separators last stop K) separators last stop K x.1)
+abbrev pub separated_parts : ℕ → Read Part → List Terminal → Bool → List Terminal → Read (List Part) → Read (List Part)
+separated_parts zero next separators last stop K ts = None
+separated_parts (suc n) next separators last stop K ts = next ts >>= λ x. with_part_first x.0 (after_item (separated_parts n next separators last stop K) separators last stop K x.1)
 
 abbrev pub several : ℕ → Read Part → List Terminal → Read (List Part) → Read (List Part)
 several zero next begin K ts = K ts
-several (suc n) next begin K ts = if starts_with begin ts then (next ts >>= λ x. put x.0 (several n next begin K x.1)) else K ts
+several (suc n) next begin K ts = if starts_with begin ts then (next ts >>= λ x. with_part_first x.0 (several n next begin K x.1)) else K ts
 
 -- the parts of a shape, where inner reads a part of a sort
 abbrev pub run : (Sort → Read Part) → Shape → Read (List Part)
 run inner none ts = None
 run inner done ts = Some ([], ts)
 run inner (tok terminals r) [] = None
-run inner (tok terminals r) (t ∷ ts) = if is_one_of terminals t then put (p.Leaf t) (run inner r ts) else None
-run inner (sub q r) ts = inner q ts >>= λ x. put x.0 (run inner r x.1)
+run inner (tok terminals r) (t ∷ ts) = if is_one_of terminals t then with_part_first (p.Leaf t) (run inner r ts) else None
+run inner (sub q r) ts = inner q ts >>= λ x. with_part_first x.0 (run inner r x.1)
 run inner (alt r r') ts = if starts_with (first r) ts then run inner r ts else run inner r' ts
-run inner (list q separators last r) ts = listed (length ts) (inner q) separators last (first r) (run inner r) ts
+run inner (list q separators last r) ts = separated_parts (length ts) (inner q) separators last (first r) (run inner r) ts
 run inner (each q r) ts = several (length ts) (inner q) (starts q) (run inner r) ts
 run inner (times group r) ts = None
 
@@ -133,18 +133,18 @@ first_of (one terminals plan) = terminals
 first_of (piece q plan) = starts q
 first_of (choose left right) = first_of left ++ first_of right
 
-abbrev pub Found : Type 0
-Found = Kind × List Part
+abbrev pub FoundLevel : Type 0
+FoundLevel = Kind × List Part
 
-abbrev pub as_kind : Kind → Option (List Part × List Leaf) → Option (Found × List Leaf)
+abbrev pub as_kind : Kind → Option (List Part × List Leaf) → Option (FoundLevel × List Leaf)
 as_kind kind None = None
 as_kind kind (Some x) = Some ((kind, x.0), x.1)
 
-abbrev pub put_found : Part → Option (Found × List Leaf) → Option (Found × List Leaf)
+abbrev pub put_found : Part → Option (FoundLevel × List Leaf) → Option (FoundLevel × List Leaf)
 put_found part None = None
 put_found part (Some x) = Some ((x.0.0, part ∷ x.0.1), x.1)
 
-abbrev pub follow : (Sort → Read Part) → Plan → Read Found
+abbrev pub follow : (Sort → Read Part) → Plan → Read FoundLevel
 follow inner (finish kind r) ts = as_kind kind (run inner r ts)
 follow inner (one terminals plan) [] = None
 follow inner (one terminals plan) (t ∷ ts) = if is_one_of terminals t then put_found (p.Leaf t) (follow inner plan ts) else None
@@ -153,11 +153,11 @@ follow inner (choose left right) ts = if starts_with (first_of left) ts then fol
 
 -- ( ) or ( test .. : a Tuple, or a Paren
 abbrev pub round : Plan
-round = one open_round (choose (finish k.Tuple (tok close_round done)) (piece test (choose (finish k.Paren (tok close_round done)) (finish k.Tuple (tok comma (items test close_round))))))
+round = one open_round (choose (finish k.Tuple (tok close_round done)) (piece test (choose (finish k.Paren (tok close_round done)) (finish k.Tuple (tok comma_mark (items test close_round))))))
 
 -- behind the first item, in brackets
 abbrev pub more_items : Sort → List Terminal → Shape
-more_items sort close = alt (tok close done) (tok comma (items sort close))
+more_items sort close = alt (tok close done) (tok comma_mark (items sort close))
 
 -- behind the element of a comprehension
 abbrev pub clauses : List Terminal → Shape
@@ -175,10 +175,10 @@ abbrev pub curly : Plan
 curly = bracketed open_curly close_curly entry k.Dict k.DictComp
 
 -- what may stand behind a primary
-abbrev pub suffix : Plan
-suffix =
+abbrev pub suffix_plan : Plan
+suffix_plan =
     choose (finish k.Dot (tok dot (tok name done))) (choose (finish k.Call (tok open_round (items argument close_round)))
-    (one open_square (choose (finish k.Slice (tok colon slice_end)) (piece expr (choose (finish k.Index (tok close_square done)) (finish k.Slice (tok colon slice_end)))))))
+    (one open_square (choose (finish k.Slice (tok colon_mark slice_end)) (piece expr (choose (finish k.Index (tok close_square done)) (finish k.Slice (tok colon_mark slice_end)))))))
 
 abbrev pub clause_plan : Plan
 clause_plan = choose (finish k.For (bzl_shape k.For)) (finish k.If (bzl_shape k.If))
@@ -188,27 +188,27 @@ small_plan = choose (finish k.Load (bzl_shape k.Load)) (choose (finish k.Return 
 
 -- ---- parts
 
-abbrev pub node : Kind → List Part → Part
-node kind parts = p.Node (record { kind = kind; parts = parts })
+abbrev pub node_part : Kind → List Part → Part
+node_part kind parts = p.Node (record { kind = kind; parts = parts })
 
 -- a node of these parts
 abbrev pub wrap : Kind → Option (List Part × List Leaf) → Option (Part × List Leaf)
 wrap kind None = None
-wrap kind (Some x) = Some (node kind x.0, x.1)
+wrap kind (Some x) = Some (node_part kind x.0, x.1)
 
-abbrev pub wrap_found : Option (Found × List Leaf) → Option (Part × List Leaf)
+abbrev pub wrap_found : Option (FoundLevel × List Leaf) → Option (Part × List Leaf)
 wrap_found None = None
-wrap_found (Some x) = Some (node x.0.0 x.0.1, x.1)
+wrap_found (Some x) = Some (node_part x.0.0 x.0.1, x.1)
 
 -- one of these tokens
-abbrev pub token_of : List Terminal → Read Part
-token_of terminals [] = None
-token_of terminals (t ∷ ts) = if is_one_of terminals t then Some (p.Leaf t, ts) else None
+abbrev pub token_part : List Terminal → Read Part
+token_part terminals [] = None
+token_part terminals (t ∷ ts) = if is_one_of terminals t then Some (p.Leaf t, ts) else None
 
 -- a part, or a node that it begins, where the next token says so and the part may begin one
 abbrev pub infix_at : Kind → (Part → Bool) → Shape → (Sort → Read Part) → Read Part → Read Part
 infix_at kind left tail inner next ts =
-    next ts >>= λ a. if starts_with (first tail) a.1 then (if left a.0 then wrap kind (put a.0 (run inner tail a.1)) else None) else Some a
+    next ts >>= λ a. if starts_with (first tail) a.1 then (if left a.0 then wrap kind (with_part_first a.0 (run inner tail a.1)) else None) else Some a
 
 abbrev pub prefix_at : Kind → Shape → (Sort → Read Part) → Read Part → Read Part
 prefix_at kind r inner next ts = if starts_with (first r) ts then wrap kind (run inner r ts) else next ts
@@ -227,12 +227,12 @@ abbrev pub atom : (Sort → Read Part) → Read Part
 atom inner ts =
     if starts_with (first_of round) ts then wrap_found (follow inner round ts)
     else (if starts_with (first_of square) ts then wrap_found (follow inner square ts)
-    else (if starts_with (first_of curly) ts then wrap_found (follow inner curly ts) else token_of simple ts))
+    else (if starts_with (first_of curly) ts then wrap_found (follow inner curly ts) else token_part simple ts))
 
 abbrev pub suffixes : ℕ → ℕ → (Sort → Read Part) → Part → Read Part
 suffixes zero d inner a ts = Some (a, ts)
 suffixes (suc n) d inner a ts =
-    if starts_with (first_of suffix) ts then (if fits_in d a then (wrap_found (put_found a (follow inner suffix ts)) >>= λ x. suffixes n d inner x.0 x.1) else None) else Some (a, ts)
+    if starts_with (first_of suffix_plan) ts then (if fits_in d a then (wrap_found (put_found a (follow inner suffix_plan ts)) >>= λ x. suffixes n d inner x.0 x.1) else None) else Some (a, ts)
 
 abbrev pub read_primary : ℕ → (Sort → Read Part) → Read Part
 read_primary d inner ts = atom inner ts >>= λ a. suffixes (length a.1) d inner a.0 a.1
@@ -252,17 +252,17 @@ abbrev pub param_tail : Shape
 param_tail = tok equals (sub test done)
 
 abbrev pub read_param : (Sort → Read Part) → Read Part
-read_param inner = prefix_at k.Param starred inner (infix_at k.Param (has_token name) param_tail inner (token_of name))
+read_param inner = prefix_at k.Param starred inner (infix_at k.Param (has_token name) param_tail inner (token_part name))
 
 -- parts of at most that depth; statements and suites are read by their indents
 abbrev pub reading : ℕ → Sort → Read Part
-reading zero q ts = token_of (leaves_at q) ts
+reading zero q ts = token_part (leaves_at q) ts
 reading (suc d) (level n) ts = climb d (reading d) n ts
 reading (suc d) argument ts = read_argument (climb d (reading d) (rank k.Lambda)) (reading d) ts
 reading (suc d) entry ts = wrap k.Entry (run (reading d) (bzl_shape k.Entry) ts)
 reading (suc d) clause ts = wrap_found (follow (reading d) clause_plan ts)
 reading (suc d) first_clause ts = wrap k.For (run (reading d) (bzl_shape k.For) ts)
-reading (suc d) loaded ts = prefix_at k.Alias (bzl_shape k.Alias) (reading d) (token_of string) ts
+reading (suc d) loaded ts = prefix_at k.Alias (bzl_shape k.Alias) (reading d) (token_part string) ts
 reading (suc d) small ts = wrap_found (follow (reading d) small_plan ts)
 reading (suc d) line ts = wrap k.Line (run (reading d) (bzl_shape k.Line) ts)
 reading (suc d) param ts = read_param (reading d) ts

@@ -44,77 +44,77 @@ abbrev pub end : List Terminal
 end = any c.End ∷ []
 
 -- these marks; these keywords
-abbrev pub marks : List (List ℕ) → List Terminal
-marks [] = []
-marks (token ∷ tokens) = this c.Mark token ∷ marks tokens
+abbrev pub mark_terminals : List (List ℕ) → List Terminal
+mark_terminals [] = []
+mark_terminals (token ∷ tokens) = this c.Mark token ∷ mark_terminals tokens
 
-abbrev pub keywords : List (List ℕ) → List Terminal
-keywords [] = []
-keywords (token ∷ tokens) = this c.Keyword token ∷ keywords tokens
+abbrev pub keyword_terminals : List (List ℕ) → List Terminal
+keyword_terminals [] = []
+keyword_terminals (token ∷ tokens) = this c.Keyword token ∷ keyword_terminals tokens
 
-abbrev pub mark : List ℕ → List Terminal
-mark token = marks (token ∷ [])
+abbrev pub one_mark : List ℕ → List Terminal
+one_mark token = mark_terminals (token ∷ [])
 
-abbrev pub keyword : List ℕ → List Terminal
-keyword token = keywords (token ∷ [])
+abbrev pub one_keyword : List ℕ → List Terminal
+one_keyword token = keyword_terminals (token ∷ [])
 
 abbrev pub open_round : List Terminal
-open_round = mark (codes "(")
+open_round = one_mark (codes "(")
 
 abbrev pub close_round : List Terminal
-close_round = mark (codes ")")
+close_round = one_mark (codes ")")
 
 abbrev pub open_square : List Terminal
-open_square = mark (codes "[")
+open_square = one_mark (codes "[")
 
 abbrev pub close_square : List Terminal
-close_square = mark (codes "]")
+close_square = one_mark (codes "]")
 
 abbrev pub open_curly : List Terminal
-open_curly = mark (codes "{")
+open_curly = one_mark (codes "{")
 
 abbrev pub close_curly : List Terminal
-close_curly = mark (codes "}")
+close_curly = one_mark (codes "}")
 
-abbrev pub comma : List Terminal
-comma = mark (codes ",")
+abbrev pub comma_mark : List Terminal
+comma_mark = one_mark (codes ",")
 
-abbrev pub colon : List Terminal
-colon = mark (codes ":")
+abbrev pub colon_mark : List Terminal
+colon_mark = one_mark (codes ":")
 
 abbrev pub semicolon : List Terminal
-semicolon = mark (codes ";")
+semicolon = one_mark (codes ";")
 
 abbrev pub dot : List Terminal
-dot = mark (codes ".")
+dot = one_mark (codes ".")
 
 abbrev pub equals : List Terminal
-equals = mark (codes "=")
+equals = one_mark (codes "=")
 
 -- `=` or an augmented form
 abbrev pub assigns : List Terminal
-assigns = marks (codes "=" ∷ codes "+=" ∷ codes "-=" ∷ codes "*=" ∷ codes "/=" ∷ codes "//=" ∷ codes "%=" ∷ codes "&=" ∷ codes "|=" ∷ codes "^=" ∷ codes "<<=" ∷ codes ">>=" ∷ [])
+assigns = mark_terminals (codes "=" ∷ codes "+=" ∷ codes "-=" ∷ codes "*=" ∷ codes "/=" ∷ codes "//=" ∷ codes "%=" ∷ codes "&=" ∷ codes "|=" ∷ codes "^=" ∷ codes "<<=" ∷ codes ">>=" ∷ [])
 
 abbrev pub stars : List Terminal
-stars = marks (codes "*" ∷ codes "**" ∷ [])
+stars = mark_terminals (codes "*" ∷ codes "**" ∷ [])
 
 abbrev pub signs : List Terminal
-signs = marks (codes "+" ∷ codes "-" ∷ codes "~" ∷ [])
+signs = mark_terminals (codes "+" ∷ codes "-" ∷ codes "~" ∷ [])
 
 abbrev pub orders : List Terminal
-orders = marks (codes "==" ∷ codes "!=" ∷ codes "<" ∷ codes ">" ∷ codes "<=" ∷ codes ">=" ∷ []) ++ keyword (codes "in")
+orders = mark_terminals (codes "==" ∷ codes "!=" ∷ codes "<" ∷ codes ">" ∷ codes "<=" ∷ codes ">=" ∷ []) ++ one_keyword (codes "in")
 
 abbrev pub shifts : List Terminal
-shifts = marks (codes "<<" ∷ codes ">>" ∷ [])
+shifts = mark_terminals (codes "<<" ∷ codes ">>" ∷ [])
 
 abbrev pub sums : List Terminal
-sums = marks (codes "+" ∷ codes "-" ∷ [])
+sums = mark_terminals (codes "+" ∷ codes "-" ∷ [])
 
 abbrev pub products : List Terminal
-products = marks (codes "*" ∷ codes "/" ∷ codes "//" ∷ codes "%" ∷ [])
+products = mark_terminals (codes "*" ∷ codes "/" ∷ codes "//" ∷ codes "%" ∷ [])
 
 abbrev pub flows : List Terminal
-flows = keywords (codes "break" ∷ codes "continue" ∷ codes "pass" ∷ [])
+flows = keyword_terminals (codes "break" ∷ codes "continue" ∷ codes "pass" ∷ [])
 
 -- ---- what may stand at a place
 
@@ -199,22 +199,22 @@ leaves_at param = name
 leaves_at _ = []
 
 -- whether nodes of a kind have a sort
-abbrev pub has_kind : Sort → Kind → Bool
-has_kind (level n) kind = is_expression kind && nat_le (rank kind) n
-has_kind argument kind = (is_expression kind && nat_le (rank kind) (rank k.Lambda)) || (is_kind kind k.Named || is_kind kind k.Star)
-has_kind entry kind = is_kind kind k.Entry
-has_kind clause kind = is_kind kind k.For || is_kind kind k.If
-has_kind first_clause kind = is_kind kind k.For
-has_kind loaded kind = is_kind kind k.Alias
-has_kind small kind = is_kind kind k.Bare || (is_kind kind k.Assign || (is_kind kind k.Load || (is_kind kind k.Return || is_kind kind k.Flow)))
-has_kind line kind = is_kind kind k.Line
-has_kind param kind = is_kind kind k.Param
-has_kind stmt kind = is_kind kind k.Line || (is_kind kind k.Def || (is_kind kind k.IfStmt || is_kind kind k.ForStmt))
-has_kind suite kind = is_kind kind k.Suite || is_kind kind k.Line
+abbrev pub sort_has_kind : Sort → Kind → Bool
+sort_has_kind (level n) kind = is_expression kind && nat_le (rank kind) n
+sort_has_kind argument kind = (is_expression kind && nat_le (rank kind) (rank k.Lambda)) || (is_kind kind k.Named || is_kind kind k.Star)
+sort_has_kind entry kind = is_kind kind k.Entry
+sort_has_kind clause kind = is_kind kind k.For || is_kind kind k.If
+sort_has_kind first_clause kind = is_kind kind k.For
+sort_has_kind loaded kind = is_kind kind k.Alias
+sort_has_kind small kind = is_kind kind k.Bare || (is_kind kind k.Assign || (is_kind kind k.Load || (is_kind kind k.Return || is_kind kind k.Flow)))
+sort_has_kind line kind = is_kind kind k.Line
+sort_has_kind param kind = is_kind kind k.Param
+sort_has_kind stmt kind = is_kind kind k.Line || (is_kind kind k.Def || (is_kind kind k.IfStmt || is_kind kind k.ForStmt))
+sort_has_kind suite kind = is_kind kind k.Suite || is_kind kind k.Line
 
 abbrev pub has_sort : Sort → Part → Bool
 has_sort sort (p.Leaf leaf) = is_one_of (leaves_at sort) leaf
-has_sort sort (Node' kind size row) = has_kind sort kind
+has_sort sort (Node' kind size row) = sort_has_kind sort kind
 
 -- whether the part is one of these tokens
 abbrev pub has_token : List Terminal → Part → Bool
@@ -284,7 +284,7 @@ opt sort then_ = alt then_ (sub sort then_)
 
 -- what stands in brackets, behind the opening one: [x {"," x} [","]] and the closing one, and then
 abbrev pub enclosed : Sort → List Terminal → Shape → Shape
-enclosed sort close then_ = alt (tok close then_) (list sort comma true (tok close then_))
+enclosed sort close then_ = alt (tok close then_) (list sort comma_mark true (tok close then_))
 
 abbrev pub items : Sort → List Terminal → Shape
 items sort close = enclosed sort close done
@@ -295,19 +295,19 @@ flat sort operators = sub sort (tok operators (list sort operators false done))
 
 -- behind the first colon of a slice: [test] [":" [test]] "]"
 abbrev pub slice_end : Shape
-slice_end = opt test (alt (tok close_square done) (tok colon (opt test (tok close_square done))))
+slice_end = opt test (alt (tok close_square done) (tok colon_mark (opt test (tok close_square done))))
 
 -- a parameter with stars: "*" [Name] | "**" Name
 abbrev pub starred : Shape
-starred = alt (tok (mark (codes "*")) (alt (tok name done) done)) (tok (mark (codes "**")) (tok name done))
+starred = alt (tok (one_mark (codes "*")) (alt (tok name done) done)) (tok (one_mark (codes "**")) (tok name done))
 
 -- behind a test: ":" suite
 abbrev pub owned : Shape
-owned = tok colon (sub suite done)
+owned = tok colon_mark (sub suite done)
 
 -- {"elif" test ":" suite} ["else" ":" suite]
 abbrev pub branches : Shape
-branches = times (tok (keyword (codes "elif")) (sub test owned)) (alt (tok (keyword (codes "else")) owned) done)
+branches = times (tok (one_keyword (codes "elif")) (sub test owned)) (alt (tok (one_keyword (codes "else")) owned) done)
 
 -- Starlark's grammar, a line for each kind.
 abbrev pub bzl_shape : Kind → Shape
@@ -320,25 +320,25 @@ bzl_shape k.Bare = sub expr done
 -- Assign = expr ("=" or an augmented form) expr
 bzl_shape k.Assign = sub expr (tok assigns (sub expr done))
 -- Load = "load" "(" String {"," (String | Alias)} [","] ")"
-bzl_shape k.Load = tok (keyword (codes "load")) (tok open_round (tok string (alt (tok close_round done) (tok comma (items loaded close_round)))))
+bzl_shape k.Load = tok (one_keyword (codes "load")) (tok open_round (tok string (alt (tok close_round done) (tok comma_mark (items loaded close_round)))))
 -- Alias = Name "=" String
 bzl_shape k.Alias = tok name (tok equals (tok string done))
 -- Row = test "," test {"," test}
-bzl_shape k.Row = flat test comma
+bzl_shape k.Row = flat test comma_mark
 -- Cond = or "if" or "else" test
-bzl_shape k.Cond = sub or_level (tok (keyword (codes "if")) (sub or_level (tok (keyword (codes "else")) (sub test done))))
+bzl_shape k.Cond = sub or_level (tok (one_keyword (codes "if")) (sub or_level (tok (one_keyword (codes "else")) (sub test done))))
 -- Or = and "or" and {"or" and}
-bzl_shape k.Or = flat and_level (keyword (codes "or"))
+bzl_shape k.Or = flat and_level (one_keyword (codes "or"))
 -- And = not "and" not {"and" not}
-bzl_shape k.And = flat not_level (keyword (codes "and"))
+bzl_shape k.And = flat not_level (one_keyword (codes "and"))
 -- Not = "not" not
-bzl_shape k.Not = tok (keyword (codes "not")) (sub not_level done)
+bzl_shape k.Not = tok (one_keyword (codes "not")) (sub not_level done)
 -- Compare = bitor op bitor; op: == != < > <= >= in, or "not" "in"
-bzl_shape k.Compare = sub bitor (alt (tok orders (sub bitor done)) (tok (keyword (codes "not")) (tok (keyword (codes "in")) (sub bitor done))))
+bzl_shape k.Compare = sub bitor (alt (tok orders (sub bitor done)) (tok (one_keyword (codes "not")) (tok (one_keyword (codes "in")) (sub bitor done))))
 -- BitOr | Xor ^ BitAnd & Shift << >> Sum + - Product * / // %: next op next {op next}, loosest first
-bzl_shape k.BitOr = flat (level (rank k.Xor)) (mark (codes "|"))
-bzl_shape k.Xor = flat (level (rank k.BitAnd)) (mark (codes "^"))
-bzl_shape k.BitAnd = flat (level (rank k.Shift)) (mark (codes "&"))
+bzl_shape k.BitOr = flat (level (rank k.Xor)) (one_mark (codes "|"))
+bzl_shape k.Xor = flat (level (rank k.BitAnd)) (one_mark (codes "^"))
+bzl_shape k.BitAnd = flat (level (rank k.Shift)) (one_mark (codes "&"))
 bzl_shape k.Shift = flat (level (rank k.Sum)) shifts
 bzl_shape k.Sum = flat (level (rank k.Product)) sums
 bzl_shape k.Product = flat (level (rank k.Unary)) products
@@ -355,41 +355,41 @@ bzl_shape k.Star = tok stars (sub test done)
 -- Index = primary "[" expr "]"
 bzl_shape k.Index = sub primary (tok open_square (sub expr (tok close_square done)))
 -- Slice = primary "[" [expr] ":" [test] [":" [test]] "]"
-bzl_shape k.Slice = sub primary (tok open_square (opt expr (tok colon slice_end)))
+bzl_shape k.Slice = sub primary (tok open_square (opt expr (tok colon_mark slice_end)))
 -- List = "[" [test {"," test} [","]] "]"
 bzl_shape k.List = tok open_square (items test close_square)
 -- Dict = "{" [Entry {"," Entry} [","]] "}"
 bzl_shape k.Dict = tok open_curly (items entry close_curly)
 -- Entry = test ":" test
-bzl_shape k.Entry = sub test (tok colon (sub test done))
+bzl_shape k.Entry = sub test (tok colon_mark (sub test done))
 -- Paren = "(" test ")"
 bzl_shape k.Paren = tok open_round (sub test (tok close_round done))
 -- Tuple = "(" ")" | "(" test "," ")" | "(" test "," test {"," test} [","] ")"
-bzl_shape k.Tuple = tok open_round (alt (tok close_round done) (sub test (tok comma (items test close_round))))
+bzl_shape k.Tuple = tok open_round (alt (tok close_round done) (sub test (tok comma_mark (items test close_round))))
 -- ListComp = "[" test For {For | If} "]"
 bzl_shape k.ListComp = tok open_square (sub test (sub first_clause (each clause (tok close_square done))))
 -- DictComp = "{" Entry For {For | If} "}"
 bzl_shape k.DictComp = tok open_curly (sub entry (sub first_clause (each clause (tok close_curly done))))
 -- For = "for" primary {"," primary} "in" or
-bzl_shape k.For = tok (keyword (codes "for")) (list primary comma false (tok (keyword (codes "in")) (sub or_level done)))
+bzl_shape k.For = tok (one_keyword (codes "for")) (list primary comma_mark false (tok (one_keyword (codes "in")) (sub or_level done)))
 -- If = "if" or
-bzl_shape k.If = tok (keyword (codes "if")) (sub or_level done)
+bzl_shape k.If = tok (one_keyword (codes "if")) (sub or_level done)
 -- Def = "def" Name "(" [param {"," param} [","]] ")" ":" suite
-bzl_shape k.Def = tok (keyword (codes "def")) (tok name (tok open_round (enclosed param close_round owned)))
+bzl_shape k.Def = tok (one_keyword (codes "def")) (tok name (tok open_round (enclosed param close_round owned)))
 -- Param = Name "=" test | "*" [Name] | "**" Name
 bzl_shape k.Param = alt (tok name (tok equals (sub test done))) starred
 -- IfStmt = "if" test ":" suite {"elif" test ":" suite} ["else" ":" suite]
-bzl_shape k.IfStmt = tok (keyword (codes "if")) (sub test (tok colon (sub suite branches)))
+bzl_shape k.IfStmt = tok (one_keyword (codes "if")) (sub test (tok colon_mark (sub suite branches)))
 -- ForStmt = "for" primary {"," primary} "in" expr ":" suite
-bzl_shape k.ForStmt = tok (keyword (codes "for")) (list primary comma false (tok (keyword (codes "in")) (sub expr owned)))
+bzl_shape k.ForStmt = tok (one_keyword (codes "for")) (list primary comma_mark false (tok (one_keyword (codes "in")) (sub expr owned)))
 -- Suite = Newline stmt {stmt}
 bzl_shape k.Suite = tok newline (sub stmt (each stmt done))
 -- Return = "return" [expr]
-bzl_shape k.Return = tok (keyword (codes "return")) (alt (sub expr done) done)
+bzl_shape k.Return = tok (one_keyword (codes "return")) (alt (sub expr done) done)
 -- Flow = "break" | "continue" | "pass"
 bzl_shape k.Flow = tok flows done
 -- Lambda = "lambda" [param {"," param}] ":" test
-bzl_shape k.Lambda = tok (keyword (codes "lambda")) (alt (tok colon (sub test done)) (list param comma false (tok colon (sub test done))))
+bzl_shape k.Lambda = tok (one_keyword (codes "lambda")) (alt (tok colon_mark (sub test done)) (list param comma_mark false (tok colon_mark (sub test done))))
 
 -- The grammar of BUILD files: the same, but that File = {Line} End, and nothing has the shape of a kind from Def on.
 abbrev pub shape : Kind → Shape

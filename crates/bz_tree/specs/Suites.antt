@@ -5,24 +5,24 @@ use Rattle.bz_tree.specs.declared.kind.Kind.TheVariants as k
 use Rattle.bz_tree.specs.declared.tree.Node.{Node}
 use Rattle.bz_tree.specs.declared.tree.Part.{Part}
 use Rattle.bz_tree.specs.declared.tree.Part.TheVariants as p
-use Rattle.bz_tree.specs.Shapes.{Terminal, is_one_of, line, stmt, param, primary, test, expr, Shape, done, tok, sub, list, enclosed, name, colon, comma, open_round, close_round, newline, end, keyword}
+use Rattle.bz_tree.specs.Shapes.{Terminal, is_one_of, line, stmt, param, primary, test, expr, Shape, done, tok, sub, list, enclosed, name, colon_mark, comma_mark, open_round, close_round, newline, end, one_keyword}
 use Rattle.bz_tree.specs.Indents.{first_indent}
-use Rattle.bz_tree.specs.Reading.{◌>>=◌, Read, starts_with, starts, put, run, wrap, reading}
+use Rattle.bz_tree.specs.Reading.{◌>>=◌, Read, starts_with, starts, with_part_first, run, wrap, reading}
 
 -- ---- headers: what stands before a suite
 
 abbrev pub def_header : Shape
-def_header = tok (keyword (codes "def")) (tok name (tok open_round (enclosed param close_round (tok colon done))))
+def_header = tok (one_keyword (codes "def")) (tok name (tok open_round (enclosed param close_round (tok colon_mark done))))
 
 abbrev pub for_header : Shape
-for_header = tok (keyword (codes "for")) (list primary comma false (tok (keyword (codes "in")) (sub expr (tok colon done))))
+for_header = tok (one_keyword (codes "for")) (list primary comma_mark false (tok (one_keyword (codes "in")) (sub expr (tok colon_mark done))))
 
 -- if or elif
 abbrev pub test_header : List Terminal → Shape
-test_header terminals = tok terminals (sub test (tok colon done))
+test_header terminals = tok terminals (sub test (tok colon_mark done))
 
 abbrev pub else_header : Shape
-else_header = tok (keyword (codes "else")) (tok colon done)
+else_header = tok (one_keyword (codes "else")) (tok colon_mark done)
 
 -- ---- indents
 
@@ -54,7 +54,7 @@ alone (Some x) = Some (x.0 ∷ [], x.1)
 -- none or more parts, as long as the next leaf says so
 abbrev pub while_next : ℕ → (List Leaf → Bool) → Read Part → Read (List Part)
 while_next zero more next ts = Some ([], ts)
-while_next (suc n) more next ts = if more ts then (next ts >>= λ x. put x.0 (while_next n more next x.1)) else Some ([], ts)
+while_next (suc n) more next ts = if more ts then (next ts >>= λ x. with_part_first x.0 (while_next n more next x.1)) else Some ([], ts)
 
 -- a header and its suite
 abbrev pub with_suite : Read (List Part) → Read Part → Read (List Part)
@@ -64,17 +64,17 @@ with_suite header suite ts = header ts >>= λ x. put_all x.0 (alone (suite x.1))
 abbrev pub branches_of : ℕ → (Shape → Read (List Part)) → Read Part → List ℕ → Read (List Part)
 branches_of zero header suite i ts = Some ([], ts)
 branches_of (suc n) header suite i ts =
-    if stands_at (keyword (codes "elif")) i ts then (with_suite (header (test_header (keyword (codes "elif")))) suite ts >>= λ x. put_all x.0 (branches_of n header suite i x.1))
-    else (if stands_at (keyword (codes "else")) i ts then with_suite (header else_header) suite ts else Some ([], ts))
+    if stands_at (one_keyword (codes "elif")) i ts then (with_suite (header (test_header (one_keyword (codes "elif")))) suite ts >>= λ x. put_all x.0 (branches_of n header suite i x.1))
+    else (if stands_at (one_keyword (codes "else")) i ts then with_suite (header else_header) suite ts else Some ([], ts))
 
 abbrev mutual
   -- a statement at this indent, of at most that depth
   pub statement : ℕ → List ℕ → Read Part
   statement zero i ts = None
   statement (suc d) i ts =
-      if starts_with (keyword (codes "def")) ts then wrap k.Def (with_suite (run (reading d) def_header) (suite_of d i) ts)
-      else (if starts_with (keyword (codes "if")) ts then wrap k.IfStmt (with_suite (run (reading d) (test_header (keyword (codes "if")))) (suite_of d i) ts >>= λ x. put_all x.0 (branches_of (length x.1) (run (reading d)) (suite_of d i) i x.1))
-      else (if starts_with (keyword (codes "for")) ts then wrap k.ForStmt (with_suite (run (reading d) for_header) (suite_of d i) ts)
+      if starts_with (one_keyword (codes "def")) ts then wrap k.Def (with_suite (run (reading d) def_header) (suite_of d i) ts)
+      else (if starts_with (one_keyword (codes "if")) ts then wrap k.IfStmt (with_suite (run (reading d) (test_header (one_keyword (codes "if")))) (suite_of d i) ts >>= λ x. put_all x.0 (branches_of (length x.1) (run (reading d)) (suite_of d i) i x.1))
+      else (if starts_with (one_keyword (codes "for")) ts then wrap k.ForStmt (with_suite (run (reading d) for_header) (suite_of d i) ts)
       else reading (suc d) line ts))
 
   -- a suite of a statement at this indent
@@ -82,7 +82,7 @@ abbrev mutual
   suite_of zero i ts = None
   suite_of (suc d) i [] = None
   suite_of (suc d) i (t ∷ ts) =
-      if is_one_of newline t then (if is_deeper i (first_indent ts) && begins_at (first_indent ts) ts then wrap k.Suite (put (p.Leaf t) (while_next (length ts) (begins_at (first_indent ts)) (statement d (first_indent ts)) ts)) else None)
+      if is_one_of newline t then (if is_deeper i (first_indent ts) && begins_at (first_indent ts) ts then wrap k.Suite (with_part_first (p.Leaf t) (while_next (length ts) (begins_at (first_indent ts)) (statement d (first_indent ts)) ts)) else None)
       else reading (suc d) line (t ∷ ts)
 
 -- ---- files

@@ -9,7 +9,7 @@ use Rattle.std.proofs.lemmas.Bool.{cases_Bool, eqb-true, eqb-false}
 use Rattle.std.proofs.lemmas.Bool.Decides.{nat_tests}
 use Rattle.bz_token.specs.Bytes.{is_blank}
 use Rattle.bz_items.specs.Characters.{Bytes, backslash, line_feed, number_sign}
-use Rattle.bz_value.specs.Gaps.{GapLine, with_first, trimmed, in_comment, behind_backslash, lines_of, listed, comments_in, first_comment, behind_first, suffix_in, others_in, all_in, on_first, before_groups, groups_of, all_but_last, last_group}
+use Rattle.bz_value.specs.Gaps.{GapLine, with_first, trimmed, in_comment, behind_backslash, lines_of, as_list, comments_in, first_comment, after_first_comment, suffix_in, others_in, all_in, put_on_first, before_groups, groups_of, all_but_last, last_group}
 use Rattle.bz_value.specs.Proper.{IsComment, MaybeComment}
 
 abbrev OneLine : Bytes → Type 0
@@ -140,19 +140,19 @@ pub all_joined : {X : Type 0} (P : X → Type 0) (xs ys : List X) → AllByRecur
 all_joined P [] ys h i = i
 all_joined P (x ∷ xs) ys h i = (h.0, all_joined P xs ys h.1 i)
 
-pub fine_listed : (o : Option Bytes) → MaybeComment o → Group (listed o)
+pub fine_listed : (o : Option Bytes) → MaybeComment o → Group (as_list o)
 fine_listed None h = tt
 fine_listed (Some text) h = (h, tt)
 
 pub fine_comments : (ls : List GapLine) → AreFine ls → Group (comments_in ls)
 fine_comments [] h = tt
-fine_comments (line ∷ ls) h = all_joined IsComment (listed line.comment) (comments_in ls) (fine_listed line.comment h.0) (fine_comments ls h.1)
+fine_comments (line ∷ ls) h = all_joined IsComment (as_list line.comment) (comments_in ls) (fine_listed line.comment h.0) (fine_comments ls h.1)
 
 fine_first : (ls : List GapLine) → AreFine ls → MaybeComment (first_comment ls)
 fine_first [] h = tt
 fine_first (line ∷ ls) h = h.0
 
-pub fine_behind : (ls : List GapLine) → AreFine ls → AreFine (behind_first ls)
+pub fine_behind : (ls : List GapLine) → AreFine ls → AreFine (after_first_comment ls)
 fine_behind [] h = tt
 fine_behind (line ∷ ls) h = h.1
 
@@ -160,7 +160,7 @@ pub suffix_fine : (g : Bytes) → IsUtf8 g → MaybeComment (suffix_in g)
 suffix_fine g u = fine_first (lines_of g) (fine_lines g u)
 
 pub others_fine : (g : Bytes) → IsUtf8 g → Group (others_in g)
-others_fine g u = fine_comments (behind_first (lines_of g)) (fine_behind (lines_of g) (fine_lines g u))
+others_fine g u = fine_comments (after_first_comment (lines_of g)) (fine_behind (lines_of g) (fine_lines g u))
 
 pub all_fine : (g : Bytes) → IsUtf8 g → Group (all_in g)
 all_fine g u = fine_comments (lines_of g) (fine_lines g u)
@@ -170,7 +170,7 @@ all_fine g u = fine_comments (lines_of g) (fine_lines g u)
 abbrev pub Groups : List (List Bytes) → Type 0
 Groups gs = AllByRecursion Group gs
 
-on_first_fine : (text : Bytes) (gs : List (List Bytes)) → IsComment text → Groups gs → Groups (on_first text gs)
+on_first_fine : (text : Bytes) (gs : List (List Bytes)) → IsComment text → Groups gs → Groups (put_on_first text gs)
 on_first_fine text [] h i = ((h, tt), tt)
 on_first_fine text (g ∷ gs) h i = ((h, i.0), i.1)
 

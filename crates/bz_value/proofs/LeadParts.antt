@@ -11,10 +11,10 @@ use Rattle.bz_tree.specs.Legal.{IsSort}
 use Rattle.bz_value.specs.Frames.{frame, lead}
 use Rattle.bz_value.specs.LineShapes.{line_shape}
 use Rattle.bz_value.specs.Proper.{in_frame}
-use Rattle.bz_value.specs.Roots.{mark, row_in}
+use Rattle.bz_value.specs.Roots.{mark_leaf, row_in}
 
 abbrev pub lacks_mark : ℕ → List Terminal → Bool
-lacks_mark o terminals = not (has_token terminals (mark o))
+lacks_mark o terminals = not (has_token terminals (mark_leaf o))
 
 -- no token of the shape is this mark
 abbrev pub lacks : ℕ → Shape → Bool
@@ -32,31 +32,31 @@ no_token true e h = true≢false (sym e)
 no_token false e h = true≢false (sym h)
 
 -- a mark by itself has no sort
-mark_sort : (sort : Sort) (o : ℕ) → has_sort sort (mark o) ≡ false
+mark_sort : (sort : Sort) (o : ℕ) → has_sort sort (mark_leaf o) ≡ false
 mark_sort (s.level n) o = refl
 mark_sort _ o = refl
 
-no_sort : (sort : Sort) (o : ℕ) → IsSort sort (mark o) → ⊥
+no_sort : (sort : Sort) (o : ℕ) → IsSort sort (mark_leaf o) → ⊥
 no_sort sort o h = true≢false (sym h ∙ mark_sort sort o)
 
 module _ (o : ℕ) (ys : List Part) where
   -- what K holds of has the mark nowhere
   abbrev pub Free : (List Part → Type 0) → Type 0
-  Free K = (xs : List Part) → K (xs ++ (mark o ∷ ys)) → ⊥
+  Free K = (xs : List Part) → K (xs ++ (mark_leaf o ∷ ys)) → ⊥
 
   mutual
-    listed_free : (sort : Sort) (separators : List Terminal) (last : Bool) (K : List Part → Type 0) → lacks_mark o separators ≡ true → Free K → (xs : List Part) → Listed (IsSort sort) separators last K (xs ++ (mark o ∷ ys)) → ⊥
+    listed_free : (sort : Sort) (separators : List Terminal) (last : Bool) (K : List Part → Type 0) → lacks_mark o separators ≡ true → Free K → (xs : List Part) → Listed (IsSort sort) separators last K (xs ++ (mark_leaf o ∷ ys)) → ⊥
     listed_free sort separators last K n f [] h = no_sort sort o h.0
     listed_free sort separators last K n f (x ∷ xs) h = behind_free sort separators last K n f xs h.1
 
-    behind_free : (sort : Sort) (separators : List Terminal) (last : Bool) (K : List Part → Type 0) → lacks_mark o separators ≡ true → Free K → (xs : List Part) → Behind (IsSort sort) separators last K (xs ++ (mark o ∷ ys)) → ⊥
+    behind_free : (sort : Sort) (separators : List Terminal) (last : Bool) (K : List Part → Type 0) → lacks_mark o separators ≡ true → Free K → (xs : List Part) → Behind (IsSort sort) separators last K (xs ++ (mark_leaf o ∷ ys)) → ⊥
     behind_free sort separators last K n f [] (inl h) = f [] h
     behind_free sort separators last K n f [] (inr (e, h)) = no_token _ n e
     behind_free sort separators last K n f (x ∷ xs) (inl h) = f (x ∷ xs) h
     behind_free sort separators last K n f (x ∷ xs) (inr (e, inl h)) = listed_free sort separators last K n f xs h
     behind_free sort separators last K n f (x ∷ xs) (inr (e, inr h)) = f xs h.1
 
-  several_free : (sort : Sort) (K : List Part → Type 0) → Free K → (xs : List Part) → Several (IsSort sort) K (xs ++ (mark o ∷ ys)) → ⊥
+  several_free : (sort : Sort) (K : List Part → Type 0) → Free K → (xs : List Part) → Several (IsSort sort) K (xs ++ (mark_leaf o ∷ ys)) → ⊥
   several_free sort K f [] (inl h) = f [] h
   several_free sort K f [] (inr h) = no_sort sort o h.0
   several_free sort K f (x ∷ xs) (inl h) = f (x ∷ xs) h
@@ -77,24 +77,24 @@ module _ (o : ℕ) (ys : List Part) where
   fits_free (s.times group then_) n xs h = true≢false (sym n)
 
   -- the bracket comes first
-  none_before : (terminals : List Terminal) (then_ : Shape) → lacks o then_ ≡ true → (xs : List Part) → Fits IsSort (s.tok terminals then_) (xs ++ (mark o ∷ ys)) → length xs ≡ 0
+  none_before : (terminals : List Terminal) (then_ : Shape) → lacks o then_ ≡ true → (xs : List Part) → Fits IsSort (s.tok terminals then_) (xs ++ (mark_leaf o ∷ ys)) → length xs ≡ 0
   none_before terminals then_ n [] h = refl
   none_before terminals then_ n (x ∷ xs) h = absurd (fits_free then_ n xs h.1)
 
   -- one part, and then the bracket
-  one_before : (sort : Sort) (terminals : List Terminal) (then_ : Shape) → lacks o then_ ≡ true → (xs : List Part) → Fits IsSort (s.sub sort (s.tok terminals then_)) (xs ++ (mark o ∷ ys)) → length xs ≡ 1
+  one_before : (sort : Sort) (terminals : List Terminal) (then_ : Shape) → lacks o then_ ≡ true → (xs : List Part) → Fits IsSort (s.sub sort (s.tok terminals then_)) (xs ++ (mark_leaf o ∷ ys)) → length xs ≡ 1
   one_before sort terminals then_ n [] h = absurd (no_sort sort o h.0)
   one_before sort terminals then_ n (x ∷ xs) h = ap suc (none_before terminals then_ n xs h.1)
 
   -- one word, and then the bracket
-  word_before : (word terminals : List Terminal) (then_ : Shape) → lacks_mark o word ≡ true → lacks o then_ ≡ true → (xs : List Part) → Fits IsSort (s.tok word (s.tok terminals then_)) (xs ++ (mark o ∷ ys)) → length xs ≡ 1
+  word_before : (word terminals : List Terminal) (then_ : Shape) → lacks_mark o word ≡ true → lacks o then_ ≡ true → (xs : List Part) → Fits IsSort (s.tok word (s.tok terminals then_)) (xs ++ (mark_leaf o ∷ ys)) → length xs ≡ 1
   word_before word terminals then_ w n [] h = absurd (no_token _ w h.0)
   word_before word terminals then_ w n (x ∷ xs) h = ap suc (none_before terminals then_ n xs h.1)
 
 pub lead_before : (kind : Kind) (xs ys : List Part) → Fits IsSort (line_shape kind) (row_in (frame kind) xs ys) → in_frame (frame kind) (Unit {0}) (length xs ≡ lead kind)
 lead_before k.Call xs ys h = one_before 40 _ s.primary s.open_round (s.items s.argument s.close_round) refl xs h
-lead_before k.Load xs ys h = word_before 40 _ (s.keyword (codes "load")) s.open_round (s.tok s.string (s.alt (s.tok s.close_round s.done) (s.tok s.comma (s.items s.loaded s.close_round)))) refl refl xs h
-lead_before k.Tuple xs ys h = none_before 40 _ s.open_round (s.alt (s.tok s.close_round s.done) (s.sub s.test (s.tok s.comma (s.items s.test s.close_round)))) refl xs h
+lead_before k.Load xs ys h = word_before 40 _ (s.one_keyword (codes "load")) s.open_round (s.tok s.string (s.alt (s.tok s.close_round s.done) (s.tok s.comma_mark (s.items s.loaded s.close_round)))) refl refl xs h
+lead_before k.Tuple xs ys h = none_before 40 _ s.open_round (s.alt (s.tok s.close_round s.done) (s.sub s.test (s.tok s.comma_mark (s.items s.test s.close_round)))) refl xs h
 lead_before k.List xs ys h = none_before 91 _ s.open_square (s.items s.test s.close_square) refl xs h
 lead_before k.Dict xs ys h = none_before 123 _ s.open_curly (s.items s.entry s.close_curly) refl xs h
 lead_before _ xs ys h = tt

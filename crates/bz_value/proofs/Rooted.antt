@@ -10,7 +10,7 @@ use Rattle.bz_tree.specs.Legal.{IsSort}
 use Rattle.bz_items.specs.Characters.{comma}
 use Rattle.bz_value.specs.Frames.{Frame, row, sequence, frame, lead}
 use Rattle.bz_value.specs.LineShapes.{line_shape}
-use Rattle.bz_value.specs.Roots.{mark, each_with_comma, row_in}
+use Rattle.bz_value.specs.Roots.{mark_leaf, each_with_comma, row_in}
 
 pub record SameRoot (x y : Part) : Type 0 where
   pub token : (ts : List Terminal) → has_token ts x ≡ has_token ts y
@@ -90,7 +90,7 @@ same_itself (x ∷ xs) = more x x xs xs (itself x) (same_itself xs)
 
 pub commas_same : (xs ys back : List Part) → Same xs ys → Same (each_with_comma xs ++ back) (each_with_comma ys ++ back)
 commas_same xs ys back over = same_itself back
-commas_same xs ys back (more x y xs' ys' r w) = more x y _ _ r (more (mark comma) (mark comma) _ _ (itself (mark comma)) (commas_same xs' ys' back w))
+commas_same xs ys back (more x y xs' ys' r w) = more x y _ _ r (more (mark_leaf comma) (mark_leaf comma) _ _ (itself (mark_leaf comma)) (commas_same xs' ys' back w))
 
 pub behind_same_parts : (xs ys us vs : List Part) → Same xs ys → Same us vs → Same (xs ++ us) (ys ++ vs)
 behind_same_parts xs ys us vs over i = i
@@ -98,7 +98,7 @@ behind_same_parts xs ys us vs (more x y xs' ys' r w) i = more x y _ _ r (behind_
 
 pub row_same : (f : Frame) (xs ys us vs : List Part) → Same xs ys → Same us vs → Same (row_in f xs us) (row_in f ys vs)
 row_same row xs ys us vs h i = h
-row_same (sequence opener closer) xs ys us vs h i = behind_same_parts xs ys _ _ h (more (mark opener) (mark opener) _ _ (itself (mark opener)) (commas_same us vs (mark closer ∷ []) i))
+row_same (sequence opener closer) xs ys us vs h i = behind_same_parts xs ys _ _ h (more (mark_leaf opener) (mark_leaf opener) _ _ (itself (mark_leaf opener)) (commas_same us vs (mark_leaf closer ∷ []) i))
 
 -- ---- a sequence fits with a comma behind each item
 
@@ -117,7 +117,7 @@ module _ (close : List Terminal) (closer : Part) (closes : has_token close close
   ends_same x [] h = (closes, tt)
   ends_same x (y ∷ xs) h = absurd h.1
 
-  listed_closed : (q : Sort) (xs : List Part) → Listed (IsSort q) s.comma true (Fits IsSort (tok close done)) xs → Listed (IsSort q) s.comma true (Fits IsSort (tok close done)) (closed closer xs)
+  listed_closed : (q : Sort) (xs : List Part) → Listed (IsSort q) s.comma_mark true (Fits IsSort (tok close done)) xs → Listed (IsSort q) s.comma_mark true (Fits IsSort (tok close done)) (closed closer xs)
   listed_closed q [] h = absurd h
   listed_closed q (x ∷ []) h = absurd h.1
   listed_closed q (x ∷ y ∷ []) (h, inl i) = (h, inr (refl, inr (refl, (closes, tt))))
@@ -143,7 +143,7 @@ kept_items (sequence opener closer) kind xs = places (drop (suc (lead kind)) xs)
 call_fits : (ps : List Part) → Fits IsSort (shape k.Call) ps → Fits IsSort (shape k.Call) (row_in (frame k.Call) (kept_parts (frame k.Call) k.Call ps) (kept_items (frame k.Call) k.Call ps))
 call_fits [] h = absurd h
 call_fits (x ∷ []) h = absurd h.1
-call_fits (x ∷ y ∷ ps) h = (h.0, (refl, items_closed s.close_round (mark 41) refl s.argument ps h.1.1))
+call_fits (x ∷ y ∷ ps) h = (h.0, (refl, items_closed s.close_round (mark_leaf 41) refl s.argument ps h.1.1))
 
 load_fits : (ps : List Part) → Fits IsSort (shape k.Load) ps → Fits IsSort (shape k.Load) (row_in (frame k.Load) (kept_parts (frame k.Load) k.Load ps) (kept_items (frame k.Load) k.Load ps))
 load_fits [] h = absurd h
@@ -153,23 +153,23 @@ load_fits (w ∷ y ∷ x ∷ []) (a, (b, (d, inl i))) = absurd i
 load_fits (w ∷ y ∷ x ∷ []) (a, (b, (d, inr i))) = absurd i
 load_fits (w ∷ y ∷ x ∷ z ∷ []) (a, (b, (d, inl i))) = (a, (refl, (d, inr (refl, inl (refl, tt)))))
 load_fits (w ∷ y ∷ x ∷ z ∷ u ∷ ps) (a, (b, (d, inl i))) = absurd i.1
-load_fits (w ∷ y ∷ x ∷ z ∷ ps) (a, (b, (d, inr i))) = (a, (refl, (d, inr (refl, items_closed s.close_round (mark 41) refl s.loaded ps i.1))))
+load_fits (w ∷ y ∷ x ∷ z ∷ ps) (a, (b, (d, inr i))) = (a, (refl, (d, inr (refl, items_closed s.close_round (mark_leaf 41) refl s.loaded ps i.1))))
 
 tuple_fits : (ps : List Part) → Fits IsSort (shape k.Tuple) ps → Fits IsSort (shape k.Tuple) (row_in (frame k.Tuple) (kept_parts (frame k.Tuple) k.Tuple ps) (kept_items (frame k.Tuple) k.Tuple ps))
 tuple_fits [] h = absurd h
 tuple_fits (y ∷ []) (a, inl i) = absurd i
-tuple_fits (y ∷ x ∷ ps) (a, inl i) = (refl, inl (ends_same s.close_round (mark 41) refl x ps i))
+tuple_fits (y ∷ x ∷ ps) (a, inl i) = (refl, inl (ends_same s.close_round (mark_leaf 41) refl x ps i))
 tuple_fits (y ∷ []) (a, inr i) = absurd i
 tuple_fits (y ∷ x ∷ []) (a, inr i) = absurd i.1
-tuple_fits (y ∷ x ∷ z ∷ ps) (a, inr i) = (refl, inr (i.0, (refl, items_closed s.close_round (mark 41) refl s.test ps i.1.1)))
+tuple_fits (y ∷ x ∷ z ∷ ps) (a, inr i) = (refl, inr (i.0, (refl, items_closed s.close_round (mark_leaf 41) refl s.test ps i.1.1)))
 
 list_fits : (ps : List Part) → Fits IsSort (shape k.List) ps → Fits IsSort (shape k.List) (row_in (frame k.List) (kept_parts (frame k.List) k.List ps) (kept_items (frame k.List) k.List ps))
 list_fits [] h = absurd h
-list_fits (y ∷ ps) h = (refl, items_closed s.close_square (mark 93) refl s.test ps h.1)
+list_fits (y ∷ ps) h = (refl, items_closed s.close_square (mark_leaf 93) refl s.test ps h.1)
 
 dict_fits : (ps : List Part) → Fits IsSort (shape k.Dict) ps → Fits IsSort (shape k.Dict) (row_in (frame k.Dict) (kept_parts (frame k.Dict) k.Dict ps) (kept_items (frame k.Dict) k.Dict ps))
 dict_fits [] h = absurd h
-dict_fits (y ∷ ps) h = (refl, items_closed s.close_curly (mark 125) refl s.entry ps h.1)
+dict_fits (y ∷ ps) h = (refl, items_closed s.close_curly (mark_leaf 125) refl s.entry ps h.1)
 
 -- What a form keeps of a node's parts has the shape of its kind again, with brackets and commas put back.
 pub kind_fits : (kind : Kind) (ps : List Part) → Fits IsSort (shape kind) ps → Fits IsSort (shape kind) (row_in (frame kind) (kept_parts (frame kind) kind ps) (kept_items (frame kind) kind ps))

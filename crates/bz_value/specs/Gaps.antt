@@ -45,14 +45,14 @@ abbrev mutual
   behind_backslash [] = []
   behind_backslash (c ∷ g) = if nat_eq c line_feed then lines_of g else behind_backslash g
 
-abbrev pub listed : Option Bytes → List Bytes
-listed None = []
-listed (Some text) = text ∷ []
+abbrev pub as_list : Option Bytes → List Bytes
+as_list None = []
+as_list (Some text) = text ∷ []
 
 -- the comments of lines, in their order
 abbrev pub comments_in : List GapLine → List Bytes
 comments_in [] = []
-comments_in (line ∷ lines) = listed line.comment ++ comments_in lines
+comments_in (line ∷ lines) = as_list line.comment ++ comments_in lines
 
 -- the comment of the first line: only blanks stand before it
 abbrev pub first_comment : List GapLine → Option Bytes
@@ -60,9 +60,9 @@ first_comment [] = None
 first_comment (line ∷ lines) = line.comment
 
 -- the lines behind the first
-abbrev pub behind_first : List GapLine → List GapLine
-behind_first [] = []
-behind_first (line ∷ lines) = lines
+abbrev pub after_first_comment : List GapLine → List GapLine
+after_first_comment [] = []
+after_first_comment (line ∷ lines) = lines
 
 -- an unescaped newline stands in the gap
 abbrev pub some_newline : List GapLine → Bool
@@ -75,7 +75,7 @@ abbrev pub suffix_in : Bytes → Option Bytes
 suffix_in gap = first_comment (lines_of gap)
 
 abbrev pub others_in : Bytes → List Bytes
-others_in gap = comments_in (behind_first (lines_of gap))
+others_in gap = comments_in (after_first_comment (lines_of gap))
 
 abbrev pub all_in : Bytes → List Bytes
 all_in gap = comments_in (lines_of gap)
@@ -85,13 +85,13 @@ has_newline gap = some_newline (lines_of gap)
 
 -- Comment lines that follow each other form a group: the lines cut at each one without a comment. The last group is what
 -- stands right above what follows the lines.
-abbrev pub on_first : Bytes → List (List Bytes) → List (List Bytes)
-on_first text [] = (text ∷ []) ∷ []
-on_first text (group ∷ groups) = (text ∷ group) ∷ groups
+abbrev pub put_on_first : Bytes → List (List Bytes) → List (List Bytes)
+put_on_first text [] = (text ∷ []) ∷ []
+put_on_first text (group ∷ groups) = (text ∷ group) ∷ groups
 
 abbrev pub before_groups : Option Bytes → List (List Bytes) → List (List Bytes)
 before_groups None groups = [] ∷ groups
-before_groups (Some text) groups = on_first text groups
+before_groups (Some text) groups = put_on_first text groups
 
 abbrev pub groups_of : List GapLine → List (List Bytes)
 groups_of [] = [] ∷ []

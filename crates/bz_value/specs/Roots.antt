@@ -12,16 +12,16 @@ abbrev pub root : Expr → Part
 root (Token t) = p.Leaf (record { class = t.class; gap = []; token = t.text })
 root (Form' kind s parts s' items end_ split open_ comments) = p.Node (record { kind = kind; parts = [] })
 
-abbrev pub mark : ℕ → Part
-mark character = p.Leaf (record { class = c.Mark; gap = []; token = character ∷ [] })
+abbrev pub mark_leaf : ℕ → Part
+mark_leaf character = p.Leaf (record { class = c.Mark; gap = []; token = character ∷ [] })
 
 -- each item with a comma behind it
 abbrev pub each_with_comma : List Part → List Part
 each_with_comma [] = []
-each_with_comma (x ∷ xs) = x ∷ mark comma ∷ each_with_comma xs
+each_with_comma (x ∷ xs) = x ∷ mark_leaf comma ∷ each_with_comma xs
 
 -- The row of parts that a form stands for, by their roots: brackets and commas are put back. (A comma may stand behind
 -- the last item of every sequence, and stands behind that of a tuple of one.)
 abbrev pub row_in : Frame → List Part → List Part → List Part
 row_in row parts items = parts
-row_in (sequence opener closer) parts items = parts ++ mark opener ∷ (each_with_comma items ++ mark closer ∷ [])
+row_in (sequence opener closer) parts items = parts ++ mark_leaf opener ∷ (each_with_comma items ++ mark_leaf closer ∷ [])

@@ -3,7 +3,7 @@ ghost use Rattle.std.specs.Prelude.{◌≡◌, ◌+◌, ◌-◌, ◌^◌, ◌||�
 ghost use Rattle.std.specs.Option.{option_copied};
 ghost use Rattle.bz_token.specs.Bytes.{is_blank};
 ghost use Rattle.bz_items.specs.Characters.{space, tab};
-ghost use Rattle.bz_value.specs.Gaps.{all_in, behind_backslash, behind_first, has_newline, in_comment, lines_of, others_in, suffix_in, trimmed};
+ghost use Rattle.bz_value.specs.Gaps.{all_in, behind_backslash, after_first_comment, has_newline, in_comment, lines_of, others_in, suffix_in, trimmed};
 ghost use Rattle.bz_value.specs.Indented.{indented, indented_behind};
 
 use bz_items::{Items, Memory, Text};
@@ -172,7 +172,7 @@ pub fn first_indented_line(gap: &[u8]) -> Option<IndentedLine<'_>>
 
 /// The gap behind its first line.
 pub fn behind_first_line(gap: &[u8]) -> &[u8]
-    ensures { lines_of result.now ≡ behind_first (lines_of gap.now) }
+    ensures { lines_of result.now ≡ after_first_comment (lines_of gap.now) }
 {
     match first_line(gap) {
         None => &[],

@@ -4,11 +4,11 @@ use Rattle.std.specs.Option.{option_copied}
 use Rattle.bz_value.specs.declared.value.Item.{Item}
 use Rattle.bz_value.specs.declared.value.Item.TheVariants as i
 use Rattle.bz_items.specs.Characters.{Bytes}
-use Rattle.bz_value.specs.Gaps.{GapLine, lines_of, on_first, groups_of, all_but_last, last_group}
+use Rattle.bz_value.specs.Gaps.{GapLine, lines_of, put_on_first, groups_of, all_but_last, last_group}
 use Rattle.bz_view.specs.View.{blocks}
 use Rattle.bz_view.specs.Walks.{prepend}
 
-some_first : (text : Bytes) (gs : List (List Bytes)) → (g : List Bytes) × (more : List (List Bytes)) × (on_first text gs ≡ g ∷ more)
+some_first : (text : Bytes) (gs : List (List Bytes)) → (g : List Bytes) × (more : List (List Bytes)) × (put_on_first text gs ≡ g ∷ more)
 some_first text [] = (text ∷ [], [], refl)
 some_first text (g ∷ gs) = (text ∷ g, gs, refl)
 
@@ -23,7 +23,7 @@ some_group (l ∷ ls) = some_line l.comment l.newline ls
 prepend_none : (ls : List GapLine) → prepend [] (groups_of ls) ≡ groups_of ls
 prepend_none ls = let w = some_group ls in ap (prepend []) w.2 ∙ sym w.2
 
-prepend_line : (lines : List Bytes) (text : Bytes) (gs : List (List Bytes)) → prepend lines (on_first text gs) ≡ prepend (lines ++ text ∷ []) gs
+prepend_line : (lines : List Bytes) (text : Bytes) (gs : List (List Bytes)) → prepend lines (put_on_first text gs) ≡ prepend (lines ++ text ∷ []) gs
 prepend_line lines text [] = refl
 prepend_line lines text (g ∷ gs) = ap (λ l. l ∷ gs) (sym (append_assoc lines (text ∷ []) g))
 

@@ -12,7 +12,7 @@ use Rattle.bz_tree.specs.declared.kind.Kind.TheVariants as k
 use Rattle.bz_tree.specs.declared.tree.Part.{Part, Node'}
 use Rattle.bz_tree.specs.declared.tree.Part.TheVariants as p
 use Rattle.bz_tree.specs.Shapes as s
-use Rattle.bz_tree.specs.Shapes.{Sort, Terminal, Shape, Fits, Listed, Behind, Several, shape, has_token, is_one_of, is_terminal, has_kind, leaves_at}
+use Rattle.bz_tree.specs.Shapes.{Sort, Terminal, Shape, Fits, Listed, Behind, Several, shape, has_token, is_one_of, is_terminal, sort_has_kind, leaves_at}
 use Rattle.bz_tree.specs.Legal.{IsSort}
 use Rattle.bz_tree.specs.Spots.{Spot, Within, onward, Role, opens, closes, ends, plain, role, behind_token, behind_node, behind_part}
 use Rattle.bz_tree.proofs.Balance.{no_such, same_class, inner_sort, not_file, not_lines}
@@ -111,7 +111,7 @@ pub token_inner : (ts : List Terminal) (x : Part) → inner_tokens ts ≡ true �
 token_inner ts (p.Leaf l) h i = tokens_inner ts l h i
 token_inner ts (Node' kind z r) h i = no_such i
 
-sort_kind : (a : Sort) (kind : Kind) → inner_sort a ≡ true → has_kind a kind ≡ true → inner_kind kind ≡ true
+sort_kind : (a : Sort) (kind : Kind) → inner_sort a ≡ true → sort_has_kind a kind ≡ true → inner_kind kind ≡ true
 sort_kind a k.File h i = no_such (sym (not_file a) ∙ i)
 sort_kind a k.Line h i = no_such (sym (not_lines a k.Line refl h) ∙ i)
 sort_kind a k.Def h i = no_such (sym (not_lines a k.Def refl h) ∙ i)
@@ -285,7 +285,7 @@ sort_unsigned a l i = leaf_unsigned (leaves_at a) l (leaves_unsigned a) i
 -- ---- statements
 
 -- (the other kinds of such a sort are none of BUILD files)
-pub small_statement : (kind : Kind) (xs : List Part) → Fits IsSort (shape kind) xs → has_kind s.small kind ≡ true → is_statement kind ≡ true
+pub small_statement : (kind : Kind) (xs : List Part) → Fits IsSort (shape kind) xs → sort_has_kind s.small kind ≡ true → is_statement kind ≡ true
 small_statement k.Bare xs f h = refl
 small_statement k.Assign xs f h = refl
 small_statement k.Load xs f h = refl

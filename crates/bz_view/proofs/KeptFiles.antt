@@ -13,9 +13,9 @@ use Rattle.bz_tree.proofs.Balance.{no_such, parts_of_row}
 use Rattle.bz_tree.proofs.Numbers.{same_kind}
 use Rattle.bz_value.specs.Counted.{total, item_amount, one_if}
 use Rattle.bz_items.specs.Characters.{Bytes}
-use Rattle.bz_value.specs.Gaps.{GapLine, lines_of, comments_in, behind_first, groups_of, all_but_last, last_group, suffix_in}
+use Rattle.bz_value.specs.Gaps.{GapLine, lines_of, comments_in, after_first_comment, groups_of, all_but_last, last_group, suffix_in}
 use Rattle.bz_view.specs.Kept.{CommentsKept}
-use Rattle.bz_view.specs.View.{seen, seen_row, first_gap, last_gap, blocks, statements_in, line_items, file_items}
+use Rattle.bz_view.specs.View.{seen, seen_row, first_seen_gap, last_gap, blocks, statements_in, line_items, file_items}
 use Rattle.bz_view.proofs.KeptParts.{AllKept, host_kept, token_part, parts_kept}
 use Rattle.bz_view.proofs.Pairs.{Paired, listed_paired}
 use Rattle.bz_view.proofs.QuietGaps.{Quiet, Statements, statements_quiet, row_legal}
@@ -26,7 +26,7 @@ use Rattle.bz_value.proofs.Totals.{append_total}
 module _ (number : Bytes → ℕ) where
   -- the comments behind the first line of a gap
   abbrev pub left_amount : Bytes → ℕ
-  left_amount gap = total number (comments_in (behind_first (lines_of gap)))
+  left_amount gap = total number (comments_in (after_first_comment (lines_of gap)))
 
   -- Statements of a line: the gap before the first is among the comments above it, and what stands in the newline's gap behind
   -- its first line belongs to the lines below.
@@ -58,7 +58,7 @@ module _ (number : Bytes → ℕ) where
   -- ---- lines
 
   line_kept : (lines : List GapLine) (xs : List Part) → Statements xs → AllKept number xs → Quiet xs →
-      gap_amount number (first_gap (map seen xs)) + (total (item_amount number) (line_items lines (map seen xs)) + left_amount (last_gap (map seen xs))) ≡ total number (comments_in lines) + total (part_amount number) xs
+      gap_amount number (first_seen_gap (map seen xs)) + (total (item_amount number) (line_items lines (map seen xs)) + left_amount (last_gap (map seen xs))) ≡ total number (comments_in lines) + total (part_amount number) xs
   line_kept lines [] h g q = absurd h
   line_kept lines (x ∷ []) h g q = absurd h.1
   line_kept lines (x ∷ y ∷ xs) h g q =
@@ -70,15 +70,15 @@ module _ (number : Bytes → ℕ) where
 
   -- a line of a file, where these lines are left of the gap before
   row_kept : (left : List GapLine) (m : _) (r : Row_of-Part m) → Statements (items-the_row-Part m r) → LegalRow r → AtRow Stands Begins Begins r →
-      total (item_amount number) (line_items (left ++ lines_of (first_gap (seen_row r))) (seen_row r)) + left_amount (last_gap (seen_row r)) ≡ total number (comments_in left) + total (part_amount number) (items-the_row-Part m r)
+      total (item_amount number) (line_items (left ++ lines_of (first_seen_gap (seen_row r))) (seen_row r)) + left_amount (last_gap (seen_row r)) ≡ total number (comments_in left) + total (part_amount number) (items-the_row-Part m r)
   row_kept left m r h g at_ =
       let ys : List Part = items-the_row-Part m r in
-      let lines : List GapLine = left ++ lines_of (first_gap (map seen ys)) in
+      let lines : List GapLine = left ++ lines_of (first_seen_gap (map seen ys)) in
       let quiet : Quiet ys = statements_quiet Begins Begins ys refl h (row_legal m r g) (parts_of_row Stands Begins Begins m r at_) in
       let made = line_kept lines ys h (parts_kept number m r g) quiet in
-      let both = lines_joined number left (lines_of (first_gap (map seen ys))) in
+      let both = lines_joined number left (lines_of (first_seen_gap (map seen ys))) in
       let found : total (item_amount number) (line_items lines (map seen ys)) + left_amount (last_gap (map seen ys)) ≡ total number (comments_in left) + total (part_amount number) ys = omega arith in
-      ap (λ ss. total (item_amount number) (line_items (left ++ lines_of (first_gap ss)) ss) + left_amount (last_gap ss)) (seen_rows m r) ∙ found
+      ap (λ ss. total (item_amount number) (line_items (left ++ lines_of (first_seen_gap ss)) ss) + left_amount (last_gap ss)) (seen_rows m r) ∙ found
 
   -- ---- the file
 
@@ -104,9 +104,9 @@ module _ (number : Bytes → ℕ) where
       let statements : Statements ys = subst (λ kd. Fits IsSort (shape kd) ys) e g.0.0 in
       let there : AtParts Stands Begins Begins xs = subst (λ kd. AtParts Stands Begins (behind_node kd Begins) xs) e at_.1 in
       let here = row_kept left _ r statements g.0.1 at_.0 in
-      let rest = file_kept (behind_first (lines_of (last_gap (seen_row r)))) xs h.1 g.1 there in
+      let rest = file_kept (after_first_comment (lines_of (last_gap (seen_row r)))) xs h.1 g.1 there in
       let leaves = row_leaves number _ r in
-      let both = append_total (item_amount number) (line_items (left ++ lines_of (first_gap (seen_row r))) (seen_row r)) (file_items (behind_first (lines_of (last_gap (seen_row r)))) xs) in
+      let both = append_total (item_amount number) (line_items (left ++ lines_of (first_seen_gap (seen_row r))) (seen_row r)) (file_items (after_first_comment (lines_of (last_gap (seen_row r)))) xs) in
       omega arith
 
 pub comments_kept : CommentsKept

@@ -13,7 +13,7 @@ use Rattle.bz_value.specs.Frames.{Frame, row, sequence, frame, lead, is_binary}
 use Rattle.bz_items.specs.Characters.{Bytes}
 use Rattle.bz_value.specs.Gaps.{suffix_in, others_in, all_in, has_newline}
 use Rattle.bz_value.specs.Proper.{is_operator}
-use Rattle.bz_view.specs.View.{Seen, seen, node_in, plain, first_gap, begins_operator, loose_in, loose_behind, row_exprs, items_in}
+use Rattle.bz_view.specs.View.{Seen, seen, seen_node, plain, first_seen_gap, begins_seen_operator, loose_in, loose_behind, row_exprs, items_in}
 use Rattle.bz_view.specs.Walks.{form_in, loose_of}
 use Rattle.bz_view.proofs.Pairs.{is_token, Paired, TokenAt, BracketedIn, node_bracketed}
 use Rattle.bz_view.proofs.ProperParts.{dropped}
@@ -54,7 +54,7 @@ module _ (number : Bytes → ℕ) where
   row_behind binary inside newline (x ∷ xs) h =
       let operator : Bool = binary && is_operator (plain (seen x)) in
       let before : Bool = if inside then newline else has_newline (seen x).gap in
-      let broken : Bool = (operator && not (begins_operator (map seen xs))) && (before || has_newline (first_gap (map seen xs))) in
+      let broken : Bool = (operator && not (begins_seen_operator (map seen xs))) && (before || has_newline (first_seen_gap (map seen xs))) in
       let here = h.0 in
       let rest = row_behind binary operator before xs h.1 in
       let made = bare_amount x broken in
@@ -63,7 +63,7 @@ module _ (number : Bytes → ℕ) where
 
   -- of a row, the gap before it stands outside
   pub row_kept : (binary inside newline : Bool) (xs : List Part) → AllKept xs →
-      gap_amount number (first_gap (map seen xs)) + (total number (loose_in (map seen xs)) + total (amount number) (row_exprs binary inside newline (map seen xs))) ≡ total (part_amount number) xs
+      gap_amount number (first_seen_gap (map seen xs)) + (total number (loose_in (map seen xs)) + total (amount number) (row_exprs binary inside newline (map seen xs))) ≡ total (part_amount number) xs
   row_kept binary inside newline [] h = refl
   row_kept binary inside newline (x ∷ xs) h =
       let rest = row_behind binary inside newline (x ∷ xs) h in
@@ -95,7 +95,7 @@ module _ (number : Bytes → ℕ) where
       omega arith
 
   pub head_kept : (n : ℕ) (xs : List Part) → AllKept xs → TokenAt n xs →
-      gap_amount number (first_gap (map seen xs)) + (total number (loose_in (take (suc n) (map seen xs))) + total (amount number) (map plain (take n (map seen xs)))) ≡ total (part_amount number) (take (suc n) xs)
+      gap_amount number (first_seen_gap (map seen xs)) + (total number (loose_in (take (suc n) (map seen xs))) + total (amount number) (map plain (take n (map seen xs)))) ≡ total (part_amount number) (take (suc n) xs)
   head_kept zero [] h t = refl
   head_kept (suc n) [] h t = refl
   head_kept n (x ∷ xs) h t =
@@ -114,7 +114,7 @@ module _ (number : Bytes → ℕ) where
 
   -- items and end comments: the gap before the first item is among the comments above it
   items_kept : (above : List Bytes) (xs : List Part) → AllKept xs → Paired xs →
-      gap_amount number (first_gap (map seen xs)) + (total (amount number) (items_in above (map seen xs)).0 + total number (items_in above (map seen xs)).1) ≡ total number above + total (part_amount number) xs
+      gap_amount number (first_seen_gap (map seen xs)) + (total (amount number) (items_in above (map seen xs)).0 + total number (items_in above (map seen xs)).1) ≡ total number above + total (part_amount number) xs
   items_kept above [] h t = omega arith
   items_kept above (x ∷ []) h t =
       let here = h.0 in
@@ -146,24 +146,24 @@ module _ (number : Bytes → ℕ) where
 
   -- what is found behind the opening bracket
   pub found_kept : (xs : List Part) → AllKept xs → Paired xs →
-      total (amount number) (items_in (all_in (first_gap (map seen xs))) (map seen xs)).0 + total number (items_in (all_in (first_gap (map seen xs))) (map seen xs)).1 ≡ total (part_amount number) xs
-  found_kept xs h t = let all = items_kept (all_in (first_gap (map seen xs))) xs h t in omega arith
+      total (amount number) (items_in (all_in (first_seen_gap (map seen xs))) (map seen xs)).0 + total number (items_in (all_in (first_seen_gap (map seen xs))) (map seen xs)).1 ≡ total (part_amount number) xs
+  found_kept xs h t = let all = items_kept (all_in (first_seen_gap (map seen xs))) xs h t in omega arith
 
   form_kept : (f : Frame) (kind : Kind) (xs : List Part) → AllKept xs → BracketedIn f kind xs →
-      gap_amount number (first_gap (map seen xs)) + (total number (loose_of f kind (map seen xs)) + inner_amount number (form_in f kind (map seen xs) no_comments)) ≡ total (part_amount number) xs
+      gap_amount number (first_seen_gap (map seen xs)) + (total number (loose_of f kind (map seen xs)) + inner_amount number (form_in f kind (map seen xs) no_comments)) ≡ total (part_amount number) xs
   form_kept row kind xs h b = let all = row_kept (is_binary kind) false false xs h in omega arith
   form_kept (sequence opener closer) kind xs h b =
       let n : ℕ = lead kind in
       let body : List Part = drop (suc n) xs in
       let head = head_kept n xs h b.opener in
       let found = found_kept body (dropped KeptPart (suc n) xs h) b.body in
-      let same : total (amount number) (items_in (all_in (first_gap (drop (suc n) (map seen xs)))) (drop (suc n) (map seen xs))).0 + total number (items_in (all_in (first_gap (drop (suc n) (map seen xs)))) (drop (suc n) (map seen xs))).1
-      ≡ total (amount number) (items_in (all_in (first_gap (map seen body))) (map seen body)).0 + total number (items_in (all_in (first_gap (map seen body))) (map seen body)).1 =
-      ap (λ ss. total (amount number) (items_in (all_in (first_gap ss)) ss).0 + total number (items_in (all_in (first_gap ss)) ss).1) (drop-map seen (suc n) xs) in
+      let same : total (amount number) (items_in (all_in (first_seen_gap (drop (suc n) (map seen xs)))) (drop (suc n) (map seen xs))).0 + total number (items_in (all_in (first_seen_gap (drop (suc n) (map seen xs)))) (drop (suc n) (map seen xs))).1
+      ≡ total (amount number) (items_in (all_in (first_seen_gap (map seen body))) (map seen body)).0 + total number (items_in (all_in (first_seen_gap (map seen body))) (map seen body)).1 =
+      ap (λ ss. total (amount number) (items_in (all_in (first_seen_gap ss)) ss).0 + total number (items_in (all_in (first_seen_gap ss)) ss).1) (drop-map seen (suc n) xs) in
       let cut = cut_total (suc n) xs in
       omega arith
 
-  pub node_kept : (f : Frame) (kind : Kind) (xs : List Part) → AllKept xs → BracketedIn f kind xs → gap_amount number (node_in f kind (map seen xs)).gap + held (node_in f kind (map seen xs)) ≡ total (part_amount number) xs
+  pub node_kept : (f : Frame) (kind : Kind) (xs : List Part) → AllKept xs → BracketedIn f kind xs → gap_amount number (seen_node f kind (map seen xs)).gap + held (seen_node f kind (map seen xs)) ≡ total (part_amount number) xs
   node_kept row kind xs h b =
       let made = node_amount number row kind (map seen xs) no_comments false in
       let all = form_kept row kind xs h b in
@@ -178,7 +178,7 @@ module _ (number : Bytes → ℕ) where
     part_kept (p.Leaf l) h = let all = leaf_amount number l in omega arith
     part_kept (Node' kind n r) h =
         let xs : List Part = items-the_row-Part _ r in
-        ap (λ ss. gap_amount number (node_in (frame kind) kind ss).gap + held (node_in (frame kind) kind ss)) (seen_rows _ r)
+        ap (λ ss. gap_amount number (seen_node (frame kind) kind ss).gap + held (seen_node (frame kind) kind ss)) (seen_rows _ r)
         ∙ (node_kept (frame kind) kind xs (parts_kept _ r h.1) (node_bracketed kind xs h.0) ∙ sym (row_leaves number _ r))
 
     pub parts_kept : (m : _) (r : Row_of-Part m) → LegalRow r → AllKept (items-the_row-Part m r)

@@ -17,7 +17,7 @@ use Rattle.bz_value.specs.Frames.{Frame, row, sequence, frame, has_brackets, lea
 use Rattle.bz_items.specs.Characters.{Bytes}
 use Rattle.bz_value.specs.Gaps.{has_newline}
 use Rattle.bz_value.specs.Proper.{is_operator}
-use Rattle.bz_view.specs.View.{Seen, seen, seen_row, node_in, plain, first_gap, is_open, is_split}
+use Rattle.bz_view.specs.View.{Seen, seen, seen_row, seen_node, plain, first_seen_gap, is_open, is_split}
 use Rattle.bz_view.specs.Walks.{form_in, loose_of, seq_in}
 
 pub seen_rows : (m : _) (r : Row_of-Part m) → seen_row r ≡ map seen (items-the_row-Part m r)
@@ -27,28 +27,28 @@ seen_rows m (more_of-Part x rest) = ap (λ t. seen x ∷ t) (seen_rows _ rest)
 pub seen_parts : (n : Node) → seen_row (row_of n).1 ≡ map seen n.parts
 seen_parts n = seen_rows _ (row_of n).1 ∙ ap (map seen) (items_of_row n)
 
-pub seen_Node : (n : Node) → seen (p.Node n) ≡ node_in (frame n.kind) n.kind (map seen n.parts)
-seen_Node n = ap (node_in (frame n.kind) n.kind) (seen_parts n)
+pub seen_Node : (n : Node) → seen (p.Node n) ≡ seen_node (frame n.kind) n.kind (map seen n.parts)
+seen_Node n = ap (seen_node (frame n.kind) n.kind) (seen_parts n)
 
 -- ---- a node by its frame
 
-node_gap : (f : Frame) (kind : Kind) (ss : List Seen) → (node_in f kind ss).gap ≡ first_gap ss
+node_gap : (f : Frame) (kind : Kind) (ss : List Seen) → (seen_node f kind ss).gap ≡ first_seen_gap ss
 node_gap row kind ss = refl
 node_gap (sequence opener closer) kind ss = refl
 
-node_made : (f : Frame) (kind : Kind) (ss : List Seen) (b : Bool) → e.Form (form_in f kind ss no_comments) ≡ (node_in f kind ss).make no_comments b
+node_made : (f : Frame) (kind : Kind) (ss : List Seen) (b : Bool) → e.Form (form_in f kind ss no_comments) ≡ (seen_node f kind ss).make no_comments b
 node_made row kind ss b = refl
 node_made (sequence opener closer) kind ss b = refl
 
-node_loose : (f : Frame) (kind : Kind) (ss : List Seen) → loose_of f kind ss ≡ (node_in f kind ss).loose
+node_loose : (f : Frame) (kind : Kind) (ss : List Seen) → loose_of f kind ss ≡ (seen_node f kind ss).loose
 node_loose row kind ss = refl
 node_loose (sequence opener closer) kind ss = refl
 
-node_operator : (f : Frame) (kind : Kind) (ss : List Seen) → false ≡ is_operator (plain (node_in f kind ss))
+node_operator : (f : Frame) (kind : Kind) (ss : List Seen) → false ≡ is_operator (plain (seen_node f kind ss))
 node_operator row kind ss = refl
 node_operator (sequence opener closer) kind ss = refl
 
-node_comments : (f : Frame) (kind : Kind) (ss : List Seen) (b : Bool) (cs : HostComments) → with_comments ((node_in f kind ss).make no_comments b) cs ≡ (node_in f kind ss).make cs b
+node_comments : (f : Frame) (kind : Kind) (ss : List Seen) (b : Bool) (cs : HostComments) → with_comments ((seen_node f kind ss).make no_comments b) cs ≡ (seen_node f kind ss).make cs b
 node_comments row kind ss b cs = refl
 node_comments (sequence opener closer) kind ss b cs = refl
 
@@ -59,7 +59,7 @@ seen_comments (Node' kind _ parts) b cs = node_comments (frame kind) kind (seen_
 
 -- ---- the same of a part that is a node
 
-pub gap_of_node : (x : Part) (n : Node) → x ≡ p.Node n → first_gap (map seen n.parts) ≡ (seen x).gap
+pub gap_of_node : (x : Part) (n : Node) → x ≡ p.Node n → first_seen_gap (map seen n.parts) ≡ (seen x).gap
 gap_of_node x n i = sym (ap (λ y. (seen y).gap) i ∙ (ap (λ s. s.gap) (seen_Node n) ∙ node_gap (frame n.kind) n.kind (map seen n.parts)))
 
 pub made_of_node : (x : Part) (n : Node) (b : Bool) → x ≡ p.Node n → e.Form (form_in (frame n.kind) n.kind (map seen n.parts) no_comments) ≡ (seen x).make no_comments b
@@ -73,12 +73,12 @@ operator_of_node x n i = node_operator (frame n.kind) n.kind (map seen n.parts) 
 
 -- the gap before a node is the one before its first part
 pub gap_none : (x : Part) (n : Node) (ps : List Part) → x ≡ p.Node n → ps ≡ n.parts → length ps < 1 → [] ≡ (seen x).gap
-gap_none x n [] i f l = ap (λ qs. first_gap (map seen qs)) f ∙ gap_of_node x n i
+gap_none x n [] i f l = ap (λ qs. first_seen_gap (map seen qs)) f ∙ gap_of_node x n i
 gap_none x n (q ∷ qs) i f l = absurd (omega arith)
 
 pub gap_first : (x : Part) (n : Node) (ps : List Part) (y : Part) (g : Bytes) → x ≡ p.Node n → ps ≡ n.parts → 1 ≤ length ps → y ≡ get_or ps 0 y → g ≡ (seen y).gap → g ≡ (seen x).gap
 gap_first x n [] y g i f l j h = absurd (omega arith)
-gap_first x n (q ∷ qs) y g i f l j h = h ∙ (ap (λ z. (seen z).gap) j ∙ (ap (λ rs. first_gap (map seen rs)) f ∙ gap_of_node x n i))
+gap_first x n (q ∷ qs) y g i f l j h = h ∙ (ap (λ z. (seen z).gap) j ∙ (ap (λ rs. first_seen_gap (map seen rs)) f ∙ gap_of_node x n i))
 
 -- ---- a sequence
 
@@ -101,18 +101,18 @@ pub seen_from : (ps : List Part) (at : ℕ) (y : Part) → at < length ps → y 
 seen_from ps at y l i = ap (map seen) (drop-cons ps at y l) ∙ ap (λ z. seen z ∷ map seen (drop (suc at) ps)) (sym i)
 
 -- right behind the first part
-pub opened : (ps : List Part) → has_newline (first_gap (map seen (drop 1 ps))) ≡ is_open (map seen ps)
+pub opened : (ps : List Part) → has_newline (first_seen_gap (map seen (drop 1 ps))) ≡ is_open (map seen ps)
 opened [] = refl
 opened (x ∷ ps) = refl
 
 -- no newline before the part with this index
-no_split : (ss : List Seen) (at : ℕ) → has_newline (first_gap (drop at ss)) ≡ false → is_split (drop (suc at) ss) ≡ is_split (drop at ss)
+no_split : (ss : List Seen) (at : ℕ) → has_newline (first_seen_gap (drop at ss)) ≡ false → is_split (drop (suc at) ss) ≡ is_split (drop at ss)
 no_split [] zero h = refl
 no_split [] (suc at) h = refl
 no_split (s ∷ ss) zero h = sym (rw h refl)
 no_split (s ∷ ss) (suc at) h = no_split ss at h
 
-pub no_split_at : (ps : List Part) (at : ℕ) → has_newline (first_gap (map seen (drop at ps))) ≡ false → is_split (map seen (drop (at + 1) ps)) ≡ is_split (map seen (drop at ps))
+pub no_split_at : (ps : List Part) (at : ℕ) → has_newline (first_seen_gap (map seen (drop at ps))) ≡ false → is_split (map seen (drop (at + 1) ps)) ≡ is_split (map seen (drop at ps))
 no_split_at ps at h =
     ap (λ k. is_split (map seen (drop k ps))) (add-one at) ∙ (ap is_split (sym (drop-map seen (suc at) ps)) ∙
-    (no_split (map seen ps) at (ap (λ ss. has_newline (first_gap ss)) (drop-map seen at ps) ∙ h) ∙ ap is_split (drop-map seen at ps)))
+    (no_split (map seen ps) at (ap (λ ss. has_newline (first_seen_gap ss)) (drop-map seen at ps) ∙ h) ∙ ap is_split (drop-map seen at ps)))

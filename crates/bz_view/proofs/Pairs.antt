@@ -53,16 +53,16 @@ module _ (separators close : List Terminal) where
 module _ (close : List Terminal) where
   items_paired : (q : Sort) (xs : List Part) → Fits IsSort (items q close) xs → Paired xs
   items_paired q [] h = tt
-  items_paired q (x ∷ xs) (inl h) = ends_paired s.comma close x xs h
-  items_paired q (x ∷ xs) (inr h) = listed_paired s.comma close q (x ∷ xs) h
+  items_paired q (x ∷ xs) (inl h) = ends_paired s.comma_mark close x xs h
+  items_paired q (x ∷ xs) (inr h) = listed_paired s.comma_mark close q (x ∷ xs) h
 
   -- behind an item a comma and then items, or no more items
-  one_paired : (q : Sort) (x : Part) (xs : List Part) → Fits IsSort (s.alt (tok close done) (tok s.comma (items q close))) xs → Paired (x ∷ xs)
+  one_paired : (q : Sort) (x : Part) (xs : List Part) → Fits IsSort (s.alt (tok close done) (tok s.comma_mark (items q close))) xs → Paired (x ∷ xs)
   one_paired q x [] (inl h) = absurd h
   one_paired q x [] (inr h) = absurd h
   one_paired q x (y ∷ []) (inl h) = (token close y h.0, tt)
   one_paired q x (y ∷ z ∷ xs) (inl h) = absurd h.1
-  one_paired q x (y ∷ xs) (inr h) = (token s.comma y h.0, items_paired q xs h.1)
+  one_paired q x (y ∷ xs) (inr h) = (token s.comma_mark y h.0, items_paired q xs h.1)
 
 -- the opening bracket, and what stands behind it
 pub record Bracketed (kind : Kind) (xs : List Part) : Type 0 where
@@ -84,9 +84,9 @@ tuple_bracketed : (xs : List Part) → Fits IsSort (shape k.Tuple) xs → Bracke
 tuple_bracketed [] h = absurd h
 tuple_bracketed (y ∷ xs) h = record { opener = token s.open_round y h.0; body = first xs h.1 }
   where
-    first : (xs : List Part) → Fits IsSort (s.alt (tok s.close_round done) (s.sub s.test (tok s.comma (items s.test s.close_round)))) xs → Paired xs
+    first : (xs : List Part) → Fits IsSort (s.alt (tok s.close_round done) (s.sub s.test (tok s.comma_mark (items s.test s.close_round)))) xs → Paired xs
     first [] i = tt
-    first (x ∷ xs) (inl i) = ends_paired s.comma s.close_round x xs i
+    first (x ∷ xs) (inl i) = ends_paired s.comma_mark s.close_round x xs i
     first (x ∷ xs) (inr i) = one_paired s.close_round s.test x xs (inr i.1)
 
 list_bracketed : (xs : List Part) → Fits IsSort (shape k.List) xs → Bracketed k.List xs

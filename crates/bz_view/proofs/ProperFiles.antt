@@ -28,14 +28,14 @@ use Rattle.bz_value.specs.declared.value.Item.{Item}
 use Rattle.bz_value.specs.Comments.{HostComments}
 use Rattle.bz_value.specs.Frames.{Frame, row, sequence, frame, is_statement}
 use Rattle.bz_items.specs.Characters.{Bytes}
-use Rattle.bz_value.specs.Gaps.{GapLine, lines_of, behind_first, groups_of, all_but_last, last_group, suffix_in}
+use Rattle.bz_value.specs.Gaps.{GapLine, lines_of, after_first_comment, groups_of, all_but_last, last_group, suffix_in}
 use Rattle.bz_value.specs.Proper.{IsComment, MaybeComment, AreComments, has_statement_kind, IsProperItem, IsProper}
 use Rattle.bz_value.proofs.Begun.{moved_expr}
 use Rattle.bz_value.proofs.GapComments.{AreFine, Group, Groups, all_joined, fine_lines, fine_behind, suffix_fine, groups_fine, groups_front, groups_last}
 use Rattle.bz_value.proofs.LegalBy.{of_build}
 use Rattle.bz_value.proofs.Rooted.{kind_fits}
 use Rattle.bz_value.proofs.Wider.{lines_wider}
-use Rattle.bz_view.specs.View.{Seen, seen, seen_row, node_in, first_gap, blocks, statement, statements_in, last_gap, line_items, file_items, view_of}
+use Rattle.bz_view.specs.View.{Seen, seen, seen_row, seen_node, first_seen_gap, blocks, statement, statements_in, last_gap, line_items, file_items, view_of}
 use Rattle.bz_view.proofs.InnerParts.{ends_line, sort_inner, sort_goes, token_goes, small_statement}
 use Rattle.bz_view.proofs.SeenParts.{seen_rows, Told, AllTold, gap_told, all_parted, comments_made, row_told}
 use Rattle.bz_view.proofs.RowParts.{on_twice}
@@ -53,7 +53,7 @@ blocks_proper ((text ∷ group) ∷ gs) h = (((λ e. cc), All-from_recursion IsC
 
 -- ---- statements
 
-node_statement : (kind : Kind) (ss : List Seen) (cs : HostComments) (f : Frame) → has_statement_kind ((node_in f kind ss).make cs false) ≡ is_statement kind
+node_statement : (kind : Kind) (ss : List Seen) (cs : HostComments) (f : Frame) → has_statement_kind ((seen_node f kind ss).make cs false) ≡ is_statement kind
 node_statement kind ss cs row = refl
 node_statement kind ss cs (sequence opener closer) = refl
 
@@ -128,13 +128,13 @@ lines_proper left (Node' kind n r ∷ xs) f (inr h) g l c at_ =
     let rows : seen_row r ≡ map seen ys = seen_rows _ r in
     let row : AllTold (seen_row r) = row_told _ r w.0 in
     let told : AllTold (map seen ys) = subst AllTold rows row in
-    let lines : List GapLine = left ++ lines_of (first_gap (seen_row r)) in
-    let fine : AreFine lines = both_fine left (first_gap (seen_row r)) f (gap_told (seen_row r) row) in
-    let last : AreFine (behind_first (lines_of (last_gap (seen_row r)))) = fine_behind (lines_of (last_gap (seen_row r))) (fine_lines (last_gap (seen_row r)) (last_told (seen_row r) row)) in
+    let lines : List GapLine = left ++ lines_of (first_seen_gap (seen_row r)) in
+    let fine : AreFine lines = both_fine left (first_seen_gap (seen_row r)) f (gap_told (seen_row r) row) in
+    let last : AreFine (after_first_comment (lines_of (last_gap (seen_row r)))) = fine_behind (lines_of (last_gap (seen_row r))) (fine_lines (last_gap (seen_row r)) (last_told (seen_row r) row)) in
     let there : AtParts BzlStands Begins Begins xs = subst (λ kd. AtParts BzlStands Begins (behind_node kd Begins) xs) e at_.1 in
-    all_joined IsProperItem (line_items lines (seen_row r)) (file_items (behind_first (lines_of (last_gap (seen_row r)))) xs)
+    all_joined IsProperItem (line_items lines (seen_row r)) (file_items (after_first_comment (lines_of (last_gap (seen_row r)))) xs)
     (subst (λ ss. AreProper (line_items lines ss)) (sym rows) (line_proper lines ys fine fits (parts_legal _ r g.0.1) (row_ready shape lines_wider kind_fits _ r (of_build (Node' kind n r) g.0).1 v.0 w.0) told (parts_of_row BzlStands Begins Begins _ r at_.0)))
-    (lines_proper (behind_first (lines_of (last_gap (seen_row r)))) xs last h.1 g.1 v.1 w.1 there)
+    (lines_proper (after_first_comment (lines_of (last_gap (seen_row r)))) xs last h.1 g.1 v.1 w.1 there)
 
 -- ---- the leaves
 

@@ -30,7 +30,7 @@ use Rattle.bz_value.proofs.GapComments.{all_fine}
 use Rattle.bz_value.proofs.Rooted.{Same, over, more, fits_same, row_same, places, kept_parts, kept_items, line_fits}
 use Rattle.bz_value.proofs.LegalBy.{LegalBy, LegalRowBy}
 use Rattle.bz_value.proofs.Wider.{IsWider}
-use Rattle.bz_view.specs.View.{Seen, seen, node_in, plain, first_gap, row_exprs, items_in, is_split, is_open}
+use Rattle.bz_view.specs.View.{Seen, seen, seen_node, plain, first_seen_gap, row_exprs, items_in, is_split, is_open}
 use Rattle.bz_view.proofs.InnerParts.{ends_line, is_inner, inner_kind, inner_parts}
 use Rattle.bz_view.proofs.SeenParts.{seen_rows, Told, AllTold, gap_told, all_parted, root_made, row_told}
 use Rattle.bz_view.proofs.RowParts.{Fit, AllFit, row_proper}
@@ -59,13 +59,13 @@ IsLexed l = not (ends_line l.class) ≡ true → IsLexeme l.class l.token
 module _ (grammar : Kind → Shape) where
   -- what is found behind the opening bracket
   pub record FoundProper (xs : List Part) (body : List Seen) : Type 0 where
-    pub roots : Same (places xs) (map root (items_in (all_in (first_gap body)) body).0)
-    pub items : ItemsProper grammar (items_in (all_in (first_gap body)) body)
+    pub roots : Same (places xs) (map root (items_in (all_in (first_seen_gap body)) body).0)
+    pub items : ItemsProper grammar (items_in (all_in (first_seen_gap body)) body)
 
   pub found_proper : (outer : Spot) (xs : List Part) → AllTold (map seen xs) → AllFit grammar xs → AtParts BzlStands outer Within xs → Alternate xs → FoundProper xs (map seen xs)
   found_proper outer xs t h at_ g = record {
-    roots = items_roots (all_in (first_gap (map seen xs))) xs;
-    items = items_proper grammar (all_in (first_gap (map seen xs))) outer xs (all_fine (first_gap (map seen xs)) (gap_told (map seen xs) t)) t h at_ g;
+    roots = items_roots (all_in (first_seen_gap (map seen xs))) xs;
+    items = items_proper grammar (all_in (first_seen_gap (map seen xs))) outer xs (all_fine (first_seen_gap (map seen xs)) (gap_told (map seen xs) t)) t h at_ g;
   }
 
   abbrev pub Good : Part → Type 0
@@ -84,7 +84,7 @@ module _ (grammar : Kind → Shape) where
         (subst (λ z. Fits IsSort (grammar kind) (row_in z (kept_parts z kind xs) (kept_items z kind xs))) e (fits kind xs h)))
 
     node_proper : (kind : Kind) (f : Frame) → frame kind ≡ f → (here : Spot) (xs : List Part) → Fits IsSort (grammar kind) xs → AllTold (map seen xs) → AllFit grammar xs → AtParts BzlStands here here xs →
-        (cs : HostComments) (b : Bool) → ProperBy grammar here ((node_in f kind (map seen xs)).make cs b)
+        (cs : HostComments) (b : Bool) → ProperBy grammar here ((seen_node f kind (map seen xs)).make cs b)
     node_proper kind row e here xs h t g at_ cs b =
         let es : List Expr = row_exprs (is_binary kind) false false (map seen xs) in
         let form : Form = record { kind = kind; parts = es; seq = record { items = []; end_ = []; split = false }; open_ = is_comprehension kind && is_open (map seen xs); comments = cs } in
@@ -93,7 +93,7 @@ module _ (grammar : Kind → Shape) where
     node_proper kind (sequence opener closer) e here xs h t g at_ cs b =
         let n : ℕ = lead kind in
         let body : List Seen = drop (suc n) (map seen xs) in
-        let found : List Expr × List Bytes = items_in (all_in (first_gap body)) body in
+        let found : List Expr × List Bytes = items_in (all_in (first_seen_gap body)) body in
         let es : List Expr = map plain (take n (map seen xs)) in
         let stands : SequenceStands here kind xs = sequence_stands kind opener closer here xs e (wider kind xs h) at_ in
         let same : body ≡ map seen (drop (suc n) xs) = drop-map seen (suc n) xs in
@@ -116,7 +116,7 @@ module _ (grammar : Kind → Shape) where
           let xs : List Part = items-the_row-Part _ r in
           let told : AllTold (map seen xs) = subst AllTold (seen_rows _ r) (row_told _ r g.2) in
           let fit : AllFit grammar xs = ready_fit xs (inner_parts kind i xs (wider kind xs g.0.0)) (row_ready _ r g.0.1 g.1 g.2) in
-          subst (λ ss. ProperBy grammar here ((node_in (frame kind) kind ss).make cs b)) (sym (seen_rows _ r)) (node_proper kind (frame kind) refl here xs g.0.0 told fit (parts_of_row BzlStands here here _ r at_) cs b)
+          subst (λ ss. ProperBy grammar here ((seen_node (frame kind) kind ss).make cs b)) (sym (seen_rows _ r)) (node_proper kind (frame kind) refl here xs g.0.0 told fit (parts_of_row BzlStands here here _ r at_) cs b)
 
       pub row_ready : (m : _) (r : Row_of-Part m) → LegalRowBy grammar r → AllByRecursion IsLexed (leaves_row r) → AllByRecursion IsCodedLeaf (leaves_row r) → AllByRecursion Ready (items-the_row-Part m r)
       row_ready m end_of-Part h l c = tt

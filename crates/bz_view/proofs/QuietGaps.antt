@@ -19,7 +19,7 @@ use Rattle.bz_items.specs.Characters.{Bytes, backslash, line_feed, number_sign}
 use Rattle.bz_value.specs.Frames.{frame}
 use Rattle.bz_value.specs.Gaps.{lines_of, all_in}
 use Rattle.bz_value.proofs.Wider.{lines_wider}
-use Rattle.bz_view.specs.View.{seen, seen_row, first_gap}
+use Rattle.bz_view.specs.View.{seen, seen_row, first_seen_gap}
 use Rattle.bz_view.proofs.InnerParts.{ends_line, is_inner, token_inner, sort_inner, inner_parts, sort_goes, token_goes}
 use Rattle.bz_view.proofs.RowParts.{on_twice}
 use Rattle.bz_view.proofs.SeenParts.{node_gap}
@@ -50,7 +50,7 @@ mutual
   part_silent (p.Leaf l) g i h = gap_silent l.class l.gap i h
   part_silent (Node' kind n r) g i h = ap all_in (node_gap kind (seen_row r) (frame kind)) ∙ row_silent _ r (inner_parts kind i (items-the_row-Part _ r) (lines_wider kind (items-the_row-Part _ r) g.0)) g.1 h
 
-  row_silent : (m : _) (r : Row_of-Part m) → AllByRecursion (λ x. is_inner x ≡ true) (items-the_row-Part m r) → LegalRow r → AtRow Stands Along Along r → all_in (first_gap (seen_row r)) ≡ []
+  row_silent : (m : _) (r : Row_of-Part m) → AllByRecursion (λ x. is_inner x ≡ true) (items-the_row-Part m r) → LegalRow r → AtRow Stands Along Along r → all_in (first_seen_gap (seen_row r)) ≡ []
   row_silent m end_of-Part i g h = refl
   row_silent m (more_of-Part x rest) i g h = part_silent x g.0 i.0 h.0
 

@@ -16,7 +16,7 @@ use Rattle.bz_value.specs.LineShapes.{line_shape}
 use Rattle.bz_value.specs.Proper.{is_operator, behind_expr, ProperBy}
 use Rattle.bz_value.proofs.FormParts.{operator_first, ArePartsBy}
 use Rattle.bz_value.proofs.Wider.{IsWider}
-use Rattle.bz_view.specs.View.{seen, seen_row, plain, first_gap, begins_operator, row_exprs}
+use Rattle.bz_view.specs.View.{seen, seen_row, plain, first_seen_gap, begins_seen_operator, row_exprs}
 use Rattle.bz_view.proofs.InnerParts.{GoesOn, binary_goes, binary_begins, sort_unsigned}
 use Rattle.bz_view.proofs.SeenParts.{node_operator, comments_made, break_made, no_break_made, operator_made, behind_made, part_along}
 
@@ -40,11 +40,11 @@ before_within : (inside newline : Bool) (here : Spot) (x : Part) → onward here
 before_within true newline here x e w h n = w refl n
 before_within false newline here x e w h n = part_within here x e h n
 
-first_within : (outer here : Spot) (xs : List Part) → onward here ≡ here → AtParts BzlStands outer here xs → has_newline (first_gap (map seen xs)) ≡ true → here ≡ Within
+first_within : (outer here : Spot) (xs : List Part) → onward here ≡ here → AtParts BzlStands outer here xs → has_newline (first_seen_gap (map seen xs)) ≡ true → here ≡ Within
 first_within outer here [] e h n = no_such n
 first_within outer here (x ∷ xs) e h n = part_within here x e h.0 n
 
-first_operator : (binary inside newline : Bool) (xs : List Part) → operator_first (row_exprs binary inside newline (map seen xs)) ≡ begins_operator (map seen xs)
+first_operator : (binary inside newline : Bool) (xs : List Part) → operator_first (row_exprs binary inside newline (map seen xs)) ≡ begins_seen_operator (map seen xs)
 first_operator binary inside newline [] = refl
 first_operator binary inside newline (x ∷ xs) = operator_made x no_comments _
 
@@ -84,8 +84,8 @@ module _ (grammar : Kind → Shape) where
   behind_first inside newline outer here e w (x ∷ xs) h g at_ =
       let sign : Bool = is_operator (plain (seen x)) in
       let before : Bool = if inside then newline else has_newline (seen x).gap in
-      let after : Bool = has_newline (first_gap (map seen xs)) in
-      let ended : Bool = sign && not (begins_operator (map seen xs)) in
+      let after : Bool = has_newline (first_seen_gap (map seen xs)) in
+      let ended : Bool = sign && not (begins_seen_operator (map seen xs)) in
       let broken : Bool = ended && (before || after) in
       let there : behind_part outer here x ≡ here = g.0 outer here ∙ e in
       let rest_at : AtParts BzlStands outer here xs = subst (λ z. AtParts BzlStands outer z xs) there at_.1 in
@@ -107,7 +107,7 @@ module _ (grammar : Kind → Shape) where
         let w = binary_begins kind k x xs (wider kind (x ∷ xs) f) in
         let g : AllByRecursion GoesOn (x ∷ xs) = binary_goes kind k (x ∷ xs) (wider kind (x ∷ xs) f) in
         let there : behind_part outer here x ≡ onward here = g.0 outer here in
-        begun (is_operator (plain (seen x))) (part_unsigned w.0 x w.1) (not (begins_operator (map seen xs))) (has_newline (seen x).gap || has_newline (first_gap (map seen xs))) (has_newline (seen x).gap)
+        begun (is_operator (plain (seen x))) (part_unsigned w.0 x w.1) (not (begins_seen_operator (map seen xs))) (has_newline (seen x).gap || has_newline (first_seen_gap (map seen xs))) (has_newline (seen x).gap)
         (behind_made outer here x no_comments false ∙ there)
         (behind_first false (has_newline (seen x).gap) outer (onward here) (on_twice here) (λ i n. no_such i) xs h.1 g.1 (subst (λ z. AtParts BzlStands outer z xs) there at_.1))
       where

@@ -10,7 +10,7 @@ use Rattle.bz_value.specs.Comments.{HostComments, no_comments}
 use Rattle.bz_items.specs.Characters.{Bytes}
 use Rattle.bz_value.specs.Gaps.{suffix_in, others_in, all_in, has_newline}
 use Rattle.bz_value.specs.Proper.{is_operator}
-use Rattle.bz_view.specs.View.{Seen, seen, plain, begins_operator, row_exprs, is_split, first_gap, last_gap, items_in, loose_behind}
+use Rattle.bz_view.specs.View.{Seen, seen, plain, begins_seen_operator, row_exprs, is_split, first_seen_gap, last_gap, items_in, loose_behind}
 use Rattle.bz_view.specs.Walks.{seq_in, loose_from, suffix_behind, above_behind}
 use Rattle.bz_view.proofs.NodeViews.{seen_comments}
 
@@ -43,25 +43,25 @@ gap_of_last (x ∷ z ∷ ps) (suc k) y l i = gap_of_last (z ∷ ps) k y (omega a
 
 -- ---- behind an item
 
-pub suffix_later : (ps : List Part) (at : ℕ) (g : Bytes) → at + 1 < length ps → g ≡ first_gap (map seen (drop (at + 1) ps)) → suffix_in g ≡ suffix_behind (map seen (drop at ps))
+pub suffix_later : (ps : List Part) (at : ℕ) (g : Bytes) → at + 1 < length ps → g ≡ first_seen_gap (map seen (drop (at + 1) ps)) → suffix_in g ≡ suffix_behind (map seen (drop at ps))
 suffix_later ps at g l e =
     let w = two_left ps at (omega arith) in
-    ap suffix_in (e ∙ (ap (λ k. first_gap (map seen (drop k ps))) (add-one at) ∙ ap (λ qs. first_gap (map seen qs)) w.4)) ∙ sym (ap (λ qs. suffix_behind (map seen qs)) w.3)
+    ap suffix_in (e ∙ (ap (λ k. first_seen_gap (map seen (drop k ps))) (add-one at) ∙ ap (λ qs. first_seen_gap (map seen qs)) w.4)) ∙ sym (ap (λ qs. suffix_behind (map seen qs)) w.3)
 
-pub suffix_last : (ps : List Part) (at : ℕ) (g : Bytes) → at < length ps → length ps ≤ at + 1 → g ≡ first_gap (map seen (drop at ps)) → suffix_in g ≡ suffix_behind (map seen (drop at ps))
-suffix_last ps at g l k e = let w = one_left ps at l (omega arith) in ap suffix_in (e ∙ ap (λ qs. first_gap (map seen qs)) w.1) ∙ sym (ap (λ qs. suffix_behind (map seen qs)) w.1)
+pub suffix_last : (ps : List Part) (at : ℕ) (g : Bytes) → at < length ps → length ps ≤ at + 1 → g ≡ first_seen_gap (map seen (drop at ps)) → suffix_in g ≡ suffix_behind (map seen (drop at ps))
+suffix_last ps at g l k e = let w = one_left ps at l (omega arith) in ap suffix_in (e ∙ ap (λ qs. first_seen_gap (map seen qs)) w.1) ∙ sym (ap (λ qs. suffix_behind (map seen qs)) w.1)
 
-pub above_later : (ps : List Part) (at : ℕ) (g h : Bytes) (a b c : List Bytes) → at + 1 < length ps → g ≡ first_gap (map seen (drop at ps)) → h ≡ first_gap (map seen (drop (at + 1) ps)) →
+pub above_later : (ps : List Part) (at : ℕ) (g h : Bytes) (a b c : List Bytes) → at + 1 < length ps → g ≡ first_seen_gap (map seen (drop at ps)) → h ≡ first_seen_gap (map seen (drop (at + 1) ps)) →
     a ≡ [] → b ≡ a ++ all_in g → c ≡ b ++ others_in h → c ≡ above_behind (map seen (drop at ps))
 above_later ps at g h a b c l e f i j k =
     let w = two_left ps at (omega arith) in
-    let all : b ≡ all_in (seen w.0).gap = j ∙ (ap (λ t. t ++ all_in g) i ∙ ap all_in (e ∙ ap (λ qs. first_gap (map seen qs)) w.3)) in
-    let others : others_in h ≡ others_in (seen w.1).gap = ap others_in (f ∙ (ap (λ k. first_gap (map seen (drop k ps))) (add-one at) ∙ ap (λ qs. first_gap (map seen qs)) w.4)) in
+    let all : b ≡ all_in (seen w.0).gap = j ∙ (ap (λ t. t ++ all_in g) i ∙ ap all_in (e ∙ ap (λ qs. first_seen_gap (map seen qs)) w.3)) in
+    let others : others_in h ≡ others_in (seen w.1).gap = ap others_in (f ∙ (ap (λ k. first_seen_gap (map seen (drop k ps))) (add-one at) ∙ ap (λ qs. first_seen_gap (map seen qs)) w.4)) in
     k ∙ (ap (λ t. t ++ others_in h) all ∙ (ap (λ t. all_in (seen w.0).gap ++ t) others ∙ sym (ap (λ qs. above_behind (map seen qs)) w.3)))
 
-pub above_last : (ps : List Part) (at : ℕ) (g : Bytes) (a b : List Bytes) → at < length ps → length ps ≤ at + 1 → g ≡ first_gap (map seen (drop at ps)) → a ≡ [] → b ≡ a ++ others_in g → b ≡ above_behind (map seen (drop at ps))
+pub above_last : (ps : List Part) (at : ℕ) (g : Bytes) (a b : List Bytes) → at < length ps → length ps ≤ at + 1 → g ≡ first_seen_gap (map seen (drop at ps)) → a ≡ [] → b ≡ a ++ others_in g → b ≡ above_behind (map seen (drop at ps))
 above_last ps at g a b l k e i j =
-    let w = one_left ps at l (omega arith) in j ∙ (ap (λ t. t ++ others_in g) i ∙ (ap others_in (e ∙ ap (λ qs. first_gap (map seen qs)) w.1) ∙ sym (ap (λ qs. above_behind (map seen qs)) w.1)))
+    let w = one_left ps at l (omega arith) in j ∙ (ap (λ t. t ++ others_in g) i ∙ (ap others_in (e ∙ ap (λ qs. first_seen_gap (map seen qs)) w.1) ∙ sym (ap (λ qs. above_behind (map seen qs)) w.1)))
 
 -- ---- rows
 
@@ -88,8 +88,8 @@ part_here ps at y l i = ap (λ qs. map seen qs) (drop_more ps at y l ∙ ap (λ 
 
 -- the parts from an operator's token on, or from an operand on: `before`, whether a newline stands before the operator, is not asked for at an operand
 quiet_before : (binary operator before : Bool) (s : Seen) (ss : List Seen) →
-    s.make no_comments ((operator && not (begins_operator ss)) && (before || has_newline (first_gap ss))) ∷ row_exprs binary operator before ss
-    ≡ s.make no_comments ((operator && not (begins_operator ss)) && ((operator && before) || has_newline (first_gap ss))) ∷ row_exprs binary operator (operator && before) ss
+    s.make no_comments ((operator && not (begins_seen_operator ss)) && (before || has_newline (first_seen_gap ss))) ∷ row_exprs binary operator before ss
+    ≡ s.make no_comments ((operator && not (begins_seen_operator ss)) && ((operator && before) || has_newline (first_seen_gap ss))) ∷ row_exprs binary operator (operator && before) ss
 quiet_before binary true before s ss = refl
 quiet_before binary false before s [] = refl
 quiet_before binary false before s (t ∷ ss) = refl
@@ -102,14 +102,14 @@ at_operand operator before h = h ∙ sym (ap (λ o. o && before) h)
 
 -- one more part of a row
 pub row_more : (binary inside newline operator newline' break : Bool) (s : Seen) (ss here : List Seen) (x : Expr) (es new all : List Expr) → here ≡ s ∷ ss → operator ≡ (binary && is_operator (plain s)) →
-    newline' ≡ (operator && (if inside then newline else has_newline (first_gap here))) → break ≡ ((operator && not (begins_operator ss)) && (newline' || has_newline (first_gap ss))) → x ≡ s.make no_comments break →
+    newline' ≡ (operator && (if inside then newline else has_newline (first_seen_gap here))) → break ≡ ((operator && not (begins_seen_operator ss)) && (newline' || has_newline (first_seen_gap ss))) → x ≡ s.make no_comments break →
     es ++ row_exprs binary inside newline here ≡ all → new ≡ es ++ x ∷ [] → new ++ row_exprs binary operator newline' ss ≡ all
 row_more binary inside newline operator newline' break s ss here x es new all h o n b e j k =
     let sign : Bool = binary && is_operator (plain s) in
     let before : Bool = if inside then newline else has_newline s.gap in
-    let newline_is : newline' ≡ (sign && before) = n ∙ (ap (λ z. z && (if inside then newline else has_newline (first_gap here))) o ∙ ap (λ ts. sign && (if inside then newline else has_newline (first_gap ts))) h) in
-    let break_is : break ≡ ((sign && not (begins_operator ss)) && ((sign && before) || has_newline (first_gap ss))) =
-    b ∙ (ap (λ z. (z && not (begins_operator ss)) && (newline' || has_newline (first_gap ss))) o ∙ ap (λ z. (sign && not (begins_operator ss)) && (z || has_newline (first_gap ss))) newline_is) in
+    let newline_is : newline' ≡ (sign && before) = n ∙ (ap (λ z. z && (if inside then newline else has_newline (first_seen_gap here))) o ∙ ap (λ ts. sign && (if inside then newline else has_newline (first_seen_gap ts))) h) in
+    let break_is : break ≡ ((sign && not (begins_seen_operator ss)) && ((sign && before) || has_newline (first_seen_gap ss))) =
+    b ∙ (ap (λ z. (z && not (begins_seen_operator ss)) && (newline' || has_newline (first_seen_gap ss))) o ∙ ap (λ z. (sign && not (begins_seen_operator ss)) && (z || has_newline (first_seen_gap ss))) newline_is) in
     let step : row_exprs binary inside newline here ≡ x ∷ row_exprs binary operator newline' ss =
     ap (λ ts. row_exprs binary inside newline ts) h
     ∙ (quiet_before binary sign before s ss
@@ -233,11 +233,11 @@ item_more ps at y before above next suffix cs x commented es new all l i b f n e
 
 -- no item is left
 pub items_done : (ps qs : List Part) (at : ℕ) (above : List Bytes) (es items : List Expr) (split : Bool) → length ps ≤ at + 1 → items ≡ es →
-    es ++ (items_in above (map seen (drop at ps))).0 ≡ (items_in (all_in (first_gap (map seen qs))) (map seen qs)).0 → (items_in above (map seen (drop at ps))).1 ≡ (items_in (all_in (first_gap (map seen qs))) (map seen qs)).1 →
+    es ++ (items_in above (map seen (drop at ps))).0 ≡ (items_in (all_in (first_seen_gap (map seen qs))) (map seen qs)).0 → (items_in above (map seen (drop at ps))).1 ≡ (items_in (all_in (first_seen_gap (map seen qs))) (map seen qs)).1 →
     split ≡ is_split (map seen qs) → seq_made items above split ≡ seq_in (map seen qs)
 items_done ps qs at above es items split l i j k b =
     let none : items_in above (map seen (drop at ps)) ≡ ([], above) = no_item above (map seen (drop at ps)) (omega (arith, length-map (drop at ps) seen, length-drop at ps)) in
-    let found : List Expr × List Bytes = items_in (all_in (first_gap (map seen qs))) (map seen qs) in
+    let found : List Expr × List Bytes = items_in (all_in (first_seen_gap (map seen qs))) (map seen qs) in
     let all : items ≡ found.0 = i ∙ (sym (append-nil es) ∙ (ap (λ t. es ++ t.0) (sym none) ∙ j)) in
     let last : above ≡ found.1 = ap (λ t. t.1) (sym none) ∙ k in
     ap (λ t. seq_made t above split) all ∙ (ap (λ t. seq_made found.0 t split) last ∙ ap (λ t. seq_made found.0 found.1 t) b)

@@ -22,7 +22,7 @@ use Rattle.bz_value.specs.Proper.{IsComment, comments_of, has_break, is_operator
 use Rattle.bz_value.proofs.AlongGaps.{along_quiet}
 use Rattle.bz_value.proofs.GapComments.{Group, all_joined, all_fine}
 use Rattle.bz_value.proofs.Rooted.{SameRoot, one_of_same}
-use Rattle.bz_view.specs.View.{Seen, seen, seen_row, node_in, plain, first_gap, loose_in, loose_behind}
+use Rattle.bz_view.specs.View.{Seen, seen, seen_row, seen_node, plain, first_seen_gap, loose_in, loose_behind}
 
 pub seen_rows : (m : _) (r : Row_of-Part m) → seen_row r ≡ map seen (items-the_row-Part m r)
 seen_rows m end_of-Part = refl
@@ -31,27 +31,27 @@ seen_rows m (more_of-Part x rest) = ap (λ t. seen x ∷ t) (seen_rows _ rest)
 -- ---- facts of what is made of a part, for any comments and break
 
 module _ (kind : Kind) (ss : List Seen) (cs : HostComments) (b : Bool) where
-  node_root : (f : Frame) → root ((node_in f kind ss).make cs b) ≡ p.Node (record { kind = kind; parts = [] })
+  node_root : (f : Frame) → root ((seen_node f kind ss).make cs b) ≡ p.Node (record { kind = kind; parts = [] })
   node_root row = refl
   node_root (sequence opener closer) = refl
 
-  node_comments : (f : Frame) → comments_of ((node_in f kind ss).make cs b) ≡ cs
+  node_comments : (f : Frame) → comments_of ((seen_node f kind ss).make cs b) ≡ cs
   node_comments row = refl
   node_comments (sequence opener closer) = refl
 
-  node_break : (f : Frame) → has_break ((node_in f kind ss).make cs b) ≡ false
+  node_break : (f : Frame) → has_break ((seen_node f kind ss).make cs b) ≡ false
   node_break row = refl
   node_break (sequence opener closer) = refl
 
-  pub node_operator : (f : Frame) → is_operator ((node_in f kind ss).make cs b) ≡ false
+  pub node_operator : (f : Frame) → is_operator ((seen_node f kind ss).make cs b) ≡ false
   node_operator row = refl
   node_operator (sequence opener closer) = refl
 
-  node_behind : (f : Frame) (outer here : Spot) → behind_expr outer here ((node_in f kind ss).make cs b) ≡ behind_node kind here
+  node_behind : (f : Frame) (outer here : Spot) → behind_expr outer here ((seen_node f kind ss).make cs b) ≡ behind_node kind here
   node_behind row outer here = refl
   node_behind (sequence opener closer) outer here = refl
 
-pub node_gap : (kind : Kind) (ss : List Seen) (f : Frame) → (node_in f kind ss).gap ≡ first_gap ss
+pub node_gap : (kind : Kind) (ss : List Seen) (f : Frame) → (seen_node f kind ss).gap ≡ first_seen_gap ss
 node_gap kind ss row = refl
 node_gap kind ss (sequence opener closer) = refl
 
@@ -95,7 +95,7 @@ mutual
   part_along (p.Leaf l) h = gap_along l.class l.gap h
   part_along (Node' kind n r) h = ap has_newline (node_gap kind (seen_row r) (frame kind)) ∙ row_along _ r h
 
-  row_along : (m : _) (r : Row_of-Part m) → AtRow BzlStands Along Along r → has_newline (first_gap (seen_row r)) ≡ false
+  row_along : (m : _) (r : Row_of-Part m) → AtRow BzlStands Along Along r → has_newline (first_seen_gap (seen_row r)) ≡ false
   row_along m end_of-Part h = refl
   row_along m (more_of-Part x rest) h = part_along x h.0
 
@@ -112,7 +112,7 @@ pub all_parted : {X : Type 0} (P : X → Type 0) (xs ys : List X) → AllByRecur
 all_parted P [] ys h = (tt, h)
 all_parted P (x ∷ xs) ys h = let w = all_parted P xs ys h.1 in ((h.0, w.0), w.1)
 
-pub gap_told : (ss : List Seen) → AllTold ss → IsUtf8 (first_gap ss)
+pub gap_told : (ss : List Seen) → AllTold ss → IsUtf8 (first_seen_gap ss)
 gap_told [] h = IsUtf8-nil
 gap_told (s ∷ ss) h = h.0.coded
 
@@ -130,7 +130,7 @@ take_told (suc n) [] h = tt
 take_told zero (s ∷ ss) h = tt
 take_told (suc n) (s ∷ ss) h = (h.0, take_told n ss h.1)
 
-node_told : (f : Frame) (kind : Kind) (ss : List Seen) → AllTold ss → Told (node_in f kind ss)
+node_told : (f : Frame) (kind : Kind) (ss : List Seen) → AllTold ss → Told (seen_node f kind ss)
 node_told row kind ss h = record { coded = gap_told ss h; loose = in_told ss h }
 node_told (sequence opener closer) kind ss h = record { coded = gap_told ss h; loose = in_told (take (suc (lead kind)) ss) (take_told (suc (lead kind)) ss h) }
 

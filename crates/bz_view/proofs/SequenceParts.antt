@@ -40,13 +40,13 @@ module _ (close : List Terminal) where
   ends_alternate x [] h = tt
   ends_alternate x (y ∷ xs) h = absurd h.1
 
-  listed_alternate : (q : Sort) → inner_sort q ≡ true → (xs : List Part) → Listed (IsSort q) s.comma true (Fits IsSort (tok close done)) xs → Alternate xs
+  listed_alternate : (q : Sort) → inner_sort q ≡ true → (xs : List Part) → Listed (IsSort q) s.comma_mark true (Fits IsSort (tok close done)) xs → Alternate xs
   listed_alternate q o [] h = absurd h
   listed_alternate q o (x ∷ []) h = tt
   listed_alternate q o (x ∷ y ∷ []) h = tt
   listed_alternate q o (x ∷ y ∷ z ∷ xs) (h, inl i) = absurd i.1
-  listed_alternate q o (x ∷ y ∷ z ∷ xs) (h, inr (m, inl i)) = (sort_goes q x o h, token_goes s.comma y refl m, listed_alternate q o (z ∷ xs) i)
-  listed_alternate q o (x ∷ y ∷ z ∷ xs) (h, inr (m, inr i)) = (sort_goes q x o h, token_goes s.comma y refl m, ends_alternate z xs i.1)
+  listed_alternate q o (x ∷ y ∷ z ∷ xs) (h, inr (m, inl i)) = (sort_goes q x o h, token_goes s.comma_mark y refl m, listed_alternate q o (z ∷ xs) i)
+  listed_alternate q o (x ∷ y ∷ z ∷ xs) (h, inr (m, inr i)) = (sort_goes q x o h, token_goes s.comma_mark y refl m, ends_alternate z xs i.1)
 
   items_alternate : (q : Sort) → inner_sort q ≡ true → (xs : List Part) → Fits IsSort (items q close) xs → Alternate xs
   items_alternate q o [] h = tt
@@ -77,12 +77,12 @@ load_stands here (x ∷ y ∷ xs) h at_ = record {
   alternate = first xs h.1.1;
 }
   where
-    first : (xs : List Part) → Fits IsSort (tok s.string (s.alt (tok s.close_round done) (tok s.comma (items s.loaded s.close_round)))) xs → Alternate xs
+    first : (xs : List Part) → Fits IsSort (tok s.string (s.alt (tok s.close_round done) (tok s.comma_mark (items s.loaded s.close_round)))) xs → Alternate xs
     first [] i = tt
     first (u ∷ []) i = tt
     first (u ∷ v ∷ []) i = tt
     first (u ∷ v ∷ w ∷ xs) (i, inl j) = absurd j.1
-    first (u ∷ v ∷ w ∷ xs) (i, inr j) = (token_goes s.string u refl i, token_goes s.comma v refl j.0, items_alternate s.close_round s.loaded refl (w ∷ xs) j.1)
+    first (u ∷ v ∷ w ∷ xs) (i, inr j) = (token_goes s.string u refl i, token_goes s.comma_mark v refl j.0, items_alternate s.close_round s.loaded refl (w ∷ xs) j.1)
 
 tuple_stands : (here : Spot) (xs : List Part) → Fits IsSort (line_shape k.Tuple) xs → AtParts BzlStands here here xs → SequenceStands here k.Tuple xs
 tuple_stands here [] h at_ = absurd h
@@ -92,12 +92,12 @@ tuple_stands here (y ∷ xs) h at_ = record {
   alternate = first xs h.1;
 }
   where
-    first : (xs : List Part) → Fits IsSort (s.alt (tok s.close_round done) (s.sub s.test (tok s.comma (items s.test s.close_round)))) xs → Alternate xs
+    first : (xs : List Part) → Fits IsSort (s.alt (tok s.close_round done) (s.sub s.test (tok s.comma_mark (items s.test s.close_round)))) xs → Alternate xs
     first [] i = tt
     first (u ∷ xs) (inl i) = ends_alternate s.close_round u xs i
     first (u ∷ []) (inr i) = tt
     first (u ∷ v ∷ []) (inr i) = tt
-    first (u ∷ v ∷ w ∷ xs) (inr i) = (sort_goes s.test u refl i.0, token_goes s.comma v refl i.1.0, items_alternate s.close_round s.test refl (w ∷ xs) i.1.1)
+    first (u ∷ v ∷ w ∷ xs) (inr i) = (sort_goes s.test u refl i.0, token_goes s.comma_mark v refl i.1.0, items_alternate s.close_round s.test refl (w ∷ xs) i.1.1)
 
 list_stands : (here : Spot) (xs : List Part) → Fits IsSort (line_shape k.List) xs → AtParts BzlStands here here xs → SequenceStands here k.List xs
 list_stands here [] h at_ = absurd h

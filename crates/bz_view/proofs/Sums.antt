@@ -12,8 +12,8 @@ use Rattle.bz_value.specs.Comments.{HostComments, no_comments}
 use Rattle.bz_value.specs.Counted.{total, suffix_amount, host_amount, amount, item_amount}
 use Rattle.bz_value.specs.Frames.{Frame, row, sequence, frame}
 use Rattle.bz_items.specs.Characters.{Bytes}
-use Rattle.bz_value.specs.Gaps.{GapLine, lines_of, listed, comments_in, first_comment, behind_first, on_first, before_groups, groups_of, all_but_last, last_group, suffix_in, others_in, all_in}
-use Rattle.bz_view.specs.View.{Seen, seen, seen_row, node_in, plain, blocks}
+use Rattle.bz_value.specs.Gaps.{GapLine, lines_of, as_list, comments_in, first_comment, after_first_comment, put_on_first, before_groups, groups_of, all_but_last, last_group, suffix_in, others_in, all_in}
+use Rattle.bz_view.specs.View.{Seen, seen, seen_row, seen_node, plain, blocks}
 use Rattle.bz_view.specs.Walks.{form_in}
 
 module _ (number : Bytes → ℕ) where
@@ -22,14 +22,14 @@ module _ (number : Bytes → ℕ) where
   abbrev pub gap_amount : Bytes → ℕ
   gap_amount gap = total number (all_in gap)
 
-  pub suffix_total : (o : Option Bytes) → total number (listed o) ≡ suffix_amount number o
+  pub suffix_total : (o : Option Bytes) → total number (as_list o) ≡ suffix_amount number o
   suffix_total None = refl
   suffix_total (Some text) = omega arith
 
-  first_total : (ls : List GapLine) → suffix_amount number (first_comment ls) + total number (comments_in (behind_first ls)) ≡ total number (comments_in ls)
+  first_total : (ls : List GapLine) → suffix_amount number (first_comment ls) + total number (comments_in (after_first_comment ls)) ≡ total number (comments_in ls)
   first_total [] = refl
   first_total (l ∷ ls) =
-      let h = append_total number (listed l.comment) (comments_in ls) in
+      let h = append_total number (as_list l.comment) (comments_in ls) in
       let s = suffix_total l.comment in
       omega arith
 
@@ -41,8 +41,8 @@ module _ (number : Bytes → ℕ) where
   lines_joined [] ms = omega arith
   lines_joined (l ∷ ls) ms =
       let h = lines_joined ls ms in
-      let a = append_total number (listed l.comment) (comments_in (ls ++ ms)) in
-      let b = append_total number (listed l.comment) (comments_in ls) in
+      let a = append_total number (as_list l.comment) (comments_in (ls ++ ms)) in
+      let b = append_total number (as_list l.comment) (comments_in ls) in
       omega arith
 
   -- ---- groups of lines
@@ -52,7 +52,7 @@ module _ (number : Bytes → ℕ) where
   blocks_total ([] ∷ gs) = let h = blocks_total gs in omega arith
   blocks_total ((text ∷ group) ∷ gs) = let h = blocks_total gs in omega arith
 
-  on_first_total : (text : Bytes) (gs : List (List Bytes)) → total (total number) (on_first text gs) ≡ number text + total (total number) gs
+  on_first_total : (text : Bytes) (gs : List (List Bytes)) → total (total number) (put_on_first text gs) ≡ number text + total (total number) gs
   on_first_total text [] = omega arith
   on_first_total text (g ∷ gs) = omega arith
 
@@ -66,7 +66,7 @@ module _ (number : Bytes → ℕ) where
       let h = groups_total ls in
       let b = before_total l.comment (groups_of ls) in
       let s = suffix_total l.comment in
-      let a = append_total number (listed l.comment) (comments_in ls) in
+      let a = append_total number (as_list l.comment) (comments_in ls) in
       omega arith
 
   last_total : (gs : List (List Bytes)) → total (total number) (all_but_last gs) + total number (last_group gs) ≡ total (total number) gs
@@ -89,7 +89,7 @@ module _ (number : Bytes → ℕ) where
   -- ---- expressions
 
   -- what is made of a node has its own comments, and what stands in it
-  pub node_amount : (f : Frame) (kind : Kind) (ss : List Seen) (cs : HostComments) (b : Bool) → amount number ((node_in f kind ss).make cs b) ≡ host_amount number cs + inner_amount number (form_in f kind ss no_comments)
+  pub node_amount : (f : Frame) (kind : Kind) (ss : List Seen) (cs : HostComments) (b : Bool) → amount number ((seen_node f kind ss).make cs b) ≡ host_amount number cs + inner_amount number (form_in f kind ss no_comments)
   node_amount row kind ss cs b = form_amount number (form_in row kind ss cs)
   node_amount (sequence opener closer) kind ss cs b = form_amount number (form_in (sequence opener closer) kind ss cs)
 

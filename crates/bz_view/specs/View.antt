@@ -12,7 +12,7 @@ use Rattle.bz_value.specs.declared.value.Item.TheVariants as i
 use Rattle.bz_value.specs.Comments.{HostComments, no_comments}
 use Rattle.bz_value.specs.Frames.{Frame, row, sequence, frame, lead, is_binary, is_comprehension}
 use Rattle.bz_items.specs.Characters.{Bytes}
-use Rattle.bz_value.specs.Gaps.{GapLine, lines_of, behind_first, groups_of, all_but_last, last_group, suffix_in, others_in, all_in, has_newline}
+use Rattle.bz_value.specs.Gaps.{GapLine, lines_of, after_first_comment, groups_of, all_but_last, last_group, suffix_in, others_in, all_in, has_newline}
 use Rattle.bz_value.specs.Proper.{is_operator}
 
 -- A part that was read: the expression that it is for given comments and break, which only what stands around it knows;
@@ -26,13 +26,13 @@ abbrev pub plain : Seen → Expr
 plain s = s.make no_comments false
 
 -- the gap before a row is the one before its first part
-abbrev pub first_gap : List Seen → Bytes
-first_gap [] = []
-first_gap (s ∷ ss) = s.gap
+abbrev pub first_seen_gap : List Seen → Bytes
+first_seen_gap [] = []
+first_seen_gap (s ∷ ss) = s.gap
 
-abbrev pub begins_operator : List Seen → Bool
-begins_operator [] = false
-begins_operator (s ∷ ss) = is_operator (plain s)
+abbrev pub begins_seen_operator : List Seen → Bool
+begins_seen_operator [] = false
+begins_seen_operator (s ∷ ss) = is_operator (plain s)
 
 -- ---- comments of what is no host: they go up to the innermost host or sequence around it
 
@@ -56,7 +56,7 @@ row_exprs binary inside newline [] = []
 row_exprs binary inside newline (s ∷ ss) =
     let operator : Bool = binary && is_operator (plain s) in
     let before : Bool = if inside then newline else has_newline s.gap in
-    s.make no_comments ((operator && not (begins_operator ss)) && (before || has_newline (first_gap ss))) ∷ row_exprs binary operator before ss
+    s.make no_comments ((operator && not (begins_seen_operator ss)) && (before || has_newline (first_seen_gap ss))) ∷ row_exprs binary operator before ss
 
 -- ---- sequences
 
@@ -89,7 +89,7 @@ is_split (s ∷ ss) = has_newline s.gap || is_split ss
 -- right behind the bracket of a comprehension, its first part, stands an unescaped newline
 abbrev pub is_open : List Seen → Bool
 is_open [] = false
-is_open (s ∷ ss) = has_newline (first_gap ss)
+is_open (s ∷ ss) = has_newline (first_seen_gap ss)
 
 abbrev pub row_form : Kind → List Seen → HostComments → Expr
 row_form kind ss comments = e.Form (record {
@@ -102,7 +102,7 @@ row_form kind ss comments = e.Form (record {
 
 abbrev pub sequence_form : Kind → List Seen → List Seen → HostComments → Expr
 sequence_form kind head body comments =
-    let found : List Expr × List Bytes = items_in (all_in (first_gap body)) body in
+    let found : List Expr × List Bytes = items_in (all_in (first_seen_gap body)) body in
     e.Form (record {
       kind = kind;
       parts = map plain head;
@@ -113,11 +113,11 @@ sequence_form kind head body comments =
 
 -- A node without gaps. Of a sequence stay what stands before the bracket and the items; brackets and commas are gone.
 -- Every other node keeps the row of its parts.
-abbrev pub node_in : Frame → Kind → List Seen → Seen
-node_in row kind ss = record { make = λ comments break. row_form kind ss comments; gap = first_gap ss; loose = loose_in ss }
-node_in (sequence opener closer) kind ss = record {
+abbrev pub seen_node : Frame → Kind → List Seen → Seen
+seen_node row kind ss = record { make = λ comments break. row_form kind ss comments; gap = first_seen_gap ss; loose = loose_in ss }
+seen_node (sequence opener closer) kind ss = record {
   make = λ comments break. sequence_form kind (take (lead kind) ss) (drop (suc (lead kind)) ss) comments;
-  gap = first_gap ss;
+  gap = first_seen_gap ss;
   loose = loose_in (take (suc (lead kind)) ss);
 }
 
@@ -127,7 +127,7 @@ leaf_seen l = record { make = λ comments break. e.Token (record { class = l.cla
 abbrev mutual
   pub seen : Part → Seen
   seen (p.Leaf l) = leaf_seen l
-  seen (Node' kind _ parts) = node_in (frame kind) kind (seen_row parts)
+  seen (Node' kind _ parts) = seen_node (frame kind) kind (seen_row parts)
 
   pub seen_row : {m : _} → Row_of-Part m → List Seen
   seen_row end_of-Part = []
@@ -179,7 +179,7 @@ file_items left [] = []
 file_items left (p.Leaf l ∷ xs) = blocks (groups_of (left ++ lines_of l.gap)) ++ file_items [] xs
 file_items left (Node' kind _ parts ∷ xs) =
     let ss : List Seen = seen_row parts in
-    line_items (left ++ lines_of (first_gap ss)) ss ++ file_items (behind_first (lines_of (last_gap ss))) xs
+    line_items (left ++ lines_of (first_seen_gap ss)) ss ++ file_items (after_first_comment (lines_of (last_gap ss))) xs
 
 -- the file value of a tree
 abbrev pub view_of : Node → List Item

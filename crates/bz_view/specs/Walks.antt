@@ -7,11 +7,11 @@ use Rattle.bz_value.specs.Comments.{HostComments}
 use Rattle.bz_value.specs.Frames.{Frame, row, sequence, lead, is_binary, is_comprehension}
 use Rattle.bz_items.specs.Characters.{Bytes}
 use Rattle.bz_value.specs.Gaps.{suffix_in, others_in, all_in}
-use Rattle.bz_view.specs.View.{Seen, plain, first_gap, loose_in, loose_behind, row_exprs, items_in, is_split, is_open}
+use Rattle.bz_view.specs.View.{Seen, plain, first_seen_gap, loose_in, loose_behind, row_exprs, items_in, is_split, is_open}
 
 -- a sequence, from behind its opening bracket on
 abbrev pub seq_in : List Seen → Seq
-seq_in body = record { items = (items_in (all_in (first_gap body)) body).0; end_ = (items_in (all_in (first_gap body)) body).1; split = is_split body }
+seq_in body = record { items = (items_in (all_in (first_seen_gap body)) body).0; end_ = (items_in (all_in (first_seen_gap body)) body).1; split = is_split body }
 
 -- the form of a node without comments of its own, as the record of its fields
 abbrev pub form_in : Frame → Kind → List Seen → HostComments → Form

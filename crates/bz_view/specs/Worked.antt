@@ -97,8 +97,8 @@ Above =
     ∷ calling (codes "# keep" ∷ []) (codes "c") false (argument no_comments (codes "d") (plain c.String (codes "\"y\"")) ∷ []) ∷ [])
 
 -- A group of comment lines that an empty line follows stands by itself; so does one above an escaped newline; texts end before their blanks.
-abbrev pub Groups : Type 0
-Groups =
+abbrev pub CommentGroups : Type 0
+CommentGroups =
     Row
     (codes "# a \t\r\n# b\n\n# c\\\nf()\n# d\n\\\ng()\n")
     (file (
@@ -152,8 +152,8 @@ Split =
     (calling [] (codes "f") false (argument no_comments (codes "a") (sequence k.List [] true (plain c.Number (codes "1") ∷ plain c.Number (codes "2") ∷ []) []) ∷ []) ∷ [])
 
 -- an escaped newline splits nothing
-abbrev pub Escaped : Type 0
-Escaped =
+abbrev pub EscapedNewlines : Type 0
+EscapedNewlines =
     Row
     (codes "f(\\\na \n)\ng(\\\n)\n")
     (file (
@@ -209,8 +209,8 @@ Words =
     plain c.Mark (codes "(") ∷ row no_comments k.Compare false (plain c.Name (codes "a") ∷ plain c.Keyword (codes "not") ∷ breaking c.Keyword (codes "in") ∷ plain c.Name (codes "b") ∷ []) ∷ plain c.Mark (codes ")") ∷ [])) ∷ [])
 
 -- a comprehension is open where a newline stands right behind its bracket
-abbrev pub Opened : Type 0
-Opened =
+abbrev pub OpenedForms : Type 0
+OpenedForms =
     Row
     (codes "[\n  a for a in b]\n")
     (file (bare (node k.ListComp (
@@ -231,8 +231,8 @@ everywhere =
     ∷ []) (codes " # a") ∷ []) (codes "# a\n")
 
 -- each stands in the file value as often as in the text
-abbrev pub Counts : Type 0
-Counts =
+abbrev pub CommentCounts : Type 0
+CommentCounts =
     (spell_node everywhere ≡ codes "# a\n\n# a\nf(x # b\n, # a\n# a\n) # a\n# a\n")
     × (comments_of_tree everywhere ≡ codes "# a" ∷ codes "# a" ∷ codes "# b" ∷ codes "# a" ∷ codes "# a" ∷ codes "# a" ∷ codes "# a" ∷ [])
     × (occurrences (codes "# a") everywhere ≡ 6) × (times (codes "# a") (view_of everywhere) ≡ 6)
@@ -240,4 +240,4 @@ Counts =
     × (occurrences (codes "#") everywhere ≡ 0) × (times (codes "#") (view_of everywhere) ≡ 0)
 
 abbrev pub WorkedViews : Type 0
-WorkedViews = Above × Groups × AtEnd × Semicolons × BehindEscape × Split × Escaped × Inside × Commas × Operand × Words × Opened × Counts
+WorkedViews = Above × CommentGroups × AtEnd × Semicolons × BehindEscape × Split × EscapedNewlines × Inside × Commas × Operand × Words × OpenedForms × CommentCounts

@@ -2,7 +2,7 @@
 ghost use Rattle.std.specs.Prelude.{◌≡◌, ◌&&◌, map, drop};
 ghost use Rattle.bz_value.specs.Gaps.{has_newline};
 ghost use Rattle.bz_value.specs.Proper.{is_operator};
-ghost use Rattle.bz_view.specs.View.{begins_operator, first_gap, is_split, last_gap, plain, seen};
+ghost use Rattle.bz_view.specs.View.{begins_seen_operator, first_seen_gap, is_split, last_gap, plain, seen};
 
 use bz_tree::Part;
 use bz_value::{has_newline, is_sign};
@@ -22,7 +22,7 @@ pub fn gap_before(part: &Part) -> &[u8]
 
 /// The gap before the part with this index; past the last part there is none.
 pub fn gap_at(parts: &[Part], at: usize) -> &[u8]
-    ensures { result.now ≡ first_gap (map seen (drop at parts.now)) }
+    ensures { result.now ≡ first_seen_gap (map seen (drop at parts.now)) }
 {
     match parts.get(at) {
         None => &[],
@@ -42,7 +42,7 @@ pub fn gap_of_last(parts: &[Part]) -> &[u8]
 
 /// Whether an unescaped newline stands before the part with this index.
 pub fn breaks_before(parts: &[Part], at: usize) -> bool
-    ensures { result ≡ has_newline (first_gap (map seen (drop at parts.now))) }
+    ensures { result ≡ has_newline (first_seen_gap (map seen (drop at parts.now))) }
 {
     has_newline(gap_at(parts, at))
 }
@@ -78,7 +78,7 @@ pub fn is_operator_in(binary: bool, part: &Part) -> bool
 
 /// Whether the part with this index is a token of an operator.
 pub fn is_operator_at(parts: &[Part], at: usize) -> bool
-    ensures { result ≡ begins_operator (map seen (drop at parts.now)) }
+    ensures { result ≡ begins_seen_operator (map seen (drop at parts.now)) }
 {
     match parts.get(at) {
         None => false,

@@ -2,7 +2,7 @@
 ghost use Rattle.std.specs.Prelude.{◌≡◌, ◌∷◌, ◌++◌, ◌<◌, ◌&&◌, ◌||◌, not, map, drop, length, if◌then◌else◌, List, IfOk, OnOk};
 ghost use Rattle.bz_value.specs.Frames.{is_comprehension};
 ghost use Rattle.bz_value.specs.Gaps.{all_in, has_newline, suffix_in};
-ghost use Rattle.bz_view.specs.View.{Seen, begins_operator, first_gap, is_open, loose_behind, seen};
+ghost use Rattle.bz_view.specs.View.{Seen, begins_seen_operator, first_seen_gap, is_open, loose_behind, seen};
 ghost use Rattle.bz_view.specs.Walks.{above_behind, loose_from, suffix_behind};
 
 use crate::before::{breaks_before, gap_at, gap_before, is_operator_at};
@@ -30,7 +30,7 @@ pub fn push_gap(
 /// Whether an unescaped newline stands before the operator that the part with this index is: `newline`, where the part
 /// before is a token of the same operator.
 pub fn before_operator(parts: &[Part], at: usize, inside: bool, newline: bool) -> bool
-    ensures { result ≡ (if inside then newline else has_newline (first_gap (map seen (drop at parts.now)))) }
+    ensures { result ≡ (if inside then newline else has_newline (first_seen_gap (map seen (drop at parts.now)))) }
 {
     if inside {
         newline
@@ -42,7 +42,7 @@ pub fn before_operator(parts: &[Part], at: usize, inside: bool, newline: bool) -
 /// Whether a token of an operator breaks behind which the part with this index stands: it is the operator's last token,
 /// and a newline stands before the operator or before this part.
 pub fn breaks_behind(operator: bool, newline: bool, parts: &[Part], at: usize) -> bool
-    ensures { result ≡ ((operator && not (begins_operator (map seen (drop at parts.now)))) && (newline || has_newline (first_gap (map seen (drop at parts.now))))) }
+    ensures { result ≡ ((operator && not (begins_seen_operator (map seen (drop at parts.now)))) && (newline || has_newline (first_seen_gap (map seen (drop at parts.now))))) }
 {
     operator && !is_operator_at(parts, at) && (newline || breaks_before(parts, at))
 }

@@ -3,7 +3,7 @@ use Rattle.std.proofs.Common.{◌≡◌, false, List, [], ◌∷◌, ◌++◌, S
 use Rattle.std.specs.Prelude.{if◌then◌else◌}
 use Rattle.std.specs.Option.{ok_or, option_map_or}
 use Rattle.bz_items.specs.Characters.{Bytes}
-use Rattle.bz_words.specs.Commands.{Read, comment_of, host_of, is_one_line, split_last}
+use Rattle.bz_words.specs.Commands.{ReadCommand, comment_of, host_of, is_one_line, split_last}
 use Rattle.bz_words.specs.declared.command.Operation.TheVariants as w
 use Rattle.bz_words.specs.declared.command.CommentOperation.TheVariants as wc
 use Rattle.bz_words.specs.declared.fault.CommandFault.TheVariants.{Arguments}
@@ -14,7 +14,7 @@ last_split (word ∷ []) last = refl
 last_split (word ∷ next ∷ front) last = ap (option_map (λ parts. (word ∷ parts.0, parts.1))) (last_split (next ∷ front) last)
 
 -- what the words of a comment say, by what stands before the last one and by the last one
-abbrev pub said : List Bytes → Bytes → Read
+abbrev pub said : List Bytes → Bytes → ReadCommand
 said front text = if is_one_line text then ok_or (option_map (λ host. w.Comment (wc.Add host text)) (host_of front)) Arguments else Err Arguments
 
 pub comment_cut : (words front : List Bytes) (text : Bytes) → words ≡ front ++ text ∷ [] → comment_of words ≡ said front text

@@ -6,9 +6,9 @@ use Rattle.std.specs.Option.{option_map_or}
 use Rattle.std.proofs.lemmas.Bool.{and_parts}
 use Rattle.bz_items.specs.Characters.{Bytes}
 use Rattle.bz_words.specs.Words.{words_of, is_nonempty}
-use Rattle.bz_words.specs.Identifiers.{is_identifier, is_kind}
+use Rattle.bz_words.specs.Identifiers.{is_identifier, is_rule_kind}
 use Rattle.bz_words.specs.Commands as c
-use Rattle.bz_words.specs.Commands.{Read}
+use Rattle.bz_words.specs.Commands.{ReadCommand}
 use Rattle.bz_words.specs.Proper.{AreUtf8, AreValues, IsPlace, AreAttributes, AreMoved, IsProperCommand}
 use Rattle.bz_words.specs.declared.command.Operation.{Operation}
 use Rattle.bz_words.specs.declared.command.Operation.TheVariants as w
@@ -30,7 +30,7 @@ moved_proper : (t : Bool) (words : List Bytes) → AreValues words → AreMoved 
 moved_proper true words v = tt
 moved_proper false words v = v
 
-place_proper : (words : List Bytes) → AreUtf8 words → IfSome (c.place_of words) IsPlace
+place_proper : (words : List Bytes) → AreUtf8 words → IfSome (c.rule_place words) IsPlace
 place_proper [] u = tt
 place_proper (side ∷ []) u = tt
 place_proper (side ∷ rule ∷ []) u =
@@ -43,7 +43,7 @@ new_proper : (words : List Bytes) → AreUtf8 words → ReadsProper (c.new_of wo
 new_proper [] u = tt
 new_proper (kind ∷ []) u = tt
 new_proper (kind ∷ name ∷ words) u =
-    if_proper (is_kind kind) _ _ (λ k. made_proper IsPlace (λ place. w.Rule (wr.New kind name place)) (c.place_of words) (place_proper words u.1.1) (λ place p. ((k, u.0), u.1.0, p))) tt
+    if_proper (is_rule_kind kind) _ _ (λ k. made_proper IsPlace (λ place. w.Rule (wr.New kind name place)) (c.rule_place words) (place_proper words u.1.1) (λ place p. ((k, u.0), u.1.0, p))) tt
 
 delete_proper : (words : List Bytes) → AreUtf8 words → ReadsProper (c.delete_of words)
 delete_proper [] u = tt
@@ -51,7 +51,7 @@ delete_proper (word ∷ words) u = tt
 
 set_kind_proper : (words : List Bytes) → AreUtf8 words → ReadsProper (c.set_kind_of words)
 set_kind_proper [] u = tt
-set_kind_proper (kind ∷ []) u = given_proper (is_kind kind) (w.Rule (wr.SetKind kind)) (λ k. (k, u.0))
+set_kind_proper (kind ∷ []) u = given_proper (is_rule_kind kind) (w.Rule (wr.SetKind kind)) (λ k. (k, u.0))
 set_kind_proper (kind ∷ more ∷ words) u = tt
 
 set_proper : (words : List Bytes) → AreUtf8 words → ReadsProper (c.set_of words)
@@ -127,7 +127,7 @@ copy_no_overwrite_proper (attribute ∷ rule ∷ more ∷ words) u = tt
 -- ---- the table
 
 abbrev Reader : Type 0
-Reader = List Bytes → Read
+Reader = List Bytes → ReadCommand
 
 abbrev AllReadProper : List (Bytes × Reader) → Type 0
 AllReadProper [] = Unit {0}
@@ -144,7 +144,7 @@ named_proper : (table : List (Bytes × Reader)) → AllReadProper table → (nam
 named_proper [] h name words u = tt
 named_proper (command ∷ table) h name words u = either ReadsProper (bytes_eq name command.0) _ _ (λ _. h.0 words u) (named_proper table h.1 name words u)
 
-fitting : (fits : Bool) (o : Option Read) → IfSome o ReadsProper → ReadsProper (option_map_or (λ read. if fits then read else Err Arguments) o (Err Unknown))
+fitting : (fits : Bool) (o : Option ReadCommand) → IfSome o ReadsProper → ReadsProper (option_map_or (λ read. if fits then read else Err Arguments) o (Err Unknown))
 fitting true (Some read) h = h
 fitting false (Some read) h = tt
 fitting fits None h = tt

@@ -62,7 +62,7 @@ entry_proper word u = entry_from (c.cut_at colon word) (cut_utf8 colon [] word (
 
 entries_proper : (operation : Bytes → List Entry → Operation)
     → ((attribute : Bytes) (entries : List Entry) → (is_identifier attribute ≡ true) × IsUtf8 attribute → AreSome IsEntry entries → IsProperCommand (operation attribute entries))
-    → (words : List Bytes) → AreUtf8 words → ReadsProper (c.entries_of operation words)
+    → (words : List Bytes) → AreUtf8 words → ReadsProper (c.dict_entries_of operation words)
 entries_proper operation make [] u = tt
 entries_proper operation make (attribute ∷ words) u =
     if_proper (is_identifier attribute && is_nonempty words) _ _ (λ h.

@@ -7,13 +7,13 @@ use Rattle.bz_items.specs.Characters.{Bytes}
 use Rattle.bz_words.specs.Words.{is_nonempty}
 use Rattle.bz_words.specs.Identifiers.{is_identifier}
 use Rattle.bz_words.specs.Commands as c
-use Rattle.bz_words.specs.Commands.{Read}
+use Rattle.bz_words.specs.Commands.{ReadCommand}
 use Rattle.bz_words.specs.Proper.{AreUtf8, IsAttribute, AreValues, IsProperCommand}
 use Rattle.bz_words.specs.declared.command.Operation.{Operation}
 use Rattle.bz_words.specs.declared.fault.CommandFault.TheVariants.{Arguments}
 
 -- the command is proper, where there is one
-abbrev pub ReadsProper : Read → Type 0
+abbrev pub ReadsProper : ReadCommand → Type 0
 ReadsProper (Ok command) = IsProperCommand command
 ReadsProper (Err fault) = Unit {0}
 
@@ -21,7 +21,7 @@ pub given_proper : (holds : Bool) (command : Operation) → (holds ≡ true → 
 given_proper true command f = f refl
 given_proper false command f = tt
 
-pub if_proper : (t : Bool) (x y : Read) → (t ≡ true → ReadsProper x) → ReadsProper y → ReadsProper (if t then x else y)
+pub if_proper : (t : Bool) (x y : ReadCommand) → (t ≡ true → ReadsProper x) → ReadsProper y → ReadsProper (if t then x else y)
 if_proper true x y f h = f refl
 if_proper false x y f h = h
 

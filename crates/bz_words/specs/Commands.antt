@@ -4,7 +4,7 @@ use Rattle.std.specs.List.{list_any}
 use Rattle.std.specs.Option.{option_and_then, option_map_or, ok_or}
 use Rattle.bz_items.specs.Characters.{Bytes, asterisk, colon, equals_sign, line_feed}
 use Rattle.bz_words.specs.Words.{words_of, is_nonempty}
-use Rattle.bz_words.specs.Identifiers.{is_identifier, is_kind}
+use Rattle.bz_words.specs.Identifiers.{is_identifier, is_rule_kind}
 use Rattle.bz_words.specs.declared.command.Operation.{Operation}
 use Rattle.bz_words.specs.declared.command.Operation.TheVariants as w
 use Rattle.bz_words.specs.declared.command.RuleOperation.TheVariants as wr
@@ -13,8 +13,8 @@ use Rattle.bz_words.specs.declared.command.ValueOperation.TheVariants as wv
 use Rattle.bz_words.specs.declared.command.DictOperation.TheVariants as wd
 use Rattle.bz_words.specs.declared.command.LoadOperation.TheVariants as wl
 use Rattle.bz_words.specs.declared.command.CommentOperation.TheVariants as wc
-use Rattle.bz_words.specs.declared.command.Place.{Place}
-use Rattle.bz_words.specs.declared.command.Place.TheVariants.{End, Before, After}
+use Rattle.bz_words.specs.declared.command.RulePlace.{RulePlace}
+use Rattle.bz_words.specs.declared.command.RulePlace.TheVariants.{End, Before, After}
 use Rattle.bz_words.specs.declared.command.Attributes.{Attributes}
 use Rattle.bz_words.specs.declared.command.Attributes.TheVariants.{All as AllAttributes, Named}
 use Rattle.bz_words.specs.declared.command.Values.{Values}
@@ -31,11 +31,11 @@ use Rattle.bz_words.specs.declared.fault.CommandFault.TheVariants.{Unknown, Argu
 
 -- ---- forms
 
-abbrev pub Read : Type 0
-Read = Result Operation CommandFault
+abbrev pub ReadCommand : Type 0
+ReadCommand = Result Operation CommandFault
 
 -- the command, where its words have the form that it asks for
-abbrev pub given : Bool → Operation → Read
+abbrev pub given : Bool → Operation → ReadCommand
 given true command = Ok command
 given false command = Err Arguments
 
@@ -56,85 +56,85 @@ abbrev pub values_of : List Bytes → Values
 values_of words = if list_any is_star words then AllValues else These words
 
 -- `before RULE` or `after RULE`
-abbrev pub beside : Bytes → Bytes → Option Place
+abbrev pub beside : Bytes → Bytes → Option RulePlace
 beside side rule =
     if bytes_eq side (codes "before") then Some (Before rule) else (if bytes_eq side (codes "after") then Some (After rule) else None)
 
 -- nothing, or one of these
-abbrev pub place_of : List Bytes → Option Place
-place_of [] = Some End
-place_of (side ∷ rule ∷ []) = beside side rule
-place_of _ = None
+abbrev pub rule_place : List Bytes → Option RulePlace
+rule_place [] = Some End
+rule_place (side ∷ rule ∷ []) = beside side rule
+rule_place _ = None
 
 -- ---- what each command reads in the words behind its name
 
 -- new KIND NAME [before|after RULE]
-abbrev pub new_of : List Bytes → Read
-new_of (kind ∷ name ∷ words) = if is_kind kind then ok_or (option_map (λ place. w.Rule (wr.New kind name place)) (place_of words)) Arguments else Err Arguments
+abbrev pub new_of : List Bytes → ReadCommand
+new_of (kind ∷ name ∷ words) = if is_rule_kind kind then ok_or (option_map (λ place. w.Rule (wr.New kind name place)) (rule_place words)) Arguments else Err Arguments
 new_of _ = Err Arguments
 
 -- delete
-abbrev pub delete_of : List Bytes → Read
+abbrev pub delete_of : List Bytes → ReadCommand
 delete_of [] = Ok (w.Rule wr.Delete)
 delete_of _ = Err Arguments
 
 -- set kind KIND
-abbrev pub set_kind_of : List Bytes → Read
-set_kind_of (kind ∷ []) = given (is_kind kind) (w.Rule (wr.SetKind kind))
+abbrev pub set_kind_of : List Bytes → ReadCommand
+set_kind_of (kind ∷ []) = given (is_rule_kind kind) (w.Rule (wr.SetKind kind))
 set_kind_of _ = Err Arguments
 
 -- set ATTRIBUTE VALUE..
-abbrev pub set_of : List Bytes → Read
+abbrev pub set_of : List Bytes → ReadCommand
 set_of [] = Err Arguments
 set_of (attribute ∷ values) =
     if is_word_kind attribute then set_kind_of values else given (is_identifier attribute && is_nonempty values) (w.Attribute (wa.Set attribute values))
 
 -- set_if_absent ATTRIBUTE VALUE..
-abbrev pub set_if_absent_of : List Bytes → Read
+abbrev pub set_if_absent_of : List Bytes → ReadCommand
 set_if_absent_of [] = Err Arguments
 set_if_absent_of (attribute ∷ values) =
     given (is_identifier attribute && not (is_word_kind attribute) && is_nonempty values) (w.Attribute (wa.SetIfAbsent attribute values))
 
 -- add ATTRIBUTE VALUE..
-abbrev pub add_of : List Bytes → Read
+abbrev pub add_of : List Bytes → ReadCommand
 add_of [] = Err Arguments
 add_of (attribute ∷ values) = given (is_identifier attribute && is_nonempty values) (w.Value (wv.Add attribute values))
 
 -- remove ATTRIBUTE, remove * or remove ATTRIBUTE VALUE..
-abbrev pub remove_of : List Bytes → Read
+abbrev pub remove_of : List Bytes → ReadCommand
 remove_of [] = Err Arguments
 remove_of (attribute ∷ values) =
     if is_nonempty values then given (is_identifier attribute) (w.Value (wv.Remove attribute values))
     else ok_or (option_map (λ attributes. w.Attribute (wa.Remove attributes)) (attributes_of attribute)) Arguments
 
 -- replace ATTRIBUTE OLD NEW or replace * OLD NEW
-abbrev pub replace_of : List Bytes → Read
+abbrev pub replace_of : List Bytes → ReadCommand
 replace_of (attribute ∷ old ∷ new ∷ []) = ok_or (option_map (λ attributes. w.Value (wv.Replace attributes old new)) (attributes_of attribute)) Arguments
 replace_of _ = Err Arguments
 
 -- substitute ATTRIBUTE PATTERN TEMPLATE or substitute * PATTERN TEMPLATE, for each text that `regex` takes as a pattern
-abbrev pub substitute_of : List Bytes → Read
+abbrev pub substitute_of : List Bytes → ReadCommand
 substitute_of (attribute ∷ pattern ∷ template ∷ []) =
     ok_or (option_map (λ attributes. w.Value (wv.Substitute attributes pattern template)) (attributes_of attribute)) Arguments
 substitute_of _ = Err Arguments
 
 -- move FROM TO VALUE..
-abbrev pub move_of : List Bytes → Read
+abbrev pub move_of : List Bytes → ReadCommand
 move_of (from ∷ to ∷ values) = given (is_identifier from && is_identifier to && is_nonempty values) (w.Value (wv.Move from to (values_of values)))
 move_of _ = Err Arguments
 
 -- rename FROM TO
-abbrev pub rename_of : List Bytes → Read
+abbrev pub rename_of : List Bytes → ReadCommand
 rename_of (from ∷ to ∷ []) = given (is_identifier from && is_identifier to) (w.Attribute (wa.Rename from to))
 rename_of _ = Err Arguments
 
 -- copy ATTRIBUTE RULE
-abbrev pub copy_of : List Bytes → Read
+abbrev pub copy_of : List Bytes → ReadCommand
 copy_of (attribute ∷ rule ∷ []) = given (is_identifier attribute) (w.Attribute (wa.Copy attribute rule))
 copy_of _ = Err Arguments
 
 -- copy_no_overwrite ATTRIBUTE RULE
-abbrev pub copy_no_overwrite_of : List Bytes → Read
+abbrev pub copy_no_overwrite_of : List Bytes → ReadCommand
 copy_no_overwrite_of (attribute ∷ rule ∷ []) = given (is_identifier attribute) (w.Attribute (wa.CopyNoOverwrite attribute rule))
 copy_no_overwrite_of _ = Err Arguments
 
@@ -153,21 +153,21 @@ each_of form [] = Some []
 each_of form (word ∷ words) = option_and_then (λ x. option_map (λ xs. x ∷ xs) (each_of form words)) (form word)
 
 -- ATTRIBUTE KEY:VALUE..
-abbrev pub entries_of : (Bytes → List Entry → Operation) → List Bytes → Read
-entries_of operation [] = Err Arguments
-entries_of operation (attribute ∷ words) =
+abbrev pub dict_entries_of : (Bytes → List Entry → Operation) → List Bytes → ReadCommand
+dict_entries_of operation [] = Err Arguments
+dict_entries_of operation (attribute ∷ words) =
     if is_identifier attribute && is_nonempty words then ok_or (option_map (operation attribute) (each_of entry_of words)) Arguments else Err Arguments
 
 -- dict_add ATTRIBUTE KEY:VALUE..
-abbrev pub dict_add_of : List Bytes → Read
-dict_add_of words = entries_of (λ attribute entries. w.Dict (wd.Add attribute entries)) words
+abbrev pub dict_add_of : List Bytes → ReadCommand
+dict_add_of words = dict_entries_of (λ attribute entries. w.Dict (wd.Add attribute entries)) words
 
 -- dict_set ATTRIBUTE KEY:VALUE..
-abbrev pub dict_set_of : List Bytes → Read
-dict_set_of words = entries_of (λ attribute entries. w.Dict (wd.Set attribute entries)) words
+abbrev pub dict_set_of : List Bytes → ReadCommand
+dict_set_of words = dict_entries_of (λ attribute entries. w.Dict (wd.Set attribute entries)) words
 
 -- dict_remove ATTRIBUTE KEY..
-abbrev pub dict_remove_of : List Bytes → Read
+abbrev pub dict_remove_of : List Bytes → ReadCommand
 dict_remove_of [] = Err Arguments
 dict_remove_of (attribute ∷ keys) = given (is_identifier attribute && is_nonempty keys) (w.Dict (wd.Remove attribute keys))
 
@@ -180,7 +180,7 @@ abbrev pub symbol_of : Bytes → Option Symbol
 symbol_of word = option_map_or (λ parts. symbol_of_names parts.0 parts.1) (cut_at equals_sign word) (symbol_of_names word word)
 
 -- new_load PATH [TO=]FROM..
-abbrev pub new_load_of : List Bytes → Read
+abbrev pub new_load_of : List Bytes → ReadCommand
 new_load_of [] = Err Arguments
 new_load_of (path ∷ words) = if is_nonempty words then ok_or (option_map (λ symbols. w.Load (wl.New path symbols)) (each_of symbol_of words)) Arguments else Err Arguments
 
@@ -201,17 +201,17 @@ abbrev pub is_one_line : Bytes → Bool
 is_one_line text = not (list_any (λ byte. byte == line_feed) text)
 
 -- comment [ATTRIBUTE [VALUE]] TEXT; the text has no newline
-abbrev pub comment_of : List Bytes → Read
+abbrev pub comment_of : List Bytes → ReadCommand
 comment_of words =
     option_map_or (λ parts. if is_one_line parts.1 then ok_or (option_map (λ host. w.Comment (wc.Add host parts.1)) (host_of parts.0)) Arguments else Err Arguments)
     (split_last words) (Err Arguments)
 
 -- print_comment [ATTRIBUTE [VALUE]]
-abbrev pub print_comment_of : List Bytes → Read
+abbrev pub print_comment_of : List Bytes → ReadCommand
 print_comment_of words = ok_or (option_map (λ host. w.Comment (wc.Print host)) (host_of words)) Arguments
 
 -- remove_comment [ATTRIBUTE [VALUE]]
-abbrev pub remove_comment_of : List Bytes → Read
+abbrev pub remove_comment_of : List Bytes → ReadCommand
 remove_comment_of words = ok_or (option_map (λ host. w.Comment (wc.Remove host)) (host_of words)) Arguments
 
 -- one more fix, which isn't named yet
@@ -230,7 +230,7 @@ fixes_of [] = Some (record { move_package_to_top = true; unused_loads = true })
 fixes_of words = fixes_from (record { move_package_to_top = false; unused_loads = false }) words
 
 -- fix [unusedLoads] [movePackageToTop]
-abbrev pub fix_of : List Bytes → Read
+abbrev pub fix_of : List Bytes → ReadCommand
 fix_of words = ok_or (option_map (λ fixes. w.Load (wl.Fix fixes)) (fixes_of words)) Arguments
 
 -- these words name fields that are not known
@@ -251,13 +251,13 @@ fields_of [] = Some (f.Attribute (codes "name") ∷ f.Kind ∷ [])
 fields_of words = each_of field_of words
 
 -- print [FIELD..]
-abbrev pub print_of : List Bytes → Read
+abbrev pub print_of : List Bytes → ReadCommand
 print_of words = ok_or (option_map (λ fields. w.Print fields) (fields_of words)) Arguments
 
 -- ---- all commands
 
 -- the table of commands, each with what it reads
-abbrev pub commands : List (Bytes × (List Bytes → Read))
+abbrev pub commands : List (Bytes × (List Bytes → ReadCommand))
 commands =
     (codes "new", new_of)
     ∷ (codes "delete", delete_of)
@@ -283,7 +283,7 @@ commands =
     ∷ []
 
 -- what the command of this name reads in these words, where there is one
-abbrev pub named_in : List (Bytes × (List Bytes → Read)) → Bytes → List Bytes → Option Read
+abbrev pub named_in : List (Bytes × (List Bytes → ReadCommand)) → Bytes → List Bytes → Option ReadCommand
 named_in [] name words = None
 named_in (command ∷ more) name words = if bytes_eq name command.0 then Some (command.1 words) else named_in more name words
 
@@ -292,10 +292,10 @@ abbrev pub text_limit : ℕ
 text_limit = 65536
 
 -- An unknown name is told first, then a text that is too long, then what is wrong with the words.
-abbrev pub command_in : Bool → List Bytes → Read
+abbrev pub command_in : Bool → List Bytes → ReadCommand
 command_in fits [] = Err Unknown
 command_in fits (name ∷ words) = option_map_or (λ read. if fits then read else Err Arguments) (named_in commands name words) (Err Unknown)
 
 -- The command of a text.
-abbrev pub command_of : Bytes → Read
+abbrev pub command_of : Bytes → ReadCommand
 command_of text = command_in (nat_le (length text) text_limit) (words_of text)

@@ -33,5 +33,5 @@ abbrev pub IdentifiersAreNames : Type 0
 IdentifiersAreNames = (text : Bytes) → (is_identifier text ≡ true) ↔ IsLexeme class.Name text
 
 -- The kind of a rule: identifiers joined by dots.
-abbrev pub is_kind : Bytes → Bool
-is_kind text = list_all is_identifier (slice_split (λ byte. byte == full_stop) text)
+abbrev pub is_rule_kind : Bytes → Bool
+is_rule_kind text = list_all is_identifier (slice_split (λ byte. byte == full_stop) text)

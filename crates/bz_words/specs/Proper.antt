@@ -3,7 +3,7 @@
 use Rattle.std.specs.Prelude.{◌≡◌, true, List, [], ◌∷◌, IsUtf8}
 use Rattle.bz_items.specs.Characters.{Bytes}
 use Rattle.bz_words.specs.Words.{is_nonempty}
-use Rattle.bz_words.specs.Identifiers.{is_identifier, is_kind}
+use Rattle.bz_words.specs.Identifiers.{is_identifier, is_rule_kind}
 use Rattle.bz_words.specs.declared.command.Operation.{Operation}
 use Rattle.bz_words.specs.declared.command.Operation.TheVariants as w
 use Rattle.bz_words.specs.declared.command.RuleOperation.TheVariants as wr
@@ -19,8 +19,8 @@ use Rattle.bz_words.specs.declared.command.Host.TheVariants as h
 use Rattle.bz_words.specs.declared.command.Field.{Field}
 use Rattle.bz_words.specs.declared.command.Field.TheVariants as f
 use Rattle.bz_words.specs.Commands.{is_one_line}
-use Rattle.bz_words.specs.declared.command.Place.{Place}
-use Rattle.bz_words.specs.declared.command.Place.TheVariants.{End, Before, After}
+use Rattle.bz_words.specs.declared.command.RulePlace.{RulePlace}
+use Rattle.bz_words.specs.declared.command.RulePlace.TheVariants.{End, Before, After}
 use Rattle.bz_words.specs.declared.command.Attributes.{Attributes}
 use Rattle.bz_words.specs.declared.command.Attributes.TheVariants.{All as AllAttributes, Named}
 use Rattle.bz_words.specs.declared.command.Values.{Values}
@@ -34,13 +34,13 @@ abbrev pub IsAttribute : Bytes → Type 0
 IsAttribute name = (is_identifier name ≡ true) × IsUtf8 name
 
 abbrev pub IsKind : Bytes → Type 0
-IsKind kind = (is_kind kind ≡ true) × IsUtf8 kind
+IsKind kind = (is_rule_kind kind ≡ true) × IsUtf8 kind
 
 -- one value or more
 abbrev pub AreValues : List Bytes → Type 0
 AreValues values = (is_nonempty values ≡ true) × AreUtf8 values
 
-abbrev pub IsPlace : Place → Type 0
+abbrev pub IsPlace : RulePlace → Type 0
 IsPlace End = Unit {0}
 IsPlace (Before rule) = IsUtf8 rule
 IsPlace (After rule) = IsUtf8 rule

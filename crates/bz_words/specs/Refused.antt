@@ -2,14 +2,14 @@
 use Rattle.std.specs.Prelude.{◌≡◌, ◌⊎◌, Ok, Err}
 use Rattle.bz_pattern.specs.Patterns.{IsRefusedPattern}
 use Rattle.bz_items.specs.Characters.{Bytes}
-use Rattle.bz_words.specs.Commands.{Read, command_of}
+use Rattle.bz_words.specs.Commands.{ReadCommand, command_of}
 use Rattle.bz_words.specs.declared.command.Operation.TheVariants as w
 use Rattle.bz_words.specs.declared.command.ValueOperation.TheVariants as wv
 use Rattle.bz_words.specs.declared.fault.CommandFault.{CommandFault}
 use Rattle.bz_words.specs.declared.fault.CommandFault.TheVariants.{BadPattern}
 
 -- a substitution whose pattern `regex` refuses
-abbrev pub HasBadPattern : Read → Type 0
+abbrev pub HasBadPattern : ReadCommand → Type 0
 HasBadPattern (Ok (w.Value (wv.Substitute attributes pattern template))) = IsRefusedPattern pattern
 HasBadPattern _ = ⊥
 

@@ -2,8 +2,8 @@
 use Rattle.std.specs.Prelude.{◌≡◌, Bool, true, false, [], ◌∷◌, Ok, Err, codes}
 use Rattle.bz_items.specs.Characters.{Bytes}
 use Rattle.bz_words.specs.Words.{words_of}
-use Rattle.bz_words.specs.Identifiers.{is_identifier, is_kind}
-use Rattle.bz_words.specs.Commands.{Read, command_in, command_of}
+use Rattle.bz_words.specs.Identifiers.{is_identifier, is_rule_kind}
+use Rattle.bz_words.specs.Commands.{ReadCommand, command_in, command_of}
 use Rattle.bz_words.specs.Quoted.{quoted_of}
 use Rattle.bz_words.specs.declared.command.Operation.TheVariants as w
 use Rattle.bz_words.specs.declared.command.RuleOperation.TheVariants as wr
@@ -12,7 +12,7 @@ use Rattle.bz_words.specs.declared.command.ValueOperation.TheVariants as wv
 use Rattle.bz_words.specs.declared.command.DictOperation.TheVariants as wd
 use Rattle.bz_words.specs.declared.command.LoadOperation.TheVariants as wl
 use Rattle.bz_words.specs.declared.command.CommentOperation.TheVariants as wc
-use Rattle.bz_words.specs.declared.command.Place.TheVariants.{End, Before, After}
+use Rattle.bz_words.specs.declared.command.RulePlace.TheVariants.{End, Before, After}
 use Rattle.bz_words.specs.declared.command.Attributes.TheVariants.{All as AllAttributes, Named}
 use Rattle.bz_words.specs.declared.command.Values.TheVariants.{All as AllValues, These}
 use Rattle.bz_words.specs.declared.command.Entry.{Entry}
@@ -39,12 +39,12 @@ WorkedIdentifiers =
     -- U+00E9, U+FF21, and U+FEFF behind a letter
     × (is_identifier (195 ∷ 169 ∷ []) ≡ true) × (is_identifier (239 ∷ 188 ∷ 161 ∷ []) ≡ true)
     × (is_identifier (97 ∷ 239 ∷ 187 ∷ 191 ∷ []) ≡ false)
-    × (is_kind (codes "a.b.c") ≡ true) × (is_kind (codes "a") ≡ true) × (is_kind (codes "a..b") ≡ false)
-    × (is_kind (codes "a.") ≡ false) × (is_kind (codes "a.if") ≡ false) × (is_kind [] ≡ false)
+    × (is_rule_kind (codes "a.b.c") ≡ true) × (is_rule_kind (codes "a") ≡ true) × (is_rule_kind (codes "a..b") ≡ false)
+    × (is_rule_kind (codes "a.") ≡ false) × (is_rule_kind (codes "a.if") ≡ false) × (is_rule_kind [] ≡ false)
 
 -- ---- commands
 
-abbrev reads : Bytes → Read → Type 0
+abbrev reads : Bytes → ReadCommand → Type 0
 reads text read = command_of text ≡ read
 
 abbrev is_refused : Bytes → Type 0

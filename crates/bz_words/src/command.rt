@@ -63,7 +63,7 @@ pub enum RuleOperation {
     New {
         kind: Text,
         name: Text,
-        place: Place,
+        place: RulePlace,
     },
     /// Each rule's statement goes, with its comments.
     Delete,
@@ -182,7 +182,7 @@ pub enum CommentOperation {
 
 /// Where a new rule goes.
 #[derive(Debug, Drop)]
-pub enum Place {
+pub enum RulePlace {
     /// To the end of the file.
     End,
     /// Right before the first rule of this name.

@@ -41,8 +41,8 @@ fn each_entry(alloc: Global, words: &[Text]) -> Result<Option<Items<Entry>>, Mem
 // The attribute and its entries, one or more. The errors: `Arguments`: the words have another form; `Memory`: a growth was
 // refused.
 fn entries_of(mut words: Vec<Text>) -> Result<(Text, Items<Entry>), CommandFault>
-    ensures ok { IfOk result (λ parts. (operation : Bytes → List EntryIn → OperationIn) → c.entries_of operation words.items ≡ Ok (operation parts.0 parts.1)) }
-    ensures err { IfErr result (λ fault. ((operation : Bytes → List EntryIn → OperationIn) → c.entries_of operation words.items ≡ Err fault) ⊎ (fault ≡ CommandFault.Memory)) }
+    ensures ok { IfOk result (λ parts. (operation : Bytes → List EntryIn → OperationIn) → c.dict_entries_of operation words.items ≡ Ok (operation parts.0 parts.1)) }
+    ensures err { IfErr result (λ fault. ((operation : Bytes → List EntryIn → OperationIn) → c.dict_entries_of operation words.items ≡ Err fault) ⊎ (fault ≡ CommandFault.Memory)) }
 {
     let attribute = take_first(&mut words)?;
     if !is_attribute(&attribute) || !has_values(&words) {

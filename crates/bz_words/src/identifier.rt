@@ -1,6 +1,6 @@
 //! Identifiers and kinds.
 ghost use Rattle.std.specs.Prelude.{◌≡◌, ◌↔◌, IsTrue};
-ghost use Rattle.bz_words.specs.Identifiers.{is_identifier as is_identifier_in, is_kind as is_kind_in};
+ghost use Rattle.bz_words.specs.Identifiers.{is_identifier as is_identifier_in, is_rule_kind as is_kind_in};
 
 use bz_token::{Class, token};
 

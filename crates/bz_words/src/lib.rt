@@ -18,7 +18,7 @@ mod words;
 
 pub use command::{
     AttributeOperation, Attributes, Command, CommentOperation, DictOperation, Entry, Field, Fixes,
-    Host, LoadOperation, Operation, Place, RuleOperation, Symbol, ValueOperation, Values,
+    Host, LoadOperation, Operation, RuleOperation, RulePlace, Symbol, ValueOperation, Values,
 };
 pub use fault::CommandFault;
 pub use identifier::{is_identifier, is_kind};

@@ -7,7 +7,7 @@ ghost use Rattle.bz_words.specs.Proper.{AreUtf8};
 ghost use Rattle.bz_words.specs.Refused.{HasBadPattern, IsCommandFault};
 
 use crate::command::{
-    AttributeOperation, Command, Operation, Place, RuleOperation, ValueOperation, Values,
+    AttributeOperation, Command, Operation, RuleOperation, RulePlace, ValueOperation, Values,
 };
 use crate::dicts::{dict_add_of, dict_remove_of, dict_set_of};
 use crate::fault::CommandFault;
@@ -47,23 +47,23 @@ fn values_of(words: Vec<Text>) -> Values
     }
 }
 
-fn beside(side: Text, rule: Text) -> Option<Place>
+fn beside(side: Text, rule: Text) -> Option<RulePlace>
     ensures { result ≡ c.beside side rule }
 {
     if is_text(&side, b"before") {
-        return Some(Place::Before(rule));
+        return Some(RulePlace::Before(rule));
     }
     if is_text(&side, b"after") {
-        return Some(Place::After(rule));
+        return Some(RulePlace::After(rule));
     }
     None
 }
 
-fn place_of(words: Vec<Text>) -> Option<Place>
-    ensures { result ≡ c.place_of words.items }
+fn rule_place(words: Vec<Text>) -> Option<RulePlace>
+    ensures { result ≡ c.rule_place words.items }
 {
     if words.is_empty() {
-        return Some(Place::End);
+        return Some(RulePlace::End);
     }
     match <[Text; 2]>::try_from(words) {
         Ok([side, rule]) => beside(side, rule),
@@ -79,7 +79,7 @@ fn new_of(mut words: Vec<Text>) -> Read
     if !is_kind(kind.as_slice()) {
         return Err(CommandFault::Arguments);
     }
-    match place_of(words) {
+    match rule_place(words) {
         Some(place) => Ok(Operation::Rule(RuleOperation::New { kind, name, place })),
         None => Err(CommandFault::Arguments),
     }

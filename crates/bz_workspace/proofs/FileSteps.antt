@@ -6,21 +6,21 @@ use Rattle.std.proofs.Math.Seq.{take-append_seam}
 use Rattle.std.proofs.lemmas.List.{length-map}
 use Rattle.bz_items.specs.Characters.{Bytes}
 use Rattle.bz_workspace.specs.Packages as p
-use Rattle.bz_workspace.specs.Packages.{file_at, with_file}
+use Rattle.bz_workspace.specs.Packages.{file_at, with_opened}
 use Rattle.bz_workspace.specs.Kept.{packages_of}
 use Rattle.bz_workspace.specs.Shown.{opened_in, used_in}
 use Rattle.bz_workspace.specs.declared.used.Opened.{Opened}
 use Rattle.bz_workspace.specs.declared.used.Used.{Used}
 
 pub put_in : (items : List Used) (place : ℕ) (there default new : Used) (file : Option p.Opened) → there ≡ get_or items place default
-    → used_in new ≡ record (used_in there) { file = file } → map used_in (slice_set items place new) ≡ with_file place file (map used_in items)
+    → used_in new ≡ record (used_in there) { file = file } → map used_in (slice_set items place new) ≡ with_opened place file (map used_in items)
 put_in [] place there default new file is put = refl
 put_in (one ∷ more) zero there default new file is put =
     ap (λ (x : p.Used). x ∷ map used_in more) (put ∙ ap (λ (x : Used). record (used_in x) { file = file }) is)
 put_in (one ∷ more) (suc place) there default new file is put = ap (λ (rest : List p.Used). used_in one ∷ rest) (put_in more place there default new file is put)
 
 pub put : (items : List Used) (place : ℕ) (there default : Used) (file : Option Opened) → there ≡ get_or items place default
-    → map used_in (slice_set items place (record there { file = file })) ≡ with_file place (option_map opened_in file) (map used_in items)
+    → map used_in (slice_set items place (record there { file = file })) ≡ with_opened place (option_map opened_in file) (map used_in items)
 put items place there default file is = put_in items place there default (record there { file = file }) (option_map opened_in file) is refl
 
 -- the file of a package that is open
@@ -70,29 +70,29 @@ pub none_found : (slice items : List Used) (used : List p.Used) (place : ℕ) �
 none_found slice items used place same shown is = ap (option_map (λ (_ : p.Opened). place)) (looked_up slice items used place None same shown is)
 
 -- a file changes no package
-packages_stay : (place : ℕ) (file : Option p.Opened) (used : List p.Used) → packages_of (with_file place file used) ≡ packages_of used
+packages_stay : (place : ℕ) (file : Option p.Opened) (used : List p.Used) → packages_of (with_opened place file used) ≡ packages_of used
 packages_stay place file [] = refl
 packages_stay zero file (one ∷ more) = refl
 packages_stay (suc place) file (one ∷ more) = ap (λ rest. one.package ∷ rest) (packages_stay place file more)
 
 pub kept_by : (keys : List Bytes) (place : ℕ) (file : Option p.Opened) (used new : List p.Used) → keys ≡ packages_of used
-    → new ≡ with_file place file used → keys ≡ packages_of new
+    → new ≡ with_opened place file used → keys ≡ packages_of new
 kept_by keys place file used new kept is = kept ∙ sym (ap packages_of is ∙ packages_stay place file used)
 
 -- the file that a package was given
-file_there : (place : ℕ) (file : Option p.Opened) (used : List p.Used) → place < length used → file_at place (with_file place file used) ≡ file
+file_there : (place : ℕ) (file : Option p.Opened) (used : List p.Used) → place < length used → file_at place (with_opened place file used) ≡ file
 file_there place file [] within = absurd (omega arith)
 file_there zero file (one ∷ more) within = refl
 file_there (suc place) file (one ∷ more) within = file_there place file more (omega arith)
 
-pub opened_there : (place : ℕ) (file : p.Opened) (used whole new : List p.Used) → used ≡ whole → place < length whole → new ≡ with_file place (Some file) used
+pub opened_there : (place : ℕ) (file : p.Opened) (used whole new : List p.Used) → used ≡ whole → place < length whole → new ≡ with_opened place (Some file) used
     → IsSome (file_at place new)
 opened_there place file used whole new same within is =
-    ap (λ (now : List p.Used). is_some (file_at place now)) (is ∙ ap (with_file place (Some file)) same)
+    ap (λ (now : List p.Used). is_some (file_at place now)) (is ∙ ap (with_opened place (Some file)) same)
     ∙ ap is_some (file_there place (Some file) whole within)
 
 -- a package with no file is as it was without one
-pub none_stays : (place : ℕ) (used : List p.Used) → file_at place used ≡ None → with_file place None used ≡ used
+pub none_stays : (place : ℕ) (used : List p.Used) → file_at place used ≡ None → with_opened place None used ≡ used
 none_stays place [] none = refl
 none_stays zero (one ∷ more) none = ap (λ (file : Option p.Opened). record one { file = file } ∷ more) (sym none)
 none_stays (suc place) (one ∷ more) none = ap (λ (rest : List p.Used). one ∷ rest) (none_stays place more none)
@@ -108,12 +108,12 @@ within_items place items used same is =
     subst (λ (n : ℕ). place < n) (ap length (sym same) ∙ length-map items used_in) (within_used place used is)
 
 -- the packages before one stay
-take_with : (place : ℕ) (file : Option p.Opened) (used : List p.Used) → take place (with_file place file used) ≡ take place used
+take_with : (place : ℕ) (file : Option p.Opened) (used : List p.Used) → take place (with_opened place file used) ≡ take place used
 take_with zero file used = refl
 take_with (suc place) file [] = refl
 take_with (suc place) file (one ∷ more) = ap (λ (rest : List p.Used). one ∷ rest) (take_with place file more)
 
-pub before_stay : (place : ℕ) (file : Option p.Opened) (used new : List p.Used) → new ≡ with_file place file used → take place new ≡ take place used
+pub before_stay : (place : ℕ) (file : Option p.Opened) (used new : List p.Used) → new ≡ with_opened place file used → take place new ≡ take place used
 before_stay place file used new is = ap (take place) is ∙ take_with place file used
 
 -- the last package
@@ -122,7 +122,7 @@ last_none [] one = refl
 last_none (first ∷ more) one = last_none more one
 
 last_put : (used : List p.Used) (one : p.Used) (file : Option p.Opened)
-    → with_file (length used) file (used ++ one ∷ []) ≡ used ++ record one { file = file } ∷ []
+    → with_opened (length used) file (used ++ one ∷ []) ≡ used ++ record one { file = file } ∷ []
 last_put [] one file = refl
 last_put (first ∷ more) one file = ap (λ (rest : List p.Used). first ∷ rest) (last_put more one file)
 
@@ -131,9 +131,9 @@ closed_last place used new one at is none =
     ap (λ (n : ℕ). file_at n new) at ∙ (ap (file_at (length used)) is ∙ (last_none used one ∙ none))
 
 pub put_last : (place : ℕ) (used mid new : List p.Used) (one : p.Used) (file : Option p.Opened) → place ≡ length used → mid ≡ used ++ one ∷ []
-    → new ≡ with_file place file mid → new ≡ used ++ record one { file = file } ∷ []
+    → new ≡ with_opened place file mid → new ≡ used ++ record one { file = file } ∷ []
 put_last place used mid new one file at is put =
-    put ∙ (ap (λ (n : ℕ). with_file n file mid) at ∙ (ap (with_file (length used) file) is ∙ last_put used one file))
+    put ∙ (ap (λ (n : ℕ). with_opened n file mid) at ∙ (ap (with_opened (length used) file) is ∙ last_put used one file))
 
 pub before_added : (place : ℕ) (used mid new : List p.Used) (one : p.Used) → place ≡ length used → mid ≡ used ++ one ∷ [] → take place new ≡ take place mid
     → take (length used) new ≡ used

@@ -4,19 +4,19 @@ use Rattle.std.specs.FinMap.{get}
 use Rattle.bz_files.specs.Folder.{Folder}
 use Rattle.bz_items.specs.Characters.{Bytes}
 use Rattle.bz_ports.specs.Told.{named_line}
-use Rattle.bz_workspace.specs.Found.{Found, found_at, found_in, first_name, second_name}
+use Rattle.bz_workspace.specs.Found.{PackagesFound, found_at, found_in, first_name, second_name}
 use Rattle.bz_workspace.specs.Opens.{Opens, Takes}
 use Rattle.bz_workspace.specs.Packages.{Opened}
 
 -- a file that is there
-there_opens : (current wanted name text : Bytes) (folder : Folder) (other : Option Found) (file : Option Opened) (lines : List Bytes) → name ≡ wanted
+there_opens : (current wanted name text : Bytes) (folder : Folder) (other : Option PackagesFound) (file : Option Opened) (lines : List Bytes) → name ≡ wanted
     → get folder name ≡ Some text → Takes current name text file lines → Opens current (found_at wanted (get folder wanted) other) file lines
 there_opens current wanted name text folder other file lines is held takes =
     subst (λ (bytes : Option Bytes). Opens current (found_at wanted bytes other) file lines) (sym (ap (get folder) (sym is) ∙ held))
     (subst (λ (n : Bytes). Takes current n text file lines) is takes)
 
 -- a file that is not there
-absent_opens : (current wanted name : Bytes) (folder : Folder) (other : Option Found) (file : Option Opened) (lines : List Bytes) → name ≡ wanted
+absent_opens : (current wanted name : Bytes) (folder : Folder) (other : Option PackagesFound) (file : Option Opened) (lines : List Bytes) → name ≡ wanted
     → get folder name ≡ None → Opens current other file lines → Opens current (found_at wanted (get folder wanted) other) file lines
 absent_opens current wanted name folder other file lines is held opens =
     subst (λ (bytes : Option Bytes). Opens current (found_at wanted bytes other) file lines) (sym (ap (get folder) (sym is) ∙ held)) opens

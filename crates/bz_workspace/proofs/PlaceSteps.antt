@@ -9,7 +9,7 @@ use Rattle.std.proofs.lemmas.Iterator.Adapters.{position_from-zero}
 use Rattle.std.proofs.lemmas.List.{map-append}
 use Rattle.indexmap.specs.IndexSet.{insert_key}
 use Rattle.bz_items.specs.Characters.{Bytes}
-use Rattle.bz_workspace.specs.Packages.{Used, place_of}
+use Rattle.bz_workspace.specs.Packages.{Used, package_number}
 use Rattle.bz_workspace.specs.Kept.{texts_of_keys, packages_of}
 
 abbrev Key : Type 0
@@ -42,22 +42,22 @@ found_step false i None = refl
 found_step false i (Some place) = ap (λ (n : ℕ). Some n) (omega arith)
 
 by_packages : (name : Bytes) (i : ℕ) (used : List Used)
-    → position_from (bytes_eq name) i (packages_of used) ≡ option_map (λ place. place + i) (place_of name used)
+    → position_from (bytes_eq name) i (packages_of used) ≡ option_map (λ place. place + i) (package_number name used)
 by_packages name i [] = refl
 by_packages name i (one ∷ more) =
     ap (λ (found : Option ℕ). cond (bytes_eq name one.package) (Some i) found) (by_packages name (i + 1) more)
-    ∙ (ap (λ (b : Bool). cond b (Some i) (option_map (λ place. place + (i + 1)) (place_of name more))) (eq_turn name one.package)
-    ∙ found_step (bytes_eq one.package name) i (place_of name more))
+    ∙ (ap (λ (b : Bool). cond b (Some i) (option_map (λ place. place + (i + 1)) (package_number name more))) (eq_turn name one.package)
+    ∙ found_step (bytes_eq one.package name) i (package_number name more))
 
 from_none : (found : Option ℕ) → option_map (λ place. place + 0) found ≡ found
 from_none None = refl
 from_none (Some place) = ap (λ (n : ℕ). Some n) (omega arith)
 
 pub place_found : (keys : List Key) (name : Bytes) (used : List Used) → texts_of_keys keys ≡ packages_of used
-    → position (λ (key : Key). bytes_eq name key.items) keys ≡ place_of name used
+    → position (λ (key : Key). bytes_eq name key.items) keys ≡ package_number name used
 place_found keys name used same =
     position_from-zero (λ (key : Key). bytes_eq name key.items) keys
-    ∙ (by_keys name 0 keys ∙ (ap (position_from (bytes_eq name) 0) same ∙ (by_packages name 0 used ∙ from_none (place_of name used))))
+    ∙ (by_keys name 0 keys ∙ (ap (position_from (bytes_eq name) 0) same ∙ (by_packages name 0 used ∙ from_none (package_number name used))))
 
 -- ---- a key more
 
@@ -74,18 +74,18 @@ none_step : (b rest : Bool) (found : Option ℕ) → (found ≡ None → rest �
 none_step true rest found behind h = absurd (cc)
 none_step false rest found behind h = behind (none_behind found h)
 
-absent : (name : Bytes) (used : List Used) → place_of name used ≡ None → list_any (bytes_eq name) (packages_of used) ≡ false
+absent : (name : Bytes) (used : List Used) → package_number name used ≡ None → list_any (bytes_eq name) (packages_of used) ≡ false
 absent name [] h = refl
 absent name (one ∷ more) h =
     ap (λ b. b || list_any (bytes_eq name) (packages_of more)) (eq_turn name one.package)
-    ∙ none_step (bytes_eq one.package name) (list_any (bytes_eq name) (packages_of more)) (place_of name more) (absent name more) h
+    ∙ none_step (bytes_eq one.package name) (list_any (bytes_eq name) (packages_of more)) (package_number name more) (absent name more) h
 
 inserted : (b : Bool) (keys : List Key) (key : Key) → b ≡ false → texts_of_keys (if b then keys else keys ++ key ∷ []) ≡ texts_of_keys keys ++ key.items ∷ []
 inserted true keys key h = absurd (true≢false h)
 inserted false keys key h = map-append (λ (k : Key). k.items) keys (key ∷ [])
 
 pub key_added : (keys new : List Key) (key : Key) (name : Bytes) (used : List Used) → key.items ≡ name → texts_of_keys keys ≡ packages_of used
-    → place_of name used ≡ None → new ≡ insert_key key_eq keys key → texts_of_keys new ≡ texts_of_keys keys ++ name ∷ []
+    → package_number name used ≡ None → new ≡ insert_key key_eq keys key → texts_of_keys new ≡ texts_of_keys keys ++ name ∷ []
 key_added keys new key name used named same none is =
     let lacks : list_any (key_eq key) keys ≡ false =
     any_keys key.items keys ∙ (ap (λ (text : Bytes). list_any (bytes_eq text) (texts_of_keys keys)) named

@@ -16,14 +16,14 @@ abbrev pub second_name : Bytes → Bytes
 second_name current = in_package current (codes "BUILD")
 
 -- a file that is there: its name and its bytes
-abbrev pub Found : Type 0
-Found = Bytes × Bytes
+abbrev pub PackagesFound : Type 0
+PackagesFound = Bytes × Bytes
 
-abbrev pub found_at : Bytes → Option Bytes → Option Found → Option Found
+abbrev pub found_at : Bytes → Option Bytes → Option PackagesFound → Option PackagesFound
 found_at name (Some bytes) other = Some (name, bytes)
 found_at name None other = other
 
 -- The file of a package is `BUILD.bazel`, else `BUILD`.
-abbrev pub found_in : Folder → Bytes → Option Found
+abbrev pub found_in : Folder → Bytes → Option PackagesFound
 found_in folder current =
     found_at (first_name current) (get folder (first_name current)) (found_at (second_name current) (get folder (second_name current)) None)

@@ -11,17 +11,17 @@ use Rattle.bz_journal.specs.Faults.{IsFaultOf}
 use Rattle.bz_journal.specs.History.{History, Answer, opened, Acts}
 use Rattle.bz_journal.specs.Keeping.{Keeps}
 use Rattle.bz_ports.specs.Told.{named_line, fault_line}
-use Rattle.bz_workspace.specs.Packages.{Opened, Used, file_at, with_file}
-use Rattle.bz_workspace.specs.Found.{Found, second_name}
+use Rattle.bz_workspace.specs.Packages.{Opened, Used, file_at, with_opened}
+use Rattle.bz_workspace.specs.Found.{PackagesFound, second_name}
 
 -- a text of this name, as it was read, with the history that begins with it
-abbrev pub fresh : Bytes → Bytes → Bytes → Opened
-fresh current name text = record { name = name; read = text; history = opened current text }
+abbrev pub opened_fresh : Bytes → Bytes → Bytes → Opened
+opened_fresh current name text = record { name = name; read = text; history = opened current text }
 
 -- An accepted text is opened; of every other text its fault is told.
 abbrev pub Takes : Bytes → Bytes → Bytes → Option Opened → List Bytes → Type 0
 Takes current name text file lines =
-    (Accepted text × (file ≡ Some (fresh current name text)) × (lines ≡ []))
+    (Accepted text × (file ≡ Some (opened_fresh current name text)) × (lines ≡ []))
     ⊎ ((Accepted text → ⊥) × ((fault : ReadFault) × IsFaultOf text fault × (file ≡ None) × (lines ≡ fault_line name fault ∷ [])))
 
 -- A text and its first bytes, one more than a text may have, are opened or told alike: both are too large, or they are the same.
@@ -30,7 +30,7 @@ FrontsAreToldAlike = (current name text : Bytes) (file : Option Opened) (lines :
     → (Takes current name (take (limit + 1) text) file lines ↔ Takes current name text file lines)
 
 -- The file that is found for a package is opened; where none is, that is told of `BUILD`.
-abbrev pub Opens : Bytes → Option Found → Option Opened → List Bytes → Type 0
+abbrev pub Opens : Bytes → Option PackagesFound → Option Opened → List Bytes → Type 0
 Opens current (Some found) file lines = Takes current found.0 found.1 file lines
 Opens current None file lines = (file ≡ None) × (lines ≡ named_line (second_name current) (codes "cannot open") ∷ [])
 
@@ -40,7 +40,7 @@ pub record ActsAt (place : ℕ) (action : Action) (note : Bytes) (before : List 
   pub history : History
   pub there : file_at place before ≡ Some file
   pub acts : Acts action note file.history answer history
-  pub kept : after ≡ with_file place (Some (record file { history = history })) before
+  pub kept : after ≡ with_opened place (Some (record file { history = history })) before
 
 -- The same, and its journal and it are kept, or not.
 pub record KeepsAt (place : ℕ) (action : Action) (note : Bytes) (before : List Used) (answer : Result Reply KeepFault) (after : List Used) : Type 0 where
@@ -48,4 +48,4 @@ pub record KeepsAt (place : ℕ) (action : Action) (note : Bytes) (before : List
   pub history : History
   pub there : file_at place before ≡ Some file
   pub keeps : Keeps action note file.history answer history
-  pub kept : after ≡ with_file place (Some (record file { history = history })) before
+  pub kept : after ≡ with_opened place (Some (record file { history = history })) before

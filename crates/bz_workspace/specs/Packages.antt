@@ -16,9 +16,9 @@ pub record Used : Type 0 where
   pub file : Option Opened
 
 -- the number of a package among them, from 0
-abbrev pub place_of : Bytes → List Used → Option ℕ
-place_of current [] = None
-place_of current (used ∷ more) = if bytes_eq used.package current then Some 0 else option_map (λ place. place + 1) (place_of current more)
+abbrev pub package_number : Bytes → List Used → Option ℕ
+package_number current [] = None
+package_number current (used ∷ more) = if bytes_eq used.package current then Some 0 else option_map (λ place. place + 1) (package_number current more)
 
 -- the open file of the package with this number
 abbrev pub file_at : ℕ → List Used → Option Opened
@@ -27,7 +27,7 @@ file_at zero (used ∷ more) = used.file
 file_at (suc place) (used ∷ more) = file_at place more
 
 -- the package with this number has this file from now on
-abbrev pub with_file : ℕ → Option Opened → List Used → List Used
-with_file place file [] = []
-with_file zero file (used ∷ more) = record used { file = file } ∷ more
-with_file (suc place) file (used ∷ more) = used ∷ with_file place file more
+abbrev pub with_opened : ℕ → Option Opened → List Used → List Used
+with_opened place file [] = []
+with_opened zero file (used ∷ more) = record used { file = file } ∷ more
+with_opened (suc place) file (used ∷ more) = used ∷ with_opened place file more

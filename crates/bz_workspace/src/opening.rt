@@ -7,7 +7,7 @@ ghost use Rattle.bz_journal.specs.Faults.{IsFaultOf};
 ghost use Rattle.bz_ports.specs.Faults.{Rises, AppendsUnlessFailed};
 ghost use Rattle.bz_ports.specs.Told.{named_line};
 ghost use Rattle.bz_workspace.specs.Found.{in_package};
-ghost use Rattle.bz_workspace.specs.Opens.{fresh};
+ghost use Rattle.bz_workspace.specs.Opens.{opened_fresh};
 ghost use Rattle.bz_workspace.specs.Shown.{opened_in};
 
 use crate::Opened;
@@ -79,7 +79,7 @@ pub(crate) fn opened(
     text: Vec<u8>,
 ) -> Result<Opened, ReadFault>
     requires { length «package».now ≤ 65536 }
-    ensures ok { IfOk result (λ file. (opened_in file ≡ fresh «package».now name.now text.items) × Accepted text.items) }
+    ensures ok { IfOk result (λ file. (opened_in file ≡ opened_fresh «package».now name.now text.items) × Accepted text.items) }
     ensures err { IfErr result (λ fault. (fault ≡ ReadFault.Memory) ⊎ ((Accepted text.items → ⊥) × IsFaultOf text.items fault)) }
 {
     let editor = match Editor::open(alloc, package, text.as_slice()) {

@@ -5,10 +5,10 @@ ghost use Rattle.bz_files.specs.Faults.{Rises};
 ghost use Rattle.bz_journal.specs.Actions.{action_in};
 ghost use Rattle.bz_journal.specs.History.{History, Acts};
 ghost use Rattle.bz_journal.specs.Keeping.{IsWriteOrOpen, Keeps};
-ghost use Rattle.bz_journal.specs.Shown.{history_of};
+ghost use Rattle.bz_journal.specs.Shown.{session_history};
 ghost use Rattle.bz_workspace.specs.Packages as p;
 ghost use Rattle.bz_workspace.specs.Opens.{ActsAt, KeepsAt};
-ghost use Rattle.bz_workspace.specs.Packages.{file_at, with_file};
+ghost use Rattle.bz_workspace.specs.Packages.{file_at, with_opened};
 ghost use Rattle.bz_workspace.specs.Shown.{opened_in, used_in};
 
 use bz_attribute::Refusal;
@@ -34,7 +34,7 @@ pub struct Opened {
 impl Opened {
     /// A file of this name as it was read, with its editor.
     pub(crate) fn new(name: String, read: Text, editor: Editor) -> Opened
-        ensures { opened_in result ≡ record { name = string_bytes name; read = read; history = history_of editor } }
+        ensures { opened_in result ≡ record { name = string_bytes name; read = read; history = session_history editor } }
     {
         Opened {
             name,
@@ -84,7 +84,7 @@ pub struct Used {
 /// The package with this number has this file from now on.
 pub(crate) fn put_file(used: &mut Vec<Used>, place: usize, file: Option<Opened>)
     requires { place < length used.old.items }
-    ensures { map used_in used.new.items ≡ with_file place (option_map opened_in file) (map used_in used.old.items) }
+    ensures { map used_in used.new.items ≡ with_opened place (option_map opened_in file) (map used_in used.old.items) }
 {
     used[place].file = file;
 }

@@ -11,7 +11,7 @@ ghost use Rattle.bz_journal.specs.Actions.{action_in};
 ghost use Rattle.bz_journal.specs.Keeping.{IsWriteOrOpen};
 ghost use Rattle.bz_workspace.specs.Opens.{ActsAt, KeepsAt, Opens, Takes};
 ghost use Rattle.bz_workspace.specs.Packages as p;
-ghost use Rattle.bz_workspace.specs.Packages.{file_at, place_of, with_file};
+ghost use Rattle.bz_workspace.specs.Packages.{file_at, package_number, with_opened};
 ghost use Rattle.bz_workspace.specs.Shown.{used_in};
 
 use crate::opening::{
@@ -51,7 +51,7 @@ impl Model for Workspace {
 
 /// The number of a key.
 fn place_in(names: &IndexSet<Vec<u8>>, package: &[u8]) -> Option<usize>
-    ensures { (used : List p.Used) → texts_of_keys names.now.keys ≡ packages_of used → result ≡ place_of «package».now used }
+    ensures { (used : List p.Used) → texts_of_keys names.now.keys ≡ packages_of used → result ≡ package_number «package».now used }
 {
     names.get_index_of(package)
 }
@@ -64,7 +64,7 @@ fn append(
     package: &[u8],
 ) -> Result<(), Memory>
     requires kept { texts_of_keys names.old.keys ≡ packages_of (map used_in used.old.items) }
-    requires new { place_of «package».now (map used_in used.old.items) ≡ None }
+    requires new { package_number «package».now (map used_in used.old.items) ≡ None }
     ensures names { OnOk result (texts_of_keys names.new.keys ≡ texts_of_keys names.old.keys ++ «package».now ∷ []) }
     ensures used { OnOk result (map used_in used.new.items ≡ map used_in used.old.items ++ record { «package» = «package».now; file = None } ∷ []) }
     ensures err { OnErr result ((texts_of_keys names.new.keys ≡ texts_of_keys names.old.keys) × (used.new.items ≡ used.old.items)) }
@@ -94,7 +94,7 @@ impl Workspace {
 
     /// The number of a package, from 0; `None` where it was not used. It takes one step however many there are.
     pub fn place(&self, package: &[u8]) -> Option<usize>
-        ensures { result ≡ place_of «package».now self.now }
+        ensures { result ≡ package_number «package».now self.now }
     {
         place_in(&self.names, package)
     }
@@ -102,7 +102,7 @@ impl Workspace {
     /// The package, which was not used before, is the last one from now on, with no file. Returned: its number. The error:
     /// memory was refused, and all is as before.
     pub fn add(&mut self, package: &[u8]) -> Result<usize, Memory>
-        requires { place_of «package».now self.old ≡ None }
+        requires { package_number «package».now self.old ≡ None }
         ensures place { IfOk result (λ place. place ≡ length self.old) }
         ensures ok { OnOk result (self.new ≡ self.old ++ record { «package» = «package».now; file = None } ∷ []) }
         ensures err { OnErr result (self.new ≡ self.old) }
@@ -138,7 +138,7 @@ impl Workspace {
         requires within { place < length self.old }
         ensures whole { result.cut ≡ Cut.Whole → (file : Option p.Opened) × (lines : List Bytes)
             × Takes «package».now name.now text.items file lines
-            × (self.new ≡ with_file place file self.old)
+            × (self.new ≡ with_opened place file self.old)
             × (result.place ≡ option_map (λ _. place) file)
             × Tells (E.faults err.old) (E.faults err.new) (E.contents err.old) (E.contents err.new) lines }
         ensures cut { (result.cut ≡ Cut.Whole) ⊎ ((result.cut ≡ Cut.Memory) × (result.place ≡ None) × (self.new ≡ self.old)) }
@@ -243,7 +243,7 @@ impl Workspace {
         requires within { place < length self.old }
         ensures whole { journals ≡ false → result.cut ≡ Cut.Whole → (file : Option p.Opened) × (lines : List Bytes)
             × Takes «package».now name.now text.items file lines
-            × (self.new ≡ with_file place file self.old)
+            × (self.new ≡ with_opened place file self.old)
             × (result.place ≡ option_map (λ _. place) file)
             × Tells (E.faults err.old) (E.faults err.new) (E.contents err.old) (E.contents err.new) lines }
         ensures there { IfSome result.place (λ at. IsSome (file_at at self.new)) }
@@ -275,7 +275,7 @@ impl Workspace {
         requires closed { file_at place self.old ≡ None }
         ensures second { journals ≡ false → F.honest files.old ≡ true → result.cut ≡ Cut.Whole → (file : Option p.Opened) × (lines : List Bytes)
             × Opens «package».now (found_at (second_name «package».now) (get (F.folder files.old) (second_name «package».now)) None) file lines
-            × (self.new ≡ with_file place file self.old)
+            × (self.new ≡ with_opened place file self.old)
             × (result.place ≡ option_map (λ _. place) file)
             × Tells (E.faults err.old) (E.faults err.new) (E.contents err.old) (E.contents err.new) lines }
         ensures there { IfSome result.place (λ at. IsSome (file_at at self.new)) }
@@ -313,7 +313,7 @@ impl Workspace {
         requires closed { file_at place self.old ≡ None }
         ensures first { journals ≡ false → F.honest files.old ≡ true → result.cut ≡ Cut.Whole → (file : Option p.Opened) × (lines : List Bytes)
             × Opens «package».now (found_in (F.folder files.old) «package».now) file lines
-            × (self.new ≡ with_file place file self.old)
+            × (self.new ≡ with_opened place file self.old)
             × (result.place ≡ option_map (λ _. place) file)
             × Tells (E.faults err.old) (E.faults err.new) (E.contents err.old) (E.contents err.new) lines }
         ensures there { IfSome result.place (λ at. IsSome (file_at at self.new)) }
@@ -358,10 +358,10 @@ impl Workspace {
         err: &mut E,
     ) -> Opening
         requires { length «package».now ≤ 65536 }
-        ensures again { (place : ℕ) → place_of «package».now self.old ≡ Some place
+        ensures again { (place : ℕ) → package_number «package».now self.old ≡ Some place
             → (result ≡ record { place = option_map (λ _. place) (file_at place self.old); cut = Cut.Whole })
             × (self.new ≡ self.old) × (files.new ≡ files.old) × (err.new ≡ err.old) }
-        ensures first { journals ≡ false → F.honest files.old ≡ true → result.cut ≡ Cut.Whole → place_of «package».now self.old ≡ None
+        ensures first { journals ≡ false → F.honest files.old ≡ true → result.cut ≡ Cut.Whole → package_number «package».now self.old ≡ None
             → (file : Option p.Opened) × (lines : List Bytes)
             × Opens «package».now (found_in (F.folder files.old) «package».now) file lines
             × (self.new ≡ self.old ++ record { «package» = «package».now; file = file } ∷ [])

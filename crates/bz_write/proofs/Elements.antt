@@ -20,7 +20,7 @@ use Rattle.bz_items.specs.Characters.{comma}
 use Rattle.bz_value.specs.Frames.{Frame, row, sequence, frame, has_brackets, is_comprehension}
 use Rattle.bz_value.specs.LineShapes.{line_shape}
 use Rattle.bz_value.specs.Proper.{in_frame}
-use Rattle.bz_value.specs.Roots.{mark, each_with_comma, row_in}
+use Rattle.bz_value.specs.Roots.{mark_leaf, each_with_comma, row_in}
 use Rattle.bz_write.specs.Spaces.{is_value}
 use Rattle.bz_write.proofs.Neighbours.{Element, T, S, Is, passes, Pair, Links, links, all_in, in_a_line}
 use Rattle.bz_write.proofs.Spacing.{word_terminal, word_leaf, value_of}
@@ -63,32 +63,32 @@ abbrev pub AreValues : List Part → Type 0
 AreValues xs = AllByRecursion (λ x. is_value x ≡ true) xs
 
 abbrev pub before_comma : Element → Element → Bool
-before_comma a b = valued a || not (is b (mark comma))
+before_comma a b = valued a || not (is b (mark_leaf comma))
 
-value_before : (x : Part) → Pair before_comma any_last x (mark comma) → is_value x ≡ true
+value_before : (x : Part) → Pair before_comma any_last x (mark_leaf comma) → is_value x ≡ true
 value_before x w =
     elim (or_cases (valued w.0) _ w.4) [
       | inl e ↦ valued_part w.0 x w.2 e
-      | inr e ↦ absurd (both_ways (is w.1 (mark comma)) (not-true _ e) (is_so w.1 (mark comma) w.3))
+      | inr e ↦ absurd (both_ways (is w.1 (mark_leaf comma)) (not-true _ e) (is_so w.1 (mark_leaf comma) w.3))
     ]
 
 item_values : (z : Part) (xs rest : List Part) → Links before_comma any_last z (each_with_comma xs ++ rest) → AreValues xs
 item_values z [] rest h = tt
-item_values z (x ∷ xs) rest h = (value_before x h.1.0, item_values (mark comma) xs rest h.1.1)
+item_values z (x ∷ xs) rest h = (value_before x h.1.0, item_values (mark_leaf comma) xs rest h.1.1)
 
 behind_head : (x : Part) (ps : List Part) (m : Part) (rest : List Part) → Links before_comma any_last x (ps ++ (m ∷ rest)) → Links before_comma any_last m rest
 behind_head x [] m rest h = h.1
 behind_head x (y ∷ ps) m rest h = behind_head y ps m rest h.1
 
 -- the items between brackets in a row, with what stands behind the last comma
-pub enclosed_values : (r : Shape) → passes before_comma any_last None r ≡ true → (o : ℕ) (parts items rest : List Part) → Fits IsSort r (parts ++ (mark o ∷ (each_with_comma items ++ rest))) → AreValues items
-enclosed_values r t o [] items rest h = item_values (mark o) items rest (links before_comma any_last r None (mark o) tt t (mark o ∷ (each_with_comma items ++ rest)) h)
+pub enclosed_values : (r : Shape) → passes before_comma any_last None r ≡ true → (o : ℕ) (parts items rest : List Part) → Fits IsSort r (parts ++ (mark_leaf o ∷ (each_with_comma items ++ rest))) → AreValues items
+enclosed_values r t o [] items rest h = item_values (mark_leaf o) items rest (links before_comma any_last r None (mark_leaf o) tt t (mark_leaf o ∷ (each_with_comma items ++ rest)) h)
 enclosed_values r t o (x ∷ parts) items rest h =
-    item_values (mark o) items rest (behind_head x parts (mark o) (each_with_comma items ++ rest) (links before_comma any_last r None x tt t (x ∷ (parts ++ (mark o ∷ (each_with_comma items ++ rest)))) h))
+    item_values (mark_leaf o) items rest (behind_head x parts (mark_leaf o) (each_with_comma items ++ rest) (links before_comma any_last r None x tt t (x ∷ (parts ++ (mark_leaf o ∷ (each_with_comma items ++ rest)))) h))
 
 in_brackets : (r : Shape) (f : Frame) → (has_brackets f ≡ true → passes before_comma any_last None r ≡ true) → (parts items : List Part) → Fits IsSort r (row_in f parts items) → in_frame f (Unit {0}) (AreValues items)
 in_brackets r row t parts items h = tt
-in_brackets r (sequence o e) t parts items h = enclosed_values r (t refl) o parts items (mark e ∷ []) h
+in_brackets r (sequence o e) t parts items h = enclosed_values r (t refl) o parts items (mark_leaf e ∷ []) h
 
 brackets_pass : (kind : Kind) → has_brackets (frame kind) ≡ true → passes before_comma any_last None (line_shape kind) ≡ true
 brackets_pass k.Call h = refl
@@ -135,7 +135,7 @@ this_leaf class t l h =
       | inr e ↦ no_such e
     ]
 
-opening : (t : List ℕ) → role c.Mark t ≡ opens → (x : Part) → has_token (s.mark t) x ≡ true → IsOpening x
+opening : (t : List ℕ) → role c.Mark t ≡ opens → (x : Part) → has_token (s.one_mark t) x ≡ true → IsOpening x
 opening t o (p.Leaf l) h = let w = this_leaf c.Mark t l h in subst (λ z. role z l.token ≡ opens) (sym w.0) (subst (λ z. role c.Mark z ≡ opens) (sym w.1) o)
 opening t o (Node' kind z r) h = no_such h
 

@@ -13,7 +13,7 @@ use Rattle.bz_items.specs.Characters.{Bytes, line_feed}
 use Rattle.bz_value.specs.Empty.{is_empty}
 use Rattle.bz_value.specs.Exchanged.{is_bare, IsExchanged, AreExchanged}
 use Rattle.bz_value.specs.Proper.{comments_of}
-use Rattle.bz_write.specs.Written.{is_load, is_load_kind, is_assign, is_assign_kind, between, comment_lines}
+use Rattle.bz_write.specs.Written.{is_load, is_load_kind, is_assign, is_assign_kind, gap_between, comment_lines}
 use Rattle.bz_write.specs.Drawn.{line_part, before_next, lines_from}
 use Rattle.bz_write.specs.Marks.{marked_places, marked_lines}
 
@@ -44,22 +44,22 @@ bare_no_assign : (x : Expr) → is_bare (i.Stmt x) ≡ true → is_assign x ≡ 
 bare_no_assign (Token t) h = refl
 bare_no_assign (Form' kind s parts s' items end_ split open_ comments) h = bare_no_assign_kind kind h
 
-between_above : (x y : Item) → is_bare x ≡ true → between x y ≡ line_feed ∷ []
+between_above : (x y : Item) → is_bare x ≡ true → gap_between x y ≡ line_feed ∷ []
 between_above (i.Block texts) y h = refl
 between_above (i.Stmt x) (i.Block texts) h = refl
 between_above (i.Stmt x) (i.Stmt y) h =
     apart_above (is_load x) (is_load y) (is_assign x) (is_assign y) (is_empty (comments_of y).before) (bare_no_load x h) (bare_no_assign x h)
 
-between_below : (x y : Item) → is_bare y ≡ true → between x y ≡ line_feed ∷ []
+between_below : (x y : Item) → is_bare y ≡ true → gap_between x y ≡ line_feed ∷ []
 between_below (i.Block texts) y h = refl
 between_below (i.Stmt x) (i.Block texts) h = refl
 between_below (i.Stmt x) (i.Stmt y) h =
     apart_below (is_load x) (is_load y) (is_assign x) (is_assign y) (is_empty (comments_of y).before) (bare_no_load y h) (bare_no_assign y h)
 
-same_between : (m n : Bool) (x y u v : Item) → IsExchanged m x y → IsExchanged n u v → between x u ≡ between y v
+same_between : (m n : Bool) (x y u v : Item) → IsExchanged m x y → IsExchanged n u v → gap_between x u ≡ gap_between y v
 same_between true n x y u v g h = between_above x u g.0 ∙ sym (between_above y v g.1)
 same_between false true x y u v g h = between_below x u h.0 ∙ sym (between_below y v h.1)
-same_between false false x y u v g h = ap (λ z. between z u) g ∙ ap (λ z. between y z) h
+same_between false false x y u v g h = ap (λ z. gap_between z u) g ∙ ap (λ z. gap_between y z) h
 
 same_next : (m : Bool) (ms : List Bool) (x y : Item) (xs ys : List Item) → IsExchanged m x y → AreExchanged ms xs ys → before_next x xs ≡ before_next y ys
 same_next m [] x y [] [] g h = refl

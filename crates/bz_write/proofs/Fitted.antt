@@ -14,7 +14,7 @@ use Rattle.bz_value.specs.declared.value.Expr.{Expr, Token, Form', Row_of-Expr, 
 use Rattle.bz_items.specs.Characters.{Bytes, comma}
 use Rattle.bz_value.specs.Frames.{Frame, row, sequence, frame}
 use Rattle.bz_value.specs.Proper.{comments_of, roots}
-use Rattle.bz_value.specs.Roots.{root, mark as bare_mark, each_with_comma, row_in}
+use Rattle.bz_value.specs.Roots.{root, mark_leaf as bare_mark, each_with_comma, row_in}
 use Rattle.bz_write.specs.Layout.{Piece, mark, is_broken, is_tuple, gap_behind, margin_behind, firsts, rowed, headed, joined, stacked, laid_in, laid}
 use Rattle.bz_value.specs.Empty.{is_empty}
 use Rattle.bz_write.specs.Drawn.{piece_part, part_of, parts_of, drawings}

@@ -16,10 +16,10 @@ use Rattle.bz_value.specs.Comments.{HostComments}
 use Rattle.bz_value.specs.Frames.{Frame, row, sequence, frame}
 use Rattle.bz_value.specs.Proper.{comments_of, has_break}
 use Rattle.bz_value.specs.Roots.{root}
-use Rattle.bz_write.specs.Layout.{Piece, mark, part, laid, laid_in, rowed, headed, joined, stacked, is_broken, is_tuple, gap_behind, margin_behind, behind, has_comments, has_named, is_named, is_listed, is_call, line, above, firsts}
+use Rattle.bz_write.specs.Layout.{Piece, mark, part, laid, laid_in, rowed, headed, joined, stacked, is_broken, is_tuple, gap_behind, margin_behind, suffix_text, has_comments, has_named, is_named, is_listed, is_call, line, margin_lines, firsts}
 use Rattle.bz_value.specs.Empty.{is_empty}
 use Rattle.bz_write.specs.Spaces.{is_spaced}
-use Rattle.bz_write.specs.Written.{text_of, texts_of, piece_text, comment_lines, between, behind_item, item_text, layout, is_load, is_assign}
+use Rattle.bz_write.specs.Written.{text_of, texts_of, piece_text, comment_lines, gap_between, behind_item, item_text, layout, is_load, is_assign}
 use Rattle.bz_write.specs.Drawn.{part_of, parts_of, drawings, piece_part, before_next, line_part, lines_from, drawn}
 use Rattle.bz_write.specs.Flags.{settled_split, with_flags, each_with_flags, item_with_flags, flags}
 use Rattle.bz_write.specs.Writings.{writings}
@@ -123,7 +123,7 @@ module _ {X : Type 0} where
   same_stacked : (m : ℕ) (suffix : Option Bytes) (closer : ℕ) (end_ : List Bytes) (xs : List (Expr × X)) → stacked m suffix closer end_ (map flagged xs) ≡ stacked m suffix closer end_ xs
   same_stacked m suffix closer end_ [] = refl
   same_stacked m suffix closer end_ (x ∷ xs) =
-      rw (same_comments x.0) (ap (λ ps. part (behind suffix ++ (line (m + 4) ++ above (m + 4) (comments_of x.0).before)) (m + 4) x.1 ∷ mark [] (comma ∷ []) ∷ ps) (same_stacked m (comments_of x.0).suffix closer end_ xs))
+      rw (same_comments x.0) (ap (λ ps. part (suffix_text suffix ++ (line (m + 4) ++ margin_lines (m + 4) (comments_of x.0).before)) (m + 4) x.1 ∷ mark [] (comma ∷ []) ∷ ps) (same_stacked m (comments_of x.0).suffix closer end_ xs))
 
   pub same_body : (b one : Bool) (m : ℕ) (closer : ℕ) (end_ : List Bytes) (xs : List (Expr × X)) →
       (if b then stacked m None closer end_ (map flagged xs) else joined m [] closer one (map flagged xs)) ≡ (if b then stacked m None closer end_ xs else joined m [] closer one xs)
@@ -192,7 +192,7 @@ same_item : (x : Item) → item_text (item_with_flags x) ≡ item_text x
 same_item (i.Block texts) = refl
 same_item (i.Stmt x) = rw (same_comments x, text_flags x) refl
 
-pub same_between : (x y : Item) → between (item_with_flags x) (item_with_flags y) ≡ between x y
+pub same_between : (x y : Item) → gap_between (item_with_flags x) (item_with_flags y) ≡ gap_between x y
 same_between (i.Block texts) y = refl
 same_between (i.Stmt x) (i.Block texts) = refl
 same_between (i.Stmt x) (i.Stmt y) = rw (same_load x, same_load y, same_assign x, same_assign y, same_comments y) refl

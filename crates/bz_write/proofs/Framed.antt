@@ -137,12 +137,12 @@ comprehension_row kind sort terminals then_ xs h n w = record {
 }
 
 pub row_shape : (kind : Kind) (xs : List Part) → Fits IsSort (line_shape kind) xs → RowShape kind xs
-row_shape k.Or xs h = operation_row k.Or xs h refl (flat_row 10 (s.keyword (codes "or")) xs h)
-row_shape k.And xs h = operation_row k.And xs h refl (flat_row 9 (s.keyword (codes "and")) xs h)
+row_shape k.Or xs h = operation_row k.Or xs h refl (flat_row 10 (s.one_keyword (codes "or")) xs h)
+row_shape k.And xs h = operation_row k.And xs h refl (flat_row 9 (s.one_keyword (codes "and")) xs h)
 row_shape k.Compare xs h = operation_row k.Compare xs h refl (compare_row xs h)
-row_shape k.BitOr xs h = operation_row k.BitOr xs h refl (flat_row 6 (s.mark (codes "|")) xs h)
-row_shape k.Xor xs h = operation_row k.Xor xs h refl (flat_row 5 (s.mark (codes "^")) xs h)
-row_shape k.BitAnd xs h = operation_row k.BitAnd xs h refl (flat_row 4 (s.mark (codes "&")) xs h)
+row_shape k.BitOr xs h = operation_row k.BitOr xs h refl (flat_row 6 (s.one_mark (codes "|")) xs h)
+row_shape k.Xor xs h = operation_row k.Xor xs h refl (flat_row 5 (s.one_mark (codes "^")) xs h)
+row_shape k.BitAnd xs h = operation_row k.BitAnd xs h refl (flat_row 4 (s.one_mark (codes "&")) xs h)
 row_shape k.Shift xs h = operation_row k.Shift xs h refl (flat_row 3 s.shifts xs h)
 row_shape k.Sum xs h = operation_row k.Sum xs h refl (flat_row 2 s.sums xs h)
 row_shape k.Product xs h = operation_row k.Product xs h refl (flat_row 1 s.products xs h)

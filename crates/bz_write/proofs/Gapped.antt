@@ -7,7 +7,7 @@ use Rattle.std.proofs.lemmas.List.Elements.{recursion_from_All}
 use Rattle.bz_items.specs.Characters.{Bytes, line_feed, number_sign, space}
 use Rattle.bz_value.specs.Gaps.{GapLine, CommentRest, trimmed, lines_of, in_comment, comments_in}
 use Rattle.bz_value.specs.Proper.{IsComment, MaybeComment}
-use Rattle.bz_write.specs.Layout.{line, ended, above, behind}
+use Rattle.bz_write.specs.Layout.{line, ended, margin_lines, suffix_text}
 
 -- a line that a newline ends
 abbrev pub ended_line : Option Bytes → GapLine
@@ -65,19 +65,19 @@ spaces_skipped (suc m) gap = spaces_skipped m gap
 pub lines_line : (m : ℕ) → lines_of (line m) ≡ ended_line None ∷ []
 lines_line m = ap (λ z. ended_line None ∷ z) (ap lines_of (sym (append-nil (replicate m space))) ∙ spaces_skipped m [])
 
-lines_above : (m : ℕ) (texts : List Bytes) → AllByRecursion IsComment texts → lines_of (above m texts) ≡ told texts
+lines_above : (m : ℕ) (texts : List Bytes) → AllByRecursion IsComment texts → lines_of (margin_lines m texts) ≡ told texts
 lines_above m [] h = refl
 lines_above m (text ∷ texts) h =
-    comment_line text (replicate m space ++ above m texts) h.0 ∙ ap (λ z. ended_line (Some text) ∷ z) (spaces_skipped m (above m texts) ∙ lines_above m texts h.1)
+    comment_line text (replicate m space ++ margin_lines m texts) h.0 ∙ ap (λ z. ended_line (Some text) ∷ z) (spaces_skipped m (margin_lines m texts) ∙ lines_above m texts h.1)
 
 -- a gap that goes on with a new line, behind a suffix
-suffix_first : (suffix : Option Bytes) (rest : Bytes) → MaybeComment suffix → lines_of (behind suffix ++ (line_feed ∷ rest)) ≡ ended_line suffix ∷ lines_of rest
+suffix_first : (suffix : Option Bytes) (rest : Bytes) → MaybeComment suffix → lines_of (suffix_text suffix ++ (line_feed ∷ rest)) ≡ ended_line suffix ∷ lines_of rest
 suffix_first None rest h = refl
 suffix_first (Some text) rest h = comment_line text rest h
 
 -- before an item
-pub lines_item : (suffix : Option Bytes) (texts : List Bytes) (m : ℕ) → MaybeComment suffix → AllByRecursion IsComment texts → lines_of (behind suffix ++ (line m ++ above m texts)) ≡ ended_line suffix ∷ told texts
-lines_item suffix texts m h k = suffix_first suffix (replicate m space ++ above m texts) h ∙ ap (λ z. ended_line suffix ∷ z) (spaces_skipped m (above m texts) ∙ lines_above m texts k)
+pub lines_item : (suffix : Option Bytes) (texts : List Bytes) (m : ℕ) → MaybeComment suffix → AllByRecursion IsComment texts → lines_of (suffix_text suffix ++ (line m ++ margin_lines m texts)) ≡ ended_line suffix ∷ told texts
+lines_item suffix texts m h k = suffix_first suffix (replicate m space ++ margin_lines m texts) h ∙ ap (λ z. ended_line suffix ∷ z) (spaces_skipped m (margin_lines m texts) ∙ lines_above m texts k)
 
 ended_begins : (m : ℕ) (texts : List Bytes) → AllByRecursion IsComment texts → (rest : Bytes) × (ended m texts ≡ line_feed ∷ rest) × (lines_of rest ≡ told texts)
 ended_begins m [] h = (replicate m space, refl, ap lines_of (sym (append-nil (replicate m space))) ∙ spaces_skipped m [])
@@ -89,10 +89,10 @@ ended_begins m (text ∷ texts) h =
     )
 
 -- before a closing bracket
-pub lines_end : (suffix : Option Bytes) (texts : List Bytes) (m : ℕ) → MaybeComment suffix → AllByRecursion IsComment texts → lines_of (behind suffix ++ ended m texts) ≡ ended_line suffix ∷ told texts
+pub lines_end : (suffix : Option Bytes) (texts : List Bytes) (m : ℕ) → MaybeComment suffix → AllByRecursion IsComment texts → lines_of (suffix_text suffix ++ ended m texts) ≡ ended_line suffix ∷ told texts
 lines_end suffix texts m h k =
     let own = ended_begins m texts k in
-    ap (λ z. lines_of (behind suffix ++ z)) own.1 ∙ (suffix_first suffix own.0 h ∙ ap (λ z. ended_line suffix ∷ z) own.2)
+    ap (λ z. lines_of (suffix_text suffix ++ z)) own.1 ∙ (suffix_first suffix own.0 h ∙ ap (λ z. ended_line suffix ∷ z) own.2)
 
 -- ---- before a newline
 
@@ -100,6 +100,6 @@ abbrev pub suffix_line : Option Bytes → List GapLine
 suffix_line None = []
 suffix_line (Some text) = record { comment = Some text; newline = false } ∷ []
 
-pub lines_behind : (suffix : Option Bytes) → MaybeComment suffix → lines_of (behind suffix) ≡ suffix_line suffix
+pub lines_behind : (suffix : Option Bytes) → MaybeComment suffix → lines_of (suffix_text suffix) ≡ suffix_line suffix
 lines_behind None h = refl
 lines_behind (Some text) h = last_comment text h

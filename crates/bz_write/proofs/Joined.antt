@@ -14,7 +14,7 @@ use Rattle.bz_items.specs.Characters.{comma}
 use Rattle.bz_value.specs.Frames.{Frame, row, sequence, frame, has_brackets}
 use Rattle.bz_value.specs.LineShapes.{line_shape}
 use Rattle.bz_value.specs.Proper.{in_frame}
-use Rattle.bz_value.specs.Roots.{mark, each_with_comma, row_in}
+use Rattle.bz_value.specs.Roots.{mark_leaf, each_with_comma, row_in}
 use Rattle.bz_write.specs.Layout.{is_tuple}
 use Rattle.bz_value.specs.Empty.{is_empty}
 use Rattle.bz_write.proofs.Neighbours.{T}
@@ -23,16 +23,16 @@ use Rattle.bz_write.proofs.Elements.{none_is}
 -- the items with commas between them, one behind the last where `one`, and then the closing bracket
 abbrev pub without_last : Bool → Part → List Part → List Part
 without_last one e [] = e ∷ []
-without_last one e (x ∷ xs) = x ∷ ((if is_empty xs && not one then [] else (mark comma ∷ [])) ++ without_last false e xs)
+without_last one e (x ∷ xs) = x ∷ ((if is_empty xs && not one then [] else (mark_leaf comma ∷ [])) ++ without_last false e xs)
 
 -- What may be enclosed and has the shape r behind it, which no comma begins. (e: the closing bracket; rest: what stands behind it)
 module _ (a : Sort) (close : List Terminal) (r : Shape) (e : Part) (rest : List Part)
-    (no_comma : has_token close (mark comma) ≡ false) (no_item : has_sort a e ≡ false) (no_more : (xs : List Part) → Fits IsSort r (mark comma ∷ xs) → ⊥) where
+    (no_comma : has_token close (mark_leaf comma) ≡ false) (no_item : has_sort a e ≡ false) (no_more : (xs : List Part) → Fits IsSort r (mark_leaf comma ∷ xs) → ⊥) where
   abbrev Closed : List Part → Type 0
-  Closed xs = Listed (IsSort a) s.comma true (Fits IsSort (s.tok close r)) xs
+  Closed xs = Listed (IsSort a) s.comma_mark true (Fits IsSort (s.tok close r)) xs
 
-  listed : (x : Part) (xs : List Part) → Closed (x ∷ mark comma ∷ (each_with_comma xs ++ (e ∷ rest))) → Closed (without_last false e (x ∷ xs) ++ rest)
-  listed x xs (g, inl h) = absurd (both_ways (has_token close (mark comma)) no_comma h.0)
+  listed : (x : Part) (xs : List Part) → Closed (x ∷ mark_leaf comma ∷ (each_with_comma xs ++ (e ∷ rest))) → Closed (without_last false e (x ∷ xs) ++ rest)
+  listed x xs (g, inl h) = absurd (both_ways (has_token close (mark_leaf comma)) no_comma h.0)
   listed x [] (g, inr (m, inl h)) = absurd (both_ways (has_sort a e) no_item h.0)
   listed x (y ∷ ys) (g, inr (m, inl h)) = (g, inr (m, inl (listed y ys h)))
   listed x [] (g, inr (m, inr (l, h))) = (g, inl h)
@@ -43,7 +43,7 @@ module _ (a : Sort) (close : List Terminal) (r : Shape) (e : Part) (rest : List 
   enclosed_fit (x ∷ xs) (inl h) = absurd (no_more _ h.1)
   enclosed_fit (x ∷ xs) (inr h) = inr (listed x xs h)
 
-items_fit : (a : Sort) (close : List Terminal) (e : Part) → has_token close (mark comma) ≡ false → has_sort a e ≡ false → (xs : List Part) → Fits IsSort (items a close) (each_with_comma xs ++ (e ∷ [])) → Fits IsSort (items a close) (without_last false e xs)
+items_fit : (a : Sort) (close : List Terminal) (e : Part) → has_token close (mark_leaf comma) ≡ false → has_sort a e ≡ false → (xs : List Part) → Fits IsSort (items a close) (each_with_comma xs ++ (e ∷ [])) → Fits IsSort (items a close) (without_last false e xs)
 items_fit a close e n i xs h = subst (Fits IsSort (items a close)) (append-nil (without_last false e xs)) (enclosed_fit a close s.done e [] n i (λ ys g. g) xs h)
 
 -- ---- the kinds of sequences
@@ -51,26 +51,26 @@ items_fit a close e n i xs h = subst (Fits IsSort (items a close)) (append-nil (
 -- the row of a sequence that is not broken
 abbrev pub row_joined : Frame → Bool → List Part → List Part → List Part
 row_joined row one parts xs = parts
-row_joined (sequence opener closer) one parts xs = parts ++ (mark opener ∷ without_last one (mark closer) xs)
+row_joined (sequence opener closer) one parts xs = parts ++ (mark_leaf opener ∷ without_last one (mark_leaf closer) xs)
 
 -- what stands behind the bracket of a load, and of a tuple
 abbrev loads : Shape
-loads = s.tok s.string (s.alt (s.tok s.close_round s.done) (s.tok s.comma (items s.loaded s.close_round)))
+loads = s.tok s.string (s.alt (s.tok s.close_round s.done) (s.tok s.comma_mark (items s.loaded s.close_round)))
 
 abbrev tuples : Shape
-tuples = s.alt (s.tok s.close_round s.done) (s.sub s.test (s.tok s.comma (items s.test s.close_round)))
+tuples = s.alt (s.tok s.close_round s.done) (s.sub s.test (s.tok s.comma_mark (items s.test s.close_round)))
 
-loads_fit : (xs : List Part) → Fits IsSort loads (each_with_comma xs ++ (mark 41 ∷ [])) → Fits IsSort loads (without_last false (mark 41) xs)
+loads_fit : (xs : List Part) → Fits IsSort loads (each_with_comma xs ++ (mark_leaf 41 ∷ [])) → Fits IsSort loads (without_last false (mark_leaf 41) xs)
 loads_fit [] h = no_such h.0
 loads_fit (x ∷ xs) (g, inl h) = no_such h.0
 loads_fit (x ∷ []) (g, inr h) = (g, inl (refl, tt))
-loads_fit (x ∷ y ∷ ys) (g, inr h) = (g, inr (h.0, items_fit s.loaded s.close_round (mark 41) refl refl (y ∷ ys) h.1))
+loads_fit (x ∷ y ∷ ys) (g, inr h) = (g, inr (h.0, items_fit s.loaded s.close_round (mark_leaf 41) refl refl (y ∷ ys) h.1))
 
-tuples_fit : (xs : List Part) → Fits IsSort tuples (each_with_comma xs ++ (mark 41 ∷ [])) → Fits IsSort tuples (without_last (nat_eq (length xs) 1) (mark 41) xs)
+tuples_fit : (xs : List Part) → Fits IsSort tuples (each_with_comma xs ++ (mark_leaf 41 ∷ [])) → Fits IsSort tuples (without_last (nat_eq (length xs) 1) (mark_leaf 41) xs)
 tuples_fit [] h = h
 tuples_fit (x ∷ []) h = h
 tuples_fit (x ∷ y ∷ ys) (inl h) = absurd h.1
-tuples_fit (x ∷ y ∷ ys) (inr (g, h)) = inr (g, (h.0, items_fit s.test s.close_round (mark 41) refl refl (y ∷ ys) h.1))
+tuples_fit (x ∷ y ∷ ys) (inr (g, h)) = inr (g, (h.0, items_fit s.test s.close_round (mark_leaf 41) refl refl (y ∷ ys) h.1))
 
 abbrev one_of : Kind → List Part → Bool
 one_of kind xs = is_tuple kind && nat_eq (length xs) 1
@@ -80,25 +80,25 @@ Drops kind parts xs = Fits IsSort (line_shape kind) (row_in (frame kind) parts x
 
 drops_call : (parts xs : List Part) → Drops k.Call parts xs
 drops_call [] xs h = no_such h.0
-drops_call (x ∷ []) xs h = (h.0, (h.1.0, items_fit s.argument s.close_round (mark 41) refl refl xs h.1.1))
-drops_call (x ∷ y ∷ ps) xs h = absurd (none_is (mark 40) (items s.argument s.close_round) (T s.open_round) y h.1.0 refl ps (each_with_comma xs ++ (mark 41 ∷ [])) h.1.1)
+drops_call (x ∷ []) xs h = (h.0, (h.1.0, items_fit s.argument s.close_round (mark_leaf 41) refl refl xs h.1.1))
+drops_call (x ∷ y ∷ ps) xs h = absurd (none_is (mark_leaf 40) (items s.argument s.close_round) (T s.open_round) y h.1.0 refl ps (each_with_comma xs ++ (mark_leaf 41 ∷ [])) h.1.1)
 
 drops_load : (parts xs : List Part) → Drops k.Load parts xs
 drops_load [] xs h = no_such h.0
 drops_load (x ∷ []) xs h = (h.0, (h.1.0, loads_fit xs h.1.1))
-drops_load (x ∷ y ∷ ps) xs h = absurd (none_is (mark 40) loads (T s.open_round) y h.1.0 refl ps (each_with_comma xs ++ (mark 41 ∷ [])) h.1.1)
+drops_load (x ∷ y ∷ ps) xs h = absurd (none_is (mark_leaf 40) loads (T s.open_round) y h.1.0 refl ps (each_with_comma xs ++ (mark_leaf 41 ∷ [])) h.1.1)
 
 drops_tuple : (parts xs : List Part) → Drops k.Tuple parts xs
 drops_tuple [] xs h = (h.0, tuples_fit xs h.1)
-drops_tuple (x ∷ ps) xs h = absurd (none_is (mark 40) tuples (T s.open_round) x h.0 refl ps (each_with_comma xs ++ (mark 41 ∷ [])) h.1)
+drops_tuple (x ∷ ps) xs h = absurd (none_is (mark_leaf 40) tuples (T s.open_round) x h.0 refl ps (each_with_comma xs ++ (mark_leaf 41 ∷ [])) h.1)
 
 drops_list : (parts xs : List Part) → Drops k.List parts xs
-drops_list [] xs h = (h.0, items_fit s.test s.close_square (mark 93) refl refl xs h.1)
-drops_list (x ∷ ps) xs h = absurd (none_is (mark 91) (items s.test s.close_square) (T s.open_square) x h.0 refl ps (each_with_comma xs ++ (mark 93 ∷ [])) h.1)
+drops_list [] xs h = (h.0, items_fit s.test s.close_square (mark_leaf 93) refl refl xs h.1)
+drops_list (x ∷ ps) xs h = absurd (none_is (mark_leaf 91) (items s.test s.close_square) (T s.open_square) x h.0 refl ps (each_with_comma xs ++ (mark_leaf 93 ∷ [])) h.1)
 
 drops_dict : (parts xs : List Part) → Drops k.Dict parts xs
-drops_dict [] xs h = (h.0, items_fit s.entry s.close_curly (mark 125) refl refl xs h.1)
-drops_dict (x ∷ ps) xs h = absurd (none_is (mark 123) (items s.entry s.close_curly) (T s.open_curly) x h.0 refl ps (each_with_comma xs ++ (mark 125 ∷ [])) h.1)
+drops_dict [] xs h = (h.0, items_fit s.entry s.close_curly (mark_leaf 125) refl refl xs h.1)
+drops_dict (x ∷ ps) xs h = absurd (none_is (mark_leaf 123) (items s.entry s.close_curly) (T s.open_curly) x h.0 refl ps (each_with_comma xs ++ (mark_leaf 125 ∷ [])) h.1)
 
 -- each kind fits with its last comma dropped
 line_joined : (kind : Kind) (parts xs : List Part) → Fits IsSort (line_shape kind) (row_in (frame kind) parts xs) → Fits IsSort (line_shape kind) (row_joined (frame kind) (is_tuple kind && nat_eq (length xs) 1) parts xs)
@@ -143,32 +143,32 @@ AtMostOne [] = Unit {0}
 AtMostOne (x ∷ []) = Unit {0}
 AtMostOne (x ∷ y ∷ ys) = ⊥
 
-head_call : (parts rest : List Part) → Fits IsSort (line_shape k.Call) (parts ++ (mark 40 ∷ rest)) → AtMostOne parts
+head_call : (parts rest : List Part) → Fits IsSort (line_shape k.Call) (parts ++ (mark_leaf 40 ∷ rest)) → AtMostOne parts
 head_call [] rest h = tt
 head_call (x ∷ []) rest h = tt
-head_call (x ∷ y ∷ ps) rest h = absurd (none_is (mark 40) (items s.argument s.close_round) (T s.open_round) y h.1.0 refl ps rest h.1.1)
+head_call (x ∷ y ∷ ps) rest h = absurd (none_is (mark_leaf 40) (items s.argument s.close_round) (T s.open_round) y h.1.0 refl ps rest h.1.1)
 
-head_load : (parts rest : List Part) → Fits IsSort (line_shape k.Load) (parts ++ (mark 40 ∷ rest)) → AtMostOne parts
+head_load : (parts rest : List Part) → Fits IsSort (line_shape k.Load) (parts ++ (mark_leaf 40 ∷ rest)) → AtMostOne parts
 head_load [] rest h = tt
 head_load (x ∷ []) rest h = tt
-head_load (x ∷ y ∷ ps) rest h = absurd (none_is (mark 40) loads (T s.open_round) y h.1.0 refl ps rest h.1.1)
+head_load (x ∷ y ∷ ps) rest h = absurd (none_is (mark_leaf 40) loads (T s.open_round) y h.1.0 refl ps rest h.1.1)
 
-head_tuple : (parts rest : List Part) → Fits IsSort (line_shape k.Tuple) (parts ++ (mark 40 ∷ rest)) → AtMostOne parts
+head_tuple : (parts rest : List Part) → Fits IsSort (line_shape k.Tuple) (parts ++ (mark_leaf 40 ∷ rest)) → AtMostOne parts
 head_tuple [] rest h = tt
-head_tuple (x ∷ ps) rest h = absurd (none_is (mark 40) tuples (T s.open_round) x h.0 refl ps rest h.1)
+head_tuple (x ∷ ps) rest h = absurd (none_is (mark_leaf 40) tuples (T s.open_round) x h.0 refl ps rest h.1)
 
-head_list : (parts rest : List Part) → Fits IsSort (line_shape k.List) (parts ++ (mark 91 ∷ rest)) → AtMostOne parts
+head_list : (parts rest : List Part) → Fits IsSort (line_shape k.List) (parts ++ (mark_leaf 91 ∷ rest)) → AtMostOne parts
 head_list [] rest h = tt
-head_list (x ∷ ps) rest h = absurd (none_is (mark 91) (items s.test s.close_square) (T s.open_square) x h.0 refl ps rest h.1)
+head_list (x ∷ ps) rest h = absurd (none_is (mark_leaf 91) (items s.test s.close_square) (T s.open_square) x h.0 refl ps rest h.1)
 
-head_dict : (parts rest : List Part) → Fits IsSort (line_shape k.Dict) (parts ++ (mark 123 ∷ rest)) → AtMostOne parts
+head_dict : (parts rest : List Part) → Fits IsSort (line_shape k.Dict) (parts ++ (mark_leaf 123 ∷ rest)) → AtMostOne parts
 head_dict [] rest h = tt
-head_dict (x ∷ ps) rest h = absurd (none_is (mark 123) (items s.entry s.close_curly) (T s.open_curly) x h.0 refl ps rest h.1)
+head_dict (x ∷ ps) rest h = absurd (none_is (mark_leaf 123) (items s.entry s.close_curly) (T s.open_curly) x h.0 refl ps rest h.1)
 
 pub head_fits : (kind : Kind) (parts xs : List Part) → Fits IsSort (line_shape kind) (row_in (frame kind) parts xs) → in_frame (frame kind) (Unit {0}) (AtMostOne parts)
-head_fits k.Call parts xs h = head_call parts (each_with_comma xs ++ (mark 41 ∷ [])) h
-head_fits k.Load parts xs h = head_load parts (each_with_comma xs ++ (mark 41 ∷ [])) h
-head_fits k.Tuple parts xs h = head_tuple parts (each_with_comma xs ++ (mark 41 ∷ [])) h
-head_fits k.List parts xs h = head_list parts (each_with_comma xs ++ (mark 93 ∷ [])) h
-head_fits k.Dict parts xs h = head_dict parts (each_with_comma xs ++ (mark 125 ∷ [])) h
+head_fits k.Call parts xs h = head_call parts (each_with_comma xs ++ (mark_leaf 41 ∷ [])) h
+head_fits k.Load parts xs h = head_load parts (each_with_comma xs ++ (mark_leaf 41 ∷ [])) h
+head_fits k.Tuple parts xs h = head_tuple parts (each_with_comma xs ++ (mark_leaf 41 ∷ [])) h
+head_fits k.List parts xs h = head_list parts (each_with_comma xs ++ (mark_leaf 93 ∷ [])) h
+head_fits k.Dict parts xs h = head_dict parts (each_with_comma xs ++ (mark_leaf 125 ∷ [])) h
 head_fits _ parts xs h = tt

@@ -18,7 +18,7 @@ use Rattle.bz_tree.specs.declared.tree.Part.{Part, Row_of-Part, end_of-Part, mor
 use Rattle.bz_tree.specs.declared.tree.Part.TheVariants as p
 use Rattle.bz_tree.specs.Spell.{spell_node, leaves_part, leaves_row, depth_of, depth_limit}
 use Rattle.bz_tree.specs.Shapes as s
-use Rattle.bz_tree.specs.Shapes.{Fits, shape, has_sort, has_kind}
+use Rattle.bz_tree.specs.Shapes.{Fits, shape, has_sort, sort_has_kind}
 use Rattle.bz_tree.specs.Legal.{IsSort, LegalPart, Legal}
 use Rattle.bz_tree.specs.Spots.{Spot, Begins, Along, behind_node, behind_part, AtLeaves, AtRow, AtParts, Stands, TokenStands, AreTokens}
 use Rattle.bz_tree.proofs.Nested.{row_of, items_of_row}
@@ -35,8 +35,8 @@ use Rattle.bz_value.specs.Proper.{IsComment, comments_of, has_statement_kind, Is
 use Rattle.bz_value.proofs.LegalBy.{as_build, wider_part}
 use Rattle.bz_value.proofs.Wider.{lines_wider, line_expr}
 use Rattle.bz_value.proofs.GapComments.{all_joined}
-use Rattle.bz_write.specs.Layout.{behind}
-use Rattle.bz_write.specs.Written.{comment_lines, between, layout}
+use Rattle.bz_write.specs.Layout.{suffix_text}
+use Rattle.bz_write.specs.Written.{comment_lines, gap_between, layout}
 use Rattle.bz_write.specs.Drawn.{part_of, line_part, before_next, lines_from, drawn}
 use Rattle.bz_write.specs.Laws.{LayoutIsAccepted}
 use Rattle.bz_write.proofs.Touching.{Airy, Toks, IsLex, FollowsAs, ends_plain, tokens}
@@ -92,7 +92,7 @@ if_blank : (b : Bool) → FitsFlush (if b then [] else (line_feed ∷ []))
 if_blank true = first_nothing
 if_blank false = first_blank
 
-between_fits : (x y : Item) → FitsFlush (between x y)
+between_fits : (x y : Item) → FitsFlush (gap_between x y)
 between_fits (i.Block texts) y = first_blank
 between_fits (i.Stmt x) (i.Block texts) = first_blank
 between_fits (i.Stmt x) (i.Stmt y) = if_blank _
@@ -103,7 +103,7 @@ before_next_fits x (y ∷ ys) = between_fits x y
 
 -- ---- a line
 
-statement_sort : (kind : Kind) → is_statement kind ≡ true → has_kind s.small kind ≡ true
+statement_sort : (kind : Kind) → is_statement kind ≡ true → sort_has_kind s.small kind ≡ true
 statement_sort k.Bare h = refl
 statement_sort k.Assign h = refl
 statement_sort k.Load h = refl
@@ -126,9 +126,9 @@ goes_along (Token t) h gap = no_such h
 goes_along (Form' kind z parts z' items end_ split open_ comments) h gap = statement_behind kind h
 
 abbrev newline_leaf : Option Bytes → Leaf
-newline_leaf suffix = record { class = c.Newline; gap = behind suffix; token = line_feed ∷ [] }
+newline_leaf suffix = record { class = c.Newline; gap = suffix_text suffix; token = line_feed ∷ [] }
 
-pub newline_follows : (b : Bool) (suffix : Option Bytes) (t : Bytes) → FollowsAs b (behind suffix ++ (line_feed ∷ t))
+pub newline_follows : (b : Bool) (suffix : Option Bytes) (t : Bytes) → FollowsAs b (suffix_text suffix ++ (line_feed ∷ t))
 newline_follows b None t = inl refl
 newline_follows b (Some text) t = inl refl
 
@@ -159,7 +159,7 @@ line_stands gap x h g =
     let good : IsGood shape (x, part_of x) = build_good Begins x h.1 in
     let airy : Airy statement = good.airy front 0 in
     let flush : FirstFlush (leaves_part statement) = let w = good.stands.starts front 0 in subst FirstFlush (sym w.2) (subst (λ z. is_flush z ≡ true) (sym w.3) fits.1) in
-    let ending : IsUtf8 (behind suffix) = (newline_gap suffix h.2.1).1 in
+    let ending : IsUtf8 (suffix_text suffix) = (newline_gap suffix h.2.1).1 in
     let leaves : leaves_part (p.Node node) ≡ leaves_part statement ++ (newline ∷ []) = leaves_Node node in
     let lexed : AllByRecursion IsLex (leaves_part statement) = leaves_hold Placed IsLex (λ here l q. q.lexeme) Begins statement placed in
     record {

@@ -15,11 +15,11 @@ use Rattle.bz_value.specs.declared.value.Item.{Item}
 use Rattle.bz_value.specs.declared.value.Item.TheVariants as i
 use Rattle.bz_items.specs.Characters.{Bytes, line_feed}
 use Rattle.bz_value.specs.Comments.{HostComments}
-use Rattle.bz_value.specs.Gaps.{GapLine, lines_of, first_comment, behind_first, groups_of, all_but_last, last_group, suffix_in}
+use Rattle.bz_value.specs.Gaps.{GapLine, lines_of, first_comment, after_first_comment, groups_of, all_but_last, last_group, suffix_in}
 use Rattle.bz_value.specs.Proper.{IsComment, comments_of, has_break, has_statement_kind, IsProperItem, IsProper}
-use Rattle.bz_view.specs.View.{Seen, seen, first_gap, last_gap, blocks, statement, line_items, file_items, view_of}
+use Rattle.bz_view.specs.View.{Seen, seen, first_seen_gap, last_gap, blocks, statement, line_items, file_items, view_of}
 use Rattle.bz_value.proofs.Wider.{line_expr}
-use Rattle.bz_write.specs.Layout.{behind}
+use Rattle.bz_write.specs.Layout.{suffix_text}
 use Rattle.bz_write.specs.Written.{comment_lines}
 use Rattle.bz_write.specs.Drawn.{part_of, line_part, before_next, lines_from, drawn}
 use Rattle.bz_write.specs.Flags.{with_flags, flags}
@@ -33,7 +33,7 @@ use Rattle.bz_write.proofs.Waiting.{AreLines, lines_append, comments_are_lines, 
 -- ---- the items of a line
 
 abbrev items_behind : List GapLine → List Seen → List Part → List Item
-items_behind left ss xs = line_items (left ++ lines_of (first_gap ss)) ss ++ file_items (behind_first (lines_of (last_gap ss))) xs
+items_behind left ss xs = line_items (left ++ lines_of (first_seen_gap ss)) ss ++ file_items (after_first_comment (lines_of (last_gap ss))) xs
 
 items_Node : (left : List GapLine) (n : Node) (xs : List Part) → file_items left (p.Node n ∷ xs) ≡ items_behind left (map seen n.parts) xs
 items_Node left n xs = ap (λ z. items_behind left z xs) (seen_rows _ (row_of n).1 ∙ ap (map seen) (items_of_row n))
@@ -42,7 +42,7 @@ pub suffix_behind : (suffix : Option Bytes) → first_comment (suffix_line suffi
 suffix_behind None = refl
 suffix_behind (Some text) = refl
 
-nothing_left : (suffix : Option Bytes) → behind_first (suffix_line suffix) ≡ []
+nothing_left : (suffix : Option Bytes) → after_first_comment (suffix_line suffix) ≡ []
 nothing_left None = refl
 nothing_left (Some text) = refl
 
@@ -73,18 +73,18 @@ statement_line x h gap ls bs xs lines waits =
     let own : HostComments = comments_of x in
     let before : Bytes = comment_lines own.before in
     let s : Seen = seen (part_of x (gap ++ before) 0) in
-    let t : Seen = seen (p.Leaf (record { class = c.Newline; gap = behind own.suffix; token = line_feed ∷ [] })) in
+    let t : Seen = seen (p.Leaf (record { class = c.Newline; gap = suffix_text own.suffix; token = line_feed ∷ [] })) in
     let back : SeenAs (x, part_of x) = expr_back x (readable Begins x (line_expr Begins x h.1)) in
-    let suffix : lines_of (behind own.suffix) ≡ suffix_line own.suffix = lines_behind own.suffix h.2.1 in
+    let suffix : lines_of (suffix_text own.suffix) ≡ suffix_line own.suffix = lines_behind own.suffix h.2.1 in
     let read : lines_of (gap ++ before) ≡ ls ++ told own.before = whole_lines (gap ++ before) (ls ++ told own.before) (lines_append gap before ls (told own.before) lines (comments_are_lines own.before (recursion_from_All IsComment own.before h.2.0))) in
     let stated : List Bytes → Option Bytes → List Item = λ z w. statement z w s ∷ [] in
-    let out : List GapLine → List Item = λ z. blocks (all_but_last (groups_of z)) ++ stated (last_group (groups_of z)) (suffix_in (behind own.suffix)) in
-    let rest : List GapLine → List Item = λ z. file_items (behind_first z) xs in
+    let out : List GapLine → List Item = λ z. blocks (all_but_last (groups_of z)) ++ stated (last_group (groups_of z)) (suffix_in (suffix_text own.suffix)) in
+    let rest : List GapLine → List Item = λ z. file_items (after_first_comment z) xs in
     let made : List Bytes → List Item = λ z. i.Stmt (s.make (record { before = own.before ++ z; suffix = own.suffix }) false) ∷ [] in
-    items_Node [] (record { kind = k.Line; parts = part_of x (gap ++ before) 0 ∷ p.Leaf (record { class = c.Newline; gap = behind own.suffix; token = line_feed ∷ [] }) ∷ [] }) xs ∙
-    (ap (λ z. out (lines_of z) ++ rest (lines_of (behind own.suffix))) (back.gap (gap ++ before) 0) ∙
+    items_Node [] (record { kind = k.Line; parts = part_of x (gap ++ before) 0 ∷ p.Leaf (record { class = c.Newline; gap = suffix_text own.suffix; token = line_feed ∷ [] }) ∷ [] }) xs ∙
+    (ap (λ z. out (lines_of z) ++ rest (lines_of (suffix_text own.suffix))) (back.gap (gap ++ before) 0) ∙
     (two (λ z w. out z ++ rest w) read suffix ∙
-    (two (λ z w. (z ++ stated (last_group (groups_of (ls ++ told own.before))) (suffix_in (behind own.suffix))) ++ file_items w xs) (waits.front own.before) (nothing_left own.suffix) ∙
+    (two (λ z w. (z ++ stated (last_group (groups_of (ls ++ told own.before))) (suffix_in (suffix_text own.suffix))) ++ file_items w xs) (waits.front own.before) (nothing_left own.suffix) ∙
     ap (λ z. (bs ++ z) ++ file_items [] xs)
     (two stated (waits.last own.before) (ap first_comment suffix ∙ suffix_behind own.suffix) ∙
     (ap made (back.loose (gap ++ before) 0) ∙

@@ -15,20 +15,20 @@ use Rattle.bz_value.specs.Frames.{Frame, row, sequence, frame}
 use Rattle.bz_value.specs.Proper.{comments_of}
 use Rattle.bz_write.specs.declared.brackets.Brackets.{Brackets}
 use Rattle.bz_write.specs.Brackets.{brackets_of}
-use Rattle.bz_write.specs.Layout.{Piece, mark, part, line, above, ended, behind, stacked, joined, rowed, headed, laid_in, is_broken, is_tuple, gap_behind, margin_behind, firsts}
+use Rattle.bz_write.specs.Layout.{Piece, mark, part, line, margin_lines, ended, suffix_text, stacked, joined, rowed, headed, laid_in, is_broken, is_tuple, gap_behind, margin_behind, firsts}
 use Rattle.bz_value.specs.Empty.{is_empty}
-use Rattle.bz_write.specs.Drawn.{piece_part, part_of, parts_in, drawings, body, comma_behind, own_lines, left_gap, before_next, lines_from}
+use Rattle.bz_write.specs.Drawn.{piece_part, part_of, parts_in, drawings, drawn_body, comma_behind, own_lines, left_gap, before_next, lines_from}
 
 module _ {X : Type 0} where
   -- a broken sequence, where what is to stand behind the item before it is written already
   abbrev pub stacked_behind : ℕ → Bytes → ℕ → List Bytes → List (Expr × X) → List (Piece X)
   stacked_behind m gap closer end_ [] = mark (gap ++ ended m end_) (closer ∷ []) ∷ []
   stacked_behind m gap closer end_ (x ∷ xs) =
-      part (gap ++ (line (m + 4) ++ above (m + 4) (comments_of x.0).before)) (m + 4) x.1 ∷ mark [] (comma ∷ []) ∷ stacked_behind m (behind (comments_of x.0).suffix) closer end_ xs
+      part (gap ++ (line (m + 4) ++ margin_lines (m + 4) (comments_of x.0).before)) (m + 4) x.1 ∷ mark [] (comma ∷ []) ∷ stacked_behind m (suffix_text (comments_of x.0).suffix) closer end_ xs
 
-  pub stacked_so : (m : ℕ) (suffix : Option Bytes) (closer : ℕ) (end_ : List Bytes) (xs : List (Expr × X)) → stacked m suffix closer end_ xs ≡ stacked_behind m (behind suffix) closer end_ xs
+  pub stacked_so : (m : ℕ) (suffix : Option Bytes) (closer : ℕ) (end_ : List Bytes) (xs : List (Expr × X)) → stacked m suffix closer end_ xs ≡ stacked_behind m (suffix_text suffix) closer end_ xs
   stacked_so m suffix closer end_ [] = refl
-  stacked_so m suffix closer end_ (x ∷ xs) = ap (λ ps. part (behind suffix ++ (line (m + 4) ++ above (m + 4) (comments_of x.0).before)) (m + 4) x.1 ∷ mark [] (comma ∷ []) ∷ ps) (stacked_so m (comments_of x.0).suffix closer end_ xs)
+  stacked_so m suffix closer end_ (x ∷ xs) = ap (λ ps. part (suffix_text suffix ++ (line (m + 4) ++ margin_lines (m + 4) (comments_of x.0).before)) (m + 4) x.1 ∷ mark [] (comma ∷ []) ∷ ps) (stacked_so m (comments_of x.0).suffix closer end_ xs)
 
 pub stacked_start : (m : ℕ) (closer : ℕ) (end_ : List Bytes) (xs : List Expr) → map piece_part (stacked_behind m [] closer end_ (drawings xs)) ≡ map piece_part (stacked m None closer end_ (drawings xs))
 stacked_start m closer end_ xs = ap (λ ps. map piece_part ps) (sym (stacked_so m None closer end_ (drawings xs)))
@@ -79,33 +79,33 @@ head_turn parts new m gap opener xs k y x gap' all h is drawn pushed behind_ bef
     ∙ (ap (λ ys. parts ++ map piece_part (headed m gap opener (drawings ys) [])) (sym first) ∙ before))
 
 stacked_step : (parts there new : List Part) (m : ℕ) (gap : Bytes) (closer : ℕ) (end_ : List Bytes) (xs : List Expr) (k : ℕ) (y : Expr) (x : Part) (gap1 gap2 gap' : Bytes) (n : ℕ) (all : List Part) →
-    k < length xs → y ≡ get_or xs k y → n ≡ m + 4 → gap1 ≡ gap ++ line n → gap2 ≡ gap1 ++ above n (comments_of y).before → x ≡ part_of y gap2 n →
-    there ≡ parts ++ x ∷ [] → new ≡ there ++ piece_part (mark [] (comma ∷ [])) ∷ [] → gap' ≡ behind (comments_of y).suffix →
+    k < length xs → y ≡ get_or xs k y → n ≡ m + 4 → gap1 ≡ gap ++ line n → gap2 ≡ gap1 ++ margin_lines n (comments_of y).before → x ≡ part_of y gap2 n →
+    there ≡ parts ++ x ∷ [] → new ≡ there ++ piece_part (mark [] (comma ∷ [])) ∷ [] → gap' ≡ suffix_text (comments_of y).suffix →
     parts ++ map piece_part (stacked_behind m gap closer end_ (drawings (drop k xs))) ≡ all → new ++ map piece_part (stacked_behind m gap' closer end_ (drawings (drop (k + 1) xs))) ≡ all
 stacked_step parts there new m gap closer end_ xs k y x gap1 gap2 gap' n all h is deeper_ line_ above_ drawn pushed comma_ behind_ before =
     let rest : List Expr = drop (k + 1) xs in
     let first : drop k xs ≡ y ∷ rest = drop_more xs k y h ∙ ap (λ z. z ∷ rest) (sym is) in
     let bare : Part = piece_part (mark [] (comma ∷ [])) in
-    let tail : List Part = map piece_part (stacked_behind m (behind (comments_of y).suffix) closer end_ (drawings rest)) in
+    let tail : List Part = map piece_part (stacked_behind m (suffix_text (comments_of y).suffix) closer end_ (drawings rest)) in
     rw (comma_, pushed, drawn, above_, line_, behind_, deeper_)
-    (append_assoc (parts ++ part_of y ((gap ++ line (m + 4)) ++ above (m + 4) (comments_of y).before) (m + 4) ∷ []) (bare ∷ []) tail
-    ∙ (append_assoc parts (part_of y ((gap ++ line (m + 4)) ++ above (m + 4) (comments_of y).before) (m + 4) ∷ []) (bare ∷ tail)
-    ∙ (ap (λ g. parts ++ part_of y g (m + 4) ∷ bare ∷ tail) (append_assoc gap (line (m + 4)) (above (m + 4) (comments_of y).before))
+    (append_assoc (parts ++ part_of y ((gap ++ line (m + 4)) ++ margin_lines (m + 4) (comments_of y).before) (m + 4) ∷ []) (bare ∷ []) tail
+    ∙ (append_assoc parts (part_of y ((gap ++ line (m + 4)) ++ margin_lines (m + 4) (comments_of y).before) (m + 4) ∷ []) (bare ∷ tail)
+    ∙ (ap (λ g. parts ++ part_of y g (m + 4) ∷ bare ∷ tail) (append_assoc gap (line (m + 4)) (margin_lines (m + 4) (comments_of y).before))
     ∙ (ap (λ ys. parts ++ map piece_part (stacked_behind m gap closer end_ (drawings ys))) (sym first) ∙ before))))
 
 -- a turn of the loop over items on lines of their own: `text` is the gap of the part x, `bare` the comma behind it
 pub stacked_turn : (parts there new : List Part) (m : ℕ) (gap : Bytes) (closer : ℕ) (end_ : List Bytes) (xs : List Expr) (k : ℕ) (y : Expr) (x bare : Part) (gap1 gap2 text none fresh gap' : Bytes) (n : ℕ)
     (comments : HostComments) (texts : List Bytes) (suffix : Option Bytes) (all : List Part) →
-    k < length xs → y ≡ get_or xs k y → comments ≡ comments_of y → n ≡ m + 4 → gap1 ≡ gap ++ line n → texts ≡ comments.before → gap2 ≡ gap1 ++ above n texts → text ≡ gap2 → x ≡ part_of y text n →
-    there ≡ parts ++ x ∷ [] → none ≡ [] → bare ≡ piece_part (mark none (comma ∷ [])) → new ≡ there ++ bare ∷ [] → fresh ≡ [] → suffix ≡ comments.suffix → gap' ≡ fresh ++ behind suffix →
+    k < length xs → y ≡ get_or xs k y → comments ≡ comments_of y → n ≡ m + 4 → gap1 ≡ gap ++ line n → texts ≡ comments.before → gap2 ≡ gap1 ++ margin_lines n texts → text ≡ gap2 → x ≡ part_of y text n →
+    there ≡ parts ++ x ∷ [] → none ≡ [] → bare ≡ piece_part (mark none (comma ∷ [])) → new ≡ there ++ bare ∷ [] → fresh ≡ [] → suffix ≡ comments.suffix → gap' ≡ fresh ++ suffix_text suffix →
     parts ++ map piece_part (stacked_behind m gap closer end_ (drawings (drop k xs))) ≡ all → new ++ map piece_part (stacked_behind m gap' closer end_ (drawings (drop (k + 1) xs))) ≡ all
 stacked_turn parts there new m gap closer end_ xs k y x bare gap1 gap2 text none fresh gap' n comments texts suffix all h is has deeper_ line_ texts_ above_ text_ drawn pushed none_ bare_ comma_ fresh_ suffix_ behind_ before =
     stacked_step parts there new m gap closer end_ xs k y x gap1 gap2 gap' n all h is deeper_ line_
-    (above_ ∙ ap (λ ts. gap1 ++ above n ts) (texts_ ∙ ap (λ c. c.before) has))
+    (above_ ∙ ap (λ ts. gap1 ++ margin_lines n ts) (texts_ ∙ ap (λ c. c.before) has))
     (drawn ∙ ap (λ g. part_of y g n) text_)
     pushed
     (comma_ ∙ ap (λ z. there ++ z ∷ []) (bare_ ∙ ap (λ g. piece_part (mark g (comma ∷ []))) none_))
-    (behind_ ∙ (ap (λ g. g ++ behind suffix) fresh_ ∙ ap behind (suffix_ ∙ ap (λ c. c.suffix) has)))
+    (behind_ ∙ (ap (λ g. g ++ suffix_text suffix) fresh_ ∙ ap suffix_text (suffix_ ∙ ap (λ c. c.suffix) has)))
     before
 
 -- ---- rows
@@ -179,10 +179,10 @@ sequence_laid (sequence opener closer) b kind split open_ gap m hs xs end_ h =
     ap (λ ys. at here ys (length (drawings xs))) (values_drawings xs) ∙ (ap (λ n. at here xs n) (length-drawings xs) ∙ ap (λ z. at z xs (length xs)) is)
 
 pub sequence_parts : (f : Form) (b : Brackets) (gap : Bytes) (m : ℕ) → brackets_of (frame f.kind) ≡ Some b →
-    parts_in f gap m ≡ map piece_part (headed m gap b.opener (drawings f.parts) []) ++ map piece_part (body f m b.closer)
+    parts_in f gap m ≡ map piece_part (headed m gap b.opener (drawings f.parts) []) ++ map piece_part (drawn_body f m b.closer)
 sequence_parts f b gap m h =
     ap (λ ps. map piece_part ps) (sequence_laid (frame f.kind) b f.kind f.seq.split f.open_ gap m f.parts f.seq.items f.seq.end_ h) ∙
-    headed_first m gap b.opener (drawings f.parts) (body f m b.closer)
+    headed_first m gap b.opener (drawings f.parts) (drawn_body f m b.closer)
 
 -- ---- lines
 

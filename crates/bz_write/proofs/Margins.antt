@@ -15,7 +15,7 @@ use Rattle.bz_items.specs.Characters.{Bytes, line_feed, space}
 use Rattle.bz_value.specs.Proper.{IsComment, MaybeComment, has_break}
 use Rattle.bz_value.specs.Roots.{root}
 use Rattle.bz_write.specs.Spaces.{is_spaced}
-use Rattle.bz_write.specs.Layout.{line, above, ended, behind, gap_behind}
+use Rattle.bz_write.specs.Layout.{line, margin_lines, ended, suffix_text, gap_behind}
 use Rattle.bz_value.specs.Empty.{is_empty}
 use Rattle.bz_write.specs.Written.{comment_lines}
 use Rattle.bz_write.proofs.Elements.{in_line_class}
@@ -98,11 +98,11 @@ pub inner_comment : (text rest : Bytes) → IsComment text → FitsAt Within res
 inner_comment text rest h g =
     (comment h.begins.0 rest (ap (λ z. z ++ (line_feed ∷ rest)) h.begins.1) (rest_one_line text h) refl g.0, IsUtf8-append text (line_feed ∷ rest) h.coded (coded_first line_feed rest (omega arith) g.1))
 
-pub inner_above : (m : ℕ) (texts : List Bytes) → AllByRecursion IsComment texts → FitsAt Within (above m texts)
+pub inner_above : (m : ℕ) (texts : List Bytes) → AllByRecursion IsComment texts → FitsAt Within (margin_lines m texts)
 inner_above m [] h = inner_nothing
-inner_above m (text ∷ texts) h = inner_comment text (replicate m space ++ above m texts) h.0 (inner_append (replicate m space) (above m texts) (inner_spaces m) (inner_above m texts h.1))
+inner_above m (text ∷ texts) h = inner_comment text (replicate m space ++ margin_lines m texts) h.0 (inner_append (replicate m space) (margin_lines m texts) (inner_spaces m) (inner_above m texts h.1))
 
-pub inner_suffix : (suffix : Option Bytes) (g : Bytes) → MaybeComment suffix → FitsAt Within g → FitsAt Within (behind suffix ++ (line_feed ∷ g))
+pub inner_suffix : (suffix : Option Bytes) (g : Bytes) → MaybeComment suffix → FitsAt Within g → FitsAt Within (suffix_text suffix ++ (line_feed ∷ g))
 inner_suffix None g h i = inner_newline g i
 inner_suffix (Some text) g h i = inner_blank (space ∷ (text ++ (line_feed ∷ g))) (inner_blank (text ++ (line_feed ∷ g)) (inner_comment text g h i))
 
@@ -116,12 +116,12 @@ inner_ended m (text ∷ texts) h =
     )
 
 -- before an item of a broken sequence, and before its closing bracket
-pub item_gap : (m : ℕ) (suffix : Option Bytes) (texts : List Bytes) → MaybeComment suffix → AllByRecursion IsComment texts → FitsAt Within (behind suffix ++ (line m ++ above m texts))
-item_gap m suffix texts s h = inner_suffix suffix (replicate m space ++ above m texts) s (inner_append (replicate m space) (above m texts) (inner_spaces m) (inner_above m texts h))
+pub item_gap : (m : ℕ) (suffix : Option Bytes) (texts : List Bytes) → MaybeComment suffix → AllByRecursion IsComment texts → FitsAt Within (suffix_text suffix ++ (line m ++ margin_lines m texts))
+item_gap m suffix texts s h = inner_suffix suffix (replicate m space ++ margin_lines m texts) s (inner_append (replicate m space) (margin_lines m texts) (inner_spaces m) (inner_above m texts h))
 
-pub closer_gap : (m : ℕ) (suffix : Option Bytes) (texts : List Bytes) → MaybeComment suffix → AllByRecursion IsComment texts → FitsAt Within (behind suffix ++ ended m texts)
+pub closer_gap : (m : ℕ) (suffix : Option Bytes) (texts : List Bytes) → MaybeComment suffix → AllByRecursion IsComment texts → FitsAt Within (suffix_text suffix ++ ended m texts)
 closer_gap m suffix texts s h =
-    let w = inner_ended m texts h in subst (λ z. FitsAt Within (behind suffix ++ z)) (sym w.1) (inner_suffix suffix w.0 s w.2)
+    let w = inner_ended m texts h in subst (λ z. FitsAt Within (suffix_text suffix ++ z)) (sym w.1) (inner_suffix suffix w.0 s w.2)
 
 -- ---- in a row
 
@@ -185,7 +185,7 @@ lines_fit (text ∷ texts) h = let more = lines_fit texts h.1 in (inner_comment 
 -- ---- before a newline
 
 -- a comment that the gap doesn't end, and its gap holds no newline
-pub newline_gap : (suffix : Option Bytes) → MaybeComment suffix → IsGap false true (behind suffix) × IsUtf8 (behind suffix)
+pub newline_gap : (suffix : Option Bytes) → MaybeComment suffix → IsGap false true (suffix_text suffix) × IsUtf8 (suffix_text suffix)
 newline_gap None h = (nothing refl, IsUtf8-nil)
 newline_gap (Some text) h = (
   blank space (space ∷ text) refl refl (blank space text refl refl (last_comment h.begins.0 h.begins.1 (rest_one_line text h) refl)),

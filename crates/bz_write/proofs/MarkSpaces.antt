@@ -8,7 +8,7 @@ use Rattle.bz_tree.specs.declared.kind.Kind.{Kind}
 use Rattle.bz_tree.specs.declared.tree.Part.{Part}
 use Rattle.bz_tree.specs.declared.tree.Part.TheVariants as p
 use Rattle.bz_tree.specs.Shapes as s
-use Rattle.bz_write.specs.Spaces.{lone, dotted, is_prefix, is_colon_spaced, space_behind, behind}
+use Rattle.bz_write.specs.Spaces.{lone, is_dot_terminal, is_prefix_mark, is_colon_spaced, space_behind, is_spaced_after}
 
 -- a comma, or a colon with a space behind it
 abbrev pub is_separator : Kind → Bytes → Bool
@@ -16,7 +16,7 @@ is_separator kind text = bytes_eq text (codes ",") || (bytes_eq text (codes ":")
 
 -- a mark without a space at either side
 abbrev pub is_tight : Kind → Bytes → Bool
-is_tight kind text = lone (s.this c.Mark text) || (dotted (s.this c.Mark text) || is_prefix kind text)
+is_tight kind text = lone (s.this c.Mark text) || (is_dot_terminal (s.this c.Mark text) || is_prefix_mark kind text)
 
 not_first : (a b d : Bool) → (a || b) ≡ false → (a || (b || d)) ≡ d
 not_first true b d h = absurd cc
@@ -24,10 +24,10 @@ not_first false true d h = absurd cc
 not_first false false d h = refl
 
 behind_mark : (kind : Kind) (x : Part) (l : Leaf) (text : Bytes) → x ≡ p.Leaf l → l.class ≡ c.Mark → text ≡ l.token →
-    behind kind x ≡ (bytes_eq text (codes ",") || ((bytes_eq text (codes ":") && is_colon_spaced kind) || not (is_tight kind text)))
+    is_spaced_after kind x ≡ (bytes_eq text (codes ",") || ((bytes_eq text (codes ":") && is_colon_spaced kind) || not (is_tight kind text)))
 behind_mark kind x l text is mark has =
-    ap (λ y. behind kind y) is ∙ (ap (λ class. space_behind kind (s.this class l.token)) mark ∙ ap (λ t. space_behind kind (s.this c.Mark t)) (sym has))
+    ap (λ y. is_spaced_after kind y) is ∙ (ap (λ class. space_behind kind (s.this class l.token)) mark ∙ ap (λ t. space_behind kind (s.this c.Mark t)) (sym has))
 
-pub other_behind : (kind : Kind) (x : Part) (l : Leaf) (text : Bytes) (tight : Bool) → x ≡ p.Leaf l → l.class ≡ c.Mark → text ≡ l.token → is_separator kind text ≡ false → tight ≡ is_tight kind text → not tight ≡ behind kind x
+pub other_behind : (kind : Kind) (x : Part) (l : Leaf) (text : Bytes) (tight : Bool) → x ≡ p.Leaf l → l.class ≡ c.Mark → text ≡ l.token → is_separator kind text ≡ false → tight ≡ is_tight kind text → not tight ≡ is_spaced_after kind x
 other_behind kind x l text tight is mark has h told =
     ap not told ∙ sym (behind_mark kind x l text is mark has ∙ not_first (bytes_eq text (codes ",")) (bytes_eq text (codes ":") && is_colon_spaced kind) (not (is_tight kind text)) h)

@@ -7,24 +7,24 @@ use Rattle.bz_value.specs.declared.value.Item.TheVariants as i
 use Rattle.bz_items.specs.Characters.{Bytes, line_feed}
 use Rattle.bz_value.specs.Comments.{HostComments}
 use Rattle.bz_value.specs.Proper.{comments_of}
-use Rattle.bz_write.specs.Layout.{behind}
+use Rattle.bz_write.specs.Layout.{suffix_text}
 use Rattle.bz_write.specs.Written.{text_of, comment_lines, item_text, layout}
 use Rattle.bz_write.specs.Drawn.{before_next}
 use Rattle.bz_write.specs.Depths.{depth_items}
 use Rattle.bz_write.proofs.Spelled.{next_behind}
 
-pub statement_length : (x : Expr) → length (item_text (i.Stmt x)) ≡ length (comment_lines (comments_of x).before) + (length (text_of x 0) + (length (behind (comments_of x).suffix) + 1))
+pub statement_length : (x : Expr) → length (item_text (i.Stmt x)) ≡ length (comment_lines (comments_of x).before) + (length (text_of x 0) + (length (suffix_text (comments_of x).suffix) + 1))
 statement_length x =
-    let suffix : Bytes = behind (comments_of x).suffix in
+    let suffix : Bytes = suffix_text (comments_of x).suffix in
     length-append (comment_lines (comments_of x).before) (text_of x 0 ++ (suffix ++ line_feed ∷ [])) ∙
     ap (λ n. length (comment_lines (comments_of x).before) + n) (length-append (text_of x 0) (suffix ++ line_feed ∷ []) ∙ ap (λ n. length (text_of x 0) + n) (length-append suffix (line_feed ∷ [])))
 
 -- the room behind the lines of a statement, but for their newline
 pub statement_room : (x : Expr) (comments : HostComments) (texts : List Bytes) (suffix : Option Bytes) (room left left' left'' : ℕ) → comments ≡ comments_of x → texts ≡ comments.before → suffix ≡ comments.suffix →
-    length (comment_lines texts) + left ≡ room → length (text_of x 0) + left' ≡ left → length (behind suffix) + left'' ≡ left' → length (item_text (i.Stmt x)) + left'' ≡ room + 1
+    length (comment_lines texts) + left ≡ room → length (text_of x 0) + left' ≡ left → length (suffix_text suffix) + left'' ≡ left' → length (item_text (i.Stmt x)) + left'' ≡ room + 1
 statement_room x comments texts suffix room left left' left'' has texts_ suffix_ e f g =
     let above : length (comment_lines texts) ≡ length (comment_lines (comments_of x).before) = ap (λ ts. length (comment_lines ts)) (texts_ ∙ ap (λ c. c.before) has) in
-    let below : length (behind suffix) ≡ length (behind (comments_of x).suffix) = ap (λ t. length (behind t)) (suffix_ ∙ ap (λ c. c.suffix) has) in
+    let below : length (suffix_text suffix) ≡ length (suffix_text (comments_of x).suffix) = ap (λ t. length (suffix_text t)) (suffix_ ∙ ap (λ c. c.suffix) has) in
     omega (arith, statement_length x, above, below, e, f, g)
 
 pub layout_first : (x : Item) (xs : List Item) → length (layout (x ∷ xs)) ≡ length (item_text x) + (length (before_next x xs) + length (layout xs))

@@ -11,7 +11,7 @@ use Rattle.bz_tree.specs.Shapes.{Sort, Terminal, Shape, Fits, Listed, Several, h
 use Rattle.bz_tree.specs.Legal.{IsSort}
 use Rattle.bz_tree.specs.Reading.{starts}
 use Rattle.bz_value.specs.LineShapes.{line_shape}
-use Rattle.bz_write.specs.Spaces.{from_table, lone, dotted, space_behind, space_before}
+use Rattle.bz_write.specs.Spaces.{from_table, lone, is_dot_terminal, space_behind, space_before}
 
 -- what stands at a place of a shape
 pub data Element : Type 0 where
@@ -164,9 +164,9 @@ is_primary _ = false
 -- Neighbours that may touch: anything before a bracket, a comma or a colon; a primary that is no number before a dot; and
 -- behind brackets, commas and colons anything, behind signs and stars a part or a word, behind a dot a name.
 abbrev pub safe : Element → Element → Bool
-safe (S a) (T us) = all_in lone us || (all_in dotted us && is_primary a)
+safe (S a) (T us) = all_in lone us || (all_in is_dot_terminal us && is_primary a)
 safe (T ts) (S a) = all_in lone ts || (all_in prefixed ts && all_in well (starts a))
-safe (T ts) (T us) = all_in lone us || (all_in lone ts || ((all_in dotted ts && all_in named us) || (all_in prefixed ts && all_in well us)))
+safe (T ts) (T us) = all_in lone us || (all_in lone ts || ((all_in is_dot_terminal ts && all_in named us) || (all_in prefixed ts && all_in well us)))
 safe (S a) (S b) = false
 
 abbrev pub neighbours : Kind → Element → Element → Bool

@@ -14,7 +14,7 @@ use Rattle.bz_value.specs.Frames.{Frame, row, sequence, frame, is_binary, is_com
 use Rattle.bz_items.specs.Characters.{Bytes}
 use Rattle.bz_value.specs.Gaps.{all_in}
 use Rattle.bz_value.specs.Proper.{in_frame, is_operator}
-use Rattle.bz_view.specs.View.{Seen, seen, seen_row, plain, first_gap, loose_in, loose_behind, node_in, sequence_form, items_in, is_split, is_open}
+use Rattle.bz_view.specs.View.{Seen, seen, seen_row, plain, first_seen_gap, loose_in, loose_behind, seen_node, sequence_form, items_in, is_split, is_open}
 use Rattle.bz_write.specs.Layout.{laid, laid_in, rowed, headed, is_broken, is_tuple, gap_behind, margin_behind, firsts}
 use Rattle.bz_value.specs.Empty.{is_empty}
 use Rattle.bz_write.specs.Drawn.{part_of, parts_of, drawings}
@@ -30,8 +30,8 @@ pub seen_rows : (n : _) (r : Row_of-Part n) → seen_row r ≡ map seen (items-t
 seen_rows n end_of-Part = refl
 seen_rows n (more_of-Part x rest) = ap (λ t. seen x ∷ t) (seen_rows _ rest)
 
-pub seen_made : (kind : Kind) (ps : List Part) → seen (p.Node (record { kind = kind; parts = ps })) ≡ node_in (frame kind) kind (map seen ps)
-seen_made kind ps = let n : Node = record { kind = kind; parts = ps } in ap (node_in (frame kind) kind) (seen_rows _ (row_of n).1 ∙ ap (map seen) (items_of_row n))
+pub seen_made : (kind : Kind) (ps : List Part) → seen (p.Node (record { kind = kind; parts = ps })) ≡ seen_node (frame kind) kind (map seen ps)
+seen_made kind ps = let n : Node = record { kind = kind; parts = ps } in ap (seen_node (frame kind) kind) (seen_rows _ (row_of n).1 ∙ ap (map seen) (items_of_row n))
 
 -- ---- forms
 
@@ -56,7 +56,7 @@ no_values [] h = refl
 no_values (x ∷ xs) h = absurd (is_nothing x.0 (firsts xs) h)
 
 row_seen : (kind : Kind) (split open_ : Bool) (g : Bytes) (m : ℕ) (hs xs : List (Expr × Draw)) (end_ : List Bytes) → Reads hs → IsRow kind split open_ (firsts hs) (firsts xs) end_ →
-    FormBack kind (settled hs) (settled xs) end_ split open_ g (node_in row kind (look (rowed kind open_ m g m hs)))
+    FormBack kind (settled hs) (settled xs) end_ split open_ g (seen_node row kind (look (rowed kind open_ m g m hs)))
 row_seen kind split open_ g m [] xs end_ r h = absurd (true≢false h.full)
 row_seen kind split open_ g m (x ∷ hs) xs end_ r h =
     let ss : List Seen = look (rowed kind open_ m g m (x ∷ hs)) in
@@ -73,14 +73,14 @@ row_seen kind split open_ g m (x ∷ hs) xs end_ r h =
     }
 
 sequence_seen : (opener closer : ℕ) (kind : Kind) (split open_ : Bool) (g : Bytes) (m : ℕ) (hs xs : List (Expr × Draw)) (end_ : List Bytes) → Reads hs → Reads xs → IsSequence kind open_ (firsts hs) (firsts xs) end_ →
-    FormBack kind (settled hs) (settled xs) end_ (is_broken kind split (firsts xs) end_) open_ g (node_in (sequence opener closer) kind (look (laid_in (sequence opener closer) kind split open_ g m hs xs end_)))
+    FormBack kind (settled hs) (settled xs) end_ (is_broken kind split (firsts xs) end_) open_ g (seen_node (sequence opener closer) kind (look (laid_in (sequence opener closer) kind split open_ g m hs xs end_)))
 sequence_seen opener closer kind split open_ g m hs xs end_ rh rx h =
     let broken : Bool = is_broken kind split (firsts xs) end_ in
     let one : Bool = is_tuple kind && nat_eq (length xs) 1 in
     let body = body_of broken one m closer end_ xs in
     let ss : List Seen = look (headed m g opener hs body) in
     let back = body_back broken one kind split m closer end_ xs rx h.ends_there h.each refl in
-    let found : List Expr × List Bytes = items_in (all_in (first_gap (look body))) (look body) in
+    let found : List Expr × List Bytes = items_in (all_in (first_seen_gap (look body))) (look body) in
     record {
       value = λ comments break.
           ap (λ n. sequence_form kind (take n ss) (drop (suc n) ss) comments) (sym h.leads) ∙
@@ -94,7 +94,7 @@ sequence_seen opener closer kind split open_ g m hs xs end_ rh rx h =
 
 form_seen : (f : Frame) (kind : Kind) (split open_ : Bool) (g : Bytes) (m : ℕ) (hs xs : List (Expr × Draw)) (end_ : List Bytes) → Reads hs → Reads xs →
     in_frame f (IsRow kind split open_ (firsts hs) (firsts xs) end_) (IsSequence kind open_ (firsts hs) (firsts xs) end_) →
-    FormBack kind (settled hs) (settled xs) end_ (settled_split f kind split (firsts xs) end_) open_ g (node_in f kind (look (laid_in f kind split open_ g m hs xs end_)))
+    FormBack kind (settled hs) (settled xs) end_ (settled_split f kind split (firsts xs) end_) open_ g (seen_node f kind (look (laid_in f kind split open_ g m hs xs end_)))
 form_seen row kind split open_ g m hs xs end_ rh rx h = row_seen kind split open_ g m hs xs end_ rh h
 form_seen (sequence opener closer) kind split open_ g m hs xs end_ rh rx h = sequence_seen opener closer kind split open_ g m hs xs end_ rh rx h
 
@@ -120,8 +120,8 @@ mutual
       let facts : FrameFacts kind split open_ end_ (firsts hs) (firsts xs) =
       subst (λ z. FrameFacts kind split open_ end_ z (firsts xs)) (sym (firsts_row _ parts)) (subst (λ z. FrameFacts kind split open_ end_ (items-the_row-Expr _ parts) z) (sym (firsts_row _ items)) f.0) in
       let settled_flag : List Expr → Bool = λ z. settled_split (frame kind) kind split z end_ in
-      let made : (g : Bytes) (m : ℕ) → seen (part_of (Form' kind s parts s' items end_ split open_ comments) g m) ≡ node_in (frame kind) kind (look (laid kind split open_ g m hs xs end_)) = λ g m. seen_made kind _ in
-      let back : (g : Bytes) (m : ℕ) → FormBack kind (settled hs) (settled xs) end_ (settled_flag (firsts xs)) open_ g (node_in (frame kind) kind (look (laid kind split open_ g m hs xs end_))) =
+      let made : (g : Bytes) (m : ℕ) → seen (part_of (Form' kind s parts s' items end_ split open_ comments) g m) ≡ seen_node (frame kind) kind (look (laid kind split open_ g m hs xs end_)) = λ g m. seen_made kind _ in
+      let back : (g : Bytes) (m : ℕ) → FormBack kind (settled hs) (settled xs) end_ (settled_flag (firsts xs)) open_ g (seen_node (frame kind) kind (look (laid kind split open_ g m hs xs end_))) =
       λ g m. form_seen (frame kind) kind split open_ g m hs xs end_ (row_read _ parts f.1) (row_read _ items f.2) facts in
       record {
         value = λ g m.

@@ -19,8 +19,8 @@ use Rattle.bz_items.specs.Characters.{Bytes, comma, space}
 use Rattle.bz_value.specs.Frames.{Frame, row, sequence, frame}
 use Rattle.bz_value.specs.Proper.{comments_of, has_break, in_frame}
 use Rattle.bz_value.specs.Roots.{root}
-use Rattle.bz_write.specs.Spaces.{lone, space_behind, space_before, is_word, is_value, behind, before, is_lone, is_number_leaf, apart, number_dot, is_spaced}
-use Rattle.bz_write.specs.Layout.{mark, line, above, ended, behind as suffix_text, is_broken, is_tuple, gap_behind, margin_behind, firsts, rowed, headed, joined, stacked, laid_in, laid}
+use Rattle.bz_write.specs.Spaces.{lone, space_behind, space_before, is_word, is_value, is_spaced_after, is_spaced_before, is_lone, is_number_leaf, apart, number_dot, is_spaced}
+use Rattle.bz_write.specs.Layout.{mark, line, margin_lines, ended, suffix_text, is_broken, is_tuple, gap_behind, margin_behind, firsts, rowed, headed, joined, stacked, laid_in, laid}
 use Rattle.bz_value.specs.Empty.{is_empty}
 use Rattle.bz_write.specs.Drawn.{piece_part, part_of}
 use Rattle.bz_write.proofs.Fitted.{Same, Child, rooted, IsRooted, Pieces}
@@ -31,8 +31,8 @@ use Rattle.bz_write.proofs.Touching.{Fine, Between, Apart, OpensAt, BareAt, Open
 -- ---- what a part is to its neighbours does not hang on its gap
 
 pub record SpacedAs (x y : Part) : Type 0 where
-  pub behind_it : (kind : Kind) → behind kind x ≡ behind kind y
-  pub before_it : (kind : Kind) → before kind x ≡ before kind y
+  pub behind_it : (kind : Kind) → is_spaced_after kind x ≡ is_spaced_after kind y
+  pub before_it : (kind : Kind) → is_spaced_before kind x ≡ is_spaced_before kind y
   pub value : is_value x ≡ is_value y
   pub alone : is_lone x ≡ is_lone y
   pub number : is_number_leaf x ≡ is_number_leaf y
@@ -95,7 +95,7 @@ row_apart kind open_ m gap n (x ∷ xs) h = row_between kind open_ m x gap n (ma
 
 -- ---- sequences: what touches a bracket or a comma
 
-lone_before : (kind : Kind) (y : Part) → is_lone y ≡ true → (before kind y ≡ false) × (is_value y ≡ false)
+lone_before : (kind : Kind) (y : Part) → is_lone y ≡ true → (is_spaced_before kind y ≡ false) × (is_value y ≡ false)
 lone_before kind (Node' k z r) h = no_such h
 lone_before kind (p.Leaf l) h = by_class l.class l.token h
   where
@@ -109,9 +109,9 @@ and_false false = refl
 
 -- anything touches a bracket or a comma behind it, but a token that asks for a space does not ask for it there
 touches_lone : (kind : Kind) (x y : Part) → is_lone y ≡ true → apart kind x y ≡ false
-touches_lone kind x y h = let w = lone_before kind y h in rw (h, w.0, w.1, and_false (behind kind x), and_false (is_value x)) refl
+touches_lone kind x y h = let w = lone_before kind y h in rw (h, w.0, w.1, and_false (is_spaced_after kind x), and_false (is_value x)) refl
 
-value_before : (kind : Kind) (y : Part) → is_value y ≡ true → before kind y ≡ false
+value_before : (kind : Kind) (y : Part) → is_value y ≡ true → is_spaced_before kind y ≡ false
 value_before kind (Node' k z r) h = refl
 value_before kind (p.Leaf l) h = by_class l.class l.token h
   where
@@ -121,7 +121,7 @@ value_before kind (p.Leaf l) h = by_class l.class l.token h
     by_class _ t e = refl
 
 -- a value touches the bracket before it
-touches_opener : (kind : Kind) (x y : Part) → behind kind x ≡ false → is_value x ≡ false → is_value y ≡ true → apart kind x y ≡ false
+touches_opener : (kind : Kind) (x y : Part) → is_spaced_after kind x ≡ false → is_value x ≡ false → is_value y ≡ true → apart kind x y ≡ false
 touches_opener kind x y h i j = rw (h, i, value_before kind y j) refl
 
 abbrev pub mark_part : Bytes → ℕ → Part
@@ -184,8 +184,8 @@ module _ (kind : Kind) (closer : ℕ) (closes : IsLone closer) where
   stacked_between : (m : ℕ) (suffix : Option Bytes) (end_ : List Bytes) (xs : List Child) (x : Part) → AreItems xs → Between kind x (map piece_part (stacked m suffix closer end_ xs))
   stacked_between m suffix end_ [] x h = (inl (opens_ended suffix m end_), tt)
   stacked_between m suffix end_ (y ∷ ys) x h =
-      let gap : Bytes = suffix_text suffix ++ (line (m + 4) ++ above (m + 4) (comments_of y.0).before) in (
-        inl (opens_at y.1 gap (m + 4) h.0.0 (opens_suffix suffix (replicate (m + 4) space ++ above (m + 4) (comments_of y.0).before))),
+      let gap : Bytes = suffix_text suffix ++ (line (m + 4) ++ margin_lines (m + 4) (comments_of y.0).before) in (
+        inl (opens_at y.1 gap (m + 4) h.0.0 (opens_suffix suffix (replicate (m + 4) space ++ margin_lines (m + 4) (comments_of y.0).before))),
         (before_comma (y.1 gap (m + 4)), stacked_between m (comments_of y.0).suffix end_ ys (mark_part [] comma) h.1),
       )
 

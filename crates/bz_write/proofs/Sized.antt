@@ -9,7 +9,7 @@ use Rattle.bz_value.specs.declared.value.Expr.TheVariants as e
 use Rattle.bz_items.specs.Characters.{Bytes, comma, space}
 use Rattle.bz_value.specs.Frames.{Frame, row, sequence, frame}
 use Rattle.bz_value.specs.Proper.{comments_of}
-use Rattle.bz_write.specs.Layout.{Piece, mark, line, above, ended, behind, stacked, joined, rowed, headed, laid_in, is_broken, is_tuple, gap_behind, margin_behind, firsts}
+use Rattle.bz_write.specs.Layout.{Piece, mark, line, margin_lines, ended, suffix_text, stacked, joined, rowed, headed, laid_in, is_broken, is_tuple, gap_behind, margin_behind, firsts}
 use Rattle.bz_write.specs.Written.{piece_text, text_of}
 use Rattle.bz_write.specs.Sizes.{row_size, head_size, joined_size, stacked_size, body_size, size_in, form_size}
 use Rattle.bz_write.specs.Writings.{writings, row_text, joined_text, stacked_text, body_text}
@@ -79,9 +79,9 @@ whole_joined m closer one (x ∷ xs) = joined_length m [] closer one x xs ∙ ze
 stacked_length : (m : ℕ) (gap : Bytes) (closer : ℕ) (end_ : List Bytes) (xs : List Expr) → length (written (stacked_behind m gap closer end_ (writings xs))) ≡ length gap + stacked_size m end_ xs
 stacked_length m gap closer end_ [] = let a = first_length (gap ++ ended m end_) (closer ∷ []) [] in let b = length-append gap (ended m end_) in omega (arith, a, b)
 stacked_length m gap closer end_ (x ∷ xs) =
-    let above_ : Bytes = above (m + 4) (comments_of x).before in
+    let above_ : Bytes = margin_lines (m + 4) (comments_of x).before in
     let front : Bytes = line (m + 4) ++ above_ in
-    let suffix : Bytes = behind (comments_of x).suffix in
+    let suffix : Bytes = suffix_text (comments_of x).suffix in
     let after : Bytes = written (stacked_behind m suffix closer end_ (writings xs)) in
     let more : length after ≡ length suffix + stacked_size m end_ xs = stacked_length m suffix closer end_ xs in
     let here : length (((gap ++ front) ++ text_of x (m + 4)) ++ (comma ∷ after)) ≡ length (gap ++ front) + (length (text_of x (m + 4)) + suc (length after)) = first_length (gap ++ front) (text_of x (m + 4)) (comma ∷ after) in

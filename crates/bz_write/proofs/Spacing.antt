@@ -12,7 +12,7 @@ use Rattle.bz_tree.specs.Shapes as s
 use Rattle.bz_tree.specs.Shapes.{Sort, Terminal, is_one_of, is_terminal, leaves_at}
 use Rattle.bz_tree.specs.Legal.{IsSort}
 use Rattle.bz_tree.proofs.Balance.{same_class, no_such}
-use Rattle.bz_write.specs.Spaces.{lone, space_behind, space_before, is_word, is_value, behind, before, is_lone, apart}
+use Rattle.bz_write.specs.Spaces.{lone, space_behind, space_before, is_word, is_value, is_spaced_after, is_spaced_before, is_lone, apart}
 use Rattle.bz_write.proofs.Neighbours.{Element, T, S, Is, all_in, never_lone, spaced}
 
 -- this very token as a terminal
@@ -80,11 +80,11 @@ not_lone : (y : Part) → is_value y ≡ true → is_lone y ≡ false
 not_lone (p.Leaf l) h = lone_word l.class l.token h
 not_lone (Node' k z r) h = refl
 
-behind_of : (kind : Kind) (ts : List Terminal) (x : Part) → all_in (space_behind kind) ts ≡ true → Is (T ts) x → behind kind x ≡ true
+behind_of : (kind : Kind) (ts : List Terminal) (x : Part) → all_in (space_behind kind) ts ≡ true → Is (T ts) x → is_spaced_after kind x ≡ true
 behind_of kind ts (p.Leaf l) h i = own_leaf (space_behind kind) (λ class. refl) ts l h i
 behind_of kind ts (Node' k z r) h i = no_such i
 
-before_of : (kind : Kind) (us : List Terminal) (y : Part) → all_in (space_before kind) us ≡ true → Is (T us) y → before kind y ≡ true
+before_of : (kind : Kind) (us : List Terminal) (y : Part) → all_in (space_before kind) us ≡ true → Is (T us) y → is_spaced_before kind y ≡ true
 before_of kind us (p.Leaf l) h i = own_leaf (space_before kind) (λ class. refl) us l h i
 before_of kind us (Node' k z r) h i = no_such i
 

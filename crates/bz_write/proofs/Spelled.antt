@@ -18,7 +18,7 @@ use Rattle.bz_items.specs.Characters.{Bytes, comma, line_feed, space}
 use Rattle.bz_value.specs.Frames.{Frame, row, sequence, frame}
 use Rattle.bz_value.specs.Proper.{IsProperItem, IsProper, in_frame, comments_of}
 use Rattle.bz_value.proofs.Wider.{line_expr}
-use Rattle.bz_write.specs.Layout.{Piece, mark, laid_in, rowed, headed, joined, stacked, is_broken, is_tuple, gap_behind, margin_behind, behind, firsts}
+use Rattle.bz_write.specs.Layout.{Piece, mark, laid_in, rowed, headed, joined, stacked, is_broken, is_tuple, gap_behind, margin_behind, suffix_text, firsts}
 use Rattle.bz_value.specs.Empty.{is_empty}
 use Rattle.bz_write.specs.Written.{text_of, texts_of, piece_text, comment_lines, behind_item, item_text, layout}
 use Rattle.bz_write.specs.Writings.{writings}
@@ -144,7 +144,7 @@ next_behind x (y ∷ ys) = refl
 spell_line : (gap : Bytes) (x : Expr) → Readable x → spell_part (line_part gap x) ≡ gap ++ item_text (i.Stmt x)
 spell_line gap x f =
     let before : Bytes = comment_lines (comments_of x).before in
-    let after : Bytes = behind (comments_of x).suffix ++ (line_feed ∷ []) in
+    let after : Bytes = suffix_text (comments_of x).suffix ++ (line_feed ∷ []) in
     spell_made k.Line _ ∙
     (both (spell_expr x f (gap ++ before) 0) (append-nil after) ∙ (append_assoc (gap ++ before) (text_of x 0) after ∙ append_assoc gap before (text_of x 0 ++ after)))
 

@@ -25,7 +25,7 @@ use Rattle.bz_value.specs.Frames.{Frame, row, sequence, frame, is_binary, is_com
 use Rattle.bz_value.specs.LineShapes.{line_shape}
 use Rattle.bz_value.specs.Proper.{IsComment, MaybeComment, AreComments, comments_of, behind_expr, roots, in_frame, ProperBy, ProperRowBy, ProperHeadBy, ProperItemsBy}
 use Rattle.bz_value.specs.Roots.{row_in}
-use Rattle.bz_write.specs.Layout.{mark, line, above, ended, behind, is_broken, is_tuple, gap_behind, margin_behind, firsts, rowed, headed, joined, stacked, laid_in, laid}
+use Rattle.bz_write.specs.Layout.{mark, line, margin_lines, ended, suffix_text, is_broken, is_tuple, gap_behind, margin_behind, firsts, rowed, headed, joined, stacked, laid_in, laid}
 use Rattle.bz_value.specs.Empty.{is_empty}
 use Rattle.bz_write.specs.Drawn.{piece_part, part_of, parts_of}
 use Rattle.bz_write.proofs.Elements.{AreValues, items_values, Opened, comprehension}
@@ -119,10 +119,10 @@ module _ (outer : Spot) (opener closer : ℕ) (opening : IsBracket opens opener)
   -- items on lines of their own, the closing bracket, and what follows it
   pub stacked_at : (m : ℕ) (suffix : Option Bytes) (end_ : List Bytes) (xs : List Child) (rest : List Part) → MaybeComment suffix → AllByRecursion IsComment end_ → ItemsDraw outer xs → AtParts Placed outer (onward outer) rest →
       AtParts Placed outer Within (map piece_part (stacked m suffix closer end_ xs) ++ rest)
-  stacked_at m suffix end_ [] rest s e h r = closer_at (behind suffix ++ ended m end_) rest (closer_gap m suffix end_ s e) r
+  stacked_at m suffix end_ [] rest s e h r = closer_at (suffix_text suffix ++ ended m end_) rest (closer_gap m suffix end_ s e) r
   stacked_at m suffix end_ (x ∷ xs) rest s e h r =
       let texts : List Bytes = (comments_of x.0).before in
-      first_part outer Within Within x (behind suffix ++ (line (m + 4) ++ above (m + 4) texts)) (m + 4) (map piece_part (mark [] (comma ∷ []) ∷ stacked m (comments_of x.0).suffix closer end_ xs) ++ rest) h.0
+      first_part outer Within Within x (suffix_text suffix ++ (line (m + 4) ++ margin_lines (m + 4) texts)) (m + 4) (map piece_part (mark [] (comma ∷ []) ∷ stacked m (comments_of x.0).suffix closer end_ xs) ++ rest) h.0
       (item_gap (m + 4) suffix texts s (recursion_from_All IsComment texts h.1.0))
       (comma_at (map piece_part (stacked m (comments_of x.0).suffix closer end_ xs) ++ rest) (stacked_at m (comments_of x.0).suffix end_ xs rest h.1.1 e h.2 r))
 

@@ -11,7 +11,7 @@ use Rattle.bz_token.specs.Bytes.{among, is_quote}
 use Rattle.bz_token.specs.Lexemes.{IsLexeme, in_table, is_mark, marks}
 use Rattle.bz_token.specs.Tokens.{IsToken}
 use Rattle.bz_token.specs.Machine.{after, and_next}
-use Rattle.bz_token.specs.Scanner.{move, ends, named}
+use Rattle.bz_token.specs.Scanner.{move, ends, keyword_or_name}
 use Rattle.bz_token.proofs.Laws.{state_of, Stops, longest_at, begins}
 use Rattle.bz_write.proofs.Neighbours.{fronts, well_text}
 use Rattle.bz_write.specs.Spaces.{brackets_and_separators, is_number}
@@ -67,7 +67,7 @@ dot_end (Empty Single) = refl
 dot_end (Empty Double) = refl
 dot_end _ = refl
 
-number_named : (k : Class) (t : List ℕ) → is_number k ≡ true → named k t ≡ c.Number
+number_named : (k : Class) (t : List ℕ) → is_number k ≡ true → keyword_or_name k t ≡ c.Number
 number_named c.Number t h = refl
 number_named _ t h = absurd (both_ways false refl h)
 
@@ -206,7 +206,7 @@ marky_ends _ k h e = absurd (both_ways false refl h)
 mark_class : (class : Class) (t : List ℕ) → IsLexeme class t → marky (after move Start t) ≡ true → class ≡ c.Mark
 mark_class class t h m =
     let w = state_of class t h in
-    sym w.4 ∙ ap (λ k. named k t) (marky_ends w.0 w.1 (subst (λ o. marky o ≡ true) w.2 m) w.3)
+    sym w.4 ∙ ap (λ k. keyword_or_name k t) (marky_ends w.0 w.1 (subst (λ o. marky o ≡ true) w.2 m) w.3)
 
 begins_mark : (b : ℕ) (u : List ℕ) → (eqb b 61 || eqb b 42) ≡ true → marky (after move Start (b ∷ u)) ≡ true
 begins_mark b u h =

@@ -24,7 +24,7 @@ use Rattle.bz_tree.proofs.Levels.{begins}
 use Rattle.bz_tree.proofs.Balance.{no_such}
 use Rattle.bz_value.specs.LineShapes.{line_shape}
 use Rattle.bz_value.proofs.LegalBy.{LegalBy, each_legal, as_bzl}
-use Rattle.bz_write.specs.Spaces.{brackets_and_separators, lone, dotted, apart, is_number, is_number_leaf}
+use Rattle.bz_write.specs.Spaces.{brackets_and_separators, lone, is_dot_terminal, apart, is_number, is_number_leaf}
 use Rattle.bz_write.proofs.Neighbours.{Element, T, S, Is, Pair, Final, Links, passes, links, all_in, fronts, prefixed, well_text, named, spaced, is_primary, safe, neighbours, is_primary_kind, finals, in_a_line, all_pass}
 use Rattle.bz_write.proofs.Spacing.{spaced_apart}
 use Rattle.bz_write.proofs.Terminals.{table_leaf, well_leaf, named_leaf, plain_leaf}
@@ -163,7 +163,7 @@ before_well ts leaf l h i n w more rest =
     subst (λ z. IsToken z leaf.token (Text l more rest)) (sym t.0) (bare_token c.Mark leaf.token l more rest n (well_front leaf.token l.token more rest t.1 w))
 
 -- a dot right before a name
-before_name : (ts : List Terminal) (leaf l : Leaf) → all_in dotted ts ≡ true → is_one_of ts leaf ≡ true → l.gap ≡ [] → IsLexeme c.Name l.token → (more rest : List ℕ) → IsToken leaf.class leaf.token (Text l more rest)
+before_name : (ts : List Terminal) (leaf l : Leaf) → all_in is_dot_terminal ts ≡ true → is_one_of ts leaf ≡ true → l.gap ≡ [] → IsLexeme c.Name l.token → (more rest : List ℕ) → IsToken leaf.class leaf.token (Text l more rest)
 before_name ts leaf l h i n lex more rest =
     let t = table_leaf ((46 ∷ []) ∷ []) ts leaf h i in
     subst (λ z. IsToken z leaf.token (Text l more rest)) (sym t.0)
@@ -190,8 +190,8 @@ behind_token kind ts leaf (p.Leaf m) (T us) i j o g x l ls e n w more rest =
           elim (or_cases (all_in lone ts) _ f) [
             | inl d ↦ let t = table_leaf brackets_and_separators ts leaf d i in subst (λ z. IsToken z leaf.token (Text l more rest)) (sym t.0) (lone_before leaf.token (Text l more rest) t.1)
             | inr d ↦
-                elim (or_cases (all_in dotted ts && all_in named us) _ d) [
-                  | inl q ↦ let v = and_parts (all_in dotted ts) _ q in
+                elim (or_cases (all_in is_dot_terminal ts && all_in named us) _ d) [
+                  | inl q ↦ let v = and_parts (all_in is_dot_terminal ts) _ q in
                       let name : l.class ≡ c.Name = subst (λ z. z.class ≡ c.Name) same (named_leaf us m v.1 j) in
                       before_name ts leaf l v.0 i n (subst (λ z. IsLexeme z l.token) name w) more rest
                   | inr q ↦ let v = and_parts (all_in prefixed ts) _ q in
@@ -222,7 +222,7 @@ touching kind x (p.Leaf m) (S a) (T us) i j o g h d w l ls e n u more rest =
     let same : m ≡ l = ap first_of e in
     elim (or_cases (all_in lone us) _ o) [
       | inl f ↦ w (Text l more rest) (bare_follows (ends_plain x) l more rest n (lone_opens (ends_plain x) l.token more rest (subst (λ z. in_table z.token brackets_and_separators ≡ true) same (table_leaf brackets_and_separators us m f j).1)))
-      | inr f ↦ let v = and_parts (all_in dotted us) _ f in
+      | inr f ↦ let v = and_parts (all_in is_dot_terminal us) _ f in
           let t = table_leaf ((46 ∷ []) ∷ []) us m v.0 j in
           let dot : m.token ≡ 46 ∷ [] = dot_text m.token t.1 in
           let whole : is_number_leaf x ≡ false = elim (cases_Bool (is_number_leaf x)) [ inl q ↦ absurd (d (q, is_dot m t.0 dot)) | inr q ↦ q ] in

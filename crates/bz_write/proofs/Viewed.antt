@@ -12,7 +12,7 @@ use Rattle.bz_value.specs.Frames.{is_binary, is_comprehension}
 use Rattle.bz_value.specs.Gaps.{GapLine, lines_of, comments_in, some_newline, all_in, has_newline}
 use Rattle.bz_value.specs.Proper.{comments_of, has_break, is_operator}
 use Rattle.bz_value.specs.Roots.{root}
-use Rattle.bz_view.specs.View.{Seen, seen, plain, first_gap, begins_operator, loose_behind, row_exprs, is_open}
+use Rattle.bz_view.specs.View.{Seen, seen, plain, first_seen_gap, begins_seen_operator, loose_behind, row_exprs, is_open}
 use Rattle.bz_write.specs.Layout.{Piece, rowed, gap_behind, margin_behind, line, firsts}
 use Rattle.bz_value.specs.Empty.{is_empty}
 use Rattle.bz_write.specs.Spaces.{is_spaced}
@@ -112,11 +112,11 @@ gap_bare kind open_ m x ys = ap comments_in (gap_lines kind open_ m x ys) ∙ co
 abbrev behind : Kind → Bool → ℕ → Expr → List (Expr × Draw) → List (Piece Draw)
 behind kind open_ m x ys = rowed kind open_ m (gap_behind kind open_ m x (firsts ys)) (margin_behind open_ m x) ys
 
-next_newline : (kind : Kind) (open_ : Bool) (m : ℕ) (x : Expr) (ys : List (Expr × Draw)) → Reads ys → has_newline (first_gap (look (behind kind open_ m x ys))) ≡ ((open_ || has_break x) && not (is_empty (firsts ys)))
+next_newline : (kind : Kind) (open_ : Bool) (m : ℕ) (x : Expr) (ys : List (Expr × Draw)) → Reads ys → has_newline (first_seen_gap (look (behind kind open_ m x ys))) ≡ ((open_ || has_break x) && not (is_empty (firsts ys)))
 next_newline kind open_ m x [] h = sym (and_false (open_ || has_break x))
 next_newline kind open_ m x (y ∷ ys) h = ap has_newline (h.0.gap (gap_behind kind open_ m x (firsts (y ∷ ys))) (margin_behind open_ m x)) ∙ gap_newline kind open_ m x (firsts (y ∷ ys))
 
-next_sign : (kind : Kind) (open_ : Bool) (m : ℕ) (g : Bytes) (n : ℕ) (ys : List (Expr × Draw)) → Reads ys → begins_operator (look (rowed kind open_ m g n ys)) ≡ begins (firsts ys)
+next_sign : (kind : Kind) (open_ : Bool) (m : ℕ) (g : Bytes) (n : ℕ) (ys : List (Expr × Draw)) → Reads ys → begins_seen_operator (look (rowed kind open_ m g n ys)) ≡ begins (firsts ys)
 next_sign kind open_ m g n [] h = refl
 next_sign kind open_ m g n (y ∷ ys) h = h.0.sign g n
 
@@ -143,9 +143,9 @@ row_back binary inside newline kind open_ m g n (x ∷ xs) r parts last o q =
     let out : Bool → Bool → Bool → Bool → List Expr = (λ a b c d. s.make no_comments ((a && not c) && (b || d)) ∷ row_exprs binary a b ss) in
     let rest : List Expr = row_exprs binary (binary && operator) before ss in
     let fine : ((binary && operator) ≡ true → open_ ≡ false) = λ e. o (first_true binary operator e) in
-    ap (λ z. out (binary && z) (if inside then newline else has_newline s.gap) (begins_operator ss) (has_newline (first_gap ss))) (r.0.sign g n) ∙
-    (ap (λ z. out (binary && operator) (if inside then newline else has_newline z) (begins_operator ss) (has_newline (first_gap ss))) (r.0.gap g n) ∙
-    (ap (λ z. out (binary && operator) before z (has_newline (first_gap ss))) (next_sign kind open_ m (gap_behind kind open_ m x.0 (firsts xs)) (margin_behind open_ m x.0) xs r.1) ∙
+    ap (λ z. out (binary && z) (if inside then newline else has_newline s.gap) (begins_seen_operator ss) (has_newline (first_seen_gap ss))) (r.0.sign g n) ∙
+    (ap (λ z. out (binary && operator) (if inside then newline else has_newline z) (begins_seen_operator ss) (has_newline (first_seen_gap ss))) (r.0.gap g n) ∙
+    (ap (λ z. out (binary && operator) before z (has_newline (first_seen_gap ss))) (next_sign kind open_ m (gap_behind kind open_ m x.0 (firsts xs)) (margin_behind open_ m x.0) xs r.1) ∙
     (ap (λ z. out (binary && operator) before next z) (next_newline kind open_ m x.0 xs r.1) ∙
     (ap (λ z. s.make no_comments z ∷ rest) (flag binary operator next before open_ (has_break x.0) (is_empty (firsts xs)) parts.1 q (last_here binary x.0 (firsts xs) last) fine) ∙
     (ap (λ z. s.make z (has_break x.0) ∷ rest) (sym parts.0) ∙

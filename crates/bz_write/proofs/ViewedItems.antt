@@ -7,10 +7,10 @@ use Rattle.bz_tree.specs.declared.kind.Kind.{Kind}
 use Rattle.bz_value.specs.declared.value.Expr.{Expr}
 use Rattle.bz_items.specs.Characters.{Bytes, comma, space}
 use Rattle.bz_value.specs.Comments.{HostComments, no_comments}
-use Rattle.bz_value.specs.Gaps.{lines_of, comments_in, first_comment, behind_first, some_newline, suffix_in, others_in, all_in, has_newline}
+use Rattle.bz_value.specs.Gaps.{lines_of, comments_in, first_comment, after_first_comment, some_newline, suffix_in, others_in, all_in, has_newline}
 use Rattle.bz_value.specs.Proper.{IsComment, MaybeComment, comments_of, has_break}
-use Rattle.bz_view.specs.View.{Seen, seen, plain, first_gap, loose_behind, loose_in, items_in, item_in, is_split, leaf_seen}
-use Rattle.bz_write.specs.Layout.{Piece, joined, stacked, headed, is_broken, has_comments, line, above, behind, firsts}
+use Rattle.bz_view.specs.View.{Seen, seen, plain, first_seen_gap, loose_behind, loose_in, items_in, item_in, is_split, leaf_seen}
+use Rattle.bz_write.specs.Layout.{Piece, joined, stacked, headed, is_broken, has_comments, line, margin_lines, suffix_text, firsts}
 use Rattle.bz_value.specs.Empty.{is_empty, is_none}
 use Rattle.bz_write.specs.Flags.{with_flags}
 use Rattle.bz_write.proofs.Gapped.{ended_line, told, comments_told, lines_item, lines_end}
@@ -26,12 +26,12 @@ Begun [] = ⊥
 Begun (s ∷ ss) = Unit {0}
 
 -- an item, its comma, and what follows
-item_step : (above : List Bytes) (s : Seen) (rest : List Seen) (suffix : Option Bytes) (texts : List Bytes) (x : Expr) (found : List Expr × List Bytes) → Begun rest → suffix_in (first_gap rest) ≡ suffix → others_in (first_gap rest) ≡ texts →
-    s.make (record { before = above ++ s.loose; suffix = suffix }) false ≡ x → items_in texts rest ≡ found → item_in above s (bare_mark comma ∷ rest) ≡ (x ∷ found.0, found.1)
-item_step above s [] suffix texts x found b a o e i = absurd b
-item_step above s (t ∷ ss) suffix texts x found b a o e i =
-    let out : Option Bytes → List Bytes → List Expr × List Bytes = (λ z w. (s.make (record { before = above ++ s.loose; suffix = z }) false ∷ (item_in w t ss).0, (item_in w t ss).1)) in
-    ap (λ z. out z (others_in t.gap)) a ∙ (ap (λ w. out suffix w) o ∙ (ap (λ y. (s.make (record { before = above ++ s.loose; suffix = suffix }) false ∷ y.0, y.1)) i ∙ ap (λ w. (w ∷ found.0, found.1)) e))
+item_step : (margin_lines : List Bytes) (s : Seen) (rest : List Seen) (suffix : Option Bytes) (texts : List Bytes) (x : Expr) (found : List Expr × List Bytes) → Begun rest → suffix_in (first_seen_gap rest) ≡ suffix → others_in (first_seen_gap rest) ≡ texts →
+    s.make (record { before = margin_lines ++ s.loose; suffix = suffix }) false ≡ x → items_in texts rest ≡ found → item_in margin_lines s (bare_mark comma ∷ rest) ≡ (x ∷ found.0, found.1)
+item_step margin_lines s [] suffix texts x found b a o e i = absurd b
+item_step margin_lines s (t ∷ ss) suffix texts x found b a o e i =
+    let out : Option Bytes → List Bytes → List Expr × List Bytes = (λ z w. (s.make (record { before = margin_lines ++ s.loose; suffix = z }) false ∷ (item_in w t ss).0, (item_in w t ss).1)) in
+    ap (λ z. out z (others_in t.gap)) a ∙ (ap (λ w. out suffix w) o ∙ (ap (λ y. (s.make (record { before = margin_lines ++ s.loose; suffix = suffix }) false ∷ y.0, y.1)) i ∙ ap (λ w. (w ∷ found.0, found.1)) e))
 
 -- ---- not broken
 
@@ -48,7 +48,7 @@ joined_begun m g closer one (x ∷ xs) = tt
 abbrev IsQuiet : Bytes → Type 0
 IsQuiet g = lines_of g ≡ []
 
-joined_lines : (m : ℕ) (g : Bytes) (closer : ℕ) (one : Bool) (xs : List (Expr × Draw)) → Reads xs → IsQuiet g → IsQuiet (first_gap (look (joined m g closer one xs)))
+joined_lines : (m : ℕ) (g : Bytes) (closer : ℕ) (one : Bool) (xs : List (Expr × Draw)) → Reads xs → IsQuiet g → IsQuiet (first_seen_gap (look (joined m g closer one xs)))
 joined_lines m g closer one [] r q = refl
 joined_lines m g closer one (x ∷ xs) r q = ap lines_of (r.0.gap g m) ∙ q
 
@@ -58,8 +58,8 @@ joined_back m g closer true (x ∷ []) r bare = item_step [] (seen (x.1 g m)) (b
 joined_back m g closer false (x ∷ []) r bare = ap (λ z. (z ∷ [], [])) (bare_made x g m r.0 bare.0 bare.1)
 joined_back m g closer one (x ∷ y ∷ ys) r bare =
     let rest : List Seen = look (joined m (space ∷ []) closer false (y ∷ ys)) in
-    let quiet : IsQuiet (first_gap rest) = joined_lines m (space ∷ []) closer false (y ∷ ys) r.1 refl in
-    item_step [] (seen (x.1 g m)) rest None [] (with_flags x.0) (settled (y ∷ ys), []) tt (ap first_comment quiet) (ap (λ z. comments_in (behind_first z)) quiet) (bare_made x g m r.0 bare.0 bare.1)
+    let quiet : IsQuiet (first_seen_gap rest) = joined_lines m (space ∷ []) closer false (y ∷ ys) r.1 refl in
+    item_step [] (seen (x.1 g m)) rest None [] (with_flags x.0) (settled (y ∷ ys), []) tt (ap first_comment quiet) (ap (λ z. comments_in (after_first_comment z)) quiet) (bare_made x g m r.0 bare.0 bare.1)
     (joined_back m (space ∷ []) closer false (y ∷ ys) r.1 bare.2)
 
 joined_split : (m : ℕ) (g : Bytes) (closer : ℕ) (one : Bool) (xs : List (Expr × Draw)) → Reads xs → IsQuiet g → is_split (look (joined m g closer one xs)) ≡ false
@@ -78,10 +78,10 @@ fore [] end_ = end_
 fore (x ∷ xs) end_ = (comments_of x).before
 
 stacked_lines : (m : ℕ) (suffix : Option Bytes) (closer : ℕ) (end_ : List Bytes) (xs : List (Expr × Draw)) → Reads xs → MaybeComment suffix → AllByRecursion IsComment end_ → AreItems (firsts xs) →
-    lines_of (first_gap (look (stacked m suffix closer end_ xs))) ≡ ended_line suffix ∷ told (fore (firsts xs) end_)
+    lines_of (first_seen_gap (look (stacked m suffix closer end_ xs))) ≡ ended_line suffix ∷ told (fore (firsts xs) end_)
 stacked_lines m suffix closer end_ [] r s e h = lines_end suffix end_ m s e
 stacked_lines m suffix closer end_ (x ∷ xs) r s e h =
-    ap lines_of (r.0.gap (behind suffix ++ (line (m + 4) ++ above (m + 4) (comments_of x.0).before)) (m + 4)) ∙ lines_item suffix (comments_of x.0).before (m + 4) s h.0
+    ap lines_of (r.0.gap (suffix_text suffix ++ (line (m + 4) ++ margin_lines (m + 4) (comments_of x.0).before)) (m + 4)) ∙ lines_item suffix (comments_of x.0).before (m + 4) s h.0
 
 stacked_begun : (m : ℕ) (suffix : Option Bytes) (closer : ℕ) (end_ : List Bytes) (xs : List (Expr × Draw)) → Begun (look (stacked m suffix closer end_ xs))
 stacked_begun m suffix closer end_ [] = tt
@@ -102,11 +102,11 @@ stacked_back m suffix closer end_ (x ∷ xs) r s e h =
     let own : HostComments = comments_of x.0 in
     let rest : List Seen = look (stacked m own.suffix closer end_ xs) in
     let lines = stacked_lines m own.suffix closer end_ xs r.1 h.1 e h.3 in
-    item_step own.before (seen (x.1 (behind suffix ++ (line (m + 4) ++ above (m + 4) own.before)) (m + 4))) rest own.suffix (fore (firsts xs) end_) (with_flags x.0) (settled xs, end_)
-    (stacked_begun m own.suffix closer end_ xs) (ap first_comment lines) (ap (λ z. comments_in (behind_first z)) lines ∙ comments_told (fore (firsts xs) end_)) (item_made x _ (m + 4) r.0 h.2)
+    item_step own.before (seen (x.1 (suffix_text suffix ++ (line (m + 4) ++ margin_lines (m + 4) own.before)) (m + 4))) rest own.suffix (fore (firsts xs) end_) (with_flags x.0) (settled xs, end_)
+    (stacked_begun m own.suffix closer end_ xs) (ap first_comment lines) (ap (λ z. comments_in (after_first_comment z)) lines ∙ comments_told (fore (firsts xs) end_)) (item_made x _ (m + 4) r.0 h.2)
     (stacked_back m own.suffix closer end_ xs r.1 h.1 e h.3)
 
-split_first : (ss : List Seen) → Begun ss → has_newline (first_gap ss) ≡ true → is_split ss ≡ true
+split_first : (ss : List Seen) → Begun ss → has_newline (first_seen_gap ss) ≡ true → is_split ss ≡ true
 split_first [] b h = absurd b
 split_first (s ∷ ss) b h = ap (λ z. z || is_split ss) h
 
@@ -148,7 +148,7 @@ bare_items (x ∷ xs) h e =
 
 -- what is seen of a sequence: its items and end comments; split where it was broken
 pub record BodyBack (body : List Seen) (xs : List (Expr × Draw)) (end_ : List Bytes) (broken : Bool) : Type 0 where
-  pub found : items_in (all_in (first_gap body)) body ≡ (settled xs, end_)
+  pub found : items_in (all_in (first_seen_gap body)) body ≡ (settled xs, end_)
   pub split : is_split body ≡ broken
 
 pub body_back : (broken one : Bool) (kind : Kind) (split : Bool) (m closer : ℕ) (end_ : List Bytes) (xs : List (Expr × Draw)) → Reads xs → AllByRecursion IsComment end_ → AreItems (firsts xs) → is_broken kind split (firsts xs) end_ ≡ broken →
@@ -171,7 +171,7 @@ body_back false one kind split m closer end_ xs r e h b =
 
 -- ---- what stands before the bracket
 
-pub headed_gap : (m : ℕ) (g : Bytes) (opener : ℕ) (hs : List (Expr × Draw)) (body : List (Piece Draw)) → Reads hs → first_gap (look (headed m g opener hs body)) ≡ g
+pub headed_gap : (m : ℕ) (g : Bytes) (opener : ℕ) (hs : List (Expr × Draw)) (body : List (Piece Draw)) → Reads hs → first_seen_gap (look (headed m g opener hs body)) ≡ g
 headed_gap m g opener [] body r = refl
 headed_gap m g opener (x ∷ xs) body r = r.0.gap g m
 

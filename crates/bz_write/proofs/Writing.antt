@@ -14,7 +14,7 @@ use Rattle.bz_value.specs.Frames.{Frame, row, sequence, frame}
 use Rattle.bz_value.specs.Proper.{comments_of}
 use Rattle.bz_write.specs.declared.brackets.Brackets.{Brackets}
 use Rattle.bz_write.specs.Brackets.{brackets_of}
-use Rattle.bz_write.specs.Layout.{Piece, line, above, ended, behind, stacked, joined, rowed, headed, laid_in, is_broken, is_tuple, gap_behind, margin_behind}
+use Rattle.bz_write.specs.Layout.{Piece, line, margin_lines, ended, suffix_text, stacked, joined, rowed, headed, laid_in, is_broken, is_tuple, gap_behind, margin_behind}
 use Rattle.bz_write.specs.Written.{piece_text, text_of}
 use Rattle.bz_write.specs.Writings.{writings, row_text, head_text, comma_text, joined_text, stacked_item_text, stacked_text, sequence_text}
 use Rattle.bz_write.proofs.Made.{text_Form}
@@ -89,17 +89,17 @@ behind_first : (a b c d : Bytes) → ((a ++ b) ++ c) ++ d ≡ a ++ ((b ++ c) ++ 
 behind_first a b c d = ap (λ z. z ++ d) (append_assoc a b c) ∙ append_assoc a (b ++ c) d
 
 -- the suffix of the item before stands first
-suffix_first : (m : ℕ) (suffix : Option Bytes) (closer : ℕ) (end_ : List Bytes) (xs : List Expr) → written (stacked m suffix closer end_ (writings xs)) ≡ behind suffix ++ stacked_text m closer end_ xs
-suffix_first m suffix closer end_ [] = behind_first (behind suffix) (ended m end_) (closer ∷ []) []
+suffix_first : (m : ℕ) (suffix : Option Bytes) (closer : ℕ) (end_ : List Bytes) (xs : List Expr) → written (stacked m suffix closer end_ (writings xs)) ≡ suffix_text suffix ++ stacked_text m closer end_ xs
+suffix_first m suffix closer end_ [] = behind_first (suffix_text suffix) (ended m end_) (closer ∷ []) []
 suffix_first m suffix closer end_ (x ∷ xs) =
-    behind_first (behind suffix) (line (m + 4) ++ above (m + 4) (comments_of x).before) (text_of x (m + 4)) (comma ∷ written (stacked m (comments_of x).suffix closer end_ (writings xs)))
+    behind_first (suffix_text suffix) (line (m + 4) ++ margin_lines (m + 4) (comments_of x).before) (text_of x (m + 4)) (comma ∷ written (stacked m (comments_of x).suffix closer end_ (writings xs)))
 
 stacked_first : (m closer : ℕ) (end_ : List Bytes) (x : Expr) (xs : List Expr) → stacked_text m closer end_ (x ∷ xs) ≡ stacked_item_text m x ++ stacked_text m closer end_ xs
 stacked_first m closer end_ x xs =
     let start : Bytes = line (m + 4) in
-    let comments : Bytes = above (m + 4) (comments_of x).before in
+    let comments : Bytes = margin_lines (m + 4) (comments_of x).before in
     let text : Bytes = text_of x (m + 4) in
-    let suffix : Bytes = behind (comments_of x).suffix in
+    let suffix : Bytes = suffix_text (comments_of x).suffix in
     let rest : Bytes = stacked_text m closer end_ xs in
     ap (λ t. ((start ++ comments) ++ text) ++ (comma ∷ t)) (suffix_first m (comments_of x).suffix closer end_ xs) ∙
     (append_assoc (start ++ comments) text (comma ∷ (suffix ++ rest)) ∙
@@ -124,13 +124,13 @@ six_written : (a b d x y z : Bytes) → ((((a ++ b) ++ d) ++ x) ++ y) ++ z ≡ a
 six_written a b d x y z = append_assoc (((a ++ b) ++ d) ++ x) y z ∙ (append_assoc ((a ++ b) ++ d) x (y ++ z) ∙ (append_assoc (a ++ b) d (x ++ (y ++ z)) ∙ append_assoc a b (d ++ (x ++ (y ++ z)))))
 
 pub item_written : (out out1 out2 out3 out4 : Bytes) (m n : ℕ) (x : Expr) (comments : HostComments) (texts : List Bytes) (suffix : Option Bytes) → comments ≡ comments_of x → n ≡ m + 4 → out1 ≡ out ++ line n →
-    texts ≡ comments.before → out2 ≡ out1 ++ above n texts → out3 ≡ out2 ++ text_of x n → out4 ≡ out3 ++ comma ∷ [] → suffix ≡ comments.suffix → out4 ++ behind suffix ≡ out ++ stacked_item_text m x
+    texts ≡ comments.before → out2 ≡ out1 ++ margin_lines n texts → out3 ≡ out2 ++ text_of x n → out4 ≡ out3 ++ comma ∷ [] → suffix ≡ comments.suffix → out4 ++ suffix_text suffix ≡ out ++ stacked_item_text m x
 item_written out out1 out2 out3 out4 m n x comments texts suffix has deeper_ line_ texts_ above_ text_ comma_ suffix_ =
-    ap (λ t. t ++ behind suffix) (comma_ ∙ ap (λ t. t ++ comma ∷ []) (text_ ∙ ap (λ t. t ++ text_of x n) (above_ ∙ ap (λ t. t ++ above n texts) line_))) ∙
-    (six_written out (line n) (above n texts) (text_of x n) (comma ∷ []) (behind suffix) ∙
-    (ap (λ k. out ++ (line k ++ (above k texts ++ (text_of x k ++ (comma ∷ behind suffix))))) deeper_ ∙
-    (ap (λ ts. out ++ (line (m + 4) ++ (above (m + 4) ts ++ (text_of x (m + 4) ++ (comma ∷ behind suffix))))) (texts_ ∙ ap (λ z. z.before) has) ∙
-    ap (λ t. out ++ (line (m + 4) ++ (above (m + 4) (comments_of x).before ++ (text_of x (m + 4) ++ (comma ∷ behind t))))) (suffix_ ∙ ap (λ z. z.suffix) has))))
+    ap (λ t. t ++ suffix_text suffix) (comma_ ∙ ap (λ t. t ++ comma ∷ []) (text_ ∙ ap (λ t. t ++ text_of x n) (above_ ∙ ap (λ t. t ++ margin_lines n texts) line_))) ∙
+    (six_written out (line n) (margin_lines n texts) (text_of x n) (comma ∷ []) (suffix_text suffix) ∙
+    (ap (λ k. out ++ (line k ++ (margin_lines k texts ++ (text_of x k ++ (comma ∷ suffix_text suffix))))) deeper_ ∙
+    (ap (λ ts. out ++ (line (m + 4) ++ (margin_lines (m + 4) ts ++ (text_of x (m + 4) ++ (comma ∷ suffix_text suffix))))) (texts_ ∙ ap (λ z. z.before) has) ∙
+    ap (λ t. out ++ (line (m + 4) ++ (margin_lines (m + 4) (comments_of x).before ++ (text_of x (m + 4) ++ (comma ∷ suffix_text t))))) (suffix_ ∙ ap (λ z. z.suffix) has))))
 
 pub sequence_written : (out out1 out2 body : Bytes) (m opener : ℕ) (xs ys : List Expr) → xs ≡ ys → out1 ≡ out ++ head_text m xs → out2 ≡ out1 ++ opener ∷ [] → out2 ++ body ≡ out ++ (head_text m ys ++ (opener ∷ body))
 sequence_written out out1 out2 body m opener xs ys is head_ opener_ =

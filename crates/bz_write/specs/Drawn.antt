@@ -11,8 +11,8 @@ use Rattle.bz_value.specs.declared.value.Item.{Item}
 use Rattle.bz_value.specs.declared.value.Item.TheVariants as i
 use Rattle.bz_items.specs.Characters.{Bytes, comma, line_feed}
 use Rattle.bz_value.specs.Proper.{comments_of}
-use Rattle.bz_write.specs.Layout.{Piece, mark, part, laid, is_broken, is_tuple, stacked, joined, behind}
-use Rattle.bz_write.specs.Written.{comment_lines, between}
+use Rattle.bz_write.specs.Layout.{Piece, mark, part, laid, is_broken, is_tuple, stacked, joined, suffix_text}
+use Rattle.bz_write.specs.Written.{comment_lines, gap_between}
 
 abbrev pub piece_part : Piece (Bytes → ℕ → Part) → Part
 piece_part (mark gap token) = p.Leaf (record { class = c.Mark; gap = gap; token = token })
@@ -41,8 +41,8 @@ abbrev pub comma_behind : Bool → Bool → List (Piece (Bytes → ℕ → Part)
 comma_behind last one = if last && not one then [] else (mark [] (comma ∷ []) ∷ [])
 
 -- what stands in the sequence of a form, behind its opening bracket
-abbrev pub body : Form → ℕ → ℕ → List (Piece (Bytes → ℕ → Part))
-body f m closer =
+abbrev pub drawn_body : Form → ℕ → ℕ → List (Piece (Bytes → ℕ → Part))
+drawn_body f m closer =
     if is_broken f.kind f.seq.split f.seq.items f.seq.end_ then stacked m None closer f.seq.end_ (drawings f.seq.items)
     else joined m [] closer (is_tuple f.kind && nat_eq (length f.seq.items) 1) (drawings f.seq.items)
 
@@ -50,13 +50,13 @@ body f m closer =
 abbrev pub line_part : Bytes → Expr → Part
 line_part gap x = p.Node (record {
   kind = k.Line;
-  parts = part_of x (gap ++ comment_lines (comments_of x).before) 0 ∷ p.Leaf (record { class = c.Newline; gap = behind (comments_of x).suffix; token = line_feed ∷ [] }) ∷ [];
+  parts = part_of x (gap ++ comment_lines (comments_of x).before) 0 ∷ p.Leaf (record { class = c.Newline; gap = suffix_text (comments_of x).suffix; token = line_feed ∷ [] }) ∷ [];
 })
 
 -- the blank line before the next item
 abbrev pub before_next : Item → List Item → Bytes
 before_next item [] = []
-before_next item (next ∷ items) = between item next
+before_next item (next ∷ items) = gap_between item next
 
 -- an item's own line, and the gap that it leaves to what follows
 abbrev pub own_lines : Bytes → Item → List Part

@@ -22,14 +22,14 @@ ended m [] = line m
 ended m (text ∷ texts) = line (m + 4) ++ (text ++ ended m texts)
 
 -- comments above an item, each on its own line at the margin
-abbrev pub above : ℕ → List Bytes → Bytes
-above m [] = []
-above m (text ∷ texts) = text ++ (line m ++ above m texts)
+abbrev pub margin_lines : ℕ → List Bytes → Bytes
+margin_lines m [] = []
+margin_lines m (text ∷ texts) = text ++ (line m ++ margin_lines m texts)
 
 -- a suffix stands after two spaces
-abbrev pub behind : Option Bytes → Bytes
-behind None = []
-behind (Some text) = space ∷ space ∷ text
+abbrev pub suffix_text : Option Bytes → Bytes
+suffix_text None = []
+suffix_text (Some text) = space ∷ space ∷ text
 
 -- ---- broken sequences
 
@@ -114,9 +114,9 @@ module _ {X : Type 0} where
   -- broken: each item at m + 4 on lines of its own, its comments above it, then a comma, then its suffix, which stands
   -- in the next gap; end comments; the closing bracket at m
   abbrev pub stacked : ℕ → Option Bytes → ℕ → List Bytes → List (Expr × X) → List (Piece X)
-  stacked m suffix closer end_ [] = mark (behind suffix ++ ended m end_) (closer ∷ []) ∷ []
+  stacked m suffix closer end_ [] = mark (suffix_text suffix ++ ended m end_) (closer ∷ []) ∷ []
   stacked m suffix closer end_ (x ∷ xs) =
-      part (behind suffix ++ (line (m + 4) ++ above (m + 4) (comments_of x.0).before)) (m + 4) x.1 ∷ mark [] (comma ∷ []) ∷ stacked m (comments_of x.0).suffix closer end_ xs
+      part (suffix_text suffix ++ (line (m + 4) ++ margin_lines (m + 4) (comments_of x.0).before)) (m + 4) x.1 ∷ mark [] (comma ∷ []) ∷ stacked m (comments_of x.0).suffix closer end_ xs
 
   abbrev pub laid_in : Frame → Kind → Bool → Bool → Bytes → ℕ → List (Expr × X) → List (Expr × X) → List Bytes → List (Piece X)
   laid_in row kind split open_ gap m parts items end_ = rowed kind open_ m gap m parts

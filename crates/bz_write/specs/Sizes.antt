@@ -6,7 +6,7 @@ use Rattle.bz_value.specs.declared.value.Form.{Form}
 use Rattle.bz_value.specs.Frames.{Frame, row, sequence, frame}
 use Rattle.bz_items.specs.Characters.{Bytes}
 use Rattle.bz_value.specs.Proper.{comments_of}
-use Rattle.bz_write.specs.Layout.{line, above, ended, behind, is_broken, is_tuple, gap_behind, margin_behind}
+use Rattle.bz_write.specs.Layout.{line, margin_lines, ended, suffix_text, is_broken, is_tuple, gap_behind, margin_behind}
 use Rattle.bz_write.specs.Written.{text_of}
 
 -- the rest of a row: its parts, and the gap behind each
@@ -31,7 +31,7 @@ joined_size m one (x ∷ xs) = length (text_of x m) + (comma_size one xs + joine
 
 -- an item on lines of its own: its comments above it, a comma, its suffix
 abbrev pub stacked_item_size : ℕ → Expr → ℕ
-stacked_item_size m x = length (line (m + 4)) + (length (above (m + 4) (comments_of x).before) + (length (text_of x (m + 4)) + (1 + length (behind (comments_of x).suffix))))
+stacked_item_size m x = length (line (m + 4)) + (length (margin_lines (m + 4) (comments_of x).before) + (length (text_of x (m + 4)) + (1 + length (suffix_text (comments_of x).suffix))))
 
 -- the rest of the items on lines of their own, the end comments, and the closing bracket
 abbrev pub stacked_size : ℕ → List Bytes → List Expr → ℕ

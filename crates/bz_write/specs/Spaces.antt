@@ -23,15 +23,15 @@ brackets_and_separators = codes "(" ∷ codes ")" ∷ codes "[" ∷ codes "]" �
 abbrev pub lone : Terminal → Bool
 lone t = from_table brackets_and_separators t
 
-abbrev pub dotted : Terminal → Bool
-dotted t = from_table (codes "." ∷ []) t
+abbrev pub is_dot_terminal : Terminal → Bool
+is_dot_terminal t = from_table (codes "." ∷ []) t
 
 -- the marks that stand right before their operand: `-x`, `*x`; of a parameter `*x` and `**x`
-abbrev pub is_prefix : Kind → List ℕ → Bool
-is_prefix k.Unary t = true
-is_prefix k.Star t = true
-is_prefix k.Param t = in_table t (codes "*" ∷ codes "**" ∷ [])
-is_prefix _ t = false
+abbrev pub is_prefix_mark : Kind → List ℕ → Bool
+is_prefix_mark k.Unary t = true
+is_prefix_mark k.Star t = true
+is_prefix_mark k.Param t = in_table t (codes "*" ∷ codes "**" ∷ [])
+is_prefix_mark _ t = false
 
 -- the kinds whose colon has a space behind it
 abbrev pub is_colon_spaced : Kind → Bool
@@ -41,12 +41,12 @@ is_colon_spaced _ = false
 
 -- One space stands around operators, `=`, augmented forms and keywords, behind a comma, and behind the colon of an Entry and of a Lambda.
 abbrev pub space_behind : Kind → Terminal → Bool
-space_behind kind (s.this c.Mark t) = bytes_eq t (codes ",") || ((bytes_eq t (codes ":") && is_colon_spaced kind) || not (lone (s.this c.Mark t) || (dotted (s.this c.Mark t) || is_prefix kind t)))
+space_behind kind (s.this c.Mark t) = bytes_eq t (codes ",") || ((bytes_eq t (codes ":") && is_colon_spaced kind) || not (lone (s.this c.Mark t) || (is_dot_terminal (s.this c.Mark t) || is_prefix_mark kind t)))
 space_behind kind (s.this c.Keyword t) = not (bytes_eq t (codes "load"))
 space_behind kind _ = false
 
 abbrev pub space_before : Kind → Terminal → Bool
-space_before kind (s.this c.Mark t) = not (lone (s.this c.Mark t) || (dotted (s.this c.Mark t) || is_prefix kind t))
+space_before kind (s.this c.Mark t) = not (lone (s.this c.Mark t) || (is_dot_terminal (s.this c.Mark t) || is_prefix_mark kind t))
 space_before kind (s.this c.Keyword t) = true
 space_before kind _ = false
 
@@ -67,13 +67,13 @@ abbrev pub is_value : Part → Bool
 is_value (p.Leaf l) = is_word l.class
 is_value (Node' kind z r) = true
 
-abbrev pub behind : Kind → Part → Bool
-behind kind (p.Leaf l) = space_behind kind (s.this l.class l.token)
-behind kind (Node' k z r) = false
+abbrev pub is_spaced_after : Kind → Part → Bool
+is_spaced_after kind (p.Leaf l) = space_behind kind (s.this l.class l.token)
+is_spaced_after kind (Node' k z r) = false
 
-abbrev pub before : Kind → Part → Bool
-before kind (p.Leaf l) = space_before kind (s.this l.class l.token)
-before kind (Node' k z r) = false
+abbrev pub is_spaced_before : Kind → Part → Bool
+is_spaced_before kind (p.Leaf l) = space_before kind (s.this l.class l.token)
+is_spaced_before kind (Node' k z r) = false
 
 abbrev pub is_lone : Part → Bool
 is_lone (p.Leaf l) = lone (s.this l.class l.token)
@@ -86,7 +86,7 @@ is_number_leaf (Node' kind z r) = false
 -- One space stands between two neighbours in a node of a kind: behind a token that has one behind it, but not before a
 -- bracket, a comma or a colon; before a token that has one before it; and between two parts that are no tokens of their row.
 abbrev pub apart : Kind → Part → Part → Bool
-apart kind x y = (behind kind x && not (is_lone y)) || (before kind y || (is_value x && is_value y))
+apart kind x y = (is_spaced_after kind x && not (is_lone y)) || (is_spaced_before kind y || (is_value x && is_value y))
 
 -- a number right before a dot has a space behind it, since `1.` is a number
 abbrev pub number_dot : Part → Part → Bool

@@ -6,21 +6,21 @@ use Rattle.bz_value.specs.declared.value.Item.TheVariants as i
 use Rattle.bz_items.specs.Characters.{Bytes}
 use Rattle.bz_write.specs.Drawn.{left_gap, before_next, lines_from}
 
-abbrev pub is_statement : Item → Bool
-is_statement (i.Block texts) = false
-is_statement (i.Stmt x) = true
+abbrev pub is_statement_item : Item → Bool
+is_statement_item (i.Block texts) = false
+is_statement_item (i.Stmt x) = true
 
 -- how many lines items have: one for each statement
-abbrev pub lines_in : List Item → ℕ
-lines_in [] = 0
-lines_in (i.Block texts ∷ items) = lines_in items
-lines_in (i.Stmt x ∷ items) = suc (lines_in items)
+abbrev pub line_count_in : List Item → ℕ
+line_count_in [] = 0
+line_count_in (i.Block texts ∷ items) = line_count_in items
+line_count_in (i.Stmt x ∷ items) = suc (line_count_in items)
 
 -- the gap before what stands behind so many items, where this gap stands before the first of them
-abbrev pub gap_at : Bytes → ℕ → List Item → Bytes
-gap_at gap zero items = gap
-gap_at gap (suc n) [] = gap
-gap_at gap (suc n) (item ∷ items) = gap_at (left_gap gap item ++ before_next item items) n items
+abbrev pub statement_gap : Bytes → ℕ → List Item → Bytes
+statement_gap gap zero items = gap
+statement_gap gap (suc n) [] = gap
+statement_gap gap (suc n) (item ∷ items) = statement_gap (left_gap gap item ++ before_next item items) n items
 
 -- the lines of the items, and the end, but for the first one: whatever the gap before that is, these are the same
 abbrev pub lines_behind : List Item → List Part

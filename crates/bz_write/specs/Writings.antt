@@ -7,7 +7,7 @@ use Rattle.bz_value.specs.declared.value.Form.{Form}
 use Rattle.bz_items.specs.Characters.{Bytes, comma, space}
 use Rattle.bz_value.specs.Proper.{comments_of}
 use Rattle.bz_write.specs.declared.brackets.Brackets.{Brackets}
-use Rattle.bz_write.specs.Layout.{rowed, joined, stacked, line, above, behind, is_broken, is_tuple}
+use Rattle.bz_write.specs.Layout.{rowed, joined, stacked, line, margin_lines, suffix_text, is_broken, is_tuple}
 use Rattle.bz_write.specs.Written.{piece_text, text_of}
 
 -- each expression with its reading as a text
@@ -33,7 +33,7 @@ joined_text m closer one xs = flat_map piece_text (joined m [] closer one (writi
 
 -- an item on lines of its own: its comments above it, a comma, its suffix
 abbrev pub stacked_item_text : ℕ → Expr → Bytes
-stacked_item_text m x = line (m + 4) ++ (above (m + 4) (comments_of x).before ++ (text_of x (m + 4) ++ (comma ∷ behind (comments_of x).suffix)))
+stacked_item_text m x = line (m + 4) ++ (margin_lines (m + 4) (comments_of x).before ++ (text_of x (m + 4) ++ (comma ∷ suffix_text (comments_of x).suffix)))
 
 -- items on lines of their own, end comments, and the closing bracket
 abbrev pub stacked_text : ℕ → ℕ → List Bytes → List Expr → Bytes

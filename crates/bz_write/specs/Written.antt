@@ -8,7 +8,7 @@ use Rattle.bz_value.specs.declared.value.Item.{Item}
 use Rattle.bz_value.specs.declared.value.Item.TheVariants as i
 use Rattle.bz_items.specs.Characters.{Bytes, line_feed}
 use Rattle.bz_value.specs.Proper.{comments_of}
-use Rattle.bz_write.specs.Layout.{Piece, mark, part, laid, behind}
+use Rattle.bz_write.specs.Layout.{Piece, mark, part, laid, suffix_text}
 use Rattle.bz_value.specs.Empty.{is_empty}
 
 abbrev pub piece_text : Piece (ℕ → Bytes) → Bytes
@@ -32,7 +32,7 @@ comment_lines (text ∷ texts) = text ++ (line_feed ∷ comment_lines texts)
 -- A Block is its lines; a statement stands on lines of its own, comments above, its suffix after two spaces, a newline.
 abbrev pub item_text : Item → Bytes
 item_text (i.Block lines) = comment_lines lines
-item_text (i.Stmt x) = comment_lines (comments_of x).before ++ (text_of x 0 ++ (behind (comments_of x).suffix ++ line_feed ∷ []))
+item_text (i.Stmt x) = comment_lines (comments_of x).before ++ (text_of x 0 ++ (suffix_text (comments_of x).suffix ++ line_feed ∷ []))
 
 abbrev pub is_load_kind : Kind → Bool
 is_load_kind k.Load = true
@@ -51,14 +51,14 @@ is_assign (Token t) = false
 is_assign (Form' kind s parts s' items end_ split open_ comments) = is_assign_kind kind
 
 -- One blank line between two items; none where both are Loads or both are Assigns and the later has no comment above.
-abbrev pub between : Item → Item → Bytes
-between (i.Stmt x) (i.Stmt y) = if ((is_load x && is_load y) || (is_assign x && is_assign y)) && is_empty (comments_of y).before then [] else (line_feed ∷ [])
-between _ _ = line_feed ∷ []
+abbrev pub gap_between : Item → Item → Bytes
+gap_between (i.Stmt x) (i.Stmt y) = if ((is_load x && is_load y) || (is_assign x && is_assign y)) && is_empty (comments_of y).before then [] else (line_feed ∷ [])
+gap_between _ _ = line_feed ∷ []
 
 -- the items from here on, behind an item
 abbrev pub behind_item : Item → List Item → Bytes
 behind_item item [] = []
-behind_item item (next ∷ items) = between item next ++ (item_text next ++ behind_item next items)
+behind_item item (next ∷ items) = gap_between item next ++ (item_text next ++ behind_item next items)
 
 -- the layout's text of a file value
 abbrev pub layout : List Item → Bytes

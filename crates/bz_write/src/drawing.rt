@@ -2,7 +2,7 @@
 ghost use Rattle.std.specs.Prelude.{◌≡◌, ◌++◌, ◌∷◌, [], map, None, OnOk, IfOk};
 ghost use Rattle.bz_value.specs.Empty.{is_empty};
 ghost use Rattle.bz_write.specs.Layout as layout;
-ghost use Rattle.bz_write.specs.Drawn.{piece_part, part_of, parts_in, drawings, body, comma_behind};
+ghost use Rattle.bz_write.specs.Drawn.{piece_part, part_of, parts_in, drawings, drawn_body, comma_behind};
 
 use crate::brackets::brackets_of_kind;
 use crate::breaks::is_broken;
@@ -117,7 +117,7 @@ fn draw_sequence(
     closer: u8,
     parts: &mut Items<Part>,
 ) -> Result<(), Memory>
-    ensures { OnOk result (parts.new ≡ parts.old ++ map piece_part (body form.now margin closer)) }
+    ensures { OnOk result (parts.new ≡ parts.old ++ map piece_part (drawn_body form.now margin closer)) }
 {
     let items = form.seq.items.as_slice();
     if is_broken(form) {

@@ -1,7 +1,7 @@
 //! Gaps: lines at a margin, comments above, behind and below.
 ghost use Rattle.std.specs.Prelude.{◌≡◌, ◌++◌, ◌+◌, OnOk, IfOk};
 ghost use Rattle.std.specs.Option.{option_copied};
-ghost use Rattle.bz_write.specs.Layout.{line, above, behind, ended};
+ghost use Rattle.bz_write.specs.Layout.{line, margin_lines, suffix_text, ended};
 ghost use Rattle.bz_write.specs.Written.{comment_lines};
 
 use bz_items::{Memory, Text};
@@ -27,7 +27,7 @@ pub fn push_line(out: &mut Vec<u8>, margin: usize) -> Result<(), Memory>
 
 /// Appends comments, each on its own line at the margin, above an item.
 pub fn push_above(out: &mut Vec<u8>, texts: &[Text], margin: usize) -> Result<(), Memory>
-    ensures { OnOk result (out.new.items ≡ out.old.items ++ above margin texts.now) }
+    ensures { OnOk result (out.new.items ≡ out.old.items ++ margin_lines margin texts.now) }
 {
     for text in texts {
         out.extend_from_slice(text.as_slice())?;
@@ -50,7 +50,7 @@ pub fn push_ended(out: &mut Vec<u8>, texts: &[Text], margin: usize) -> Result<()
 
 /// Appends a suffix after two spaces. The error: a growth was refused.
 pub fn push_behind(out: &mut Vec<u8>, suffix: Option<&Text>) -> Result<(), Memory>
-    ensures { OnOk result (out.new.items ≡ out.old.items ++ behind (option_copied suffix.entry)) }
+    ensures { OnOk result (out.new.items ≡ out.old.items ++ suffix_text (option_copied suffix.entry)) }
 {
     if let Some(text) = suffix {
         out.extend_from_slice(b"  ")?;

@@ -31,7 +31,7 @@ fn is_assign(expr: &Expr) -> bool
 
 /// Whether a statement stands right below another, with no blank line between.
 pub fn is_close(above: &Expr, below: &Expr) -> bool
-    ensures { (if result then [] else (line_feed ∷ [])) ≡ written.between (Item.Stmt above.now) (Item.Stmt below.now) }
+    ensures { (if result then [] else (line_feed ∷ [])) ≡ written.gap_between (Item.Stmt above.now) (Item.Stmt below.now) }
 {
     if !below.comments().before().is_empty() {
         return false;

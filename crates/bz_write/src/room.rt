@@ -1,7 +1,7 @@
 //! How much room the parts of a text leave.
 ghost use Rattle.std.specs.Prelude.{◌≡◌, ◌+◌, ◌<◌, length, IfOk};
 ghost use Rattle.std.specs.Option.{option_copied};
-ghost use Rattle.bz_write.specs.Layout.{line, above, behind, ended};
+ghost use Rattle.bz_write.specs.Layout.{line, margin_lines, suffix_text, ended};
 ghost use Rattle.bz_write.specs.RowGaps.{written_gap};
 ghost use Rattle.bz_write.specs.Written.{comment_lines};
 
@@ -61,8 +61,8 @@ pub fn less_line(room: usize, margin: usize) -> Result<usize, NoRoom>
 /// What is left of the room behind the comments above an item, each on its own line at the margin.
 #[tactic(auto, using(crate::proofs::Rooms::above_next))]
 pub fn less_above(room: usize, texts: &[Text], margin: usize) -> Result<usize, NoRoom>
-    ensures ok { IfOk result (λ left. length (above margin texts.now) + left ≡ room) }
-    ensures longer { result ≡ Err NoRoom.Longer → room < length (above margin texts.now) }
+    ensures ok { IfOk result (λ left. length (margin_lines margin texts.now) + left ≡ room) }
+    ensures longer { result ≡ Err NoRoom.Longer → room < length (margin_lines margin texts.now) }
 {
     let mut left = room;
     for text in texts {
@@ -89,8 +89,8 @@ pub fn less_ended(room: usize, texts: &[Text], margin: usize) -> Result<usize, N
 
 /// What is left of the room behind a suffix after two spaces.
 pub fn less_behind(room: usize, suffix: Option<&Text>) -> Result<usize, NoRoom>
-    ensures ok { IfOk result (λ left. length (behind (option_copied suffix.entry)) + left ≡ room) }
-    ensures longer { result ≡ Err NoRoom.Longer → room < length (behind (option_copied suffix.entry)) }
+    ensures ok { IfOk result (λ left. length (suffix_text (option_copied suffix.entry)) + left ≡ room) }
+    ensures longer { result ≡ Err NoRoom.Longer → room < length (suffix_text (option_copied suffix.entry)) }
 {
     match suffix {
         None => Ok(room),

@@ -15,14 +15,14 @@ fn is_lone_mark(mark: &[u8]) -> bool
 }
 
 fn is_dot_mark(mark: &[u8]) -> bool
-    ensures { result ≡ spaces.dotted (shapes.this Class.Mark mark.now) }
+    ensures { result ≡ spaces.is_dot_terminal (shapes.this Class.Mark mark.now) }
 {
     matches!(mark, b".")
 }
 
 /// Whether the mark in a row of the kind stands right before its operand.
 fn is_prefix(kind: Kind, mark: &[u8]) -> bool
-    ensures { result ≡ spaces.is_prefix kind mark.now }
+    ensures { result ≡ spaces.is_prefix_mark kind mark.now }
 {
     match kind {
         Kind::Unary | Kind::Star => true,
@@ -47,14 +47,14 @@ fn is_any(first: bool, second: bool, third: bool) -> bool
 
 /// Whether the mark of a row of the kind has no space at either side.
 fn is_tight(kind: Kind, mark: &[u8]) -> bool
-    ensures { result ≡ (spaces.lone (shapes.this Class.Mark mark.now) || (spaces.dotted (shapes.this Class.Mark mark.now) || spaces.is_prefix kind mark.now)) }
+    ensures { result ≡ (spaces.lone (shapes.this Class.Mark mark.now) || (spaces.is_dot_terminal (shapes.this Class.Mark mark.now) || spaces.is_prefix_mark kind mark.now)) }
 {
     is_any(is_lone_mark(mark), is_dot_mark(mark), is_prefix(kind, mark))
 }
 
 /// Whether a space stands behind the expression.
 fn has_space_behind(kind: Kind, expr: &Expr) -> bool
-    ensures { result ≡ spaces.behind kind (root expr.now) }
+    ensures { result ≡ spaces.is_spaced_after kind (root expr.now) }
 {
     let Expr::Token(token) = expr else {
         return false;
@@ -73,7 +73,7 @@ fn has_space_behind(kind: Kind, expr: &Expr) -> bool
 
 /// Whether a space stands before the expression.
 fn has_space_before(kind: Kind, expr: &Expr) -> bool
-    ensures { result ≡ spaces.before kind (root expr.now) }
+    ensures { result ≡ spaces.is_spaced_before kind (root expr.now) }
 {
     let Expr::Token(token) = expr else {
         return false;

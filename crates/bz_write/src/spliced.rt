@@ -24,7 +24,7 @@ pub struct Respliced {
 }
 
 fn is_statement(item: &Item) -> bool
-    ensures { result ≡ windows.is_statement item.now }
+    ensures { result ≡ windows.is_statement_item item.now }
 {
     matches!(item, Item::Stmt(_))
 }
@@ -32,7 +32,7 @@ fn is_statement(item: &Item) -> bool
 /// How many lines the items have, the end not counted.
 #[tactic(auto, using(crate::proofs::Windows::counted_next))]
 fn count_lines(items: &[Item]) -> usize
-    ensures { result ≡ windows.lines_in items.now }
+    ensures { result ≡ windows.line_count_in items.now }
 {
     let mut count = 0;
     for item in items {
@@ -46,7 +46,7 @@ fn count_lines(items: &[Item]) -> usize
 fn last_statement(items: &[Item], from: usize) -> usize
     requires { from ≤ length items.now }
     ensures within { result ≤ from }
-    ensures gap { windows.gap_at [] (from - result) (drop result items.now) ≡ windows.gap_at [] from items.now }
+    ensures gap { windows.statement_gap [] (from - result) (drop result items.now) ≡ windows.statement_gap [] from items.now }
 {
     let mut at = from;
     while at > 0 {
@@ -61,7 +61,7 @@ fn last_statement(items: &[Item], from: usize) -> usize
 /// The gap before the item at a place, or before the end.
 fn gap_before(alloc: Global, items: &[Item], from: usize) -> Result<Vec<u8>, Memory>
     requires { from ≤ length items.now }
-    ensures { IfOk result (λ gap. gap.items ≡ windows.gap_at [] from items.now) }
+    ensures { IfOk result (λ gap. gap.items ≡ windows.statement_gap [] from items.now) }
 {
     let mut gap = Vec::new(alloc);
     for at in last_statement(items, from)..from {

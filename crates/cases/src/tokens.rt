@@ -1,7 +1,7 @@
 //! Tokens and leaves.
 use crate::trees::{apart, told};
 use bz_items::Memory;
-use bz_lex::{Class, Leaf, ReadFault, Reading, lex, place_of, read_leaves};
+use bz_lex::{Class, Leaf, ReadFault, Reading, lex, line_and_column, read_leaves};
 use bz_token::token;
 use sheets::{Case, CaseFault, Page};
 use std::alloc::Global;
@@ -116,7 +116,7 @@ fn place_in(case: &Case) -> Result<String, CaseFault> {
     if offset > text.len() {
         return Err(CaseFault::Sheet("an offset past the end"));
     }
-    let (line, column) = place_of(text, offset);
+    let (line, column) = line_and_column(text, offset);
     Ok(format!(in case.alloc; "{line}:{column}")?)
 }
 

@@ -3,7 +3,8 @@ use Rattle.std.specs.Prelude.{Option}
 use Rattle.std.specs.List.{find, flat_map}
 use Rattle.std.specs.Option.{option_or}
 use Rattle.bz_value.specs.declared.value.Expr.{Expr}
-use Rattle.bz_comment.specs.Changes.{is_sought, listed}
+use Rattle.bz_attribute.specs.Lists.{listed}
+use Rattle.bz_comment.specs.Changes.{is_sought}
 use Rattle.bz_comment.proofs.SoughtItems.{found_from}
 use Rattle.bz_comment.proofs.seeking.first_in_operands.Goals as goal
 

@@ -1,6 +1,7 @@
 use Rattle.std.proofs.Common.{◌≡◌, drop}
 use Rattle.std.specs.List.{find, flat_map}
-use Rattle.bz_comment.specs.Changes.{is_sought, listed}
+use Rattle.bz_attribute.specs.Lists.{listed}
+use Rattle.bz_comment.specs.Changes.{is_sought}
 use Rattle.bz_comment.proofs.seeking.first_in_operands.Given as goal
 
 -- what is found in the lists that are left is what is found in all

@@ -1,6 +1,6 @@
 use Rattle.std.proofs.Common.{◌≡◌, ◌∙◌, List, [], length, inl, inr, ap, refl, sym, subst, Option}
 use Rattle.bz_items.specs.Characters.{Bytes}
-use Rattle.bz_workspace.specs.Packages.{Used, place_of}
+use Rattle.bz_workspace.specs.Packages.{Used, package_number}
 use Rattle.bz_workspace.specs.declared.opening.Opening.{Opening}
 use Rattle.bz_ports.specs.declared.exit.Cut.TheVariants as cut
 use Rattle.bz_engine.specs.Cuts.{IsLeft}
@@ -31,10 +31,10 @@ returns-clause-uses g c = λ can whole known left.
     let new = c.open.new.self in
     let name = c.args.package.now in
     let remaining = g.R.Source.remaining c.args.input.now in
-    elim (is_found (place_of name old)) [
+    elim (is_found (package_number name old)) [
       | inl none ↦
           let other = λ (is : name ≡ input_package).
-          c.wants_input.ensures.other c.if-wants_input.false is (sym (ap (λ (n : Bytes). place_of n old) is) ∙ none) in
+          c.wants_input.ensures.other c.if-wants_input.false is (sym (ap (λ (n : Bytes). package_number n old) is) ∙ none) in
           elim can [
             | inl honest ↦
                 let done = c.open.ensures.first refl honest whole none in (
@@ -64,8 +64,8 @@ returns-clause-folder g c = λ can.
     let name = c.args.package.now in
     elim can [
       | inl honest ↦ c.open.ensures.folder honest
-      | inr is ↦ elim (is_found (place_of name old)) [
-        | inl none ↦ absurd (c.wants_input.ensures.other c.if-wants_input.false is (sym (ap (λ (n : Bytes). place_of n old) is) ∙ none))
+      | inr is ↦ elim (is_found (package_number name old)) [
+        | inl none ↦ absurd (c.wants_input.ensures.other c.if-wants_input.false is (sym (ap (λ (n : Bytes). package_number n old) is) ∙ none))
         | inr some ↦ ap g.F.Files.folder (c.open.ensures.again some.0 some.1).2
       ]
     ]
@@ -80,8 +80,8 @@ pub returns-clause-input : goal.returns-clause-input
 returns-clause-input g c = λ is.
     let old = c.args.workspace.now in
     let name = c.args.package.now in
-    elim (is_found (place_of name old)) [
-      | inl none ↦ absurd (c.wants_input.ensures.other c.if-wants_input.false is (sym (ap (λ (n : Bytes). place_of n old) is) ∙ none))
+    elim (is_found (package_number name old)) [
+      | inl none ↦ absurd (c.wants_input.ensures.other c.if-wants_input.false is (sym (ap (λ (n : Bytes). package_number n old) is) ∙ none))
       | inr some ↦
           let done = c.open.ensures.again some.0 some.1 in
           opens_again some.0 old c.open.new.self c.open.result.place c.open.result.cut (ap (λ (o : Opening). o.place) done.0)

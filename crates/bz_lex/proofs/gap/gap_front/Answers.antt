@@ -1,6 +1,6 @@
 use Rattle.std.proofs.Common.{◌≡◌, ◌∙◌, ℕ, length, take, sym, ap, arith}
 use Rattle.bz_lex.specs.declared.gap.GapState.TheVariants.{Open}
-use Rattle.bz_lex.specs.GapStates.{after}
+use Rattle.bz_lex.specs.GapStates.{gap_state_after}
 use Rattle.bz_lex.proofs.Gaps.{after_more, after_run}
 use Rattle.bz_lex.proofs.gap.gap_front.Goals as goal
 
@@ -13,4 +13,4 @@ bytes-preserved c = record {
 pub returns-clause-taken : goal.returns-clause-taken
 returns-clause-taken c =
     let i : c.bytes.at ≡ length c.args.text.now = omega (arith, c.bytes.invariant.within, c.bytes-test.false) in
-    ap (λ (n : ℕ). after c.args.newlines Open (take n c.args.text.now)) (sym i) ∙ c.bytes.invariant.taken
+    ap (λ (n : ℕ). gap_state_after c.args.newlines Open (take n c.args.text.now)) (sym i) ∙ c.bytes.invariant.taken

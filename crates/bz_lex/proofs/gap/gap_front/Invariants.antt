@@ -1,11 +1,11 @@
 use Rattle.std.proofs.Common.{◌≡◌, ◌≤◌, ◌-◌, Some, take, length}
 use Rattle.bz_lex.specs.declared.gap.GapState.TheVariants.{Open}
-use Rattle.bz_lex.specs.GapStates.{after}
+use Rattle.bz_lex.specs.GapStates.{gap_state_after}
 use Rattle.bz_lex.proofs.gap.gap_front.Given as goal
 
 abbrev pub invariant-bytes : goal.invariant-bytes
 invariant-bytes l = record {
-  taken : after l.newlines Open (take l.at l.text) ≡ Some l.state;
+  taken : gap_state_after l.newlines Open (take l.at l.text) ≡ Some l.state;
   within : l.at ≤ length l.text;
 }
 

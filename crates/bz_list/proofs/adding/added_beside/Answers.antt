@@ -1,7 +1,7 @@
 use Rattle.std.proofs.Common.{ap, ◌∙◌}
 use Rattle.bz_list.specs.Adding.{added_to}
 use Rattle.bz_attribute.specs.Lists.{items_in}
-use Rattle.bz_list.specs.KnownValues.{with_items}
+use Rattle.bz_list.specs.KnownValues.{with_known_items}
 use Rattle.bz_list.proofs.AddedItems.{added_there}
 use Rattle.bz_list.proofs.adding.added_beside.Goals as goal
 
@@ -11,5 +11,5 @@ returns c =
     let name = c.args.name.now in
     let there = items_in c.args.value.now in
     c.in_ok-items.ensures
-    ∙ (ap (added_to current name c.args.added) (c.in_ok-insert_value.ensures ∙ ap (with_items there) c.in_ok-known.ensures)
+    ∙ (ap (added_to current name c.args.added) (c.in_ok-insert_value.ensures ∙ ap (with_known_items there) c.in_ok-known.ensures)
     ∙ added_there current name c.args.added there)

@@ -6,14 +6,14 @@ use Rattle.bz_value.specs.declared.value.Item.{Item}
 use Rattle.bz_value.specs.Exchanged.{IsSpliced}
 use Rattle.bz_load.specs.Loads.{is_load_from}
 use Rattle.bz_load.specs.Places.{behind_loads}
-use Rattle.bz_load.specs.Placed.{placed}
+use Rattle.bz_load.specs.Placed.{with_load}
 use Rattle.bz_load.proofs.PutSteps.{put_there, put_new, same_by, other_by, over_by}
 use Rattle.bz_load.proofs.Splices.{put_in}
 use Rattle.bz_load.proofs.adding.put.Goals as goal
 
 pub returns-in_ok-append_to_item-in-Some-clause-items : goal.returns-in_ok-append_to_item-in-Some-clause-items
 returns-in_ok-append_to_item-in-Some-clause-items c =
-    subst (λ (items : List Item). c.from_vec.result ≡ placed c.args.path.now c.args.more.now.items items) c.into_vec-all.ensures
+    subst (λ (items : List Item). c.from_vec.result ≡ with_load c.args.path.now c.args.more.now.items items) c.into_vec-all.ensures
     (c.from_vec.ensures
     ∙ put_there c.args.path.now c.args.more.now.items c.into_vec-all.result.items c.in-Some.at c.index_mut.result.now c.append_to_item.new.item
     (c.in-Some.ensures ∙ ap (position (is_load_from c.args.path.now)) c.as_slice.ensures.value)
@@ -39,7 +39,7 @@ returns-in_ok-append_to_item-in-Some-clause-spliced c =
 
 pub returns-in_ok-at-in-None-clause-items : goal.returns-in_ok-at-in-None-clause-items
 returns-in_ok-at-in-None-clause-items c =
-    subst (λ (items : List Item). c.from_vec-in-None.result ≡ placed c.args.path.now c.args.more.now.items items) c.into_vec-all.ensures
+    subst (λ (items : List Item). c.from_vec-in-None.result ≡ with_load c.args.path.now c.args.more.now.items items) c.into_vec-all.ensures
     (c.from_vec-in-None.ensures
     ∙ put_new c.args.path.now c.args.more.now.items c.into_vec-all.result.items c.insert_behind_loads.new.items.items
     (c.in-None.ensures ∙ ap (position (is_load_from c.args.path.now)) c.as_slice.ensures.value)

@@ -1,11 +1,11 @@
 use Rattle.std.proofs.Common.{Bool, false, List, ◌∷◌, refl, ap, true≢false}
 use Rattle.bz_value.specs.declared.value.Item.{Item}
-use Rattle.bz_load.specs.Fixes.{is_package}
+use Rattle.bz_load.specs.Fixes.{is_package_call}
 use Rattle.bz_load.proofs.laws.worked_loads.Goals as goal
 
 -- whether the second item is a package
 abbrev second : List Item → Bool
-second (x ∷ y ∷ items) = is_package y
+second (x ∷ y ∷ items) = is_package_call y
 second _ = false
 
 pub returns : goal.returns

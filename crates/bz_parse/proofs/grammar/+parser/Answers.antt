@@ -6,7 +6,7 @@ use Rattle.bz_states.specs.declared.state.PartSort.TheVariants as q
 use Rattle.bz_states.specs.declared.state.NodeState.TheVariants as s
 use Rattle.bz_states.specs.declared.state.Tail.TheVariants as in_rest
 use Rattle.bz_states.specs.declared.state.LambdaAt.TheVariants as lambda_at
-use Rattle.bz_tree.specs.Reading.{node}
+use Rattle.bz_tree.specs.Reading.{node_part}
 use Rattle.bz_states.specs.Tokens.{terminals_of, token_at}
 use Rattle.bz_parse.specs.Words.{part_at, found_from}
 use Rattle.bz_states.specs.States.{sort_of}
@@ -135,7 +135,7 @@ pub go_on-returns-clause-err : goal.go_on-returns-clause-err
 go_on-returns-clause-err t c = carry_err _ _ _ (fits _ _ _ _ _ (omega arith)) c.follow.ensures.err
 
 pub follow-returns-in-Finish-clause-ok : goal.follow-returns-in-Finish-clause-ok
-follow-returns-in-Finish-clause-ok t c = (node c.in-Finish.kind (drop c.args.from c.moves.stack), sym c.moves.invariant.rest ∙ finishes _ _ _ _ _ c.in-Finish.ensures.asks, c.in_ok-close-in-Finish.ensures ∙ ap (λ (ps : List Part). ps ++ (node c.in-Finish.kind (drop c.args.from c.moves.stack) ∷ [])) c.moves.invariant.below, made_depth c.in-Finish.kind _ _ _ refl c.moves.invariant.deep)
+follow-returns-in-Finish-clause-ok t c = (node_part c.in-Finish.kind (drop c.args.from c.moves.stack), sym c.moves.invariant.rest ∙ finishes _ _ _ _ _ c.in-Finish.ensures.asks, c.in_ok-close-in-Finish.ensures ∙ ap (λ (ps : List Part). ps ++ (node_part c.in-Finish.kind (drop c.args.from c.moves.stack) ∷ [])) c.moves.invariant.below, made_depth c.in-Finish.kind _ _ _ refl c.moves.invariant.deep)
 
 pub follow-returns-in_err-take-in-Take-clause-err : goal.follow-returns-in_err-take-in-Take-clause-err
 follow-returns-in_err-take-in-Take-clause-err t c = handed_on _ _ _ _ c.from_residual-in_err-take-in-Take.ensures.1 c.in_err-take-in-Take.ensures.err (λ n. sym c.moves.invariant.rest ∙ takes_none _ _ _ _ _ _ c.in-Take.ensures.asks n)

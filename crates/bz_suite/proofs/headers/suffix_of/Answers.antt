@@ -4,14 +4,14 @@ use Rattle.bz_tree.specs.declared.kind.Kind.TheVariants as k
 use Rattle.bz_tree.specs.Shapes.{is_kind}
 use Rattle.bz_items.specs.Characters.{Bytes}
 use Rattle.bz_value.specs.Gaps.{all_in}
-use Rattle.bz_view.specs.View.{first_gap, seen}
+use Rattle.bz_view.specs.View.{first_seen_gap, seen}
 use Rattle.bz_suite.specs.View.{only_comment, stated}
 use Rattle.bz_suite.proofs.Parts.{parts_seen}
 use Rattle.bz_suite.proofs.headers.suffix_of.Goals as goal
 
 pub returns : goal.returns
 returns c =
-    let comment : Option Bytes = only_comment (all_in (first_gap (map (λ x. x.part) (map stated c.args.suite.now.parts)))) in
+    let comment : Option Bytes = only_comment (all_in (first_seen_gap (map (λ x. x.part) (map stated c.args.suite.now.parts)))) in
     c.in_ok-comment.ensures
-    ∙ (ap (λ g. only_comment (all_in g)) (c.gap_at.ensures ∙ (ap (λ ps. first_gap (map seen ps)) c.as_slice.ensures ∙ ap first_gap (sym (parts_seen c.args.suite.now.parts))))
+    ∙ (ap (λ g. only_comment (all_in g)) (c.gap_at.ensures ∙ (ap (λ ps. first_seen_gap (map seen ps)) c.as_slice.ensures ∙ ap first_seen_gap (sym (parts_seen c.args.suite.now.parts))))
     ∙ sym (cond-true (is_kind c.args.suite.now.kind k.Suite) comment None (sym c.is_kind.ensures ∙ c.if-not-is_kind.false)))

@@ -1,14 +1,14 @@
 use Rattle.std.proofs.Common.{◌≡◌, ◌≤◌, ◌++◌, ◌-◌, [], map, drop, length}
 use Rattle.bz_value.specs.Indented.{indented}
-use Rattle.bz_suite.specs.View.{branches, lines_before, stated, walked}
+use Rattle.bz_suite.specs.View.{branches, indented_lines_before, stated, walked}
 use Rattle.bz_suite.proofs.viewing.+stated.Given as goal
 
 abbrev pub invariant-push_all_statements-loop-at : goal.invariant-push_all_statements-loop-at
 invariant-push_all_statements-loop-at l = record {
   out : l.out ++ (walked (indented l.rest.left.now ++ indented l.rest.gap.now) (map stated (drop l.at l.parts)) (indented l.after)).0
-      ≡ l.fn.out ++ (walked (lines_before (map stated l.parts) []) (map stated l.parts) (indented l.after)).0;
+      ≡ l.fn.out ++ (walked (indented_lines_before (map stated l.parts) []) (map stated l.parts) (indented l.after)).0;
   rest : (walked (indented l.rest.left.now ++ indented l.rest.gap.now) (map stated (drop l.at l.parts)) (indented l.after)).1
-      ≡ (walked (lines_before (map stated l.parts) []) (map stated l.parts) (indented l.after)).1;
+      ≡ (walked (indented_lines_before (map stated l.parts) []) (map stated l.parts) (indented l.after)).1;
 }
 
 abbrev pub invariant-push_branches-loop-colon : goal.invariant-push_branches-loop-colon

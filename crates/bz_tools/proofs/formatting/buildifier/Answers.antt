@@ -58,8 +58,8 @@ returns-clause-run g c = λ cause.
     let some = some_names c.in-Ok.line.files.items c.as_slice-names.result.now _ c.as_slice-names.ensures.value c.is_empty.ensures c.if-is_empty.false in
     let honest : g.F.Files.honest c.args.files.now ≡ true = elim cause [ inl is ↦ is | inr none ↦ absurd (some (rw c.in-Ok.ensures.ok at none)) ] in
     let runs = c.run_files.ensures.runs honest in
-    let files : r.Files line.mode line.file_type line.files r.begun before runs.0 after =
-    subst (λ (names : List (Bor (List ℕ))). r.Files line.mode line.file_type (map (λ name. name.now) names) r.begun before runs.0 after) c.as_slice-names.ensures.value runs.2 in (
+    let files : r.FilesFormatted line.mode line.file_type line.files r.begun before runs.0 after =
+    subst (λ (names : List (Bor (List ℕ))). r.FilesFormatted line.mode line.file_type (map (λ name. name.now) names) r.begun before runs.0 after) c.as_slice-names.ensures.value runs.2 in (
       runs.0,
       files_outcome words line known before after runs.0 c.in-Ok.ensures.ok some files,
       c.ended-2.ensures ∙ ap (λ (p : Progress). record { status = p.status; cut = p.cut }) runs.1,

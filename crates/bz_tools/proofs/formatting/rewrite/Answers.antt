@@ -3,7 +3,7 @@ use Rattle.bz_tools.specs.FormatRun as r
 use Rattle.bz_tools.proofs.formatting.rewrite.Goals as goal
 
 pub returns-in-Ok-clause-step : goal.returns-in-Ok-clause-step
-returns-in-Ok-clause-step g c = λ honest. (r.printed [] 0, inl (refl, c.in-Ok.ensures.held honest, c.in-Ok.ensures.replaced honest), refl, (refl, refl))
+returns-in-Ok-clause-step g c = λ honest. (r.output_effect [] 0, inl (refl, c.in-Ok.ensures.held honest, c.in-Ok.ensures.replaced honest), refl, (refl, refl))
 
 pub returns-in-Err-clause-step : goal.returns-in-Err-clause-step
 returns-in-Err-clause-step g c = λ honest.

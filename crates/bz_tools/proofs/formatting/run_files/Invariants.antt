@@ -10,8 +10,8 @@ use Rattle.bz_tools.proofs.formatting.run_files.Given as goal
 abbrev pub invariant-loop-name : goal.invariant-loop-name
 invariant-loop-name g l = record {
   runs : g.F.Files.honest l.fn.files ≡ true → (run : r.Run) × (l.progress ≡ progress_of run)
-      × ((after : r.Run) (last : Folder) → r.Files l.mode l.file_type (map (λ name. name.now) (drop l.name-index l.names)) run (g.F.Files.folder l.files) after last
-      → r.Files l.mode l.file_type (map (λ name. name.now) l.names) r.begun (g.F.Files.folder l.fn.files) after last)
+      × ((after : r.Run) (last : Folder) → r.FilesFormatted l.mode l.file_type (map (λ name. name.now) (drop l.name-index l.names)) run (g.F.Files.folder l.files) after last
+      → r.FilesFormatted l.mode l.file_type (map (λ name. name.now) l.names) r.begun (g.F.Files.folder l.fn.files) after last)
       × Writes run.closed (g.W.Sink.faults l.fn.out) (g.W.Sink.faults l.out) (g.W.Sink.contents l.fn.out) (g.W.Sink.contents l.out) run.out
       × Tells (g.E.Sink.faults l.fn.err) (g.E.Sink.faults l.err) (g.E.Sink.contents l.fn.err) (g.E.Sink.contents l.err) run.lines;
   status : (l.progress.cut ≡ c.Whole → ⊥) → l.progress.status ≡ 3;

@@ -2,7 +2,7 @@ use Rattle.std.proofs.Common.{◌≡◌, ◌&&◌, if◌then◌else◌, map, ◌
 use Rattle.bz_value.specs.declared.value.Expr.TheVariants as e
 use Rattle.bz_value.specs.Frames.{frame}
 use Rattle.bz_value.specs.Gaps.{has_newline}
-use Rattle.bz_view.specs.View.{first_gap, seen}
+use Rattle.bz_view.specs.View.{first_seen_gap, seen}
 use Rattle.bz_view.proofs.NodeViews.{made_of_node, loose_of_node, sequence_made}
 use Rattle.bz_view.proofs.RowSteps.{part_here, at_operator, at_operand, row_more, row_done, loose_done, head_here, head_more, loose_more, bracket_more, no_bracket, item_more, items_done}
 use Rattle.bz_view.proofs.expr.+seen.Goals as goal
@@ -22,7 +22,7 @@ form_of-returns-clause-form t c =
 pub row_of-loop-at-preserved : goal.row_of-loop-at-preserved
 row_of-loop-at-preserved t c =
     let here = part_here c.args.parts.now c.loop-at.at c.index-parts-at.result c.loop-at-test.true c.index-parts-at.is in
-    let newline : c.if-operator.newline ≡ (c.is_operator_in-operator.result && (if c.loop-at.operator then c.loop-at.newline else has_newline (first_gap (map seen (drop c.loop-at.at c.args.parts.now))))) =
+    let newline : c.if-operator.newline ≡ (c.is_operator_in-operator.result && (if c.loop-at.operator then c.loop-at.newline else has_newline (first_seen_gap (map seen (drop c.loop-at.at c.args.parts.now))))) =
     elim c.if-operator.branch [
       | row_of-then-operator w ↦ w.newline-is ∙ (w.before_operator-newline.ensures ∙ at_operator c.is_operator_in-operator.result _ w.if-operator.true)
       | row_of-else-operator w ↦ w.newline-is ∙ at_operand c.is_operator_in-operator.result _ w.if-operator.false

@@ -1,6 +1,6 @@
 use Rattle.std.proofs.Common.{◌≡◌, ◌≤◌, ◌+◌, ◌-◌, ◌++◌, suc, false, length, map, take, drop}
 use Rattle.bz_value.specs.Gaps.{all_in}
-use Rattle.bz_view.specs.View.{first_gap, items_in, loose_in, plain, row_exprs, seen}
+use Rattle.bz_view.specs.View.{first_seen_gap, items_in, loose_in, plain, row_exprs, seen}
 use Rattle.bz_view.specs.Walks.{loose_from}
 use Rattle.bz_view.proofs.expr.+seen.Given as goal
 
@@ -19,8 +19,8 @@ invariant-head_of-loop-at l = record {
 abbrev pub invariant-seq_of-loop-at : goal.invariant-seq_of-loop-at
 invariant-seq_of-loop-at l = record {
   within : l.at ≤ length l.parts + 2;
-  items : l.items ++ (items_in l.above (map seen (drop l.at l.parts))).0 ≡ (items_in (all_in (first_gap (map seen (drop l.from l.parts)))) (map seen (drop l.from l.parts))).0;
-  end_ : (items_in l.above (map seen (drop l.at l.parts))).1 ≡ (items_in (all_in (first_gap (map seen (drop l.from l.parts)))) (map seen (drop l.from l.parts))).1;
+  items : l.items ++ (items_in l.above (map seen (drop l.at l.parts))).0 ≡ (items_in (all_in (first_seen_gap (map seen (drop l.from l.parts)))) (map seen (drop l.from l.parts))).0;
+  end_ : (items_in l.above (map seen (drop l.at l.parts))).1 ≡ (items_in (all_in (first_seen_gap (map seen (drop l.from l.parts)))) (map seen (drop l.from l.parts))).1;
 }
 
 abbrev pub decreases-seq_of-loop-at : goal.decreases-seq_of-loop-at

@@ -6,28 +6,28 @@ use Rattle.bz_trail.specs.Shown.{TakesUp, texts_of}
 use Rattle.bz_trail.specs.Trails.{trail_at}
 use Rattle.bz_journal.specs.History.{most_steps}
 use Rattle.bz_journal.specs.Lines.{tree_with}
-use Rattle.bz_journal.specs.State.{State, IsSession, trail_of}
+use Rattle.bz_journal.specs.State.{SessionState, IsSession, session_trail}
 use Rattle.bz_journal.proofs.Kept.{HasExtended, extended, session_present}
 use Rattle.bz_journal.proofs.session.Session.extend_with.Goals as goal
 
 pub take_up_lines-requires-clause-other : goal.take_up_lines-requires-clause-other
 take_up_lines-requires-clause-other g c = λ same.
-    let s : State = c.args.self.now in
+    let s : SessionState = c.args.self.now in
     let own : tree_with c.args.lines c.self.inside.tree ≡ tree_with c.args.lines s.tree =
-    ap (λ (t : State). tree_with c.args.lines t.tree) c.self.view_is in
-    c.requires.other (ap spell_node (sym own) ∙ same ∙ ap (λ (t : State). spell_node t.tree) c.self.view_is
-    ∙ session_present c.texts_kept.ensures s (subst (λ (t : State). IsSession t) c.self.view_is c.self.invariant.0))
+    ap (λ (t : SessionState). tree_with c.args.lines t.tree) c.self.view_is in
+    c.requires.other (ap spell_node (sym own) ∙ same ∙ ap (λ (t : SessionState). spell_node t.tree) c.self.view_is
+    ∙ session_present c.texts_kept.ensures s (subst (λ (t : SessionState). IsSession t) c.self.view_is c.self.invariant.0))
 
 pub invariant_of-self-2 : goal.invariant_of-self-2
 invariant_of-self-2 g c =
-    let s : State = record { tree = c.self.inside.tree; steps = c.self.inside.steps.items; notes = c.self.inside.notes.items; «package» = string_bytes c.self.inside.«package»; cursor = c.self.inside.cursor; before = c.self.inside.before } in
+    let s : SessionState = record { tree = c.self.inside.tree; steps = c.self.inside.steps.items; notes = c.self.inside.notes.items; «package» = string_bytes c.self.inside.«package»; cursor = c.self.inside.cursor; before = c.self.inside.before } in
     let next : Node = tree_with c.args.lines c.self.inside.tree in
-    let room : c.self.inside.cursor < most_steps = subst (λ (t : State). t.cursor < most_steps) (sym c.self.view_is) c.requires.room in
+    let room : c.self.inside.cursor < most_steps = subst (λ (t : SessionState). t.cursor < most_steps) (sym c.self.view_is) c.requires.room in
     let notes : c.put_after-2.new.items.items ≡ take c.self.inside.cursor c.self.inside.notes.items ++ c.args.note.now ∷ [] =
     c.put_after-2.ensures ∙ ap (λ (l : List Bytes). take c.self.inside.cursor l ++ c.in_ok-note.note ∷ []) c.reserve.ensures.items
     ∙ ap (λ (d : Bytes). take c.self.inside.cursor c.self.inside.notes.items ++ d ∷ []) (c.in_ok-note.ensures ∙ c.as_bytes.ensures.value) in
-    let own : List Bytes = texts_of (trail_of s) in
-    let takes : TakesUp (trail_of s) next (trail_at c.take_up_lines.new.tree c.take_up_lines.new.steps.items (c.self.inside.cursor + 1)) = c.in_ok-taken.ensures.ok c.if-not-taken.false in
+    let own : List Bytes = texts_of (session_trail s) in
+    let takes : TakesUp (session_trail s) next (trail_at c.take_up_lines.new.tree c.take_up_lines.new.steps.items (c.self.inside.cursor + 1)) = c.in_ok-taken.ensures.ok c.if-not-taken.false in
     let e = extended c.texts_kept.ensures s next c.take_up_lines.new.tree c.take_up_lines.new.steps.items c.put_after-2.new.items.items c.args.note.now c.self.invariant.0 room (c.requires.short, search rules) takes notes in (
       HasExtended.session e,
       subst (λ (texts : List Bytes). g.D.Digests.are_of c.put_after.new.self texts)

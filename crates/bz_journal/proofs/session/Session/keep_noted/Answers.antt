@@ -1,33 +1,33 @@
 use Rattle.bz_journal.specs.Actions.{action_in}
-use Rattle.bz_journal.specs.Shown.{history_of}
+use Rattle.bz_journal.specs.Shown.{session_history}
 use Rattle.bz_journal.proofs.Following.{follows, has_moved}
 use Rattle.bz_journal.proofs.session.Session.keep_noted.Goals as goal
 
 pub returns-in-Ok-replace_pair-clause-each : goal.returns-in-Ok-replace_pair-clause-each
 returns-in-Ok-replace_pair-clause-each g c = λ honest resumes.
-    c.replace_pair.ensures.each honest (history_of c.args.self.now) c.own_text-standing.ensures.text
-    (follows (action_in c.args.action.now) c.args.note.now (history_of c.args.self.now) (history_of c.act_noted.new.self) c.in-Ok.reply c.own_text-standing.ensures.within
+    c.replace_pair.ensures.each honest (session_history c.args.self.now) c.own_text-standing.ensures.text
+    (follows (action_in c.args.action.now) c.args.note.now (session_history c.args.self.now) (session_history c.act_noted.new.self) c.in-Ok.reply c.own_text-standing.ensures.within
     (has_moved c.cursor.result c.cursor-from.result _ _ c.if-cursor-from.false c.cursor.ensures c.cursor-from.ensures) c.in-Ok.ensures.acts) resumes
 
 pub returns-in-Ok-replace_pair-clause-time : goal.returns-in-Ok-replace_pair-clause-time
 returns-in-Ok-replace_pair-clause-time g c = λ honest resumes.
-    c.replace_pair.ensures.time honest (history_of c.args.self.now) c.own_text-standing.ensures.text
-    (follows (action_in c.args.action.now) c.args.note.now (history_of c.args.self.now) (history_of c.act_noted.new.self) c.in-Ok.reply c.own_text-standing.ensures.within
+    c.replace_pair.ensures.time honest (session_history c.args.self.now) c.own_text-standing.ensures.text
+    (follows (action_in c.args.action.now) c.args.note.now (session_history c.args.self.now) (session_history c.act_noted.new.self) c.in-Ok.reply c.own_text-standing.ensures.within
     (has_moved c.cursor.result c.cursor-from.result _ _ c.if-cursor-from.false c.cursor.ensures c.cursor-from.ensures) c.in-Ok.ensures.acts) resumes
 
 pub returns-in-Ok-replace_pair-clause-kept : goal.returns-in-Ok-replace_pair-clause-kept
 returns-in-Ok-replace_pair-clause-kept g c = λ honest resumes other.
-    c.in-Ok-replace_pair.ensures.kept honest (history_of c.args.self.now) c.own_text-standing.ensures.text
-    (follows (action_in c.args.action.now) c.args.note.now (history_of c.args.self.now) (history_of c.act_noted.new.self) c.in-Ok.reply c.own_text-standing.ensures.within other c.in-Ok.ensures.acts) resumes
+    c.in-Ok-replace_pair.ensures.kept honest (session_history c.args.self.now) c.own_text-standing.ensures.text
+    (follows (action_in c.args.action.now) c.args.note.now (session_history c.args.self.now) (session_history c.act_noted.new.self) c.in-Ok.reply c.own_text-standing.ensures.within other c.in-Ok.ensures.acts) resumes
 
 pub returns-in-Err-replace_pair-clause-each : goal.returns-in-Err-replace_pair-clause-each
 returns-in-Err-replace_pair-clause-each g c = λ honest resumes.
-    c.replace_pair.ensures.each honest (history_of c.args.self.now) c.own_text-standing.ensures.text
-    (follows (action_in c.args.action.now) c.args.note.now (history_of c.args.self.now) (history_of c.act_noted.new.self) c.in-Ok.reply c.own_text-standing.ensures.within
+    c.replace_pair.ensures.each honest (session_history c.args.self.now) c.own_text-standing.ensures.text
+    (follows (action_in c.args.action.now) c.args.note.now (session_history c.args.self.now) (session_history c.act_noted.new.self) c.in-Ok.reply c.own_text-standing.ensures.within
     (has_moved c.cursor.result c.cursor-from.result _ _ c.if-cursor-from.false c.cursor.ensures c.cursor-from.ensures) c.in-Ok.ensures.acts) resumes
 
 pub returns-in-Err-replace_pair-clause-time : goal.returns-in-Err-replace_pair-clause-time
 returns-in-Err-replace_pair-clause-time g c = λ honest resumes.
-    c.replace_pair.ensures.time honest (history_of c.args.self.now) c.own_text-standing.ensures.text
-    (follows (action_in c.args.action.now) c.args.note.now (history_of c.args.self.now) (history_of c.act_noted.new.self) c.in-Ok.reply c.own_text-standing.ensures.within
+    c.replace_pair.ensures.time honest (session_history c.args.self.now) c.own_text-standing.ensures.text
+    (follows (action_in c.args.action.now) c.args.note.now (session_history c.args.self.now) (session_history c.act_noted.new.self) c.in-Ok.reply c.own_text-standing.ensures.within
     (has_moved c.cursor.result c.cursor-from.result _ _ c.if-cursor-from.false c.cursor.ensures c.cursor-from.ensures) c.in-Ok.ensures.acts) resumes

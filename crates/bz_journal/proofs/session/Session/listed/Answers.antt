@@ -2,22 +2,22 @@ use Rattle.std.proofs.Common.{ap, length, arith, subst}
 use Rattle.std.proofs.lemmas.List.{length-map}
 use Rattle.sha2.specs.Sha256.{sha256}
 use Rattle.bz_trail.specs.Shown.{texts_of}
-use Rattle.bz_journal.specs.State.{State, IsSession, trail_of}
+use Rattle.bz_journal.specs.State.{SessionState, IsSession, session_trail}
 use Rattle.bz_journal.proofs.Kept.{session_counted}
 use Rattle.bz_journal.proofs.session.Session.listed.Goals as goal
 
 pub put_lines-requires : goal.put_lines-requires
 put_lines-requires g c =
     let i = c.self.inside in
-    let s : State = c.args.self.now in
-    let own : IsSession s = subst (λ (t : State). IsSession t) c.self.view_is c.self.invariant.0 in
+    let s : SessionState = c.args.self.now in
+    let own : IsSession s = subst (λ (t : SessionState). IsSession t) c.self.view_is c.self.invariant.0 in
     omega (
       arith,
       c.in-Some.ensures.cases.1,
       ap length c.requires,
-      length-map (texts_of (trail_of s)) sha256,
+      length-map (texts_of (session_trail s)) sha256,
       session_counted c.texts_kept.ensures s own,
       own.noted,
-      ap (λ (t : State). length t.notes) c.self.view_is,
+      ap (λ (t : SessionState). length t.notes) c.self.view_is,
       ap length c.as_slice.ensures.value,
     )

@@ -3,8 +3,8 @@ use Rattle.bz_attribute.specs.declared.refusal.Refusal.{Refusal}
 use Rattle.bz_journal.specs.Actions.{action_in}
 use Rattle.bz_journal.specs.History.{Runs}
 use Rattle.bz_trail.specs.Trails.{IsSmall}
-use Rattle.bz_journal.specs.Shown.{history_of}
-use Rattle.bz_journal.specs.State.{trail_of}
+use Rattle.bz_journal.specs.Shown.{session_history}
+use Rattle.bz_journal.specs.State.{session_trail}
 use Rattle.bz_journal.specs.declared.action.Reply.{Reply}
 use Rattle.bz_journal.proofs.session.Session.run.Given as goal
 
@@ -13,7 +13,7 @@ abbrev pub invariant-loop-action : goal.invariant-loop-action
 invariant-loop-action g l = record {
   added : List (Result Reply Refusal);
   replies : l.replies.items ≡ l.fn.replies.items ++ added;
-  runs : Runs (history_of l.fn.self) (map action_in (take l.action-index l.actions)) added (history_of l.self);
-  small : IsSmall (trail_of l.fn.self) → IsSmall (trail_of l.self);
+  runs : Runs (session_history l.fn.self) (map action_in (take l.action-index l.actions)) added (session_history l.self);
+  small : IsSmall (session_trail l.fn.self) → IsSmall (session_trail l.self);
   room : vec_len l.replies + (length l.actions - l.action-index) ≤ vec_capacity l.replies;
 }

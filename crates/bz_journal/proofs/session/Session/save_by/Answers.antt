@@ -1,7 +1,7 @@
 use Rattle.std.proofs.Common.{◌∙◌, ◌++◌, ap}
 use Rattle.std.proofs.lemmas.Result.{on_ok_weaker}
 use Rattle.bz_journal.specs.Lasting.{saved}
-use Rattle.bz_journal.specs.State.{State}
+use Rattle.bz_journal.specs.State.{SessionState}
 use Rattle.bz_journal.proofs.Resuming.{same_state}
 use Rattle.bz_journal.proofs.session.Session.save_by.Goals as goal
 
@@ -10,4 +10,4 @@ returns-clause-ok g c =
     let i = c.self.inside in
     let same = same_state i.tree c.as_slice.result.now i.steps.items c.as_slice-2.result.now i.notes.items c.as_bytes.result.now _ i.cursor i.before
     c.as_slice.ensures.value c.as_slice-2.ensures.value c.as_bytes.ensures.value ∙ c.self.view_is in
-    on_ok_weaker c.save_into.result (λ h. h ∙ ap (λ (s : State). c.args.out.now.items ++ saved s) same) c.save_into.ensures.ok
+    on_ok_weaker c.save_into.result (λ h. h ∙ ap (λ (s : SessionState). c.args.out.now.items ++ saved s) same) c.save_into.ensures.ok

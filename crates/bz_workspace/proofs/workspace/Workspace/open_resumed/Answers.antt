@@ -1,6 +1,6 @@
 use Rattle.std.proofs.Common.{◌∙◌, ap, Some, map}
 use Rattle.bz_workspace.specs.Kept.{texts_of_keys}
-use Rattle.bz_workspace.specs.Packages.{with_file}
+use Rattle.bz_workspace.specs.Packages.{with_opened}
 use Rattle.bz_workspace.specs.Shown.{opened_in, used_in}
 use Rattle.bz_workspace.proofs.FileSteps.{before_stay, kept_by, opened_there}
 use Rattle.bz_workspace.proofs.workspace.Workspace.open_resumed.Goals as goal
@@ -15,4 +15,4 @@ returns-in-Ok-clause-there g c = opened_there c.args.place (opened_in c.in-Ok.fi
 
 pub returns-in-Ok-clause-kept : goal.returns-in-Ok-clause-kept
 returns-in-Ok-clause-kept g c = before_stay c.args.place (Some (opened_in c.in-Ok.file)) c.args.self.now (map used_in c.put_file.new.used.items)
-    (c.put_file.ensures ∙ ap (with_file c.args.place (Some (opened_in c.in-Ok.file))) c.self.view_is)
+    (c.put_file.ensures ∙ ap (with_opened c.args.place (Some (opened_in c.in-Ok.file))) c.self.view_is)

@@ -1,7 +1,7 @@
 use Rattle.std.proofs.Common.{◌∙◌, ap, refl, Some, None, [], ◌∷◌, map}
 use Rattle.bz_ports.specs.Told.{fault_line}
 use Rattle.bz_workspace.specs.Kept.{texts_of_keys}
-use Rattle.bz_workspace.specs.Packages.{with_file}
+use Rattle.bz_workspace.specs.Packages.{with_opened}
 use Rattle.bz_workspace.specs.Shown.{opened_in, used_in}
 use Rattle.bz_workspace.specs.declared.opening.Opening.{Opening}
 use Rattle.bz_workspace.proofs.FaultSteps.{refused_takes}
@@ -27,7 +27,7 @@ returns-clause-whole g c = λ _.
       None,
       fault_line name fault ∷ [],
       refused_takes c.args.package.now name c.args.text.items fault c.is_memory.result c.in-Err.ensures.err c.is_memory.ensures.other c.if-is_memory.false,
-      c.put_file-2.ensures ∙ ap (with_file c.args.place None) c.self.view_is,
+      c.put_file-2.ensures ∙ ap (with_opened c.args.place None) c.self.view_is,
       ap (λ (o : Opening). o.place) c.without_file-2.ensures,
       (g.E.Sink.faults c.tell_fault.new.err, g.E.Sink.contents c.tell_fault.new.err, c.tell_fault.ensures, (refl, refl)),
     )
