@@ -21,7 +21,7 @@ use Rattle.bz_value.specs.Frames.{Frame, row, sequence, frame, has_brackets, is_
 use Rattle.bz_value.specs.LineShapes.{line_shape}
 use Rattle.bz_value.specs.Proper.{in_frame}
 use Rattle.bz_value.specs.Roots.{mark_leaf, each_with_comma, row_in}
-use Rattle.bz_write.specs.Spaces.{is_value}
+use Rattle.bz_spaces.specs.Spaces.{is_value}
 use Rattle.bz_write.proofs.Neighbours.{Element, T, S, Is, passes, Pair, Links, links, all_in, in_a_line}
 use Rattle.bz_write.proofs.Spacing.{word_terminal, word_leaf, value_of}
 

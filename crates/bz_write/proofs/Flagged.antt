@@ -18,7 +18,7 @@ use Rattle.bz_value.specs.Proper.{comments_of, has_break}
 use Rattle.bz_value.specs.Roots.{root}
 use Rattle.bz_write.specs.Layout.{Piece, mark, part, laid, laid_in, rowed, headed, joined, stacked, is_broken, is_tuple, gap_behind, margin_behind, suffix_text, has_comments, has_named, is_named, is_listed, is_call, line, margin_lines, firsts}
 use Rattle.bz_value.specs.Empty.{is_empty}
-use Rattle.bz_write.specs.Spaces.{is_spaced}
+use Rattle.bz_spaces.specs.Spaces.{is_spaced}
 use Rattle.bz_write.specs.Written.{text_of, texts_of, piece_text, comment_lines, gap_between, behind_item, item_text, layout, is_load, is_assign}
 use Rattle.bz_write.specs.Drawn.{part_of, parts_of, drawings, piece_part, before_next, line_part, lines_from, drawn}
 use Rattle.bz_write.specs.Flags.{settled_split, with_flags, each_with_flags, item_with_flags, flags}

@@ -17,7 +17,6 @@ pub mod Settings
 pub mod Sized
 pub mod Rows
 pub mod Margins
-pub mod MarkSpaces
 pub mod Spots
 pub mod Standing
 pub mod LegalParts

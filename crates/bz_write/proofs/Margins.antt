@@ -14,7 +14,7 @@ use Rattle.bz_value.specs.declared.value.Expr.{Expr}
 use Rattle.bz_items.specs.Characters.{Bytes, line_feed, space}
 use Rattle.bz_value.specs.Proper.{IsComment, MaybeComment, has_break}
 use Rattle.bz_value.specs.Roots.{root}
-use Rattle.bz_write.specs.Spaces.{is_spaced}
+use Rattle.bz_spaces.specs.Spaces.{is_spaced}
 use Rattle.bz_write.specs.Layout.{line, margin_lines, ended, suffix_text, gap_behind}
 use Rattle.bz_value.specs.Empty.{is_empty}
 use Rattle.bz_write.specs.Written.{comment_lines}

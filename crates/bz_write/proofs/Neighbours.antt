@@ -11,7 +11,7 @@ use Rattle.bz_tree.specs.Shapes.{Sort, Terminal, Shape, Fits, Listed, Several, h
 use Rattle.bz_tree.specs.Legal.{IsSort}
 use Rattle.bz_tree.specs.Reading.{starts}
 use Rattle.bz_value.specs.LineShapes.{line_shape}
-use Rattle.bz_write.specs.Spaces.{from_table, lone, is_dot_terminal, space_behind, space_before}
+use Rattle.bz_spaces.specs.Spaces.{from_table, lone, is_dot_terminal, space_behind, space_before}
 
 -- what stands at a place of a shape
 pub data Element : Type 0 where

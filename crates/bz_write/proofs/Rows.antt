@@ -19,7 +19,7 @@ use Rattle.bz_items.specs.Characters.{Bytes, comma, space}
 use Rattle.bz_value.specs.Frames.{Frame, row, sequence, frame}
 use Rattle.bz_value.specs.Proper.{comments_of, has_break, in_frame}
 use Rattle.bz_value.specs.Roots.{root}
-use Rattle.bz_write.specs.Spaces.{lone, space_behind, space_before, is_word, is_value, is_spaced_after, is_spaced_before, is_lone, is_number_leaf, apart, number_dot, is_spaced}
+use Rattle.bz_spaces.specs.Spaces.{lone, space_behind, space_before, is_word, is_value, is_spaced_after, is_spaced_before, is_lone, is_number_leaf, apart, number_dot, is_spaced}
 use Rattle.bz_write.specs.Layout.{mark, line, margin_lines, ended, suffix_text, is_broken, is_tuple, gap_behind, margin_behind, firsts, rowed, headed, joined, stacked, laid_in, laid}
 use Rattle.bz_value.specs.Empty.{is_empty}
 use Rattle.bz_write.specs.Drawn.{piece_part, part_of}

@@ -12,7 +12,7 @@ use Rattle.bz_tree.specs.Shapes as s
 use Rattle.bz_tree.specs.Shapes.{Sort, Terminal, is_one_of, is_terminal, leaves_at}
 use Rattle.bz_tree.specs.Legal.{IsSort}
 use Rattle.bz_tree.proofs.Balance.{same_class, no_such}
-use Rattle.bz_write.specs.Spaces.{lone, space_behind, space_before, is_word, is_value, is_spaced_after, is_spaced_before, is_lone, apart}
+use Rattle.bz_spaces.specs.Spaces.{lone, space_behind, space_before, is_word, is_value, is_spaced_after, is_spaced_before, is_lone, apart}
 use Rattle.bz_write.proofs.Neighbours.{Element, T, S, Is, all_in, never_lone, spaced}
 
 -- this very token as a terminal

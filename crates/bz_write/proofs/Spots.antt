@@ -16,7 +16,7 @@ use Rattle.bz_items.specs.Characters.{Bytes}
 use Rattle.bz_value.specs.LineShapes.{line_shape}
 use Rattle.bz_value.specs.Proper.{IsComment, has_break, behind_expr, roots, IsEmptyRow, in_frame, ProperBy, ProperRowBy, ProperHeadBy, ProperItemsBy}
 use Rattle.bz_value.specs.Roots.{root, row_in}
-use Rattle.bz_write.specs.Spaces.{is_value, is_word}
+use Rattle.bz_spaces.specs.Spaces.{is_value, is_word}
 use Rattle.bz_write.specs.Layout.{firsts}
 use Rattle.bz_value.specs.Empty.{is_empty}
 use Rattle.bz_write.specs.Drawn.{part_of, parts_of}

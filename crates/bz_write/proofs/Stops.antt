@@ -14,7 +14,7 @@ use Rattle.bz_token.specs.Machine.{after, and_next}
 use Rattle.bz_token.specs.Scanner.{move, ends, keyword_or_name}
 use Rattle.bz_token.proofs.Laws.{state_of, Stops, longest_at, begins}
 use Rattle.bz_write.proofs.Neighbours.{fronts, well_text}
-use Rattle.bz_write.specs.Spaces.{brackets_and_separators, is_number}
+use Rattle.bz_spaces.specs.Spaces.{brackets_and_separators, is_number}
 use Rattle.bz_token.proofs.Tables.{every, one_of, one_text, is_none_at}
 
 -- a space, a newline, `,` `:` and brackets

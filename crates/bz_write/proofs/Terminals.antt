@@ -9,7 +9,7 @@ use Rattle.bz_lex.specs.declared.leaf.Leaf.{Leaf}
 use Rattle.bz_tree.specs.Shapes as s
 use Rattle.bz_tree.specs.Shapes.{Terminal, is_one_of, is_terminal}
 use Rattle.bz_tree.proofs.Balance.{same_class, no_such}
-use Rattle.bz_write.specs.Spaces.{from_table, is_number}
+use Rattle.bz_spaces.specs.Spaces.{from_table, is_number}
 use Rattle.bz_write.proofs.Neighbours.{all_in, well, well_text, named, no_number}
 use Rattle.bz_write.proofs.Stops.{is_mark_class, begins_well}
 

@@ -24,7 +24,7 @@ use Rattle.bz_tree.proofs.Levels.{begins}
 use Rattle.bz_tree.proofs.Balance.{no_such}
 use Rattle.bz_value.specs.LineShapes.{line_shape}
 use Rattle.bz_value.proofs.LegalBy.{LegalBy, each_legal, as_bzl}
-use Rattle.bz_write.specs.Spaces.{brackets_and_separators, lone, is_dot_terminal, apart, is_number, is_number_leaf}
+use Rattle.bz_spaces.specs.Spaces.{brackets_and_separators, lone, is_dot_terminal, apart, is_number, is_number_leaf}
 use Rattle.bz_write.proofs.Neighbours.{Element, T, S, Is, Pair, Final, Links, passes, links, all_in, fronts, prefixed, well_text, named, spaced, is_primary, safe, neighbours, is_primary_kind, finals, in_a_line, all_pass}
 use Rattle.bz_write.proofs.Spacing.{spaced_apart}
 use Rattle.bz_write.proofs.Terminals.{table_leaf, well_leaf, named_leaf, plain_leaf}

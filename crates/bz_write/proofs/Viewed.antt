@@ -15,7 +15,7 @@ use Rattle.bz_value.specs.Roots.{root}
 use Rattle.bz_view.specs.View.{Seen, seen, plain, first_seen_gap, begins_seen_operator, loose_behind, row_exprs, is_open}
 use Rattle.bz_write.specs.Layout.{Piece, rowed, gap_behind, margin_behind, line, firsts}
 use Rattle.bz_value.specs.Empty.{is_empty}
-use Rattle.bz_write.specs.Spaces.{is_spaced}
+use Rattle.bz_spaces.specs.Spaces.{is_spaced}
 use Rattle.bz_write.specs.Drawn.{piece_part}
 use Rattle.bz_write.specs.Flags.{with_flags}
 use Rattle.bz_write.proofs.Gapped.{ended_line, lines_line}

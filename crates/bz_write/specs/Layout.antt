@@ -8,7 +8,7 @@ use Rattle.bz_value.specs.Empty.{is_empty, is_none}
 use Rattle.bz_value.specs.Frames.{Frame, row, sequence, frame}
 use Rattle.bz_value.specs.Proper.{comments_of, has_break}
 use Rattle.bz_value.specs.Roots.{root}
-use Rattle.bz_write.specs.Spaces.{is_spaced}
+use Rattle.bz_spaces.specs.Spaces.{is_spaced}
 
 -- ---- gaps
 

@@ -1,4 +1,3 @@
-pub mod Spaces
 pub mod Layout
 pub mod Written
 pub mod Drawn

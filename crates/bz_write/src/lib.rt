@@ -15,7 +15,6 @@ mod parts;
 mod room;
 mod row_gaps;
 mod setting;
-mod spaces;
 mod spliced;
 mod taken;
 mod texts;

@@ -5,8 +5,8 @@ ghost use Rattle.bz_write.specs.Layout as layout;
 ghost use Rattle.bz_write.specs.RowGaps.{written_gap};
 
 use crate::gaps::{deeper, push_line};
-use crate::spaces::is_spaced;
 use bz_items::{Memory, Text};
+use bz_spaces::is_spaced;
 use bz_value::{Expr, Form};
 use std::alloc::Global;
 

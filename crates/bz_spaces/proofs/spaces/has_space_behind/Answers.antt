@@ -1,7 +1,7 @@
 use Rattle.std.proofs.Common.{◌≡◌, false, rules, ap}
 use Rattle.bz_value.specs.Roots.{root}
-use Rattle.bz_write.proofs.MarkSpaces.{is_separator, other_behind}
-use Rattle.bz_write.proofs.spaces.has_space_behind.Goals as goal
+use Rattle.bz_spaces.proofs.MarkSpaces.{is_separator, other_behind}
+use Rattle.bz_spaces.proofs.spaces.has_space_behind.Goals as goal
 
 pub returns-else-is_colon_spaced : goal.returns-else-is_colon_spaced
 returns-else-is_colon_spaced c =

@@ -8,7 +8,7 @@ use Rattle.bz_tree.specs.declared.kind.Kind.{Kind}
 use Rattle.bz_tree.specs.declared.tree.Part.{Part}
 use Rattle.bz_tree.specs.declared.tree.Part.TheVariants as p
 use Rattle.bz_tree.specs.Shapes as s
-use Rattle.bz_write.specs.Spaces.{lone, is_dot_terminal, is_prefix_mark, is_colon_spaced, space_behind, is_spaced_after}
+use Rattle.bz_spaces.specs.Spaces.{lone, is_dot_terminal, is_prefix_mark, is_colon_spaced, space_behind, is_spaced_after}
 
 -- a comma, or a colon with a space behind it
 abbrev pub is_separator : Kind → Bytes → Bool

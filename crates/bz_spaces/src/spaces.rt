@@ -2,7 +2,7 @@
 ghost use Rattle.std.specs.Prelude.{◌≡◌, ◌||◌};
 ghost use Rattle.bz_tree.specs.Shapes as shapes;
 ghost use Rattle.bz_value.specs.Roots.{root};
-ghost use Rattle.bz_write.specs.Spaces as spaces;
+ghost use Rattle.bz_spaces.specs.Spaces as spaces;
 
 use bz_tree::{Class, Kind};
 use bz_value::Expr;

@@ -1,8 +1,8 @@
 use Rattle.std.proofs.Common.{◌||◌, ap, ◌∙◌}
 use Rattle.bz_token.specs.declared.class.Class.TheVariants as k
 use Rattle.bz_tree.specs.Shapes as s
-use Rattle.bz_write.specs.Spaces.{lone, is_dot_terminal}
-use Rattle.bz_write.proofs.spaces.is_tight.Goals as goal
+use Rattle.bz_spaces.specs.Spaces.{lone, is_dot_terminal}
+use Rattle.bz_spaces.proofs.spaces.is_tight.Goals as goal
 
 pub returns : goal.returns
 returns c =

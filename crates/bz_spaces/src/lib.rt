@@ -1,0 +1,6 @@
+//! The single spaces between two neighbours in a row.
+#![tactic(auto)]
+
+mod spaces;
+
+pub use spaces::is_spaced;
