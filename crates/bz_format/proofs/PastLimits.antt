@@ -14,8 +14,8 @@ use Rattle.bz_indent.specs.Drawn.{bzl_drawn}
 use Rattle.bz_indent.specs.Laws.{LevelKeepsLayout}
 use Rattle.bz_indent.specs.Layout.{bzl_layout}
 use Rattle.bz_indent.specs.Level.{level}
-use Rattle.bz_journal.specs.declared.formatter.FormatFault.{FormatFault}
-use Rattle.bz_journal.specs.declared.formatter.FormatFault.TheVariants as f
+use Rattle.bz_formatter.specs.declared.formatter.FormatFault.{FormatFault}
+use Rattle.bz_formatter.specs.declared.formatter.FormatFault.TheVariants as f
 use Rattle.bz_format.specs.Formatted.{FormatsBzlTo, Says}
 
 -- what a text says is proper, levelled too

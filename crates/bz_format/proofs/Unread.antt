@@ -6,8 +6,8 @@ use Rattle.bz_lex.specs.declared.fault.ReadFault.TheVariants as f
 use Rattle.bz_tree.specs.Faults.{IsOfText}
 use Rattle.bz_tree.specs.Legal.{NoBzlTree}
 use Rattle.bz_tree.specs.Spell.{limit}
-use Rattle.bz_journal.specs.declared.formatter.FormatFault.{FormatFault}
-use Rattle.bz_journal.specs.declared.formatter.FormatFault.TheVariants.{Unread, Memory}
+use Rattle.bz_formatter.specs.declared.formatter.FormatFault.{FormatFault}
+use Rattle.bz_formatter.specs.declared.formatter.FormatFault.TheVariants.{Unread, Memory}
 use Rattle.bz_format.specs.Formatted.{Says}
 
 refused_text : (text : List ℕ) (fault : ReadFault) → (IsOfText fault → NoBzlTree text) → (fault ≡ f.Memory → ⊥) → NoBzlTree text

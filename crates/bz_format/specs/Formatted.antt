@@ -10,9 +10,9 @@ use Rattle.bz_suite.specs.View.{bzl_view_of}
 use Rattle.bz_indent.specs.Drawn.{bzl_drawn}
 use Rattle.bz_indent.specs.Layout.{bzl_layout}
 use Rattle.bz_indent.specs.Level.{level}
-use Rattle.bz_journal.specs.Faults.{IsFaultOf}
-use Rattle.bz_journal.specs.declared.formatter.FormatFault.{FormatFault}
-use Rattle.bz_journal.specs.declared.formatter.FormatFault.TheVariants.{Unread, TooLarge, TooDeep, Memory}
+use Rattle.bz_formatter.specs.Faults.{IsFaultOf}
+use Rattle.bz_formatter.specs.declared.formatter.FormatFault.{FormatFault}
+use Rattle.bz_formatter.specs.declared.formatter.FormatFault.TheVariants.{Unread, TooLarge, TooDeep, Memory}
 
 -- What a text says where it reads as the tree of a .bzl file; of every other text a fault is told. Memory may be refused at each.
 abbrev pub Says : Bytes → Result (List BzlItem) FormatFault → Type 0

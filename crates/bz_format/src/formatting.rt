@@ -3,9 +3,9 @@ ghost use Rattle.std.specs.Prelude.{◌≡◌, ◌≢◌, ◌⊎◌, IfOk, IfErr
 ghost use Rattle.bz_format.specs.Formatted.{FormatsBzlTo, IsFormattedBzl, Says};
 
 use crate::laws::formatted_bzl_once;
+use bz_formatter::FormatFault;
 use bz_indent::{level, level_keeps_layout, level_stays, set_bzl};
 use bz_items::Text;
-use bz_journal::FormatFault;
 use bz_parse::parse_bzl;
 use bz_suite::{BzlFile, bzl_view_is_proper, view_bzl};
 use bz_tree::ReadFault;

@@ -1,70 +1,18 @@
--- A formatted text is formatted to itself, and its value is that of the text it was made of, tidied.
-use Rattle.std.proofs.Common.{◌≡◌, ◌<◌, ◌+◌, ◌∙◌, ℕ, List, [], ◌∷◌, ◌++◌, length, take, get_or, Bool, true, false, refl, sym, ap, subst, inl, inr, arith, Option, None, Ok, Err, OnOk, nat_lt, if◌then◌else◌, length-take}
+-- The present text after formatting.
+use Rattle.std.proofs.Common.{◌≡◌, ◌<◌, ◌+◌, ◌∙◌, ℕ, [], ◌∷◌, ◌++◌, length, take, get_or, Bool, true, false, refl, sym, ap, subst, inl, inr, arith, Option, None, Ok, Err, OnOk, nat_lt, if◌then◌else◌, length-take}
 use Rattle.std.specs.Str.{bytes_eq}
 use Rattle.std.proofs.lemmas.Slice.Eq.{bytes_eq-Decides}
 use Rattle.std.proofs.Math.Seq.{get_or-append_seam}
-use Rattle.bz_tree.specs.declared.tree.Node.{Node}
-use Rattle.bz_tree.specs.Legal.{Reads}
-use Rattle.bz_tree.specs.Spell.{depth_of, depth_limit, limit}
-use Rattle.bz_value.specs.Counted.{times}
-use Rattle.bz_tree.specs.Laws.{OneReading}
-use Rattle.bz_value.specs.declared.value.Item.{Item}
 use Rattle.bz_items.specs.Characters.{Bytes}
-use Rattle.bz_value.specs.Proper.{IsProper}
-use Rattle.bz_view.specs.Kept.{CommentsKept}
 use Rattle.bz_view.specs.View.{view_of}
-use Rattle.bz_view.specs.Laws.{ViewsAreProper}
-use Rattle.bz_write.specs.Drawn.{drawn}
-use Rattle.bz_write.specs.Laws.{LayoutIsAccepted, LayoutReadsBack}
-use Rattle.bz_tidy.specs.Laws.{ProperStays, TidySettles, TidyStays, TidyingKeepsComments}
-use Rattle.bz_tidy.specs.Passes.{tidied}
-use Rattle.bz_write.specs.Written.{layout}
-use Rattle.bz_attribute.specs.declared.refusal.Refusal.TheVariants.{Full, TooLarge, TooDeep}
+use Rattle.bz_attribute.specs.declared.refusal.Refusal.TheVariants.{Full}
 use Rattle.bz_journal.specs.Actions.{Format}
 use Rattle.bz_journal.specs.declared.action.Reply.{Reply}
 use Rattle.bz_journal.specs.declared.action.Reply.TheVariants.{Changed}
-use Rattle.bz_journal.specs.Meaning.{Meaning, gives, refuses, written, Formats}
-use Rattle.bz_journal.specs.Fixed.{IsFormatted, FixedPoint}
+use Rattle.bz_journal.specs.Meaning.{Meaning, gives, refuses, Formats}
+use Rattle.bz_formatter.specs.Fixed.{IsFormatted, FixedPoint}
 use Rattle.bz_journal.specs.History.{History, Answer, present, changed, unchanged, after_text, after_meaning, most_steps, MakesOrWants}
-use Rattle.bz_journal.proofs.Writes.{IsGiven, given}
-
--- what is written of a value that is tidy already
-abbrev as_written : List Item → Option Bytes → Meaning
-as_written items printed = if nat_lt limit (length (layout items)) then refuses TooLarge else (if nat_lt depth_limit (depth_of (drawn items)) then refuses TooDeep else gives (layout items) printed)
-
--- What the layers below promise: of reading, of the view, of the layout of a proper value, and of tidying.
-pub record LayersHold : Type 0 where
-  pub one : OneReading
-  pub seen : ViewsAreProper
-  pub kept : CommentsKept
-  pub accepted : LayoutIsAccepted
-  pub back : LayoutReadsBack
-  pub proper : ProperStays
-  pub settled : TidySettles
-  pub stays : TidyStays
-  pub comments : TidyingKeepsComments
-
-pub formatted_again : LayersHold → FixedPoint
-formatted_again layers text formatted formats =
-    let tree : Node = formats.0 in
-    let items : List Item = view_of tree in
-    let tidy : List Item = tidied items in
-    let proper : IsProper tidy = layers.proper items (layers.seen tree formats.1.0) in
-    let is : IsGiven items formatted None None = given items formatted None None (sym formats.2) in
-    let new : Node = drawn tidy in
-    let reads : Reads formatted new = subst (λ (t : Bytes). Reads t new) (sym is.layout_is) (layers.accepted tidy proper is.long is.deep) in
-    let seen : view_of new ≡ tidy = layers.back tidy proper ∙ layers.settled items in
-    let valued : (t u : Node) → Reads text t → Reads formatted u → view_of u ≡ tidied (view_of t) =
-    λ t u h i. ap view_of (layers.one formatted u new i reads) ∙ seen ∙ ap (λ (n : Node). tidied (view_of n)) (layers.one text tree t formats.1 h) in
-    record {
-      given = formats;
-      again = (new, reads, formats.2 ∙ sym (ap (λ (xs : List Item). written xs None) seen ∙ ap (λ (xs : List Item). as_written xs None) (layers.stays items)));
-      value = valued;
-      comments = λ t u h i comment.
-          sym (layers.kept u i.0 comment) ∙ ap (times comment) (valued t u h i) ∙ layers.comments comment (view_of t) ∙ layers.kept t h.0 comment;
-    }
-
--- ---- the present text behind formatting
+use Rattle.bz_formatter.proofs.Writes.{IsGiven, given}
 
 -- formatting prints nothing
 prints_none : (text formatted : Bytes) (printed : Option Bytes) → Formats text (gives formatted printed) → printed ≡ None

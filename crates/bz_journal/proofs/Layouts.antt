@@ -31,7 +31,7 @@ use Rattle.bz_journal.specs.Meaning.{Meaning, gives, refuses, told, written, Eff
 use Rattle.bz_journal.specs.History.{History, Answer, Acts, MakesOrWants, present, changed, unchanged, after_text, after_meaning, most_steps}
 use Rattle.bz_journal.specs.Editing.{IsCommandDone, IsLayoutOf, WrittenIsDrawn, ChangedIsWritten}
 use Rattle.bz_journal.proofs.Formatting.{present_changed}
-use Rattle.bz_journal.proofs.Writes.{IsGiven, given}
+use Rattle.bz_formatter.proofs.Writes.{IsGiven, given}
 
 -- What the layers below promise: of reading, of the layout of a proper value, and of tidying.
 pub record LayoutsHold : Type 0 where

@@ -11,5 +11,3 @@ pub mod PutLines
 pub mod Resuming
 pub mod Opening
 pub mod Running
-pub mod Writes
-pub mod Untold

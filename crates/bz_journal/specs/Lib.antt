@@ -1,7 +1,5 @@
 pub mod Actions
 pub mod Editing
-pub mod Faults
-pub mod Fixed
 pub mod History
 pub mod Keeping
 pub mod Lasting

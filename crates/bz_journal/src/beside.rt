@@ -18,7 +18,7 @@ ghost use Rattle.bz_attribute.specs.declared.refusal.Refusal.{Refusal};
 ghost use Rattle.bz_journal.specs.Actions as a;
 ghost use Rattle.bz_journal.specs.History.{after_meaning, note_limit, present, MakesOrWants};
 ghost use Rattle.bz_journal.specs.Lines.{AreLinesOf};
-ghost use Rattle.bz_journal.specs.Meaning.{gives, refuses, told, written};
+ghost use Rattle.bz_journal.specs.Meaning.{told, written};
 ghost use Rattle.bz_journal.specs.Shown.{session_history};
 ghost use Rattle.bz_journal.specs.State.{session_trail};
 
@@ -26,10 +26,11 @@ use crate::action::Reply;
 use crate::digests::OptionalDigests;
 use crate::laws::written_is_drawn;
 use crate::lines::Lines;
-use crate::meaning::{reads_back, told};
+use crate::meaning::told;
 use crate::session::{Session, unchanged};
 use bz_attribute::Refusal;
 use bz_command::{Ran, Spliced, lines_matter, looks_at_lines, run_in};
+use bz_formatter::{drawn_of, reads_back};
 use bz_items::{Memory, Text};
 use bz_label::Target;
 use bz_redraw::{Renewed, RenewedWindow, renew, renew_spliced};
@@ -39,7 +40,7 @@ use bz_tree::{LENGTH_LIMIT, Tree};
 use bz_value::File;
 use bz_view::view;
 use bz_words::Command;
-use bz_write::{SetFault, layout_is_accepted, set};
+use bz_write::layout_is_accepted;
 use std::alloc::Global;
 
 /// The fewest items of a value that is kept. One of fewer is made anew in a few milliseconds, and a run over thousands of files,
@@ -232,24 +233,6 @@ fn tidy_in(
     match changes.spliced {
         Some(spliced) => tidy_spliced_in(alloc, &spliced, file, tree, long),
         None => tidy_whole(alloc, file),
-    }
-}
-
-/// The tree of the layout of a tidy value. Errors: `TooLarge` and `TooDeep` past a limit; `Memory`: a growth was refused.
-#[tactic(auto, using(crate::proofs::Writes::written_too_large, crate::proofs::Writes::written_too_deep, crate::proofs::Writes::written_spelled))]
-fn drawn_of(alloc: Global, file: &File) -> Result<Tree, Refusal>
-    requires { tidied file.now ≡ file.now }
-    ensures ok { IfOk result (λ tree. (printed : Option Bytes) → written file.now printed ≡ gives (spell_node tree) printed) }
-    ensures err { IfErr result (λ refusal. ((printed : Option Bytes) → written file.now printed ≡ refuses refusal) ⊎ (refusal ≡ Refusal.Memory)) }
-{
-    match set(alloc, file) {
-        Ok(tree) => {
-            reads_back(&tree);
-            Ok(tree)
-        }
-        Err(SetFault::Memory) => Err(Refusal::Memory),
-        Err(SetFault::TooLarge) => Err(Refusal::TooLarge),
-        Err(SetFault::TooDeep) => Err(Refusal::TooDeep),
     }
 }
 

@@ -3,7 +3,6 @@
 ghost use Rattle.bz_trail.specs.Shown.{StepsAreBetween, StepsLead};
 ghost use Rattle.bz_trail.specs.Trails.{HasLeast, IsSmall};
 ghost use Rattle.bz_journal.specs.Editing.{ChangedIsWritten, WrittenIsDrawn};
-ghost use Rattle.bz_journal.specs.Fixed.{FixedPoint};
 ghost use Rattle.bz_journal.specs.History.{IsKept};
 ghost use Rattle.bz_journal.specs.Lasting.{AlikeGoesOn};
 ghost use Rattle.bz_journal.specs.Shown.{session_history};
@@ -12,10 +11,10 @@ ghost use Rattle.bz_journal.specs.Worked.{WorkedHistories};
 
 use crate::session::Session;
 use bz_command::effects_stay_proper;
-use bz_tidy::{comments_stay, proper_stays, tidy_settles, tidy_stays};
+use bz_tidy::{proper_stays, tidy_settles, tidy_stays};
 use bz_trail::laws::{small_steps, steps_lead, texts_kept};
 use bz_tree::laws::one_reading;
-use bz_view::{comments_kept, views_are_proper};
+use bz_view::views_are_proper;
 use bz_write::{layout_is_accepted, layout_reads_back};
 
 /// Worked rows: what undo, redo and new texts make of small histories.
@@ -47,22 +46,6 @@ pub fn session_holds(session: &Session)
     steps_lead();
     small_steps();
     let _tree = &session.tree;
-}
-
-/// A formatted text is formatted to itself, its value is that of the text it was made of, tidied, and each comment stands
-/// in it as often as in that text.
-pub fn formatted_once()
-    ensures { FixedPoint }
-{
-    one_reading();
-    views_are_proper();
-    comments_kept();
-    layout_is_accepted();
-    layout_reads_back();
-    proper_stays();
-    tidy_settles();
-    tidy_stays();
-    comments_stay();
 }
 
 /// Where a value is written and the answer is no refusal, the tree of the present text is the layout of the value tidied.

@@ -6,8 +6,8 @@ use Rattle.bz_tree.specs.Spell.{limit}
 use Rattle.bz_files.specs.Folder.{Folder}
 use Rattle.bz_files.specs.declared.files.FileFault.{FileFault}
 use Rattle.bz_files.specs.declared.files.FileFault.TheVariants as file
-use Rattle.bz_journal.specs.declared.formatter.FormatFault.{FormatFault}
-use Rattle.bz_journal.specs.declared.formatter.FormatFault.TheVariants as f
+use Rattle.bz_formatter.specs.declared.formatter.FormatFault.{FormatFault}
+use Rattle.bz_formatter.specs.declared.formatter.FormatFault.TheVariants as f
 use Rattle.bz_ports.specs.Outputs.{WritesUnlessClosed}
 use Rattle.bz_ports.specs.Ports.{IsInput}
 use Rattle.bz_ports.proofs.Outputs.{appends_nothing}

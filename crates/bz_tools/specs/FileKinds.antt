@@ -2,8 +2,8 @@
 use Rattle.std.specs.Prelude.{Bool, true, false, codes, eqb, Result}
 use Rattle.std.specs.List.{ends_with}
 use Rattle.bz_items.specs.Characters.{Bytes}
-use Rattle.bz_journal.specs.Faults.{FormatsTo}
-use Rattle.bz_journal.specs.declared.formatter.FormatFault.{FormatFault}
+use Rattle.bz_formatter.specs.Faults.{FormatsTo}
+use Rattle.bz_formatter.specs.declared.formatter.FormatFault.{FormatFault}
 use Rattle.bz_format.specs.Formatted.{FormatsBzlTo}
 use Rattle.bz_tools.specs.declared.file_type.FileType.{FileType}
 use Rattle.bz_tools.specs.declared.file_type.FileType.TheVariants.{Auto, Build, Bzl}

@@ -4,7 +4,7 @@ use Rattle.std.specs.List.{All}
 use Rattle.std.specs.FinMap.{get}
 use Rattle.bz_items.specs.Characters.{Bytes}
 use Rattle.bz_files.specs.Folder.{Folder, IsAside, SameFolders, with_file}
-use Rattle.bz_journal.specs.declared.formatter.FormatFault.{FormatFault}
+use Rattle.bz_formatter.specs.declared.formatter.FormatFault.{FormatFault}
 use Rattle.bz_tools.specs.FileKinds.{FormatsAs, is_bzl}
 use Rattle.bz_tools.specs.FormatRun.{Effect, Run, FilesFormatted, begun, grown, output_effect, refused, unopened, file_out, text_status, is_rewritten}
 use Rattle.bz_ports.specs.declared.exit.Cut.TheVariants as c

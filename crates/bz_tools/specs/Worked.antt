@@ -2,7 +2,7 @@
 use Rattle.std.specs.Prelude.{◌≡◌, [], ◌∷◌, codes, Ok, Err, true, false}
 use Rattle.bz_lex.specs.declared.fault.ReadFault.TheVariants.{Unexpected}
 use Rattle.bz_files.specs.declared.files.FileFault.TheVariants.{Absent}
-use Rattle.bz_journal.specs.declared.formatter.FormatFault.TheVariants.{Unread, TooLarge}
+use Rattle.bz_formatter.specs.declared.formatter.FormatFault.TheVariants.{Unread, TooLarge}
 use Rattle.bz_ports.specs.Told.{stdin}
 use Rattle.bz_tools.specs.FormatRun.{file_out, input_out, is_rewritten, text_status, worse, refused, unread_file, unwritten, unprinted}
 use Rattle.bz_tools.specs.FileKinds.{is_bzl}

@@ -10,8 +10,8 @@ ghost use Rattle.bz_tools.specs.FormatShown.{effect_seen};
 use crate::mode::Mode;
 use crate::{Cut, Sink};
 use bz_files::FileFault;
+use bz_formatter::FormatFault;
 use bz_items::{Memory, Text};
-use bz_journal::FormatFault;
 use bz_ports::{STDIN, first_cut, tell_fault, tell_named, write_whole};
 use std::alloc::Global;
 

@@ -120,7 +120,7 @@ fn call_histories() {
     bz_trail::laws::small_steps();
     bz_journal::worked_histories();
     bz_journal::alike_goes_on();
-    bz_journal::formatted_once();
+    bz_formatter::formatted_once();
 }
 
 /// Calls the laws that speak of values. Whether each value was there.

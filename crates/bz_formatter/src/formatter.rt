@@ -1,10 +1,10 @@
 //! The formatted text of a text.
 ghost use Rattle.std.specs.Prelude.{◌≡◌, ◌≢◌, ◌⊎◌, IfOk};
-ghost use Rattle.bz_journal.specs.Faults.{FormatsTo};
-ghost use Rattle.bz_journal.specs.Fixed.{IsFormatted};
+ghost use Rattle.bz_formatter.specs.Faults.{FormatsTo};
+ghost use Rattle.bz_formatter.specs.Fixed.{IsFormatted};
 
 use crate::laws::formatted_once;
-use crate::meaning::{spelled, value_of, written};
+use crate::writing::{spelled, value_of, written};
 use bz_attribute::Refusal;
 use bz_items::Text;
 use bz_parse::parse;

@@ -11,7 +11,7 @@ use Rattle.bz_write.specs.Written.{layout}
 use Rattle.bz_write.specs.Drawn.{drawn}
 use Rattle.bz_tidy.specs.Passes.{tidied}
 use Rattle.bz_attribute.specs.declared.refusal.Refusal.TheVariants.{TooLarge, TooDeep}
-use Rattle.bz_journal.specs.Meaning.{Meaning, gives, refuses, written}
+use Rattle.bz_formatter.specs.Meaning.{Meaning, gives, refuses, written}
 
 abbrev limited : ℕ → Bytes → Option Bytes → Meaning
 limited depth text printed = if nat_lt limit (length text) then refuses TooLarge else (if nat_lt depth_limit depth then refuses TooDeep else gives text printed)

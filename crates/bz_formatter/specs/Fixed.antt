@@ -6,7 +6,7 @@ use Rattle.bz_items.specs.Characters.{Bytes}
 use Rattle.bz_view.specs.Kept.{occurrences}
 use Rattle.bz_view.specs.View.{view_of}
 use Rattle.bz_tidy.specs.Passes.{tidied}
-use Rattle.bz_journal.specs.Meaning.{gives, Formats}
+use Rattle.bz_formatter.specs.Meaning.{gives, Formats}
 
 -- The formatted text of a text: formatting gives it, formatting it gives it again, its value is that of the text, tidied,
 -- and each comment stands in it as often as in the text.

@@ -6,9 +6,9 @@ use Rattle.bz_lex.specs.declared.fault.ReadFault.TheVariants as f
 use Rattle.bz_tree.specs.Spell.{limit}
 use Rattle.bz_tree.specs.Faults.{IsOfText}
 use Rattle.bz_tree.specs.Legal.{NoTree, Accepted}
-use Rattle.bz_journal.specs.Faults.{IsFaultOf, FormatsTo}
-use Rattle.bz_journal.specs.declared.formatter.FormatFault.{FormatFault}
-use Rattle.bz_journal.specs.declared.formatter.FormatFault.TheVariants.{Unread, Memory}
+use Rattle.bz_formatter.specs.Faults.{IsFaultOf, FormatsTo}
+use Rattle.bz_formatter.specs.declared.formatter.FormatFault.{FormatFault}
+use Rattle.bz_formatter.specs.declared.formatter.FormatFault.TheVariants.{Unread, Memory}
 
 -- a fault of the text says that it is not accepted
 pub refused_text : (text : List ℕ) (fault : ReadFault) → (IsOfText fault → NoTree text) → (fault ≡ f.Memory → ⊥) → Accepted text → ⊥

@@ -7,9 +7,9 @@ use Rattle.bz_tree.specs.Spell.{limit}
 use Rattle.bz_tree.specs.Legal.{Accepted}
 use Rattle.bz_items.specs.Characters.{Bytes}
 use Rattle.bz_attribute.specs.declared.refusal.Refusal.TheVariants as r
-use Rattle.bz_journal.specs.Meaning.{gives, refuses, Formats}
-use Rattle.bz_journal.specs.declared.formatter.FormatFault.{FormatFault}
-use Rattle.bz_journal.specs.declared.formatter.FormatFault.TheVariants.{Unread, TooLarge, TooDeep, Memory}
+use Rattle.bz_formatter.specs.Meaning.{gives, refuses, Formats}
+use Rattle.bz_formatter.specs.declared.formatter.FormatFault.{FormatFault}
+use Rattle.bz_formatter.specs.declared.formatter.FormatFault.TheVariants.{Unread, TooLarge, TooDeep, Memory}
 
 -- A fault of the text: TooLarge and NotUtf8 exactly where it is that.
 pub record IsFaultOf (text : Bytes) (fault : ReadFault) : Type 0 where

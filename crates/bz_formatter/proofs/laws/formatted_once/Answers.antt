@@ -1,5 +1,5 @@
-use Rattle.bz_journal.proofs.Formatting.{formatted_again}
-use Rattle.bz_journal.proofs.laws.formatted_once.Goals as goal
+use Rattle.bz_formatter.proofs.Formatting.{formatted_again}
+use Rattle.bz_formatter.proofs.laws.formatted_once.Goals as goal
 
 pub returns : goal.returns
 returns c =

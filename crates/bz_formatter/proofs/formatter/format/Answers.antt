@@ -1,9 +1,9 @@
 use Rattle.std.proofs.Common.{List, None, sym, ap, ◌∙◌}
 use Rattle.bz_items.specs.Characters.{Bytes}
 use Rattle.bz_value.specs.declared.value.Item.{Item}
-use Rattle.bz_journal.specs.Meaning.{gives, written}
-use Rattle.bz_journal.proofs.Untold.{unread_told}
-use Rattle.bz_journal.proofs.formatter.format.Goals as goal
+use Rattle.bz_formatter.specs.Meaning.{gives, written}
+use Rattle.bz_formatter.proofs.Untold.{unread_told}
+use Rattle.bz_formatter.proofs.formatter.format.Goals as goal
 
 pub returns-in-Err : goal.returns-in-Err
 returns-in-Err c = record {

@@ -1,0 +1,10 @@
+//! The formatted text of a BUILD file: its value, tidied and laid out.
+#![tactic(auto)]
+
+mod formatter;
+mod laws;
+mod writing;
+
+pub use formatter::{FormatFault, format};
+pub use laws::formatted_once;
+pub use writing::{drawn_of, formatted, reads_back, written};
