@@ -5,9 +5,7 @@ use Rattle.std.proofs.lemmas.List.{append-nil}
 use Rattle.bz_items.specs.Characters.{Bytes}
 use Rattle.bz_attribute.specs.declared.refusal.Refusal.{Refusal}
 use Rattle.bz_attribute.specs.declared.refusal.Refusal.TheVariants.{Memory}
-use Rattle.bz_journal.specs.Actions.{Action}
-use Rattle.bz_journal.specs.declared.action.Reply.{Reply}
-use Rattle.bz_journal.specs.History.{History, Acts, Leads}
+use Rattle.bz_workspace.specs.Sessions.{Action, Reply, History, Acts, Leads}
 use Rattle.bz_ports.specs.Faults.{AppendsUnlessFailed}
 use Rattle.bz_ports.specs.Outputs.{Tells}
 use Rattle.bz_workspace.specs.Packages.{Opened, Used, file_at, with_opened}

@@ -4,9 +4,7 @@ use Rattle.std.specs.Option.{option_map}
 use Rattle.std.proofs.lemmas.List.{append-nil}
 use Rattle.bz_items.specs.Characters.{Bytes}
 use Rattle.bz_workspace.specs.Packages.{Opened, Used, file_at}
-use Rattle.bz_journal.specs.Actions.{Action}
-use Rattle.bz_journal.specs.declared.action.Reply.TheVariants.{Printed}
-use Rattle.bz_journal.specs.Listing.{listing}
+use Rattle.bz_workspace.specs.Sessions.{Action, Printed, listing}
 use Rattle.bz_engine.specs.Run.{Answers, Does, LeadsBy, Progress, Uses, World, answered}
 use Rattle.bz_engine.specs.Steps.{RunStep, action_of}
 

@@ -6,7 +6,7 @@ use Rattle.std.proofs.lemmas.Grind.{flat_map-append}
 use Rattle.std.proofs.lemmas.List.{append-nil, map-append}
 use Rattle.bz_items.specs.Characters.{Bytes}
 use Rattle.bz_files.specs.Folder.{Folder}
-use Rattle.bz_journal.specs.History.{present}
+use Rattle.bz_workspace.specs.Sessions.{present}
 use Rattle.bz_workspace.specs.Packages.{Opened, Used}
 use Rattle.bz_engine.specs.Ending.{differs, is_input, is_written, Writing, writing_of, WritesFiles, fixed_lines}
 use Rattle.bz_engine.specs.Told.{fixed_line}

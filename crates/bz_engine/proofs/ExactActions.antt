@@ -4,10 +4,7 @@ use Rattle.bz_tree.specs.Laws.{OneReading}
 use Rattle.bz_items.specs.Characters.{Bytes}
 use Rattle.bz_value.specs.declared.value.Item.{Item}
 use Rattle.bz_attribute.specs.declared.refusal.Refusal.{Refusal}
-use Rattle.bz_journal.specs.Actions.{Action}
-use Rattle.bz_journal.specs.Actions.{Do, Format, Undo, Redo}
-use Rattle.bz_journal.specs.Meaning.{Meaning, EffectMeans, Formats}
-use Rattle.bz_journal.specs.History.{History, Answer, Makes, Leads, after_meaning, present}
+use Rattle.bz_workspace.specs.Sessions.{Action, Do, Format, Undo, Redo, Meaning, EffectMeans, Formats, History, Answer, Makes, Leads, after_meaning, present}
 use Rattle.bz_engine.specs.Run.{LeadsBy}
 
 one_effect : (effect : Result (List Item) Refusal) (answer : Option Bytes) (items : List Item) (text : Bytes) (m n : Meaning)

@@ -4,7 +4,7 @@ use Rattle.bz_tree.specs.Laws.{OneReading}
 use Rattle.bz_items.specs.Characters.{Bytes}
 use Rattle.bz_ports.specs.Ports.{IsInput}
 use Rattle.bz_ports.specs.Told.{stdin, fault_line}
-use Rattle.bz_journal.specs.History.{History, Answer}
+use Rattle.bz_workspace.specs.Sessions.{History, Answer}
 use Rattle.bz_workspace.specs.Found.{PackagesFound}
 use Rattle.bz_workspace.specs.Opens.{Opens, Takes}
 use Rattle.bz_workspace.specs.Packages.{Opened, Used, file_at, package_number}

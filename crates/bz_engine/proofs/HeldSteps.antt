@@ -8,7 +8,7 @@ use Rattle.std.proofs.lemmas.Slice.Eq.{bytes_eq-Decides}
 use Rattle.bz_items.specs.Characters.{Bytes}
 use Rattle.bz_files.specs.Folder.{Folder, with_file as with_bytes}
 use Rattle.bz_files.proofs.Folders.{other_stays}
-use Rattle.bz_journal.specs.History.{History, present}
+use Rattle.bz_workspace.specs.Sessions.{History, present}
 use Rattle.bz_workspace.specs.Found.{PackagesFound, found_at, found_in, in_package, first_name, second_name}
 use Rattle.bz_workspace.specs.Opens.{Opens, Takes}
 use Rattle.bz_workspace.specs.Packages.{Opened, Used, package_number, file_at, with_opened}

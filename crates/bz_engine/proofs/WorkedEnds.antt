@@ -8,9 +8,7 @@ use Rattle.std.specs.Fmt.{digits}
 use Rattle.clap.proofs.OnLiterals.{clap_on_literals}
 use Rattle.bz_attribute.specs.declared.refusal.Refusal.TheVariants.{TooFar}
 use Rattle.bz_files.specs.Folder.{Folder, with_file}
-use Rattle.bz_journal.specs.History.{History, Answer, changed, undone, opened, note_limit}
-use Rattle.bz_journal.specs.Meaning.{gives}
-use Rattle.bz_journal.specs.declared.action.Reply.TheVariants.{Changed, Moved}
+use Rattle.bz_workspace.specs.Sessions.{History, Answer, changed, undone, opened, note_limit, gives, Changed, Moved}
 use Rattle.bz_label.specs.declared.target.Target.{Target}
 use Rattle.bz_label.specs.declared.target.Which.TheVariants.{Name}
 use Rattle.bz_line.specs.Asked.{Asked, Asking, Usage, nothing_asked, operand_group, no_command, no_target, no_line, of_operand}

@@ -6,7 +6,7 @@ use Rattle.std.specs.Option.{option_map_or}
 use Rattle.std.specs.Io.KnownBytes.{Appends}
 use Rattle.bz_items.specs.Characters.{Bytes}
 use Rattle.bz_files.specs.Folder.{Folder, SameBut, new_name, with_file}
-use Rattle.bz_journal.specs.History.{present}
+use Rattle.bz_workspace.specs.Sessions.{present}
 use Rattle.bz_line.specs.declared.line.Options.{Options}
 use Rattle.bz_ports.specs.Outputs.{Tells}
 use Rattle.bz_workspace.specs.Packages.{Opened, Used}

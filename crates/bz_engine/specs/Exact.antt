@@ -5,7 +5,7 @@ use Rattle.bz_lex.specs.declared.fault.ReadFault.{ReadFault}
 use Rattle.bz_tree.specs.Legal.{Accepted}
 use Rattle.bz_items.specs.Characters.{Bytes}
 use Rattle.bz_files.specs.Folder.{SameFolders}
-use Rattle.bz_formatter.specs.Faults.{IsFaultOf}
+use Rattle.bz_tree.specs.Faults.{IsFaultOf}
 use Rattle.bz_line.specs.Asked.{Refused, of_operand}
 use Rattle.bz_line.specs.Line.{Given, operands, script, CommandLine, of_clap, command_line_of}
 use Rattle.bz_line.specs.Refused.{IsPatternFault, IsFirstRefused, IsFirstFault}

@@ -2,11 +2,7 @@
 use Rattle.std.specs.Prelude.{◌≡◌, ◌≢◌, ◌⊎◌, ◌&&◌, ◌||◌, not, Bool, true, false, ℕ, List, [], ◌∷◌, ◌++◌, length, is_err, Option, Some, None, Ok, Err, IfSome}
 use Rattle.bz_items.specs.Characters.{Bytes}
 use Rattle.bz_files.specs.Folder.{Folder}
-use Rattle.bz_journal.specs.Actions.{Action}
-use Rattle.bz_journal.specs.declared.action.Reply.{Reply}
-use Rattle.bz_journal.specs.declared.action.Reply.TheVariants.{Changed, Same, Printed, Moved}
-use Rattle.bz_journal.specs.History.{History, Answer, Leads}
-use Rattle.bz_journal.specs.Listing.{listing}
+use Rattle.bz_workspace.specs.Sessions.{Action, Reply, Changed, Same, Printed, Moved, History, Answer, Leads, listing}
 use Rattle.bz_ports.specs.Ports.{IsInput}
 use Rattle.bz_ports.specs.Told.{stdin}
 use Rattle.bz_workspace.specs.Found.{PackagesFound, found_in}

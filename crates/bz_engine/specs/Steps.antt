@@ -3,8 +3,8 @@ use Rattle.std.specs.Prelude.{List, map, codes, Bool, not, ◌&&◌, bytes_eq, O
 use Rattle.std.specs.List.{flat_map, list_any}
 use Rattle.bz_items.specs.Characters.{Bytes}
 use Rattle.bz_label.specs.declared.target.Target.{Target}
-use Rattle.bz_journal.specs.Actions.{Action}
-use Rattle.bz_journal.specs.Actions as a
+use Rattle.bz_workspace.specs.Sessions.{Action}
+use Rattle.bz_workspace.specs.Sessions as a
 use Rattle.bz_line.specs.Asked.{Asked, Asking}
 use Rattle.bz_line.specs.Verbs.{prints}
 use Rattle.bz_line.specs.declared.verb.Verb.{Verb}

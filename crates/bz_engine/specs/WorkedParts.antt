@@ -3,8 +3,7 @@ use Rattle.std.specs.Prelude.{◌≡◌, ℕ, Bool, true, false, List, [], ◌�
 use Rattle.std.specs.FinMap.{get}
 use Rattle.bz_attribute.specs.declared.refusal.Refusal.TheVariants.{NotAList, TooFar}
 use Rattle.bz_files.specs.Folder.{Folder}
-use Rattle.bz_journal.specs.History.{changed, undone, redone}
-use Rattle.bz_journal.specs.declared.action.Reply.TheVariants.{Changed, Same, Printed, Moved}
+use Rattle.bz_workspace.specs.Sessions.{changed, undone, redone, Changed, Same, Printed, Moved}
 use Rattle.bz_line.specs.Asked.{Asked, Usage, operand_group}
 use Rattle.bz_ports.specs.Told.{stdin}
 use Rattle.bz_items.specs.Characters.{Bytes}

@@ -2,7 +2,7 @@
 use Rattle.std.specs.Prelude.{◌≡◌, ℕ, true, List, [], ◌∷◌, codes, Some, None}
 use Rattle.std.specs.FinMap.{get}
 use Rattle.bz_files.specs.Folder.{Folder, with_file}
-use Rattle.bz_journal.specs.Meaning.{gives, Means}
+use Rattle.bz_workspace.specs.Sessions.{gives, Means}
 use Rattle.bz_label.specs.declared.target.Which.TheVariants.{Name}
 use Rattle.bz_line.specs.Line.{command_line_of}
 use Rattle.bz_tree.specs.Legal.{Accepted}

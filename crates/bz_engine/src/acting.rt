@@ -1,9 +1,7 @@
 //! One step.
 ghost use Rattle.std.specs.Prelude.{◌≡◌, ◌≢◌, ◌⊎◌, ◌++◌, [], ◌∷◌, ℕ, List, Option, Some, None, Ok, Err, true, IsSome, IfOk, OnOk, OnErr};
-ghost use Rattle.bz_journal.specs.Actions.{action_in};
-ghost use Rattle.bz_journal.specs.History.{History, Answer, Leads};
-ghost use Rattle.bz_journal.specs.Listing.{listing};
-ghost use Rattle.bz_journal.specs.declared.action.Reply.TheVariants as Reply;
+ghost use Rattle.bz_workspace.specs.Sessions.{action_in, History, Answer, Leads, listing};
+ghost use Rattle.bz_workspace.specs.Sessions as Reply;
 ghost use Rattle.bz_line.specs.Paths.{HasPath};
 ghost use Rattle.bz_line.specs.Shown.{asking_in};
 ghost use Rattle.bz_workspace.specs.Packages.{Opened, file_at};
@@ -20,11 +18,10 @@ use crate::told::tell_refusal;
 use bz_attribute::Refusal;
 use bz_files::Files;
 use bz_items::{Text, at};
-use bz_journal::{Action, Reply};
 use bz_label::Target;
 use bz_line::Asking;
 use bz_ports::{Cut, Sink, Source, first_cut};
-use bz_workspace::{Used, Workspace};
+use bz_workspace::{Action, Reply, Used, Workspace};
 use std::alloc::{AllocError, Global};
 
 // The name of the file of a package, where it is open.

@@ -1,7 +1,7 @@
 //! What a run leaves behind its steps.
 ghost use Rattle.std.specs.Prelude.{◌≡◌, ◌≢◌, ◌⊎◌, ◌++◌, [], ◌∷◌, ℕ, List, Some, None, true, map, option_map, if◌then◌else◌, IfOk, IfErr};
 ghost use Rattle.std.specs.List.{list_any};
-ghost use Rattle.bz_journal.specs.History.{present};
+ghost use Rattle.bz_workspace.specs.Sessions.{present};
 ghost use Rattle.bz_ports.specs.Faults.{Rises};
 ghost use Rattle.bz_ports.specs.Outputs.{Counts};
 ghost use Rattle.bz_workspace.specs.Shown.{opened_in, used_in};

@@ -11,12 +11,11 @@ use crate::step::{action_of, package_of};
 use bz_attribute::Refusal;
 use bz_files::Files;
 use bz_items::at;
-use bz_journal::{Action, KeepFault};
 use bz_keep::PairFault;
 use bz_label::Target;
 use bz_line::{Asked, Asking};
 use bz_ports::{Cut, Sink, first_cut, tell_named};
-use bz_workspace::Workspace;
+use bz_workspace::{Action, KeepFault, Workspace};
 use std::alloc::Global;
 
 // Whether the file of the package with this number is left alone, since its journal and it could not both be written.

@@ -2,15 +2,15 @@
 ghost use Rattle.std.specs.Prelude.{◌≡◌, map, option_map};
 ghost use Rattle.std.specs.List.{list_any};
 ghost use Rattle.bz_line.specs.Paths.{HasPath};
-ghost use Rattle.bz_journal.specs.Actions.{action_in};
+ghost use Rattle.bz_workspace.specs.Sessions.{action_in};
 ghost use Rattle.bz_line.specs.Shown.{asked_in};
 ghost use Rattle.bz_engine.specs.Steps as s;
 ghost use Rattle.bz_engine.specs.Shown.{names_in, shows_in, shown_in};
 ghost use Rattle.bz_engine.specs.Steps.{is_of_input, names_input, shows_input, all_steps};
 
-use bz_journal::Action;
 use bz_label::Target;
 use bz_line::{Asked, Asking, Verb};
+use bz_workspace::Action;
 
 /// What the session of the target's file is asked to do; to list its texts is no action.
 pub(crate) fn action_of<'a>(verb: &'a Verb, target: &'a Target) -> Option<Action<'a>>

@@ -10,7 +10,7 @@ use Rattle.bz_suite.specs.View.{bzl_view_of}
 use Rattle.bz_indent.specs.Drawn.{bzl_drawn}
 use Rattle.bz_indent.specs.Layout.{bzl_layout}
 use Rattle.bz_indent.specs.Level.{level}
-use Rattle.bz_formatter.specs.Faults.{IsFaultOf}
+use Rattle.bz_tree.specs.Faults.{IsFaultOf}
 use Rattle.bz_formatter.specs.declared.formatter.FormatFault.{FormatFault}
 use Rattle.bz_formatter.specs.declared.formatter.FormatFault.TheVariants.{Unread, TooLarge, TooDeep, Memory}
 

@@ -4,9 +4,9 @@ use Rattle.std.specs.Str.{IsValidUpTo}
 use Rattle.bz_lex.specs.declared.fault.ReadFault.{ReadFault}
 use Rattle.bz_lex.specs.declared.fault.ReadFault.TheVariants as f
 use Rattle.bz_tree.specs.Spell.{limit}
-use Rattle.bz_tree.specs.Faults.{IsOfText}
+use Rattle.bz_tree.specs.Faults.{IsOfText, IsFaultOf}
 use Rattle.bz_tree.specs.Legal.{NoTree, Accepted}
-use Rattle.bz_formatter.specs.Faults.{IsFaultOf, FormatsTo}
+use Rattle.bz_formatter.specs.Faults.{FormatsTo}
 use Rattle.bz_formatter.specs.declared.formatter.FormatFault.{FormatFault}
 use Rattle.bz_formatter.specs.declared.formatter.FormatFault.TheVariants.{Unread, Memory}
 

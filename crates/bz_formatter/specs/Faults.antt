@@ -1,21 +1,12 @@
--- Why a text is not accepted, and what formatting a text answers.
-use Rattle.std.specs.Prelude.{◌≡◌, ◌≢◌, ◌↔◌, ◌≤◌, ◌<◌, ℕ, length, Result, Ok, Err, None}
-use Rattle.std.specs.Str.{IsValidUpTo}
-use Rattle.bz_lex.specs.declared.fault.ReadFault.{ReadFault}
-use Rattle.bz_lex.specs.declared.fault.ReadFault.TheVariants as f
-use Rattle.bz_tree.specs.Spell.{limit}
+-- What formatting a text answers.
+use Rattle.std.specs.Prelude.{Result, Ok, Err, None}
+use Rattle.bz_tree.specs.Faults.{IsFaultOf}
 use Rattle.bz_tree.specs.Legal.{Accepted}
 use Rattle.bz_items.specs.Characters.{Bytes}
 use Rattle.bz_attribute.specs.declared.refusal.Refusal.TheVariants as r
 use Rattle.bz_formatter.specs.Meaning.{gives, refuses, Formats}
 use Rattle.bz_formatter.specs.declared.formatter.FormatFault.{FormatFault}
 use Rattle.bz_formatter.specs.declared.formatter.FormatFault.TheVariants.{Unread, TooLarge, TooDeep, Memory}
-
--- A fault of the text: TooLarge and NotUtf8 exactly where it is that.
-pub record IsFaultOf (text : Bytes) (fault : ReadFault) : Type 0 where
-  pub too_large : (fault ≡ f.TooLarge) ↔ (limit < length text)
-  pub not_utf8 : (at : ℕ) → ((fault ≡ f.NotUtf8 at) ↔ ((length text ≤ limit) × IsValidUpTo text at))
-  pub other : fault ≢ f.Memory
 
 -- An accepted text is formatted, or its formatted text is past a limit; of every other text a fault is told. Memory may be
 -- refused at each.

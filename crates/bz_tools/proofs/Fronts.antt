@@ -6,7 +6,7 @@ use Rattle.bz_lex.specs.declared.fault.ReadFault.{ReadFault}
 use Rattle.bz_lex.specs.declared.fault.ReadFault.TheVariants as f
 use Rattle.bz_tree.specs.Spell.{limit}
 use Rattle.bz_tree.specs.Legal.{Accepted}
-use Rattle.bz_formatter.specs.Faults.{IsFaultOf}
+use Rattle.bz_tree.specs.Faults.{IsFaultOf}
 
 pub within_limit : (text : List ℕ) → Accepted text → length text ≤ limit
 within_limit text accepted = accepted.1.2

@@ -4,9 +4,8 @@ use Rattle.std.specs.Str.{IsValidUpTo}
 use Rattle.bz_lex.specs.declared.fault.ReadFault.{ReadFault}
 use Rattle.bz_lex.specs.declared.fault.ReadFault.TheVariants as f
 use Rattle.bz_tree.specs.Spell.{limit}
-use Rattle.bz_tree.specs.Faults.{IsOfText}
+use Rattle.bz_tree.specs.Faults.{IsOfText, IsFaultOf}
 use Rattle.bz_tree.specs.Legal.{Accepted}
-use Rattle.bz_formatter.specs.Faults.{IsFaultOf}
 use Rattle.bz_ports.specs.Told.{fault_line}
 use Rattle.bz_workspace.specs.Opens.{Takes}
 

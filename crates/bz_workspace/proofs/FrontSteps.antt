@@ -7,7 +7,7 @@ use Rattle.bz_lex.specs.declared.fault.ReadFault.TheVariants as f
 use Rattle.bz_tree.specs.Spell.{limit}
 use Rattle.bz_tree.specs.Legal.{Accepted}
 use Rattle.bz_items.specs.Characters.{Bytes}
-use Rattle.bz_formatter.specs.Faults.{IsFaultOf}
+use Rattle.bz_tree.specs.Faults.{IsFaultOf}
 use Rattle.bz_workspace.specs.Opens.{FrontsAreToldAlike, Takes}
 use Rattle.bz_workspace.specs.Packages.{Opened}
 

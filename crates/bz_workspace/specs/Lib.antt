@@ -3,3 +3,4 @@ pub mod Kept
 pub mod Opens
 pub mod Packages
 pub mod Shown
+pub mod Sessions

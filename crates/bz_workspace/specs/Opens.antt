@@ -7,7 +7,7 @@ use Rattle.bz_items.specs.Characters.{Bytes}
 use Rattle.bz_journal.specs.Actions.{Action}
 use Rattle.bz_journal.specs.declared.action.Reply.{Reply}
 use Rattle.bz_journal.specs.declared.keeping.KeepFault.{KeepFault}
-use Rattle.bz_formatter.specs.Faults.{IsFaultOf}
+use Rattle.bz_tree.specs.Faults.{IsFaultOf}
 use Rattle.bz_journal.specs.History.{History, Answer, opened, Acts}
 use Rattle.bz_journal.specs.Keeping.{Keeps}
 use Rattle.bz_ports.specs.Told.{named_line, fault_line}

@@ -6,6 +6,7 @@ mod opening;
 mod used;
 mod workspace;
 
+pub use bz_journal::{Action, KeepFault, Reply};
 pub use laws::fronts_are_told_alike;
 pub use opening::Opening;
 pub use used::{Opened, Used};

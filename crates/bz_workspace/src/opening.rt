@@ -3,7 +3,7 @@ ghost use Rattle.std.specs.Prelude.{◌≡◌, ◌≢◌, ◌⊎◌, ◌≤◌, 
 ghost use Rattle.std.specs.FinMap.{get};
 ghost use Rattle.bz_tree.specs.Legal.{Accepted};
 ghost use Rattle.bz_items.specs.Characters.{Bytes};
-ghost use Rattle.bz_formatter.specs.Faults.{IsFaultOf};
+ghost use Rattle.bz_tree.specs.Faults.{IsFaultOf};
 ghost use Rattle.bz_ports.specs.Faults.{Rises, AppendsUnlessFailed};
 ghost use Rattle.bz_ports.specs.Told.{named_line};
 ghost use Rattle.bz_workspace.specs.Found.{in_package};

@@ -1,5 +1,5 @@
 use Rattle.std.proofs.Common.{Err}
-use Rattle.bz_journal.specs.Actions.{action_in}
+use Rattle.bz_workspace.specs.Sessions.{action_in}
 use Rattle.bz_workspace.specs.Opens.{ActsAt}
 use Rattle.bz_workspace.specs.Packages.{Opened}
 use Rattle.bz_engine.specs.Shown.{progress_in}

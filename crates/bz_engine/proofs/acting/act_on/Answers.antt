@@ -1,6 +1,6 @@
 use Rattle.std.proofs.Common.{◌∙◌, [], ap, sym}
 use Rattle.std.specs.Prelude.{option_map}
-use Rattle.bz_journal.specs.Actions.{action_in}
+use Rattle.bz_workspace.specs.Sessions.{action_in}
 use Rattle.bz_line.specs.Shown.{asking_in}
 use Rattle.bz_workspace.specs.Packages.{file_at}
 use Rattle.bz_engine.specs.Shown.{progress_in}

@@ -1,5 +1,5 @@
 use Rattle.std.proofs.Common.{refl}
-use Rattle.bz_journal.specs.Listing.{listing}
+use Rattle.bz_workspace.specs.Sessions.{listing}
 use Rattle.bz_workspace.specs.Packages.{file_at}
 use Rattle.bz_engine.specs.Shown.{progress_in}
 use Rattle.bz_engine.proofs.ActSteps.{some_of, was_listed}
