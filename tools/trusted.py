@@ -17,7 +17,7 @@ TOP = pathlib.Path(__file__).resolve().parent.parent
 CRATES = [line.partition(":")[0] for line in (TOP / "crates.txt").read_text().splitlines() if ":" in line and not line.startswith("#")]
 ENGINES = {("bz_engine", "buildozer"), ("bz_tools", "buildifier")}
 START = re.compile(r"^(?:(?:abbrev|unfoldable|pub|record|data) )*([^\s:({]+) *[:({]")
-USE = re.compile(r"^\s*(?:ghost )?use Rattle\.([\w.«»+-]+?)(?:\.\{([^}]*)\}| as (\S+?));?$")
+USE = re.compile(r"^\s*(?:ghost |pub )?use Rattle\.([\w.«»+-]+?)(?:\.\{([^}]*)\}| as (\S+?));?$")
 WORD = re.compile(r"[^\s(){}\[\],;]+")
 
 
@@ -89,12 +89,13 @@ def contracts(file):
 
 
 def main():
-    definitions, sizes, owners, files = {}, collections.Counter(), {}, {}
+    definitions, sizes, owners, files, passed_on = {}, collections.Counter(), {}, {}, {}
     for crate in CRATES:
         for file in sorted((TOP / "crates" / crate / "specs").rglob("*.antt")):
             module = f"{crate}.specs." + ".".join(file.relative_to(TOP / "crates" / crate / "specs").with_suffix("").parts)
             lines = file.read_text().split("\n")
             single, modules = imports(lines)
+            passed_on.update({(module, name): home for name, home in imports(line for line in lines if line.startswith("pub use "))[0].items()})
             local = {}
             for names, size, text in chunks(lines):
                 first = text.split()[0]
@@ -111,6 +112,11 @@ def main():
                     local[name] = key
                     owners[module, name] = key
 
+    def owner(home):
+        while home in passed_on and home not in owners:
+            home = passed_on[home]
+        return owners.get(home)
+
     def named(text, single, modules, local):
         for word in WORD.findall(text):
             head, _, tail = word.partition(".")
@@ -119,9 +125,9 @@ def main():
             elif head in local:
                 yield local[head]
             elif word in single or head in single:
-                yield owners.get(single.get(word) or single[head])
+                yield owner(single.get(word) or single[head])
             elif head in modules and tail:
-                yield owners.get((modules[head], tail.split(".")[0]))
+                yield owner((modules[head], tail.split(".")[0]))
 
     todo, seen = [], set()
     for crate in CRATES:
