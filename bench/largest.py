@@ -67,7 +67,7 @@ def rounds(buildozer, buildifier, text):
             ("format", [buildifier, "BUILD"]),
             ("command", [buildozer, "--quiet", *edit]),
             ("with --journal", [buildozer, "--quiet", "--journal", *edit]),
-            ("undo behind it", [buildozer, "--quiet", "--journal", "undo", "//:r0"]),
+            ("undo after it", [buildozer, "--quiet", "--journal", "undo", "//:r0"]),
         ):
             if not name.startswith("undo"):
                 file.write_bytes(text)
