@@ -3,8 +3,8 @@
 
     tools/build.py PROGRAM..
 
-A line tells of each crate that is done, with how many of all are done and the minutes since the start. What is proved is kept
-in the crates' folders out/, so a run that was interrupted goes on where it was, and one over unchanged sources proves nothing.
+A line tells of each crate that is done, with how many of all are done and the minutes since the start. Crates that are proved are
+kept in their folders out/, so a run that was interrupted goes on behind these, and one over unchanged sources proves nothing.
 The first proof that fails ends the run, and the last line names its crate.
 
 A crate is proved when all that it stands on is, by rt lib (tools/rt_once.py) in a copy of the crates (tools/crates.py), of which there is one for
@@ -13,6 +13,10 @@ with the most work above it comes first, and it gets the processors that the oth
 by rt run, which also runs it on its own files (args, stdin): it must write what its file stdout has.
 
 JOBS in the environment is how many processors are used. Without it these are all, as far as there is memory for as many proofs.
+
+With KEEP=yes in the environment what was proved of each function is kept too, so that after a change only what it touches is proved
+again. That takes longer at first, since libraries are read with their proofs. It is so without it too for a crate of which an
+earlier check kept such work.
 """
 import contextlib
 import ctypes
@@ -28,6 +32,7 @@ import tempfile
 import time
 
 from crates import TOP, below, copy_sources, libraries_of, take_library
+from rt_once import STATEMENTS
 
 # rt, with the sums of the sources made once a run
 RT = str(TOP / "tools" / "rt_once.py")
@@ -38,6 +43,10 @@ PROVED = re.compile(r"^logic=proved ", re.MULTILINE)
 RUNS = "rt: running out/"
 # how often it is looked whether a proof has ended, in seconds
 PAUSE = 0.2
+# whether what was proved of each function is kept
+KEEPS = os.environ.get("KEEP") == "yes"
+# what a crate costs whatever is in it, as bytes of its sources: a crate takes about 4 seconds for a thousand of them, and 50 more
+CRATE = 13_000
 # by this option of prctl, PR_SET_CHILD_SUBREAPER, what an ended rt leaves behind becomes a child of this run
 ADOPTS = 36
 
@@ -92,7 +101,8 @@ class Proof:
         shutil.rmtree(self.folder / "out", ignore_errors=True)
         if self.kept.exists():
             self.kept.rename(self.folder / "out")
-        command = [RT, "lib", "--jobs", str(jobs)]
+        has_kept = KEEPS or (self.folder / "out" / "incremental").exists()
+        command = [RT, *([] if has_kept else [STATEMENTS]), "lib", "--jobs", str(jobs)]
         if is_program(crate):
             command = [RT, "run", "--jobs", str(jobs), "--", *content(self.folder / "args").decode().splitlines()]
         self.output, self.said = tempfile.TemporaryFile(), tempfile.TemporaryFile()
@@ -164,9 +174,9 @@ class Plan:
 
     @functools.cache
     def work(self, crate):
-        """The bytes of the sources of a crate, and of the longest row of crates that follow one another above it."""
-        files = (file for part in ("src", "specs", "proofs") for file in (TOP / "crates" / crate / part).rglob("*"))
-        return sum(file.stat().st_size for file in files if file.is_file()) + max(map(self.work, self.above[crate]), default=0)
+        """What a crate costs, and the longest row of crates that follow one another above it, as bytes of sources."""
+        own = sum(file.stat().st_size for file in (TOP / "crates" / crate / "src").rglob("*.rt"))
+        return CRATE + own + max(map(self.work, self.above[crate]), default=0)
 
     def ready(self):
         """The crates all of whose libraries are done, the one with the most work first."""
@@ -186,15 +196,17 @@ def copies(count):
 
 
 def start_ready(plan, running, free, at_once):
-    """Starts as many proofs as there are copies for. The first gets the processors that the others leave, and is given half as many
-    more as there are, since a proof has parts that one processor does alone."""
+    """Starts as many proofs as there are copies for. The one with the most work above it, of those that run and are ready, gets the
+    processors that the others leave, and half as many more as there are, since a proof has parts that one processor does alone."""
     ready = plan.ready()
     for others, crate in zip(range(len(ready) - 1, -1, -1), ready):
-        unused = at_once + at_once // 2 - sum(proof.jobs for proof in running)
         if not free:
             return
+        copy = free.pop()
+        unused = at_once + at_once // 2 - sum(proof.jobs for proof in running) - min(others, len(free))
+        is_first = all(plan.work(proof.crate) <= plan.work(crate) for proof in running)
         plan.left.remove(crate)
-        running.append(Proof(crate, free.pop(), min(max(unused - others, 1), at_once), plan.libraries))
+        running.append(Proof(crate, copy, min(max(unused, 1), at_once) if is_first else 1, plan.libraries))
 
 
 def prove_all(plan, at_once, progress):
