@@ -176,6 +176,8 @@ def try_edit(edit, copy):
         why = why_refused_alone(texts, functions[0], copy / "crates" / crate)
         if why is not None:
             return True, f"refused{why}"
+    if ENDS.is_set():
+        return False, "was not tried: the run was ended"
     return is_refused_whole(edit, copy, crate)
 
 
