@@ -1,4 +1,5 @@
-# make        proves and builds both programs, leaves them in bin/, and shows a first run; JOBS=N sets how many processors that takes
+# make        proves and builds both programs, leaves them in bin/, and shows a first run; JOBS=N sets how many processors that takes,
+#             and KEEP=yes keeps what was proved of each function, for whoever changes the sources
 # make install    puts both programs, their pages for man, and completions for bash, zsh and fish below PREFIX (/usr/local); with DESTDIR=.. before it
 # make uninstall  removes just these
 # make dist   packs the same and README.md into an archive in dist/, with its SHA-256 sum beside it

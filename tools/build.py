@@ -21,6 +21,7 @@ earlier check kept such work.
 import contextlib
 import ctypes
 import functools
+import hashlib
 import os
 import pathlib
 import re
@@ -89,6 +90,14 @@ def is_program(crate):
     return (TOP / "crates" / crate / "src" / "main.rt").exists()
 
 
+def sum_of_libraries(crate, libraries, top):
+    """A sum of the libraries that a crate stands on, as they were built: the file format of each holds one of its files."""
+    made = hashlib.sha256()
+    for library in below(crate, libraries):
+        made.update(content(top / "crates" / library / "out" / "rlib" / f"{library}.rlib" / "format"))
+    return made.hexdigest()
+
+
 class Proof:
     """A crate that is being proved, or a program that is being built, in a copy of all crates."""
 
@@ -101,6 +110,7 @@ class Proof:
         shutil.rmtree(self.folder / "out", ignore_errors=True)
         if self.kept.exists():
             self.kept.rename(self.folder / "out")
+        self.drop_misfit(sum_of_libraries(crate, libraries, copy))
         has_kept = KEEPS or (self.folder / "out" / "incremental").exists()
         command = [RT, *([] if has_kept else [STATEMENTS]), "lib", "--jobs", str(jobs)]
         if is_program(crate):
@@ -110,6 +120,13 @@ class Proof:
             given.write(content(self.folder / "stdin"))
             given.seek(0)
             self.run = subprocess.Popen(command, cwd=self.folder, stdin=given, stdout=self.output, stderr=self.said)
+
+    def drop_misfit(self, found):
+        """Removes the library of an earlier run where it was built over other libraries than those that are found here. Statements fit
+        only these, and the stamp that rt writes beside them is of sources alone."""
+        self.over, rlib = found, self.folder / "out" / "rlib"
+        if (rlib / "over").exists() and (rlib / "over").read_text() != found:
+            shutil.rmtree(rlib)
 
     def has_ended(self):
         return self.run.poll() is not None
@@ -133,11 +150,14 @@ class Proof:
             self.look_at_run(output, said)
         elif self.run.returncode:
             raise NotDone(self.crate, "NOT PROVED", output.decode(errors="replace") + said)
+        is_new = PROVED.search(output.decode(errors="replace") + said)
+        if is_new and not is_program(self.crate):
+            (self.folder / "out" / "rlib" / "over").write_text(self.over)
         self.put_back()
         if is_program(self.crate):
             install(self.crate)
             return "built"
-        return "proved" if PROVED.search(output.decode(errors="replace") + said) else "was proved before"
+        return "proved" if is_new else "was proved before"
 
     def look_at_run(self, output, said):
         """Sees that a program was built, and that it wrote what it should."""
