@@ -3,7 +3,7 @@
 
 Outputs that are full, closed, or no longer read; inputs that are closed, or a folder; packages without an end; a disk that is full;
 folders in which nobody may write; names that are no file's; links that go round, lead nowhere or elsewhere; and what stands in the
-way of the new file. Each run is compared with what README says must come: its status, its lines, and the bytes of all files after it.
+way of the new file. Each run is compared with what the pages say must come: its status, its lines, and the bytes of all files after it.
 Where the script runs as root the programs run as nobody, since rights are nothing to root.
 
 Both programs pass over the signal of a pipe that nobody reads, and tell it as an output that cannot be written. That of a file past

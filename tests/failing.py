@@ -6,7 +6,7 @@ or the like fail, by several errors, or be short, or ends the program right befo
 file there; for k = 1, 2, .. until a run meets no such call; over each of the worked rows. Whatever fails, no run may end by a
 signal of its own, and each file must be whole, as it was or as the run without a failure leaves it, but for those whose names end
 in .bznew. A run that ends with the status of the one without a failure must have left all that this one leaves; every other one
-must say what failed, by a line of README, and end with the status of a failure.
+must say what failed, by a line of docs/refusals.md, and end with the status of a failure.
 
     [HOSTILE=whole] tests/failing.py BUILDOZER BUILDIFIER
 

@@ -1,7 +1,7 @@
 #!/usr/bin/env python3
 """Runs both built programs over mutants of texts, command lines and files of lines, for a while, and looks for what must not be.
 
-That is a run that ends by a signal or takes more than ten seconds of a processor; a status that README does not have; and a
+That is a run that ends by a signal or takes more than ten seconds of a processor; a status that the pages do not have; and a
 difference between two ways to one end: a text formatted once and twice, checked and formatted, formatted as standard input and as a
 file; the text of --stdout and the file that is written; commands of one run, and of a run each; a rule that is added and taken
 back, and the bytes as they were; a file that is told as refused, and its bytes after that.
@@ -35,7 +35,7 @@ from sessions import BOLD, COMMANDS, REDOS, TARGETS, TEXTS, UNDOS, told_of
 CASES = 4000 if WHOLE else 150
 # how long a run may keep a processor busy, in seconds
 SECONDS = 10
-# what README says of the statuses
+# what the pages say of the statuses
 STATUSES = {"buildifier": {0, 1, 2, 3, 4}, "buildozer": {0, 1, 2, 3}}
 TOP = pathlib.Path(__file__).resolve().parent.parent
 

@@ -130,7 +130,17 @@ def a_page_that_would_not_change_stays(pages):
     return [f"{name} was written again" for name in again]
 
 
-FUNCTIONS = [commands, options, words_of_options, statuses, refusals, readers_warn_of_nothing, a_page_that_would_not_change_stays]
+def no_point_begins_with_an_option(pages):
+    """fish makes a completion of each such point, whether the program has that option or not."""
+    texts = {program: pages.file(program).read_text() for program in STATUSES}
+    points = {program: re.findall(r"(?m)^\.IP .*\n(.*)", text) for program, text in texts.items()}
+    return [f"{program}: {point}" for program, found in points.items() for point in found if plain(point).startswith("-")]
+
+
+FUNCTIONS = [
+    commands, options, words_of_options, statuses, refusals, readers_warn_of_nothing, a_page_that_would_not_change_stays,
+    no_point_begins_with_an_option,
+]  # fmt: skip
 SCENES = {scene.__name__.replace("_", " "): scene for scene in FUNCTIONS}
 
 

@@ -8,7 +8,7 @@ once, by rt try, with no proof. A line for each failure; the last one is 'N pass
 
 With a command after it, as 'tests/programs.py rt ci', that runs first, and the last line adds its last line's numbers; the
 programs that it built then run on these folders, and over real files: buildifier over single ones (tests/files.py), buildozer over packages
-(tests/workspace.py), both through the examples of README.md and the pages beside it (tests/readme.py) and through what contrib/ has
+(tests/workspace.py), both through the examples of all pages (tests/readme.py) and through what contrib/ has
 for git, CI and editors (tests/contrib.py); the pages for man and the completions are compared with the code and tried in shells
 (tests/manual.py, tests/completions.py), no public name gets a second home (tests/names.py), and both programs are installed and packed (tests/install.py); buildozer runs beside a plain list of texts
 (tests/sessions.py), keeps journals and reads torn and forged ones (tests/journals.py), and is killed while it keeps one (tests/killed.py); both

@@ -1,11 +1,11 @@
 #!/usr/bin/env python3
-"""Runs the examples of README.md and of the other pages as they stand there, and compares README's tables, and the picture of the
-crates, with the code.
+"""Runs the examples of README.md and of the other pages, and compares the tables of the pages of reference, and the picture of the
+crates, with the code. README.md must be short and have a link to each page; links lead somewhere, and files that pages name are there.
 
-The pages are README.md, those beside it and those of docs/. A block of code in which lines begin with `$` is an example: its commands
+The pages are README.md, those beside it, those of docs/ and those in contrib/. A block of code in which lines begin with `$` is an example: its commands
 run one after the other, in a folder of the block's own that is empty at first, with both programs on the PATH. What a command leaves
 on its two outputs must be what stands below it, byte for byte, up to the next command. A block that calls git is told as not run
-where there is no git. The commands in README's tables need only be such as the program takes.
+where there is no git. The commands in the tables need only be such as the program takes.
 
     tests/readme.py BUILDOZER BUILDIFIER
 """
@@ -20,15 +20,25 @@ import tempfile
 from files import report
 
 TOP = pathlib.Path(__file__).resolve().parent.parent
-README = (TOP / "README.md").read_text()
+README = TOP / "README.md"
 # README comes first, so that its examples have the first numbers
-PAGES = sorted([*TOP.glob("*.md"), *TOP.glob("docs/*.md")], key=lambda page: (page.name != "README.md", page))
+PAGES = sorted([*TOP.glob("*.md"), *TOP.glob("docs/*.md"), *TOP.glob("contrib/*/*.md")], key=lambda page: (page != README, page))
+# the pages that have the tables of commands, options, targets, statuses, attributes and refusals
+REFERENCE = "".join((TOP / "docs" / page).read_text() for page in ("buildozer.md", "buildifier.md", "refusals.md"))
+# how many lines README has at most
+LINES = 170
 CRATES = TOP / "crates"
 # lines with four spaces before them, and the empty ones between them
 BLOCK = re.compile(r"(?:^ {4}.*\n(?:\n+(?= {4}))?)+", re.MULTILINE)
 COMMAND = re.compile(r"^\$ (.*)\n", re.MULTILINE)
 GIT = re.compile(r"^\$ (?:.*[ ;|&(])?git ", re.MULTILINE)
 CODE = re.compile(r"`([^`]+)`")
+# where a link leads, in this repository; what is in a block of code or between marks of code is no link
+LINK = re.compile(r"\]\((?!\w+:)([^)#]+)(?:#[^)]*)?\)")
+# the path of a file or folder, of the repository or of a crate; one with a word in capitals is a form
+OF_TOP, OF_CRATES = "docs|tools|tests|contrib|crates|bench|edits|examples|\\.ci", "src|specs|proofs|must-fail"
+PATH = re.compile(rf"(?<![\w./-])(?:{OF_TOP}|{OF_CRATES})/[\w./-]*\w(?![\w*{{-])|(?<![\w./-])[A-Z]+\.md\b")
+FORM = re.compile(r"(?:^|/)[A-Z_]+(?:/|\.edit|$)|/out/")
 # a row of the code's tables of numbers
 NUMBER = re.compile(r"\b(?:\w+Fault|Refusal)::(\w+)(?: \{ \.\. \})? => (\d+),")
 # a row of the table of why a journal is refused, in which the name and the number are one text
@@ -72,7 +82,7 @@ def named_examples():
     """Those of all pages, each by its page, which README's go without, and its number there."""
     named = {}
     for page in PAGES:
-        front = "" if page.name == "README.md" else f"{page.relative_to(TOP)} "
+        front = "" if page == README else f"{page.relative_to(TOP)} "
         named.update({f"{front}example {number}": block for number, block in enumerate(examples(page), 1)})
     return named
 
@@ -80,7 +90,7 @@ def named_examples():
 def rows_of(header):
     """The cells of each row of the tables whose header begins so."""
     rows = []
-    for found in re.finditer(rf"^\| {header} \|.*\n\|[-|]+\|\n((?:\|.*\n)+)", README, re.MULTILINE):
+    for found in re.finditer(rf"^\| {header} \|.*\n\|[-|]+\|\n((?:\|.*\n)+)", REFERENCE, re.MULTILINE):
         rows += [re.split(r"(?<!\\)\|", line)[1:-1] for line in found[1].splitlines()]
     return [[cell.strip() for cell in row] for row in rows]
 
@@ -136,8 +146,8 @@ def an_example(name, block):
     return wrong
 
 
-def different(what, of_readme, of_code):
-    return [] if of_code and of_readme == of_code else [f"{what}: {of_readme}, and not {of_code}"]
+def different(what, of_pages, of_code):
+    return [] if of_code and of_pages == of_code else [f"{what}: {of_pages}, and not {of_code}"]
 
 
 def refusals(programs, folder):
@@ -188,8 +198,39 @@ def layers(programs, folder):
     return different("crates", sorted(word for word, _ in found), sorted(uses)) + wrong
 
 
+def links_of(page):
+    """The files to which a page links."""
+    text = CODE.sub("", BLOCK.sub("", page.read_text()))
+    return {(page.parent / target).resolve() for target in LINK.findall(text)}
+
+
+def pages_are_linked(programs, folder):
+    """README has a link to each page and picture, and every link leads to a file."""
+    linked = links_of(README)
+    pages = [*PAGES, *TOP.glob("docs/*.svg")]
+    lost = [f"README.md has no link to {page.relative_to(TOP)}" for page in pages if page != README and page not in linked]
+    return lost + [f"{page.name} links to {file}" for page in PAGES for file in sorted(links_of(page)) if not file.exists()]
+
+
+def readme_is_short(programs, folder):
+    count = len(README.read_text().splitlines())
+    return [f"README.md has {count} lines"] * (count > LINES)
+
+
+def files_are_there(programs, folder):
+    """Each file that a page names is there, from the top of the repository, from docs/ or in a crate; that of a module may lack `.antt`."""
+    places, wrong = [TOP, TOP / "docs", *CRATES.iterdir()], []
+    for page in PAGES:
+        named = {path for path in PATH.findall(page.read_text()) if not FORM.search(path)}
+        lost = [path for path in sorted(named) if not any((place / f"{path}{end}").exists() for place in places for end in ("", ".antt"))]
+        wrong += [f"{page.relative_to(TOP)} names {path}" for path in lost]
+    return wrong
+
+
 SCENES = {name: an_example(name, block) for name, block in named_examples().items()}
-SCENES |= {scene.__name__.replace("_", " "): scene for scene in (refusals, attributes, commands, examples_of_commands, layers)}
+OF_TABLES = [refusals, attributes, commands, examples_of_commands, layers]
+OF_PAGES = [pages_are_linked, readme_is_short, files_are_there]
+SCENES |= {scene.__name__.replace("_", " "): scene for scene in OF_TABLES + OF_PAGES}
 
 
 def failures(*built):

@@ -8,7 +8,7 @@ lines on standard error and status. So what one run shows is that of the runs of
 back are the very bytes that stood there.
 
 The lists are those of tests/buildozer, of the program's own files and of the pages' examples, as far as they are about standard
-input; fixed ones, in which each command of README's tables stands; and many that are made by chance, always the same, over
+input; fixed ones, in which each command of the tables of docs/buildozer.md is; and many that are made by chance, always the same, over
 texts that are laid out oddly. Of all but the last each beginning is run too, and each also without -k.
 
     tests/sessions.py PROGRAM
@@ -467,7 +467,7 @@ def made(number):
 
 
 def each_command(program):
-    """Each command of README's tables stands in a fixed list."""
+    """Each command of the tables of docs/buildozer.md is in a fixed list."""
     named = {word.split()[0] for row in readme.rows_of("Command") for word in readme.CODE.findall(row[0])}
     used = {command.split()[0] for work in fixed().values() for command in work.commands}
     return readme.different("commands", sorted(used), sorted(named))

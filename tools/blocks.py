@@ -1,11 +1,15 @@
-"""README.md as the scripts read it that make pages and completions of it: its sections, each a list of blocks."""
+"""The pages of docs/ as the scripts read them that make man pages and completions of them: their sections, each a list of blocks."""
 import dataclasses
 import pathlib
 import re
 
 TOP = pathlib.Path(__file__).resolve().parent.parent
+# the pages of reference: the programs' own, what they refuse, and what differs from others
+REFERENCE = ["buildozer.md", "buildifier.md", "refusals.md", "COMING.md"]
 CODE = re.compile(r"`([^`]+)`")
 MARGIN = "    "
+# a picture alone, which no page of man has
+PICTURE = re.compile(r"!\[.*\]\(.*\)")
 
 
 @dataclasses.dataclass
@@ -53,12 +57,14 @@ def block_of(lines):
 def blocks_of(text):
     """The blocks of a section. An empty line between two lines of code belongs to the code."""
     joined = re.sub(rf"(?m)^({MARGIN}.*\n)\n+(?={MARGIN})", rf"\1{MARGIN}\n", text)
-    return [block_of(piece.splitlines()) for piece in re.split(r"\n\n+", joined.strip("\n")) if piece.strip()]
+    pieces = [piece for piece in re.split(r"\n\n+", joined.strip("\n")) if piece.strip() and not PICTURE.fullmatch(piece)]
+    return [block_of(piece.splitlines()) for piece in pieces]
 
 
 def sections():
-    """The blocks of each section of README.md, by its heading."""
-    pieces = re.split(r"(?m)^#+ (.*)\n", (TOP / "README.md").read_text())
+    """The blocks of each section of the pages of reference, by its heading."""
+    text = "\n".join((TOP / "docs" / page).read_text() for page in REFERENCE)
+    pieces = re.split(r"(?m)^#+ (.*)\n", text)
     return {title: blocks_of(text) for title, text in zip(pieces[1::2], pieces[2::2])}
 
 

@@ -1,5 +1,6 @@
 #!/usr/bin/env python3
-"""Makes the completions of both programs for bash, zsh and fish from README.md's tables, so that a command or option stands there alone.
+"""Makes the completions of both programs for bash, zsh and fish from the tables of docs/buildozer.md and docs/buildifier.md, so that a
+command or option is in one place.
 
 tools/completions/ has what each shell does, with names between two `@` where a table goes, and candidates.sh, a script of sh that all
 three shells run to learn what an operand of buildozer may become.

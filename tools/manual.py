@@ -1,6 +1,6 @@
 #!/usr/bin/env python3
-"""Makes the pages buildozer.1 and buildifier.1, in the macros of man, from README.md: its sections on each program, on undo across
-runs, on the refusals and on what differs. What a page says stands in README.md alone; here it is said only where each block of it goes.
+"""Makes the pages buildozer.1 and buildifier.1, in the macros of man, from pages of docs/: buildozer.md, buildifier.md, refusals.md and
+the section of COMING.md on what differs. What a page says is in these alone; here is only where each block of them goes.
 
 The paragraphs become the description, the examples the examples, each table a section of its own. An example stays in the
 description where the paragraph above it ends with a colon. Of the tables of refusals and of other lines the page of a program
@@ -26,7 +26,8 @@ FRONTS = {"Mode": "--mode=", "Type": "--type="}
 # the column behind the name is told without its header where that says only what the table is for
 UNTOLD = ("What", "Their", "Means", "When")
 REFUSALS, DIFFERENCES = "Refusals and other lines on standard error", "What differs from bazelbuild's tools"
-LIMITS = "How to use them"
+LIMITS = "Limits"
+DOCUMENTS = "docs/COMING.md compares the tools table by table. The documents that this page names are in the archive and beside the sources."
 # sections that are whole ones of buildozer's page too
 OF_BUILDOZER = ["Undo across runs"]
 # a refusal of a text, which both programs report; those behind them are of labels, targets and commands
@@ -126,7 +127,7 @@ def sorted_blocks(program, found):
     first = CODE.sub(lambda code: f"`{program}`", own[0].text, count=1)
     parts = {title: [] for title in ("DESCRIPTION", *TABLES.values())}
     above = None
-    for block in [Paragraph(first), *own[1:], *found[LIMITS][1:], *found[REFUSALS]]:
+    for block in [Paragraph(first), *own[1:], *found[LIMITS], *found[REFUSALS]]:
         if isinstance(block, Table):
             rows = [cells for cells in block.rows if is_told_by(program, block.header, cells)]
             parts.setdefault(TABLES.get(block.header[0], block.header[0].upper()), []).append(Table(block.header, rows))
@@ -149,7 +150,7 @@ def page(program, found):
     does = re.split(r"[;.](?:\s|$)", CODE.sub("", found[program][0].text, count=1))[0].strip()
     others = ", ".join(rf"\fB{other}\fR(1)" for other in PROGRAMS if other != program)
     lines = [
-        r'.\" Made by tools/manual.py from README.md.',
+        r'.\" Made by tools/manual.py from docs/.',
         f'.TH {program.upper()} 1 {day} "kinduzar {written(word, CODE_SIGNS)}" "User Commands"',
         ".SH NAME", rf"{program} \- {does}",
         ".SH SYNOPSIS", form(synopsis),
@@ -157,7 +158,7 @@ def page(program, found):
     for title, blocks in sorted_blocks(program, found).items():
         if blocks:
             lines += [f".SH {title}", *(line for block in blocks for line in block_lines(block))]
-    lines += [".SH SEE ALSO", others, ".PP", "The documents that this page names stand beside the sources."]
+    lines += [".SH SEE ALSO", others, ".PP", *filled(DOCUMENTS)]
     # a paragraph right behind the heading of a section is one by itself
     return re.sub(r"(?m)^(\.SH .*\n)\.PP\n", r"\1", "\n".join(lines) + "\n")
 

@@ -1,4 +1,4 @@
-# Completion of buildifier's words in bash. Made by tools/completions.py from README.md.
+# Completion of buildifier's words in bash. Made by tools/completions.py from docs/.
 
 _buildifier() {
     local line=${COMP_LINE:0:COMP_POINT} front=''

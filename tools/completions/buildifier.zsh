@@ -1,5 +1,5 @@
 #compdef buildifier
-# Completion of buildifier's words in zsh. Made by tools/completions.py from README.md.
+# Completion of buildifier's words in zsh. Made by tools/completions.py from docs/.
 
 _arguments -S \
     '--mode=[what is done with a file that differs]:mode:(@MODES@)' \

@@ -1,4 +1,4 @@
-# Completion of buildozer's words in bash. Made by tools/completions.py from README.md.
+# Completion of buildozer's words in bash. Made by tools/completions.py from docs/.
 
 _buildozer_candidates() {
     sh -s -- "$@" << 'END'

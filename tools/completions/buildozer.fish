@@ -1,4 +1,4 @@
-# Completion of buildozer's words in fish. Made by tools/completions.py from README.md.
+# Completion of buildozer's words in fish. Made by tools/completions.py from docs/.
 
 set -g __buildozer_script '@CANDIDATES@'
 

@@ -1,5 +1,5 @@
 #compdef buildozer
-# Completion of buildozer's words in zsh. Made by tools/completions.py from README.md.
+# Completion of buildozer's words in zsh. Made by tools/completions.py from docs/.
 
 _buildozer_candidates() {
     sh -s -- "$@" << 'END'

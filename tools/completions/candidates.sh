@@ -5,7 +5,7 @@ set -f
 program=$1 operand=$2
 newline='
 '
-# each command: its name, what may stand at each place behind it, and how README.md writes it. A '+' stands where a further word
+# each command: its name, what may stand at each place behind it, and how docs/buildozer.md writes it. A '+' stands where a further word
 # is needed, a word and '>' where something may stand behind that word alone.
 commands='@COMMANDS@'
 attributes='@ATTRIBUTES@'
