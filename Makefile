@@ -2,7 +2,7 @@
 #             and KEEP=yes keeps what was proved of each function, for whoever changes the sources
 # make install    puts both programs, their pages for man, and completions for bash, zsh and fish below PREFIX (/usr/local); with DESTDIR=.. before it
 # make uninstall  removes just these
-# make dist   packs the same and README.md into an archive in dist/, with its SHA-256 sum beside it
+# make dist   packs the same, all pages and contrib/ into an archive in dist/, with its SHA-256 sum beside it
 # make edits  tries the further edits that the prover must refuse, those of edits/; with CRATE=.. those of one crate
 # make test   the tests: runs of the programs (tests/), every proof from nothing, the edits that the prover must refuse, each program and each test
 # make bench  the time and the memory of a delete in a large file, of many commands in one run, also where it keeps a journal, of a run over many packages, and of reading a file; with FOLDER=.. of the BUILD files there
@@ -50,7 +50,7 @@ bin/.shown: bin/buildozer bin/buildifier examples/BUILD
 	@bin/buildifier < examples/BUILD
 	@touch $@
 
-# pages and completions, made of README.md each time; a file that would not change stays
+# pages and completions, made of docs/ each time; a file that would not change stays
 share:
 	@PYTHONDONTWRITEBYTECODE=1 tools/manual.py share
 	@PYTHONDONTWRITEBYTECODE=1 tools/completions.py share
@@ -66,8 +66,11 @@ install: share
 uninstall:
 	@for file in $(PROGRAMS) $(SHARED); do rm -f "$(DESTDIR)$(PREFIX)/$$file" || exit 1; done
 
+# what is packed beside these
+PACKED = $(wildcard *.md LICENSE docs/*) .pre-commit-hooks.yaml $(shell find contrib -type f)
+
 dist: $(PROGRAMS) share
-	@PYTHONDONTWRITEBYTECODE=1 tools/archive.py dist $(PROGRAMS) $(SHARED) README.md $(wildcard LICENSE)
+	@PYTHONDONTWRITEBYTECODE=1 tools/archive.py dist $(PROGRAMS) $(SHARED) $(PACKED)
 
 # Where four processors and the memory for four proofs are there, four run side by side; by its own estimates rt starts fewer.
 LANES = $(shell [ "$$(nproc)" -ge 4 ] && [ "$$(awk '/MemAvailable/ { print int($$2 / 1000000) }' /proc/meminfo)" -ge 18 ] && echo RT_JOBS=4)

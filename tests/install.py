@@ -9,6 +9,7 @@ import hashlib
 import os
 import pathlib
 import re
+import shlex
 import shutil
 import subprocess
 import sys
@@ -37,9 +38,10 @@ class Copy:
         self.path, self.top, self.root = pathlib.Path(path), pathlib.Path(path, "top"), pathlib.Path(path, "a root")
         for folder in ("bin", "crates"):
             (self.top / folder).mkdir(parents=True)
-        for file in ("Makefile", "README.md", "crates.txt"):
-            shutil.copy(TOP / file, self.top)
-        shutil.copytree(TOP / "tools", self.top / "tools", ignore=shutil.ignore_patterns("__pycache__"))
+        for file in [*TOP.glob("*.md"), *(TOP / name for name in ("Makefile", "crates.txt", ".pre-commit-hooks.yaml"))]:
+            shutil.copy(file, self.top)
+        for folder in ("tools", "docs", "contrib"):
+            shutil.copytree(TOP / folder, self.top / folder, ignore=shutil.ignore_patterns("__pycache__"))
         for program, file in zip(PROGRAMS, built):
             shutil.copyfile(file, self.top / "bin" / program)
             (self.top / "bin" / program).chmod(0o700)
@@ -62,6 +64,11 @@ class Copy:
         """The permission bits of each file below a folder of the root."""
         folder = self.root / prefix
         return {str(file.relative_to(folder)): file.stat().st_mode & 0o7777 for file in folder.rglob("*") if not file.is_dir()}
+
+    def pages(self):
+        """What is packed beside the programs and their files: each file, with the permission bits that it gets."""
+        pages = [*self.top.glob("*.md"), self.top / ".pre-commit-hooks.yaml", *(self.top / "docs").iterdir(), *(self.top / "contrib").rglob("*")]
+        return {str(file.relative_to(self.top)): 0o755 if os.access(file, os.X_OK) else 0o644 for file in pages if file.is_file()}
 
     def version(self):
         return self.run("tools/version.py")[1].split()[0]
@@ -115,9 +122,18 @@ def not_built(copy):
     return wrong + ["it ends well"] * (status == 0) + different("files", copy.installed(), {})
 
 
+def unpacked(copy, archive):
+    """What comes of README.md's command for an archive, in another folder than the home of who runs it."""
+    command = re.search(r"(?m)^ {4}(tar .*)$", (copy.top / "README.md").read_text())[1]
+    folder = copy.root / "unpacked"
+    folder.mkdir(parents=True)
+    words = command.replace("kinduzar-VERSION-x86_64-linux.tar.gz", shlex.quote(str(archive))).replace("~/.local", shlex.quote(str(folder)))
+    return copy.run("sh", "-c", words)
+
+
 def packed(copy):
-    """The archive has the same files and README.md, its sum is told, and what is unpacked runs; a second one is the same. For the
-    larger program stands a short text."""
+    """The archive has the same files, the pages and contrib/, its sum is written beside it, and what README.md's command unpacks runs;
+    a second one is the same. In place of the larger program is a short text."""
     (copy.top / "bin/buildozer").write_text("#!/bin/sh\n")
     status, told = copy.make("dist")
     archive = copy.top / told.strip()
@@ -128,10 +144,11 @@ def packed(copy):
     wrong += different("sum", sums, f"{hashlib.sha256(content).hexdigest()}  {archive.name}\n")
     with tarfile.open(archive) as packed:
         rows = {row.name: (row.mode, row.uid, row.gid) for row in packed}
-        packed.extractall(copy.path)
-    wanted = {f"{front}/{file}": (mode, 0, 0) for file, mode in {**FILES, "README.md": 0o644}.items()}
+    wanted = {f"{front}/{file}": (mode, 0, 0) for file, mode in {**FILES, **copy.pages()}.items()}
     wrong += different("files", rows, wanted)
-    run = subprocess.run([copy.path / front / "bin/buildifier"], input=ODD, stdout=subprocess.PIPE, timeout=SECONDS)
+    wrong += different("unpacking", unpacked(copy, archive), (0, ""))
+    wrong += different("unpacked files", copy.installed("unpacked"), FILES)
+    run = subprocess.run([copy.root / "unpacked/bin/buildifier"], input=ODD, stdout=subprocess.PIPE, timeout=SECONDS)
     wrong += different("what it writes", run.stdout, EVEN)
     shutil.rmtree(copy.top / "share")
     archive.unlink()
@@ -177,7 +194,7 @@ def runs_with_libraries_alone(copy):
 
 
 def asks_for_no_later_library(copy):
-    """Of the C library nothing is asked for that came after the version that README.md names."""
+    """Nothing of the C library is needed that came after the version that README.md names."""
     if not shutil.which("objdump"):
         print("tests/install.py: not run with objdump, which is not there", flush=True)
         return []

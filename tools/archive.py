@@ -1,6 +1,6 @@
 #!/usr/bin/env python3
 """Packs files of this folder into an archive that is called by the version of the sources and by the machine, and writes its SHA-256 sum
-beside it, as sha256sum reads it. What is in bin/ may be run, and all may be read. Of the same files comes the same archive, byte for byte.
+beside it, as sha256sum reads it. What its owner may run all may run, and all may be read. Of the same files comes the same archive, byte for byte.
 
     tools/archive.py FOLDER FILE..
 """
@@ -24,7 +24,7 @@ def name(word):
 def entry(archive, front, file, day):
     """A file of the archive, of which neither its owner nor its time tell by whom and when it was made."""
     row = archive.gettarinfo(TOP / file, f"{front}/{file}")
-    row.mode = 0o755 if file.startswith("bin/") else 0o644
+    row.mode = 0o755 if row.mode & 0o100 else 0o644
     row.mtime = int(datetime.datetime.fromisoformat(f"{day}T00:00:00+00:00").timestamp())
     row.uid = row.gid = 0
     row.uname = row.gname = "root"
