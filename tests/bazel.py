@@ -50,11 +50,18 @@ REFORMAT = re.compile(r"^\S+ # reformat$", re.MULTILINE)
 
 WORKSPACE = """workspace(name = "scenes")
 
-local_repository(name = "kinduzar", path = {rules})
+local_repository(
+    name = "kinduzar",
+    path = {rules},
+)
 
 load("@kinduzar//:programs.bzl", "kinduzar_programs")
 
-kinduzar_programs(name = "kinduzar_programs", buildifier = {buildifier}, buildozer = {buildozer})
+kinduzar_programs(
+    name = "kinduzar_programs",
+    buildifier = {buildifier},
+    buildozer = {buildozer},
+)
 """
 # A repository that Bazel fetches for each test, also where nothing asks for coverage.
 COVERAGE = 'filegroup(name = "coverage_report_generator", visibility = ["//visibility:public"])\n'

@@ -8,6 +8,7 @@ is told as not run where the tool isn't there, and is then not counted as failed
 """
 import json
 import pathlib
+import re
 import shutil
 import subprocess
 import sys
@@ -22,6 +23,22 @@ EVEN = 'f(name = "\u00e9")\n'
 REFUSED = "f(\n"
 ODD_BZL = "def f(x):\n  return x\n"
 EVEN_BZL = "def f(x):\n    return x\n"
+# names that are read as BUILD files everywhere
+OF_BUILD = ["BUILD", "BUILD.bazel", "WORKSPACE", "WORKSPACE.bazel", "MODULE.bazel", "d/zlib.BUILD"]
+HOOKS = ["buildifier", "buildifier-check", "buildifier-bzl", "buildifier-bzl-check"]
+# calls with the options of bazelbuild's programs: the words, standard input, and the status with what is written
+COMPAT = [
+    (["buildifier", "-mode=check", "-path=a/r.bzl"], ODD_BZL, (4, "<stdin> # reformat\n")),
+    (["buildifier", "-mode", "fix", "-type", "auto", "-path", "a/BUILD"], ODD, (0, EVEN)),
+    (["buildifier", "--type=bzl", "-lint=off"], ODD_BZL, (0, EVEN_BZL)),
+    (["buildifier", "-type=workspace", "--", "sub/app/BUILD"], "", (0, "")),
+    (["buildifier", "-r", "."], "", (2, "compat.sh: buildifier has no -r here\n")),
+    (["buildifier", "-mode"], "", (2, "compat.sh: buildifier: -mode has no value\n")),
+    (["buildozer", "-root_dir", "sub", "-stdout", "-f", "my lines"], "", (0, 'f(\n    name = "\u00e9",\n    size = "small",\n)\n')),
+    (["buildozer", "-k", "-numio=200", "print name", "-:all"], ODD, (3, "\u00e9\n")),
+    (["buildozer", "-types=f", "print name", "-:all"], ODD, (1, "compat.sh: buildozer has no -types=f here\n")),
+    (["buildozer", "-eol-comments", "print name", "-:all"], ODD, (1, "compat.sh: buildozer has no -eol-comments here\n")),
+]
 # who commits, and where pre-commit keeps what it knows of hooks
 IDENTITY = {f"GIT_{who}_{what}": text for who in ("AUTHOR", "COMMITTER") for what, text in (("NAME", "a"), ("EMAIL", "a@b"))}
 
@@ -71,8 +88,14 @@ def git_hook(programs, folder):
     here.add("other", ODD)
     here.commits("a commit without BUILD files", 0)
     here.add("r.bzl", ODD_BZL)
-    here.commits("an odd .bzl file", 1, "./r.bzl # reformat")
-    here.add("r.bzl", EVEN_BZL)
+    here.environment["BUILDIFIER_BZL"] = "yes"
+    here.commits("an odd .bzl file, where they count", 1, "./r.bzl # reformat")
+    del here.environment["BUILDIFIER_BZL"]
+    here.commits("an odd .bzl file", 0)
+    for name in OF_BUILD:
+        here.add(name, ODD)
+        here.commits(name, 1, f"./{name} # reformat")
+        here.add(name, EVEN)
     here.add("a b/BUILD", ODD)
     here.put("a b/BUILD", EVEN)
     here.commits("an odd file, mended in the folder alone", 1, "./a b/BUILD # reformat")
@@ -94,7 +117,7 @@ def pre_commit(programs, folder):
     kept.commits("the hooks", 0)
     commit = kept.run("git", "rev-parse", "HEAD")[1].strip()
     here = Repository(programs, pathlib.Path(folder))
-    settings = f"repos:\n- repo: {hooks}\n  rev: {commit}\n  hooks:\n  - id: buildifier\n  - id: buildifier-check\n"
+    settings = f"repos:\n- repo: {hooks}\n  rev: {commit}\n  hooks:\n" + "".join(f"  - id: {name}\n" for name in HOOKS)
     here.add(".pre-commit-config.yaml", settings)
     here.run("pre-commit", "install")
     here.add("a/BUILD", ODD)
@@ -113,13 +136,21 @@ def ci_script(programs, folder):
     here = Repository(programs, folder)
     script = CONTRIB / "ci" / "check-build-files.sh"
     here.wants("no files", here.run(script), (0, ""))
+    for name in OF_BUILD:
+        here.add(name, ODD)
+        here.wants(name, here.run(script), (4, f"{name} # reformat\n"))
+        here.wants("all but it", here.run(script, "--", f":!{name}"), (0, ""))
+        here.run("git", "rm", "-fq", name)
     here.add("a/BUILD", EVEN)
     here.put("not added/BUILD", ODD)
     here.wants("a formatted file", here.run(script), (0, ""))
     here.commits("a commit", 0)
     here.add("b c/BUILD.bazel", ODD)
-    here.add("b c/r.bzl", EVEN_BZL)
+    here.add("b c/r.bzl", ODD_BZL)
     here.wants("an odd file", here.run(script), (4, "b c/BUILD.bazel # reformat\n"))
+    here.environment["BUILDIFIER_BZL"] = "yes"
+    here.wants("a .bzl file", here.run(script), (4, "b c/BUILD.bazel # reformat\nb c/r.bzl # reformat\n"))
+    del here.environment["BUILDIFIER_BZL"]
     here.wants("the file", (here.path / "b c/BUILD.bazel").read_text(encoding="utf-8"), ODD)
     here.add("c/BUILD", REFUSED)
     here.wants("a text that is refused", here.run(script)[0], 1)
@@ -132,15 +163,56 @@ def ci_script(programs, folder):
     return here.wrong
 
 
-def on_save(*commands):
-    """A scene in which an editor writes a file that it formats, and one that is refused."""
+def ci_script_of_a_branch(programs, folder):
+    """By three dots what others changed since the branch began is left out."""
+    here = Repository(programs, folder)
+    script = CONTRIB / "ci" / "check-build-files.sh"
+    here.add("a/BUILD", EVEN)
+    here.add("b/BUILD", EVEN)
+    here.commits("a commit", 0)
+    for words in (["branch", "other"], ["checkout", "-q", "-b", "mine"]):
+        here.run("git", *words)
+    here.add("b/BUILD", ODD)
+    here.commits("a commit of the branch", 0)
+    here.run("git", "checkout", "-q", "other")
+    here.add("a/BUILD", EVEN + "\n# d\n")
+    here.commits("a commit of others", 0)
+    here.run("git", "checkout", "-q", "mine")
+    here.put("a/BUILD", ODD)
+    here.run("git", "add", "a/BUILD")
+    here.wants("by three dots", here.run(script, "other...HEAD"), (4, "b/BUILD # reformat\n"))
+    here.wants("by the commit", here.run(script, "other"), (4, "a/BUILD # reformat\nb/BUILD # reformat\n"))
+    return here.wrong
+
+
+def compat(programs, folder):
+    """By one dash or two; what cannot be done is named, and nothing is run."""
+    script, left = CONTRIB / "compat" / "compat.sh", []
+    pathlib.Path(folder, "sub", "app").mkdir(parents=True)
+    build = pathlib.Path(folder, "sub", "app", "BUILD")
+    build.write_text(EVEN, encoding="utf-8")
+    pathlib.Path(folder, "my lines").write_text("set size small|//app:all\n")
+    for words, text, wanted in COMPAT:
+        found = programs.run([str(script), *words], folder, text.encode())
+        left += [f"{words}: {found}, and not {wanted}"] * (found != wanted)
+    left += [f"the file: {build.read_text()!r}"] * (build.read_text(encoding="utf-8") != EVEN)
+    return left
+
+
+def on_save(chosen, *commands):
+    """A scene in which an editor writes files that it formats, one that is refused, and a .bzl file, which is formatted by choice; of
+    these words the second one chooses so."""
+    rows = [(name, ODD, EVEN, 0) for name in OF_BUILD] + [("BUILD", REFUSED, REFUSED, 0), ("other", ODD, ODD, 1)]
+    rows += [("r.bzl", ODD_BZL, ODD_BZL, 0), ("r.bzl", ODD_BZL, EVEN_BZL, 1)]
 
     def wrong(programs, folder):
         faults = []
-        for name, text, wanted in (("BUILD", ODD, EVEN), ("BUILD.bazel", REFUSED, REFUSED), ("r.bzl", ODD_BZL, EVEN_BZL), ("other", ODD, ODD)):
+        for name, text, wanted, at in rows:
             file = pathlib.Path(folder, name)
+            file.parent.mkdir(exist_ok=True)
             file.write_text(text, encoding="utf-8")
-            words = [word.replace("CONTRIB", str(CONTRIB)).replace("FILE", name) for word in commands]
+            places = {"CONTRIB": str(CONTRIB), "FILE": name, "CHOSEN": chosen[at]}
+            words = [re.sub("|".join(places), lambda found: places[found[0]], word) for word in commands]
             try:
                 programs.run(words, folder)
             except subprocess.TimeoutExpired:
@@ -188,20 +260,47 @@ def pictures(programs, folder):
     return [left] if status else []
 
 
-VIM = ("-u", "NONE", "-i", "NONE", "-es", "-S", "CONTRIB/vim/buildifier.vim", "-c", "edit FILE", "-c", "write", "-c", "qa!")
-EMACS = '(progn (find-file "FILE") (set-buffer-modified-p t) (save-buffer))'
+VIM_SETTINGS = ("-u", "NONE", "-i", "NONE", "-es", "--cmd", "let g:buildifier_bzl = CHOSEN", "-S", "CONTRIB/vim/buildifier.vim")
+VIM = (("0", "1"), "vim", "-N", *VIM_SETTINGS, "-c", "edit FILE", "-c", "write", "-c", "qa!")
+NEOVIM = (("0", "1"), "nvim", "--headless", *VIM_SETTINGS, "-c", "edit FILE", "-c", "write", "-c", "qa!")
+EMACS_SAVE = '(progn (setq buildifier-bzl CHOSEN) (find-file "FILE") (set-buffer-modified-p t) (save-buffer))'
+EMACS = (("nil", "t"), "emacs", "-Q", "--batch", "-l", "CONTRIB/emacs/buildifier.el", "--eval", EMACS_SAVE)
 # after a fault Kakoune would wait for more to do
-KAKOUNE = 'try %{ source "%val{runtime}/rc/tools/format.kak"; source "CONTRIB/kakoune/buildifier.kak"; edit FILE; write }; kill!'
+KAKOUNE_SAVE = """try %{ source "%val{runtime}/rc/tools/format.kak"; source "CONTRIB/kakoune/buildifier.kak"
+set-option global buildifier_bzl CHOSEN; edit FILE; write }; kill!"""
+KAKOUNE = (("false", "true"), "kak", "-n", "-ui", "dummy", "-e", KAKOUNE_SAVE)
+# what Vim shows of a write, and its list of places, as lines of the file `shown`
+VIM_PLACES = r"""map(getqflist(), 'bufname(v:val.bufnr) . ":" . v:val.lnum . ":" . v:val.col . ":" . v:val.text')"""
+VIM_SHOWS = rf"call writefile(split(execute('messages'), '\n')[-2:], 'shown') | call writefile({VIM_PLACES}, 'shown', 'a')"
+
+
+def vim_shows_a_refusal(programs, folder):
+    """After the line of the write comes what was refused, which is a place of the quickfix list too, by the byte; once the text is
+    accepted the list is empty."""
+    faults, file, shown = [], pathlib.Path(folder, "BUILD"), pathlib.Path(folder, "shown")
+    script = str(CONTRIB / "vim" / "buildifier.vim")
+    words = ["vim", "-N", "-u", "NONE", "-i", "NONE", "-es", "-S", script, "-c", "edit BUILD", "-c", "write"]
+    place = '"BUILD" 1L, 9B written', "buildifier: <stdin>:1:7: BadCharacter", "BUILD:1:8:BadCharacter"
+    for more, wanted in (([], list(place)), (["-c", 'call setline(1, "f()")', "-c", "write"], ['"BUILD" 1L, 4B written'])):
+        file.write_text('f("\u00e9" $', encoding="utf-8")
+        programs.run([*words, *more, "-c", VIM_SHOWS, "-c", "qa!"], folder)
+        left = shown.read_text(encoding="utf-8").splitlines()
+        faults += [f"{left}, and not {wanted}"] * (left[-len(wanted) :] != wanted)
+    return faults
+
 
 # each with the tool that it needs
 NEEDS = {
     "git hook": ("git", git_hook),
     "pre-commit": ("pre-commit", pre_commit),
     "script of CI": ("git", ci_script),
-    "Vim": ("vim", on_save("vim", "-N", *VIM)),
-    "Neovim": ("nvim", on_save("nvim", "--headless", *VIM)),
-    "Emacs": ("emacs", on_save("emacs", "-Q", "--batch", "-l", "CONTRIB/emacs/buildifier.el", "--eval", EMACS)),
-    "Kakoune": ("kak", on_save("kak", "-n", "-ui", "dummy", "-e", KAKOUNE)),
+    "script of CI over a branch": ("git", ci_script_of_a_branch),
+    "options of bazelbuild's programs": ("sh", compat),
+    "Vim": ("vim", on_save(*VIM)),
+    "Vim shows a refusal": ("vim", vim_shows_a_refusal),
+    "Neovim": ("nvim", on_save(*NEOVIM)),
+    "Emacs": ("emacs", on_save(*EMACS)),
+    "Kakoune": ("kak", on_save(*KAKOUNE)),
     "extension for VS Code": ("node", extension),
     "pictures": ("sh", pictures),
 }

@@ -9,6 +9,10 @@
 # How many files one run of buildifier takes in a test.
 _BATCH = 1000
 
+# The names of the files that are read as BUILD files, and those of .bzl files; patterns of find's -name.
+_BUILD_FILES = ["BUILD", "BUILD.bazel", "WORKSPACE", "WORKSPACE.bazel", "MODULE.bazel", "*.BUILD"]
+_BZL_FILES = ["*.bzl"]
+
 _CHECK = """#!/bin/sh
 # Ends with 0 where all files are formatted; each other one is named by a line `FILE # reformat`.
 status=0
@@ -97,7 +101,7 @@ def _buildifier(ctx):
         program = _quoted(ctx.executable.buildifier.short_path),
         mode = ctx.attr.mode,
         excluded = excluded,
-        names = " -o ".join(["-name " + _quoted(name) for name in ctx.attr.names]),
+        names = " -o ".join(["-name " + _quoted(name) for name in ctx.attr.names + (_BZL_FILES if ctx.attr.bzl else [])]),
     )
     return _started(ctx, "buildifier", text)
 
@@ -105,9 +109,10 @@ buildifier = rule(
     implementation = _buildifier,
     attrs = {
         "buildifier": _program("//:buildifier_program"),
+        "bzl": attr.bool(doc = "Whether .bzl files are taken too."),
         "exclude": attr.string_list(doc = "Folders, from the workspace's root, whose files are left out; a pattern of find's -path."),
         "mode": attr.string(default = "fix", values = ["fix", "check", "print_if_changed"]),
-        "names": attr.string_list(allow_empty = False, default = ["BUILD", "BUILD.bazel"], doc = "The names of the files that are taken; patterns of find's -name."),
+        "names": attr.string_list(allow_empty = False, default = _BUILD_FILES, doc = "The names of the files that are taken; patterns of find's -name."),
     },
     doc = "By bazel run: formats the source tree, or the files that are named after two dashes.",
     executable = True,

@@ -1,22 +1,31 @@
 #!/bin/sh
-# Checks that the BUILD and .bzl files of a git repository are formatted; no file is changed.
+# Checks that the BUILD files of a git repository are formatted, with WORKSPACE, MODULE.bazel and *.BUILD; no file is changed.
 #
-#     check-build-files.sh [COMMIT]
+#     check-build-files.sh [COMMIT] [-- PATHSPEC..]
 #
-# It is called in the folder whose files are to be checked, with all below it; with a COMMIT only those that differ from it are
-# checked. Its status is that of buildifier: 0 where all are formatted, 4 where one is not, 1 where one is no text that buildifier
-# reads, 3 where one could not be read, of several the first of 3, 1 and 4; and 2 where the check could not be made at all.
+# It is called in the folder whose files are to be checked, with all below it. With a COMMIT only those that differ from it are
+# checked, with A...B those that differ between B and where it left A; a PATHSPEC such as ':!third_party' leaves a folder out.
+# With BUILDIFIER_BZL=yes in the environment .bzl files are checked too. The status is that of buildifier: 0 where all are formatted,
+# 4 where one is not, 1 where one is no text that buildifier reads, 3 where one could not be read, of several the first of 3, 1 and 4;
+# and 2 where the check could not be made at all.
 command -v buildifier > /dev/null || { echo "check-build-files: buildifier is not on the PATH" >&2; exit 2; }
 folder=$(mktemp -d) || exit 2
 trap 'rm -rf "$folder"' EXIT
 : > "$folder/statuses"
-if [ $# -gt 0 ]; then
-    git diff -z --name-only --relative --diff-filter=d "$1" -- ':(glob)**/BUILD' ':(glob)**/BUILD.bazel' ':(glob)**/*.bzl' > "$folder/names" || exit 2
+names='(^|/)((BUILD|WORKSPACE)(\.bazel)?|MODULE\.bazel|[^/]*\.BUILD)$'
+[ -z "$BUILDIFIER_BZL" ] || names="$names|\.bzl$"
+commit=
+if [ $# -gt 0 ] && [ "$1" != -- ]; then commit=$1; shift; fi
+[ $# -eq 0 ] || shift
+if [ -n "$commit" ]; then
+    git diff -z --name-only --relative --diff-filter=d "$commit" -- "$@" > "$folder/all" || exit 2
 else
-    git ls-files -z -- ':(glob)**/BUILD' ':(glob)**/BUILD.bazel' ':(glob)**/*.bzl' > "$folder/names" || exit 2
+    git ls-files -z -- "$@" > "$folder/all" || exit 2
 fi
+grep -zE "$names" "$folder/all" > "$folder/names"
+[ $? -le 1 ] || exit 2
 # xargs has a status of its own, so each call leaves its status in a file
-xargs -0 -r sh -c 'buildifier --mode=check "$@" || echo "$?" >> "$0"' "$folder/statuses" < "$folder/names" || exit 2
+xargs -0 -r sh -c 'buildifier --mode=check -- "$@" || echo "$?" >> "$0"' "$folder/statuses" < "$folder/names" || exit 2
 for status in 3 1 4; do
     grep -qx "$status" "$folder/statuses" && exit "$status"
 done
