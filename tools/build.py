@@ -7,7 +7,7 @@ A line tells of each crate that is done, with how many of all are done and the m
 kept in their folders out/, so a run that was interrupted goes on behind these, and one over unchanged sources proves nothing.
 The first proof that fails ends the run, and the last line names its crate.
 
-A crate is proved when all that it stands on is, by rt lib (tools/rt_once.py) in a copy of the crates (tools/crates.py), of which there is one for
+A crate is proved when all that it stands on is, by rt lib in a copy of the crates (tools/crates.py), of which there is one for
 each crate that is proved at a time; what came of it is put into the crate's own folder. Where several can be proved, the one
 with the most work above it comes first, and it gets the processors that the others leave. A program is built in the same way,
 by rt run, which also runs it on its own files (args, stdin): it must write what its file stdout has.
@@ -33,10 +33,9 @@ import tempfile
 import time
 
 from crates import TOP, below, copy_sources, libraries_of, take_library
-from rt_once import STATEMENTS
 
-# rt, with the sums of the sources made once a run
-RT = str(TOP / "tools" / "rt_once.py")
+# rt, where a library that it builds holds its statements alone
+RT_STATEMENTS = str(TOP / "tools" / "rt_statements.py")
 # what a proof may take of memory, in bytes; most take less
 MEMORY = 4_000_000_000
 PROVED = re.compile(r"^logic=proved ", re.MULTILINE)
@@ -112,9 +111,9 @@ class Proof:
             self.kept.rename(self.folder / "out")
         self.drop_misfit(sum_of_libraries(crate, libraries, copy))
         has_kept = KEEPS or (self.folder / "out" / "incremental").exists()
-        command = [RT, *([] if has_kept else [STATEMENTS]), "lib", "--jobs", str(jobs)]
+        command = ["rt" if has_kept else RT_STATEMENTS, "lib", "--jobs", str(jobs)]
         if is_program(crate):
-            command = [RT, "run", "--jobs", str(jobs), "--", *content(self.folder / "args").decode().splitlines()]
+            command = ["rt", "run", "--jobs", str(jobs), "--", *content(self.folder / "args").decode().splitlines()]
         self.output, self.said = tempfile.TemporaryFile(), tempfile.TemporaryFile()
         with tempfile.TemporaryFile() as given:
             given.write(content(self.folder / "stdin"))
