@@ -39,6 +39,9 @@ LINK = re.compile(r"\]\((?!\w+:)([^)#]+)(?:#[^)]*)?\)")
 OF_TOP, OF_CRATES = "docs|tools|tests|contrib|crates|bench|edits|examples|\\.ci", "src|specs|proofs|must-fail"
 PATH = re.compile(rf"(?<![\w./-])(?:{OF_TOP}|{OF_CRATES})/[\w./-]*\w(?![\w*{{-])|(?<![\w./-])[A-Z]+\.md\b")
 FORM = re.compile(r"(?:^|/)[A-Z_]+(?:/|\.edit|$)|/out/")
+# a name as sources have it, and those of docs/PROOFS.md that are none of the sources': Rattle's own, and a tool's
+WORD = re.compile(r"[A-Za-z_][\w-]*")
+NAMES_OF_OTHERS = {"Tie", "is-1", "loop-X-preserved", "grep"}
 # a row of the code's tables of numbers
 NUMBER = re.compile(r"\b(?:\w+Fault|Refusal)::(\w+)(?: \{ \.\. \})? => (\d+),")
 # a row of the table of why a journal is refused, in which the name and the number are one text
@@ -228,8 +231,21 @@ def files_are_there(programs, folder):
 
 
 SCENES = {name: an_example(name, block) for name, block in named_examples().items()}
+def names_of_proofs_are_there(programs, folder):
+    """Each name that docs/PROOFS.md has between marks of code is in the sources, but for those of Rattle and of tools, and each file of
+    proofs in its table of lemmas is one of the crates of its row."""
+    text = (TOP / "docs" / "PROOFS.md").read_text()
+    sources = [file.read_text() for end in ("rt", "antt") for file in CRATES.glob(f"*/*/**/*.{end}") if "/out/" not in str(file)]
+    known = {word for source in sources for word in WORD.findall(source)} | NAMES_OF_OTHERS
+    lost = sorted({code for code in CODE.findall(text) if WORD.fullmatch(code)} - known)
+    rows = re.findall(r"(?m)^\| (bz_[\w, ]+) \| (.*) \|$", text)
+    named = [(crates.split(", "), name) for crates, row in rows for name in re.findall(r"\b[A-Z]\w+", row)]
+    lost += [name for crates, name in named if not any((CRATES / crate / "proofs" / f"{name}.antt").exists() for crate in crates)]
+    return lost if named else ["no file of lemmas is named"]
+
+
 OF_TABLES = [refusals, attributes, commands, examples_of_commands, layers]
-OF_PAGES = [pages_are_linked, readme_is_short, files_are_there]
+OF_PAGES = [pages_are_linked, readme_is_short, files_are_there, names_of_proofs_are_there]
 SCENES |= {scene.__name__.replace("_", " "): scene for scene in OF_TABLES + OF_PAGES}
 
 
