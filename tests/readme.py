@@ -1,6 +1,6 @@
 #!/usr/bin/env python3
 """Runs the examples of README.md and of the other pages, and compares the tables of the pages of reference, and the picture of the
-crates, with the code. README.md must be short and have a link to each page; links lead somewhere, and files that pages name are there.
+crates, with the code. README.md must be short and have a link to each page; links lead somewhere, and files, crates and names of the sources that pages name are there.
 
 The pages are README.md, those beside it, those of docs/ and those in contrib/. A block of code in which lines begin with `$` is an example: its commands
 run one after the other, in a folder of the block's own that is empty at first, with both programs on the PATH. What a command leaves
@@ -39,7 +39,8 @@ LINK = re.compile(r"\]\((?!\w+:)([^)#]+)(?:#[^)]*)?\)")
 OF_TOP, OF_CRATES = "docs|tools|tests|contrib|crates|bench|edits|examples|\\.ci", "src|specs|proofs|must-fail"
 PATH = re.compile(rf"(?<![\w./-])(?:{OF_TOP}|{OF_CRATES})/[\w./-]*\w(?![\w*{{-])|(?<![\w./-])[A-Z]+\.md\b")
 FORM = re.compile(r"(?:^|/)[A-Z_]+(?:/|\.edit|$)|/out/")
-# a name as sources have it, and those of docs/PROOFS.md that are none of the sources': Rattle's own, and a tool's
+# pages that name what is in the sources, a name as these have it, and names that are none of theirs: Rattle's own, and a tool's
+OF_SOURCES = ["ARCHITECTURE.md", "DEFINITIONS.md", "PROMISES.md", "PROOFS.md", "PROVED.md"]
 WORD = re.compile(r"[A-Za-z_][\w-]*")
 NAMES_OF_OTHERS = {"Tie", "is-1", "loop-X-preserved", "grep"}
 # a row of the code's tables of numbers
@@ -231,21 +232,32 @@ def files_are_there(programs, folder):
 
 
 SCENES = {name: an_example(name, block) for name, block in named_examples().items()}
-def names_of_proofs_are_there(programs, folder):
-    """Each name that docs/PROOFS.md has between marks of code is in the sources, but for those of Rattle and of tools, and each file of
-    proofs in its table of lemmas is one of the crates of its row."""
-    text = (TOP / "docs" / "PROOFS.md").read_text()
+def crates_are_there(programs, folder):
+    """Each crate that a page names is there."""
+    there = {crate.name for crate in CRATES.iterdir()}
+    named = {page: set(re.findall(r"\bbz_\w+", page.read_text())) for page in PAGES}
+    return [f"{page.relative_to(TOP)} names {name}" for page in PAGES for name in sorted(named[page] - there)]
+
+
+def names_are_there(programs, folder):
+    """Each name that these pages have between marks of code, such as that of a clause, is in the sources, but for those of Rattle and
+    of tools."""
     sources = [file.read_text() for end in ("rt", "antt") for file in CRATES.glob(f"*/*/**/*.{end}") if "/out/" not in str(file)]
     known = {word for source in sources for word in WORD.findall(source)} | NAMES_OF_OTHERS
-    lost = sorted({code for code in CODE.findall(text) if WORD.fullmatch(code)} - known)
-    rows = re.findall(r"(?m)^\| (bz_[\w, ]+) \| (.*) \|$", text)
+    named = {page: {code for code in CODE.findall((TOP / "docs" / page).read_text()) if WORD.fullmatch(code)} for page in OF_SOURCES}
+    return [f"docs/{page} names {name}" for page in OF_SOURCES for name in sorted(named[page] - known)]
+
+
+def files_of_lemmas_are_there(programs, folder):
+    """Each file of proofs in the table of lemmas of docs/PROOFS.md is one of the crates of its row."""
+    rows = re.findall(r"(?m)^\| (bz_[\w, ]+) \| (.*) \|$", (TOP / "docs" / "PROOFS.md").read_text())
     named = [(crates.split(", "), name) for crates, row in rows for name in re.findall(r"\b[A-Z]\w+", row)]
-    lost += [name for crates, name in named if not any((CRATES / crate / "proofs" / f"{name}.antt").exists() for crate in crates)]
+    lost = [name for crates, name in named if not any((CRATES / crate / "proofs" / f"{name}.antt").exists() for crate in crates)]
     return lost if named else ["no file of lemmas is named"]
 
 
 OF_TABLES = [refusals, attributes, commands, examples_of_commands, layers]
-OF_PAGES = [pages_are_linked, readme_is_short, files_are_there, names_of_proofs_are_there]
+OF_PAGES = [pages_are_linked, readme_is_short, files_are_there, crates_are_there, names_are_there, files_of_lemmas_are_there]
 SCENES |= {scene.__name__.replace("_", " "): scene for scene in OF_TABLES + OF_PAGES}
 
 
