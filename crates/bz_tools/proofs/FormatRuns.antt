@@ -1,14 +1,15 @@
 -- What several texts of buildifier's do, one after the other.
-use Rattle.std.proofs.Common.{◌≡◌, ◌∙◌, ◌∷◌, ◌==◌, ◌||◌, inr, ℕ, List, [], length, Option, Ok, Err, Bool, Bor, map, true, false, refl, sym, ap, subst, true≢false}
+use Rattle.std.proofs.Common.{◌≡◌, ◌∙◌, ◌∷◌, ◌++◌, ◌==◌, ◌||◌, inr, ℕ, List, [], length, Option, Ok, Err, Bool, Bor, map, true, false, refl, sym, ap, subst, true≢false}
 use Rattle.std.specs.Prelude.{if◌then◌else◌}
 use Rattle.std.proofs.lemmas.List.{nil_from_length}
 use Rattle.std.proofs.lemmas.Bool.{eqb-true}
 use Rattle.bz_files.specs.Folder.{Folder}
-use Rattle.bz_ports.specs.Outputs.{Counts}
+use Rattle.bz_ports.specs.Faults.{Rises, AppendsSome}
+use Rattle.bz_ports.specs.Outputs.{Counts, Writes, WritesUnlessClosed}
 use Rattle.bz_ports.specs.Exits.{first_cut}
 use Rattle.bz_ports.specs.declared.exit.Cut.{Cut}
 use Rattle.bz_ports.specs.declared.exit.Cut.TheVariants as c
-use Rattle.bz_ports.proofs.Outputs.{rises_more}
+use Rattle.bz_ports.proofs.Outputs.{rises_more, writes_more}
 use Rattle.bz_tools.specs.Modes as m
 use Rattle.bz_tools.specs.FormatRun.{Effect, Run, FilesFormatted, FileStep, InputStep, FormatOutcome, RunOf, IsFormatUsageLine, begun, IsCutBy, grown, worse}
 use Rattle.bz_tools.specs.FormatShown.{effect_seen, progress_of}
@@ -27,6 +28,15 @@ cut_more c.Memory later f g h u v w first more files files' out out' = tt
 cut_more c.Read later f g h u v w first more files files' out out' = first
 cut_more c.Write later f g h u v w first more files files' out out' = rises_more u v w out.grows first out'
 cut_more c.Files later f g h u v w first more files files' out out' = rises_more f g h files.grows first files'
+
+-- ---- what is written
+
+-- a closed writer is left as it is, by the run too
+pub writes_on : (closed closes : Bool) (f g h : ℕ) (old mid new : Option (List ℕ)) (out more : List ℕ) → Writes closed f g old mid out
+    → WritesUnlessClosed closed closes g h mid new more → Writes (closed || closes) f h old new (if closed then out else out ++ more)
+writes_on true closes f g h old mid new out more first last =
+    (subst (Rises f) (sym last.1) first.0, subst (λ (held : Option (List ℕ)). AppendsSome old held out) (sym last.2) first.1)
+writes_on false closes f g h old mid new out more first last = writes_more false closes f g h old mid new out more first last
 
 -- ---- statuses
 

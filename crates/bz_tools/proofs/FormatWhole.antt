@@ -55,12 +55,11 @@ same_rewritten pure folder after name new same done other aside =
 
 -- ---- one file
 
-Stepped : Mode → FileType → Bytes → Folder → Effect → Folder → Type 0
+abbrev pub Stepped : Mode → FileType → Bytes → Folder → Effect → Folder → Type 0
 Stepped mode file_type name pure effect after = (exact : Folder) × ExactStep mode file_type name pure effect exact × SameFolders exact after
 
 left_as_is : (mode : Mode) (file_type : FileType) (name : Bytes) (pure folder after : Folder) (effect : Effect) → SameFolders pure folder → after ≡ folder
     → ExactStep mode file_type name pure effect pure → Stepped mode file_type name pure effect after
-unfolding Stepped
 left_as_is mode file_type name pure folder after effect same stays step = (pure, step, subst (λ (f : Folder). SameFolders pure f) (sym stays) same)
 
 by_fault : (mode : Mode) (file_type : FileType) (name : Bytes) (pure folder after : Folder) (effect : Effect) (fault : FileFault) → (fault ≡ file.Absent → get pure name ≡ None)
@@ -81,9 +80,8 @@ fixed_effect m.Fix name text new differs = refl
 fixed_effect m.Check name text new differs = absurd (cc differs)
 fixed_effect m.PrintIfChanged name text new differs = absurd (cc differs)
 
-exact_step : (mode : Mode) (file_type : FileType) (name : Bytes) (closed : Bool) (pure folder after : Folder) (effect : Effect) → FileStep mode file_type name closed folder effect after
+pub exact_step : (mode : Mode) (file_type : FileType) (name : Bytes) (closed : Bool) (pure folder after : Folder) (effect : Effect) → FileStep mode file_type name closed folder effect after
     → effect.cut ≡ c.Whole → SameFolders pure folder → (IsAside name → ⊥) → Stepped mode file_type name pure effect after
-unfolding Stepped
 exact_step mode file_type name closed pure folder after effect (unread fault none is stays) whole same other =
     by_fault mode file_type name pure folder after effect fault (λ absent. sym (same name other) ∙ none absent) is whole same stays
 exact_step mode file_type name closed pure folder after effect (without_memory is stays) whole same other =
@@ -112,7 +110,6 @@ Other name = IsAside name → ⊥
 pub exact_run : (mode : Mode) (file_type : FileType) (names : List Bytes) (run last : Run) (pure folder after : Folder) → FilesFormatted mode file_type names run folder last after
     → last.cut ≡ c.Whole → SameFolders pure folder → All (λ name. IsAside name → ⊥) names
     → (exact : Folder) × Exact mode file_type names run pure last exact × SameFolders exact after
-unfolding Stepped
 exact_run mode file_type [] run last pure folder after runs whole same others =
     (pure, (runs.0, refl), subst (λ (f : Folder). SameFolders pure f) (sym runs.1) same)
 exact_run mode file_type (name ∷ names) run last pure folder after runs whole same others =

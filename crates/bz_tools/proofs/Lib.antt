@@ -2,3 +2,5 @@ pub mod Fronts
 pub mod FormatSteps
 pub mod FormatRuns
 pub mod FormatWhole
+pub mod FormatCut
+pub mod FormatAgree

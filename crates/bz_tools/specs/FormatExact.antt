@@ -1,5 +1,5 @@
 -- What whole runs over files do: no failure cuts them, and names that end in `.bznew` are set aside.
-use Rattle.std.specs.Prelude.{◌≡◌, List, [], ◌∷◌, if◌then◌else◌, Some, None, Ok, Err}
+use Rattle.std.specs.Prelude.{◌≡◌, List, [], ◌∷◌, ◌++◌, if◌then◌else◌, true, Some, None, Ok, Err}
 use Rattle.std.specs.List.{All}
 use Rattle.std.specs.FinMap.{get}
 use Rattle.bz_items.specs.Characters.{Bytes}
@@ -31,3 +31,11 @@ abbrev pub WholeRunsAreExact : Type 0
 WholeRunsAreExact = (mode : Mode) (file_type : FileType) (names : List Bytes) (run : Run) (folder after : Folder) → FilesFormatted mode file_type names begun folder run after
     → run.cut ≡ c.Whole → All (λ name. IsAside name → ⊥) names
     → (exact : Folder) × Exact mode file_type names begun folder run exact × SameFolders exact after
+
+-- A run that a failure of standard output cuts has done, up to some file, what an exact run over the files so far does; what was to be
+-- written by then is the output of that run, and nothing was written after it.
+abbrev pub CutRunsAreBegun : Type 0
+CutRunsAreBegun = (mode : Mode) (file_type : FileType) (names : List Bytes) (run : Run) (folder after : Folder) → FilesFormatted mode file_type names begun folder run after
+    → run.cut ≡ c.Write → All (λ name. IsAside name → ⊥) names
+    → (front rest : List Bytes) × (names ≡ front ++ rest) × (run.closed ≡ true)
+    × (exact : Run) × (last : Folder) × Exact mode file_type front begun folder exact last × (exact.cut ≡ c.Whole) × (exact.out ≡ run.out)

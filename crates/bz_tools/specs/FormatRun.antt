@@ -144,9 +144,13 @@ begun = record { out = []; lines = []; status = 0; cut = c.Whole; closed = false
 abbrev pub worse : ℕ → ℕ → ℕ
 worse a b = if a == 3 || b == 3 then 3 else (if a == 1 || b == 1 then 1 else (if a == 4 || b == 4 then 4 else 0))
 
+-- what is to be on standard output after one text more; once it is closed nothing more comes there
+abbrev pub out_after : Run → Effect → Bytes
+out_after run effect = if run.closed then run.out else run.out ++ effect.out
+
 abbrev pub grown : Run → Effect → Run
 grown run effect = record {
-  out = run.out ++ effect.out;
+  out = out_after run effect;
   lines = run.lines ++ effect.lines;
   status = worse run.status effect.status;
   cut = first_cut run.cut effect.cut;

@@ -4,3 +4,4 @@ pub mod FormatRun
 pub mod FormatShown
 pub mod Modes
 pub mod Worked
+pub mod FormatAgree

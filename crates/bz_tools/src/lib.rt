@@ -11,4 +11,4 @@ mod mode;
 
 pub use bz_ports::{Cut, Device, Exit, MemorySink, MemorySource, PortFault, Sink, Source};
 pub use formatting::buildifier;
-pub use laws::{whole_runs_are_exact, worked_formats};
+pub use laws::{cut_runs_are_begun, outcomes_agree, whole_runs_are_exact, worked_formats};

@@ -61,6 +61,8 @@ fn call_laws() {
     bz_engine::outcomes_are_exact();
     bz_tools::worked_formats();
     bz_tools::whole_runs_are_exact();
+    bz_tools::cut_runs_are_begun();
+    bz_tools::outcomes_agree();
 }
 
 fn main(rt: HostRuntime) -> Result<()> {

@@ -3,8 +3,8 @@ use Rattle.bz_tools.specs.FormatRun as r
 use Rattle.bz_tools.specs.declared.effect.Progress.{Progress}
 use Rattle.bz_ports.specs.Outputs.{WritesUnlessClosed}
 use Rattle.bz_ports.proofs.Written.{left-cons}
-use Rattle.bz_ports.proofs.Outputs.{counts_more, appends_nothing, writes_more, tells_more}
-use Rattle.bz_tools.proofs.FormatRuns.{cut_more, status_more, files_more, grown_is}
+use Rattle.bz_ports.proofs.Outputs.{counts_more, appends_nothing, tells_more}
+use Rattle.bz_tools.proofs.FormatRuns.{cut_more, status_more, files_more, grown_is, writes_on}
 use Rattle.bz_tools.proofs.formatting.run_files.Goals as goal
 
 abbrev none : Bor (List ℕ)
@@ -46,7 +46,7 @@ loop-name-preserved g c =
                 (F.folder c.args.files.now) (F.folder l.files) (F.folder e.new.files) step.0
                 (ap texts (left-cons names at none c.loop-name-test.true))
                 (subst (λ (b : Bool). r.FileStep mode file_type name b (F.folder l.files) step.0 (F.folder e.new.files)) closed step.1) so_far.2,
-            writes_more so_far.0.closed step.0.closes (W.faults c.args.out.now) (W.faults l.out) (W.faults e.new.out)
+            writes_on so_far.0.closed step.0.closes (W.faults c.args.out.now) (W.faults l.out) (W.faults e.new.out)
                 (W.contents c.args.out.now) (W.contents l.out) (W.contents e.new.out) so_far.0.out step.0.out so_far.3
                 (subst (λ (b : Bool). WritesUnlessClosed b step.0.closes (W.faults l.out) (W.faults e.new.out) (W.contents l.out)
                 (W.contents e.new.out) step.0.out) closed step.3),
