@@ -1,7 +1,7 @@
 //! The calls that take no memory, over bytes.
 //!
 //! The crate's calls of the same names take `&str`; these serve who holds the bytes of a text.
-ghost use Rattle.std.specs.Prelude.{◌≡◌, ◌↔◌, ◌<◌, [], ◌∷◌, IsTrue, IfSome, position, length};
+ghost use Rattle.std.specs.Prelude.{◌≡◌, ◌↔◌, ◌<◌, [], ◌∷◌, false, IsTrue, IfSome, position, length};
 ghost use Rattle.std.specs.Str.{bytes_eq};
 ghost use Rattle.std.specs.List.{list_any};
 ghost use Rattle.std.specs.Option.{option_map};
@@ -16,7 +16,7 @@ ghost use Rattle.bz_label.specs.Tables.{is_in, sorted_attributes, further_lists,
 
 pub use crate::form::Parts;
 use crate::form::{parts_of, whole};
-use crate::piece::last;
+use crate::piece::{cut, last};
 use std::cmp::Ordering;
 
 /// The three parts of the label that a text is in the current package, as slices of both; none where it is no label.
@@ -50,12 +50,26 @@ pub fn same(current: &[u8], first: &[u8], second: &[u8]) -> bool
     equal_parts(one, other)
 }
 
+/// Whether what stands before the first colon ends with what stands behind it, as it does where a name is repeated.
+#[tactic(auto, using(crate::proofs::Repeats::colonless_stays, crate::proofs::Repeats::other_end_stays))]
+fn may_repeat(text: &[u8]) -> bool
+    ensures { result ≡ false → unrepeated text.now ≡ text.now }
+{
+    match cut(text, b':') {
+        Some((front, name)) => front.ends_with(name),
+        None => false,
+    }
+}
+
 /// The text without a name that repeats the last piece of its package: `..//p/x:x` becomes `..//p/x`, and `..//x:x`
 /// becomes `..//x`; any other text stays.
 pub fn unrepeated(text: &[u8]) -> &[u8]
     ensures meaning { IsUnrepeated text.now result.now }
     ensures function { result.now ≡ unrepeated text.now }
 {
+    if !may_repeat(text) {
+        return text;
+    }
     let Some(parts) = whole(text) else {
         return text;
     };
