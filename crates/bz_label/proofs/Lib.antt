@@ -5,6 +5,7 @@ pub mod Shapes
 pub mod Paths
 pub mod Readings
 pub mod Orders
+pub mod KeySteps
 pub mod Rows
 pub mod Shorter
 pub mod Spellings

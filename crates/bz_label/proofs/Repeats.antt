@@ -1,8 +1,10 @@
 -- The text without a repeated name, as a function, is the one that the condition describes.
-use Rattle.std.proofs.Common.{ℕ, suc, ◌+◌, true, false, ◌&&◌, ◌||◌, [], ◌∷◌, ◌++◌, ◌≡◌, refl, sym, ap, ◌∙◌, inl, inr, codes, length, drop, append_assoc, arith}
+use Rattle.std.proofs.Common.{ℕ, suc, ◌+◌, ◌-◌, Bool, true, false, not, nat_eq, take, take-append-drop, ◌&&◌, ◌||◌, [], ◌∷◌, ◌++◌, ◌≡◌, refl, sym, ap, ◌∙◌, inl, inr, codes, length, drop, append_assoc, arith}
 use Rattle.std.specs.Str.{bytes_eq}
 use Rattle.std.proofs.lemmas.Bool.{cases_Bool, true≢false, and_parts, and_from, or_parts, eqb-true}
-use Rattle.std.proofs.lemmas.Slice.Eq.{bytes_eq-Decides}
+use Rattle.std.proofs.lemmas.Slice.Eq.{bytes_eq-Decides, ends_is}
+use Rattle.std.specs.Cmp.{unsigned_Decides}
+use Rattle.std.specs.List.{ends_with, suffix_len}
 use Rattle.std.proofs.lemmas.List.Folds.{list_any-append}
 use Rattle.bz_items.specs.Characters.{Bytes}
 use Rattle.bz_label.specs.Pieces.{is_empty, last_piece, has_colon, has_slash, is_colon, is_slash, is_at}
@@ -109,3 +111,53 @@ is_unrepeated s = elim (cases_Bool (is_repeated (before_colon s) (behind_colon s
 -- what is the text without a repeated name is what the function gives
 pub the_unrepeated : (s short : Bytes) → IsUnrepeated s short → short ≡ unrepeated s
 the_unrepeated s short h = unrepeated_once s short (unrepeated s) h (is_unrepeated s)
+
+-- ---- at a glance: a repeated name stands at the end of what is before the first colon
+
+no_colon : (s : Bytes) → has_colon s ≡ false → behind_colon s ≡ []
+no_colon [] h = refl
+no_colon (c ∷ s) h = let p : (is_colon c ≡ false) × (has_colon s ≡ false) = or_parts (is_colon c) (has_colon s) h in rw p.0 (no_colon s p.1)
+
+stays_by : (s : Bytes) → is_repeated (before_colon s) (behind_colon s) ≡ false → unrepeated s ≡ s
+stays_by s f = rw f refl
+
+nothing_repeated : (front : Bytes) → is_repeated front [] ≡ true → ⊥
+nothing_repeated front h =
+    let repository = before_slashes front in
+    let path = behind_slashes front in
+    let whole = are_whole repository path [] in
+    let last = bytes_eq (last_piece path) [] in
+    let all = and_parts (whole && last) (bytes_eq front (repository ++ (codes "//" ++ path))) h in
+    let fits = and_parts whole last all.0 in
+    true≢false (path_present [] (and_parts (is_repository repository && (is_empty path || is_path path)) (is_path []) fits.0).1)
+
+last_cut : (path : Bytes) → (front : Bytes) × (path ≡ front ++ last_piece path)
+last_cut path = (take (length path - suffix_len (λ x. not (is_slash x)) path) path, sym (take-append-drop (length path - suffix_len (λ x. not (is_slash x)) path) path))
+
+at_end : (front name : Bytes) → is_repeated front name ≡ true → (before : Bytes) × (front ≡ before ++ name)
+at_end front name h =
+    let repository = before_slashes front in
+    let path = behind_slashes front in
+    let whole = are_whole repository path name in
+    let last = bytes_eq (last_piece path) name in
+    let all = and_parts (whole && last) (bytes_eq front (repository ++ (codes "//" ++ path))) h in
+    let fits = and_parts whole last all.0 in
+    let spelled : front ≡ repository ++ (codes "//" ++ path) = equal_texts front _ all.1 in
+    let cut = last_cut path in
+    let named : path ≡ cut.0 ++ name = cut.1 ∙ ap (λ z. cut.0 ++ z) (equal_texts (last_piece path) name fits.1) in
+    ((repository ++ codes "//") ++ cut.0, spelled ∙ (sym (append_assoc repository (codes "//") path) ∙ (ap (λ z. (repository ++ codes "//") ++ z) named ∙ sym (append_assoc (repository ++ codes "//") cut.0 name))))
+
+pub colonless_stays : (s : Bytes) → has_colon s ≡ false → unrepeated s ≡ s
+colonless_stays s h = stays_by s (elim (cases_Bool (is_repeated (before_colon s) (behind_colon s))) [
+  | inl t ↦ absurd (nothing_repeated (before_colon s) (sym (ap (is_repeated (before_colon s)) (no_colon s h)) ∙ t))
+  | inr f ↦ f
+])
+
+pub other_end_stays : (s front name : Bytes) → s ≡ front ++ 58 ∷ name → has_colon front ≡ false → (r : Bool) → r ≡ ends_with nat_eq front name → r ≡ false → unrepeated s ≡ s
+other_end_stays s front name e c r w n = stays_by s (elim (cases_Bool (is_repeated (before_colon s) (behind_colon s))) [
+  | inl t ↦
+      let same : is_repeated (before_colon s) (behind_colon s) ≡ is_repeated front name = both_same is_repeated (ap before_colon e ∙ front_colon front name c) (ap behind_colon e ∙ rest_colon front name c) in
+      let cut = at_end front name (sym same ∙ t) in
+      absurd (true≢false (sym ((ends_is unsigned_Decides front name r w).1 cut.0 cut.1) ∙ n))
+  | inr f ↦ f
+])

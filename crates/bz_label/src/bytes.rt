@@ -1,13 +1,14 @@
 //! The calls that take no memory, over bytes.
 //!
 //! The crate's calls of the same names take `&str`; these serve who holds the bytes of a text.
-ghost use Rattle.std.specs.Prelude.{◌≡◌, ◌↔◌, ◌<◌, [], IsTrue, IfSome, position, length};
+ghost use Rattle.std.specs.Prelude.{◌≡◌, ◌↔◌, ◌<◌, [], ◌∷◌, false, IsTrue, IfSome, position, length};
 ghost use Rattle.std.specs.Str.{bytes_eq};
 ghost use Rattle.std.specs.List.{list_any};
 ghost use Rattle.std.specs.Option.{option_map};
+ghost use Rattle.std.specs.Ordering.{ordering_then};
 ghost use Rattle.std.specs.Cmp.Lexicographic.{slice_cmp};
 ghost use Rattle.bz_label.specs.Forms.{label_of};
-ghost use Rattle.bz_label.specs.Keys.{group_of, key_pieces, bytes_order, key_order};
+ghost use Rattle.bz_label.specs.Keys.{group_of, is_cut, key_pieces, bytes_order, key_order};
 ghost use Rattle.bz_label.specs.Labels.{IsSame, IsShortened, IsUnrepeated};
 ghost use Rattle.bz_label.specs.Read.{label_in, is_same, shortened};
 ghost use Rattle.bz_label.specs.Shorter.{unrepeated};
@@ -15,7 +16,7 @@ ghost use Rattle.bz_label.specs.Tables.{is_in, sorted_attributes, further_lists,
 
 pub use crate::form::Parts;
 use crate::form::{parts_of, whole};
-use crate::piece::last;
+use crate::piece::{cut, last};
 use std::cmp::Ordering;
 
 /// The three parts of the label that a text is in the current package, as slices of both; none where it is no label.
@@ -49,12 +50,26 @@ pub fn same(current: &[u8], first: &[u8], second: &[u8]) -> bool
     equal_parts(one, other)
 }
 
+/// Whether what stands before the first colon ends with what stands behind it, as it does where a name is repeated.
+#[tactic(auto, using(crate::proofs::Repeats::colonless_stays, crate::proofs::Repeats::other_end_stays))]
+fn may_repeat(text: &[u8]) -> bool
+    ensures { result ≡ false → unrepeated text.now ≡ text.now }
+{
+    match cut(text, b':') {
+        Some((front, name)) => front.ends_with(name),
+        None => false,
+    }
+}
+
 /// The text without a name that repeats the last piece of its package: `..//p/x:x` becomes `..//p/x`, and `..//x:x`
 /// becomes `..//x`; any other text stays.
 pub fn unrepeated(text: &[u8]) -> &[u8]
     ensures meaning { IsUnrepeated text.now result.now }
     ensures function { result.now ≡ unrepeated text.now }
 {
+    if !may_repeat(text) {
+        return text;
+    }
     let Some(parts) = whole(text) else {
         return text;
     };
@@ -95,12 +110,52 @@ fn group(text: &[u8]) -> u8
     }
 }
 
-fn pieces_cmp(first: &[u8], second: &[u8]) -> Ordering
-    ensures { result ≡ slice_cmp bytes_order (key_pieces first.now) (key_pieces second.now) }
+fn is_cut(byte: u8) -> bool
+    ensures { result ≡ is_cut byte }
 {
-    first
-        .split(|byte| *byte == b'.' || *byte == b':')
-        .cmp(second.split(|byte| *byte == b'.' || *byte == b':'))
+    byte == b'.' || byte == b':'
+}
+
+/// How two bytes at one place order the pieces that they stand in.
+fn byte_cmp(x: u8, y: u8) -> Ordering
+    ensures { result ≡ slice_cmp bytes_order (key_pieces (x ∷ [])) (key_pieces (y ∷ [])) }
+{
+    match (is_cut(x), is_cut(y)) {
+        (true, true) => Ordering::Equal,
+        (true, false) => Ordering::Less,
+        (false, true) => Ordering::Greater,
+        (false, false) => x.cmp(&y),
+    }
+}
+
+/// How two keys of one group are ordered. Both are walked once: where a dot meets a colon the pieces stay alike, and what these
+/// two say counts where nothing behind them decides.
+#[tactic(auto, using(crate::proofs::KeySteps::walked, crate::proofs::KeySteps::passes, crate::proofs::KeySteps::goes_on, crate::proofs::KeySteps::decides))]
+fn walk_cmp(first: &[u8], second: &[u8]) -> Ordering
+    ensures { result ≡ ordering_then (slice_cmp bytes_order (key_pieces first.now) (key_pieces second.now)) (bytes_order first.now second.now) }
+{
+    let mut marks = Ordering::Equal;
+    let mut one = first;
+    let mut other = second;
+    while let [x, behind @ ..] = one {
+        let [y, others @ ..] = other else {
+            return Ordering::Greater;
+        };
+        if x != y {
+            let order = byte_cmp(*x, *y);
+            if order.is_ne() {
+                return order;
+            }
+            marks = marks.then(x.cmp(y));
+        }
+        one = behind;
+        other = others;
+    }
+    if other.is_empty() {
+        marks
+    } else {
+        Ordering::Less
+    }
 }
 
 /// How two keys are ordered in a sorted list: by group (others, then `:`, then `//`, then `@` as first characters),
@@ -110,8 +165,7 @@ pub fn key_cmp(first: &[u8], second: &[u8]) -> Ordering
 {
     group(first)
         .cmp(&group(second))
-        .then_with(|| pieces_cmp(first, second))
-        .then_with(|| first.cmp(second))
+        .then_with(|| walk_cmp(first, second))
 }
 
 fn is_any(attribute: &[u8], names: &[&str]) -> bool

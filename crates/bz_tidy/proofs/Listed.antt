@@ -1,7 +1,14 @@
 -- The items of one list, sorted: sorted again they stay; what is kept of them; flags are not seen.
-use Rattle.std.proofs.Common.{Bool, false, not, ◌&&◌, ◌||◌, List, [], ◌∷◌, ◌++◌, ◌≡◌, refl, ap, ◌∙◌, map, inl, inr}
-use Rattle.std.proofs.lemmas.Bool.{cases_Bool, and_right}
-use Rattle.std.specs.List.{list_any, list_all, AllByRecursion}
+use Rattle.std.proofs.Common.{ℕ, suc, ◌+◌, ◌<◌, Bool, true, false, not, ◌&&◌, ◌||◌, List, [], ◌∷◌, ◌++◌, ◌≡◌, refl, sym, ap, subst, ◌∙◌, length, get_or, map, inl, inr, arith}
+use Rattle.std.proofs.lemmas.Bool.{cases_Bool, and_right, true≢false}
+use Rattle.std.proofs.lemmas.Slice.Eq.{bytes_eq-Decides}
+use Rattle.std.specs.List.{list_any, list_all, AllByRecursion, AllAdjacentBelow, IsAllAdjacentAnswer}
+use Rattle.std.specs.Fn.{Called, ComputesOnPairs}
+use Rattle.std.proofs.lemmas.List.Sorted.{answers_always}
+use denote.Ref.{Bor}
+use denote.Param.Members.{Mut}
+use Rattle.std.specs.Ordering.{is_lt}
+use Rattle.bz_label.specs.Keys.{key_order}
 use Rattle.std.specs.Cmp.{IsStrictWeakOrder}
 use Rattle.std.specs.Prelude.{bytes_eq}
 use Rattle.std.proofs.lemmas.List.MinMax.{ranks_by}
@@ -130,6 +137,84 @@ sorted_fine (x ∷ xs) = elim (cases_Bool (list_any (λ y. precedes y x) xs)) [
   | inl t ↦ rw t (marked_fine (keep_marks (above x)) (in_order (without_marks x ∷ xs)) (in_order_fine (without_marks x ∷ xs)))
   | inr f ↦ rw f (in_order_fine (x ∷ xs))
 ]
+
+-- ---- a list in which each item comes before the next one stays
+
+precedes_texts : IsStrictWeakOrder (λ (s t : Bytes). is_lt (key_order (between s) (between t)))
+precedes_texts = ranks_by key_total between
+
+abbrev Climbs : List Expr → Type 0
+Climbs [] = Unit {0}
+Climbs (x ∷ []) = Unit {0}
+Climbs (x ∷ y ∷ ys) = (precedes x y ≡ true) × Climbs (y ∷ ys)
+
+one_behind : (k : ℕ) → suc k + 1 ≡ suc (k + 1)
+one_behind k = omega arith
+
+climbs : (xs : List Expr) → AllAdjacentBelow (λ x y. true ≡ precedes x y) xs (length xs) → Climbs xs
+climbs [] h = tt
+climbs (x ∷ []) h = tt
+climbs (x ∷ y ∷ ys) h = (
+  sym (h 0 x (omega arith)),
+  climbs (y ∷ ys) (λ k d l.
+      subst (λ i. true ≡ precedes (get_or (y ∷ ys) k d) (get_or (x ∷ y ∷ ys) i d)) (one_behind k) (h (suc k) d (omega arith))),
+)
+
+climbs_ordered : (xs : List Expr) → Climbs xs → Ordered precedes xs
+climbs_ordered [] c = tt
+climbs_ordered (x ∷ []) c = (tt, tt)
+climbs_ordered (x ∷ y ∷ ys) c = (order.one_way x y c.0, climbs_ordered (y ∷ ys) c.1)
+
+-- these texts come before the item
+abbrev Below : List Bytes → Expr → Type 0
+Below earlier x = AllByRecursion (λ t. is_lt (key_order (between t) (between (text_of x))) ≡ true) earlier
+
+still_before : (t : Bytes) (x y : Expr) → is_lt (key_order (between t) (between (text_of x))) ≡ true → precedes x y ≡ true → is_lt (key_order (between t) (between (text_of y))) ≡ true
+still_before t x y a b = elim (cases_Bool (is_lt (key_order (between t) (between (text_of y))))) [
+  | inl h ↦ h
+  | inr f ↦ absurd (true≢false (sym a ∙ precedes_texts.chain t (text_of y) (text_of x) f (order.one_way x y b)))
+]
+
+still_below : (earlier : List Bytes) (x y : Expr) → Below earlier x → precedes x y ≡ true → Below earlier y
+still_below [] x y a b = tt
+still_below (t ∷ ts) x y a b = (still_before t x y a.0 b, still_below ts x y a.1 b)
+
+other_text : (t : Bytes) (x : Expr) → is_lt (key_order (between t) (between (text_of x))) ≡ true → bytes_eq (text_of x) t ≡ false
+other_text t x a = elim (cases_Bool (bytes_eq (text_of x) t)) [
+  | inl h ↦
+      let same : text_of x ≡ t = (bytes_eq-Decides (text_of x) t).0 h in
+      let own : is_lt (key_order (between t) (between t)) ≡ true = subst (λ s. is_lt (key_order (between t) (between s)) ≡ true) same a in
+      absurd (true≢false (sym own ∙ precedes_texts.one_way t t own))
+  | inr f ↦ f
+]
+
+is_new : (earlier : List Bytes) (x : Expr) → Below earlier x → list_any (bytes_eq (text_of x)) earlier ≡ false
+is_new [] x a = refl
+is_new (t ∷ ts) x a = rw (other_text t x a.0) (is_new ts x a.1)
+
+kept_new : (earlier : List Bytes) (x : Expr) → Below earlier x → is_repeated earlier x ≡ false
+kept_new earlier x a = ap (λ b. has_no_comment x && b) (is_new earlier x a) ∙ and_right (has_no_comment x) false refl
+
+climbs_clean : (earlier : List Bytes) (x : Expr) (xs : List Expr) → Below earlier x → Climbs (x ∷ xs) → Clean earlier (x ∷ xs)
+climbs_clean earlier x [] a c = (kept_new earlier x a, tt)
+climbs_clean earlier x (y ∷ ys) a c = (kept_new earlier x a, climbs_clean (text_of x ∷ earlier) y ys (c.0, still_below earlier x y a c.0) c.1)
+
+climbs_fine : (xs : List Expr) → Climbs xs → Fine xs
+climbs_fine [] c = record { rising = tt; clean = tt }
+climbs_fine (x ∷ xs) c = record { rising = rises (x ∷ xs) (climbs_ordered (x ∷ xs) c); clean = climbs_clean [] x xs tt c }
+
+climbing_stays : (xs : List Expr) → AllAdjacentBelow (λ x y. true ≡ precedes x y) xs (length xs) → sorted xs ≡ xs
+climbing_stays xs h = fine_stays xs (climbs_fine xs (climbs xs h))
+
+answered : (xs : List Expr) (r : Bool) → IsAllAdjacentAnswer (λ x y b. b ≡ precedes x y) xs r → r ≡ true → sorted xs ≡ xs
+answered xs true h e = climbing_stays xs h
+answered xs false h e = absurd (true≢false (sym e))
+
+pub rising_stays : {F : Type 0} {g : Mut F (Bor Expr × (Bor Expr × Unit {0})) Bool} {f : F} (xs : List Expr) (r : Bool)
+    → ((e : Expr → Expr → Bool) → ComputesOnPairs g e f → IsAllAdjacentAnswer (λ x y b. b ≡ e x y) xs r)
+    → ((h : F) (a : Bor Expr × (Bor Expr × Unit {0})) (b : Bool) (h' : F) → Called g h a b h' → b ≡ precedes a.0.now a.1.0.now)
+    → r ≡ true → sorted xs ≡ xs
+rising_stays {F} {g} {f} xs r s k e = answered xs r (s precedes (answers_always g (λ a b. b ≡ precedes a.0.now a.1.0.now) f k)) e
 
 pub list_settles : (outside : List Bytes) (b : Bool) → Settles (settled_list outside b)
 list_settles outside b xs = elim (cases_Bool (is_taken outside b xs)) [

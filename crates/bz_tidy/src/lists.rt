@@ -1,5 +1,5 @@
 //! The items of one list: whether they are sorted, and sorting them.
-ghost use Rattle.std.specs.Prelude.{◌≡◌, ◌++◌, ◌∷◌, ℕ, List, [], IfOk, OnOk};
+ghost use Rattle.std.specs.Prelude.{◌≡◌, ◌++◌, ◌∷◌, ℕ, List, [], IfOk, IsTrue, OnOk};
 ghost use Rattle.std.specs.List.{list_all, list_any};
 ghost use Rattle.bz_token.specs.declared.class.Class.TheVariants as classes;
 ghost use Rattle.bz_tidy.specs.Lists.{above_first, has_above as has_comment_above, in_order, is_taken as is_taken_in, marked_by, precedes, settled_list, sorted, without_marks};
@@ -203,6 +203,13 @@ fn sort_taken(alloc: Global, mut items: Vec<Expr>) -> Result<Vec<Expr>, Memory>
     Ok(ordered)
 }
 
+/// Whether each item comes before the next one: sorted, such a list stays as it is.
+fn are_rising(items: &[Expr]) -> bool
+    ensures { IsTrue result → sorted items.now ≡ items.now }
+{
+    items.is_sorted_by(|x, y| item_order(x, y).is_lt())
+}
+
 /// Sorts the items of a list, where it is taken; else it stays as it is. `outside`: the comments above the attribute or the
 /// assignment; `by_table`: whether the table has the attribute. The error: a growth was refused; the items are then lost.
 pub(crate) fn sort_list(
@@ -213,7 +220,7 @@ pub(crate) fn sort_list(
 ) -> Result<(), Memory>
     ensures { OnOk result (items.new ≡ settled_list outside.now by_table items.old) }
 {
-    if is_taken(outside, by_table, items.as_slice()) {
+    if is_taken(outside, by_table, items.as_slice()) && !are_rising(items.as_slice()) {
         let all = mem::replace(items, Items::new(alloc)).into_vec();
         *items = Items::from_vec(sort_taken(alloc, all)?);
     }

@@ -1,5 +1,5 @@
 //! The texts of strings: double quote marks, and labels without a repeated name.
-ghost use Rattle.std.specs.Prelude.{◌≡◌, ◌++◌, ◌≤◌, ◌&&◌, ◌||◌, not, take, replicate, IfOk, OnOk};
+ghost use Rattle.std.specs.Prelude.{◌≡◌, ◌++◌, ◌≤◌, ◌&&◌, ◌||◌, false, not, take, replicate, IfOk, OnOk};
 ghost use Rattle.bz_items.specs.Characters.{backslash, quotation_mark};
 ghost use Rattle.bz_rule.specs.QuoteMarks.{marks_of};
 ghost use Rattle.bz_tidy.specs.Strings.{begins_single, has_character, in_double, with_double, shorter_string};
@@ -84,11 +84,24 @@ fn first_mark(text: &[u8]) -> &[u8]
     }
 }
 
+/// Whether a label would lose a repeated name, were the text a plain string around it.
+#[tactic(auto, using(crate::proofs::TextSteps::kept_inside))]
+fn may_shorten(text: &[u8]) -> bool
+    ensures { result ≡ false → shorter_string text.now ≡ text.now }
+{
+    let label = inside(1, text);
+    let short = unrepeated(label);
+    short != label
+}
+
 /// Takes a repeated name off the label in a plain string; any other text stays, and takes no memory. The error: memory was
 /// refused; the text is then as it was.
 pub(crate) fn shortened(alloc: Global, text: &mut Text) -> Result<(), Memory>
     ensures { OnOk result (text.new ≡ shorter_string text.old) }
 {
+    if !may_shorten(text.as_slice()) {
+        return Ok(());
+    }
     let Some(label) = body(text.as_slice()) else {
         return Ok(());
     };

@@ -1,11 +1,18 @@
-use Rattle.std.proofs.Common.{refl, sym, ◌∙◌}
+use Rattle.std.proofs.Common.{List, ℕ, refl, subst, sym, ◌∙◌}
 use Rattle.std.proofs.lemmas.Bool.{not-true, not-false}
 use Rattle.bz_label.specs.Labels.{repeat, stays}
 use Rattle.bz_label.specs.Forms.{label_of}
 use Rattle.bz_label.proofs.Equal.{equal_texts, other_texts}
 use Rattle.bz_label.proofs.Shorter.{front_of, whole_kept, no_repeat}
-use Rattle.bz_label.proofs.Repeats.{the_unrepeated}
+use Rattle.bz_label.specs.Labels.{IsUnrepeated}
+use Rattle.bz_label.proofs.Repeats.{is_unrepeated, the_unrepeated}
 use Rattle.bz_label.proofs.bytes.unrepeated.Goals as goal
+
+pub returns-then-not-may_repeat-clause-meaning : goal.returns-then-not-may_repeat-clause-meaning
+returns-then-not-may_repeat-clause-meaning c = subst (λ (short : List ℕ). IsUnrepeated c.args.text.now short) (c.if-not-may_repeat.ensures refl) (is_unrepeated c.args.text.now)
+
+pub returns-then-not-may_repeat-clause-function : goal.returns-then-not-may_repeat-clause-function
+returns-then-not-may_repeat-clause-function c = sym (c.if-not-may_repeat.ensures refl)
 
 pub returns-in_default-clause-meaning : goal.returns-in_default-clause-meaning
 returns-in_default-clause-meaning c = stays (λ label r. c.in_default.ensures label r.written) refl
