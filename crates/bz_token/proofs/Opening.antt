@@ -15,7 +15,7 @@ use Rattle.bz_token.specs.Laws.{OpensBehindPrefix}
 use Rattle.bz_token.specs.Lexemes.{prefixes, is_prefix, IsString}
 use Rattle.bz_token.specs.Machine.{after, and_next}
 use Rattle.bz_token.specs.Scanner.{lone_marks, operator_marks, mark_start, number_start, text_start, quote_or_word, word_move, quote_byte, move, ends, reads, keyword_or_name, before_third, is_in_string}
-use Rattle.bz_token.specs.Tokens.{IsToken, OpensString}
+use Rattle.bz_token.specs.Tokens.{IsToken, NoToken, OpensString}
 use Rattle.bz_token.proofs.Complete.{is_class_1, at_1}
 use Rattle.bz_token.proofs.Fronts.{longer, same_front, rest_same, some_next}
 use Rattle.bz_token.proofs.Laws.{state_of, Stops, longest_at, begins}
@@ -331,13 +331,17 @@ string_at t u q e k stops = record {
   no_third = λ p m back y n a is. no_third_on q u (third_at q u p m t back e y n a is) stops;
 }
 
+-- the state behind a prefix and a mark
+behind_mark : (s p : List ℕ) (m : ℕ) (back : List ℕ) → s ≡ p ++ (m ∷ back) → is_prefix p ≡ true → (w : (q : Quote) × (m ≡ quote_byte q)) → last_state Start s ≡ last_state (Opened (w.0)) back
+behind_mark s p m back is y w =
+    let front : s ≡ (p ++ (quote_byte (w.0) ∷ [])) ++ back = is ∙ ap (λ (x : ℕ). p ++ (x ∷ back)) w.1 ∙ sym (append_assoc p (quote_byte (w.0) ∷ []) back) in
+    rw front (last_append Start (Opened (w.0)) (p ++ (quote_byte (w.0) ∷ [])) back (prefix_opens (w.0) p y))
+
 pub opened : (s : List ℕ) → OpensString s → is_in_string (last_state Start s) ≡ true
 opened s o =
     let (p, m, back, is, y, n) = o.marked in
     let w = quote_of m n in
-    let front : s ≡ (p ++ (quote_byte (w.0) ∷ [])) ++ back = is ∙ ap (λ (x : ℕ). p ++ (x ∷ back)) w.1 ∙ sym (append_assoc p (quote_byte (w.0) ∷ []) back) in
-    let last : last_state Start s ≡ last_state (Opened (w.0)) back = rw front (last_append Start (Opened (w.0)) (p ++ (quote_byte (w.0) ∷ [])) back (prefix_opens (w.0) p y)) in
-    let within : inside (last_state Start s) ≡ true = rw last (stays inside inside_more (Opened (w.0)) back refl) in
+    let within : inside (last_state Start s) ≡ true = rw (behind_mark s p m back is y w) (stays inside inside_more (Opened (w.0)) back refl) in
     elim (cases_Bool (is_in_string (last_state Start s))) [
       | inl h ↦ h
       | inr h ↦ let x = taken Start s in absurd (o.unclosed (x.0) (x.1) (sym x.2) (string_at (x.0) (x.1) (last_state Start s) x.3 (closed_ends (last_state Start s) within h) x.4))
@@ -369,21 +373,39 @@ no_shorter : (c : Class) (t r p : List ℕ) (m : ℕ) (back : List ℕ) → IsTo
 no_shorter c t r [] m back h is e = omega arith
 no_shorter c t r (b ∷ p) m back h is e = h.longest (keyword_or_name v.Name (b ∷ p)) (b ∷ p) (m ∷ back) (sym is) (sound v.Name (b ∷ p) (at_1 (reads Start (b ∷ p)) e))
 
+-- no token has a mark behind a prefix: it would be a string
+no_mark_in : (c : Class) (t r p : List ℕ) (m : ℕ) (u : List ℕ) → IsToken c t r → OpensString (t ++ r) → is_prefix p ≡ true → is_quote m ≡ true → t ≡ p ++ (m ∷ u) → ⊥
+no_mark_in c t r p m u h o y n is =
+    let q = quote_of m n in
+    let st = state_of c t h.lexeme in
+    let at : t ≡ p ++ (quote_byte (q.0) ∷ u) = is ∙ ap (λ (x : ℕ). p ++ (x ∷ u)) q.1 in
+    let there : after move (Opened (q.0)) u ≡ Some (st.0) = sym (prefixed (q.0) p u y) ∙ ap (after move Start) (sym at) ∙ st.2 in
+    let within : inside (st.0) ≡ true = let g = goes_on inside inside_more (Opened (q.0)) u refl in rw there at g in
+    let class : c ≡ v.String = sym st.4 ∙ ap (λ (k : Class). keyword_or_name k t) (inside_ends (st.0) (st.1) within st.3) in
+    o.unclosed t r refl (subst (λ (k : Class). IsToken k t r) class h)
+
+no_token_at : (m : ℕ) (back : List ℕ) → is_quote m ≡ true → OpensString (m ∷ back) → NoToken (m ∷ back)
+no_token_at m back n o d u w e k =
+    let (b, x, is, solid) = begins d u w k in
+    let same : b ≡ m = let f : (b ∷ x) ++ w ≡ m ∷ back = subst (λ (z : List ℕ). z ++ w ≡ m ∷ back) is e in cc in
+    no_mark_in d u w [] m x k (subst OpensString (sym e) o) refl n (is ∙ ap (λ (z : ℕ). z ∷ x) same)
+
+-- the string opens behind its prefix too
+opens_at_mark : (s p : List ℕ) (m : ℕ) (back : List ℕ) → OpensString s → s ≡ p ++ (m ∷ back) → is_prefix p ≡ true → is_quote m ≡ true → OpensString (m ∷ back)
+opens_at_mark s p m back o is y n =
+    let q = quote_of m n in
+    opens (m ∷ back) (ap is_in_string (behind_mark (m ∷ back) [] m back refl refl q ∙ sym (behind_mark s p m back is y q)) ∙ opened s o)
+
 pub opens_behind_prefix : OpensBehindPrefix
 opens_behind_prefix c t r h o =
     let (p, m, back, is, y, n) = o.marked in
     elim (longer t r p (m ∷ back) is) [
       | inl le ↦
           let same : t ≡ p = same_front t r p (m ∷ back) is (let k = no_shorter c t r p m back h is (one_text is_start prefixes refl p y) in omega arith) in
-          (m, back, rest_same t r p (m ∷ back) is same, n)
+          let rest : r ≡ m ∷ back = rest_same t r p (m ∷ back) is same in
+          (m, back, rw same y, rest, n, subst NoToken (sym rest) (no_token_at m back n (opens_at_mark (t ++ r) p m back o is y n)))
       | inr w ↦
           let (b, u, longer_is, rest_is) = w in
-          let q = quote_of m n in
-          let st = state_of c t h.lexeme in
-          let mark : b ≡ quote_byte (q.0) = let x : m ≡ b = cc in sym x ∙ q.1 in
-          let at : t ≡ p ++ (quote_byte (q.0) ∷ u) = longer_is ∙ ap (λ (x : ℕ). p ++ (x ∷ u)) mark in
-          let there : after move (Opened (q.0)) u ≡ Some (st.0) = sym (rw at (prefixed (q.0) p u y)) ∙ st.2 in
-          let within : inside (st.0) ≡ true = let g = goes_on inside inside_more (Opened (q.0)) u refl in rw there at g in
-          let class : c ≡ v.String = sym st.4 ∙ ap (λ (k : Class). keyword_or_name k t) (inside_ends (st.0) (st.1) within st.3) in
-          absurd (o.unclosed t r refl (subst (λ (k : Class). IsToken k t r) class h))
+          let mark : b ≡ m = let x : m ≡ b = cc in sym x in
+          absurd (no_mark_in c t r p m u h o y n (longer_is ∙ ap (λ (x : ℕ). p ++ (x ∷ u)) mark))
     ]

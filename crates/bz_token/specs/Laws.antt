@@ -4,8 +4,8 @@ use Rattle.bz_token.specs.declared.class.Class.{Class}
 use Rattle.bz_token.specs.declared.class.Class.TheVariants as v
 use Rattle.bz_token.specs.Bytes.{is_solid, is_separator, is_bracket_or_comma, is_quote}
 use Rattle.bz_token.specs.Classes.{class_number, class_of}
-use Rattle.bz_token.specs.Lexemes.{IsLexeme, marks, keywords}
-use Rattle.bz_token.specs.Tokens.{IsToken, OpensString}
+use Rattle.bz_token.specs.Lexemes.{IsLexeme, marks, keywords, is_prefix}
+use Rattle.bz_token.specs.Tokens.{IsToken, NoToken, OpensString}
 
 -- no text begins with two tokens
 abbrev pub OneToken : Type 0
@@ -51,6 +51,6 @@ Cuts =
 abbrev pub ClassOfNumber : Type 0
 ClassOfNumber = (class : Class) → class_of (class_number class) ≡ Some class
 
--- What begins an open string is its prefix, if any token is: behind such a token stands a quotation mark.
+-- A token at which a string begins that is not closed is its prefix: behind it stands a quotation mark, and no token begins there.
 abbrev pub OpensBehindPrefix : Type 0
-OpensBehindPrefix = (c : Class) (t r : List ℕ) → IsToken c t r → OpensString (t ++ r) → (mark : ℕ) × (back : List ℕ) × (r ≡ mark ∷ back) × (is_quote mark ≡ true)
+OpensBehindPrefix = (c : Class) (t r : List ℕ) → IsToken c t r → OpensString (t ++ r) → (mark : ℕ) × (back : List ℕ) × (is_prefix t ≡ true) × (r ≡ mark ∷ back) × (is_quote mark ≡ true) × NoToken r
