@@ -41,15 +41,19 @@ written_too_deep items tidy is h d printed =
     too_deep (depth_of (drawn (tidied items))) (layout (tidied items)) printed
     (subst (λ (xs : List Item). length (layout xs) ≤ limit) is h) (subst (λ (xs : List Item). depth_limit < depth_of (drawn xs)) is d)
 
+-- the text that the writer gives
+pub written_given : (items tidy : List Item) (text : Bytes) → tidy ≡ tidied items → text ≡ layout tidy → length (layout tidy) ≤ limit → depth_of (drawn tidy) ≤ depth_limit
+    → (printed : Option Bytes) → written items printed ≡ gives text printed
+written_given items tidy text tidy_is text_is long deep printed =
+    ap (λ (xs : List Item). limited (depth_of (drawn xs)) (layout xs) printed) (sym tidy_is)
+    ∙ fitting (depth_of (drawn tidy)) (layout tidy) printed long deep ∙ ap (λ (t : Bytes). gives t printed) (sym text_is)
+
 -- the spelling of the tree that the writer gives
 pub written_spelled : (items tidy : List Item) (tree : Node) → tidy ≡ tidied items → tree ≡ drawn tidy → spell_node tree ≡ layout tidy → Reads (spell_node tree) tree
     → (printed : Option Bytes) → written items printed ≡ gives (spell_node tree) printed
 written_spelled items tidy tree tidy_is drawn_is spelled reads printed =
-    let is : layout tidy ≡ spell_node tree = sym spelled in
-    let deep : depth_of (drawn tidy) ≤ depth_limit = subst (λ (t : Node). depth_of t ≤ depth_limit) drawn_is reads.0.depth in
-    let long : length (layout tidy) ≤ limit = subst (λ (t : Bytes). length t ≤ limit) (sym is) reads.2 in
-    ap (λ (xs : List Item). limited (depth_of (drawn xs)) (layout xs) printed) (sym tidy_is)
-    ∙ fitting (depth_of (drawn tidy)) (layout tidy) printed long deep ∙ ap (λ (t : Bytes). gives t printed) is
+    written_given items tidy (spell_node tree) tidy_is spelled (subst (λ (t : Bytes). length t ≤ limit) spelled reads.2)
+    (subst (λ (t : Node). depth_of t ≤ depth_limit) drawn_is reads.0.depth) printed
 
 -- ---- what is known where a text is given
 

@@ -4,7 +4,7 @@ ghost use Rattle.bz_formatter.specs.Faults.{FormatsTo};
 ghost use Rattle.bz_formatter.specs.Fixed.{IsFormatted};
 
 use crate::laws::formatted_once;
-use crate::writing::{spelled, value_of, written};
+use crate::writing::{value_of, written_text};
 use bz_attribute::Refusal;
 use bz_items::Text;
 use bz_parse::parse;
@@ -53,14 +53,10 @@ pub fn format(alloc: Global, text: &[u8]) -> Result<Text, FormatFault>
         return Err(FormatFault::Memory);
     };
     formatted_once();
-    let drawn = match written(alloc, value) {
-        Ok(drawn) => drawn,
-        Err(Refusal::TooLarge) => return Err(FormatFault::TooLarge),
-        Err(Refusal::TooDeep) => return Err(FormatFault::TooDeep),
-        Err(_) => return Err(FormatFault::Memory),
-    };
-    match spelled(alloc, &drawn) {
+    match written_text(alloc, value) {
         Ok(formatted) => Ok(formatted),
+        Err(Refusal::TooLarge) => Err(FormatFault::TooLarge),
+        Err(Refusal::TooDeep) => Err(FormatFault::TooDeep),
         Err(_) => Err(FormatFault::Memory),
     }
 }

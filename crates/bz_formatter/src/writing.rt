@@ -1,7 +1,7 @@
-//! Trees of new values, and what their texts say.
+//! Trees and texts of new values, and what they say.
 ghost use Rattle.std.specs.Prelude.{◌≡◌, ◌⊎◌, Option, None, IfOk, IfErr};
 ghost use Rattle.bz_items.specs.Characters.{Bytes};
-ghost use Rattle.bz_tree.specs.Legal.{Reads, Accepted};
+ghost use Rattle.bz_tree.specs.Legal.{Reads};
 ghost use Rattle.bz_tree.specs.Spell.{spell_node};
 ghost use Rattle.bz_view.specs.View.{view_of};
 ghost use Rattle.bz_tidy.specs.Passes.{tidied};
@@ -14,7 +14,7 @@ use bz_tidy::tidy;
 use bz_tree::Tree;
 use bz_value::File;
 use bz_view::{into_view, view};
-use bz_write::{SetFault, set, set_from};
+use bz_write::{SetFault, set, set_from, text_of_file};
 use std::alloc::Global;
 
 /// What a tree spells reads as it.
@@ -22,17 +22,6 @@ pub fn reads_back(tree: &Tree)
     ensures { Reads (spell_node tree.now) tree.now }
 {
     let _root = &tree.root;
-}
-
-/// The text of a tree.
-pub(crate) fn spelled(alloc: Global, tree: &Tree) -> Result<Text, Memory>
-    ensures text { IfOk result (λ text. text ≡ spell_node tree.now) }
-    ensures accepted { IfOk result Accepted }
-{
-    reads_back(tree);
-    let mut text = Vec::new(alloc);
-    tree.spell_into(&mut text)?;
-    Ok(Text::from_vec(text))
 }
 
 /// The value of a tree that is let go.
@@ -48,14 +37,29 @@ pub fn written(alloc: Global, file: File) -> Result<Tree, Refusal>
     ensures ok { IfOk result (λ tree. (printed : Option Bytes) → written file printed ≡ gives (spell_node tree) printed) }
     ensures err { IfErr result (λ refusal. ((printed : Option Bytes) → written file printed ≡ refuses refusal) ⊎ (refusal ≡ Refusal.Memory)) }
 {
-    let mut tidied = tidy(alloc, file)?;
-    let drawn = set_from(alloc, &mut tidied);
-    take_apart(tidied);
-    match drawn {
+    let tidied = tidy(alloc, file)?;
+    match set_from(alloc, tidied) {
         Ok(tree) => {
             reads_back(&tree);
             Ok(tree)
         }
+        Err(SetFault::Memory) => Err(Refusal::Memory),
+        Err(SetFault::TooLarge) => Err(Refusal::TooLarge),
+        Err(SetFault::TooDeep) => Err(Refusal::TooDeep),
+    }
+}
+
+/// The text of a new value: the layout of the value tidied. No tree is made for it.
+#[tactic(auto, using(crate::proofs::Writes::written_too_large, crate::proofs::Writes::written_too_deep, crate::proofs::Writes::written_given))]
+pub(crate) fn written_text(alloc: Global, file: File) -> Result<Text, Refusal>
+    ensures ok { IfOk result (λ text. (printed : Option Bytes) → written file printed ≡ gives text printed) }
+    ensures err { IfErr result (λ refusal. ((printed : Option Bytes) → written file printed ≡ refuses refusal) ⊎ (refusal ≡ Refusal.Memory)) }
+{
+    let tidied = tidy(alloc, file)?;
+    let text = text_of_file(alloc, &tidied);
+    take_apart(tidied);
+    match text {
+        Ok(text) => Ok(text),
         Err(SetFault::Memory) => Err(Refusal::Memory),
         Err(SetFault::TooLarge) => Err(Refusal::TooLarge),
         Err(SetFault::TooDeep) => Err(Refusal::TooDeep),

@@ -1,5 +1,5 @@
 //! What a .bzl file says, as a text again.
-ghost use Rattle.std.specs.Prelude.{◌≡◌, ◌<◌, ◌≤◌, IfOk, length};
+ghost use Rattle.std.specs.Prelude.{◌≡◌, ◌<◌, ◌≤◌, IfOk, IfSome, length};
 ghost use Rattle.bz_tree.specs.Legal.{ReadsBzl, NoBzlTree};
 ghost use Rattle.bz_tree.specs.Spell.{depth_of, limit, depth_limit};
 ghost use Rattle.bz_suite.specs.Proper.{IsProperBzl};
@@ -18,8 +18,41 @@ use bz_tree::{DEPTH_LIMIT, LENGTH_LIMIT};
 use bz_write::SetFault;
 use std::alloc::Global;
 
+/// The layout as text, where it and its tree are within the limits; none where one is not, or a growth was refused. The depth is
+/// looked at first, since the walk that writes goes as deep as the file.
+#[tactic(auto, using(crate::proofs::Depths::bzl_drawn_depth))]
+fn text_within(alloc: Global, file: &BzlFile) -> Option<Text>
+    ensures text { IfSome result (λ text. text ≡ bzl_layout file.now.items) }
+    ensures short { IfSome result (λ _. length (bzl_layout file.now.items) ≤ limit) }
+    ensures shallow { IfSome result (λ _. depth_of (bzl_drawn file.now.items) ≤ depth_limit) }
+{
+    if !are_bzl_items_within(file.items.as_slice(), DEPTH_LIMIT as usize - 1) {
+        return None;
+    }
+    let text = layout_text(alloc, file).ok()?;
+    if text.len() > LENGTH_LIMIT {
+        return None;
+    }
+    Some(text)
+}
+
+/// Why no text came of what a .bzl file says.
+#[tactic(auto, using(crate::proofs::Depths::bzl_drawn_depth))]
+fn fault_of(alloc: Global, file: &BzlFile) -> SetFault
+    ensures too_large { result ≡ SetFault.TooLarge → limit < length (bzl_layout file.now.items) }
+    ensures too_deep { result ≡ SetFault.TooDeep → (length (bzl_layout file.now.items) ≤ limit) × (depth_limit < depth_of (bzl_drawn file.now.items)) }
+{
+    match is_layout_within(alloc, file, LENGTH_LIMIT) {
+        Ok(false) => SetFault::TooLarge,
+        Ok(true) if !are_bzl_items_within(file.items.as_slice(), DEPTH_LIMIT as usize - 1) => {
+            SetFault::TooDeep
+        }
+        _ => SetFault::Memory,
+    }
+}
+
 /// The text of the layout of what a .bzl file says. Where that is proper, the text reads as the tree of the layout, which says the
-/// value levelled. Both limits are looked at on the value, before anything is written. Errors: `TooLarge` exactly where the text
+/// value levelled. It is measured only where no text came of it, to tell the fault. Errors: `TooLarge` exactly where the text
 /// would be longer than `LENGTH_LIMIT`, else `TooDeep` exactly where its tree would be deeper than `DEPTH_LIMIT`, and then no tree
 /// is read of it where it is proper; `Memory`: a growth was refused.
 #[tactic(auto, using(crate::proofs::Depths::bzl_drawn_depth))]
@@ -36,13 +69,8 @@ pub fn set_bzl(alloc: Global, file: &BzlFile) -> Result<Text, SetFault>
     bzl_layout_is_accepted();
     bzl_layout_is_too_deep();
     bzl_layout_reads_back();
-    let short = is_layout_within(alloc, file, LENGTH_LIMIT)?;
-    if !short {
-        return Err(SetFault::TooLarge);
+    match text_within(alloc, file) {
+        Some(text) => Ok(text),
+        None => Err(fault_of(alloc, file)),
     }
-    if !are_bzl_items_within(file.items.as_slice(), DEPTH_LIMIT as usize - 1) {
-        return Err(SetFault::TooDeep);
-    }
-    let text = layout_text(alloc, file)?;
-    Ok(text)
 }

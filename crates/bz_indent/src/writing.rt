@@ -8,14 +8,19 @@ use crate::leveling::is_def;
 use crate::measure::is_apart_from;
 use bz_items::{Memory, Text};
 use bz_suite::{Branch, BzlFile, BzlItem, Statement};
+use bz_tree::LENGTH_LIMIT;
 use bz_value::{Expr, Form};
 use bz_write::{deeper, push_behind, push_body, push_expr, push_row};
-use std::alloc::Global;
+use std::alloc::{AllocError, Global};
 
-/// Appends the spaces of a margin.
+/// Appends the spaces of a margin. The error: a growth was refused, or the text is past its limit already, so that the rest need not
+/// be written.
 fn push_margin(out: &mut Vec<u8>, margin: usize) -> Result<(), Memory>
     ensures { OnOk result (out.new.items ≡ out.old.items ++ replicate margin space) }
 {
+    if out.len() > LENGTH_LIMIT {
+        return Err(AllocError);
+    }
     for _column in 0..margin {
         out.push(b' ')?;
     }
@@ -23,7 +28,6 @@ fn push_margin(out: &mut Vec<u8>, margin: usize) -> Result<(), Memory>
 }
 
 /// Appends comment lines at a margin.
-
 fn push_lines(out: &mut Vec<u8>, texts: &[Text], margin: usize) -> Result<(), Memory>
     ensures { OnOk result (out.new.items ≡ out.old.items ++ layout.indented_lines margin texts.now) }
 {
@@ -39,10 +43,10 @@ fn push_lines(out: &mut Vec<u8>, texts: &[Text], margin: usize) -> Result<(), Me
 fn push_head(out: &mut Vec<u8>, head: &Form, margin: usize) -> Result<(), Memory>
     ensures { OnOk result (out.new.items ≡ out.old.items ++ layout.text_of_head margin head.now) }
 {
-    push_row(out, head, margin)?;
+    push_row(out, head, margin, LENGTH_LIMIT)?;
     if is_def(head) {
         out.push(b'(')?;
-        push_body(out, head, margin, b')')?;
+        push_body(out, head, margin, b')', LENGTH_LIMIT)?;
     }
     Ok(())
 }
@@ -67,7 +71,7 @@ fn push_simple(out: &mut Vec<u8>, x: &Expr, margin: usize) -> Result<(), Memory>
     let comments = x.comments();
     push_lines(out, comments.before(), margin)?;
     push_margin(out, margin)?;
-    push_expr(out, x, margin)?;
+    push_expr(out, x, margin, LENGTH_LIMIT)?;
     push_behind(out, comments.suffix())?;
     out.push(b'\n')?;
     Ok(())
@@ -139,7 +143,6 @@ fn push_between(out: &mut Vec<u8>, item: &BzlItem, others: &[BzlItem]) -> Result
 }
 
 /// Appends the items.
-
 fn push_items(out: &mut Vec<u8>, items: &[BzlItem]) -> Result<(), Memory>
     ensures { OnOk result (out.new.items ≡ out.old.items ++ bzl_layout items.now) }
 {
@@ -150,7 +153,7 @@ fn push_items(out: &mut Vec<u8>, items: &[BzlItem]) -> Result<(), Memory>
     Ok(())
 }
 
-/// The layout of what a .bzl file says, as text. The error: a growth was refused.
+/// The layout of what a .bzl file says, as text. The error: a growth was refused, or the text is past its limit.
 pub fn layout_text(alloc: Global, file: &BzlFile) -> Result<Text, Memory>
     ensures { IfOk result (λ text. text ≡ bzl_layout file.now.items) }
 {

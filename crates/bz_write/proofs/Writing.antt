@@ -15,10 +15,13 @@ use Rattle.bz_value.specs.Proper.{comments_of}
 use Rattle.bz_write.specs.declared.brackets.Brackets.{Brackets}
 use Rattle.bz_write.specs.Brackets.{brackets_of}
 use Rattle.bz_write.specs.Layout.{Piece, line, margin_lines, ended, suffix_text, stacked, joined, rowed, headed, laid_in, is_broken, is_tuple, gap_behind, margin_behind}
-use Rattle.bz_write.specs.Written.{piece_text, text_of}
+use Rattle.bz_value.specs.declared.value.Item.{Item}
+use Rattle.bz_write.specs.Written.{piece_text, text_of, item_text, layout}
+use Rattle.bz_write.specs.Drawn.{before_next}
 use Rattle.bz_write.specs.Writings.{writings, row_text, head_text, comma_text, joined_text, stacked_item_text, stacked_text, sequence_text}
 use Rattle.bz_write.proofs.Made.{text_Form}
 use Rattle.bz_write.proofs.Sized.{values_writings, length-writings}
+use Rattle.bz_write.proofs.Spelled.{next_behind}
 
 abbrev written : List (Piece (ℕ → Bytes)) → Bytes
 written ps = flat_map piece_text ps
@@ -194,3 +197,9 @@ sequence_laid (sequence opener closer) b kind split open_ m hs xs end_ h =
 
 pub sequence_form : (f : Form) (b : Brackets) (m : ℕ) → brackets_of (frame f.kind) ≡ Some b → text_of (e.Form f) m ≡ sequence_text b f m
 sequence_form f b m h = text_Form f m ∙ sequence_laid (frame f.kind) b f.kind f.seq.split f.open_ m f.parts f.seq.items f.seq.end_ h
+
+-- ---- files
+
+pub layout_next : (xs : List Item) (k : ℕ) (d : Item) → k < length xs →
+    layout (drop k xs) ≡ item_text (get_or xs k d) ++ (before_next (get_or xs k d) (drop (k + 1) xs) ++ layout (drop (k + 1) xs))
+layout_next xs k d h = ap layout (drop_more xs k d h) ∙ ap (λ t. item_text (get_or xs k d) ++ t) (sym (next_behind (get_or xs k d) (drop (k + 1) xs)))

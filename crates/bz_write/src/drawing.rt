@@ -6,7 +6,7 @@ ghost use Rattle.bz_write.specs.Drawn.{piece_part, part_of, parts_in, drawings, 
 
 use crate::brackets::brackets_of_kind;
 use crate::breaks::is_broken;
-use crate::gaps::{deeper, push_above, push_behind, push_ended, push_line};
+use crate::gaps::{NO_LIMIT, deeper, push_above, push_behind, push_ended, push_line};
 use crate::parts::room_for;
 use crate::row_gaps::{margin_behind, others, text_behind};
 use bz_items::{Items, Memory, Text};
@@ -190,13 +190,13 @@ fn draw_stacked(
     for item in items {
         let comments = item.comments();
         let inner = deeper(margin)?;
-        push_line(&mut gap, inner)?;
-        push_above(&mut gap, comments.before(), inner)?;
+        push_line(&mut gap, inner, NO_LIMIT)?;
+        push_above(&mut gap, comments.before(), inner, NO_LIMIT)?;
         parts.push(draw(alloc, item, Text::from_vec(gap), inner)?)?;
         parts.push(mark(alloc, nothing(alloc), b',')?)?;
         gap = Vec::new(alloc);
         push_behind(&mut gap, comments.suffix())?;
     }
-    push_ended(&mut gap, end_, margin)?;
+    push_ended(&mut gap, end_, margin, NO_LIMIT)?;
     parts.push(mark(alloc, Text::from_vec(gap), closer)?)
 }

@@ -7,6 +7,9 @@ ghost use Rattle.bz_write.specs.Written.{comment_lines};
 use bz_items::{Memory, Text};
 use std::alloc::AllocError;
 
+/// A limit that no text reaches.
+pub const NO_LIMIT: usize = usize::MAX;
+
 /// The margin of what stands inside a broken sequence. The error: no text is that wide.
 pub fn deeper(margin: usize) -> Result<usize, Memory>
     ensures { IfOk result (λ inner. inner ≡ margin + 4) }
@@ -14,10 +17,14 @@ pub fn deeper(margin: usize) -> Result<usize, Memory>
     margin.checked_add(4).ok_or(AllocError)
 }
 
-/// Appends a newline and the spaces of a margin.
-pub fn push_line(out: &mut Vec<u8>, margin: usize) -> Result<(), Memory>
+/// Appends a newline and the spaces of a margin. The error: a growth was refused, or there are more bytes than the limit already:
+/// margins make a layout longer than its value by far, so that the rest need not be written.
+pub fn push_line(out: &mut Vec<u8>, margin: usize, limit: usize) -> Result<(), Memory>
     ensures { OnOk result (out.new.items ≡ out.old.items ++ line margin) }
 {
+    if out.len() > limit {
+        return Err(AllocError);
+    }
     out.push(b'\n')?;
     for _column in 0..margin {
         out.push(b' ')?;
@@ -26,26 +33,36 @@ pub fn push_line(out: &mut Vec<u8>, margin: usize) -> Result<(), Memory>
 }
 
 /// Appends comments, each on its own line at the margin, above an item.
-pub fn push_above(out: &mut Vec<u8>, texts: &[Text], margin: usize) -> Result<(), Memory>
+pub fn push_above(
+    out: &mut Vec<u8>,
+    texts: &[Text],
+    margin: usize,
+    limit: usize,
+) -> Result<(), Memory>
     ensures { OnOk result (out.new.items ≡ out.old.items ++ margin_lines margin texts.now) }
 {
     for text in texts {
         out.extend_from_slice(text.as_slice())?;
-        push_line(out, margin)?;
+        push_line(out, margin, limit)?;
     }
     Ok(())
 }
 
 /// Appends the end comments of a sequence, and the line of its closing bracket at the margin.
-pub fn push_ended(out: &mut Vec<u8>, texts: &[Text], margin: usize) -> Result<(), Memory>
+pub fn push_ended(
+    out: &mut Vec<u8>,
+    texts: &[Text],
+    margin: usize,
+    limit: usize,
+) -> Result<(), Memory>
     ensures { OnOk result (out.new.items ≡ out.old.items ++ ended margin texts.now) }
 {
     let inner = deeper(margin)?;
     for text in texts {
-        push_line(out, inner)?;
+        push_line(out, inner, limit)?;
         out.extend_from_slice(text.as_slice())?;
     }
-    push_line(out, margin)
+    push_line(out, margin, limit)
 }
 
 /// Appends a suffix after two spaces. The error: a growth was refused.

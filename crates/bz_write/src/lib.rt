@@ -30,7 +30,7 @@ pub use lines::is_close;
 pub use marked::{Redrawn, redraw};
 pub use measure::{left_behind, left_behind_body, left_behind_row};
 pub use room::{NoRoom, less, less_behind};
-pub use setting::{SetFault, set};
+pub use setting::{SetFault, set, text_of_file};
 pub use spliced::{Respliced, redraw_spliced};
 pub use taken::set_from;
 pub use texts::{expr_text, item_text, push_body, push_expr, push_row};

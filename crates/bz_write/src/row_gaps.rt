@@ -4,7 +4,7 @@ ghost use Rattle.bz_value.specs.Proper.{has_break};
 ghost use Rattle.bz_write.specs.Layout as layout;
 ghost use Rattle.bz_write.specs.RowGaps.{written_gap};
 
-use crate::gaps::{deeper, push_line};
+use crate::gaps::{NO_LIMIT, deeper, push_line};
 use bz_items::{Memory, Text};
 use bz_spaces::is_spaced;
 use bz_value::{Expr, Form};
@@ -83,13 +83,13 @@ fn text_of_gap(alloc: Global, gap: RowGap) -> Result<Text, Memory>
         RowGap::Space => Text::from_slice(alloc, b" "),
         RowGap::Line(margin) => {
             let mut out = Vec::new(alloc);
-            push_line(&mut out, margin)?;
+            push_line(&mut out, margin, NO_LIMIT)?;
             Ok(Text::from_vec(out))
         }
     }
 }
 
-fn push_gap(out: &mut Vec<u8>, gap: RowGap) -> Result<(), Memory>
+fn push_gap(out: &mut Vec<u8>, gap: RowGap, limit: usize) -> Result<(), Memory>
     ensures { OnOk result (out.new.items ≡ out.old.items ++ written_gap gap) }
 {
     match gap {
@@ -98,7 +98,7 @@ fn push_gap(out: &mut Vec<u8>, gap: RowGap) -> Result<(), Memory>
             out.push(b' ')?;
             Ok(())
         }
-        RowGap::Line(margin) => push_line(out, margin),
+        RowGap::Line(margin) => push_line(out, margin, limit),
     }
 }
 
@@ -109,10 +109,11 @@ pub fn push_row_gap(
     margin: usize,
     part: &Expr,
     others: &[Expr],
+    limit: usize,
 ) -> Result<(), Memory>
     ensures { OnOk result (out.new.items ≡ out.old.items ++ layout.gap_behind form.now.kind form.now.open_ margin part.now others.now) }
 {
-    push_gap(out, gap_behind(form, margin, part, others)?)
+    push_gap(out, gap_behind(form, margin, part, others)?, limit)
 }
 
 /// The text of the gap behind a part of a row, before the others. The error: a growth was refused.

@@ -1,4 +1,4 @@
-ghost use Rattle.std.specs.Prelude.{◌≡◌, ◌<◌, ◌≤◌, IfOk, length};
+ghost use Rattle.std.specs.Prelude.{◌≡◌, ◌<◌, ◌≤◌, IfOk, IfSome, IsTrue, false, length};
 ghost use Rattle.bz_tree.specs.Spell.{spell_node, depth_of, limit, depth_limit};
 ghost use Rattle.bz_view.specs.View.{view_of};
 ghost use Rattle.bz_write.specs.Drawn.{drawn};
@@ -7,6 +7,8 @@ ghost use Rattle.bz_write.specs.Flags.{flags};
 
 use crate::limits::{are_items_within, is_layout_within};
 use crate::lines::draw_lines;
+use crate::texts::push_items;
+use bz_items::Text;
 use bz_tree::{DEPTH_LIMIT, Kind, LENGTH_LIMIT, Node, Tree};
 use bz_value::{File, Item};
 use std::alloc::{AllocError, Global};
@@ -37,6 +39,15 @@ impl From<AllocError> for SetFault {
     }
 }
 
+/// Whether the tree of the layout of the items is within the limit of depth.
+#[tactic(auto, using(crate::proofs::Deep::drawn_depth))]
+fn is_shallow(items: &[Item]) -> bool
+    ensures shallow { IsTrue result → depth_of (drawn items.now) ≤ depth_limit }
+    ensures deep { result ≡ false → depth_limit < depth_of (drawn items.now) }
+{
+    are_items_within(items, DEPTH_LIMIT as usize - 1)
+}
+
 /// Whether the layout of the items and its tree are within the limits; neither is made for it. Errors: `TooLarge` and `TooDeep`
 /// as of `set`; `Memory`: a growth was refused.
 pub fn fits(alloc: Global, items: &[Item]) -> Result<(), SetFault>
@@ -49,7 +60,7 @@ pub fn fits(alloc: Global, items: &[Item]) -> Result<(), SetFault>
     if !short {
         return Err(SetFault::TooLarge);
     }
-    if !are_items_within(items, DEPTH_LIMIT as usize - 1) {
+    if !is_shallow(items) {
         return Err(SetFault::TooDeep);
     }
     Ok(())
@@ -73,4 +84,40 @@ pub fn set(alloc: Global, file: &File) -> Result<Tree, SetFault>
             parts: draw_lines(alloc, items)?,
         },
     })
+}
+
+/// The layout of the items as text, where it and its tree are within the limits; none where one is not, or a growth was refused.
+/// The depth is looked at first, since the walk that writes goes as deep as the items.
+fn text_within(alloc: Global, items: &[Item]) -> Option<Text>
+    ensures text { IfSome result (λ text. text ≡ layout items.now) }
+    ensures short { IfSome result (λ _. length (layout items.now) ≤ limit) }
+    ensures shallow { IfSome result (λ _. depth_of (drawn items.now) ≤ depth_limit) }
+{
+    if !is_shallow(items) {
+        return None;
+    }
+    let mut out = Vec::new(alloc);
+    push_items(&mut out, items, LENGTH_LIMIT).ok()?;
+    if out.len() > LENGTH_LIMIT {
+        return None;
+    }
+    Some(Text::from_vec(out))
+}
+
+/// The layout of the file value, as text, with no tree made for it. It is measured only where no text came of it, to tell the fault.
+/// Errors: `TooLarge` exactly where the layout is past the limit of a text, else `TooDeep` exactly where its tree would be past the
+/// limit of depth; `Memory`: a growth was refused.
+pub fn text_of_file(alloc: Global, file: &File) -> Result<Text, SetFault>
+    ensures text { IfOk result (λ text. text ≡ layout file.now) }
+    ensures short { IfOk result (λ _. length (layout file.now) ≤ limit) }
+    ensures shallow { IfOk result (λ _. depth_of (drawn file.now) ≤ depth_limit) }
+    ensures too_large { result ≡ Err SetFault.TooLarge → limit < length (layout file.now) }
+    ensures too_deep { result ≡ Err SetFault.TooDeep → (length (layout file.now) ≤ limit) × (depth_limit < depth_of (drawn file.now)) }
+{
+    let items = file.items.as_slice();
+    if let Some(text) = text_within(alloc, items) {
+        return Ok(text);
+    }
+    fits(alloc, items)?;
+    Err(SetFault::Memory)
 }

@@ -1,5 +1,5 @@
-//! The tree of the layout of a value that is used up.
-ghost use Rattle.std.specs.Prelude.{◌≡◌, ◌≢◌, ◌<◌, ◌≤◌, ◌++◌, ◌∷◌, [], length, Some, IfErr, IfOk, OnOk};
+//! The tree of the layout of a value that is given up.
+ghost use Rattle.std.specs.Prelude.{◌≡◌, ◌<◌, ◌≤◌, ◌++◌, ◌∷◌, [], length, Some, IfOk, OnOk};
 ghost use Rattle.std.specs.Option.{option_copied};
 ghost use Rattle.bz_tree.specs.Spell.{spell_node, depth_of, limit, depth_limit};
 ghost use Rattle.bz_view.specs.View.{view_of};
@@ -11,26 +11,27 @@ ghost use Rattle.bz_write.specs.Written.{layout};
 use crate::lines::{draw_item, end_behind, push_between};
 use crate::setting::{SetFault, fits};
 use bz_items::{Items, Memory};
+use bz_rule::take_apart;
 use bz_tree::{Kind, Node, Part, Tree};
 use bz_value::{File, Item};
 use std::alloc::Global;
-use std::{mem, slice};
+use std::slice;
 
-/// The tree that `set` makes, of a file value that is used up: each item is let go when the next one is drawn, so that the
-/// whole value does not stand beside the whole tree. The value that is left is empty, but for an error that is told before
-/// anything is drawn: then it is what it was. Errors: `TooLarge` exactly where the layout is past the limit of a text, else
+/// The tree that `set` makes, of a file value that is given up: each item is let go when the next one is drawn, so that the whole
+/// value does not stand beside the whole tree. Errors: `TooLarge` exactly where the layout is past the limit of a text, else
 /// `TooDeep` exactly where the tree is past the limit of depth; `Memory`: a growth was refused.
-pub fn set_from(alloc: Global, file: &mut File) -> Result<Tree, SetFault>
-    ensures drawn { IfOk result (λ tree. tree ≡ drawn file.old) }
-    ensures text { IfOk result (λ tree. spell_node tree ≡ layout file.old) }
-    ensures view { IfOk result (λ tree. view_of tree ≡ flags file.old) }
-    ensures too_large { result ≡ Err SetFault.TooLarge → limit < length (layout file.old) }
-    ensures too_deep { result ≡ Err SetFault.TooDeep → (length (layout file.old) ≤ limit) × (depth_limit < depth_of (drawn file.old)) }
-    ensures kept { IfErr result (λ fault. fault ≢ SetFault.Memory → file.new ≡ file.old) }
-    ensures left { IfOk result (λ _. file.new ≡ []) }
+pub fn set_from(alloc: Global, file: File) -> Result<Tree, SetFault>
+    ensures drawn { IfOk result (λ tree. tree ≡ drawn file) }
+    ensures text { IfOk result (λ tree. spell_node tree ≡ layout file) }
+    ensures view { IfOk result (λ tree. view_of tree ≡ flags file) }
+    ensures too_large { result ≡ Err SetFault.TooLarge → limit < length (layout file) }
+    ensures too_deep { result ≡ Err SetFault.TooDeep → (length (layout file) ≤ limit) × (depth_limit < depth_of (drawn file)) }
 {
-    fits(alloc, file.items.as_slice())?;
-    let items = mem::replace(&mut file.items, Items::new(alloc));
+    if let Err(fault) = fits(alloc, file.items.as_slice()) {
+        take_apart(file);
+        return Err(fault);
+    }
+    let File { items } = file;
     Ok(Tree {
         root: Node {
             kind: Kind::File,

@@ -7,16 +7,19 @@ ghost use Rattle.bz_write.specs.Writings.{row_text, head_text, comma_text, joine
 
 use crate::brackets::{Brackets, brackets_of_kind};
 use crate::breaks::is_broken;
-use crate::gaps::{deeper, push_above, push_behind, push_comments, push_ended, push_line};
+use crate::gaps::{
+    NO_LIMIT, deeper, push_above, push_behind, push_comments, push_ended, push_line,
+};
+use crate::lines::push_between;
 use crate::row_gaps::{margin_behind, others, push_row_gap};
 use bz_items::{Memory, Text};
 use bz_tree::Kind;
 use bz_value::{Expr, Form, Item};
 use std::alloc::Global;
 
-/// Appends the layout of an expression at a margin. The error: a growth was refused.
+/// Appends the layout of an expression at a margin. The error: a growth was refused, or the text is past the limit.
 #[cycle(push)]
-pub fn push_expr(out: &mut Vec<u8>, expr: &Expr, margin: usize) -> Result<(), Memory>
+pub fn push_expr(out: &mut Vec<u8>, expr: &Expr, margin: usize, limit: usize) -> Result<(), Memory>
     ensures { OnOk result (out.new.items ≡ out.old.items ++ written.text_of expr.now margin) }
 {
     match expr {
@@ -24,17 +27,17 @@ pub fn push_expr(out: &mut Vec<u8>, expr: &Expr, margin: usize) -> Result<(), Me
             out.extend_from_slice(token.text.as_slice())?;
             Ok(())
         }
-        Expr::Form(form) => push_form(out, form, margin),
+        Expr::Form(form) => push_form(out, form, margin, limit),
     }
 }
 
 #[cycle(push)]
-fn push_form(out: &mut Vec<u8>, form: &Form, margin: usize) -> Result<(), Memory>
+fn push_form(out: &mut Vec<u8>, form: &Form, margin: usize, limit: usize) -> Result<(), Memory>
     ensures { OnOk result (out.new.items ≡ out.old.items ++ written.text_of (e.Form form.now) margin) }
 {
     match brackets_of_kind(form.kind) {
-        None => push_row(out, form, margin),
-        Some(brackets) => push_sequence(out, form, margin, brackets),
+        None => push_row(out, form, margin, limit),
+        Some(brackets) => push_sequence(out, form, margin, brackets, limit),
     }
 }
 
@@ -45,24 +48,25 @@ fn push_sequence(
     form: &Form,
     margin: usize,
     brackets: Brackets,
+    limit: usize,
 ) -> Result<(), Memory>
     ensures { OnOk result (out.new.items ≡ out.old.items ++ sequence_text brackets form.now margin) }
 {
-    push_head(out, form.parts.as_slice(), margin)?;
+    push_head(out, form.parts.as_slice(), margin, limit)?;
     out.push(brackets.opener)?;
-    push_body(out, form, margin, brackets.closer)
+    push_body(out, form, margin, brackets.closer, limit)
 }
 
-/// Appends the row of the parts of a form at a margin. The error: a growth was refused.
+/// Appends the row of the parts of a form at a margin. The error: a growth was refused, or the text is past the limit.
 #[cycle(push)]
-pub fn push_row(out: &mut Vec<u8>, form: &Form, margin: usize) -> Result<(), Memory>
+pub fn push_row(out: &mut Vec<u8>, form: &Form, margin: usize, limit: usize) -> Result<(), Memory>
     ensures { OnOk result (out.new.items ≡ out.old.items ++ row_text form.now.kind form.now.open_ margin margin form.now.parts) }
 {
     let row = form.parts.as_slice();
     let mut inner = margin;
     for (i, part) in row.iter().enumerate() {
-        push_expr(out, part, inner)?;
-        push_row_gap(out, form, margin, part, others(row, i))?;
+        push_expr(out, part, inner, limit)?;
+        push_row_gap(out, form, margin, part, others(row, i), limit)?;
         inner = margin_behind(form, margin, part)?;
     }
     Ok(())
@@ -70,26 +74,33 @@ pub fn push_row(out: &mut Vec<u8>, form: &Form, margin: usize) -> Result<(), Mem
 
 /// Appends what stands before the opening bracket of a sequence.
 #[cycle(push)]
-fn push_head(out: &mut Vec<u8>, head: &[Expr], margin: usize) -> Result<(), Memory>
+fn push_head(out: &mut Vec<u8>, head: &[Expr], margin: usize, limit: usize) -> Result<(), Memory>
     ensures { OnOk result (out.new.items ≡ out.old.items ++ head_text margin head.now) }
 {
     for expr in head {
-        push_expr(out, expr, margin)?;
+        push_expr(out, expr, margin, limit)?;
     }
     Ok(())
 }
 
-/// Appends what stands in the sequence of a form at a margin, and this closing bracket. The error: a growth was refused.
+/// Appends what stands in the sequence of a form at a margin, and this closing bracket. The error: a growth was refused, or the text
+/// is past the limit.
 #[cycle(push)]
-pub fn push_body(out: &mut Vec<u8>, form: &Form, margin: usize, closer: u8) -> Result<(), Memory>
+pub fn push_body(
+    out: &mut Vec<u8>,
+    form: &Form,
+    margin: usize,
+    closer: u8,
+    limit: usize,
+) -> Result<(), Memory>
     ensures { OnOk result (out.new.items ≡ out.old.items ++ body_text form.now margin closer) }
 {
     let items = form.seq.items.as_slice();
     if is_broken(form) {
-        return push_stacked(out, items, form.seq.end_.as_slice(), margin, closer);
+        return push_stacked(out, items, form.seq.end_.as_slice(), margin, closer, limit);
     }
     let one = matches!(form.kind, Kind::Tuple) && items.len() == 1;
-    push_joined(out, items, margin, closer, one)
+    push_joined(out, items, margin, closer, one, limit)
 }
 
 /// Appends what stands between an item on one line and the others that follow: a lone item may have a comma.
@@ -113,12 +124,13 @@ fn push_joined(
     margin: usize,
     closer: u8,
     one: bool,
+    limit: usize,
 ) -> Result<(), Memory>
     ensures { OnOk result (out.new.items ≡ out.old.items ++ joined_text margin closer one items.now) }
 {
     let mut one = one;
     for (i, item) in items.iter().enumerate() {
-        push_expr(out, item, margin)?;
+        push_expr(out, item, margin, limit)?;
         push_comma(out, others(items, i), one)?;
         one = false;
     }
@@ -128,14 +140,19 @@ fn push_joined(
 
 /// Appends an item on lines of its own in a sequence at a margin: its comments above it, a comma, its suffix.
 #[cycle(push)]
-fn push_stacked_item(out: &mut Vec<u8>, item: &Expr, margin: usize) -> Result<(), Memory>
+fn push_stacked_item(
+    out: &mut Vec<u8>,
+    item: &Expr,
+    margin: usize,
+    limit: usize,
+) -> Result<(), Memory>
     ensures { OnOk result (out.new.items ≡ out.old.items ++ stacked_item_text margin item.now) }
 {
     let comments = item.comments();
     let inner = deeper(margin)?;
-    push_line(out, inner)?;
-    push_above(out, comments.before(), inner)?;
-    push_expr(out, item, inner)?;
+    push_line(out, inner, limit)?;
+    push_above(out, comments.before(), inner, limit)?;
+    push_expr(out, item, inner, limit)?;
     out.push(b',')?;
     push_behind(out, comments.suffix())
 }
@@ -148,24 +165,25 @@ fn push_stacked(
     end_: &[Text],
     margin: usize,
     closer: u8,
+    limit: usize,
 ) -> Result<(), Memory>
     ensures { OnOk result (out.new.items ≡ out.old.items ++ stacked_text margin closer end_.now items.now) }
 {
     for item in items {
-        push_stacked_item(out, item, margin)?;
+        push_stacked_item(out, item, margin, limit)?;
     }
-    push_ended(out, end_, margin)?;
+    push_ended(out, end_, margin, limit)?;
     out.push(closer)?;
     Ok(())
 }
 
 /// Appends a statement on lines of its own: its comments above it, its suffix, a newline.
-fn push_statement(out: &mut Vec<u8>, expr: &Expr) -> Result<(), Memory>
+fn push_statement(out: &mut Vec<u8>, expr: &Expr, limit: usize) -> Result<(), Memory>
     ensures { OnOk result (out.new.items ≡ out.old.items ++ written.item_text (i.Stmt expr.now)) }
 {
     let comments = expr.comments();
     push_comments(out, comments.before())?;
-    push_expr(out, expr, 0)?;
+    push_expr(out, expr, 0, limit)?;
     push_behind(out, comments.suffix())?;
     out.push(b'\n')?;
     Ok(())
@@ -176,8 +194,18 @@ pub fn expr_text(alloc: Global, expr: &Expr) -> Result<Text, Memory>
     ensures { IfOk result (λ text. text ≡ written.text_of expr.now 0) }
 {
     let mut out = Vec::new(alloc);
-    push_expr(&mut out, expr, 0)?;
+    push_expr(&mut out, expr, 0, NO_LIMIT)?;
     Ok(Text::from_vec(out))
+}
+
+/// Appends an item of a file, with its newlines.
+fn push_item(out: &mut Vec<u8>, item: &Item, limit: usize) -> Result<(), Memory>
+    ensures { OnOk result (out.new.items ≡ out.old.items ++ written.item_text item.now) }
+{
+    match item {
+        Item::Block(texts) => push_comments(out, texts.as_slice()),
+        Item::Stmt(expr) => push_statement(out, expr, limit),
+    }
 }
 
 /// The layout of an item of a file, with its newlines. The error: a growth was refused.
@@ -185,9 +213,18 @@ pub fn item_text(alloc: Global, item: &Item) -> Result<Text, Memory>
     ensures { IfOk result (λ text. text ≡ written.item_text item.now) }
 {
     let mut out = Vec::new(alloc);
-    match item {
-        Item::Block(texts) => push_comments(&mut out, texts.as_slice())?,
-        Item::Stmt(expr) => push_statement(&mut out, expr)?,
-    }
+    push_item(&mut out, item, NO_LIMIT)?;
     Ok(Text::from_vec(out))
+}
+
+/// Appends the layout of items. The error: a growth was refused, or the text is past the limit.
+#[tactic(auto, using(crate::proofs::Writing::layout_next))]
+pub fn push_items(out: &mut Vec<u8>, items: &[Item], limit: usize) -> Result<(), Memory>
+    ensures { OnOk result (out.new.items ≡ out.old.items ++ written.layout items.now) }
+{
+    for (i, item) in items.iter().enumerate() {
+        push_item(out, item, limit)?;
+        push_between(out, item, &items[i + 1..])?;
+    }
+    Ok(())
 }

@@ -1,7 +1,6 @@
 use Rattle.std.proofs.Common.{List, None, sym, ap, ◌∙◌}
-use Rattle.bz_items.specs.Characters.{Bytes}
 use Rattle.bz_value.specs.declared.value.Item.{Item}
-use Rattle.bz_formatter.specs.Meaning.{gives, written}
+use Rattle.bz_formatter.specs.Meaning.{written}
 use Rattle.bz_formatter.proofs.Untold.{unread_told}
 use Rattle.bz_formatter.proofs.formatter.format.Goals as goal
 
@@ -12,10 +11,9 @@ returns-in-Err c = record {
   fixed = tt;
 }
 
-pub returns-in-Ok-spelled-clause-fixed : goal.returns-in-Ok-spelled-clause-fixed
-returns-in-Ok-spelled-clause-fixed c = c.formatted_once.ensures c.args.text.now c.in-Ok-spelled.formatted (
+pub returns-in-Ok-written_text-clause-fixed : goal.returns-in-Ok-written_text-clause-fixed
+returns-in-Ok-written_text-clause-fixed c = c.formatted_once.ensures c.args.text.now c.in-Ok-written_text.formatted (
   c.in-Ok.tree,
   c.in-Ok.ensures.ok,
-  ap (λ (text : Bytes). gives text None) c.in-Ok-spelled.ensures.text ∙ sym (c.in-Ok-written.ensures.ok None)
-      ∙ ap (λ (items : List Item). written items None) c.in-Ok-value_of.ensures,
+  sym (c.in-Ok-written_text.ensures.ok None) ∙ ap (λ (items : List Item). written items None) c.in-Ok-value_of.ensures,
 )

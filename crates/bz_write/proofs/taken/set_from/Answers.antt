@@ -8,12 +8,12 @@ use Rattle.bz_write.proofs.taken.set_from.Goals as goal
 
 pub invariant_of-result : goal.invariant_of-result
 invariant_of-result c =
-    legal_file c.args.file.now c.in_ok-draw_each.field-0 (subst (λ xs. IsProper xs) c.file.view_is c.file.invariant) (c.in_ok-draw_each.ensures ∙ ap (lines_from []) (c.replace-items.ensures.value ∙ c.file.view_is))
-    (subst (λ xs. length (layout xs) ≤ limit) (c.as_slice.ensures ∙ c.file.view_is) c.in_ok-fits.ensures.short)
-    (subst (λ xs. depth_of (drawn xs) ≤ depth_limit) (c.as_slice.ensures ∙ c.file.view_is) c.in_ok-fits.ensures.shallow)
+    legal_file c.args.file c.in_ok-draw_each.field-0 (subst (λ xs. IsProper xs) c.file.view_is c.file.invariant) (c.in_ok-draw_each.ensures ∙ ap (lines_from []) c.file.view_is)
+    (subst (λ xs. length (layout xs) ≤ limit) (c.as_slice.ensures ∙ c.file.view_is) c.in_default.ensures.short)
+    (subst (λ xs. depth_of (drawn xs) ≤ depth_limit) (c.as_slice.ensures ∙ c.file.view_is) c.in_default.ensures.shallow)
 
 pub returns-clause-text : goal.returns-clause-text
-returns-clause-text c = text_of_file c.args.file.now c.in_ok-draw_each.field-0 (subst (λ xs. IsProper xs) c.file.view_is c.file.invariant) (c.in_ok-draw_each.ensures ∙ ap (lines_from []) (c.replace-items.ensures.value ∙ c.file.view_is))
+returns-clause-text c = text_of_file c.args.file c.in_ok-draw_each.field-0 (subst (λ xs. IsProper xs) c.file.view_is c.file.invariant) (c.in_ok-draw_each.ensures ∙ ap (lines_from []) c.file.view_is)
 
 pub returns-clause-view : goal.returns-clause-view
-returns-clause-view c = view_of_file c.args.file.now c.in_ok-draw_each.field-0 (subst (λ xs. IsProper xs) c.file.view_is c.file.invariant) (c.in_ok-draw_each.ensures ∙ ap (lines_from []) (c.replace-items.ensures.value ∙ c.file.view_is))
+returns-clause-view c = view_of_file c.args.file c.in_ok-draw_each.field-0 (subst (λ xs. IsProper xs) c.file.view_is c.file.invariant) (c.in_ok-draw_each.ensures ∙ ap (lines_from []) c.file.view_is)
