@@ -245,10 +245,10 @@ def a_left_file_is_written_over(failing):
 
 
 def scenes():
-    names = sample(worked.ROWS, SAMPLE)
+    names = dict.fromkeys([*sample(worked.ROWS, SAMPLE), *worked.KEPT_ROWS])
     found = {f"each call fails, {name}": each_call_fails(worked.ROWS[name]) for name in names}
     with_files = [name for name, row in worked.ROWS.items() if row.files]
-    found |= {f"killed at each call, {name}": each_call_is_the_last(worked.ROWS[name]) for name in sample(with_files, 6)}
+    found |= {f"killed at each call, {name}": each_call_is_the_last(worked.ROWS[name]) for name in dict.fromkeys([*sample(with_files, 6), *worked.KEPT_ROWS])}
     for program in EDITS:
         found |= {f"another program's {way} beside {program}": another_program(program, way) for way in ("change", "remove")}
     return found | {"a left file is written over": a_left_file_is_written_over}

@@ -235,7 +235,9 @@ class Allowed:
         printed = self.ample.out.splitlines(keepends=True)
         texts = {b"", row.text, *(left.out for left, _ in runs)}
         self.outs = {b"".join(printed[:count]) + text for count in range(len(printed) + 1) for text in texts}
-        self.files = {name: [text, *(after.get(name) for _, after in runs)] for name, text in row.files.items()}
+        # a journal that is begun is no file of the row
+        names = {*row.files, *(name for _, after in runs for name in after)}
+        self.files = {name: [row.files.get(name), *(after.get(name) for _, after in runs)] for name in names}
 
     def wrong(self, left, files):
         """What is wrong with what a run left; where memory was refused that must be told, with the status of it."""
@@ -275,7 +277,8 @@ def a_worked_row(row, most=MOST):
 
 def scenes():
     found = {name: a_row(row) for name, row in ROWS.items()}
-    found |= {f"worked out: {name}": a_worked_row(worked.ROWS[name]) for name in sample(worked.ROWS, SAMPLE_OF_ROWS)}
+    names = dict.fromkeys([*sample(worked.ROWS, SAMPLE_OF_ROWS), *worked.KEPT_ROWS])
+    found |= {f"worked out: {name}": a_worked_row(worked.ROWS[name]) for name in names}
     if WHOLE:
         found |= {f"worked out: {name}": a_worked_row(row, LONG_REQUESTS) for name, row in worked.LONG_ROWS.items()}
     return found

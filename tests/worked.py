@@ -7,6 +7,8 @@ one of them with nothing against it must end with its status, so that no row sta
 
 import collections
 
+from forging import LIST, MARK, NAME, NAMED, STRING, Journal, Step, edit, leaf, node, spelled
+
 # A run: the program with its words, standard input, the files that it finds by their names, and its status.
 Row = collections.namedtuple("Row", "program words text files status", defaults=[{}, 0])
 
@@ -30,6 +32,32 @@ MODES = b"a = 1; b = 2; # c\n"
 PACKAGE_FILE = "p/BUILD"
 PACKAGE = {PACKAGE_FILE: b't(name="a",deps=[])\n'}
 LINES = b"# c\n\nadd deps :y|//p:a\ndelete|//p:zz\n"
+
+
+def plain(number, token):
+    """A leaf with no gap before it."""
+    return leaf(number, b"", token)
+
+
+def argument(name, value):
+    return node(NAMED, plain(NAME, name), plain(MARK, b"="), value)
+
+
+# the step back from `deps = [":x"]`, laid out, to `deps=[]` on one line: the parts of the call behind its bracket
+STEP_BACK = [
+    edit(
+        [0, 0, 0],
+        2,
+        5,
+        argument(b"name", plain(STRING, b'"a"')),
+        plain(MARK, b","),
+        argument(b"deps", node(LIST, plain(MARK, b"["), plain(MARK, b"]"))),
+        plain(MARK, b")"),
+    )
+]
+# the package after `add deps //p:x` with --journal, and its journal, from which the text before it comes back
+KEPT_TEXT = b't(\n    name = "a",\n    deps = [":x"],\n)\n'
+KEPT_PACKAGE = {PACKAGE_FILE: KEPT_TEXT, f"{PACKAGE_FILE}.journal": spelled(Journal(b"p", [PACKAGE[PACKAGE_FILE], KEPT_TEXT], 1, 0, [Step(STEP_BACK, b"add deps //p:x")]))}
 SORTS = {"BUILD": b'f( name="x" )\n', "a/BUILD.bazel": b'g(name="x",deps=["b","a"])\n', "a/BUILD": b'h(name="x")\n', "b/BUILD": b"x(\n"}
 
 # ---- buildifier: a name, the text, and the status
@@ -139,6 +167,9 @@ OVER_FILES = [
     ("a text of a .bzl file", "buildifier", ["--type=bzl"], b"if x: y=1\n", {}, 0),
     ("a package is edited", "buildozer", ["add deps //p:x", "//p:a"], b"", PACKAGE, 0),
     ("a package is shown", "buildozer", ["--stdout", "add deps //p:x", "//p:a"], b"", PACKAGE, 0),
+    ("a journal is begun", "buildozer", ["--journal", "add deps //p:x", "//p:a"], b"", PACKAGE, 0),
+    ("a journal goes on", "buildozer", ["--journal", "delete", "//p:a"], b"", KEPT_PACKAGE, 0),
+    ("a text comes back from a journal", "buildozer", ["--journal", "undo", "//p:a"], b"", KEPT_PACKAGE, 0),
     ("lines of a file", "buildozer", ["-k", "-f", "cmds"], b"", {**PACKAGE, "cmds": LINES}, 2),
     ("lines of standard input", "buildozer", ["-k", "-f", "-"], LINES, PACKAGE, 2),
     ("packages of all sorts", "buildozer", ["-k", "set size small", "//:x", "//a:x", "//b:x", "//none:x"], b"", SORTS, 2),
@@ -148,6 +179,9 @@ OVER_FILES = [
 ROWS = {name: Row("buildifier", [], text, {}, status) for name, text, status in FORMATTED}
 ROWS |= {name: Row("buildozer", words, text, {}, status) for name, words, text, status in EDITED}
 ROWS |= {name: Row(*row) for name, *row in OVER_FILES}
+
+# those that keep a journal, which no sample leaves out
+KEPT_ROWS = [name for name, row in ROWS.items() if "--journal" in row.words]
 
 # ---- texts past a limit, or right before one: too long to be torn
 
