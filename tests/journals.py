@@ -773,6 +773,36 @@ def the_longest_command_is_a_note(w):
     return longer and written and w.leaves(LISTING, 3, out=listing([ODD, text], 1, [note]))
 
 
+# how many texts a history may have after its first one
+MOST_STEPS = 100_000
+
+
+def of_size(number):
+    return b't(\n    name = "a",\n    size = %d,\n)\n' % number
+
+
+def the_most_texts_come_back(w):
+    """From a journal with the most steps the first text comes back; a further step is refused, and so is a step more than there are."""
+    sizes = [0, 1] * (MOST_STEPS // 2) + [0]
+    back = [Step([edit([0, 0, 0, 4], 2, 1, leaf(forging.DIGITS, b" ", b"%d" % size))], b"set size") for size in sizes[:-1]]
+    full = Journal(b"p", list(map(of_size, sizes)), MOST_STEPS, MOST_STEPS - 1, back)
+    forth = [Step([edit([0, 0, 0, 4], 2, 1, leaf(forging.DIGITS, b" ", b"%d" % size))], b"set size") for size in sizes[1:]]
+    put(w.path, {P: of_size(0), KEPT: spelled(full)})
+    refused = w.leaves(["--journal", "set size 1", "//p:a"], 2, err=b"buildozer: p/BUILD: set size 1: Full (62)\n")
+    further = w.leaves(["--journal", f"undo {MOST_STEPS + 1}", "//p:a"], 2, err=b"buildozer: p/BUILD: undo %d: TooFar (61)\n" % (MOST_STEPS + 1))
+    after = {KEPT: spelled(full._replace(cursor=0, before=MOST_STEPS, steps=forth))}
+    return refused and further and w.leaves(["--journal", f"undo {MOST_STEPS}", "//p:a"], 3, err=fixed(P), after=after)
+
+
+def the_most_texts_of_a_run(w):
+    """A run makes as many texts and no more, and goes back to the one that it read."""
+    put(w.path, FILE)
+    lines = b"".join(b"set size %d|//p:a\n" % number for number in range(MOST_STEPS + 1))
+    told = b"buildozer: p/BUILD: set size %d: Full (62)\n" % MOST_STEPS
+    (w.path / "lines").write_bytes(lines + b"undo %d|//p:a\n" % MOST_STEPS)
+    return w.leaves(["-k", "-f", "lines"], 2, err=told)
+
+
 def odd_texts_come_back(w):
     """Each odd text is changed in one run, and undone in the next one, byte for byte; and so are all in a third and a fourth."""
     texts = {f"p{number}/BUILD": text for number, text in enumerate(TEXTS.values())}
@@ -805,7 +835,7 @@ FUNCTIONS = [
     left_files_are_written_over, permission_bits_stay, a_new_journal_has_the_bits_of_its_file, a_folder_for_a_journal_is_told, a_journal_that_nobody_may_read_is_told,
     a_journal_that_cannot_be_written_is_told, a_file_that_cannot_be_written_is_told, a_closed_folder_is_told,
     a_second_path_finds_the_journal_of_the_first, a_second_path_that_was_open_before, what_another_program_writes_stays,
-    the_longest_command_is_a_note, odd_texts_come_back, long_texts_come_back,
+    the_longest_command_is_a_note, the_most_texts_come_back, the_most_texts_of_a_run, odd_texts_come_back, long_texts_come_back,
 ]  # fmt: skip
 
 VERSION_NAMES = {2: "the second version", 1: "the first version"}
