@@ -1,5 +1,7 @@
 //! Files in memory, which can be made to fail.
-ghost use Rattle.std.specs.Prelude.{◌≡◌, ◌≤◌, ◌<◌, ◌+◌, ◌-◌, ◌^◌, [], ◌∷◌, ◌++◌, true, length, take, map, option_map, Some, None, OnOk, OnErr, IfOk, string_bytes};
+ghost use Rattle.std.specs.List.{list_any};
+ghost use Rattle.std.specs.Str.{bytes_eq};
+ghost use Rattle.std.specs.Prelude.{◌≢◌, ◌⊎◌, ◌↔◌, ℕ, false, IsTrue, IfSome, IsSome, ◌≡◌, ◌≤◌, ◌<◌, ◌+◌, ◌-◌, ◌^◌, [], ◌∷◌, ◌++◌, true, length, take, map, option_map, Some, None, OnOk, OnErr, IfOk, string_bytes};
 ghost use Rattle.std.specs.FinMap.{empty, get};
 ghost use Rattle.bz_files.specs.Faults.{Rises};
 ghost use Rattle.bz_files.specs.Folder.{with_file, folder_of};
@@ -59,6 +61,7 @@ fn new_entry(alloc: Global, name: &str, bytes: &[u8]) -> Result<Entry, AllocErro
 pub(crate) fn one_more(count: u64) -> u64
     ensures rises { Rises count result }
     ensures least { count ≤ result }
+    ensures next { count < 2 ^ 64 - 1 → result ≡ count + 1 }
 {
     count.saturating_add(1)
 }
@@ -162,7 +165,9 @@ impl MemoryFiles {
     }
 
     // Whether a read of this name is to fail.
-    fn refuses(&self, name: &str) -> bool {
+    fn refuses(&self, name: &str) -> bool
+        ensures { result ≡ list_any (λ other. bytes_eq (string_bytes other) name.now) self.now.unreadable.items }
+    {
         self.unreadable.iter().any(|other| other.as_str() == name)
     }
 
@@ -180,6 +185,9 @@ impl MemoryFiles {
     // The next call is counted. Whether it may go on.
     fn goes_on(&mut self) -> bool
         ensures same { self.new ≡ record self.old { calls = self.new.calls } }
+        ensures counted { self.old.calls < 2 ^ 64 - 1 → self.new.calls ≡ self.old.calls + 1 }
+        ensures goes { result ≡ true → (self.new.fails_at ≢ Some self.new.calls) × ((k : ℕ) → self.new.stops_at ≡ Some k → self.new.calls < k) }
+        ensures fails { result ≡ false → (self.new.fails_at ≡ Some self.new.calls) ⊎ IfSome self.new.stops_at (λ k. k ≤ self.new.calls) × IsSome self.new.stops_at }
     {
         self.calls = one_more(self.calls);
         let fails = self.fails_at == Some(self.calls);
@@ -189,7 +197,7 @@ impl MemoryFiles {
 
     // Whether the call that was counted last is one that fails when its work is done.
     fn fails_now(&self) -> bool
-        ensures { result ≡ true → (plan_in self.now).fails_behind ≡ Some (plan_in self.now).calls }
+        ensures { IsTrue result ↔ ((plan_in self.now).fails_behind ≡ Some (plan_in self.now).calls) }
     {
         self.fails_behind == Some(self.calls)
     }
