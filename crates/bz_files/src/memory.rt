@@ -13,7 +13,7 @@ use crate::{FileFault, Files};
 use std::alloc::{AllocError, Global};
 
 /// Files in memory, which keep each write, and whose calls can be made to fail. A `rewrite` counts as a read
-/// and, where the file holds what it is to hold, a `replace`.
+/// and, where the file holds what it is to hold, a `replace`; a `rewrite_pair` there as two of these.
 #[derive(Drop)]
 pub struct MemoryFiles {
     alloc: Global,
@@ -202,12 +202,19 @@ impl MemoryFiles {
         self.fails_behind == Some(self.calls)
     }
 
+    // Whether there is a file that holds these bytes.
+    fn contains(&self, name: &str, held: &[u8]) -> bool
+        ensures { result ≡ true → get (folder_in self.now) name.now ≡ Some held.now }
+    {
+        self.bytes_at(name) == Some(held)
+    }
+
     // Whether a file can be read and holds these bytes. The call is counted.
     fn holds(&mut self, name: &str, held: &[u8]) -> bool
         ensures same { self.new ≡ record self.old { calls = self.new.calls } }
         ensures holds { result ≡ true → get (folder_in self.old) name.now ≡ Some held.now }
     {
-        self.goes_on() && !self.refuses(name) && self.bytes_at(name) == Some(held)
+        self.goes_on() && !self.refuses(name) && self.contains(name, held)
     }
 
     // One write more.
@@ -249,6 +256,13 @@ impl Files for MemoryFiles {
         }
     }
 
+    fn read(&mut self, name: &str, into: &mut Vec<u8>) -> Result<(), FileFault> {
+        self.read_most(name, usize::MAX, into)?;
+        // No list is so long, so that these are all the bytes.
+        prove!(into.len() < usize::MAX);
+        Ok(())
+    }
+
     fn replace(&mut self, name: &str, bytes: &[u8]) -> Result<(), FileFault> {
         self.replaces = one_more(self.replaces);
         if !self.goes_on() {
@@ -272,5 +286,21 @@ impl Files for MemoryFiles {
             return Err(self.failed(FileFault::Write));
         }
         self.replace(name, bytes)
+    }
+
+    // Only the two replaces are counted: what the file holds is seen without a call.
+    fn rewrite_pair(
+        &mut self,
+        journal: &str,
+        told: &[u8],
+        file: &str,
+        held: &[u8],
+        text: &[u8],
+    ) -> Result<(), FileFault> {
+        if !self.contains(file, held) {
+            return Err(self.failed(FileFault::Write));
+        }
+        self.replace(journal, told)?;
+        self.replace(file, text)
     }
 }
