@@ -15,7 +15,8 @@ pub(crate) struct Fresh<'a> {
     file: File,
 }
 
-fn is_same(one: &Metadata, other: &Metadata) -> bool {
+/// Whether it is one file, under whatever names.
+pub(crate) fn is_same(one: &Metadata, other: &Metadata) -> bool {
     one.dev() == other.dev() && one.ino() == other.ino()
 }
 

@@ -2,13 +2,14 @@
 ghost use Rattle.std.specs.Prelude.{◌≡◌, IfOk, string_bytes};
 ghost use Rattle.bz_files.specs.Folder.{new_name};
 
-use crate::fresh::Fresh;
+use crate::fresh::{Fresh, is_same};
 use crate::reading::open_regular;
 use crate::rights::{Rights, common, rights_at};
 use std::alloc::{AllocError, Global};
-use std::fs::File;
-use std::io;
+use std::fs::{File, Metadata};
 use std::io::{ErrorKind, Read};
+use std::os::unix::fs::MetadataExt;
+use std::{fs, io};
 
 /// A journal and its file, which holds `held`, and the bytes that they get.
 #[derive(Drop)]
@@ -32,6 +33,14 @@ fn changed() -> io::Error {
     io::Error::from(ErrorKind::InvalidData)
 }
 
+// Whether a file was neither replaced nor written between two looks at what has its name.
+fn is_untouched(before: &Metadata, after: &Metadata) -> bool {
+    is_same(before, after)
+        && before.size() == after.size()
+        && before.mtime() == after.mtime()
+        && before.mtime_nsec() == after.mtime_nsec()
+}
+
 // Sees that a file still holds these bytes and has these rights; of a longer one no more is read than the byte that tells.
 fn check<R: std::rt::Files<File = File>>(
     alloc: Global,
@@ -41,12 +50,12 @@ fn check<R: std::rt::Files<File = File>>(
     rights: Option<Rights>,
 ) -> io::Result<()> {
     let file = open_regular(system, name)?;
-    if Some(Rights::of(&file.metadata()?)) != rights {
-        return Err(changed());
-    }
+    let before = file.metadata()?;
     let mut bytes = Vec::new(alloc);
     file.take(held.len() as u64 + 1).read_to_end(&mut bytes)?;
-    if bytes.as_slice() == held {
+    let after = fs::metadata(system, name)?;
+    let is_held = is_untouched(&before, &after) && bytes.as_slice() == held;
+    if is_held && Some(Rights::of(&after)) == rights {
         Ok(())
     } else {
         Err(changed())
@@ -98,6 +107,8 @@ fn put_both<R: std::rt::Files<File = File>>(
     journal.write(pair.told, common(rights, rights_at(system, pair.journal)?))?;
     check(alloc, system, pair.file, pair.held, rights)?;
     journal.replace(system, pair.journal)?;
+    // that took its time, down to the disk
+    check(alloc, system, pair.file, pair.held, rights)?;
     file.replace(system, pair.file)
 }
 
