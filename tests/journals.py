@@ -690,13 +690,13 @@ def a_journal_that_cannot_be_written_is_told(w):
 
 
 def a_file_that_cannot_be_written_is_told(w):
-    """The journal is written by then: the next run stands at the text that the file holds, and redo gives the new one."""
+    """Its new file is made before the journal's takes its place, so neither is written."""
     put(w.path, FILE)
     (w.path / f"{P}.bznew").mkdir()
-    if not unwritten(w, after={KEPT: ADDED[KEPT]}):
+    if not unwritten(w):
         return False
     (w.path / f"{P}.bznew").rmdir()
-    return w.leaves(LISTING, 3, out=LISTED[0]) and w.leaves(REDOING, 0, err=fixed(P), after=ADDED)
+    return w.leaves(ADDING, 0, err=fixed(P), after=ADDED)
 
 
 def a_closed_folder_is_told(w):
