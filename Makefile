@@ -8,7 +8,7 @@
 # make bench  the time and the memory of a delete in a large file, of many commands in one run, also where it keeps a journal, of a run over many packages, and of reading a file; with FOLDER=.. of the BUILD files there
 # make largest    what texts of 4, 16 and 64 MiB cost: a format, a command, one with --journal and an undo (6 minutes, 4 GB of memory)
 # make shapes how much longer reading takes for twice the text, for texts of thirty shapes (5 minutes)
-# make hostile    torn, deep and made texts, torn and forged journals, runs that are killed, each request for memory refused, each call of the system failing, and devices that fail: all of it
+# make hostile    torn, deep and made texts, torn and forged journals, runs that are killed, each request for memory refused, each call of the system failing, devices that fail, and runs beside one another: all of it
 # make fuzz       both programs over mutants for MINUTES=10 of the clock; with SEED=.. the case of that number alone
 # make corpus FOLDER=..   reads each BUILD file below the folder, spells it back byte for byte, and formats it twice
 
@@ -102,6 +102,7 @@ hostile: $(PROGRAMS) bin/cases
 	@HOSTILE=whole tests/asked.py bin/cases
 	@HOSTILE=whole tests/failing.py $(PROGRAMS)
 	@HOSTILE=whole tests/devices.py $(PROGRAMS)
+	@HOSTILE=whole tests/races.py $(PROGRAMS)
 
 MINUTES = 10
 

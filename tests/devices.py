@@ -149,14 +149,18 @@ def a_reader_that_goes(p):
         p.expect(f"{program} without a reader", (run.returncode, told_lines), (FAILED[program], UNSHOWN))
 
 
-def packages_without_an_end(p):
+def packages_of_any_length(p):
     """No more is read of one than one byte past the limit of a text: it is told as too large, and memory is not refused."""
-    (p.folder / "BUILD").symlink_to("/dev/zero")
-    few = lambda: resource.setrlimit(resource.RLIMIT_AS, (ADDRESSES, ADDRESSES))
+    (p.folder / "BUILD").touch()
+    os.truncate(p.folder / "BUILD", 1 << 40)
     for words in (EDIT, ["--stdout", *EDIT], ["--journal", *EDIT]):
-        p.leaves("buildozer", words, (2, b"", b"BUILD: TooLarge\n"), preexec_fn=few)
+        p.expect(f"{words}", p.ended("buildozer", words, preexec_fn=held_to(ADDRESSES)), (2, b"", b"BUILD: TooLarge\n"))
     (p.folder / "BUILD.bazel").symlink_to("BUILD")
-    p.leaves("buildozer", EDIT, (2, b"", b"BUILD.bazel: TooLarge\n"), preexec_fn=few)
+    p.expect("a link", p.ended("buildozer", EDIT, preexec_fn=held_to(ADDRESSES)), (2, b"", b"BUILD.bazel: TooLarge\n"))
+    for mode in ("check", "print_if_changed", "fix"):
+        ended = p.ended("buildifier", [f"--mode={mode}", "BUILD"], preexec_fn=held_to(ENOUGH))
+        p.expect(f"buildifier --mode={mode}", ended, (1, b"", b"BUILD: TooLarge\n"))
+    p.expect("its length", (p.folder / "BUILD").stat().st_size, 1 << 40)
 
 
 # ---- limits of the size of files, and a disk that is full
@@ -228,7 +232,7 @@ def names_that_are_no_files(p):
     names = ["d", "d/", ".", "none", "none/f", "f/g", "f/", "itself", "one", "nowhere", "", "n" * 300, "d/" * 3000, "a\nb", "\u00e9"]
     lines = "".join(f"{name}: cannot open\n" for name in names).encode()
     p.leaves("buildifier", [*names, "f"], (3, b"", lines), {"f": EVEN})
-    p.leaves("buildifier", ["/dev/null"], (0, b"", b""))
+    p.leaves("buildifier", ["/dev/null"], (3, b"", b"/dev/null: cannot open\n"))
     p.leaves("buildozer", ["-f", "d"], (1, b"", b"d: cannot open\n"))
     p.leaves("buildozer", ["-f", "itself"], (1, b"", b"itself: cannot open\n"))
     p.leaves("buildozer", ["-f", "/dev/null"], (1, b"", b"/dev/null: no operands\n"))
@@ -240,14 +244,15 @@ def held_to(count):
 
 
 def a_file_without_an_end(p):
-    """No more of it is read than a text may have and one byte by which that is told, and the file beside it is written."""
+    """By its name it is not opened, and the file beside it is written; of standard input no more is read than a text may have and one
+    byte by which that is told."""
     (p.folder / "endless").symlink_to("/dev/zero")
     put(p.folder, {"f": ODD})
-    lines = b"endless: TooLarge\n/dev/zero: TooLarge\n"
+    lines = b"endless: cannot open\n/dev/zero: cannot open\n"
     for mode in ("check", "print_if_changed", "fix"):
         shown = {"check": b"f # reformat\n", "print_if_changed": EVEN, "fix": b""}[mode]
         after = {"f": EVEN} if mode == "fix" else {}
-        p.leaves("buildifier", [f"--mode={mode}", "endless", "/dev/zero", "f"], (1, shown, lines), after, preexec_fn=held_to(ENOUGH))
+        p.leaves("buildifier", [f"--mode={mode}", "endless", "/dev/zero", "f"], (3, shown, lines), after, preexec_fn=held_to(ENOUGH))
     p.leaves("buildifier", [], (1, b"", b"<stdin>: TooLarge\n"), redirect="</dev/zero", preexec_fn=held_to(ENOUGH))
 
 
@@ -312,7 +317,7 @@ def files_of_odd_rights(p):
 
 
 FUNCTIONS = [
-    a_full_output, an_input_that_cannot_be_read, closed_errors, a_reader_that_goes, packages_without_an_end, a_limit_of_files, a_full_disk,
+    a_full_output, an_input_that_cannot_be_read, closed_errors, a_reader_that_goes, packages_of_any_length, a_limit_of_files, a_full_disk,
     a_folder_that_nobody_may_write, names_that_are_no_files, a_file_without_an_end, packages_that_are_no_files, what_stands_in_the_way, links_to_files, files_of_odd_rights,
 ]  # fmt: skip
 

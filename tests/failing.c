@@ -3,7 +3,8 @@
  * its own beginning on, and hands them on to the system. The words FAILING_CALL, FAILING_NUMBER and FAILING_HOW in the environment
  * say which call of which kind does what: `7` is the seventh alone, `7-` the seventh and each one after it. A number as HOW is that
  * of the error with which it fails; `short` is a read or write of one byte, `none` of no byte; `kill` ends the program before the call; `change` and
- * `remove` are another program's work right before the call, which gives FAILING_FILE the bytes of FAILING_BYTES, or removes it.
+ * `remove` are another program's work right before the call, which gives FAILING_FILE the bytes of FAILING_BYTES, or removes it;
+ * `stop` has the program wait before the call until it is told to go on.
  * Where that comes to pass, a line is written to the open file whose number is FAILING_TOLD: what was called, and on which file.
  */
 #define _GNU_SOURCE
@@ -61,6 +62,8 @@ static int is_meant(const char *call, int file, const char *name)
         _exit(125);
     if (strcmp(how, "kill") == 0)
         syscall(SYS_kill, getpid(), SIGKILL);
+    if (strcmp(how, "stop") == 0)
+        syscall(SYS_kill, getpid(), SIGSTOP);
     if (strcmp(how, "change") == 0)
         change();
     if (strcmp(how, "remove") == 0)
@@ -157,6 +160,16 @@ int fsync(int file)
 int fchmod(int file, mode_t mode)
 {
     return fails("fchmod", file, NULL) ? -1 : syscall(SYS_fchmod, file, mode);
+}
+
+int fchown(int file, uid_t owner, gid_t group)
+{
+    return fails("fchown", file, NULL) ? -1 : syscall(SYS_fchown, file, owner, group);
+}
+
+int flock(int file, int how_to)
+{
+    return fails("flock", file, NULL) ? -1 : syscall(SYS_flock, file, how_to);
 }
 
 int unlink(const char *name)

@@ -46,6 +46,7 @@ WAYS = {
     "unlink": [errno.EIO],
     "statx": [errno.EIO, errno.EINTR],
     "fchmod": [errno.EPERM],
+    "flock": [errno.EWOULDBLOCK, errno.EIO, errno.EINTR, errno.EOPNOTSUPP],
     "close": [errno.EIO],
 }
 # the calls from one on fail too
@@ -202,7 +203,7 @@ EDITS = {
 
 def another_program(program, way):
     """It changes or removes the file right before a call: what it left stays, but where it comes in between the last read of the file
-    and the rename, when nobody can tell."""
+    and the rename, when nobody can tell; the new file is there before that read."""
     row = EDITS[program]
     (name, before), *_ = row.files.items()
     line = f"{name}: cannot write\n".encode()
@@ -217,7 +218,8 @@ def another_program(program, way):
                 text = left.files.get(name)
                 is_told = line in left.err and left.status == FAILED[program]
                 if failed[0].endswith(".bznew"):
-                    is_right = text == after
+                    # the file is read again behind that
+                    is_right = text == (CHANGED if way == "change" else None) and is_told
                 elif way == "change":
                     # read as a whole before or after the change, or told
                     is_right = text == CHANGED and (is_told or left.err in unharmed or b": cannot" in left.err or b"(41)" in left.err) or text == after

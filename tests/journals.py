@@ -18,7 +18,6 @@ import shutil
 import subprocess
 import sys
 import tempfile
-import threading
 
 import forging
 from files import report
@@ -691,13 +690,13 @@ def a_journal_that_cannot_be_written_is_told(w):
 
 
 def a_file_that_cannot_be_written_is_told(w):
-    """The journal is written by then: the next run stands at the text that the file holds, and redo gives the new one."""
+    """Its new file is made before the journal's takes its place, so neither is written."""
     put(w.path, FILE)
     (w.path / f"{P}.bznew").mkdir()
-    if not unwritten(w, after={KEPT: ADDED[KEPT]}):
+    if not unwritten(w):
         return False
     (w.path / f"{P}.bznew").rmdir()
-    return w.leaves(LISTING, 3, out=LISTED[0]) and w.leaves(REDOING, 0, err=fixed(P), after=ADDED)
+    return w.leaves(ADDING, 0, err=fixed(P), after=ADDED)
 
 
 def a_closed_folder_is_told(w):
@@ -723,42 +722,6 @@ def a_second_path_that_was_open_before(w):
     err = b"./p/BUILD: cannot write\n" + fixed(P)
     told_once = w.leaves(["-k", "--journal", "-f", "lines"], 2, out=b"a\na\n", err=err, after=ADDED, lines=lines)
     return told_once and w.leaves(UNDOING, 0, err=fixed(P), after=BACK)
-
-
-def what_another_program_writes_stays(w):
-    """It writes to the file, or removes it, when the run opens a pipe, so between two commands on the file."""
-    for text in (Z, ODD, None):
-        put(w.path, {**FILE, "lines": lines_of("add deps //p:x|//p:a", "print name|//c:x", "add deps :y|//p:a", "print name|//p:a")})
-        (w.path / KEPT).unlink(missing_ok=True)
-        ended = ended_beside(w, ["-k", "--journal", "-f", "lines"], text)
-        files = {KEPT: spelled(SAVED_ADD), **({P: text} if text else {})}
-        found = {name: content for name, content in w.left().items() if name != "lines"}
-        told_of_it = ended[2] in (UNWRITTEN, UNWRITTEN + fixed(P))
-        if ended[:2] != (2, b"x\n") or not told_of_it or found != files:
-            w.wrong.append(f"{text}: {ended}, {found}")
-    return not w.wrong
-
-
-def ended_beside(w, words, text):
-    """How a run ends beside another program, which gives the file this text, or removes it, while the run opens a pipe."""
-    (w.path / "c").mkdir(exist_ok=True)
-    pipe = w.path / "c/BUILD.bazel"
-    os.mkfifo(pipe)
-
-    def write():
-        with open(pipe, "wb") as end:
-            if text is None:
-                (w.path / P).unlink()
-            else:
-                (w.path / P).write_bytes(text)
-            end.write(b'h(name = "x")\n')
-
-    other = threading.Thread(target=write, daemon=True)
-    other.start()
-    ended = w.ended(words, b"")
-    other.join(PATIENCE)
-    pipe.unlink()
-    return ended
 
 
 def the_longest_command_is_a_note(w):
@@ -834,8 +797,8 @@ def long_texts_come_back(w):
 FUNCTIONS = [
     left_files_are_written_over, permission_bits_stay, a_new_journal_has_the_bits_of_its_file, a_folder_for_a_journal_is_told, a_journal_that_nobody_may_read_is_told,
     a_journal_that_cannot_be_written_is_told, a_file_that_cannot_be_written_is_told, a_closed_folder_is_told,
-    a_second_path_finds_the_journal_of_the_first, a_second_path_that_was_open_before, what_another_program_writes_stays,
-    the_longest_command_is_a_note, the_most_texts_come_back, the_most_texts_of_a_run, odd_texts_come_back, long_texts_come_back,
+    a_second_path_finds_the_journal_of_the_first, a_second_path_that_was_open_before, the_longest_command_is_a_note,
+    the_most_texts_come_back, the_most_texts_of_a_run, odd_texts_come_back, long_texts_come_back,
 ]  # fmt: skip
 
 VERSION_NAMES = {2: "the second version", 1: "the first version"}

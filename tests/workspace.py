@@ -14,7 +14,6 @@ import shutil
 import subprocess
 import sys
 import tempfile
-import threading
 
 from files import report
 
@@ -258,25 +257,6 @@ def a_file_by_a_second_path_keeps_the_first_edit(w):
     return w.leaves(["add deps :q", "//:x", "//.:y"], 2, err=fixed("BUILD") + b"./BUILD: cannot write\n", after={"BUILD": DEPS_X})
 
 
-def what_another_program_writes_stays(w):
-    """It writes to the first file when the run opens the second one, a pipe, so behind the read of the first."""
-    (w.path / "c").mkdir()
-    pipe = w.path / "c/BUILD.bazel"
-    os.mkfifo(pipe)
-
-    def write():
-        with open(pipe, "wb") as end:
-            (w.path / "a/BUILD.bazel").write_bytes(NO_Y)
-            end.write(b'h(name = "x")\n')
-
-    other = threading.Thread(target=write, daemon=True)
-    other.start()
-    ended = w.ended(["set kind h", "//a:x", "//c:x"], b"")
-    other.join(60)
-    pipe.unlink()
-    return ended == (2, b"", b"a/BUILD.bazel: cannot write\n") and w.left() == {**THREE, "a/BUILD.bazel": NO_Y}
-
-
 def a_refused_text_is_told(w):
     """Its place is told, it stays, and with -k the others are edited."""
     (w.path / "a/b/BUILD").write_bytes(b'f(name="x")\ng(\n')
@@ -298,7 +278,7 @@ def a_run(words, status, left):
 FUNCTIONS = [
     a_hundred_lines, an_unchanged_file_is_not_written, permission_bits_stay, a_closed_folder_is_told, an_unreadable_file_is_told,
     a_folder_for_the_first_name_is_told, a_folder_for_the_second_name_is_told, a_link_becomes_a_file, a_left_file_is_written_over,
-    a_file_by_a_second_path_keeps_the_first_edit, what_another_program_writes_stays, a_refused_text_is_told, a_usage_fault_leaves_all,
+    a_file_by_a_second_path_keeps_the_first_edit, a_refused_text_is_told, a_usage_fault_leaves_all,
 ]  # fmt: skip
 
 # Each scene by its name; each has a workspace of its own.

@@ -1,5 +1,7 @@
 //! Files in memory, which can be made to fail.
-ghost use Rattle.std.specs.Prelude.{◌≡◌, ◌≤◌, ◌<◌, ◌+◌, ◌-◌, ◌^◌, [], ◌∷◌, ◌++◌, true, length, take, map, option_map, Some, None, OnOk, OnErr, IfOk, string_bytes};
+ghost use Rattle.std.specs.List.{list_any};
+ghost use Rattle.std.specs.Str.{bytes_eq};
+ghost use Rattle.std.specs.Prelude.{◌≢◌, ◌⊎◌, ◌↔◌, ℕ, false, IsTrue, IfSome, IsSome, ◌≡◌, ◌≤◌, ◌<◌, ◌+◌, ◌-◌, ◌^◌, [], ◌∷◌, ◌++◌, true, length, take, map, option_map, Some, None, OnOk, OnErr, IfOk, string_bytes};
 ghost use Rattle.std.specs.FinMap.{empty, get};
 ghost use Rattle.bz_files.specs.Faults.{Rises};
 ghost use Rattle.bz_files.specs.Folder.{with_file, folder_of};
@@ -11,7 +13,7 @@ use crate::{FileFault, Files};
 use std::alloc::{AllocError, Global};
 
 /// Files in memory, which keep each write, and whose calls can be made to fail. A `rewrite` counts as a read
-/// and, where the file holds what it is to hold, a `replace`.
+/// and, where the file holds what it is to hold, a `replace`; a `rewrite_pair` there as two of these.
 #[derive(Drop)]
 pub struct MemoryFiles {
     alloc: Global,
@@ -59,6 +61,7 @@ fn new_entry(alloc: Global, name: &str, bytes: &[u8]) -> Result<Entry, AllocErro
 pub(crate) fn one_more(count: u64) -> u64
     ensures rises { Rises count result }
     ensures least { count ≤ result }
+    ensures next { count < 2 ^ 64 - 1 → result ≡ count + 1 }
 {
     count.saturating_add(1)
 }
@@ -162,7 +165,9 @@ impl MemoryFiles {
     }
 
     // Whether a read of this name is to fail.
-    fn refuses(&self, name: &str) -> bool {
+    fn refuses(&self, name: &str) -> bool
+        ensures { result ≡ list_any (λ other. bytes_eq (string_bytes other) name.now) self.now.unreadable.items }
+    {
         self.unreadable.iter().any(|other| other.as_str() == name)
     }
 
@@ -180,6 +185,9 @@ impl MemoryFiles {
     // The next call is counted. Whether it may go on.
     fn goes_on(&mut self) -> bool
         ensures same { self.new ≡ record self.old { calls = self.new.calls } }
+        ensures counted { self.old.calls < 2 ^ 64 - 1 → self.new.calls ≡ self.old.calls + 1 }
+        ensures goes { result ≡ true → (self.new.fails_at ≢ Some self.new.calls) × ((k : ℕ) → self.new.stops_at ≡ Some k → self.new.calls < k) }
+        ensures fails { result ≡ false → (self.new.fails_at ≡ Some self.new.calls) ⊎ IfSome self.new.stops_at (λ k. k ≤ self.new.calls) × IsSome self.new.stops_at }
     {
         self.calls = one_more(self.calls);
         let fails = self.fails_at == Some(self.calls);
@@ -189,9 +197,16 @@ impl MemoryFiles {
 
     // Whether the call that was counted last is one that fails when its work is done.
     fn fails_now(&self) -> bool
-        ensures { result ≡ true → (plan_in self.now).fails_behind ≡ Some (plan_in self.now).calls }
+        ensures { IsTrue result ↔ ((plan_in self.now).fails_behind ≡ Some (plan_in self.now).calls) }
     {
         self.fails_behind == Some(self.calls)
+    }
+
+    // Whether there is a file that holds these bytes.
+    fn contains(&self, name: &str, held: &[u8]) -> bool
+        ensures { result ≡ true → get (folder_in self.now) name.now ≡ Some held.now }
+    {
+        self.bytes_at(name) == Some(held)
     }
 
     // Whether a file can be read and holds these bytes. The call is counted.
@@ -199,7 +214,7 @@ impl MemoryFiles {
         ensures same { self.new ≡ record self.old { calls = self.new.calls } }
         ensures holds { result ≡ true → get (folder_in self.old) name.now ≡ Some held.now }
     {
-        self.goes_on() && !self.refuses(name) && self.bytes_at(name) == Some(held)
+        self.goes_on() && !self.refuses(name) && self.contains(name, held)
     }
 
     // One write more.
@@ -241,6 +256,13 @@ impl Files for MemoryFiles {
         }
     }
 
+    fn read(&mut self, name: &str, into: &mut Vec<u8>) -> Result<(), FileFault> {
+        self.read_most(name, usize::MAX, into)?;
+        // No list is so long, so that these are all the bytes.
+        prove!(into.len() < usize::MAX);
+        Ok(())
+    }
+
     fn replace(&mut self, name: &str, bytes: &[u8]) -> Result<(), FileFault> {
         self.replaces = one_more(self.replaces);
         if !self.goes_on() {
@@ -264,5 +286,21 @@ impl Files for MemoryFiles {
             return Err(self.failed(FileFault::Write));
         }
         self.replace(name, bytes)
+    }
+
+    // Only the two replaces are counted: what the file holds is seen without a call.
+    fn rewrite_pair(
+        &mut self,
+        journal: &str,
+        told: &[u8],
+        file: &str,
+        held: &[u8],
+        text: &[u8],
+    ) -> Result<(), FileFault> {
+        if !self.contains(file, held) {
+            return Err(self.failed(FileFault::Write));
+        }
+        self.replace(journal, told)?;
+        self.replace(file, text)
     }
 }

@@ -1,13 +1,13 @@
 -- The moments of a keeping that reads the file first.
 use Rattle.std.proofs.Common.{◌≡◌, ◌≢◌, ◌⊎◌, inl, inr, refl, ℕ, List, Some, subst, ap}
-use Rattle.std.specs.Prelude.{Result, Ok, Err, OnOk, IfErr, IsOk, IsErr, IsErrOf}
+use Rattle.std.specs.Prelude.{Result, Ok, Err, OnOk, IfErr, IsErrOf}
 use Rattle.std.specs.FinMap.{get}
 use Rattle.bz_files.specs.Folder.{Elapses, Folder, SameBut, Text}
 use Rattle.bz_keep.specs.declared.fault.PairFault.{PairFault}
 use Rattle.bz_keep.specs.declared.fault.PairFault.TheVariants as p
-use Rattle.bz_keep.specs.Pair.{IsNew, IsKeeping, IsChecking, with_both}
-use Rattle.bz_keep.proofs.Elapsing.{Past, weakened, elapsed_on, each_since}
-use Rattle.bz_keep.proofs.Keeping.{at_start}
+use Rattle.bz_files.specs.Pair.{IsNew, IsKeeping, IsChecking, with_both}
+use Rattle.bz_files.proofs.Elapsing.{Past, weakened, elapsed_on, each_since}
+use Rattle.bz_files.proofs.Keeping.{at_start}
 
 module _ (standing journal : Text) (told : List ℕ) (file : Text) (text : List ℕ) (old : Folder) where
   abbrev Was : Folder → Type 0
@@ -25,26 +25,30 @@ module _ (standing journal : Text) (told : List ℕ) (file : Text) (text : List 
       → (now : Folder) → since a now → IsKeeping journal told file text old now
   read_keeping a b past since only one now stood = at_start journal told file text old now (read_each a b past since only one now stood)
 
+  -- a moment of a keeping is one where the folder is as it was or both are kept
+  keeping : (now : Folder) → IsChecking standing journal told file text old now → IsKeeping journal told file text old now
+  keeping now (inl same) = at_start journal told file text old now same
+  keeping now (inr (there, is)) = is
+
   -- read, and then kept
   module _ (mid : Folder) (same : mid ≡ old) where
-    of_start : (now : Folder) → IsKeeping journal told file text mid now → IsKeeping journal told file text old now
-    of_start now = subst (λ (f : Folder). IsKeeping journal told file text f now) same
+    of_start : (now : Folder) → IsChecking standing journal told file text mid now → IsChecking standing journal told file text old now
+    of_start now = subst (λ (f : Folder). IsChecking standing journal told file text f now) same
 
     pub kept_replaced : {T : Type 0} (r : Result T PairFault) (now : Folder) → OnOk r (SameBut (IsNew journal file) (with_both journal told file text mid) now)
         → OnOk r (SameBut (IsNew journal file) (with_both journal told file text old) now)
     kept_replaced r now = subst (λ (f : Folder). OnOk r (SameBut (IsNew journal file) (with_both journal told file text f) now)) same
 
-    pub kept_elapses : get old file ≡ Some standing → (a b c : ℕ) (past between since : Past) → Elapses a b past between Was
-        → Elapses b c between since (IsKeeping journal told file text mid) → Elapses a c past since (IsChecking standing journal told file text old)
-    kept_elapses there a b c past between since one two = elapsed_on a b c past between since (IsChecking standing journal told file text old) (IsKeeping journal told file text mid)
-        (λ now is. inr (there, of_start now is)) (read_elapses a b past between one) two
+    pub kept_elapses : (a b c : ℕ) (past between since : Past) → Elapses a b past between Was
+        → Elapses b c between since (IsChecking standing journal told file text mid) → Elapses a c past since (IsChecking standing journal told file text old)
+    kept_elapses a b c past between since one two = elapsed_on a b c past between since (IsChecking standing journal told file text old)
+        (IsChecking standing journal told file text mid) of_start (read_elapses a b past between one) two
 
     pub kept_each : (a b c : ℕ) (past between since : Past) → ((now : Folder) → past a now → now ≡ old) → Elapses a b past between Was
-        → Elapses b c between since (IsKeeping journal told file text mid) → (now : Folder) → since a now → IsKeeping journal told file text old now
-    kept_each a b c past between since only one two = each_since a c past since (IsKeeping journal told file text old)
-        (elapsed_on a b c past between since (IsKeeping journal told file text old) (IsKeeping journal told file text mid)
-        of_start (weakened a b past between Was (IsKeeping journal told file text old) (at_start journal told file text old) one) two)
-        (λ now stood. at_start journal told file text old now (only now stood))
+        → Elapses b c between since (IsChecking standing journal told file text mid) → (now : Folder) → since a now → IsKeeping journal told file text old now
+    kept_each a b c past between since only one two now stood = keeping now
+        (each_since a c past since (IsChecking standing journal told file text old) (kept_elapses a b c past between since one two)
+        (λ was past_was. inl (only was past_was)) now stood)
 
 -- a value is no error
 pub never_err : {T E : Type 0} (x : T) (y : E) → IsErrOf {T = T} {E = E} (Ok x) y → ⊥
@@ -79,19 +83,3 @@ module _ {T : Type 0} where
 
   pub never_write : (fault : PairFault) → fault ≢ p.Write → IsErrOf {T = T} (Err fault) p.Write → ⊥
   never_write fault other is = let same : fault ≡ p.Write = cc in other same
-
-  -- the error of what keeps a pair
-  abbrev IsWritten : Result T PairFault → Type 0
-  IsWritten r = IfErr r (λ fault. fault ≡ p.Write)
-
-  pub only_write : (r : Result T PairFault) → IsWritten r → IsErrOf r p.Memory → ⊥
-  only_write (Ok x) is memory = cc
-  only_write (Err fault) is memory = cc
-
-  pub ok_but_write : (r : Result T PairFault) → IsWritten r → (IsErrOf r p.Write → ⊥) → IsOk r
-  ok_but_write (Ok x) is never = refl
-  ok_but_write (Err fault) is never = absurd (never (ap Err is))
-
-  pub err_of : (r : Result T PairFault) (fault : PairFault) → IsErrOf r fault → IsErr r
-  err_of (Ok x) fault is = cc
-  err_of (Err other) fault is = refl

@@ -7,7 +7,8 @@ use Rattle.bz_edit.specs.declared.edit.Edit.{Edit}
 use Rattle.bz_files.specs.Folder.{Folder, Text, SameBut, with_file}
 use Rattle.bz_files.proofs.Folders.{reads_back, other_stays}
 use Rattle.bz_resume.specs.Journals.{History}
-use Rattle.bz_keep.specs.Pair.{IsNew, IsKeeping, IsChecking, journal_name, with_both}
+use Rattle.bz_files.specs.Pair.{IsNew, IsKeeping, IsChecking, with_both}
+use Rattle.bz_keep.specs.Pair.{journal_name}
 use Rattle.bz_keep.specs.Resuming.{IsToldBy, Holds, Resumes, MayResume, OthersStay, Survives, present}
 use Rattle.bz_keep.proofs.Names.{file_journal, journal_file, file_is_old, journal_is_old}
 use Rattle.bz_keep.proofs.Standing.{stands_before, stands_now}

@@ -1,27 +1,7 @@
--- A file and its journal, which are given new bytes one after the other.
-use Rattle.std.specs.Prelude.{◌≡◌, ◌⊎◌, ◌++◌, ℕ, List, Some, codes}
-use Rattle.std.specs.FinMap.{get}
-use Rattle.bz_files.specs.Folder.{Folder, Text, SameBut, new_name, with_file}
+-- The name of a journal.
+use Rattle.std.specs.Prelude.{◌++◌, codes}
+use Rattle.bz_files.specs.Folder.{Text}
 
--- the name of a file's journal
+-- The name of a file's journal
 abbrev pub journal_name : Text → Text
 journal_name file = file ++ codes ".journal"
-
--- the names under which the bytes of the two are written first
-abbrev pub IsNew : Text → Text → Text → Type 0
-IsNew journal file name = (name ≡ new_name journal) ⊎ (name ≡ new_name file)
-
--- the folder with the journal's bytes, and then the file's
-abbrev pub with_both : Text → List ℕ → Text → List ℕ → Folder → Folder
-with_both journal told file text old = with_file (with_file old journal told) file text
-
--- a moment of a call that keeps both: neither is there yet, the journal alone, or both
-abbrev pub IsKeeping : Text → List ℕ → Text → List ℕ → Folder → Folder → Type 0
-IsKeeping journal told file text old now = SameBut (IsNew journal file) old now
-    ⊎ (SameBut (IsNew journal file) (with_file old journal told) now
-    ⊎ SameBut (IsNew journal file) (with_both journal told file text old) now)
-
--- a moment of a call that keeps both only where the file holds the text `standing`: the folder is as it was, or the file held
--- that text
-abbrev pub IsChecking : Text → Text → List ℕ → Text → List ℕ → Folder → Folder → Type 0
-IsChecking standing journal told file text old now = (now ≡ old) ⊎ ((get old file ≡ Some standing) × IsKeeping journal told file text old now)

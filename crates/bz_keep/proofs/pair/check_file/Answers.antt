@@ -5,7 +5,7 @@ use Rattle.bz_files.specs.declared.files.FileFault.TheVariants as f
 use Rattle.std.proofs.lemmas.Slice.Eq.{bytes_eq-Decides}
 use Rattle.bz_files.proofs.Fronts.{front_read, is_list, front_is}
 use Rattle.bz_keep.proofs.Checking.{never_err}
-use Rattle.bz_keep.proofs.checked.check_file.Goals as goal
+use Rattle.bz_keep.proofs.pair.check_file.Goals as goal
 
 pub returns-then-eq-clause-ok : goal.returns-then-eq-clause-ok
 returns-then-eq-clause-ok g c = λ honest.

@@ -2,7 +2,7 @@ use Rattle.std.proofs.Common.{◌≡◌, ◌∙◌, ⊎_elim, inl, inr, true, su
 use Rattle.bz_files.specs.Faults.{Rises}
 use Rattle.bz_keep.specs.Pair.{journal_name}
 use Rattle.bz_keep.proofs.Checking.{read_elapses, read_each, read_keeping, kept_replaced, kept_elapses, kept_each, never_err, but_write, never_changed, never_open, other_fault, never_write}
-use Rattle.bz_keep.proofs.checked.keep_checked.Goals as goal
+use Rattle.bz_keep.proofs.pair.replace_pair.Goals as goal
 
 pub returns-in-Ok-clause-each : goal.returns-in-Ok-clause-each
 returns-in-Ok-clause-each g c honest =
@@ -11,8 +11,8 @@ returns-in-Ok-clause-each g c honest =
     let old = args.files.now in
     let mid = c.check_file.new.files in
     let honest_mid : f.honest mid ≡ true = c.check_file.ensures.honest ∙ honest in
-    kept_each args.standing.now (journal_name args.file.now) args.told.now args.file.now args.text.now (f.folder old) (f.folder mid) (c.check_file.ensures.folder honest) (f.moment old) (f.moment mid) (f.moment c.keep_file.new.files) (f.since old) (f.since mid) (f.since c.keep_file.new.files) (g.met.F.Files.only_now old)
-    (c.check_file.ensures.time honest) (c.keep_file.ensures.time honest_mid)
+    kept_each args.standing.now (journal_name args.file.now) args.told.now args.file.now args.text.now (f.folder old) (f.folder mid) (c.check_file.ensures.folder honest) (f.moment old) (f.moment mid) (f.moment c.write_pair.new.files) (f.since old) (f.since mid) (f.since c.write_pair.new.files) (g.met.F.Files.only_now old)
+    (c.check_file.ensures.time honest) (c.write_pair.ensures.time honest_mid)
 
 pub returns-in-Ok-clause-time : goal.returns-in-Ok-clause-time
 returns-in-Ok-clause-time g c honest =
@@ -21,8 +21,8 @@ returns-in-Ok-clause-time g c honest =
     let old = args.files.now in
     let mid = c.check_file.new.files in
     let honest_mid : f.honest mid ≡ true = c.check_file.ensures.honest ∙ honest in
-    kept_elapses args.standing.now (journal_name args.file.now) args.told.now args.file.now args.text.now (f.folder old) (f.folder mid) (c.check_file.ensures.folder honest) (c.in-Ok.ensures.ok honest) (f.moment old) (f.moment mid) (f.moment c.keep_file.new.files) (f.since old) (f.since mid) (f.since c.keep_file.new.files)
-    (c.check_file.ensures.time honest) (c.keep_file.ensures.time honest_mid)
+    kept_elapses args.standing.now (journal_name args.file.now) args.told.now args.file.now args.text.now (f.folder old) (f.folder mid) (c.check_file.ensures.folder honest) (f.moment old) (f.moment mid) (f.moment c.write_pair.new.files) (f.since old) (f.since mid) (f.since c.write_pair.new.files)
+    (c.check_file.ensures.time honest) (c.write_pair.ensures.time honest_mid)
 
 pub returns-in-Ok-clause-replaced : goal.returns-in-Ok-clause-replaced
 returns-in-Ok-clause-replaced g c honest =
@@ -31,13 +31,13 @@ returns-in-Ok-clause-replaced g c honest =
     let old = args.files.now in
     let mid = c.check_file.new.files in
     let honest_mid : f.honest mid ≡ true = c.check_file.ensures.honest ∙ honest in
-    kept_replaced args.standing.now (journal_name args.file.now) args.told.now args.file.now args.text.now (f.folder old) (f.folder mid) (c.check_file.ensures.folder honest) c.keep_file.result (f.folder c.keep_file.new.files) (c.keep_file.ensures.replaced honest_mid)
+    kept_replaced args.standing.now (journal_name args.file.now) args.told.now args.file.now args.text.now (f.folder old) (f.folder mid) (c.check_file.ensures.folder honest) c.write_pair.result (f.folder c.write_pair.new.files) (c.write_pair.ensures.replaced honest_mid)
 
 pub returns-in-Ok-clause-checked : goal.returns-in-Ok-clause-checked
 returns-in-Ok-clause-checked g c honest = λ _. c.in-Ok.ensures.ok honest
 
 pub returns-in-Ok-clause-changed : goal.returns-in-Ok-clause-changed
-returns-in-Ok-clause-changed g c honest = λ changed. absurd (never_changed c.keep_file.result c.keep_file.ensures.kinds changed)
+returns-in-Ok-clause-changed g c honest = λ changed. absurd (never_changed c.write_pair.result c.write_pair.ensures.kinds changed)
 
 pub returns-in-Ok-clause-apart : goal.returns-in-Ok-clause-apart
 returns-in-Ok-clause-apart g c honest = inl (c.in-Ok.ensures.ok honest)
@@ -52,24 +52,24 @@ returns-in-Ok-clause-untouched g c honest =
     let old = args.files.now in
     let mid = c.check_file.new.files in
     let honest_mid : f.honest mid ≡ true = c.check_file.ensures.honest ∙ honest in
-    but_write c.keep_file.result c.keep_file.ensures.kinds
+    but_write c.write_pair.result c.write_pair.ensures.kinds
     (λ memory now stood. read_each args.standing.now (journal_name args.file.now) args.told.now args.file.now args.text.now (f.folder old) (f.moment old) (f.moment mid) (f.since old) (f.since mid) (g.met.F.Files.only_now old) (c.check_file.ensures.time honest) now
-    (subst (λ s. f.since s (f.moment old) now) (c.keep_file.ensures.memory memory) stood))
+    (subst (λ s. f.since s (f.moment old) now) (c.write_pair.ensures.memory memory) stood))
 
 pub returns-in-Ok-clause-cause : goal.returns-in-Ok-clause-cause
 returns-in-Ok-clause-cause g c =
     ⊎_elim
-    (λ write. subst (λ (n : ℕ). Rises n (g.F.Files.faults c.keep_file.new.files)) (c.in-Ok.ensures.kept (never_err _ _)) (c.keep_file.ensures.cause write))
-    (λ no_read. absurd (never_open c.keep_file.result c.keep_file.ensures.kinds no_read))
+    (λ write. subst (λ (n : ℕ). Rises n (g.F.Files.faults c.write_pair.new.files)) (c.in-Ok.ensures.kept (never_err _ _)) (c.write_pair.ensures.cause write))
+    (λ no_read. absurd (never_open c.write_pair.result c.write_pair.ensures.kinds no_read))
 
 pub returns-in-Ok-clause-kept : goal.returns-in-Ok-clause-kept
-returns-in-Ok-clause-kept g c = λ no_write _. c.keep_file.ensures.kept no_write ∙ c.in-Ok.ensures.kept (never_err _ _)
+returns-in-Ok-clause-kept g c = λ no_write _. c.write_pair.ensures.kept no_write ∙ c.in-Ok.ensures.kept (never_err _ _)
 
 pub returns-in-Ok-clause-count : goal.returns-in-Ok-clause-count
-returns-in-Ok-clause-count g c = omega (arith, c.check_file.ensures.count, c.keep_file.ensures.count)
+returns-in-Ok-clause-count g c = omega (arith, c.check_file.ensures.count, c.write_pair.ensures.count)
 
 pub returns-in-Ok-clause-honest : goal.returns-in-Ok-clause-honest
-returns-in-Ok-clause-honest g c = c.keep_file.ensures.honest ∙ c.check_file.ensures.honest
+returns-in-Ok-clause-honest g c = c.write_pair.ensures.honest ∙ c.check_file.ensures.honest
 
 pub returns-in-Err-clause-each : goal.returns-in-Err-clause-each
 returns-in-Err-clause-each g c honest =

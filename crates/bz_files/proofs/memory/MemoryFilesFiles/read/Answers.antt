@@ -1,9 +1,9 @@
 use Rattle.std.proofs.Common.{◌<◌, ◌-◌, ◌^◌, length, arith}
 use Rattle.bz_files.proofs.Fronts.{all_added}
-use Rattle.bz_files.proofs.files.Files.read.Goals as goal
+use Rattle.bz_files.proofs.memory.MemoryFilesFiles.read.Goals as goal
 
 pub returns-clause-found : goal.returns-clause-found
-returns-clause-found g c = λ honest.
+returns-clause-found c = λ honest.
     let found = c.in_ok-read_most.ensures.found honest in
     let items = c.read_most.new.into.items in
     let short : length items < 2 ^ 64 - 1 = omega (arith, c.len.ensures, c.if-prove.false) in

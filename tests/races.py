@@ -1,0 +1,452 @@
+#!/usr/bin/env python3
+"""Runs the built programs beside one another, beside an editor, and over what others have put in their way.
+
+Many runs of buildozer edit one file at once, with and without --journal; a second run, or an editor that saves, comes at each call of
+a first one, which waits there (failing.c); a run is killed at each call; links, pipes, devices and folders stand where a file is to be;
+and a file has owners, groups and bits of many kinds. What must be there:
+
+- a run that ends with 0 has its edit in the file, and one that tells `cannot write` hasn't;
+- whoever reads the file meanwhile sees a text that some run wrote, and an editor's text is not lost;
+- the journal goes on, and nothing is left of a new file, or the next run takes it away;
+- nothing is written through what was there under the new file's name.
+
+Where the script is not run as root, or there is no C compiler, it says what was not tried.
+
+    [HOSTILE=whole] tests/races.py BUILDOZER BUILDIFIER
+"""
+
+import fcntl
+import os
+import pathlib
+import re
+import shutil
+import signal
+import stat
+import subprocess
+import sys
+import tempfile
+import threading
+
+from failing import WAYS
+from files import report
+from hostile import PATIENCE, WHOLE, files_in, library_of, new_folder, put, told
+from workspace import NOBODY
+
+AT_ONCE = 8
+ROUNDS = 100 if WHOLE else 8
+# calls at most of one kind in one run
+MOST = 100
+FILE, NEW, JOURNAL = "BUILD", "BUILD.bznew", "BUILD.journal"
+FIRST = b'f(name = "x")\n'
+LAID_OUT = re.compile(rb'f\(\n    name = "x",\n    deps = \[((?:"[^"]*")|(?:\n(?:        "[^"]*",\n)+    ))\],\n\)\n')
+UNWRITTEN = (2, b"", b"BUILD: cannot write\n")
+FIXED = (0, b"", b"fixed BUILD\n")
+# a user and a group that are not those of the runs
+OTHER = 12_345
+ODD, EVEN = b"x=1\n", b"x = 1\n"
+
+
+def labels_in(text):
+    """The labels that were added to a text, in their order; None where it is no text that a run writes."""
+    if text == FIRST:
+        return []
+    found = LAID_OUT.fullmatch(text)
+    return re.findall(rb'"([^"]*)"', found[1]) if found else None
+
+
+def add(label):
+    return [f"add deps {label}", "//:x"]
+
+
+class Place:
+    """A folder with a file in which the programs run, and what was wrong there."""
+
+    def __init__(self, programs, library, folder):
+        self.programs, self.library, self.folder = programs, library, pathlib.Path(folder)
+        self.wrong = []
+        put(folder, {FILE: FIRST})
+
+    def text(self):
+        return (self.folder / FILE).read_bytes()
+
+    def expect(self, what, is_, wanted):
+        if is_ != wanted:
+            self.wrong.append(f"{what}: {is_!r}, and not {wanted!r}"[:800])
+
+    def start(self, words, program="buildozer", **how):
+        pipes = {"stdin": subprocess.DEVNULL, "stdout": subprocess.PIPE, "stderr": subprocess.PIPE}
+        return subprocess.Popen([self.programs[program], *words], cwd=self.folder, **pipes, **how)
+
+    def ended(self, words, program="buildozer", **how):
+        """The status and both outputs of a run."""
+        return outcome(self.start(words, program, **how))
+
+    def failing(self, words, call, number, way, **further):
+        """A run that is stopped or killed at a call, or at which a file is changed, and the file of the line that tells so."""
+        ours, its = os.pipe()
+        how = {"FAILING_TOLD": str(its), "FAILING_CALL": call, "FAILING_NUMBER": str(number), "FAILING_HOW": way, **further}
+        environment = {**os.environ, "ASAN_OPTIONS": "verify_asan_link_order=0", "LD_PRELOAD": self.library, **how}
+        run = self.start(words, env=environment, pass_fds=[its])
+        os.close(its)
+        return run, open(ours)
+
+    def goes_on(self, what, journal):
+        """The next run does its edit, and leaves no new file; and a journal lists a history at the text that is there."""
+        self.expect(f"the run behind {what}", self.ended([*journal, *add(":next")]), FIXED)
+        self.expect(f"an edit behind {what}", b":next" in labels_in(self.text()), True)
+        new = [file.name for file in self.folder.iterdir() if file.suffix == ".bznew"]
+        self.expect(f"new files behind {what}", new, [])
+        if journal:
+            status, out, err = self.ended(["--journal", "journal", "//:x"])
+            self.expect(f"the journal behind {what}", (status, err, len(out) > 0), (3, b"", True))
+
+
+def outcome(run):
+    out, err = run.communicate(timeout=PATIENCE)
+    return run.returncode, out, err
+
+
+def in_place(scene, *given, library=False, root=False):
+    """A scene in a folder of its own."""
+
+    def wrong(programs, failing):
+        if library and not failing:
+            return []
+        if root and os.geteuid() != 0:
+            print(f"tests/races.py: not run as root, so {scene.__name__.replace('_', ' ')} was not tried", flush=True)
+            return []
+        with new_folder() as folder:
+            place = Place(programs, failing, folder)
+            scene(place, *given)
+        return place.wrong
+
+    return wrong
+
+
+# ---- many at once
+
+
+class Reader(threading.Thread):
+    """Reads a file as often as it can, and keeps the texts that it sees."""
+
+    def __init__(self, file):
+        super().__init__()
+        self.file, self.seen, self.is_over = file, set(), threading.Event()
+
+    def run(self):
+        while not self.is_over.is_set():
+            self.seen.add(self.file.read_bytes())
+
+    def texts(self):
+        self.is_over.set()
+        self.join()
+        return self.seen
+
+
+def many_at_once(p, journal):
+    """Each of the runs adds a label of its own."""
+    for number in range(ROUNDS):
+        if number % 10 == 0:
+            # a history that goes on for long takes long
+            (p.folder / JOURNAL).unlink(missing_ok=True)
+            put(p.folder, {FILE: FIRST})
+        before = labels_in(p.text())
+        reader = Reader(p.folder / FILE)
+        reader.start()
+        labels = [b":r%d-%d" % (number, run) for run in range(AT_ONCE)]
+        runs = [p.start([*journal, *add(label.decode())]) for label in labels]
+        ended = dict(zip(labels, map(outcome, runs)))
+        seen = [labels_in(text) for text in reader.texts()]
+        after = labels_in(p.text())
+        if after is None or None in seen:
+            p.wrong.append(f"round {number}: {seen}, {after}")
+            return
+        for label, (status, out, err) in ended.items():
+            p.expect(f"round {number}, {label}: {status} {err}", (label in after, out), (status == 0, b""))
+            is_known = (status, out, err) == FIXED or status == 2 and (out, err) != (b"", b"")
+            p.expect(f"round {number}, the end of {label}: {status} {out} {err}", is_known, True)
+        added = {*before, *(label for label, end in ended.items() if end == FIXED)}
+        p.expect(f"round {number}, what is there", set(after), added)
+        unknown = [text for text in seen if not {*before} <= {*text} <= added]
+        p.expect(f"round {number}, what was read", unknown, [])
+    p.goes_on("many at once", journal)
+
+
+def calls(p, words, way):
+    """Each call of a run of these words over the file as it is, with the run, which waits there or is killed."""
+    for call in [*WAYS, "fchown"]:
+        for number in range(1, MOST):
+            for file in p.folder.iterdir():
+                file.unlink()
+            put(p.folder, {FILE: FIRST})
+            run, lines = p.failing(words, call, number, way)
+            with lines:
+                line = lines.readline()
+                if not line:
+                    outcome(run)
+                    break
+                if way == "stop":
+                    # it tells before it waits
+                    os.waitid(os.P_PID, run.pid, os.WSTOPPED)
+                yield f"{call} {number} ({line.strip()})", run
+
+
+def second_run(p, journal, other):
+    """It comes at each call of a first one, which then goes on: whoever ends with 0 has its edit there, and nobody else."""
+    for what, run in calls(p, [*journal, *add(":first")], "stop"):
+        second = p.ended([*other, *add(":second")])
+        run.send_signal(signal.SIGCONT)
+        first = outcome(run)
+        after = labels_in(p.text())
+        ends = {b":first": first, b":second": second}
+        wanted = {label for label, end in ends.items() if end == FIXED}
+        p.expect(f"a second run at {what}: {ends}", set(after or [b"torn"]), wanted)
+        if not wanted or any(end not in (FIXED, UNWRITTEN) for end in ends.values()):
+            p.wrong.append(f"a second run at {what}: {ends}")
+        # a run without a journal makes one stale
+        p.goes_on(what, other and journal)
+
+
+SAVED = b'f(name = "x", saved = 1)\n'
+# where an editor's save may be lost: between the last look at the file and its rename
+LATE = re.compile(r"rename \d \(rename BUILD\.bznew\)")
+
+
+def editor_saves(p, journal):
+    """It saves at each call of a run, by a rename: its text stays, and the run tells so, or has edited just that; at one call it is
+    lost, since no system has a rename that looks first."""
+    lost = []
+    for what, run in calls(p, [*journal, *add(":first")], "stop"):
+        before = p.text()
+        put(p.folder, {"saved": SAVED})
+        (p.folder / "saved").rename(p.folder / FILE)
+        run.send_signal(signal.SIGCONT)
+        end, text = outcome(run), p.text()
+        if before != FIRST:
+            p.expect(f"an editor behind the rename, at {what}", (end, text), (FIXED, SAVED))
+        elif text == SAVED:
+            p.expect(f"an editor at {what}", end[0], 2)
+        elif not (b"saved = 1" in text and b":first" in text and end == FIXED):
+            lost.append(what)
+    if len(lost) > 1 or not all(map(LATE.fullmatch, lost)):
+        p.wrong.append(f"an editor's save is lost at {lost}")
+
+
+def between_two_commands(p, journal):
+    """Another program writes the file, or removes it, when a run opens a second package, between two commands on the first one: what
+    it did stays, and is told."""
+    lines = b"add deps :first|//:x\nprint name|//c:x\nadd deps :second|//:x\n"
+    for way, text in (("change", SAVED), ("remove", None)):
+        for number in range(1, MOST):
+            (p.folder / JOURNAL).unlink(missing_ok=True)
+            put(p.folder, {FILE: FIRST, "c/BUILD.bazel": FIRST, "lines": lines})
+            run, told_calls = p.failing(
+                ["-k", *journal, "-f", "lines"], "open", number, way, FAILING_FILE=FILE, FAILING_BYTES=SAVED.decode()
+            )
+            end = outcome(run)
+            with told_calls:
+                if told_calls.readline() != "open c/BUILD.bazel\n":
+                    continue
+            found = p.text() if (p.folder / FILE).exists() else None
+            p.expect(f"{way} between two commands", (found, end[:2]), (text, (2, b"x\n")))
+            p.expect(f"what is told of {way}", end[2] in (UNWRITTEN[2], UNWRITTEN[2] + FIXED[2]), True)
+            break
+        else:
+            p.wrong.append("the second package was not opened")
+
+
+def killed_at_each_call(p, journal):
+    """The next run goes on, and takes away what was left."""
+    for what, run in calls(p, [*journal, *add(":first")], "kill"):
+        p.expect(f"killed at {what}", outcome(run)[0], -signal.SIGKILL)
+        p.expect(f"the text of one killed at {what}", labels_in(p.text()) in ([], [b":first"]), True)
+        p.goes_on(f"one killed at {what}", journal)
+
+
+# ---- what stands in the way
+
+
+def each_program(p, act):
+    """Both programs, with the words of a run, the file that it replaces, the bytes before and behind it, and the line of it."""
+    put(p.folder, {"f": ODD})
+    for program, words, name, before, line in (
+        ("buildozer", add(":a"), FILE, FIRST, b"fixed BUILD\n"),
+        ("buildifier", ["f"], "f", ODD, b""),
+        ("buildozer", ["--journal", *add(":a")], FILE, FIRST, b"fixed BUILD\n"),
+    ):
+        put(p.folder, {name: before})
+        act(program, words, name, before, line)
+        for left in (NEW, JOURNAL, f"{JOURNAL}.bznew", "f.bznew"):
+            remove(p.folder / left)
+
+
+def remove(file):
+    if file.is_dir() and not file.is_symlink():
+        file.rmdir()
+    else:
+        file.unlink(missing_ok=True)
+
+
+def failed(program):
+    return 3 if program == "buildifier" else 2
+
+
+def planted_links(p):
+    """A link goes, and nothing is written through it; nor through a pipe or a device; a folder is told."""
+    put(p.folder, {"precious": b"precious"})
+    makers = [
+        lambda new: new.symlink_to("precious"), lambda new: new.symlink_to("none"), lambda new: new.symlink_to(new.name),
+        lambda new: new.symlink_to("/dev/null"), os.mkfifo, lambda new: new.write_bytes(b"left"),
+    ]  # fmt: skip
+
+    def act(program, words, name, before, line):
+        for new in [p.folder / f"{kept}.bznew" for kept in (name, JOURNAL)]:
+            for make in makers:
+                put(p.folder, {name: before})
+                make(new)
+                p.expect(f"{program} {words} over what was planted", p.ended(words, program), (0, b"", line))
+                p.expect("nothing is left of it", os.path.lexists(new), "--journal" not in words and new.stem == JOURNAL)
+                remove(new)
+            put(p.folder, {name: before})
+            new.mkdir()
+            if "--journal" in words or new.stem == name:
+                end = failed(program), b"", f"{name}: cannot write\n".encode()
+                p.expect(f"{program} {words} beside a folder", p.ended(words, program), end)
+                p.expect("the file beside a folder", (p.folder / name).read_bytes(), before)
+            new.rmdir()
+
+    each_program(p, act)
+    p.expect("what links name", files_in(p.folder).get("precious"), b"precious")
+
+
+def a_held_file(p):
+    """One whose lock is held is another run's; one that nobody holds is a left one, whatever its bits."""
+    def act(program, words, name, before, line):
+        new = p.folder / f"{name}.bznew"
+        with open(new, "wb") as held:
+            fcntl.flock(held, fcntl.LOCK_EX)
+            end = failed(program), b"", f"{name}: cannot write\n".encode()
+            p.expect(f"{program} {words} beside another run", p.ended(words, program), end)
+            p.expect("both files", ((p.folder / name).read_bytes(), new.exists()), (before, True))
+        new.chmod(0o400)
+        p.expect(f"{program} {words} behind it", p.ended(words, program), (0, b"", line))
+        p.expect("nothing is left", new.exists(), False)
+
+    each_program(p, act)
+
+
+def names_of_pipes_and_devices(p):
+    """They are not opened, and stay; a link to a file is as the file; lines of commands may come from a pipe."""
+    for make in (os.mkfifo, lambda file: file.symlink_to("/dev/null"), lambda file: file.symlink_to("/dev/zero")):
+        remove(p.folder / FILE)
+        make(p.folder / FILE)
+        for words in (add(":a"), ["--journal", *add(":a")]):
+            p.expect("a package that is no file", p.ended(words), (2, b"", b"BUILD: cannot open\n"))
+        p.expect("one for buildifier", p.ended([FILE], "buildifier"), (3, b"", b"BUILD: cannot open\n"))
+        p.expect("its name", (p.folder / FILE).is_file(), False)
+        remove(p.folder / FILE)
+        put(p.folder, {FILE: FIRST})
+        make(p.folder / JOURNAL)
+        p.expect("a journal that is no file", p.ended(["--journal", *add(":a")]), (2, b"", b"BUILD.journal: cannot open\n"))
+        p.expect("the file beside it", p.text(), FIRST)
+        remove(p.folder / JOURNAL)
+    p.expect("a device by its name", p.ended(["/dev/null"], "buildifier"), (3, b"", b"/dev/null: cannot open\n"))
+    os.mkfifo(p.folder / "lines")
+    run = p.start(["-f", "lines"])
+    (p.folder / "lines").write_bytes(b"add deps :a|//:x\n")
+    p.expect("lines from a pipe", outcome(run), FIXED)
+
+
+# ---- who may do what
+
+
+def bits_of(file):
+    return stat.S_IMODE(file.stat().st_mode)
+
+
+def bits(p):
+    """They stay, but for those that lend rights; a journal has no more than its file, also where it had."""
+    for mode in (0o600, 0o640, 0o444, 0o755, 0o664, 0o4755, 0o2755, 0o1644):
+        put(p.folder, {"f": ODD})
+        (p.folder / "f").chmod(mode)
+        p.expect(f"{mode:o}", (p.ended(["f"], "buildifier")[0], bits_of(p.folder / "f")), (0, mode & 0o777))
+        (p.folder / "f").chmod(0o600)
+    for number, (file, journal, wanted) in enumerate([(0o600, 0o644, 0o600), (0o644, 0o600, 0o600), (0o640, 0o664, 0o640), (0o664, 0o644, 0o644)]):
+        p.ended(["--journal", *add(f":a{number}")])
+        (p.folder / FILE).chmod(file)
+        (p.folder / JOURNAL).chmod(journal)
+        p.expect("an edit", p.ended(["--journal", *add(f":b{number}")]), FIXED)
+        p.expect(f"{file:o} beside {journal:o}", (bits_of(p.folder / FILE), bits_of(p.folder / JOURNAL)), (file, wanted))
+
+
+def in_turn(p, what, user, groups, owner, mode, wanted):
+    """A user of these groups edits a file of another owner and group, which has these bits then."""
+    (p.folder / JOURNAL).unlink(missing_ok=True)
+    put(p.folder, {FILE: FIRST})
+    os.chown(p.folder / FILE, *owner)
+    (p.folder / FILE).chmod(mode)
+    how = {"user": user, "group": user, "extra_groups": groups}
+    p.expect(what, p.ended(["--journal", *add(":a")], **how), FIXED)
+    for file in (p.folder / FILE, p.folder / JOURNAL):
+        found = file.stat()
+        p.expect(f"{what}: {file.name}", (found.st_uid, found.st_gid, bits_of(file)), wanted)
+
+
+def owners(p):
+    """Owner and group stay where the system lets; where the group can't, it loses its bits, and others what it didn't have."""
+    p.folder.chmod(0o777)
+    in_turn(p, "root", 0, [], (OTHER, OTHER), 0o640, (OTHER, OTHER, 0o640))
+    in_turn(p, "root, lent rights", 0, [], (OTHER, OTHER), 0o6755, (OTHER, OTHER, 0o755))
+    in_turn(p, "a member of the group", NOBODY, [OTHER], (NOBODY, OTHER), 0o640, (NOBODY, OTHER, 0o640))
+    in_turn(p, "no member", NOBODY, [], (NOBODY, OTHER), 0o640, (NOBODY, NOBODY, 0o600))
+    in_turn(p, "no member, and others may", NOBODY, [], (NOBODY, OTHER), 0o664, (NOBODY, NOBODY, 0o604))
+    in_turn(p, "no member, and the group may not", NOBODY, [], (NOBODY, OTHER), 0o604, (NOBODY, NOBODY, 0o600))
+    in_turn(p, "another owner", NOBODY, [OTHER], (OTHER, OTHER), 0o640, (NOBODY, OTHER, 0o640))
+
+
+def sticky_folders(p):
+    """What another user has planted there can't be removed: that is told, and nothing is written through it."""
+    put(p.folder, {"precious": b"precious", "f": ODD})
+    for file in (FILE, "precious", "f"):
+        os.chown(p.folder / file, NOBODY, NOBODY)
+    p.folder.chmod(0o1777)
+    how = {"user": NOBODY, "group": NOBODY, "extra_groups": []}
+    for make in (lambda new: new.symlink_to("precious"), os.mkfifo, lambda new: new.write_bytes(b"planted")):
+        for name, program, words in ((FILE, "buildozer", add(":a")), (FILE, "buildozer", ["--journal", *add(":a")]), ("f", "buildifier", ["f"])):
+            new = p.folder / f"{name}.bznew"
+            make(new)
+            os.chown(new, OTHER, OTHER, follow_symlinks=False)
+            end = failed(program), b"", f"{name}: cannot write\n".encode()
+            p.expect(f"{program} {words} in a sticky folder", p.ended(words, program, **how), end)
+            new.unlink()
+    found = files_in(p.folder)
+    p.expect("files of a sticky folder", found, {FILE: FIRST, "precious": b"precious", "f": ODD})
+
+
+# Each scene by its name; each gives what is wrong.
+KEPT = {"": [], ", with journals": ["--journal"]}
+SCENES = {f"many at once{name}": in_place(many_at_once, journal) for name, journal in KEPT.items()}
+SCENES |= {
+    f"a second run at each call{mine}{' beside one without' if mine and not its else ''}": in_place(second_run, KEPT[mine], KEPT[its], library=True)
+    for mine, its in (("", ""), (", with journals", ", with journals"), (", with journals", ""))
+}
+SCENES |= {f"an editor at each call{name}": in_place(editor_saves, journal, library=True) for name, journal in KEPT.items()}
+SCENES |= {f"between two commands{name}": in_place(between_two_commands, journal, library=True) for name, journal in KEPT.items()}
+SCENES |= {f"killed at each call{name}": in_place(killed_at_each_call, journal, library=True) for name, journal in KEPT.items()}
+SCENES |= {scene.__name__.replace("_", " "): in_place(scene) for scene in (planted_links, a_held_file, names_of_pipes_and_devices, bits)}
+SCENES |= {scene.__name__.replace("_", " "): in_place(scene, root=True) for scene in (owners, sticky_folders)}
+
+
+def failures(buildozer, buildifier):
+    """The names of the scenes that the programs fail, each with what was wrong."""
+    with tempfile.TemporaryDirectory() as folder:
+        programs = {"buildozer": f"{folder}/buildozer", "buildifier": f"{folder}/buildifier"}
+        for copy, program in zip(programs.values(), (buildozer, buildifier)):
+            shutil.copy(program, copy)
+            os.chmod(copy, 0o755)
+        os.chmod(folder, 0o755)
+        return told(SCENES, programs, library_of("failing.c", folder))
+
+
+if __name__ == "__main__":
+    sys.exit(report("races", SCENES, failures(*(pathlib.Path(word).resolve() for word in sys.argv[1:]))))
