@@ -1,5 +1,5 @@
 -- Texts behind references, cut at a place.
-use Rattle.std.proofs.Common.{◌≡◌, ◌<◌, ◌+◌, ◌++◌, ◌∷◌, [], ℕ, Bool, not, cond, nat_lt, List, Bor, map, position, take, drop, get_or, length, Option, Some, None, add-one, refl, ap, sym, ◌∙◌}
+use Rattle.std.proofs.Common.{◌≡◌, ◌<◌, ◌+◌, ◌++◌, ◌∷◌, [], ℕ, Bool, not, cond, nat_lt, List, Bor, map, position, take, drop, get_or, length, Some, None, add-one, refl, ap, sym, ◌∙◌}
 use Rattle.std.proofs.Math.Seq.{take-suc, drop-cons}
 use Rattle.std.specs.List.{position_or_len}
 use Rattle.std.proofs.lemmas.List.{length-map, map-append, take-append-drop}

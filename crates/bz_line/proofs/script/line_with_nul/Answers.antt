@@ -1,4 +1,4 @@
-use Rattle.std.proofs.Common.{◌≡◌, ◌∙◌, ◌+◌, ap, sym, map, ℕ, List, Bor, Option, Some, None}
+use Rattle.std.proofs.Common.{◌∙◌, ◌+◌, ap, sym, ℕ}
 use Rattle.std.specs.Option.{option_map}
 use Rattle.bz_line.specs.Script.{has_nul}
 use Rattle.bz_line.proofs.Texts.{place_in_texts}
