@@ -1,9 +1,9 @@
 -- Why operands and lines are refused, as their functions say it, but for patterns.
-use Rattle.std.proofs.Common.{◌≡◌, ◌⊎◌, inl, inr, List, [], ◌∷◌, ◌++◌, Result, Ok, Err, refl, sym, ap, subst, ◌∙◌}
+use Rattle.std.proofs.Common.{◌≡◌, ◌⊎◌, inl, inr, ℕ, List, [], ◌∷◌, ◌++◌, Option, None, Result, Ok, Err, refl, sym, ap, subst, ◌∙◌}
 use Rattle.bz_items.specs.Characters.{Bytes}
-use Rattle.bz_line.specs.Asked.{Asked, Refused, Usage, of_operand, no_command, no_target, no_line, joined_operands, accepted, asked_by, asked_of, operand_group}
+use Rattle.bz_line.specs.Asked.{Asked, Refused, Usage, of_operand, no_command, no_target, no_line, nul, joined_operands, accepted, asked_by, asked_of, operand_group}
 use Rattle.bz_line.specs.Refused.{IsPatternFault, IsFirstRefused, IsFirstFault, IsGroupFault, IsScriptFault}
-use Rattle.bz_line.specs.Script.{lines_in, operands_in, in_front, operand_groups, some_groups, script_of}
+use Rattle.bz_line.specs.Script.{line_with_nul, lines_of, lines_in, operands_in, in_front, operand_groups, some_groups, without_nul, script_of}
 use Rattle.bz_engine.specs.Told.{IsUsageLine}
 
 -- ---- operands
@@ -38,6 +38,7 @@ group_fault texts (of_operand refused) fault = by_operand texts refused fault
 group_fault texts no_command fault = inl fault
 group_fault texts no_target fault = inl fault
 group_fault texts no_line fault = absurd fault
+group_fault texts (nul line) fault = absurd fault
 
 -- ---- lines
 
@@ -64,10 +65,11 @@ some_line (first ∷ front) rest line = refl
 abbrev pub TellsLine : List Bytes → Usage → Type 0
 TellsLine lines usage = (refused : Refused) × (usage ≡ of_operand refused) × IsFirstFault lines (of_operand refused) × IsPatternFault refused.operand refused.fault
 
-by_line : (text : Bytes) (usage : Usage) → IsFirstFault (lines_in text) usage → (script_of text ≡ Err usage) ⊎ TellsLine (lines_in text) usage
-by_line text usage first = elim (group_fault (operands_in first.line) usage first.fault) [
+by_line : (text : Bytes) (usage : Usage) → line_with_nul (lines_of text) ≡ None → IsFirstFault (lines_in text) usage → (script_of text ≡ Err usage) ⊎ TellsLine (lines_in text) usage
+by_line text usage none first = elim (group_fault (operands_in first.line) usage first.fault) [
   | inl is ↦ inl (
-      ap some_groups first.split
+      ap (λ (line : Option ℕ). without_nul line (lines_in text)) none
+      ∙ ap some_groups first.split
       ∙ some_line first.front first.rest first.line
       ∙ first_fault first.front first.rest first.line usage first.groups first.before is
       )
@@ -75,8 +77,8 @@ by_line text usage first = elim (group_fault (operands_in first.line) usage firs
 ]
 
 pub script_fault : (text : Bytes) (usage : Usage) → IsScriptFault text usage → (script_of text ≡ Err usage) ⊎ TellsLine (lines_in text) usage
-script_fault text usage (inl none) = inl (ap some_groups none.1 ∙ ap (λ (it : Usage). Err it) (sym none.0))
-script_fault text usage (inr first) = by_line text usage first
+script_fault text usage (inl is) = inl is
+script_fault text usage (inr (none, first)) = by_line text usage none first
 
 -- ---- lines on standard error
 
@@ -85,3 +87,4 @@ one_usage_line file (of_operand refused) line other is other_is = is ∙ sym oth
 one_usage_line file no_command line other is other_is = is ∙ sym other_is
 one_usage_line file no_target line other is other_is = is ∙ sym other_is
 one_usage_line file no_line line other is other_is = is ∙ sym other_is
+one_usage_line file (nul at) line other is other_is = is ∙ sym other_is

@@ -117,7 +117,7 @@ usage = (
   (λ world there. script_of (codes "-f" ∷ codes "lines" ∷ []) (codes "lines") world (unused world.folder (codes "lines: no operands\n")) refl (
     Some (codes "# none\n\n"),
     inr (apart (codes "lines") refl, sym there),
-    inr (inl (IsUtf8-from_is_utf8 (codes "# none\n\n") comment_is_text, (no_line, codes "lines: no operands\n", inl (refl, refl), refl, refl))),
+    inr (inl (IsUtf8-from_is_utf8 (codes "# none\n\n") comment_is_text, (no_line, codes "lines: no operands\n", inl refl, refl, refl))),
   )),
   (λ folder. script_of (codes "-f" ∷ codes "-" ∷ []) (codes "-") (record { folder = folder; known = Some (codes "undo|-:x\n") })
       (unused folder (codes "buildozer: package - cannot be edited beside -f -\n")) refl (

@@ -3,7 +3,7 @@ use Rattle.std.specs.Prelude.{◌≡◌, ℕ, ◌++◌, codes, decimal}
 use Rattle.bz_items.specs.Characters.{Bytes}
 use Rattle.bz_attribute.specs.Refusals.{refusal_name, refusal_number}
 use Rattle.bz_attribute.specs.declared.refusal.Refusal.{Refusal}
-use Rattle.bz_line.specs.Asked.{Refused, Usage, of_operand, no_command, no_target, no_line}
+use Rattle.bz_line.specs.Asked.{Refused, Usage, of_operand, no_command, no_target, no_line, nul}
 use Rattle.bz_line.specs.Hints.{hint_for}
 use Rattle.bz_line.specs.Line.{LineUsage, of_clap, beside_script, beside_stdout}
 use Rattle.bz_line.specs.Verbs.{fault_name, fault_number}
@@ -26,12 +26,17 @@ operand_line refused = codes "buildozer: " ++ numbered refused.operand (fault_na
 abbrev pub fixed_line : Bytes → Bytes
 fixed_line name = codes "fixed " ++ name ++ codes "\n"
 
+-- a file of lines of which this line, from 1, has a NUL byte
+abbrev pub nul_line : Bytes → ℕ → Bytes
+nul_line file line = file ++ codes ":" ++ decimal line ++ codes ": NUL\n"
+
 -- operands, or a file of lines of this name, that ask for nothing
 abbrev pub IsUsageLine : Bytes → Usage → Bytes → Type 0
 IsUsageLine file (of_operand refused) line = line ≡ operand_line refused
 IsUsageLine file no_command line = line ≡ codes "buildozer: no command\n"
 IsUsageLine file no_target line = line ≡ codes "buildozer: no target\n"
 IsUsageLine file no_line line = line ≡ named_line file (codes "no operands")
+IsUsageLine file (nul at) line = line ≡ nul_line file at
 
 -- Words that are no line of the program's. Of a fault that clap finds the text is clap's.
 abbrev pub IsLineUsageLine : LineUsage → Bytes → Type 0

@@ -1,5 +1,5 @@
 //! What a run leaves behind its steps.
-ghost use Rattle.std.specs.Prelude.{◌≡◌, ◌≢◌, ◌⊎◌, ◌++◌, [], ◌∷◌, ℕ, List, Some, None, true, map, option_map, if◌then◌else◌, IfOk, IfErr};
+ghost use Rattle.std.specs.Prelude.{◌≡◌, ◌≢◌, ◌⊎◌, ◌++◌, [], ◌∷◌, ℕ, List, Some, None, true, false, map, option_map, if◌then◌else◌, IfOk, IfErr};
 ghost use Rattle.std.specs.List.{list_any};
 ghost use Rattle.bz_workspace.specs.Sessions.{present};
 ghost use Rattle.bz_ports.specs.Faults.{Rises};
@@ -7,7 +7,7 @@ ghost use Rattle.bz_ports.specs.Outputs.{Counts};
 ghost use Rattle.bz_workspace.specs.Shown.{opened_in, used_in};
 ghost use Rattle.bz_engine.specs.Calls.{TellsLines, PrintsAll, PrintsSome, WorksOn};
 ghost use Rattle.bz_engine.specs.Ending.{differs, has_changed, is_input, goes_out, opened_out, text_out, texts_out, is_written, writing_of, all_writings, WritesFiles, fixed_lines, status_of};
-ghost use Rattle.bz_engine.specs.Shown.{progress_in};
+ghost use Rattle.bz_engine.specs.Shown.{progress_in, written_line, written_lines};
 
 use crate::run::Run;
 use crate::told::tell_fixed;
@@ -335,14 +335,23 @@ pub(crate) fn finish<W: Sink, F: Files, E: Sink>(
     )
 }
 
-// Tells which files were written, in order.
-fn tell_written<E: Sink>(packages: &[Used], err: &mut E) {
-    for used in packages {
-        if let Some(file) = &used.file {
-            if file.written {
-                tell_fixed(err, file.name.as_str());
-            }
+// Tells that the file of a package was written, where it was.
+fn tell_if_written<E: Sink>(used: &Used, err: &mut E)
+    ensures { TellsLines E.Sink err.old err.new (written_line used.now) }
+{
+    if let Some(file) = &used.file {
+        if file.written {
+            tell_fixed(err, file.name.as_str());
         }
+    }
+}
+
+// Tells which files were written, in order.
+fn tell_written<E: Sink>(packages: &[Used], err: &mut E)
+    ensures { TellsLines E.Sink err.old err.new (written_lines packages.now) }
+{
+    for used in packages {
+        tell_if_written(used, err);
     }
 }
 
@@ -358,6 +367,8 @@ pub(crate) fn finish_kept<W: Sink, E: Sink>(
     ensures status { result.cut ≢ Cut.Whole → result.status ≡ 2 }
     ensures used { result.status ≢ 1 }
     ensures whole { result.cut ≡ Cut.Whole → (cut ≡ Cut.Whole) × (W.faults out.new ≡ W.faults out.old) }
+    ensures exit { result.cut ≡ Cut.Whole → result.status ≡ status_of (progress_in run) }
+    ensures printed { result.cut ≡ Cut.Whole → PrintsAll W.Sink out.old out.new ((progress_in run).printed ++ texts_out false false (progress_in run).used) }
     ensures cause { (result.cut ≡ cut) ⊎ ((cut ≡ Cut.Whole) × ((result.cut ≡ Cut.Memory) ⊎ ((result.cut ≡ Cut.Write) × Rises (W.faults out.old) (W.faults out.new)))) }
 {
     let Run {

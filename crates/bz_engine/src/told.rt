@@ -3,7 +3,7 @@ ghost use Rattle.std.specs.Prelude.{◌≡◌, ◌++◌, codes, List, ℕ, IfSom
 ghost use Rattle.bz_line.specs.Hints.{hint_for};
 ghost use Rattle.bz_line.specs.Shown.{refused_in, usage_in, line_usage_in, hint_text};
 ghost use Rattle.bz_engine.specs.Calls.{TellsLine};
-ghost use Rattle.bz_engine.specs.Told.{numbered, refusal_line, operand_line, fixed_line, input_line, no_journal_line, IsUsageLine, IsLineUsageLine};
+ghost use Rattle.bz_engine.specs.Told.{numbered, refusal_line, operand_line, fixed_line, input_line, no_journal_line, nul_line, IsUsageLine, IsLineUsageLine};
 
 use bz_attribute::Refusal;
 use bz_line::{Hint, LineFault, Refused, UsageFault, hint_for};
@@ -115,6 +115,15 @@ pub(crate) fn tell_no_journal<E: Sink>(err: &mut E)
     tell(err, &["buildozer: package - has no journal\n"]);
 }
 
+// Tells that a line of a file of lines has a NUL byte.
+fn tell_nul<E: Sink>(err: &mut E, file: &str, line: usize)
+    ensures { TellsLine E.Sink err.old err.new (nul_line file.now line) }
+{
+    let mut numbers = Buffer::new();
+    let line = numbers.format(line);
+    tell(err, &[file, ":", line, ": NUL\n"]);
+}
+
 /// Tells why operands, or a file of lines of this name, ask for nothing. The error: memory was refused; nothing is told.
 pub(crate) fn tell_usage<E: Sink>(
     alloc: Global,
@@ -135,6 +144,7 @@ pub(crate) fn tell_usage<E: Sink>(
         UsageFault::NoCommand => tell(err, &["buildozer: no command\n"]),
         UsageFault::NoTarget => tell(err, &["buildozer: no target\n"]),
         UsageFault::NoLine => tell_named(err, file, "no operands"),
+        UsageFault::Nul(line) => tell_nul(err, file, *line),
         UsageFault::Memory => return Err(AllocError),
     }
     Ok(())

@@ -1,7 +1,8 @@
 -- Texts behind references, cut at a place.
-use Rattle.std.proofs.Common.{◌≡◌, ◌<◌, ◌+◌, ◌++◌, ◌∷◌, [], ℕ, List, Bor, map, take, drop, get_or, length, add-one, ap, sym, ◌∙◌}
+use Rattle.std.proofs.Common.{◌≡◌, ◌<◌, ◌+◌, ◌++◌, ◌∷◌, [], ℕ, Bool, not, cond, nat_lt, List, Bor, map, position, take, drop, get_or, length, Some, None, add-one, refl, ap, sym, ◌∙◌}
 use Rattle.std.proofs.Math.Seq.{take-suc, drop-cons}
-use Rattle.std.proofs.lemmas.List.{map-append, take-append-drop}
+use Rattle.std.specs.List.{position_or_len}
+use Rattle.std.proofs.lemmas.List.{length-map, map-append, take-append-drop}
 
 abbrev pub texts_in : List (Bor (List ℕ)) → List (List ℕ)
 texts_in items = map (λ s. s.now) items
@@ -18,3 +19,14 @@ texts_split items at none within =
     let rest : drop at items ≡ get_or items at none ∷ drop (at + 1) items = rw (add-one) (drop-cons items at none within) in
     ap texts_in (sym (take-append-drop at items)) ∙ map-append (λ s. s.now) (take at items) (drop at items)
     ∙ ap (λ (left : List (Bor (List ℕ))). texts_in (take at items) ++ texts_in left) rest
+
+before_passing : (p : List ℕ → Bool) (items : List (Bor (List ℕ))) → position_or_len (λ (s : Bor (List ℕ)). p s.now) items ≡ position_or_len p (texts_in items)
+before_passing p [] = refl
+before_passing p (one ∷ more) = ap (λ (later : ℕ). cond (not (p one.now)) (1 + later) 0) (before_passing p more)
+
+-- the place of the first text that passes
+pub place_in_texts : (p : List ℕ → Bool) (items : List (Bor (List ℕ))) → position (λ (s : Bor (List ℕ)). p s.now) items ≡ position p (texts_in items)
+place_in_texts p items =
+    ap (λ (at : ℕ). cond (nat_lt at (length items)) (Some at) None) (before_passing p items)
+    ∙ ap (λ (n : ℕ). cond (nat_lt (position_or_len p (texts_in items)) n) (Some (position_or_len p (texts_in items))) None)
+    (sym (length-map items (λ (s : Bor (List ℕ)). s.now)))

@@ -1,5 +1,5 @@
 -- What the operands of one line ask for: commands, in order, and targets, in order.
-use Rattle.std.specs.Prelude.{List, [], ◌∷◌, ◌++◌, if◌then◌else◌, Result, Ok, Err}
+use Rattle.std.specs.Prelude.{ℕ, List, [], ◌∷◌, ◌++◌, if◌then◌else◌, Result, Ok, Err}
 use Rattle.bz_items.specs.Characters.{Bytes}
 use Rattle.bz_label.specs.declared.target.Target.{Target}
 use Rattle.bz_line.specs.Operands.{is_target, operand_target, verb_of}
@@ -54,6 +54,7 @@ pub data Usage : Type 0 where
   no_command : Usage
   no_target : Usage
   no_line : Usage
+  nul : ℕ → Usage
 
 -- A line has a command and a target of its own.
 abbrev pub complete : List Asking → List Target → Result Asked Usage

@@ -1,11 +1,11 @@
 -- Why operands and lines are refused. Whether `regex` takes a pattern is told here alone: a command's pattern is its source.
-use Rattle.std.specs.Prelude.{◌≡◌, ◌⊎◌, List, [], ◌∷◌, ◌++◌, Ok, Err}
+use Rattle.std.specs.Prelude.{◌≡◌, ◌⊎◌, List, ◌∷◌, ◌++◌, None, Ok, Err}
 use Rattle.bz_items.specs.Characters.{Bytes}
 use Rattle.bz_words.specs.Commands.{command_of}
 use Rattle.bz_words.specs.Refused.{HasBadPattern}
 use Rattle.bz_words.specs.declared.fault.CommandFault.TheVariants.{BadPattern}
-use Rattle.bz_line.specs.Asked.{Asked, Refused, Usage, of_operand, no_command, no_target, no_line, asked_by, asked_of, operand_group}
-use Rattle.bz_line.specs.Script.{lines_in, operands_in, operand_groups}
+use Rattle.bz_line.specs.Asked.{Asked, Refused, Usage, of_operand, no_command, no_target, no_line, nul, asked_by, asked_of, operand_group}
+use Rattle.bz_line.specs.Script.{line_with_nul, lines_of, lines_in, operands_in, operand_groups, script_of}
 use Rattle.bz_line.specs.declared.verb.OperandFault.{OperandFault}
 use Rattle.bz_line.specs.declared.verb.OperandFault.TheVariants.{Command}
 
@@ -32,6 +32,7 @@ IsGroupFault operands (of_operand refused) = IsFirstRefused operands refused
 IsGroupFault operands no_command = operand_group operands ≡ Err no_command
 IsGroupFault operands no_target = operand_group operands ≡ Err no_target
 IsGroupFault operands no_line = ⊥
+IsGroupFault operands (nul line) = ⊥
 
 -- The first line that asks for nothing: those in front of it ask for something.
 pub record IsFirstFault (lines : List Bytes) (usage : Usage) : Type 0 where
@@ -43,6 +44,6 @@ pub record IsFirstFault (lines : List Bytes) (usage : Usage) : Type 0 where
   pub before : operand_groups front ≡ Ok groups
   pub fault : IsGroupFault (operands_in line) usage
 
--- why the lines of a file ask for nothing
+-- why the lines of a file ask for nothing; where none has a NUL byte, the first fault may be a pattern
 abbrev pub IsScriptFault : Bytes → Usage → Type 0
-IsScriptFault text usage = ((usage ≡ no_line) × (lines_in text ≡ [])) ⊎ IsFirstFault (lines_in text) usage
+IsScriptFault text usage = (script_of text ≡ Err usage) ⊎ ((line_with_nul (lines_of text) ≡ None) × IsFirstFault (lines_in text) usage)

@@ -44,6 +44,7 @@ usage_in (u.Operand refused) = Some (a.of_operand (refused_in refused))
 usage_in u.NoCommand = Some a.no_command
 usage_in u.NoTarget = Some a.no_target
 usage_in u.NoLine = Some a.no_line
+usage_in (u.Nul line) = Some (a.nul line)
 usage_in u.Memory = None
 
 -- the line that the pieces of a hint give, or nothing

@@ -6,10 +6,10 @@ use Rattle.bz_label.specs.declared.target.Which.TheVariants.{Name}
 use Rattle.bz_words.specs.declared.command.Operation.TheVariants as w
 use Rattle.bz_words.specs.declared.command.RuleOperation.TheVariants as wr
 use Rattle.bz_words.specs.declared.fault.CommandFault.TheVariants.{Unknown, Arguments}
-use Rattle.bz_line.specs.Asked.{Asked, Asking, Usage, of_operand, no_command, no_target, no_line, operand_group}
+use Rattle.bz_line.specs.Asked.{Asked, Asking, Usage, of_operand, no_command, no_target, no_line, nul, operand_group}
 use Rattle.bz_line.specs.Line.{CommandLine, Given, operands, script, of_clap, beside_script, beside_stdout, command_line_of}
 use Rattle.bz_line.specs.Operands.{operand_target, verb_of}
-use Rattle.bz_line.specs.Script.{script_of}
+use Rattle.bz_line.specs.Script.{byte_order_mark, script_of}
 use Rattle.bz_line.specs.Verbs.{prints}
 use Rattle.bz_line.specs.declared.line.Options.{Options}
 use Rattle.bz_line.specs.declared.verb.OperandFault.{OperandFault}
@@ -80,11 +80,21 @@ Groups = (operand_group (codes "//a:x" ∷ codes "undo 007" ∷ codes "a:y" ∷ 
 abbrev carriage_return : Bytes
 carriage_return = 13 ∷ []
 
--- comments, empty lines and a last line without its newline; a carriage return, which belongs to its line
+-- comments, empty lines and a last line without its newline; of two carriage returns before a newline the first one, which belongs to
+-- its line, as does one that no newline follows
 abbrev Lines : Type 0
 Lines = (script_of (codes "# all\n\ndelete|//a:x\n#\n//a:y|delete") ≡ Ok (deleted (codes "x") ∷ deleted (codes "y") ∷ []))
-    × (script_of (codes "delete|//a:x" ++ carriage_return ++ codes "\n") ≡ Ok (deleted (codes "x" ++ carriage_return) ∷ []))
+    × (script_of (codes "# all" ++ carriage_return ++ codes "\n" ++ carriage_return ++ codes "\ndelete|//a:x" ++ carriage_return ++ codes "\n//a:y|delete")
+    ≡ Ok (deleted (codes "x") ∷ deleted (codes "y") ∷ []))
+    × (script_of (codes "delete|//a:x" ++ carriage_return ++ carriage_return ++ codes "\n") ≡ Ok (deleted (codes "x" ++ carriage_return) ∷ []))
     × (script_of carriage_return ≡ Err (refused carriage_return (Command Unknown)))
+
+-- a byte order mark, at the beginning alone; the first line with a NUL byte, in front of a line that is refused and in a comment
+abbrev Bytewise : Type 0
+Bytewise = (script_of (byte_order_mark ++ codes "delete|//a:x\n") ≡ Ok (deleted (codes "x") ∷ []))
+    × (script_of (byte_order_mark ++ codes "\n") ≡ Err no_line)
+    × (script_of (byte_order_mark ++ byte_order_mark) ≡ Err (refused byte_order_mark (Command Unknown)))
+    × (script_of (codes "grow\n\n#" ++ (0 ∷ []) ++ codes "\n" ++ (0 ∷ [])) ≡ Err (nul 3))
 
 -- a line with no text to read; a mark that is not the line's first; an empty operand; blanks around a bar, which belong to the operands
 abbrev Faults : Type 0
@@ -110,4 +120,4 @@ Listed = (verb_of (codes " journal ") ≡ Ok Journal) × (verb_of (codes "journa
     × (prints Journal ≡ true) × (prints (Undo 1) ≡ false) × (prints (Redo 1) ≡ false)
 
 abbrev pub WorkedCommandLines : Type 0
-WorkedCommandLines = Words × Scripts × Journals × Groups × Lines × Faults × Operands × Listed
+WorkedCommandLines = Words × Scripts × Journals × Groups × Lines × Bytewise × Faults × Operands × Listed

@@ -21,6 +21,8 @@ pub enum UsageFault<'a> {
     NoTarget,
     /// The file has no line of operands.
     NoLine,
+    /// This line of the file, from 1, is the first one with a NUL byte.
+    Nul(usize),
     /// A growth was refused.
     Memory,
 }

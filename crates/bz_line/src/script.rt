@@ -1,11 +1,11 @@
 //! A file of lines.
-ghost use Rattle.std.specs.Prelude.{◌≡◌, ◌==◌, [], ◌∷◌, ◌++◌, Ok, IfOk, OnOk, IfErr, IfSome, map, filter};
-ghost use Rattle.std.specs.List.{All, slice_split};
+ghost use Rattle.std.specs.Prelude.{◌≡◌, ◌<◌, [], ◌∷◌, ◌++◌, length, position, Ok, IfOk, OnOk, IfErr, IfSome, map, filter};
+ghost use Rattle.std.specs.List.{All};
+ghost use Rattle.std.specs.Str.Lines.{lines};
 ghost use Rattle.bz_line.specs.Asked.{operand_group};
-ghost use Rattle.bz_items.specs.Characters.{line_feed};
 ghost use Rattle.bz_line.specs.Paths.{HasPath};
 ghost use Rattle.bz_line.specs.Refused.{IsFirstFault, IsGroupFault, IsScriptFault};
-ghost use Rattle.bz_line.specs.Script.{is_read, lines_in, operands_in, operand_groups, script_of};
+ghost use Rattle.bz_line.specs.Script.{has_nul, is_read, line_with_nul, operands_in, operand_groups, script_of, without_mark};
 ghost use Rattle.bz_line.specs.Shown.{asked_in, usage_in};
 
 use crate::asked::Asked;
@@ -35,17 +35,41 @@ fn lines_read<'a>(alloc: Global, all: &[&'a str]) -> Result<Vec<&'a str>, AllocE
     Ok(lines)
 }
 
-fn split_lines<'a>(alloc: Global, script: &'a str) -> Result<Vec<&'a str>, AllocError>
-    ensures { IfOk result (λ lines. map (λ s. s.now) lines.items ≡ slice_split (λ byte. byte == line_feed) script.entry.now) }
+// What stands behind a byte order mark.
+fn without_mark(script: &str) -> &str
+    ensures { result.now ≡ without_mark script.now }
 {
-    script.split('\n').collect(alloc)
+    script.strip_prefix("\u{feff}").unwrap_or(script)
 }
 
-fn lines_in<'a>(alloc: Global, script: &'a str) -> Result<Vec<&'a str>, AllocError>
-    ensures { IfOk result (λ lines. map (λ s. s.now) lines.items ≡ lines_in script.entry.now) }
+fn lines_of<'a>(alloc: Global, script: &'a str) -> Result<Vec<&'a str>, AllocError>
+    ensures { IfOk result (λ all. map (λ s. s.now) all.items ≡ lines script.entry.now) }
 {
-    let all = split_lines(alloc, script)?;
-    lines_read(alloc, &all)
+    script.lines().collect(alloc)
+}
+
+fn has_nul(line: &str) -> bool
+    ensures { result ≡ has_nul line.now }
+{
+    line.as_bytes().contains(&0)
+}
+
+// The place of the first line with a NUL byte, from 0.
+fn place_of_nul(all: &[&str]) -> Option<usize>
+    ensures place { result ≡ position (λ line. has_nul line.now) all.now }
+    ensures within { IfSome result (λ at. at < length all.now) }
+{
+    all.iter().position(|line| has_nul(line))
+}
+
+// The first line with a NUL byte, from 1.
+fn line_with_nul(all: &[&str]) -> Option<usize>
+    ensures { result ≡ line_with_nul (map (λ s. s.now) all.now) }
+{
+    match place_of_nul(all) {
+        Some(at) => Some(at + 1),
+        None => None,
+    }
 }
 
 fn operands_in<'a>(alloc: Global, line: &'a str) -> Result<Vec<&'a str>, AllocError>
@@ -83,16 +107,21 @@ fn read_groups<'a>(alloc: Global, lines: &[&'a str]) -> Result<Vec<Asked<'a>>, U
     Ok(groups)
 }
 
-/// What the lines of a file ask for, in order. Its lines end at newlines alone; those that are empty or begin with `#` are
-/// passed over; `|` separates the operands of a line. Packages are as `read_group` gives them. The error is the first
-/// line's that is refused, as `read_group` tells it; `NoLine` where there is no line of operands; `Memory` where a growth
-/// was refused.
+/// What the lines of a file ask for, in order. Its lines end at newlines alone, and one carriage return right before a
+/// newline goes with it; a byte order mark at the beginning is passed over. Lines that are empty or begin with `#` are
+/// passed over; `|` separates the operands of a line. Packages are as `read_group` gives them. Errors, in this order: `Nul`
+/// where some line has a NUL byte, `NoLine` where there is no line of operands, and the first line's that is refused, as
+/// `read_group` tells it; `Memory` where a growth was refused.
 pub fn read_script<'a>(alloc: Global, script: &'a str) -> Result<Vec<Asked<'a>>, UsageFault<'a>>
     ensures ok { IfOk result (λ groups. script_of script.entry.now ≡ Ok (map asked_in groups.items)) }
     ensures err { IfErr result (λ fault. IfSome (usage_in fault) (IsScriptFault script.entry.now)) }
     ensures paths { IfOk result (λ groups. All (λ asked. All HasPath asked.targets.items) groups.items) }
 {
-    let lines = lines_in(alloc, script)?;
+    let all = lines_of(alloc, without_mark(script))?;
+    if let Some(line) = line_with_nul(&all) {
+        return Err(UsageFault::Nul(line));
+    }
+    let lines = lines_read(alloc, &all)?;
     if lines.is_empty() {
         return Err(UsageFault::NoLine);
     }
