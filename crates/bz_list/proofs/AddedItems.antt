@@ -1,7 +1,7 @@
 -- What is added is what is not known yet.
-use Rattle.std.proofs.Common.{◌≡◌, Bool, true, false, not, ◌&&◌, ◌||◌, List, [], ◌∷◌, refl, ap, ◌∙◌, map, subst}
+use Rattle.std.proofs.Common.{◌≡◌, Bool, true, false, not, ◌&&◌, ◌||◌, List, [], ◌∷◌, ◌++◌, refl, ap, ◌∙◌, map, subst}
 use Rattle.std.specs.Prelude.{Option, Some, None, Result, Ok, Err, if◌then◌else◌, bytes_eq}
-use Rattle.std.specs.List.{list_any}
+use Rattle.std.specs.List.{list_any, flat_map}
 use Rattle.std.specs.Option.{option_map_or, option_and_then}
 use Rattle.std.proofs.Math.Path.{fun_ext}
 use Rattle.bz_label.specs.Tables.{is_label_attribute}
@@ -10,14 +10,16 @@ use Rattle.bz_value.specs.declared.value.Expr.{Expr}
 use Rattle.bz_items.specs.Characters.{Bytes}
 use Rattle.bz_words.specs.Quoted.{quoted_of}
 use Rattle.bz_rule.specs.Rules.{attribute}
-use Rattle.bz_rule.specs.Values.{with_text}
+use Rattle.bz_tree.specs.declared.kind.Kind.TheVariants as k
+use Rattle.bz_rule.specs.Values.{has_kind, parts_of, with_text}
+use Rattle.bz_attribute.proofs.ListsThere.{items_there}
 use Rattle.bz_attribute.proofs.KeySets.{or_group, or_none}
 use Rattle.bz_list.specs.declared.adding.Added.{Added}
 use Rattle.bz_list.specs.declared.adding.Added.TheVariants as a
 use Rattle.bz_attribute.specs.declared.refusal.Refusal.{Refusal}
 use Rattle.bz_attribute.specs.declared.refusal.Refusal.TheVariants.{NotAList}
 use Rattle.bz_attribute.specs.Attributes.{with_value, with_new, by_value}
-use Rattle.bz_attribute.specs.Lists.{body_of, are_one, is_item, fresh, travelled, is_there, arriving, has_lists, items_in, is_no_list, with_more}
+use Rattle.bz_attribute.specs.Lists.{body_of, are_one, is_item, fresh, travelled, is_there, arriving, has_lists, items_in, is_no_list, listed, with_more}
 use Rattle.bz_attribute.specs.Made.{string_of, list_of, plus}
 use Rattle.bz_list.specs.Changes.{with_items_added}
 use Rattle.bz_list.specs.KnownValues.{Membership, none_known, with_word, is_known_item, with_item, with_known_items, new_words, new_items}
@@ -111,6 +113,32 @@ added_there current name (a.Words words) there =
     (ap (λ known. new_words known words.now) (all_known current name there) ∙ words_new current name there (λ word. list_any (is_item current name word) there) [] words.now refl)
 added_there current name (a.Moved items) there =
     ap (λ known. new_items current name known items) (all_known current name there) ∙ items_new current name (λ word. list_any (is_item current name word) there) there items refl
+
+-- ---- one word alone
+
+-- whether a test holds of an item of lists, one after the other
+any_more : (test : Expr → Bool) (xs ys : List Expr) → list_any test (xs ++ ys) ≡ (list_any test xs || list_any test ys)
+any_more test [] ys = refl
+any_more test (x ∷ xs) ys = ap (λ z. test x || z) (any_more test xs ys) ∙ or_assoc (test x) (list_any test xs) (list_any test ys)
+
+any_listed : (test : Expr → Bool) (xs : List Expr) → list_any test (flat_map listed xs) ≡ list_any (λ x. list_any test (listed x)) xs
+any_listed test [] = refl
+any_listed test (x ∷ xs) = any_more test (listed x) (flat_map listed xs) ∙ ap (λ z. list_any test (listed x) || z) (any_listed test xs)
+
+any_by : (test : Expr → Bool) (b : Bool) (xs ys : List Expr)
+    → list_any test (if b then flat_map listed xs else ys) ≡ (if b then list_any (λ x. list_any test (listed x)) xs else list_any test ys)
+any_by test true xs ys = any_listed test xs
+any_by test false xs ys = refl
+
+-- and of an item of a value
+pub in_value : (test : Expr → Bool) (value : Expr)
+    → list_any test (items_in value) ≡ (if has_kind k.Sum value then list_any (λ x. list_any test (listed x)) (parts_of value) else list_any test (listed value))
+in_value test value = ap (list_any test) (items_there value) ∙ any_by test (has_kind k.Sum value) (parts_of value) (listed value)
+
+-- it is added where it is no item that is there
+pub one_fresh : (current attribute : Bytes) (there : List Expr) (word : Bytes)
+    → fresh current attribute there [] (word ∷ []) ≡ (if list_any (is_item current attribute word) there then [] else word ∷ [])
+one_fresh current attribute there word = refl
 
 -- ---- what is refused
 

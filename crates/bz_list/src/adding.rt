@@ -1,13 +1,13 @@
 //! Items that are added to the lists of an attribute: words, or items that come from another attribute. An expression that is not
 //! needed is handed to `drop`: let go of by the end of its scope, each form of it would be a path of that function's proof.
 ghost use Rattle.std.specs.Prelude.{◌≡◌, ◌⊎◌, ◌++◌, ◌∷◌, [], List, ℕ, Ok, Err, IfOk, OnOk, IfErr, map};
-ghost use Rattle.std.specs.List.{position};
+ghost use Rattle.std.specs.List.{list_any, position};
 ghost use Rattle.bz_tree.specs.declared.kind.Kind.TheVariants as kinds;
 ghost use Rattle.bz_value.specs.declared.value.Expr.{Expr as Value};
 ghost use Rattle.bz_items.specs.Characters.{Bytes};
 ghost use Rattle.bz_rule.specs.Values.{has_kind as is_of, on_items};
 ghost use Rattle.bz_attribute.specs.Attributes.{on_first_that};
-ghost use Rattle.bz_attribute.specs.Lists.{items_in, travelled as as_travelled, with_more};
+ghost use Rattle.bz_attribute.specs.Lists.{fresh, is_item as is_item_of, items_in, listed, travelled as as_travelled, with_more};
 ghost use Rattle.bz_attribute.specs.Made.{list_of as list_made, plus as sum_made, string_of as string_made};
 ghost use Rattle.bz_list.specs.Changes.{with_items_added};
 ghost use Rattle.bz_list.specs.KnownValues.{Membership, asked, new_words, new_items as items_new};
@@ -15,8 +15,8 @@ ghost use Rattle.bz_list.specs.Adding.{added_by, added_to, shorter, with_added};
 
 use crate::known::Known;
 use bz_attribute::{
-    Refusal, add_attribute, body_of, has_kind, has_lists, is_no_list, list_of, plus, set_text,
-    set_value, string_of, take_value,
+    Refusal, add_attribute, body_of, has_kind, has_lists, is_item, is_no_list, items_of, list_of,
+    parts_of, plus, set_text, set_value, string_of, take_value,
 };
 use bz_items::{Items, Memory, Text};
 use bz_label::bytes::{is_label_attribute, shortened};
@@ -183,8 +183,54 @@ fn added_items(
     }
 }
 
-/// The items that are added to those of a value.
-fn added_beside(
+/// Whether a word means an item of a list.
+fn is_in_list(current: &[u8], name: &[u8], word: &[u8], x: &Expr) -> bool
+    ensures { result ≡ list_any (is_item_of current.now name.now word.now) (listed x.now) }
+{
+    has_kind(Kind::List, x)
+        && items_of(x)
+            .iter()
+            .any(|item| is_item(current, name, word, item))
+}
+
+/// Whether a word means an item of the lists among these operands.
+fn is_in_lists(current: &[u8], name: &[u8], word: &[u8], operands: &[Expr]) -> bool
+    ensures { result ≡ list_any (λ x. list_any (is_item_of current.now name.now word.now) (listed x)) operands.now }
+{
+    operands.iter().any(|x| is_in_list(current, name, word, x))
+}
+
+/// Whether a word means an item of the lists of a value.
+#[tactic(auto, using(crate::proofs::AddedItems::in_value))]
+fn is_in_value(current: &[u8], name: &[u8], word: &[u8], value: &Expr) -> bool
+    ensures { result ≡ list_any (is_item_of current.now name.now word.now) (items_in value.now) }
+{
+    if has_kind(Kind::Sum, value) {
+        return is_in_lists(current, name, word, parts_of(value));
+    }
+    is_in_list(current, name, word, value)
+}
+
+/// The string of a word that is added alone to the items of a value: no set of these is made.
+#[tactic(auto, using(crate::proofs::AddedItems::one_fresh))]
+fn one_beside(
+    alloc: Global,
+    current: &[u8],
+    name: &[u8],
+    word: &[u8],
+    value: &Expr,
+) -> Result<Vec<Expr>, Memory>
+    ensures { IfOk result (λ items. items.items ≡ map (string_made current.now name.now) (fresh current.now name.now (items_in value.now) [] (word.now ∷ []))) }
+{
+    let mut items = Vec::new(alloc);
+    if !is_in_value(current, name, word, value) {
+        items.push(string_of(alloc, current, name, word)?)?;
+    }
+    Ok(items)
+}
+
+/// The items that are added to those of a value, of which a set is made.
+fn more_beside(
     alloc: Global,
     current: &[u8],
     name: &[u8],
@@ -197,6 +243,22 @@ fn added_beside(
     known.insert_value(value)?;
     let items = added_items(alloc, current, name, added, known)?;
     Ok(items)
+}
+
+/// The items that are added to those of a value.
+fn added_beside(
+    alloc: Global,
+    current: &[u8],
+    name: &[u8],
+    added: Added<'_>,
+    value: &Expr,
+) -> Result<Vec<Expr>, Memory>
+    ensures { IfOk result (λ items. items.items ≡ added_by current.now name.now added.entry (items_in value.now)) }
+{
+    if let Added::Words([word]) = &added {
+        return one_beside(alloc, current, name, word.as_slice(), value);
+    }
+    more_beside(alloc, current, name, added, value)
 }
 
 /// A list of the items that are added where there are none.
