@@ -43,20 +43,6 @@ use bz_words::Command;
 use bz_write::layout_is_accepted;
 use std::alloc::Global;
 
-/// The fewest items of a value that is kept. One of fewer is made anew in a few milliseconds, and a run over thousands of files,
-/// which are mostly short, holds the values of none of them.
-pub(crate) const FEWEST: usize = 500;
-
-/// A value, where it is worth keeping.
-pub(crate) fn kept(file: File) -> Option<File>
-    ensures { (tree : Node) → file ≡ view_of tree → IfSome result (λ items. items ≡ view_of tree) }
-{
-    if file.items.len() < FEWEST {
-        return None;
-    }
-    Some(file)
-}
-
 /// The value of a tree: the one that is kept, or one that is made. The error: memory was refused.
 pub(crate) fn value_of(alloc: Global, kept: Option<File>, tree: &Tree) -> Result<File, Memory>
     requires { IfSome kept (λ items. items ≡ view_of tree.now) }
@@ -338,7 +324,7 @@ fn take_up_value(
         Ok(reply) => {
             reads_back(session.present());
             *long = most;
-            *value = kept(file);
+            *value = Some(file);
             Ok(reply)
         }
         Err(refusal) => {
@@ -425,7 +411,7 @@ pub(crate) fn edit_beside(
             } = ran;
             let printed = told(command, printed);
             if same {
-                *value = kept(file);
+                *value = Some(file);
                 return Ok(unchanged(printed));
             }
             let changes = Changes {
