@@ -4,8 +4,9 @@ ghost use Rattle.std.specs.Option.{unwrap_or};
 ghost use Rattle.bz_tree.specs.Spell.{spell_node};
 ghost use Rattle.bz_journal.specs.Meaning.{gives, refuses, told, Means};
 
+use crate::laws::overfull_is_refused;
 use bz_attribute::Refusal;
-use bz_command::{Outcome, run_on};
+use bz_command::{Outcome, overfills, run_on};
 use bz_formatter::{reads_back, written};
 use bz_items::Text;
 use bz_label::Target;
@@ -48,6 +49,10 @@ pub(crate) fn meaning(
     reads_back(tree);
     let value = view(alloc, tree)?;
     let lines = tree.lines(alloc)?;
+    overfull_is_refused();
+    if overfills(alloc, command, target, current, lines.as_slice(), &value)? {
+        return Err(Refusal::TooLarge);
+    }
     let Outcome { file, printed } = run_on(
         alloc,
         command,
