@@ -1,5 +1,5 @@
 -- Commands that take nothing away lose no comment.
-use Rattle.std.proofs.Common.{◌≡◌, ◌≤◌, ℕ, Bool, true, false, not, List, [], ◌∷◌, Option, Some, None, Result, Ok, Err, refl, sym, ap, ◌∙◌, subst, map, true≢false}
+use Rattle.std.proofs.Common.{◌≡◌, ◌≤◌, ℕ, Bool, true, false, not, List, [], ◌∷◌, Option, Some, None, Result, Ok, Err, refl, sym, ap, ◌∙◌, subst, map, true≢false, arith}
 use Rattle.std.specs.Prelude.{if◌then◌else◌, is_some, IfOk, option_map, bytes_eq}
 use Rattle.std.specs.List.{list_any}
 use Rattle.std.specs.Option.{option_and_then, option_map_or}
@@ -11,6 +11,7 @@ use Rattle.bz_value.specs.declared.value.Expr.{Expr, Token, Form', items-the_row
 use Rattle.bz_value.specs.declared.value.Item.{Item}
 use Rattle.bz_value.specs.declared.value.Item.TheVariants as i
 use Rattle.bz_value.specs.Counted.{total, amount, item_amount, one_if}
+use Rattle.bz_value.proofs.Totals.{form_amount}
 use Rattle.bz_items.specs.Characters.{Bytes}
 use Rattle.bz_pattern.specs.Patterns.{substituted}
 use Rattle.bz_words.specs.declared.command.Operation.{Operation}
@@ -183,6 +184,33 @@ module _ (number : Bytes → ℕ) where
       (λ is. parts_grow number (on_first (with_items new) (parts_of x)) x
       (in_row (parts_of x) rule new (sym (ap rule_in (only_told x ∙ if_true (has_kind k.Bare x) (only (parts_of x)) None is)) ∙ e) h))
       (λ n. itself (whole x))
+
+  -- the arguments that are put in stand in the item then
+  parts_hold : (ys : List Expr) (x : Expr) → has_kind k.Bare x ≡ true → total whole ys ≤ whole (with_parts ys x)
+  parts_hold ys (Token t) h = absurd (true≢false (sym h))
+  parts_hold ys (Form' own s parts s' items end_ split open_ comments) h =
+      let all = form_amount number (made own ys (items-the_row-Expr _ items) end_ split open_ comments) in
+      omega arith
+
+  call_holds : (y : Expr) (rule : RuleRead) (new : List Expr) → rule_in (Some y) ≡ Some rule → total whole new ≤ whole (with_items new y)
+  call_holds (Token t) rule new e = cc
+  call_holds (Form' own s parts s' items end_ split open_ comments) rule new e =
+      let all = form_amount number (made own (items-the_row-Expr _ parts) new end_ split open_ comments) in
+      omega arith
+
+  row_holds : (ps : List Expr) (rule : RuleRead) (new : List Expr) → rule_in (only ps) ≡ Some rule → total whole new ≤ total whole (on_first (with_items new) ps)
+  row_holds [] rule new e = cc
+  row_holds (y ∷ []) rule new e = let call : total whole new ≤ whole (with_items new y) = call_holds y rule new e in omega arith
+  row_holds (y ∷ z ∷ ps) rule new e = absurd (true≢false (sym (ap (λ (found : Option RuleRead). is_some found) e)))
+
+  pub rule_holds : (item : Item) (rule : RuleRead) (new : List Expr) → rule_of item ≡ Some rule → total whole new ≤ size (with_arguments new item)
+  rule_holds (i.Block lines) rule new e = cc
+  rule_holds (i.Stmt x) rule new e =
+      by_case (λ (y : Expr). total whole new ≤ whole y) (has_kind k.Bare x) (with_parts (on_first (with_items new) (parts_of x)) x) x
+      (λ is. in_turn (total whole new) (total whole (on_first (with_items new) (parts_of x))) (whole (with_parts (on_first (with_items new) (parts_of x)) x))
+      (row_holds (parts_of x) rule new (sym (ap rule_in (only_told x ∙ if_true (has_kind k.Bare x) (only (parts_of x)) None is)) ∙ e))
+      (parts_hold (on_first (with_items new) (parts_of x)) x is))
+      (λ n. let none : rule_in None ≡ Some rule = sym (ap rule_in (only_told x ∙ if_false (has_kind k.Bare x) (only (parts_of x)) None n)) ∙ e in absurd (true≢false (sym (ap (λ (found : Option RuleRead). is_some found) none))))
 
   abbrev MadeItem : Item → NewItem → Type 0
   MadeItem item result = IfOk result (λ new. size item ≤ size new)

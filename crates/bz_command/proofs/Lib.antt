@@ -1,6 +1,7 @@
 pub mod CommandRows
 pub mod LawComments
 pub mod LinesMatter
+pub mod Overfull
 pub mod ProperEffects
 pub mod RenewedItems
 pub mod RunningItems

@@ -4,6 +4,7 @@ pub mod Effect
 pub mod Laws
 pub mod LinesMatter
 pub mod Looks
+pub mod Overfull
 pub mod Printing
 pub mod Renewed
 pub mod SmallValues

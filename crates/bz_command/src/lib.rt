@@ -2,6 +2,7 @@
 #![tactic(auto)]
 
 mod deleting;
+mod filling;
 mod laws;
 mod lines;
 mod outcome;
@@ -13,6 +14,7 @@ mod running;
 mod statements;
 mod targets;
 
+pub use filling::overfills;
 pub use laws::{commands_are_listed, comments_stay, worked_commands, worked_effects};
 pub use lines::{lines_matter, looks_at_lines};
 pub use outcome::{Outcome, Ran, Spliced};

@@ -29,7 +29,7 @@ fn line_at<'a>(lines: &'a [u32], item: &Item) -> (Option<u32>, &'a [u32])
 }
 
 /// The arguments of a rule; of any other item none.
-fn arguments_of(item: &Item) -> &[Expr]
+pub(crate) fn arguments_of(item: &Item) -> &[Expr]
     ensures { result.now ≡ option_map_or (λ rule. rule.arguments) (rule_of item.now) [] }
 {
     if !is_rule(item) {

@@ -41,7 +41,7 @@ fn looks_at_rules(operation: &Operation) -> bool
 }
 
 /// Whether an item is marked.
-fn is_any(marks: &[bool]) -> bool
+pub(crate) fn is_any(marks: &[bool]) -> bool
     ensures { result ≡ list_any (λ mark. mark) marks.now }
 {
     marks.iter().any(|mark| *mark)

@@ -35,11 +35,11 @@ use Rattle.bz_comment.proofs.OwnForms.{none_again, same_item, same_value}
 abbrev lists_by : (Expr → Bool) → Expr → Bool
 lists_by test v = test v || (has_kind k.Sum v && list_any test (parts_of v))
 
-any_if : (test : Expr → Bool) (b : Bool) (xs : List Expr) → list_any test (if b then xs else []) ≡ (b && list_any test xs)
+pub any_if : (test : Expr → Bool) (b : Bool) (xs : List Expr) → list_any test (if b then xs else []) ≡ (b && list_any test xs)
 any_if test true xs = refl
 any_if test false xs = refl
 
-any_listed : (test : Expr → Bool) (xs : List Expr) → list_any test (flat_map listed xs) ≡ list_any (has_item test) xs
+pub any_listed : (test : Expr → Bool) (xs : List Expr) → list_any test (flat_map listed xs) ≡ list_any (has_item test) xs
 any_listed test [] = refl
 any_listed test (x ∷ xs) =
     list_any-append test (listed x) (flat_map listed xs)

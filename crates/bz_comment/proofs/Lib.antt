@@ -1,4 +1,5 @@
 pub mod ChangeForms
+pub mod Coming
 pub mod FirstChanged
 pub mod HostForms
 pub mod LawBack

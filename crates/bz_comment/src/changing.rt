@@ -39,7 +39,7 @@ fn trim_end(text: &[u8]) -> &[u8]
 }
 
 /// The comment that a text becomes. The error: memory was refused.
-fn comment_made(alloc: Global, text: &[u8]) -> Result<Text, Memory>
+pub fn comment_made(alloc: Global, text: &[u8]) -> Result<Text, Memory>
     ensures { IfOk result (λ comment. comment ≡ comment_made text.now) }
 {
     let mut line = Vec::new(alloc);

@@ -1,11 +1,12 @@
 //! The comments of hosts among the arguments of a rule, changed.
-ghost use Rattle.std.specs.Prelude.{◌≡◌, ◌⊎◌, Ok, Err, OnOk, IfErr, IfOk};
+ghost use Rattle.std.specs.Prelude.{◌≡◌, ◌⊎◌, Ok, Err, OnOk, IsOk, IfErr, IfOk};
+ghost use Rattle.bz_items.specs.Characters.{Bytes};
 ghost use Rattle.bz_tree.specs.declared.kind.Kind.TheVariants as kinds;
 ghost use Rattle.bz_rule.specs.Rules.{attribute as value_there};
 ghost use Rattle.bz_rule.specs.Values.{on_items};
 ghost use Rattle.bz_attribute.specs.Attributes.{is_attribute, on_first_that};
 ghost use Rattle.bz_comment.specs.Changes.{changed_by, changed_comments, changed_attribute, changed_item, is_sought, item_refused};
-ghost use Rattle.bz_comment.specs.Hosts.{has_item, on_first_item};
+ghost use Rattle.bz_comment.specs.Hosts.{comment, has_item, on_first_item};
 
 use crate::changing::{Change, change_own};
 use crate::seeking::{Sought, first_sought, place_of_item, place_of_list};
@@ -198,4 +199,31 @@ pub fn change_comments(
 {
     change_in_place(alloc, current, host, change, &mut arguments)?;
     Ok(arguments)
+}
+
+/// Whether a comment can be put on a host among the arguments of a rule. The errors: those of putting one there, but for memory.
+pub fn find_host(current: &[u8], host: &Host, arguments: &[Expr]) -> Result<(), Refusal>
+    ensures ok { IsOk result → (text : Bytes) → IsOk (comment current.now host.now text arguments.now) }
+    ensures err { IfErr result (λ refusal. (text : Bytes) → comment current.now host.now text arguments.now ≡ Err refusal) }
+{
+    match host {
+        Host::Rule => Ok(()),
+        Host::Attribute(name) => {
+            if !has_attribute(name.as_slice(), arguments) {
+                return Err(Refusal::NoAttribute);
+            }
+            Ok(())
+        }
+        Host::Item { attribute, value } => {
+            let sought = Sought {
+                current,
+                attribute: attribute.as_slice(),
+                value: value.as_slice(),
+            };
+            match refusal_of(sought, arguments) {
+                Some(refusal) => Err(refusal),
+                None => Ok(()),
+            }
+        }
+    }
 }

@@ -8,8 +8,8 @@ mod laws;
 mod printing;
 mod seeking;
 
-pub use changing::{Change, change_own};
-pub use hosts::change_comments;
+pub use changing::{Change, change_own, comment_made};
+pub use hosts::{change_comments, find_host};
 pub use laws::{
     comment_loses_none, comment_taken_away, own_comment_loses_none, own_comment_taken_away,
     worked_comments,

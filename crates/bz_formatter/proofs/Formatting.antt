@@ -1,5 +1,5 @@
 -- A formatted text is formatted to itself, and its value is that of the text it was made of, tidied.
-use Rattle.std.proofs.Common.{◌≡◌, ◌<◌, ◌+◌, ◌∙◌, List, ◌∷◌, ◌++◌, length, sym, ap, subst, Option, None, nat_lt, if◌then◌else◌}
+use Rattle.std.proofs.Common.{◌≡◌, ◌∙◌, List, length, sym, ap, subst, Option, None, nat_lt, if◌then◌else◌}
 use Rattle.bz_tree.specs.declared.tree.Node.{Node}
 use Rattle.bz_tree.specs.Legal.{Reads}
 use Rattle.bz_tree.specs.Spell.{depth_of, depth_limit, limit}

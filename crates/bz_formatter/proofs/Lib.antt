@@ -1,3 +1,5 @@
 pub mod Writes
 pub mod Formatting
 pub mod Untold
+pub mod Copies
+pub mod Filled

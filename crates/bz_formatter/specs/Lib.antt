@@ -1,3 +1,4 @@
 pub mod Meaning
 pub mod Faults
 pub mod Fixed
+pub mod Filled

@@ -1,4 +1,5 @@
 //! Facts about the definitions, for readers: the functions do nothing.
+ghost use Rattle.bz_formatter.specs.Filled.{CommentsFill, CommentsFit};
 ghost use Rattle.bz_formatter.specs.Fixed.{FixedPoint};
 
 use bz_tidy::{comments_stay, proper_stays, tidy_settles, tidy_stays};
@@ -19,5 +20,16 @@ pub fn formatted_once()
     proper_stays();
     tidy_settles();
     tidy_stays();
+    comments_stay();
+}
+
+/// Where a comment stands so often in a proper value that its copies alone are past the limit of a text, so is what is written of
+/// the value; in the value of a text none does.
+pub fn comments_fill()
+    ensures fill { CommentsFill }
+    ensures fit { CommentsFit }
+{
+    comments_kept();
+    proper_stays();
     comments_stay();
 }

@@ -1,0 +1,185 @@
+-- A comment that is put on each of so many rules that its copies are past the limit.
+use Rattle.std.proofs.Common.{◌≡◌, ◌⊎◌, ◌≤◌, ◌<◌, ◌+◌, ◌*◌, ◌/◌, ◌∙◌, ℕ, Bool, true, false, List, [], ◌∷◌, inl, inr, Option, Some, None, Result, Ok, Err, length, refl, sym, ap, subst, arith, true≢false}
+use Rattle.std.specs.Prelude.{is_some, IfOk, IfErr, IsOk, IsTrue, if◌then◌else◌}
+use Rattle.std.specs.List.{list_any}
+use Rattle.std.specs.Option.{option_map_or}
+use Rattle.std.proofs.lemmas.Bool.{cases_Bool}
+use Rattle.std.proofs.Math.Nat.{mul-le-mul_right}
+use Rattle.bz_tree.specs.Spell.{limit}
+use Rattle.bz_label.specs.declared.target.Target.{Target}
+use Rattle.bz_value.specs.declared.value.Expr.{Expr}
+use Rattle.bz_value.specs.declared.value.Item.{Item}
+use Rattle.bz_value.specs.declared.value.Item.TheVariants as i
+use Rattle.bz_value.specs.Counted.{total, item_amount, one_if, times}
+use Rattle.bz_value.specs.Proper.{IsProper}
+use Rattle.bz_items.specs.Characters.{Bytes}
+use Rattle.bz_words.specs.declared.command.Operation.{Operation}
+use Rattle.bz_words.specs.declared.command.Operation.TheVariants as w
+use Rattle.bz_words.specs.declared.command.CommentOperation.TheVariants as wc
+use Rattle.bz_words.specs.declared.command.Host.{Host}
+use Rattle.bz_words.specs.declared.command.Host.TheVariants.{Rule, Attribute, Item as ItemHost}
+use Rattle.bz_words.specs.Proper.{IsProperCommand}
+use Rattle.bz_rule.specs.Rules.{Rule as RuleRead, rule_of}
+use Rattle.bz_attribute.specs.declared.refusal.Refusal.{Refusal}
+use Rattle.bz_attribute.specs.declared.refusal.Refusal.TheVariants.{Memory}
+use Rattle.bz_attribute.specs.Attributes.{Arguments}
+use Rattle.bz_comment.specs.Hosts.{comment_made, with_comment, comment}
+use Rattle.bz_comment.proofs.Coming.{copies, own_comes, Comes, IsAmong, comment_comes}
+use Rattle.bz_command.specs.Effect.{NewItem, effect, with_arguments, made_of, on_rule, with_item_first, on_statement}
+use Rattle.bz_command.specs.Laws.{EffectsStayProper}
+use Rattle.bz_command.specs.Overfull.{IsOverfilling, IsRefusing, Overfills, all_commented, commented, marked_rules}
+use Rattle.bz_command.specs.Targets.{is_rule, meant}
+use Rattle.bz_command.proofs.LawComments.{rule_holds}
+
+-- ---- one rule
+
+module _ (text : Bytes) where
+  abbrev size : Item → ℕ
+  size = item_amount (one_if (comment_made text))
+
+  -- what is made of an item has the comment so often, where nothing is refused
+  abbrev Has : ℕ → NewItem → Type 0
+  Has count result = IfOk result (λ item. count ≤ size item)
+
+  statement_has : (item : Item) → Has (if is_rule item then 1 else 0) (Ok (on_statement (with_comment text) item))
+  statement_has (i.Block lines) = omega arith
+  statement_has (i.Stmt x) = let comes = own_comes text x in elim (cases_Bool (is_rule (i.Stmt x))) [ inl is ↦ rw is comes | inr other ↦ rw other (omega arith) ]
+
+  made_has : (item : Item) (rule : RuleRead) (result : Arguments) → rule_of item ≡ Some rule → Comes text result → Has 1 (made_of item result)
+  made_has item rule (Err refusal) e h = tt
+  made_has item rule (Ok new) e h = let holds : total (copies text) new ≤ size (with_arguments new item) = rule_holds (one_if (comment_made text)) item rule new e in omega arith
+
+  rule_has : (change : List Expr → Arguments) → ((xs : List Expr) → Comes text (change xs)) → (item : Item) (found : Option RuleRead) → rule_of item ≡ found → Has (if is_some found then 1 else 0) (on_rule change found item)
+  rule_has change comes item None e = omega arith
+  rule_has change comes item (Some rule) e = made_has item rule (change rule.arguments) e (comes rule.arguments)
+
+  item_has : (current : Bytes) (host : Host) (item : Item) → Has (if is_rule item then 1 else 0) (commented current host text item)
+  item_has current Rule item = statement_has item
+  item_has current (Attribute name) item = rule_has (comment current (Attribute name) text) (λ xs. comment_comes text current (Attribute name) xs tt) item (rule_of item) refl
+  item_has current (ItemHost name word) item = rule_has (comment current (ItemHost name word) text) (λ xs. comment_comes text current (ItemHost name word) xs tt) item (rule_of item) refl
+
+  -- ---- the rules that are marked
+
+  abbrev AllHave : ℕ → Result (List Item) Refusal → Type 0
+  AllHave count result = IfOk result (λ items. count ≤ times (comment_made text) items)
+
+  first_has : (count rest : ℕ) (item : NewItem) (items : Result (List Item) Refusal) → Has count item → AllHave rest items → AllHave (count + rest) (with_item_first item items)
+  first_has count rest (Err refusal) items h g = tt
+  first_has count rest (Ok item) (Err refusal) h g = tt
+  first_has count rest (Ok item) (Ok items) h g = omega arith
+
+  rules_have : (current : Bytes) (host : Host) (marks : List Bool) (items : List Item) → AllHave (marked_rules marks items) (all_commented current host text marks items)
+  rules_have current host [] items = omega arith
+  rules_have current host (true ∷ marks) [] = omega arith
+  rules_have current host (false ∷ marks) [] = omega arith
+  rules_have current host (true ∷ marks) (item ∷ items) =
+      first_has (if is_rule item then 1 else 0) (marked_rules marks items) (commented current host text item) (all_commented current host text marks items) (item_has current host item) (rules_have current host marks items)
+  rules_have current host (false ∷ marks) (item ∷ items) = first_has 0 (marked_rules marks items) (Ok item) (all_commented current host text marks items) (omega arith) (rules_have current host marks items)
+
+past : (all count long : ℕ) → count ≤ all → limit < count * long → limit < all * long
+past all count long h l = let more : count * long ≤ all * long = mul-le-mul_right long h in omega arith
+
+over : (text : Bytes) (count : ℕ) (items : Result (List Item) Refusal) → IsOk items → ((new : List Item) → items ≡ Ok new → IsProper new)
+    → AllHave text count items → limit < count * length (comment_made text) → Overfills items
+over text count (Ok items) made proper h l = (proper items refl, (comment_made text, past (times (comment_made text) items) count (length (comment_made text)) h l))
+over text count (Err refusal) made proper h l = absurd (true≢false (sym made))
+
+-- what a comment makes of a file is what it makes of the rules that its target means, where there are some
+made_of_meant : (text current : Bytes) (host : Host) (target : Target) (lines : List ℕ) (items : List Item) → list_any (λ mark. mark) (meant target.which lines items) ≡ true
+    → effect (w.Comment (wc.Add host text)) target current lines items ≡ all_commented current host text (meant target.which lines items) items
+made_of_meant text current host target lines items some = rw some refl
+
+pub comment_overfills : EffectsStayProper → (text current : Bytes) (host : Host) (target : Target) (lines : List ℕ) (items : List Item)
+    → IsProperCommand (w.Comment (wc.Add host text)) → IsProper items → IsOverfilling host text target current lines items
+    → Overfills (effect (w.Comment (wc.Add host text)) target current lines items)
+comment_overfills stays text current host target lines items command proper over_ =
+    let operation : Operation = w.Comment (wc.Add host text) in
+    let marks : List Bool = meant target.which lines items in
+    let made : effect operation target current lines items ≡ all_commented current host text marks items = made_of_meant text current host target lines items over_.0 in
+    subst Overfills (sym made)
+    (over text (marked_rules marks items) (all_commented current host text marks items) over_.2
+    (λ new is. stays operation target current lines items new command proper (made ∙ is)) (rules_have text current host marks items) over_.1)
+
+pub comment_refused : (text current : Bytes) (host : Host) (target : Target) (lines : List ℕ) (items : List Item) (refusal : Refusal)
+    → IsRefusing host text target current lines items refusal → effect (w.Comment (wc.Add host text)) target current lines items ≡ Err refusal
+comment_refused text current host target lines items refusal refused = made_of_meant text current host target lines items refused.0 ∙ refused.1
+
+-- ---- the rules one after the other
+
+-- what is known of the items that are left is known of all
+abbrev pub Follows : Result (List Item) Refusal → Result (List Item) Refusal → Type 0
+Follows left all = (IsOk left → IsOk all) × ((refusal : Refusal) → left ≡ Err refusal → all ≡ Err refusal)
+
+pub follow_more : (item : NewItem) (rest all : Result (List Item) Refusal) → IsOk item → Follows (with_item_first item rest) all → Follows rest all
+follow_more (Ok item) (Ok items) all h f = (λ made. f.0 refl, λ refusal is. cc)
+follow_more (Ok item) (Err other) all h f = (λ made. absurd (true≢false (sym made)), λ refusal is. f.1 refusal is)
+follow_more (Err refusal) rest all h f = absurd (true≢false (sym h))
+
+pub follow_refused : (item : NewItem) (rest all : Result (List Item) Refusal) (refusal : Refusal) → item ≡ Err refusal → Follows (with_item_first item rest) all → all ≡ Err refusal
+follow_refused (Ok item) rest all refusal h f = cc
+follow_refused (Err other) rest all refusal h f = f.1 refusal (let same : other ≡ refusal = cc in ap Err same)
+
+-- ---- a host in an item
+
+ok_in_rule : (change : List Expr → Arguments) (item : Item) (rule : Option RuleRead) → is_some rule ≡ true → IsOk (change (option_map_or (λ (r : RuleRead). r.arguments) rule [])) → IsOk (on_rule change rule item)
+ok_in_rule change item None some h = refl
+ok_in_rule change item (Some rule) some h = ok_made item (change rule.arguments) h
+  where
+    ok_made : (item : Item) (result : Arguments) → IsOk result → IsOk (made_of item result)
+    ok_made item (Ok new) h = refl
+    ok_made item (Err refusal) h = absurd (true≢false (sym h))
+
+refused_in_rule : (change : List Expr → Arguments) (item : Item) (rule : Option RuleRead) (refusal : Refusal) → is_some rule ≡ true → change (option_map_or (λ (r : RuleRead). r.arguments) rule []) ≡ Err refusal → on_rule change rule item ≡ Err refusal
+refused_in_rule change item None refusal some h = absurd (true≢false (sym some))
+refused_in_rule change item (Some rule) refusal some h = ap (made_of item) h
+
+ok_elsewhere : (change : List Expr → Arguments) (item : Item) (rule : Option RuleRead) → is_some rule ≡ false → IsOk (on_rule change rule item)
+ok_elsewhere change item None none = refl
+ok_elsewhere change item (Some rule) none = absurd (true≢false none)
+
+pub found_in : (current : Bytes) (host : Host) (text : Bytes) (item : Item) → IsAmong text host → is_rule item ≡ true
+    → IsOk (comment current host text (option_map_or (λ (r : RuleRead). r.arguments) (rule_of item) [])) → IsOk (commented current host text item)
+found_in current Rule text item among is h = absurd among
+found_in current (Attribute name) text item among is h = ok_in_rule (comment current (Attribute name) text) item (rule_of item) is h
+found_in current (ItemHost name word) text item among is h = ok_in_rule (comment current (ItemHost name word) text) item (rule_of item) is h
+
+pub refused_in : (current : Bytes) (host : Host) (text : Bytes) (item : Item) (refusal : Refusal) → IsAmong text host → is_rule item ≡ true
+    → comment current host text (option_map_or (λ (r : RuleRead). r.arguments) (rule_of item) []) ≡ Err refusal → commented current host text item ≡ Err refusal
+refused_in current Rule text item refusal among is h = absurd among
+refused_in current (Attribute name) text item refusal among is h = refused_in_rule (comment current (Attribute name) text) item (rule_of item) refusal is h
+refused_in current (ItemHost name word) text item refusal among is h = refused_in_rule (comment current (ItemHost name word) text) item (rule_of item) refusal is h
+
+pub found_elsewhere : (current : Bytes) (host : Host) (text : Bytes) (item : Item) → is_rule item ≡ false → IsOk (commented current host text item)
+found_elsewhere current Rule text item none = refl
+found_elsewhere current (Attribute name) text item none = ok_elsewhere (comment current (Attribute name) text) item (rule_of item) none
+found_elsewhere current (ItemHost name word) text item none = ok_elsewhere (comment current (ItemHost name word) text) item (rule_of item) none
+
+-- ---- products
+
+pub quotient_past : (count size : ℕ) → 0 < size → limit / size < count → limit < count * size
+quotient_past count size some h =
+    let more : (limit / size + 1) * size ≤ count * size = mul-le-mul_right size (omega arith) in
+    omega arith
+
+-- ---- what is told of a command
+
+-- `words` and `all` are the text and the items as they are handed on
+pub over_told : EffectsStayProper → (operation : Operation) (host : Host) (text words current : Bytes) (target : Target) (lines : List ℕ) (items all : List Item) (result : Result Bool Refusal)
+    → operation ≡ w.Comment (wc.Add host text) → words ≡ text → all ≡ items → IsProperCommand operation → IsProper items
+    → IfOk result (λ over. IsTrue over → IsOverfilling host words target current lines all) → IfOk result (λ over. IsTrue over → Overfills (effect operation target current lines items))
+over_told stays operation host text words current target lines items all (Err refusal) is same_text same_items command proper h = tt
+over_told stays operation host text words current target lines items all (Ok over) is same_text same_items command proper h =
+    λ past_. subst (λ (o : Operation). Overfills (effect o target current lines items)) (sym is)
+    (comment_overfills stays text current host target lines items (subst IsProperCommand is command) proper
+    (subst (λ (t : Bytes). IsOverfilling host t target current lines items) same_text (subst (λ (xs : List Item). IsOverfilling host words target current lines xs) same_items (h past_))))
+
+pub refusal_told : (operation : Operation) (host : Host) (text words current : Bytes) (target : Target) (lines : List ℕ) (items all : List Item) (result : Result Bool Refusal)
+    → operation ≡ w.Comment (wc.Add host text) → words ≡ text → all ≡ items
+    → IfErr result (λ refusal. IsRefusing host words target current lines all refusal ⊎ (refusal ≡ Memory))
+    → IfErr result (λ refusal. (effect operation target current lines items ≡ Err refusal) ⊎ (refusal ≡ Memory))
+refusal_told operation host text words current target lines items all (Ok over) is same_text same_items h = tt
+refusal_told operation host text words current target lines items all (Err refusal) is same_text same_items (inl refusing) =
+    inl (ap (λ (o : Operation). effect o target current lines items) is
+    ∙ comment_refused text current host target lines items refusal
+    (subst (λ (t : Bytes). IsRefusing host t target current lines items refusal) same_text (subst (λ (xs : List Item). IsRefusing host words target current lines xs refusal) same_items refusing)))
+refusal_told operation host text words current target lines items all (Err refusal) is same_text same_items (inr memory) = inr memory

@@ -1,0 +1,50 @@
+-- Where what a command makes is past the limit of a text by the comments alone that it puts in: no pass drops or shortens them.
+use Rattle.std.specs.Prelude.{◌≡◌, ◌<◌, ◌*◌, ◌+◌, ℕ, Bool, true, ◌&&◌, List, ◌∷◌, Result, Ok, Err, IsOk, length, if◌then◌else◌}
+use Rattle.std.specs.List.{list_any}
+use Rattle.bz_tree.specs.Spell.{limit}
+use Rattle.bz_value.specs.declared.value.Item.{Item}
+use Rattle.bz_value.specs.Counted.{times}
+use Rattle.bz_value.specs.Proper.{IsProper}
+use Rattle.bz_items.specs.Characters.{Bytes}
+use Rattle.bz_attribute.specs.declared.refusal.Refusal.{Refusal}
+use Rattle.bz_words.specs.declared.command.Host.{Host}
+use Rattle.bz_words.specs.declared.command.CommentOperation.TheVariants.{Add}
+use Rattle.bz_comment.specs.Hosts.{comment_made}
+use Rattle.bz_label.specs.declared.target.Target.{Target}
+use Rattle.bz_command.specs.Effect.{NewItem, on_meant, rule_commented}
+use Rattle.bz_command.specs.Targets.{is_rule, meant}
+
+-- the copies of one comment are past the limit
+abbrev pub IsOverfull : List Item → Type 0
+IsOverfull items = (comment : Bytes) × (limit < times comment items * length comment)
+
+-- it is made, and they are
+abbrev pub Overfills : Result (List Item) Refusal → Type 0
+Overfills (Ok items) = IsProper items × IsOverfull items
+Overfills (Err refusal) = ⊥
+
+-- how many of the items that are marked are rules
+abbrev pub marked_rules : List Bool → List Item → ℕ
+marked_rules (mark ∷ marks) (item ∷ items) = (if mark && is_rule item then 1 else 0) + marked_rules marks items
+marked_rules _ _ = 0
+
+-- what putting a comment on a host makes of an item
+abbrev pub commented : Bytes → Host → Bytes → Item → NewItem
+commented current host text item = rule_commented (Add host text) current item
+
+-- and of the items that are marked
+abbrev pub all_commented : Bytes → Host → Bytes → List Bool → List Item → Result (List Item) Refusal
+all_commented current host text marks items = on_meant (commented current host text) marks items
+
+-- Of the rules that a target means there are some, none refuses the comment, and its copies are past the limit.
+abbrev pub IsOverfilling : Host → Bytes → Target → Bytes → List ℕ → List Item → Type 0
+IsOverfilling host text target current lines items =
+    (list_any (λ mark. mark) (meant target.which lines items) ≡ true)
+    × (limit < marked_rules (meant target.which lines items) items * length (comment_made text))
+    × IsOk (all_commented current host text (meant target.which lines items) items)
+
+-- there are some, and the first of them that refuses the comment does so for this cause
+abbrev pub IsRefusing : Host → Bytes → Target → Bytes → List ℕ → List Item → Refusal → Type 0
+IsRefusing host text target current lines items refusal =
+    (list_any (λ mark. mark) (meant target.which lines items) ≡ true)
+    × (all_commented current host text (meant target.which lines items) items ≡ Err refusal)

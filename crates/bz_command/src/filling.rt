@@ -1,0 +1,146 @@
+//! Whether what a command makes is past the limit of a text by the comments alone that it puts in, told before it is made.
+ghost use Rattle.std.specs.Prelude.{◌≡◌, ◌⊎◌, ◌<◌, ◌*◌, Err, IfErr, IfOk, IsOk, IsTrue, None, length, true};
+ghost use Rattle.std.specs.List.{list_any};
+ghost use Rattle.bz_tree.specs.Spell.{limit};
+ghost use Rattle.bz_items.specs.Characters.{Bytes};
+ghost use Rattle.bz_comment.specs.Hosts.{comment_made};
+ghost use Rattle.bz_command.specs.Effect.{effect, on_meant};
+ghost use Rattle.bz_command.specs.Overfull.{IsOverfilling, IsRefusing, Overfills, commented, marked_rules};
+ghost use Rattle.bz_command.specs.Targets.{meant};
+
+use crate::printing::arguments_of;
+use crate::proper_laws::effects_stay_proper;
+use crate::running::is_any;
+use crate::targets::{is_rule, meant};
+use bz_attribute::Refusal;
+use bz_comment::{comment_made, find_host};
+use bz_items::Memory;
+use bz_label::Target;
+use bz_tree::LENGTH_LIMIT;
+use bz_value::{File, Item};
+use bz_words::{Command, CommentOperation, Host, Operation};
+use std::alloc::Global;
+
+/// Whether so many copies of a text of this length are past the limit.
+fn are_past(count: usize, long: usize) -> bool
+    ensures { IsTrue result → limit < count * long }
+{
+    long > 0 && LENGTH_LIMIT / long < count
+}
+
+/// How many of the items that are marked are rules.
+fn marked_rules(marks: &[bool], items: &[Item]) -> usize
+    requires { length marks.now ≡ length items.now }
+    ensures { result ≡ marked_rules marks.now items.now }
+{
+    let mut count = 0;
+    for (mark, item) in marks.iter().zip(items) {
+        if *mark && is_rule(item) {
+            count += 1;
+        }
+    }
+    count
+}
+
+/// Whether a comment on so many rules as a target means is past the limit by its copies. The error: memory was refused.
+fn are_copies_past(
+    alloc: Global,
+    text: &[u8],
+    marks: &[bool],
+    items: &[Item],
+) -> Result<bool, Memory>
+    requires { length marks.now ≡ length items.now }
+    ensures { IfOk result (λ past. IsTrue past → limit < marked_rules marks.now items.now * length (comment_made text.now)) }
+{
+    let comment = comment_made(alloc, text)?;
+    Ok(are_past(marked_rules(marks, items), comment.len()))
+}
+
+/// Whether a comment can be put on a host in an item. The errors: those of putting it there, but for memory.
+fn find_in(current: &[u8], host: &Host, item: &Item) -> Result<(), Refusal>
+    ensures ok { IsOk result → (text : Bytes) → IsOk (commented current.now host.now text item.now) }
+    ensures err { IfErr result (λ refusal. (text : Bytes) → commented current.now host.now text item.now ≡ Err refusal) }
+{
+    match host {
+        Host::Rule => Ok(()),
+        Host::Attribute(_) | Host::Item { .. } => {
+            if !is_rule(item) {
+                return Ok(());
+            }
+            find_host(current, host, arguments_of(item))
+        }
+    }
+}
+
+/// Whether it can in each of the items that are marked. The errors: those of the first in which it can't.
+fn find_in_all(current: &[u8], host: &Host, marks: &[bool], items: &[Item]) -> Result<(), Refusal>
+    requires { length marks.now ≡ length items.now }
+    ensures ok { IsOk result → (text : Bytes) → IsOk (on_meant (commented current.now host.now text) marks.now items.now) }
+    ensures err { IfErr result (λ refusal. (text : Bytes) → on_meant (commented current.now host.now text) marks.now items.now ≡ Err refusal) }
+{
+    for (mark, item) in marks.iter().zip(items) {
+        if *mark {
+            find_in(current, host, item)?;
+        }
+    }
+    Ok(())
+}
+
+/// Whether a comment on the rules that a target means is past the limit by its copies. Errors: that of the first rule that refuses
+/// it, where the copies are past the limit; `Memory`: a growth was refused.
+fn comment_overfills(
+    alloc: Global,
+    host: &Host,
+    text: &[u8],
+    target: &Target,
+    current: &[u8],
+    lines: &[u32],
+    items: &[Item],
+) -> Result<bool, Refusal>
+    ensures ok { IfOk result (λ over. IsTrue over → IsOverfilling host.now text.now target.now current.now lines.now items.now) }
+    ensures err { IfErr result (λ refusal. IsRefusing host.now text.now target.now current.now lines.now items.now refusal ⊎ (refusal ≡ Refusal.Memory)) }
+{
+    let marks = meant(alloc, &target.which, lines, items)?;
+    let marked = marks.as_slice();
+    if !is_any(marked) || !are_copies_past(alloc, text, marked, items)? {
+        return Ok(false);
+    }
+    find_in_all(current, host, marked, items)?;
+    Ok(true)
+}
+
+/// Whether what a command makes of a file is past the limit of a text by the comments alone that it puts in: then it need not be
+/// made. `false` tells nothing. `current` is the path of the file's package, `lines` the lines on which its statements begin, from 1.
+/// Errors: the effect's refusal; `Memory`: a growth was refused.
+pub fn overfills(
+    alloc: Global,
+    command: &Command,
+    target: &Target,
+    current: &[u8],
+    lines: &[u32],
+    file: &File,
+) -> Result<bool, Refusal>
+    ensures ok { IfOk result (λ over. IsTrue over → Overfills (effect command.now target.now current.now lines.now file.now)) }
+    ensures err { IfErr result (λ refusal. (effect command.now target.now current.now lines.now file.now ≡ Err refusal) ⊎ (refusal ≡ Refusal.Memory)) }
+{
+    effects_stay_proper();
+    let items = file.items.as_slice();
+    match &command.operation {
+        Operation::Comment(comment) => match comment {
+            CommentOperation::Add { host, text } => {
+                // If each item had the comment the copies would not be past the limit.
+                if !are_past(items.len(), text.len().saturating_add(2)) {
+                    return Ok(false);
+                }
+                comment_overfills(alloc, host, text.as_slice(), target, current, lines, items)
+            }
+            CommentOperation::Print { .. } | CommentOperation::Remove { .. } => Ok(false),
+        },
+        Operation::Rule(_)
+        | Operation::Attribute(_)
+        | Operation::Value(_)
+        | Operation::Dict(_)
+        | Operation::Load(_)
+        | Operation::Print { .. } => Ok(false),
+    }
+}

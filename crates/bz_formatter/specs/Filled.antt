@@ -1,0 +1,22 @@
+-- Comments are never dropped or shortened: so many of one can be in a value that what is written of it is past the limit.
+use Rattle.std.specs.Prelude.{◌≡◌, ◌<◌, ◌≤◌, ◌*◌, List, Option, length}
+use Rattle.bz_tree.specs.declared.tree.Node.{Node}
+use Rattle.bz_tree.specs.Spell.{limit}
+use Rattle.bz_tree.specs.Legal.{Reads}
+use Rattle.bz_value.specs.declared.value.Item.{Item}
+use Rattle.bz_items.specs.Characters.{Bytes}
+use Rattle.bz_value.specs.Counted.{times}
+use Rattle.bz_value.specs.Proper.{IsProper}
+use Rattle.bz_view.specs.View.{view_of}
+use Rattle.bz_attribute.specs.declared.refusal.Refusal.TheVariants.{TooLarge}
+use Rattle.bz_formatter.specs.Meaning.{refuses, written}
+
+-- A proper value in which a comment stands so often that its copies alone are past the limit isn't written.
+abbrev pub CommentsFill : Type 0
+CommentsFill =
+    (items : List Item) (comment : Bytes) (printed : Option Bytes)
+    → IsProper items → limit < times comment items * length comment → written items printed ≡ refuses TooLarge
+
+-- In the value of a text no comment does.
+abbrev pub CommentsFit : Type 0
+CommentsFit = (text comment : Bytes) (tree : Node) → Reads text tree → times comment (view_of tree) * length comment ≤ limit
