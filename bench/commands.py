@@ -59,9 +59,17 @@ DELETE = "delete"
 COMMENT = "comment deps why\\ not"
 RENAME = "rename deps data"
 PRINT = "print name deps"
+# how many lines a rule takes, with the blank one behind it
+TALL = RULE.count("\n") + 1
 THOUSAND = spread(ADD, 1000, 100)
 UNDOS = ["undo|-:all"] * 1000
 REDOS = ["redo|-:all"] * 1000
+
+
+def by_line(command, count):
+    """So many commands, each on the rule of another line."""
+    return [f"{command}|-:%{1 + i * TALL}" for i in range(count)]
+
 
 # A row: what it does, how many rules there are, the lines, and the status.
 ROWS = [
@@ -83,6 +91,11 @@ LONG = [
     *((f"100 `{command.split()[0]}`", 10_000, spread(command, 100, 10_000), CHANGED) for command in (DELETE, COMMENT, RENAME)),
     ("1,000 `print`", 10_000, spread(PRINT, 1000, 10_000), SAME),
     ("1,000 `add`, each to one rule", 10_000, spread(ADD, 1000, 10_000), CHANGED),
+    # twice the commands: what they cost beside the half
+    *((f"{count:,} `add` to one list", 1, spread(ADD, count, 1), CHANGED) for count in (1000, 2000)),
+    *((f"{count:,} `new_load` of other files", 1, of_file(LOAD, count), CHANGED) for count in (1000, 2000)),
+    *((f"{count:,} `print` by `%LINE`", count, by_line(PRINT, count), SAME) for count in (2000, 4000)),
+    *((f"{count:,} `print`", 400, spread(PRINT, count, 400), SAME) for count in (2000, 4000)),
 ]
 
 

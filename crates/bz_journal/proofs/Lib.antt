@@ -11,3 +11,4 @@ pub mod PutLines
 pub mod Resuming
 pub mod Opening
 pub mod Running
+pub mod Overfull

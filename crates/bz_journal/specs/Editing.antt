@@ -12,20 +12,21 @@ use Rattle.bz_write.specs.Written.{layout}
 use Rattle.bz_tidy.specs.Passes.{tidied}
 use Rattle.bz_words.specs.declared.command.Operation.{Operation}
 use Rattle.bz_words.specs.Proper.{IsProperCommand}
-use Rattle.bz_names.specs.Index.{Index, IsIndexOf}
 use Rattle.bz_redraw.specs.Redrawn.{IsWritten}
 use Rattle.bz_journal.specs.Actions.{Action}
 use Rattle.bz_journal.specs.Actions.{Do, Format, Undo, Redo}
 use Rattle.bz_journal.specs.declared.action.Reply.{Reply}
 use Rattle.bz_journal.specs.declared.action.Reply.TheVariants.{Changed}
+use Rattle.bz_journal.specs.declared.asking.Lookups.{Lookups}
+use Rattle.bz_journal.specs.Lookups.{AreLookupsOf}
 use Rattle.bz_journal.specs.Meaning.{written}
 use Rattle.bz_journal.specs.History.{History, Answer, Acts, after_meaning, present}
 
--- The value that is kept is the view of the tree, and the index that of its names; a tree that counts as written is the layout of its
--- view, which is tidy; and the text has at most so many bytes.
-pub record IsBeside (tree : Node) (value : Option (List Item)) (names : Option Index) (counts : Bool) (most : ℕ) : Type 0 where
+-- The value that is kept is the view of the tree, and what was looked up is that of the tree; a tree that counts as written is the
+-- layout of its view, which is tidy; and the text has at most so many bytes.
+pub record IsBeside (tree : Node) (value : Option (List Item)) (lookups : Lookups) (counts : Bool) (most : ℕ) : Type 0 where
   pub seen : IfSome value (λ items. items ≡ view_of tree)
-  pub named : IfSome names (λ index. IsIndexOf index (view_of tree))
+  pub looked : AreLookupsOf lookups tree
   pub written : counts ≡ true → IsWritten (view_of tree) tree
   pub long : length (spell_node tree) ≤ most
 

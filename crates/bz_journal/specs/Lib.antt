@@ -5,6 +5,7 @@ pub mod Keeping
 pub mod Lasting
 pub mod Lines
 pub mod Listing
+pub mod Lookups
 pub mod Meaning
 pub mod Shown
 pub mod Worked

@@ -12,6 +12,7 @@ ghost use Rattle.bz_write.specs.Drawn.{drawn};
 ghost use Rattle.bz_write.specs.Written.{layout};
 ghost use Rattle.bz_tidy.specs.Passes.{tidied};
 ghost use Rattle.bz_command.specs.Effect.{effect, printed};
+ghost use Rattle.bz_command.specs.Overfull.{Overfills};
 ghost use Rattle.bz_trail.specs.Trails.{IsSmall};
 ghost use Rattle.bz_redraw.specs.Redrawn.{IsWritten};
 ghost use Rattle.bz_attribute.specs.declared.refusal.Refusal.{Refusal};
@@ -24,12 +25,12 @@ ghost use Rattle.bz_journal.specs.State.{session_trail};
 
 use crate::action::Reply;
 use crate::digests::OptionalDigests;
-use crate::laws::written_is_drawn;
+use crate::laws::{overfull_is_refused, written_is_drawn};
 use crate::lines::Lines;
 use crate::meaning::told;
 use crate::session::{Session, unchanged};
 use bz_attribute::Refusal;
-use bz_command::{Ran, Spliced, lines_matter, looks_at_lines, run_in};
+use bz_command::{Ran, Spliced, lines_matter, looks_at_lines, overfills, run_in};
 use bz_formatter::{drawn_of, reads_back};
 use bz_items::{Memory, Text};
 use bz_label::Target;
@@ -42,20 +43,6 @@ use bz_view::view;
 use bz_words::Command;
 use bz_write::layout_is_accepted;
 use std::alloc::Global;
-
-/// The fewest items of a value that is kept. One of fewer is made anew in a few milliseconds, and a run over thousands of files,
-/// which are mostly short, holds the values of none of them.
-pub(crate) const FEWEST: usize = 500;
-
-/// A value, where it is worth keeping.
-pub(crate) fn kept(file: File) -> Option<File>
-    ensures { (tree : Node) → file ≡ view_of tree → IfSome result (λ items. items ≡ view_of tree) }
-{
-    if file.items.len() < FEWEST {
-        return None;
-    }
-    Some(file)
-}
 
 /// The value of a tree: the one that is kept, or one that is made. The error: memory was refused.
 pub(crate) fn value_of(alloc: Global, kept: Option<File>, tree: &Tree) -> Result<File, Memory>
@@ -86,7 +73,8 @@ pub(crate) fn lines_for(
     Ok(Vec::new(alloc))
 }
 
-/// Runs a command on the value of a tree, in place. Errors: those of the command.
+/// Runs a command on the value of a tree, in place. Errors: those of the command; `TooLarge` where what it makes is past the limit by
+/// the comments that it puts in, and isn't made.
 fn run_on_tree(
     alloc: Global,
     command: &Command,
@@ -100,9 +88,13 @@ fn run_on_tree(
     ensures printed { IfOk result (λ ran. printed command.now target.now current.now (lines_of tree.now) file.old ≡ Ok ran.printed) }
     ensures renewed { IfOk result (λ ran. IfSome ran.renewed (λ marks. AreExchanged marks.items file.old file.new)) }
     ensures spliced { IfOk result (λ ran. IfSome ran.spliced (λ s. IsSpliced s.from s.gone s.come file.old file.new)) }
-    ensures err { IfErr result (λ refusal. (effect command.now target.now current.now (lines_of tree.now) file.old ≡ Err refusal) ⊎ (refusal ≡ Refusal.Memory)) }
+    ensures err { IfErr result (λ refusal. ((effect command.now target.now current.now (lines_of tree.now) file.old ≡ Err refusal) ⊎ (refusal ≡ Refusal.Memory))
+        ⊎ ((refusal ≡ Refusal.TooLarge) × Overfills (effect command.now target.now current.now (lines_of tree.now) file.old))) }
 {
     let lines = lines_for(alloc, command, target, tree)?;
+    if overfills(alloc, command, target, current, lines.as_slice(), file)? {
+        return Err(Refusal::TooLarge);
+    }
     run_in(alloc, command, target, current, lines.as_slice(), file)
 }
 
@@ -338,7 +330,7 @@ fn take_up_value(
         Ok(reply) => {
             reads_back(session.present());
             *long = most;
-            *value = kept(file);
+            *value = Some(file);
             Ok(reply)
         }
         Err(refusal) => {
@@ -404,6 +396,7 @@ pub(crate) fn edit_beside(
     let alloc = session.alloc();
     let here = session.present();
     reads_back(here);
+    overfull_is_refused();
     let Ok(seen) = value_of(alloc, value.take(), here) else {
         return Err(Refusal::Memory);
     };
@@ -425,7 +418,7 @@ pub(crate) fn edit_beside(
             } = ran;
             let printed = told(command, printed);
             if same {
-                *value = kept(file);
+                *value = Some(file);
                 return Ok(unchanged(printed));
             }
             let changes = Changes {

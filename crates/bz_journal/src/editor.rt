@@ -24,7 +24,7 @@ ghost use Rattle.bz_journal.specs.Shown.{session_history, IsOverEven};
 ghost use Rattle.bz_journal.specs.State.{session_trail};
 
 use crate::action::{Action, Reply};
-use crate::asking::answer_noted;
+use crate::asking::{Lookups, answer_noted};
 use crate::beside::edit_beside;
 use crate::digests::OptionalDigests;
 use crate::keeping::KeepFault;
@@ -35,12 +35,18 @@ use bz_files::Files;
 use bz_formatter::reads_back;
 use bz_items::{Memory, Text};
 use bz_label::Target;
-use bz_names::Names;
 use bz_tree::{LENGTH_LIMIT, ReadFault};
 use bz_value::File;
 use bz_words::Command;
 use std::alloc::Global;
 use std::marker::Model;
+
+/// The fewest items of a value that is kept from the first command on. One of fewer is made anew in less than a millisecond, and a
+/// run over thousands of files, which are mostly short, holds the values of none of them.
+const FEWEST: usize = 500;
+
+/// After how many commands any value is kept, so that further ones cost the same in a short file as in a long one.
+const OFTEN: u32 = 64;
 
 /// A session, and the value of its present text where one is kept, so that a command need not make it anew. Of a text that was
 /// opened no digest is taken until something reads it: `keep_noted` or `listing`. Contracts see the session.
@@ -49,14 +55,16 @@ pub struct Editor {
     session: Session<OptionalDigests>,
     /// The value of the present text, where it is kept.
     value: Option<File>,
-    /// The index of its names, where it is kept.
-    names: Option<Names>,
+    /// What was looked up in the present text.
+    lookups: Lookups,
     /// Whether the present text is known to be the layout of a tidy value.
     written: bool,
     /// How many bytes the present text has at most.
     long: usize,
     /// Whether the last command printed something, so that the value is worth keeping for the next one that prints.
     asked: bool,
+    /// How many commands were done, up to `OFTEN`.
+    done: u32,
 }
 
 impl Model for Editor {
@@ -71,7 +79,7 @@ impl Model for Editor {
 
     ghost view = { λ editor. editor.session };
 
-    ghost invariant = { λ editor. IsBeside editor.session.tree editor.value editor.names editor.written editor.long };
+    ghost invariant = { λ editor. IsBeside editor.session.tree editor.value editor.lookups editor.written editor.long };
 }
 
 /// Whether it is answered that the text is another one.
@@ -155,10 +163,11 @@ fn beside(session: Session<OptionalDigests>) -> Editor
     Editor {
         session,
         value: None,
-        names: None,
+        lookups: Lookups::none(),
         written: false,
         long: LENGTH_LIMIT,
         asked: false,
+        done: 0,
     }
 }
 
@@ -219,13 +228,27 @@ impl Editor {
         ensures even { length note.now ≤ note_limit → IsOverEven (action_in action.now) (session_trail self.old) → IsOk result }
         ensures small { IsSmall (session_trail self.old) → IsSmall (session_trail self.new) }
     {
+        let answer = self.act_beside(action, note);
+        self.let_go();
+        answer
+    }
+
+    /// The same by what is kept beside the session; the value is kept then.
+    fn act_beside(&mut self, action: &Action<'_>, note: &str) -> Result<Reply, Refusal>
+        ensures acts { Acts (action_in action.now) note.now (session_history self.old) result (session_history self.new) }
+        ensures formatted { OnOk result (IsFormat (action_in action.now) → IsFormatted (present (session_history self.old)) (present (session_history self.new))) }
+        ensures err { OnErr result (session_history self.new ≡ session_history self.old) }
+        ensures unmoved { OnErr result (self.new ≡ self.old) }
+        ensures even { length note.now ≤ note_limit → IsOverEven (action_in action.now) (session_trail self.old) → IsOk result }
+        ensures small { IsSmall (session_trail self.old) → IsSmall (session_trail self.new) }
+    {
         if let Action::Do(command, target) = *action {
             let asks = command.prints();
             if asks && (self.written || self.asked) {
                 if let Some(answer) = answer_noted(
                     &self.session,
                     &mut self.value,
-                    &mut self.names,
+                    &mut self.lookups,
                     command,
                     target,
                     note,
@@ -235,7 +258,7 @@ impl Editor {
             }
             self.asked = asks;
             if self.written {
-                self.names = None;
+                self.lookups = Lookups::none(); // those of the text before
                 return edit_noted(
                     &mut self.session,
                     &mut self.value,
@@ -246,7 +269,7 @@ impl Editor {
                 );
             }
         }
-        self.names = None;
+        self.lookups = Lookups::none();
         self.value = None;
         act_by_session(
             &mut self.session,
@@ -255,6 +278,22 @@ impl Editor {
             &mut self.written,
             &mut self.long,
         )
+    }
+
+    /// Lets go of the value of a short text, and of what was looked up in it, unless commands came often.
+    fn let_go(&mut self)
+        ensures { self.new ≡ self.old }
+    {
+        if self.done >= OFTEN {
+            return;
+        }
+        self.done += 1;
+        if let Some(file) = &self.value
+            && file.items.len() < FEWEST
+        {
+            self.value = None;
+            self.lookups = Lookups::none();
+        }
     }
 
     /// Does an action with a note and keeps it, as `Session::keep_noted` does. The errors are those.
@@ -293,7 +332,7 @@ impl Editor {
         ensures honest { F.honest files.new ≡ F.honest files.old }
     {
         self.value = None;
-        self.names = None;
+        self.lookups = Lookups::none();
         self.written = false;
         self.long = LENGTH_LIMIT;
         self.session.keep_digests();

@@ -5,12 +5,14 @@ ghost use Rattle.bz_trail.specs.Trails.{HasLeast, IsSmall};
 ghost use Rattle.bz_journal.specs.Editing.{ChangedIsWritten, WrittenIsDrawn};
 ghost use Rattle.bz_journal.specs.History.{IsKept};
 ghost use Rattle.bz_journal.specs.Lasting.{AlikeGoesOn};
+ghost use Rattle.bz_journal.specs.Meaning.{OverfullIsRefused};
 ghost use Rattle.bz_journal.specs.Shown.{session_history};
 ghost use Rattle.bz_journal.specs.State.{session_trail};
 ghost use Rattle.bz_journal.specs.Worked.{WorkedHistories};
 
 use crate::session::Session;
 use bz_command::effects_stay_proper;
+use bz_formatter::comments_fill;
 use bz_tidy::{proper_stays, tidy_settles, tidy_stays};
 use bz_trail::laws::{small_steps, steps_lead, texts_kept};
 use bz_tree::laws::one_reading;
@@ -67,4 +69,11 @@ pub(crate) fn changed_is_written()
     views_are_proper();
     effects_stay_proper();
     written_is_drawn();
+}
+
+/// Where what a command makes is past the limit by the comments that it puts in, the command is refused as too large.
+pub(crate) fn overfull_is_refused()
+    ensures { OverfullIsRefused }
+{
+    comments_fill();
 }

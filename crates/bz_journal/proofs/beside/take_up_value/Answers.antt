@@ -15,7 +15,7 @@ pub returns-in-Ok-clause-value : goal.returns-in-Ok-clause-value
 returns-in-Ok-clause-value c =
     let taken = value_taken c.written_is_drawn.ensures c.args.done.file c.args.printed c.args.note.now (session_history c.args.session.now) (session_history c.take_up_tidied.new.session) c.in-Ok.reply c.present.result.now
     (subst (λ (xs : List Item). IsProper xs) c.file.view_is c.file.invariant) c.requires.tidy c.present-before.ensures.within c.in-Ok.ensures.makes c.reads_back.ensures c.present.ensures.text in
-    c.kept.ensures c.take_up_tidied.new.session.tree (taken.0 ∙ ap view_of c.present.ensures.tree)
+    taken.0 ∙ ap view_of c.present.ensures.tree
 
 pub returns-in-Ok-clause-written : goal.returns-in-Ok-clause-written
 returns-in-Ok-clause-written c =

@@ -1,0 +1,66 @@
+-- Where what a command makes is past the limit by the comments that it puts in, it means that.
+use Rattle.std.proofs.Common.{◌≡◌, ◌≢◌, ◌⊎◌, ◌≤◌, ◌<◌, ◌*◌, ◌∙◌, inl, inr, ℕ, List, length, Result, Ok, Err, Option, refl, sym, ap, subst, arith}
+use Rattle.bz_tree.specs.declared.tree.Node.{Node}
+use Rattle.bz_tree.specs.Legal.{Reads}
+use Rattle.bz_tree.specs.Spell.{spell_node, limit}
+use Rattle.bz_tree.specs.Statements.{lines_of}
+use Rattle.bz_label.specs.declared.target.Target.{Target}
+use Rattle.bz_value.specs.declared.value.Item.{Item}
+use Rattle.bz_value.specs.Counted.{times}
+use Rattle.bz_items.specs.Characters.{Bytes}
+use Rattle.bz_view.specs.View.{view_of}
+use Rattle.bz_words.specs.declared.command.Operation.{Operation}
+use Rattle.bz_command.specs.Effect.{effect, printed}
+use Rattle.bz_command.specs.Overfull.{Overfills}
+use Rattle.bz_formatter.specs.Filled.{CommentsFill, CommentsFit}
+use Rattle.bz_attribute.specs.declared.refusal.Refusal.{Refusal}
+use Rattle.bz_attribute.specs.declared.refusal.Refusal.TheVariants.{Memory, TooLarge}
+use Rattle.bz_journal.specs.Actions.{Do}
+use Rattle.bz_journal.specs.History.{History, present, MakesOrWants}
+use Rattle.bz_journal.specs.Meaning.{refuses, told, Means, EffectMeans, OverfullIsRefused}
+use Rattle.bz_journal.proofs.Acting.{acts_refused, means_on}
+use Rattle.bz_journal.proofs.Edited.{edited_refused}
+
+pub overfull_is_refused : CommentsFill → CommentsFit → OverfullIsRefused
+overfull_is_refused fill fit (Err refusal) answer text tree reads over = absurd over
+overfull_is_refused fill fit (Ok new) answer text tree reads over =
+    let comment : Bytes = over.1.0 in
+    let past : limit < times comment new * length comment = over.1.1 in
+    let short : times comment (view_of tree) * length comment ≤ limit = fit text comment tree reads in
+    let apart : new ≢ view_of tree = λ same. let less : times comment new * length comment ≤ limit = subst (λ (items : List Item). times comment items * length comment ≤ limit) (sym same) short in omega arith in
+    inr (apart, sym (fill new comment answer over.0 past))
+
+-- `value` is the value that was seen, `lines` are those that were counted
+pub means_overfull : OverfullIsRefused → (operation : Operation) (target : Target) (current text : Bytes) (tree : Node) (value : List Item) (lines : List ℕ)
+    → Reads text tree → value ≡ view_of tree → lines ≡ lines_of tree
+    → Overfills (effect operation target current lines value) → Means operation target current text (refuses TooLarge)
+means_overfull refused operation target current text tree value lines reads seen counted over =
+    let answer : Option Bytes = told operation (printed operation target current lines value) in
+    means_on operation target current text (refuses TooLarge) tree value lines reads seen counted
+    (subst (λ (items : List Item). EffectMeans (effect operation target current lines value) answer items text (refuses TooLarge)) (sym seen)
+    (refused (effect operation target current lines value) answer text tree reads over))
+
+-- a command beside a session that is refused, or is past the limit
+pub edited_not : OverfullIsRefused → (note : Bytes) (operation : Operation) (target : Target) (h : History) (current : Bytes) (tree : Node) (value : List Item) (refusal : Refusal)
+    → current ≡ h.package → spell_node tree ≡ present h → Reads (spell_node tree) tree → value ≡ view_of tree
+    → ((effect operation target current (lines_of tree) value ≡ Err refusal) ⊎ (refusal ≡ Memory)) ⊎ ((refusal ≡ TooLarge) × Overfills (effect operation target current (lines_of tree) value))
+    → MakesOrWants (Do operation target) note h (Err refusal) h
+edited_not refused note operation target h current tree value refusal own is reads seen (inl made) = edited_refused note operation target h current tree value refusal own is reads seen made
+edited_not refused note operation target h current tree value refusal own is reads seen (inr over) =
+    acts_refused note operation target h current (spell_node tree) refusal own is
+    (inl (subst (λ (r : Refusal). Means operation target current (spell_node tree) (refuses r)) (sym over.0)
+    (means_overfull refused operation target current (spell_node tree) tree value (lines_of tree) reads seen refl over.1)))
+
+-- a command on a text that is refused, or is past the limit
+pub means_not : OverfullIsRefused → (operation : Operation) (target : Target) (current text : Bytes) (tree : Node) (value : List Item) (refusal : Refusal)
+    → Reads text tree → value ≡ view_of tree
+    → ((effect operation target current (lines_of tree) value ≡ Err refusal) ⊎ (refusal ≡ Memory)) ⊎ ((refusal ≡ TooLarge) × Overfills (effect operation target current (lines_of tree) value))
+    → Means operation target current text (refuses refusal) ⊎ (refusal ≡ Memory)
+means_not refused operation target current text tree value refusal reads seen (inl (inl made)) =
+    let answer : Option Bytes = told operation (printed operation target current (lines_of tree) value) in
+    inl (means_on operation target current text (refuses refusal) tree value (lines_of tree) reads seen refl
+    (subst (λ (r : Result (List Item) Refusal). EffectMeans r answer value text (refuses refusal)) (sym made) refl))
+means_not refused operation target current text tree value refusal reads seen (inl (inr memory)) = inr memory
+means_not refused operation target current text tree value refusal reads seen (inr over) =
+    inl (subst (λ (r : Refusal). Means operation target current text (refuses r)) (sym over.0)
+    (means_overfull refused operation target current text tree value (lines_of tree) reads seen refl over.1))
