@@ -21,11 +21,12 @@ use std::alloc::Global;
 /// The text of the layout of what a .bzl file says. Where that is proper, the text reads as the tree of the layout, which says the
 /// value levelled. Both limits are looked at on the value, before anything is written. Errors: `TooLarge` exactly where the text
 /// would be longer than `LENGTH_LIMIT`, else `TooDeep` exactly where its tree would be deeper than `DEPTH_LIMIT`, and then no tree
-/// is read of it; `Memory`: a growth was refused.
+/// is read of it where it is proper; `Memory`: a growth was refused.
 #[tactic(auto, using(crate::proofs::Depths::bzl_drawn_depth))]
 pub fn set_bzl(alloc: Global, file: &BzlFile) -> Result<Text, SetFault>
     ensures text { IfOk result (λ text. text ≡ bzl_layout file.now.items) }
     ensures short { IfOk result (λ text. length (bzl_layout file.now.items) ≤ limit) }
+    ensures shallow { IfOk result (λ text. depth_of (bzl_drawn file.now.items) ≤ depth_limit) }
     ensures reads { IfOk result (λ text. IsProperBzl file.now.items → ReadsBzl (bzl_layout file.now.items) (bzl_drawn file.now.items)) }
     ensures says { IfOk result (λ text. IsProperBzl file.now.items → bzl_view_of (bzl_drawn file.now.items) ≡ level file.now.items) }
     ensures too_large { result ≡ Err SetFault.TooLarge → limit < length (bzl_layout file.now.items) }

@@ -1,10 +1,10 @@
 -- The tokens of a text without lines.
-use Rattle.std.proofs.Common.{◌≡◌, ℕ, suc, ◌+◌, ◌-◌, ◌≤◌, ◌<◌, true, false, List, [], ◌∷◌, ◌++◌, ◌⊎◌, inl, inr, Some, length, take, drop, slice_get, refl, sym, ap, ◌∙◌, subst, arith, append_assoc, length-append, length-drop}
+use Rattle.std.proofs.Common.{◌≡◌, ◌≢◌, ℕ, suc, ◌+◌, ◌-◌, ◌≤◌, ◌<◌, true, false, List, [], ◌∷◌, ◌++◌, ◌⊎◌, inl, inr, Some, length, take, drop, slice_get, refl, sym, ap, ◌∙◌, subst, arith, append_assoc, length-append, length-drop}
 use Rattle.std.proofs.lemmas.Bool.{both_ways}
 use Rattle.std.proofs.Math.Seq.{take-length}
 use Rattle.std.proofs.lemmas.List.{take-append-drop, append-nil, append_cancel_left}
 use Rattle.bz_token.specs.declared.class.Class.{Class}
-use Rattle.bz_token.specs.Tokens.{IsToken, NoToken, TokenAt}
+use Rattle.bz_token.specs.Tokens.{IsToken, NoToken, OpensString, TokenAt}
 use Rattle.bz_lex.specs.declared.gap.GapFront.{GapFront}
 use Rattle.bz_lex.specs.declared.gap.GapState.{GapState}
 use Rattle.bz_lex.specs.declared.gap.GapState.TheVariants.{Open}
@@ -13,6 +13,7 @@ use Rattle.bz_lex.specs.Gaps.{IsGap}
 use Rattle.bz_lex.specs.GapStates.{gap_state_after, Stops, is_end}
 use Rattle.bz_lex.specs.Fronts.{IsLexemeFront, front_token, behind_front}
 use Rattle.bz_lex.specs.Lexing.{AreLexemes, NoLexemes}
+use Rattle.bz_lex.specs.Stops.{StandBefore}
 use Rattle.bz_lex.proofs.Gaps.{gap_after, gap_from, one_stop}
 use Rattle.bz_lex.proofs.Tokens.{one_token, token_stops, token_holds}
 use Rattle.bz_lex.proofs.Lists.{token_length}
@@ -69,46 +70,69 @@ no_lexeme gap s c e h b t us k = by_begun (met gap.state gap.length s us e h k)
     by_begun (inr (k, u, r, vs, i, o, m, l)) = t k u r (sym i) m
 
 pub lexeme : (gap : GapFront) (s : List ℕ) (c : ℕ) (front : Front) → gap.length ≤ length s → gap_state_after true Open (take gap.length s) ≡ Some gap.state → Stops true gap.state (drop gap.length s) → is_end true gap.state ≡ true
-    → slice_get s gap.length ≡ Some c → front.gap ≡ gap.length → TokenAt front.class front.token (drop gap.length s) → IsLexemeFront front s
-lexeme gap s c front w e h b i f t =
+    → slice_get s gap.length ≡ Some c → front.gap ≡ gap.length → TokenAt front.class front.token (drop gap.length s) → (OpensString (drop front.gap s) → ⊥) → IsLexemeFront front s
+lexeme gap s c front w e h b i f t n =
     let o = open_true gap.state c (drop (suc gap.length) s) (subst (Stops true gap.state) (rest_some s gap.length c i) h) b in
     record {
       within = token_within gap.length front s w f t;
       gap = rw f (gap_from true false gap.state (take gap.length s) e (rw o refl));
       token = rw f t.1;
+      unopened = n;
     }
 
 -- ---- the tokens so far
 
-next_tokens : (front : Front) (s : List ℕ) (us : List (List ℕ)) → IsLexemeFront front s → AreLexemes us s → (vs : List (List ℕ)) × AreLexemes vs (behind_front front s)
-next_tokens front s us f k =
-    let g = gap_after true false (take front.gap s) f.gap in
+next_tokens : (front : Front) (s : List ℕ) (us : List (List ℕ)) → IsGap true false (take front.gap s) → IsToken front.class (front_token front s) (behind_front front s) → AreLexemes us s
+    → (vs : List (List ℕ)) × AreLexemes vs (behind_front front s)
+next_tokens front s us gap token k =
+    let g = gap_after true false (take front.gap s) gap in
     let o = closed_is g.0 g.2 in
     let parts = take-append-drop front.token (drop front.gap s) in
-    let stops : Stops true Open (drop front.gap s) = subst (Stops true Open) parts (token_stops true front.class (front_token front s) (behind_front front s) f.token) in
+    let stops : Stops true Open (drop front.gap s) = subst (Stops true Open) parts (token_stops true front.class (front_token front s) (behind_front front s) token) in
     by_begun (met Open front.gap s us (rw o at g.1) stops k) parts
   where
     by_begun : Begun Open (drop front.gap s) → front_token front s ++ behind_front front s ≡ drop front.gap s → (vs : List (List ℕ)) × AreLexemes vs (behind_front front s)
-    by_begun (inl w) parts = absurd (token_holds front.class (front_token front s) (behind_front front s) f.token (parts ∙ w.0))
+    by_begun (inl w) parts = absurd (token_holds front.class (front_token front s) (behind_front front s) token (parts ∙ w.0))
     by_begun (inr (k, u, r, vs, i, o, m, l)) parts =
-        let one = one_token k front.class u r (front_token front s) (behind_front front s) m f.token (sym i ∙ sym parts) in
+        let one = one_token k front.class u r (front_token front s) (behind_front front s) m token (sym i ∙ sym parts) in
         (vs, subst (AreLexemes vs) (append_cancel_left (front_token front s) r (behind_front front s) (subst (λ (x : List ℕ). x ++ r ≡ front_token front s ++ behind_front front s) one.1 (sym i ∙ sym parts))) l)
+
+-- a token behind which neither a gap nor a token begins
+pub no_rest : (front : Front) (s : List ℕ) → IsGap true false (take front.gap s) → IsToken front.class (front_token front s) (behind_front front s) → Stops true Open (behind_front front s) × (behind_front front s ≢ [])
+    → NoToken (behind_front front s) → NoLexemes s
+no_rest front s gap token here none us k =
+    let w = next_tokens front s us gap token k in
+    by_begun (met Open 0 (behind_front front s) w.0 refl here.0 w.1)
+  where
+    by_begun : Begun Open (behind_front front s) → ⊥
+    by_begun (inl w) = here.1 w.0
+    by_begun (inr (k, u, r, vs, i, o, m, l)) = none k u r (sym i) m
 
 -- the tokens read so far, and the rest of the text
 pub record IsLexedTo (text : List ℕ) (tokens : List (List ℕ)) (rest : List ℕ) : Type 0 where
   pub sound : (us : List (List ℕ)) → AreLexemes us rest → AreLexemes (tokens ++ us) text
   pub complete : (us : List (List ℕ)) → AreLexemes us text → (vs : List (List ℕ)) × AreLexemes vs rest
   pub within : length rest ≤ length text
+  pub stands : (us : List (List ℕ)) (end : List ℕ) → StandBefore end us rest → StandBefore end (tokens ++ us) text
 
 pub begin : (text : List ℕ) → IsLexedTo text [] text
-begin text = record { sound = λ us h. h; complete = λ us h. (us, h); within = omega arith }
+begin text = record { sound = λ us h. h; complete = λ us h. (us, h); within = omega arith; stands = λ us end h. h }
+
+-- a text by the gap, the token and what is behind it
+whole : (front : Front) (s : List ℕ) → s ≡ take front.gap s ++ (front_token front s ++ behind_front front s)
+whole front s = sym (ap (λ (t : List ℕ). take front.gap s ++ t) (take-append-drop front.token (drop front.gap s)) ∙ take-append-drop front.gap s)
+
+unopened_at : (front : Front) (s : List ℕ) → IsLexemeFront front s → OpensString (front_token front s ++ behind_front front s) → ⊥
+unopened_at front s f o = f.unopened (subst OpensString (take-append-drop front.token (drop front.gap s)) o)
 
 pub go_on : (text : List ℕ) (ts : List (List ℕ)) (rest : List ℕ) (front : Front) → IsLexedTo text ts rest → IsLexemeFront front rest → IsLexedTo text (ts ++ (front_token front rest ∷ [])) (behind_front front rest)
 go_on text ts rest front h f = record {
   sound = λ us k. rw (append_assoc ts (front_token front rest ∷ []) us)
-      (h.sound (front_token front rest ∷ us) (front.class, take front.gap rest, behind_front front rest, sym (ap (λ (t : List ℕ). take front.gap rest ++ t) (take-append-drop front.token (drop front.gap rest)) ∙ take-append-drop front.gap rest), f.gap, f.token, k));
-  complete = λ us k. let w = h.complete us k in next_tokens front rest w.0 f w.1;
+      (h.sound (front_token front rest ∷ us) (front.class, take front.gap rest, behind_front front rest, whole front rest, f.gap, f.token, k));
+  complete = λ us k. let w = h.complete us k in next_tokens front rest w.0 f.gap f.token w.1;
   within = let n = h.within in simp length-drop (omega arith);
+  stands = λ us end k. rw (append_assoc ts (front_token front rest ∷ []) us)
+      (h.stands (front_token front rest ∷ us) end (front.class, take front.gap rest, behind_front front rest, whole front rest, f.gap, f.token, unopened_at front rest f, k));
 }
 
 pub done : (text : List ℕ) (ts : List (List ℕ)) (rest : List ℕ) → IsLexedTo text ts rest → IsGap true true rest → AreLexemes ts text

@@ -9,3 +9,4 @@ pub mod Lexing
 pub mod Coded
 pub mod Deciding
 pub mod Coming
+pub mod Stopping

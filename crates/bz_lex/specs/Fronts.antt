@@ -4,11 +4,14 @@ use Rattle.bz_lex.specs.declared.leaf.Leaf.{Leaf}
 use Rattle.bz_lex.specs.declared.gap.GapFront.{GapFront}
 use Rattle.bz_lex.specs.declared.gap.GapState.TheVariants.{Open}
 use Rattle.bz_lex.specs.declared.front.Front.{Front}
+use Rattle.bz_lex.specs.declared.front.Reason.{Reason}
+use Rattle.bz_lex.specs.declared.front.Reason.TheVariants as r
 use Rattle.bz_lex.specs.declared.front.Stop.{Stop}
-use Rattle.bz_token.specs.Tokens.{IsToken}
+use Rattle.bz_token.specs.Tokens.{IsToken, OpensString}
 use Rattle.bz_lex.specs.Gaps.{IsGap}
 use Rattle.bz_lex.specs.GapStates.{gap_state_after, Stops, is_end}
 use Rattle.bz_lex.specs.Places.{Place, May}
+use Rattle.bz_lex.specs.Stops.{StopsFor}
 
 -- The gap at the front of a text is read as far as one goes, and may end there.
 pub record IsGapFront (newlines : Bool) (gap : GapFront) (text : List ℕ) : Type 0 where
@@ -45,3 +48,16 @@ pub record IsLexemeFront (front : Front) (text : List ℕ) : Type 0 where
   pub within : front.gap + front.token ≤ length text
   pub gap : IsGap true false (take front.gap text)
   pub token : IsToken front.class (front_token front text) (behind_front front text)
+  pub unopened : OpensString (drop front.gap text) → ⊥
+
+-- why no token stands at the front of a text
+abbrev pub NoTokenFor : Reason → List ℕ → Type 0
+NoTokenFor r.OpenString text = OpensString text
+NoTokenFor r.BadCharacter text = OpensString text → ⊥
+NoTokenFor _ text = ⊥
+
+-- the tokens stop there, behind a gap
+pub record IsLexemeStop (stop : Stop) (text : List ℕ) : Type 0 where
+  pub within : stop.at ≤ length text
+  pub gap : IsGap true false (take stop.at text)
+  pub stops : StopsFor stop.reason (drop stop.at text)

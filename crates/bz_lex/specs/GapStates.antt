@@ -35,3 +35,9 @@ abbrev pub is_end : Bool → GapState → Bool
 is_end unclosed Open = true
 is_end unclosed Comment = unclosed
 is_end unclosed _ = false
+
+-- how many bytes behind its last whole piece a gap breaks off
+abbrev pub broken_off : GapState → ℕ
+broken_off Escape = 1
+broken_off EscapeReturn = 2
+broken_off _ = 0

@@ -7,3 +7,4 @@ pub mod Fronts
 pub mod Positions
 pub mod Faults
 pub mod Lexing
+pub mod Stops

@@ -1,3 +1,9 @@
+ghost use Rattle.std.specs.Prelude.{◌≡◌, length, min, true};
+ghost use Rattle.bz_lex.specs.Faults.{is_of_leaves, fault_of};
+ghost use Rattle.bz_lex.specs.Positions.{line_at, column_of};
+
+use crate::front::Reason;
+use crate::position::line_and_column;
 use std::alloc::AllocError;
 use thiserror::Error;
 
@@ -59,5 +65,19 @@ impl From<AllocError> for ReadFault {
 
     fn from(_refused: AllocError) -> ReadFault {
         ReadFault::Memory
+    }
+}
+
+/// The fault of this reason at the byte at `at` (past the last one: at the end), by line and column.
+pub fn fault_at(text: &[u8], at: usize, reason: Reason) -> ReadFault
+    ensures kind { is_of_leaves result ≡ true }
+    ensures told { result ≡ fault_of reason (min (line_at text.now (min at (length text.now))) u32.MAX) (min (column_of text.now (min at (length text.now))) u32.MAX) }
+{
+    let (line, column) = line_and_column(text, at.min(text.len()));
+    match reason {
+        Reason::BadCharacter => ReadFault::BadCharacter { line, column },
+        Reason::OpenString => ReadFault::OpenString { line, column },
+        Reason::Indented => ReadFault::Indented { line, column },
+        Reason::Unexpected => ReadFault::Unexpected { line, column },
     }
 }

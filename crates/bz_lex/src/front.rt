@@ -1,6 +1,7 @@
-ghost use Rattle.std.specs.Prelude.{◌≡◌, ℕ, ◌≤◌, ◌+◌, IfOk, length, drop, MatchOption, MatchResult, IfErr, true, false};
-ghost use Rattle.bz_token.specs.Tokens.{NoToken, TokenAt};
-ghost use Rattle.bz_lex.specs.Fronts.{IsGapFront, IsLexemeFront, TellsFront, front_leaf, front_token, behind_front};
+ghost use Rattle.std.specs.Prelude.{◌≡◌, ◌↔◌, ◌∷◌, ℕ, List, IsTrue, ◌≤◌, ◌+◌, IfOk, length, drop, MatchOption, MatchResult, IfErr, true, false};
+ghost use Rattle.bz_token.specs.Tokens.{NoToken, OpensString, TokenAt};
+ghost use Rattle.bz_token.specs.Bytes.{is_quote};
+ghost use Rattle.bz_lex.specs.Fronts.{IsGapFront, IsLexemeFront, IsLexemeStop, NoTokenFor, TellsFront, front_leaf, front_token, behind_front};
 ghost use Rattle.bz_lex.specs.Gaps.{IsGap};
 ghost use Rattle.bz_lex.specs.Lexing.{NoLexemes};
 
@@ -148,10 +149,11 @@ fn last(text: &[u8]) -> Result<Front, Stop>
     }
 }
 
-/// The token at the front of a text without lines, behind its gap; `None` where a gap is all that is left.
+/// The token at the front of a text without lines, behind its gap; `None` where a gap is all that is left. A token at which a
+/// string begins that is not closed is its prefix: the tokens stop there.
 pub fn lexeme_front(text: &[u8]) -> Result<Option<Front>, Stop>
     ensures told { MatchResult result (λ found. MatchOption found (IsGap true true text.now) (λ front. IsLexemeFront front text.now)) (λ _. NoLexemes text.now) }
-    ensures within { IfErr result (λ stop. stop.at ≤ length text.now) }
+    ensures stops { IfErr result (λ stop. IsLexemeStop stop text.now) }
 {
     let gap = gap_front(text, true);
     if let Some(at) = gap.broken_at() {
@@ -160,9 +162,39 @@ pub fn lexeme_front(text: &[u8]) -> Result<Option<Front>, Stop>
     if gap.length == text.len() {
         return Ok(None);
     }
-    match token_front(text, gap.length) {
-        Ok(front) => Ok(Some(front)),
-        Err(stop) => Err(stop),
+    let front = match token_front(text, gap.length) {
+        Ok(front) => front,
+        Err(stop) => return Err(stop),
+    };
+    if is_open_prefix(text, front) {
+        return Err(Stop {
+            reason: Reason::OpenString,
+            at: front.gap,
+        });
+    }
+    Ok(Some(front))
+}
+
+/// Whether a token is the prefix of a string that is not closed. Behind such a one stands a quotation mark.
+fn is_open_prefix(text: &[u8], front: Front) -> bool
+    requires within { front.gap ≤ length text.now }
+    requires token { TokenAt front.class front.token (drop front.gap text.now) }
+    ensures { IsTrue result ↔ OpensString (drop front.gap text.now) }
+{
+    let from_token = &text[front.gap..];
+    if !is_quote_at(from_token, front.token) {
+        return false;
+    }
+    opens_string(from_token)
+}
+
+/// Whether a quotation mark stands there.
+fn is_quote_at(text: &[u8], index: usize) -> bool
+    ensures { (result ≡ false) → (mark : ℕ) (back : List ℕ) → drop index text.now ≡ mark ∷ back → is_quote mark ≡ false }
+{
+    match at(text, index).copied() {
+        Some(byte) => byte == b'"' || byte == b'\'',
+        None => false,
     }
 }
 
@@ -171,6 +203,7 @@ fn token_front(text: &[u8], gap: usize) -> Result<Front, Stop>
     requires { gap ≤ length text.now }
     ensures told { MatchResult result (λ front. (front.gap ≡ gap) × TokenAt front.class front.token (drop gap text.now)) (λ _. NoToken (drop gap text.now)) }
     ensures within { IfErr result (λ stop. stop.at ≤ length text.now) }
+    ensures why { IfErr result (λ stop. (stop.at ≡ gap) × NoTokenFor stop.reason (drop gap text.now)) }
 {
     let behind = &text[gap..];
     match token(behind) {

@@ -1,6 +1,6 @@
-ghost use Rattle.std.specs.Prelude.{◌≡◌, ◌≤◌, ◌<◌, ℕ, Some, IsTrue, get_or, length, take, drop, MatchOption, true, false};
+ghost use Rattle.std.specs.Prelude.{◌≡◌, ◌≤◌, ◌<◌, ◌-◌, ℕ, Some, IsTrue, get_or, length, take, drop, MatchOption, true, false};
 ghost use Rattle.bz_lex.specs.declared.gap.GapState.TheVariants.{Open};
-ghost use Rattle.bz_lex.specs.GapStates.{gap_move, gap_state_after, Stops, is_end};
+ghost use Rattle.bz_lex.specs.GapStates.{gap_move, gap_state_after, Stops, is_end, broken_off};
 
 /// How far a gap has been read.
 #[derive(Clone, Copy)]
@@ -63,7 +63,7 @@ pub struct GapFront {
 impl GapFront {
     /// Where the gap breaks off, if it does: at a backslash that is not right before a newline.
     pub fn broken_at(self) -> Option<usize>
-        ensures { MatchOption result (is_end true self.state ≡ true) (λ at. (is_end true self.state ≡ false) × (at ≤ self.length)) }
+        ensures { MatchOption result (is_end true self.state ≡ true) (λ at. (is_end true self.state ≡ false) × (at ≤ self.length) × (at ≡ self.length - broken_off self.state)) }
     {
         match self.state {
             GapState::Open | GapState::Comment => None,

@@ -9,15 +9,13 @@ mod leaf;
 mod limits;
 mod place;
 mod position;
-mod read;
 mod source;
 
 pub use bz_token::Class;
-pub use fault::ReadFault;
+pub use fault::{ReadFault, fault_at};
 pub use front::{Front, Reason, Stop, leaf_front};
 pub use leaf::Leaf;
 pub use limits::{DEPTH_LIMIT, LENGTH_LIMIT};
 pub use place::Place;
 pub use position::line_and_column;
-pub use read::{Reading, fault_at, read_leaves};
 pub use source::lex;

@@ -11,7 +11,7 @@ use Rattle.bz_token.specs.Scanner.{lone_marks, operator_marks, mark_start, text_
 use Rattle.bz_token.proofs.Strings.{string_taken}
 use Rattle.bz_token.proofs.Tables.{every, none_of, is_not, one_text}
 
-abbrev is_class_1 : Option Class → Bool
+abbrev pub is_class_1 : Option Class → Bool
 is_class_1 (Some v.Name) = true
 is_class_1 _ = false
 
@@ -19,7 +19,7 @@ abbrev is_class_5 : Option Class → Bool
 is_class_5 (Some v.Mark) = true
 is_class_5 _ = false
 
-at_1 : (o : Option Class) → is_class_1 o ≡ true → o ≡ Some v.Name
+pub at_1 : (o : Option Class) → is_class_1 o ≡ true → o ≡ Some v.Name
 at_1 (Some v.Name) h = refl
 at_1 _ h = absurd (both_ways false refl h)
 

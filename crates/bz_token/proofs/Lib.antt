@@ -12,3 +12,4 @@ pub mod Rows
 pub mod Characters
 pub mod Pieces
 pub mod Texts
+pub mod Opening

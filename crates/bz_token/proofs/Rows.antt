@@ -4,7 +4,7 @@ use Rattle.std.proofs.lemmas.Bool.{both_ways, and_parts}
 use Rattle.bz_token.specs.declared.class.Class.{Class}
 use Rattle.bz_token.specs.declared.class.Class.TheVariants as v
 use Rattle.bz_token.specs.declared.state.State.TheVariants.{Start, Fraction, Point, Word}
-use Rattle.bz_token.specs.Laws.{AllTokens, EachMark, EachKeyword, EachNumber, numbers, Cuts}
+use Rattle.bz_token.specs.Laws.{AllTokens, EachMark, EachKeyword, EachNumber, numbers, Cuts, ClassOfNumber}
 use Rattle.bz_token.specs.Lexemes.{marks, keywords, IsLexeme}
 use Rattle.bz_token.specs.Scanner.{reads, keyword_or_name, longest_front}
 use Rattle.bz_token.proofs.Laws.{separated}
@@ -53,3 +53,12 @@ pub cuts : Cuts
 unfolding longest_front
 cuts =
     ((some_token (codes "1..real") (Fraction, 2) v.Number refl refl refl).1, (some_token (codes ".real") (Point, 1) v.Mark refl refl refl).1, (some_token (codes "1.real") (Fraction, 2) v.Number refl refl refl).1, (some_token (codes "real") (Word, 4) v.Name refl refl refl).1)
+
+pub class_of_number : ClassOfNumber
+class_of_number v.Name = refl
+class_of_number v.Keyword = refl
+class_of_number v.Number = refl
+class_of_number v.String = refl
+class_of_number v.Mark = refl
+class_of_number v.Newline = refl
+class_of_number v.End = refl

@@ -21,7 +21,7 @@ pub quote_is : (q : Quote) → is_quote (quote_byte q) ≡ true
 quote_is Single = refl
 quote_is Double = refl
 
-itself : (q : Quote) → eqb (quote_byte q) (quote_byte q) ≡ true
+pub itself : (q : Quote) → eqb (quote_byte q) (quote_byte q) ≡ true
 itself Single = refl
 itself Double = refl
 
@@ -114,7 +114,7 @@ pub prefix_opens : (q : Quote) (p : List ℕ) → is_prefix p ≡ true → after
 prefix_opens Single p h = opened_at (after move Start (p ++ (39 ∷ []))) Single (one_text (opens Single) prefixes refl p h)
 prefix_opens Double p h = opened_at (after move Start (p ++ (34 ∷ []))) Double (one_text (opens Double) prefixes refl p h)
 
-prefixed : (q : Quote) (p x : List ℕ) → is_prefix p ≡ true → after move Start (p ++ (quote_byte q ∷ x)) ≡ after move (Opened q) x
+pub prefixed : (q : Quote) (p x : List ℕ) → is_prefix p ≡ true → after move Start (p ++ (quote_byte q ∷ x)) ≡ after move (Opened q) x
 prefixed q p x y = rw (← append_assoc p (quote_byte q ∷ []) x) (after_append move Start (Opened q) (p ++ (quote_byte q ∷ [])) x (prefix_opens q p y))
 
 pub empty_state : (q : Quote) (p : List ℕ) → is_prefix p ≡ true → after move Start (p ++ (quote_byte q ∷ quote_byte q ∷ [])) ≡ Some (Empty q)

@@ -58,7 +58,7 @@ third_of q p m b t u a y n e =
     let j : Empty m ≡ q = same_Some (Empty m) q (sym i ∙ a) in
     rw (← j) (eq-eqb b (quote_byte m) n)
 
-third_at : (q : State) (s : List ℕ) (p : List ℕ) (m : ℕ) (t u : List ℕ) → after move Start t ≡ Some q → is_prefix p ≡ true → is_quote m ≡ true → t ≡ p ++ (m ∷ m ∷ []) → s ≡ m ∷ u → before_third q s ≡ true
+pub third_at : (q : State) (s : List ℕ) (p : List ℕ) (m : ℕ) (t u : List ℕ) → after move Start t ≡ Some q → is_prefix p ≡ true → is_quote m ≡ true → t ≡ p ++ (m ∷ m ∷ []) → s ≡ m ∷ u → before_third q s ≡ true
 third_at q s p m t u a y n e i =
     let w = quote_of m n in
     rw i (third_of q p (w.0) m t u a y w.1 (subst (λ (x : ℕ). t ≡ p ++ (x ∷ x ∷ [])) w.1 e))
@@ -78,7 +78,7 @@ some_token s x k e n i =
     )
 
 -- what a third mark tells
-third_parts : (q : State) (s : List ℕ) → before_third q s ≡ true → (m : Quote) × (u : List ℕ) × (q ≡ Empty m) × (s ≡ quote_byte m ∷ u)
+pub third_parts : (q : State) (s : List ℕ) → before_third q s ≡ true → (m : Quote) × (u : List ℕ) × (q ≡ Empty m) × (s ≡ quote_byte m ∷ u)
 third_parts (Empty m) (b ∷ u) h = (m, u, refl, ap (λ (x : ℕ). x ∷ u) (eqb-true b (quote_byte m) h))
 third_parts _ _ h = absurd (both_ways false refl h)
 

@@ -1,10 +1,11 @@
 -- Laws of tokens.
-use Rattle.std.specs.Prelude.{◌≡◌, ℕ, true, List, [], ◌∷◌, ◌++◌, codes}
+use Rattle.std.specs.Prelude.{◌≡◌, ℕ, Some, true, List, [], ◌∷◌, ◌++◌, codes}
 use Rattle.bz_token.specs.declared.class.Class.{Class}
 use Rattle.bz_token.specs.declared.class.Class.TheVariants as v
-use Rattle.bz_token.specs.Bytes.{is_solid, is_separator, is_bracket_or_comma}
-use Rattle.bz_token.specs.Lexemes.{IsLexeme, marks, keywords}
-use Rattle.bz_token.specs.Tokens.{IsToken}
+use Rattle.bz_token.specs.Bytes.{is_solid, is_separator, is_bracket_or_comma, is_quote}
+use Rattle.bz_token.specs.Classes.{class_number, class_of}
+use Rattle.bz_token.specs.Lexemes.{IsLexeme, marks, keywords, is_prefix}
+use Rattle.bz_token.specs.Tokens.{IsToken, NoToken, OpensString}
 
 -- no text begins with two tokens
 abbrev pub OneToken : Type 0
@@ -45,3 +46,11 @@ EachNumber = AllTokens v.Number numbers
 abbrev pub Cuts : Type 0
 Cuts =
     IsToken v.Number (codes "1.") (codes ".real") × IsToken v.Mark (codes ".") (codes "real") × IsToken v.Number (codes "1.") (codes "real") × IsToken v.Name (codes "real") []
+
+-- the class of the number of a class is that class
+abbrev pub ClassOfNumber : Type 0
+ClassOfNumber = (class : Class) → class_of (class_number class) ≡ Some class
+
+-- A token at which a string begins that is not closed is its prefix: behind it stands a quotation mark, and no token begins there.
+abbrev pub OpensBehindPrefix : Type 0
+OpensBehindPrefix = (c : Class) (t r : List ℕ) → IsToken c t r → OpensString (t ++ r) → (mark : ℕ) × (back : List ℕ) × (is_prefix t ≡ true) × (r ≡ mark ∷ back) × (is_quote mark ≡ true) × NoToken r

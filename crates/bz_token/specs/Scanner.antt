@@ -1,5 +1,5 @@
 -- One machine for the lexemes of all classes: what the reader of tokens goes by. Its proofs say that it takes the texts of each class and no others.
-use Rattle.std.specs.Prelude.{false, ℕ, Bool, List, [], ◌∷◌, ◌||◌, nat_eq, Option, Some, None, is_some, if◌then◌else◌}
+use Rattle.std.specs.Prelude.{true, false, ℕ, Bool, List, [], ◌∷◌, ◌||◌, nat_eq, Option, Some, None, is_some, if◌then◌else◌}
 use Rattle.std.specs.Option.{option_or}
 use Rattle.bz_token.specs.declared.class.Class.{Class}
 use Rattle.bz_token.specs.declared.class.Class.TheVariants as v
@@ -130,6 +130,18 @@ ends _ = None
 
 abbrev pub may_end : State → Bool
 may_end q = is_some (ends q)
+
+-- behind the first mark of a string that is not closed so far
+abbrev pub is_in_string : State → Bool
+is_in_string (Opened m) = true
+is_in_string (Short m) = true
+is_in_string (ShortTaken m) = true
+is_in_string (ShortReturn m) = true
+is_in_string (Long m) = true
+is_in_string (LongOne m) = true
+is_in_string (LongTwo m) = true
+is_in_string (LongTaken m) = true
+is_in_string _ = false
 
 -- the class that the machine gives a whole text, read from a state
 abbrev pub reads : State → List ℕ → Option Class

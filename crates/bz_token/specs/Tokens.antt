@@ -1,6 +1,7 @@
 -- Which lexeme is the token where it begins.
 use Rattle.std.specs.Prelude.{◌≡◌, ◌≤◌, ℕ, true, List, [], ◌∷◌, ◌++◌, length, take, drop}
 use Rattle.bz_token.specs.declared.class.Class.{Class}
+use Rattle.bz_token.specs.declared.class.Class.TheVariants as v
 use Rattle.bz_token.specs.Bytes.{is_quote}
 use Rattle.bz_token.specs.Lexemes.{IsLexeme, is_prefix}
 
@@ -17,3 +18,8 @@ NoToken text = (class : Class) (token rest : List ℕ) → token ++ rest ≡ tex
 -- the first n bytes of the text are a token of this class
 abbrev pub TokenAt : Class → ℕ → List ℕ → Type 0
 TokenAt class n text = (n ≤ length text) × IsToken class (take n text) (drop n text)
+
+-- A string begins here that is not closed: an optional prefix and a quotation mark stand in front, and the token there is no string.
+pub record OpensString (text : List ℕ) : Type 0 where
+  pub marked : (prefix : List ℕ) × (mark : ℕ) × (back : List ℕ) × (text ≡ prefix ++ (mark ∷ back)) × (is_prefix prefix ≡ true) × (is_quote mark ≡ true)
+  pub unclosed : (string rest : List ℕ) → string ++ rest ≡ text → IsToken v.String string rest → ⊥

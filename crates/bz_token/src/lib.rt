@@ -9,5 +9,6 @@ mod theorems;
 pub use class::Class;
 pub use scan::{Found, opens_string, token};
 pub use theorems::{
-    begins, by_characters, cuts, each_keyword, each_mark, each_number, one_token, separated, single,
+    begins, by_characters, class_of_number, cuts, each_keyword, each_mark, each_number, one_token,
+    opens_behind_prefix, separated, single,
 };

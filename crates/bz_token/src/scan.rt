@@ -1,7 +1,7 @@
-ghost use Rattle.std.specs.Prelude.{◌≡◌, ◌≤◌, ◌<◌, ℕ, Some, None, take, drop, length, get_or, MatchOption, IfSome, IsUtf8, IsCharBoundary};
+ghost use Rattle.std.specs.Prelude.{◌≡◌, ◌↔◌, ◌≤◌, ◌<◌, ℕ, IsTrue, Some, None, take, drop, length, get_or, MatchOption, IfSome, IsUtf8, IsCharBoundary};
 ghost use Rattle.bz_token.specs.Lexemes.{is_keyword};
 ghost use Rattle.bz_token.specs.Scanner.{move, longest_front, before_third, keyword_or_name};
-ghost use Rattle.bz_token.specs.Tokens.{NoToken, TokenAt};
+ghost use Rattle.bz_token.specs.Tokens.{NoToken, OpensString, TokenAt};
 
 use crate::Class;
 use crate::state::State;
@@ -27,11 +27,12 @@ pub fn token(text: &[u8]) -> Option<Found>
     Some(Found { class, len })
 }
 
-/// Whether a string begins here, its prefix first where it has one, that is not closed. No clause speaks of it: it chooses
-/// among the faults that are told of a text.
-pub fn opens_string(text: &[u8]) -> bool {
+/// Whether a string begins here, its prefix first where it has one, that is not closed.
+pub fn opens_string(text: &[u8]) -> bool
+    ensures { IsTrue result ↔ OpensString text.now }
+{
     let mut state = State::Start;
-    for byte in text {
+    'bytes: for byte in text {
         match state.step(*byte) {
             None => return state.is_in_string(),
             Some(next) => state = next,

@@ -1,7 +1,7 @@
 ghost use Rattle.std.specs.Prelude.{◌≡◌, IsTrue, Some, None};
 ghost use Rattle.std.specs.Option.{option_or};
 ghost use Rattle.bz_token.specs.Bytes.{among, is_digit, is_hexadecimal, is_octal, is_e, is_x, is_o, is_sign, is_high, is_letter};
-ghost use Rattle.bz_token.specs.Scanner.{lone_marks, operator_marks, mark_start, number_start, text_start, quote_or_word, word_move, high_move, zero_move, whole_move, fraction_move, exponent_move, doubled_move, quote_byte, short_move, long_move, move, ends, may_end};
+ghost use Rattle.bz_token.specs.Scanner.{lone_marks, operator_marks, mark_start, number_start, text_start, quote_or_word, word_move, high_move, zero_move, whole_move, fraction_move, exponent_move, doubled_move, quote_byte, short_move, long_move, move, ends, may_end, is_in_string};
 
 use crate::Class;
 
@@ -101,7 +101,9 @@ impl State {
     }
 
     /// Whether a string was begun that is not closed here.
-    pub fn is_in_string(self) -> bool {
+    pub fn is_in_string(self) -> bool
+        ensures { result ≡ is_in_string self }
+    {
         matches!(
             self,
             State::Opened(_)

@@ -1,5 +1,5 @@
 ghost use Rattle.bz_token.specs.Characters.{ByCharacters};
-ghost use Rattle.bz_token.specs.Laws.{OneToken, Begins, Separated, Single, EachMark, EachKeyword, EachNumber, Cuts};
+ghost use Rattle.bz_token.specs.Laws.{OneToken, Begins, Separated, Single, EachMark, EachKeyword, EachNumber, Cuts, ClassOfNumber, OpensBehindPrefix};
 
 /// No text begins with two tokens: neither of two classes nor of two lengths.
 pub fn one_token()
@@ -44,4 +44,14 @@ pub fn cuts()
 /// The bytes of a text are a lexeme of a class just where its characters are.
 pub fn by_characters()
     ensures { ByCharacters }
+{}
+
+/// Each class is the class of its number.
+pub fn class_of_number()
+    ensures { ClassOfNumber }
+{}
+
+/// A token at which a string begins that is not closed is its prefix: behind it stands a quotation mark, and no token begins there.
+pub fn opens_behind_prefix()
+    ensures { OpensBehindPrefix }
 {}

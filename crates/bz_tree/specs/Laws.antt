@@ -1,7 +1,9 @@
 -- Laws of legal trees.
-use Rattle.std.specs.Prelude.{◌≡◌, ◌≤◌, ◌↔◌, ℕ, List, []}
+use Rattle.std.specs.Prelude.{◌≡◌, ◌≤◌, ◌↔◌, ℕ, Some, List, []}
 use Rattle.bz_lex.specs.Leaves.{AreLeaves, AreCoded}
+use Rattle.bz_tree.specs.declared.kind.Kind.{Kind}
 use Rattle.bz_tree.specs.declared.tree.Node.{Node}
+use Rattle.bz_tree.specs.Kinds.{kind_number, kind_of}
 use Rattle.bz_tree.specs.Spell.{spell_node, leaves_of, depth_of, depth_limit}
 use Rattle.bz_tree.specs.Spots.{Begins, AtParts, BzlStands, AreTokens}
 use Rattle.bz_tree.specs.Indents.{AreIndented}
@@ -44,3 +46,7 @@ LegalByNodes = (n : Node) → LegalBzl n ↔ IsLegalByLeaves n
 -- line begins behind a space or a tab.
 abbrev pub LegalByLines : Type 0
 LegalByLines = (n : Node) → Legal n ↔ (LegalBzl n × IsBuild n)
+
+-- the kind of the number of a kind is that kind
+abbrev pub KindOfNumber : Type 0
+KindOfNumber = (kind : Kind) → kind_of (kind_number kind) ≡ Some kind

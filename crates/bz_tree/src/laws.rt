@@ -1,5 +1,5 @@
 //! Laws of legal trees: the contract of each function is a law, and there is nothing to run.
-ghost use Rattle.bz_tree.specs.Laws.{GapsByNodes, LegalByLines, LegalByNodes, OneFile, OneReading, OneBzlReading, OneTree};
+ghost use Rattle.bz_tree.specs.Laws.{GapsByNodes, KindOfNumber, LegalByLines, LegalByNodes, OneFile, OneReading, OneBzlReading, OneTree};
 ghost use Rattle.bz_tree.specs.Worked.{WorkedLines};
 
 use crate::tree::Tree;
@@ -42,4 +42,9 @@ pub fn legal_by_lines()
 /// The lines of the statements of one small text.
 pub fn worked_lines()
     ensures { WorkedLines }
+{}
+
+/// Each kind is the kind of its number.
+pub fn kind_of_number()
+    ensures { KindOfNumber }
 {}

@@ -33,6 +33,8 @@ fn call_tokens_and_trees() {
     bz_token::each_number();
     bz_token::cuts();
     bz_token::by_characters();
+    bz_token::class_of_number();
+    bz_token::opens_behind_prefix();
     bz_lex::laws::one_lexing();
     bz_lex::laws::coded_leaves();
     bz_tree::laws::one_reading();
@@ -41,6 +43,7 @@ fn call_tokens_and_trees() {
     bz_tree::laws::one_bzl_reading();
     bz_tree::laws::legal_by_lines();
     bz_tree::laws::worked_lines();
+    bz_tree::laws::kind_of_number();
 }
 
 fn call_values() {

@@ -1,7 +1,7 @@
-//! Tokens and leaves.
+//! Tokens, places and classes.
 use crate::trees::{apart, told};
 use bz_items::Memory;
-use bz_lex::{Class, Leaf, ReadFault, Reading, lex, line_and_column, read_leaves};
+use bz_lex::{Class, ReadFault, lex, line_and_column};
 use bz_token::token;
 use sheets::{Case, CaseFault, Page};
 use std::alloc::Global;
@@ -11,7 +11,6 @@ use std::alloc::Global;
 pub(crate) enum TokenQuery {
     Token,
     Tokens,
-    Leaves,
     Place,
     Class,
 }
@@ -21,7 +20,6 @@ impl TokenQuery {
         match name {
             "token" => Some(TokenQuery::Token),
             "tokens" => Some(TokenQuery::Tokens),
-            "leaves" => Some(TokenQuery::Leaves),
             "place" => Some(TokenQuery::Place),
             "class" => Some(TokenQuery::Class),
             _ => None,
@@ -32,7 +30,6 @@ impl TokenQuery {
         let answer = match self {
             TokenQuery::Token => token_of(case.alloc, case.bytes(0)?)?,
             TokenQuery::Tokens => tokens_of(case.alloc, case.text(0)?)?,
-            TokenQuery::Leaves => return Ok(leaves_of(case.alloc, case.bytes(0)?, page)?),
             TokenQuery::Place => place_in(case)?,
             TokenQuery::Class => class_of(case.alloc, case.text(0)?)?,
         };
@@ -71,39 +68,6 @@ fn tokens_of(alloc: Global, text: &str) -> Result<String, Memory> {
         shown.push_str(token)?;
         blank = " ";
     }
-    Ok(shown)
-}
-
-/// `read_leaves`, of which nothing has to be known here.
-fn reading(alloc: Global, text: &[u8]) -> Result<Reading, Memory> {
-    read_leaves(alloc, text)
-}
-
-/// Writes a line for each leaf, and one for the fault.
-fn leaves_of(alloc: Global, text: &[u8], page: &mut Page) -> Result<(), Memory> {
-    let reading = reading(alloc, text)?;
-    for leaf in reading.leaves.as_slice() {
-        let shown = shown_leaf(alloc, leaf)?;
-        page.answer(shown.as_slice())?;
-    }
-    if let Some(fault) = &reading.fault {
-        let shown = told(alloc, fault)?;
-        page.answer(shown.as_bytes())?;
-    }
-    Ok(())
-}
-
-/// Class, gap and token of a leaf, which is to be equal to its copy.
-fn shown_leaf(alloc: Global, leaf: &Leaf) -> Result<Vec<u8>, Memory> {
-    if !leaf.copy()?.equals(leaf) {
-        return b"a leaf whose copy is another".to_vec(alloc);
-    }
-    let class = leaf.class;
-    let mut shown = format!(in alloc; "{class:?} <")?.into_bytes();
-    shown.extend_from_slice(leaf.gap.as_slice())?;
-    shown.extend_from_slice(b"|")?;
-    shown.extend_from_slice(leaf.token.as_slice())?;
-    shown.extend_from_slice(b">")?;
     Ok(shown)
 }
 

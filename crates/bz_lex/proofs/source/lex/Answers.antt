@@ -1,6 +1,7 @@
 use Rattle.std.proofs.Common.{map, refl, ◌∙◌, ap}
 use Rattle.std.proofs.lemmas.List.{map-append}
 use Rattle.bz_lex.proofs.Lexing.{next_turn, shorter, done}
+use Rattle.bz_lex.proofs.Stopping.{stop_placed, stop_lexical}
 use Rattle.bz_lex.proofs.source.lex.Goals as goal
 
 pub returns-in-Ok-None-clause-told : goal.returns-in-Ok-None-clause-told
@@ -16,3 +17,12 @@ tokens-preserved c = record {
   text = c.behind-rest.utf8;
   whole = refl;
 }
+
+pub returns-in-Err-clause-placed : goal.returns-in-Err-clause-placed
+returns-in-Err-clause-placed c _ =
+    let stop = rw c.as_bytes.ensures.value at c.in-Err.ensures.stops in
+    let fault = rw c.as_bytes-in-Err.ensures.value at c.fault_at.ensures.told in
+    stop_placed _ _ _ _ _ _ c.tokens.invariant.lexed stop fault refl
+
+pub returns-in-Err-clause-lexical : goal.returns-in-Err-clause-lexical
+returns-in-Err-clause-lexical c = stop_lexical _ _ _ _ _ c.in-Err.ensures.stops c.fault_at.ensures.told
