@@ -3,3 +3,4 @@ pub mod Drawn
 pub mod Laws
 pub mod Layout
 pub mod Level
+pub mod Worked

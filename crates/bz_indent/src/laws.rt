@@ -1,5 +1,6 @@
 //! Facts about the definitions, for readers and for the proofs of other crates: the functions do nothing.
 ghost use Rattle.bz_indent.specs.Laws.{BzlLayoutIsAccepted, BzlLayoutIsTooDeep, BzlLayoutReadsBack, LevelKeepsComments, LevelKeepsLayout, LevelStays};
+ghost use Rattle.bz_indent.specs.Worked.{WorkedBzlLayouts};
 
 use bz_tidy::flags_settle;
 
@@ -37,4 +38,9 @@ pub fn bzl_layout_is_too_deep()
 /// What the tree of the layout of a proper value says is the value, levelled.
 pub fn bzl_layout_reads_back()
     ensures { BzlLayoutReadsBack }
+{}
+
+/// Worked rows of the layout: small values of .bzl files, the text of each, and how it is levelled.
+pub fn worked_bzl_layouts()
+    ensures { WorkedBzlLayouts }
 {}

@@ -2,3 +2,4 @@ pub mod Kept
 pub mod Laws
 pub mod Proper
 pub mod View
+pub mod Worked

@@ -2,6 +2,7 @@
 
 ghost use Rattle.bz_suite.specs.Kept.{BzlCommentsKept};
 ghost use Rattle.bz_suite.specs.Laws.{BzlViewIsProper};
+ghost use Rattle.bz_suite.specs.Worked.{WorkedBzlViews};
 
 /// Each comment of the legal tree of a .bzl file stands in what the file says as often as in the tree's gaps: none is lost or doubled.
 pub fn bzl_comments_kept()
@@ -11,4 +12,9 @@ pub fn bzl_comments_kept()
 /// What the legal tree of a .bzl file says is a proper value: the layout can write it, and the grammar reads it back.
 pub fn bzl_view_is_proper()
     ensures { BzlViewIsProper }
+{}
+
+/// Worked rows of what .bzl files say: for each a text, its tree, and its items.
+pub fn worked_bzl_views()
+    ensures { WorkedBzlViews }
 {}

@@ -20,50 +20,50 @@ use Rattle.bz_view.specs.View.{view_of}
 
 -- ---- trees: each leaf with the gap before it
 
-abbrev leaf : Class → Bytes → Bytes → Part
+abbrev pub leaf : Class → Bytes → Bytes → Part
 leaf class gap token = p.Leaf (record { class = class; gap = gap; token = token })
 
-abbrev name : Bytes → Bytes → Part
+abbrev pub name : Bytes → Bytes → Part
 name gap token = leaf c.Name gap token
 
-abbrev mark : Bytes → Bytes → Part
+abbrev pub mark : Bytes → Bytes → Part
 mark gap token = leaf c.Mark gap token
 
-abbrev word : Bytes → Bytes → Part
+abbrev pub word : Bytes → Bytes → Part
 word gap token = leaf c.Keyword gap token
 
-abbrev node : Kind → List Part → Part
+abbrev pub node : Kind → List Part → Part
 node kind parts = p.Node (record { kind = kind; parts = parts })
 
 -- statements and semicolons, and the gap of the Newline behind them
-abbrev line : List Part → Bytes → Part
+abbrev pub line : List Part → Bytes → Part
 line parts gap = node k.Line (parts ++ leaf c.Newline gap (codes "\n") ∷ [])
 
-abbrev bare : Part → Part
+abbrev pub bare : Part → Part
 bare part = line (node k.Bare (part ∷ []) ∷ []) []
 
-abbrev file : List Part → Bytes → Node
+abbrev pub file : List Part → Bytes → Node
 file lines gap = record { kind = k.File; parts = lines ++ leaf c.End gap [] ∷ [] }
 
 -- ---- values
 
-abbrev with : List Bytes → Option Bytes → HostComments
+abbrev pub with : List Bytes → Option Bytes → HostComments
 with before suffix = record { before = before; suffix = suffix }
 
-abbrev token : HostComments → Class → Bytes → Expr
+abbrev pub token : HostComments → Class → Bytes → Expr
 token comments class text = e.Token (record { class = class; text = text; break_ = false; comments = comments })
 
-abbrev plain : Class → Bytes → Expr
+abbrev pub plain : Class → Bytes → Expr
 plain class text = token no_comments class text
 
 -- the last token of an operator behind which a new line begins
 abbrev breaking : Class → Bytes → Expr
 breaking class text = e.Token (record { class = class; text = text; break_ = true; comments = no_comments })
 
-abbrev row : HostComments → Kind → Bool → List Expr → Expr
+abbrev pub row : HostComments → Kind → Bool → List Expr → Expr
 row comments kind open_ parts = e.Form (record { kind = kind; parts = parts; seq = record { items = []; end_ = []; split = false }; open_ = open_; comments = comments })
 
-abbrev sequence : Kind → List Expr → Bool → List Expr → List Bytes → Expr
+abbrev pub sequence : Kind → List Expr → Bool → List Expr → List Bytes → Expr
 sequence kind parts split items end_ = e.Form (record { kind = kind; parts = parts; seq = record { items = items; end_ = end_; split = split }; open_ = false; comments = no_comments })
 
 abbrev argument : HostComments → Bytes → Expr → Expr
