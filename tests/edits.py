@@ -31,7 +31,7 @@ import threading
 import time
 
 sys.path.append(str(pathlib.Path(__file__).resolve().parent.parent / "tools"))
-from build import RT, processors
+from build import processors
 from crates import TOP, copy_sources, libraries_of, take_library
 
 EDITS = TOP / "edits"
@@ -137,7 +137,7 @@ def why_refused_alone(texts, function, crate):
         for file, text in texts.items():
             (crate / file).write_text(text)
         for path in (function, function.partition("::")[0]):
-            status, said = run([RT, "check", "--jobs", "1", "--only", path], crate)
+            status, said = run(["rt", "check", "--jobs", "1", "--only", path], crate)
             if status is None:
                 return f": no proof was found in {LONGEST} seconds"
             ended = ENDED.search(said)
