@@ -13,6 +13,7 @@ pub(crate) fn answer(case: &Case, page: &mut Page) -> Result<(), CaseFault> {
     call_tokens_and_trees();
     call_values();
     call_words();
+    call_suites();
     call_effects();
     call_histories();
     let answer: &[u8] = if are_met(case.alloc) {
@@ -68,6 +69,20 @@ fn call_values() {
     bz_tidy::sorting_is_the_one();
     bz_tidy::flags_settle();
     bz_tidy::exchanged_tidied();
+}
+
+fn call_suites() {
+    bz_suite::bzl_view_is_proper();
+    bz_suite::bzl_comments_kept();
+    bz_suite::worked_bzl_views();
+    bz_indent::level_stays();
+    bz_indent::level_keeps_comments();
+    bz_indent::level_keeps_layout();
+    bz_indent::bzl_layout_is_accepted();
+    bz_indent::bzl_layout_is_too_deep();
+    bz_indent::bzl_layout_reads_back();
+    bz_indent::worked_bzl_layouts();
+    bz_format::formatted_bzl_once();
 }
 
 fn call_words() {

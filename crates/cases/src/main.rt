@@ -22,6 +22,8 @@
 //! | `copies` | a gap, and a comment | a copy of a form that has the comments of the gap, but for that of its first line, above, and the comment behind; whether all copies are equal |
 //! | `layout` | a text | the layout of its file value, which has that layout in its turn |
 //! | `formatted` | a text | the layout of its file value tidied, which is formatted to that in its turn |
+//! | `bzl` | a text of a .bzl file | its tree, or the number and the text of its fault |
+//! | `bzl_formatted` | a text of a .bzl file | its formatted text, which is formatted to itself |
 //! | `splice PLACE COUNT` | two texts | the first with so many of its bytes, from the place on, exchanged for the second; the bytes that were there; and the result from its last byte on |
 //! | `token` | a text | the class and the bytes of the token that it begins with |
 //! | `tokens` | a text | its tokens, or its fault |
@@ -58,6 +60,7 @@ mod lists;
 mod measuring;
 mod query;
 mod sessions;
+mod suites;
 mod tokens;
 mod trees;
 mod values;

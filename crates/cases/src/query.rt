@@ -4,7 +4,7 @@ use crate::labels::LabelQuery;
 use crate::tokens::TokenQuery;
 use crate::trees::TreeQuery;
 use crate::values::ValueQuery;
-use crate::{copies, journals, laws, lists, sessions};
+use crate::{copies, journals, laws, lists, sessions, suites};
 use sheets::{Case, CaseFault, Page, Question};
 
 /// What is asked of a case, by the layer that answers.
@@ -23,6 +23,7 @@ pub(crate) enum Query {
 pub(crate) enum SingleQuery {
     Splice,
     Copies,
+    BzlFormatted,
     Session,
     Weights,
     Journal,
@@ -34,6 +35,7 @@ impl SingleQuery {
         match name {
             "splice" => Some(SingleQuery::Splice),
             "copies" => Some(SingleQuery::Copies),
+            "bzl_formatted" => Some(SingleQuery::BzlFormatted),
             "session" => Some(SingleQuery::Session),
             "weights" => Some(SingleQuery::Weights),
             "journal" => Some(SingleQuery::Journal),
@@ -46,6 +48,7 @@ impl SingleQuery {
         match self {
             SingleQuery::Splice => lists::answer(case, page),
             SingleQuery::Copies => copies::answer(case, page),
+            SingleQuery::BzlFormatted => suites::answer(case, page),
             SingleQuery::Session => sessions::answer(case, page),
             SingleQuery::Weights => sessions::answer_weights(case, page),
             SingleQuery::Journal => journals::answer(case, page),
