@@ -6,7 +6,8 @@
     tests/names.py --write writes that list anew
 
 Read are the definitions of specs/ and the public types, calls and constants of src/. Left out are names that Rust and these crates give
-to many (new, copy, len), and those of programs and of what tests stand on, which no contract cites.
+to many (new, copy, len), those of programs and of what tests stand on, which no contract cites, and the terms that worked rows are made of,
+which other worked rows alone cite.
 """
 import collections
 import pathlib
@@ -19,6 +20,8 @@ ACCEPTED = pathlib.Path(__file__).with_suffix(".txt")
 HABIT = {"new", "copy", "equals", "number", "of", "read", "len", "get", "push", "as_slice", "open", "name", "is_empty", "mod"}
 # crates whose names no contract cites
 ASIDE = {"sheets", "cases", "runs", "rows", "buildozer", "buildifier"}
+# the file of worked rows
+ROWS = "Worked.antt"
 DEFINITION = re.compile(r"^(?:abbrev |unfoldable )*pub (?:record |data |abbrev )?([A-Za-z_]\w*)\s*[:(]|^(?:abbrev|unfoldable) pub ([A-Za-z_]\w*) *:")
 CODE = re.compile(r"^\s*pub (?:const )?(?:struct|enum|trait|fn|const) ([A-Za-z_]\w*)")
 
@@ -29,7 +32,7 @@ def homes():
     for pattern, files in ((DEFINITION, "*/specs/**/*.antt"), (CODE, "*/src/**/*.rt")):
         for file in (TOP / "crates").glob(files):
             crate = file.relative_to(TOP / "crates").parts[0]
-            if crate not in ASIDE:
+            if crate not in ASIDE and file.name != ROWS:
                 names = [m[1] or m[pattern.groups] for m in map(pattern.match, file.read_text().splitlines()) if m]
                 for name in set(names) - HABIT:
                     found[name].add(crate)
