@@ -11,6 +11,7 @@ runs as root the program runs as nobody, since rights are nothing to root.
 import os
 import pathlib
 import shutil
+import resource
 import subprocess
 import sys
 import tempfile
@@ -271,6 +272,31 @@ def a_usage_fault_leaves_all(w):
     return all([w.leaves(words, 1, err=err, text=text, begins=b"buildozer" not in err) for words, err, text in FAULTS])
 
 
+# how much memory a run may take that is refused as too large, in bytes
+REFUSED_WITHIN = 1 << 30
+
+
+def copies_of_a_comment_past_the_limit(w):
+    """They are counted and not built: 4.5 GB of them are refused within 1 GB. A rule that refuses comes first, also behind many that don't."""
+    rules = b"".join(b'f(name = "r%06d", k = [])\n' % number for number in range(75_000))
+    long = "c" * 60_000
+    runs = [
+        (f"comment {long}", rules, b"TooLarge (21)"),
+        (f"comment k {long}", rules, b"TooLarge (21)"),
+        (f"comment k {long}", rules + b'f(name = "z")\n', b"NoAttribute (42)"),
+    ]
+    for command, text, refusal in runs:
+        (w.path / "d").mkdir(exist_ok=True)
+        (w.path / "d/BUILD").write_bytes(text)
+        limit = (REFUSED_WITHIN, REFUSED_WITHIN)
+        how = {"cwd": w.path, "capture_output": True, "timeout": 60, "preexec_fn": lambda: resource.setrlimit(resource.RLIMIT_AS, limit)}
+        run = subprocess.run([w.program, command, "//d:all"], **how)
+        told = b"buildozer: d/BUILD: %s: %s\n" % (command.encode(), refusal)
+        if (run.returncode, run.stdout, run.stderr) != (2, b"", told) or (w.path / "d/BUILD").read_bytes() != text:
+            w.wrong.append(f"{command[:20]}: {run.returncode}, {run.stderr[-60:]}, and not {refusal}")
+    return not w.wrong
+
+
 def a_run(words, status, left):
     return lambda w: w.leaves(words, status, **left)
 
@@ -278,7 +304,7 @@ def a_run(words, status, left):
 FUNCTIONS = [
     a_hundred_lines, an_unchanged_file_is_not_written, permission_bits_stay, a_closed_folder_is_told, an_unreadable_file_is_told,
     a_folder_for_the_first_name_is_told, a_folder_for_the_second_name_is_told, a_link_becomes_a_file, a_left_file_is_written_over,
-    a_file_by_a_second_path_keeps_the_first_edit, a_refused_text_is_told, a_usage_fault_leaves_all,
+    a_file_by_a_second_path_keeps_the_first_edit, a_refused_text_is_told, a_usage_fault_leaves_all, copies_of_a_comment_past_the_limit,
 ]  # fmt: skip
 
 # Each scene by its name; each has a workspace of its own.
