@@ -1,5 +1,6 @@
 pub mod Acting
 pub mod Alike
+pub mod Faulted
 pub mod Following
 pub mod Formatting
 pub mod Hashes

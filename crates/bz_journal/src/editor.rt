@@ -1,8 +1,10 @@
 //! An editor: a session, and beside it the value of the present text from one command to the next.
-ghost use Rattle.std.specs.Prelude.{◌≡◌, ◌≢◌, ◌≤◌, ◌<◌, ◌++◌, ◌↔◌, ◌⊎◌, ℕ, length, true, Err, IfErr, IfOk, IfSome, IsOk, Ok, OnErr, OnOk};
+ghost use Rattle.std.specs.Prelude.{◌≡◌, ◌≢◌, ◌≤◌, ◌<◌, ◌++◌, ◌↔◌, ◌⊎◌, ℕ, length, true, Err, IfErr, IfOk, IfSome, IsErrOf, IsOk, Ok, OnErr, OnOk, Some};
+ghost use Rattle.std.specs.FinMap.{get};
 ghost use Rattle.std.specs.Str.{IsValidUpTo};
 ghost use Rattle.bz_files.specs.Faults.{Rises};
 ghost use Rattle.bz_files.specs.Folder.{Elapses, Folder};
+ghost use Rattle.bz_keep.specs.Pair.{journal_name};
 ghost use Rattle.bz_keep.specs.Resuming.{Holds, OthersStay, Resumes, Survives};
 ghost use Rattle.bz_tree.specs.Faults.{IsOfText};
 ghost use Rattle.bz_tree.specs.Legal.{Accepted};
@@ -19,6 +21,7 @@ ghost use Rattle.bz_journal.specs.Editing.{IsCommandDone};
 ghost use Rattle.bz_formatter.specs.Fixed.{IsFormatted};
 ghost use Rattle.bz_journal.specs.History.{note_limit, opened, present, Acts, IsFormat};
 ghost use Rattle.bz_journal.specs.Keeping.{IsRefused, IsWriteOrOpen, Keeps};
+ghost use Rattle.bz_journal.specs.Lasting.{saved};
 ghost use Rattle.bz_journal.specs.Listing.{listing};
 ghost use Rattle.bz_journal.specs.Shown.{session_history, IsOverEven};
 ghost use Rattle.bz_journal.specs.State.{session_trail};
@@ -319,8 +322,15 @@ impl Editor {
             → OnOk result ((session_history self.new).cursor ≢ (session_history self.old).cursor
             → Holds (F.folder files.new) file.now (session_history self.old).«package» (present (session_history self.new)) (session_history self.new).texts
             × OthersStay file.now (F.folder files.old) (F.folder files.new)) }
+        ensures told { F.honest files.old ≡ true → (now : Folder) → F.since files.new (F.moment files.old) now
+            → (get now (journal_name file.now) ≡ get (F.folder files.old) (journal_name file.now)) ⊎ (get now (journal_name file.now) ≡ Some (saved self.new)) }
+        ensures journal { F.honest files.old ≡ true → OnOk result ((session_history self.new).cursor ≢ (session_history self.old).cursor
+            → get (F.folder files.new) (journal_name file.now) ≡ Some (saved self.new)) }
 
-        // Nothing is replaced where the present text stays, and at every fault but Write.
+        // That the file holds another text is said only where it does. Nothing is replaced where the present text stays, and at every
+        // fault but Write.
+        ensures changed { F.honest files.old ≡ true → IsErrOf result (KeepFault.Pair PairFault.Changed)
+            → get (F.folder files.old) file.now ≢ Some (present (session_history self.old)) }
         ensures still { OnOk result ((session_history self.new).cursor ≡ (session_history self.old).cursor → files.new ≡ files.old) }
         ensures untouched { F.honest files.old ≡ true → IfErr result (λ fault. fault ≢ KeepFault.Pair PairFault.Write
             → (now : Folder) → F.since files.new (F.moment files.old) now → now ≡ F.folder files.old) }

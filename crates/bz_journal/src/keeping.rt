@@ -1,7 +1,9 @@
 //! Actions whose history outlives the run: a file and its journal, kept.
-ghost use Rattle.std.specs.Prelude.{◌≡◌, ◌≢◌, ◌⊎◌, ◌≤◌, ◌<◌, [], true, length, IfOk, IfErr, IsErrOf, OnOk};
+ghost use Rattle.std.specs.Prelude.{◌≡◌, ◌≢◌, ◌⊎◌, ◌≤◌, ◌<◌, [], true, length, Some, IfOk, IfErr, IsErrOf, OnOk};
+ghost use Rattle.std.specs.FinMap.{get};
 ghost use Rattle.bz_files.specs.Faults.{Rises};
 ghost use Rattle.bz_files.specs.Folder.{Elapses, Folder};
+ghost use Rattle.bz_keep.specs.Pair.{journal_name};
 ghost use Rattle.bz_keep.specs.Resuming.{FollowsKept, Holds, OthersStay, Resumes, Survives};
 ghost use Rattle.bz_trail.specs.Trails.{IsSmall};
 ghost use Rattle.bz_journal.specs.Actions.{action_in};
@@ -52,7 +54,16 @@ impl<D: Digests + Drop> Session<D> {
             → Holds (F.folder files.new) file.now (session_history self.old).«package» (present (session_history self.new)) (session_history self.new).texts
             × OthersStay file.now (F.folder files.old) (F.folder files.new)) }
 
-        // Nothing is replaced where the present text stays, and at every fault but Write.
+        // The journal is as before or the session's, at every moment, and the session's where the text is another one.
+        ensures told { F.honest files.old ≡ true → (now : Folder) → F.since files.new (F.moment files.old) now
+            → (get now (journal_name file.now) ≡ get (F.folder files.old) (journal_name file.now)) ⊎ (get now (journal_name file.now) ≡ Some (saved self.new)) }
+        ensures journal { F.honest files.old ≡ true → OnOk result ((session_history self.new).cursor ≢ (session_history self.old).cursor
+            → get (F.folder files.new) (journal_name file.now) ≡ Some (saved self.new)) }
+
+        // That the file holds another text is said only where it does. Nothing is replaced where the present text stays, and at every
+        // fault but Write.
+        ensures changed { F.honest files.old ≡ true → IsErrOf result (KeepFault.Pair PairFault.Changed)
+            → get (F.folder files.old) file.now ≢ Some (present (session_history self.old)) }
         ensures still { OnOk result ((session_history self.new).cursor ≡ (session_history self.old).cursor → files.new ≡ files.old) }
         ensures untouched { F.honest files.old ≡ true → IfErr result (λ fault. fault ≢ KeepFault.Pair PairFault.Write
             → (now : Folder) → F.since files.new (F.moment files.old) now → now ≡ F.folder files.old) }
@@ -94,7 +105,16 @@ impl<D: Digests + Drop> Session<D> {
             → Holds (F.folder files.new) file.now (session_history self.old).«package» (present (session_history self.new)) (session_history self.new).texts
             × OthersStay file.now (F.folder files.old) (F.folder files.new)) }
 
-        // Nothing is replaced where the present text stays, and at every fault but Write.
+        // The journal is as before or the session's, at every moment, and the session's where the text is another one.
+        ensures told { F.honest files.old ≡ true → (now : Folder) → F.since files.new (F.moment files.old) now
+            → (get now (journal_name file.now) ≡ get (F.folder files.old) (journal_name file.now)) ⊎ (get now (journal_name file.now) ≡ Some (saved self.new)) }
+        ensures journal { F.honest files.old ≡ true → OnOk result ((session_history self.new).cursor ≢ (session_history self.old).cursor
+            → get (F.folder files.new) (journal_name file.now) ≡ Some (saved self.new)) }
+
+        // That the file holds another text is said only where it does. Nothing is replaced where the present text stays, and at every
+        // fault but Write.
+        ensures changed { F.honest files.old ≡ true → IsErrOf result (KeepFault.Pair PairFault.Changed)
+            → get (F.folder files.old) file.now ≢ Some (present (session_history self.old)) }
         ensures still { OnOk result ((session_history self.new).cursor ≡ (session_history self.old).cursor → files.new ≡ files.old) }
         ensures untouched { F.honest files.old ≡ true → IfErr result (λ fault. fault ≢ KeepFault.Pair PairFault.Write
             → (now : Folder) → F.since files.new (F.moment files.old) now → now ≡ F.folder files.old) }
@@ -173,6 +193,11 @@ impl<D: Digests + Drop> Session<D> {
             → Resumes (F.folder files.old) file.now h.package h.texts
             → Holds (F.folder files.new) file.now h.package (present (session_history self.now)) (session_history self.now).texts
             × OthersStay file.now (F.folder files.old) (F.folder files.new)) }
+        ensures changed { F.honest files.old ≡ true → IsErrOf result PairFault.Changed → (h : History) → IfOk standing (λ text. text.items ≡ present h)
+            → get (F.folder files.old) file.now ≢ Some (present h) }
+        ensures told { F.honest files.old ≡ true → (now : Folder) → F.since files.new (F.moment files.old) now
+            → (get now (journal_name file.now) ≡ get (F.folder files.old) (journal_name file.now)) ⊎ (get now (journal_name file.now) ≡ Some (saved self.now)) }
+        ensures journal { F.honest files.old ≡ true → OnOk result (get (F.folder files.new) (journal_name file.now) ≡ Some (saved self.now)) }
         ensures untouched { F.honest files.old ≡ true → IfErr result (λ fault. fault ≢ PairFault.Write
             → (now : Folder) → F.since files.new (F.moment files.old) now → now ≡ F.folder files.old) }
         ensures cause { (IsErrOf result PairFault.Write) ⊎ (IsErrOf result PairFault.Open) → Rises (F.faults files.old) (F.faults files.new) }

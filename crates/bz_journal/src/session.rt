@@ -463,6 +463,7 @@ impl<D: Digests + Drop> Session<D> {
         ensures ok { OnOk result ((added : List (Result Reply Refusal)) × (replies.new.items ≡ replies.old.items ++ added)
             × Runs (session_history self.old) (map action_in actions.now) added (session_history self.new)) }
         ensures err { OnErr result ((replies.new.items ≡ replies.old.items) × (session_history self.new ≡ session_history self.old)) }
+        ensures unmoved { OnErr result (self.new ≡ self.old) }
         ensures room { vec_len replies.old + length actions.now ≤ vec_capacity replies.old → IsOk result }
         ensures small { IsSmall (session_trail self.old) → IsSmall (session_trail self.new) }
     {
