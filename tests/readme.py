@@ -1,8 +1,9 @@
 #!/usr/bin/env python3
-"""Runs the examples of README.md and of the other pages, and compares the tables of the pages of reference, and the picture of the
-crates, with the code. README.md must be short and have a link to each page; links lead somewhere, and files, crates and names of the sources that pages name are there.
+"""Runs the examples of README.md and of the other pages, and compares the tables of the pages of reference, the picture of the crates and
+the index of definitions with the code. README.md must be short and have a link to each page, and docs/PROVED.md one to the page of each
+crate; links lead somewhere, and files, crates and names of the sources that pages name are there.
 
-The pages are README.md, those beside it, those of docs/ and those in contrib/. A block of code in which lines begin with `$` is an example: its commands
+The pages are README.md, those beside it, those of docs/, of contrib/ and of each crate. A block of code in which lines begin with `$` is an example: its commands
 run one after the other, in a folder of the block's own that is empty at first, with both programs on the PATH. What a command leaves
 on its two outputs must be what stands below it, byte for byte, up to the next command. A block that calls git is told as not run
 where there is no git. The commands in the tables need only be such as the program takes.
@@ -20,9 +21,15 @@ import tempfile
 from files import report
 
 TOP = pathlib.Path(__file__).resolve().parent.parent
+sys.path.insert(0, str(TOP / "tools"))
+import crates as parts  # noqa: E402
+import definitions  # noqa: E402
+
 README = TOP / "README.md"
+# the page of each crate
+CRATE_PAGES = sorted(TOP.glob("crates/*/README.md"))
 # README comes first, so that its examples have the first numbers
-PAGES = sorted([*TOP.glob("*.md"), *TOP.glob("docs/*.md"), *TOP.glob("contrib/*/*.md")], key=lambda page: (page != README, page))
+PAGES = sorted([*TOP.glob("*.md"), *TOP.glob("docs/*.md"), *TOP.glob("contrib/*/*.md"), *CRATE_PAGES], key=lambda page: (page != README, page))
 # the pages that have the tables of commands, options, targets, statuses, attributes and refusals
 REFERENCE = "".join((TOP / "docs" / page).read_text() for page in ("buildozer.md", "buildifier.md", "refusals.md"))
 # how many lines README has at most
@@ -39,10 +46,14 @@ LINK = re.compile(r"\]\((?!\w+:)([^)#]+)(?:#[^)]*)?\)")
 OF_TOP, OF_CRATES = "docs|tools|tests|contrib|crates|bench|edits|examples|\\.ci", "src|specs|proofs|must-fail"
 PATH = re.compile(rf"(?<![\w./-])(?:{OF_TOP}|{OF_CRATES})/[\w./-]*\w(?![\w*{{-])|(?<![\w./-])[A-Z]+\.md\b")
 FORM = re.compile(r"(?:^|/)[A-Z_]+(?:/|\.edit|$)|/out/")
-# pages that name what is in the sources, a name as these have it, and names that are none of theirs: Rattle's own, and a tool's
-OF_SOURCES = ["ARCHITECTURE.md", "DEFINITIONS.md", "PROMISES.md", "PROOFS.md", "PROVED.md"]
+# pages that name what is in the sources, a name as these have it, and names that are none of theirs: Rattle's own, a tool's, a slip's
+OF_SOURCES = ["ARCHITECTURE.md", "DECISIONS.md", "DEFINITIONS.md", "PROMISES.md", "PROOFS.md", "PROVED.md"]
 WORD = re.compile(r"[A-Za-z_][\w-]*")
-NAMES_OF_OTHERS = {"Tie", "is-1", "loop-X-preserved", "grep"}
+NAMES_OF_OTHERS = {"Tie", "is-1", "loop-X-preserved", "grep", "make", "flock", "unversioned", "chekc", "st", "b1", "o8"}
+# a row of a crate's definitions: names, the files of specs/ that have them
+OF_SPECS = re.compile(r"(?m)^\| ([^|]*`[^|]*) \| ([A-Z]\w*(?:, [A-Z]\w*)*) \|")
+# what contracts cite of the definitions; these have no names that the toolchain made
+CITED = re.compile(r"ghost use Rattle\.bz_[a-z]+\.specs\.([\w.]+)\.\{([^}]*)\}")
 # a row of the code's tables of numbers
 NUMBER = re.compile(r"\b(?:\w+Fault|Refusal)::(\w+)(?: \{ \.\. \})? => (\d+),")
 # a row of the table of why a journal is refused, in which the name and the number are one text
@@ -209,11 +220,11 @@ def links_of(page):
 
 
 def pages_are_linked(programs, folder):
-    """README has a link to each page and picture, and every link leads to a file."""
-    linked = links_of(README)
-    pages = [*PAGES, *TOP.glob("docs/*.svg")]
-    lost = [f"README.md has no link to {page.relative_to(TOP)}" for page in pages if page != README and page not in linked]
-    return lost + [f"{page.name} links to {file}" for page in PAGES for file in sorted(links_of(page)) if not file.exists()]
+    """README has a link to each page and picture, the index to that of each crate, and every link leads to a file."""
+    index = TOP / "docs" / "PROVED.md"
+    owed = {README: {*PAGES, *TOP.glob("docs/*.svg")} - {README, *CRATE_PAGES}, index: {CRATES / crate / "README.md" for crate in parts.libraries_of()}}
+    lost = [f"{page.name} has no link to {other.relative_to(TOP)}" for page, others in owed.items() for other in sorted(others - links_of(page))]
+    return lost + [f"{page.relative_to(TOP)} links to {file}" for page in PAGES for file in sorted(links_of(page)) if not file.exists()]
 
 
 def readme_is_short(programs, folder):
@@ -222,16 +233,19 @@ def readme_is_short(programs, folder):
 
 
 def files_are_there(programs, folder):
-    """Each file that a page names is there, from the top of the repository, from docs/ or in a crate; that of a module may lack `.antt`."""
-    places, wrong = [TOP, TOP / "docs", *CRATES.iterdir()], []
+    """Each file that a page names is there, from the top of the repository, from docs/ or in a crate, on the page of a crate in that one
+    or one that the page names; that of a module may lack `.antt`."""
+    wrong = []
     for page in PAGES:
-        named = {path for path in PATH.findall(page.read_text()) if not FORM.search(path)}
+        text = page.read_text()
+        own = [CRATES / name for name in re.findall(r"\bbz_\w+", text)] if page in CRATE_PAGES else CRATES.iterdir()
+        places = [TOP, TOP / "docs", page.parent, *own]
+        named = {path for path in PATH.findall(text) if not FORM.search(path)}
         lost = [path for path in sorted(named) if not any((place / f"{path}{end}").exists() for place in places for end in ("", ".antt"))]
         wrong += [f"{page.relative_to(TOP)} names {path}" for path in lost]
     return wrong
 
 
-SCENES = {name: an_example(name, block) for name, block in named_examples().items()}
 def crates_are_there(programs, folder):
     """Each crate that a page names is there."""
     there = {crate.name for crate in CRATES.iterdir()}
@@ -239,13 +253,53 @@ def crates_are_there(programs, folder):
     return [f"{page.relative_to(TOP)} names {name}" for page in PAGES for name in sorted(named[page] - there)]
 
 
+def names_in_sources():
+    """The names in the sources of each crate, of the places in which they count on its page: in it, in a crate below, or in one that the page
+    names."""
+    files = {crate: CRATES.glob(f"{crate}/*/**/*.*t") for crate in parts.libraries_of()}
+    read = {crate: [file.read_text() for file in found if file.suffix in (".rt", ".antt") and "/out/" not in str(file)] for crate, found in files.items()}
+    return {crate: {word for text in texts for word in WORD.findall(text)} for crate, texts in read.items()}
+
+
 def names_are_there(programs, folder):
     """Each name that these pages have between marks of code, such as that of a clause, is in the sources, but for those of Rattle and
-    of tools."""
-    sources = [file.read_text() for end in ("rt", "antt") for file in CRATES.glob(f"*/*/**/*.{end}") if "/out/" not in str(file)]
-    known = {word for source in sources for word in WORD.findall(source)} | NAMES_OF_OTHERS
-    named = {page: {code for code in CODE.findall((TOP / "docs" / page).read_text()) if WORD.fullmatch(code)} for page in OF_SOURCES}
-    return [f"docs/{page} names {name}" for page in OF_SOURCES for name in sorted(named[page] - known)]
+    of tools; on the page of a crate, in its own, in those of a crate below or of one that the page names."""
+    names, below, wrong = names_in_sources(), parts.libraries_of(), []
+    for page in [*(TOP / "docs" / page for page in OF_SOURCES), *CRATE_PAGES]:
+        text = page.read_text()
+        crates = {page.parent.name, *below[page.parent.name], *re.findall(r"\w+", text)} & set(names) if page in CRATE_PAGES else names
+        known = NAMES_OF_OTHERS.union(*(names[crate] for crate in crates))
+        named = {code for code in CODE.findall(text) if WORD.fullmatch(code) and not code.isupper()}
+        wrong += [f"{page.relative_to(TOP)} names {name}" for name in sorted(named - known)]
+    return wrong
+
+
+def definitions_are_there(programs, folder):
+    """Each name in a row of the definitions of a crate's page is in one of the files of specs/ that the row names."""
+    wrong = []
+    for page in CRATE_PAGES:
+        for names, files in OF_SPECS.findall(page.read_text()):
+            found = [page.parent / "specs" / f"{file}.antt" for file in files.split(", ")]
+            words = {word for file in found if file.exists() for word in re.findall(r"[^\s(){}\[\],;:]+", file.read_text())}
+            lost = [file.stem for file in found if not file.exists()] + sorted(set(CODE.findall(names)) - words)
+            wrong += [f"{page.relative_to(TOP)}: {name} is not in {files}" for name in lost]
+    return wrong
+
+
+def index_is_current(programs, folder):
+    """The parts of docs/DEFINITIONS.md that are made of the sources are what the tool makes now."""
+    page = definitions.PAGE.read_text()
+    return [] if definitions.renewed(page) == page else ["docs/DEFINITIONS.md is not what tools/definitions.py makes: run it"]
+
+
+def index_has_what_is_cited(programs, folder):
+    """Each definition that a contract cites by its name stands in docs/DEFINITIONS.md, whatever the tool finds."""
+    texts = [file.read_text() for file in CRATES.glob("bz_*/src/*.rt")]
+    uses = [use[1] for text in texts for use in CITED.findall(text) if not re.search(r"(?:^|\.)(?:declared|formers|contracts)\.", use[0])]
+    cited = {name.strip().partition(" as ")[0] for use in uses for name in use.split(",")}
+    named = set(WORD.findall(definitions.PAGE.read_text()))
+    lost = sorted(name for name in cited if re.fullmatch(r"[A-Za-z_]+", name) and name not in named)
+    return [f"docs/DEFINITIONS.md doesn't name {name}" for name in lost] if cited else ["no contract cites a definition"]
 
 
 def files_of_lemmas_are_there(programs, folder):
@@ -257,7 +311,11 @@ def files_of_lemmas_are_there(programs, folder):
 
 
 OF_TABLES = [refusals, attributes, commands, examples_of_commands, layers]
-OF_PAGES = [pages_are_linked, readme_is_short, files_are_there, crates_are_there, names_are_there, files_of_lemmas_are_there]
+OF_PAGES = [
+    pages_are_linked, readme_is_short, files_are_there, crates_are_there, names_are_there, definitions_are_there, index_is_current,
+    index_has_what_is_cited, files_of_lemmas_are_there,
+]  # fmt: skip
+SCENES = {name: an_example(name, block) for name, block in named_examples().items()}
 SCENES |= {scene.__name__.replace("_", " "): scene for scene in OF_TABLES + OF_PAGES}
 
 

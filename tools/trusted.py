@@ -1,14 +1,16 @@
 #!/usr/bin/env python3
 """Which definitions a reader has to trust: those that the contracts of public calls name, and what these are made of.
 
-    tools/trusted.py            for each crate, in the order of crates.txt: the lines of its specs/, and how many of them contracts of
-                                its public calls, of those of crates above, or definitions that these name, stand on
+    tools/trusted.py            for each crate, in the order of crates.txt: the lines of its specs/, how many of them contracts of its public
+                                calls, of those of crates above, or definitions that these name, stand on, and how many those of the two
+                                engines alone
     tools/trusted.py --names    beside it the names, file by file
-    tools/trusted.py --programs the same, but starting at the contracts of the two engines alone
+    tools/trusted.py --programs the same, of the two engines alone
 
-Lines are those of definitions and of the comments right above them; lines of imports and empty ones count in neither number.
+Lines are those of definitions and of the comments right above them; lines of imports and empty ones count in no number.
 """
 import collections
+import functools
 import pathlib
 import re
 import sys
@@ -19,6 +21,10 @@ ENGINES = {("bz_engine", "buildozer"), ("bz_tools", "buildifier")}
 START = re.compile(r"^(?:(?:abbrev|unfoldable|pub|record|data) )*([^\s:({]+) *[:({]")
 USE = re.compile(r"^\s*(?:ghost |pub )?use Rattle\.([\w.«»+-]+?)(?:\.\{([^}]*)\}| as (\S+?));?$")
 WORD = re.compile(r"[^\s(){}\[\],;]+")
+EXPORT = re.compile(r"(?m)^pub use (?:crate::|self::)?(\w+)::(?:\{([^}]*)\}|(\w+));")
+# a block of methods, of a trait, of a type, or of a trait for a type; a public call, and one among the methods of each
+BLOCK = re.compile(r"^(?:pub (trait)|impl) *([\w:]+)(?: for (\w+))?")
+CALL, OF_TYPE, OF_TRAIT = re.compile(r"^pub fn (\w+)"), re.compile(r"^    pub fn (\w+)"), re.compile(r"^    fn (\w+)")
 
 
 def imports(lines):
@@ -40,7 +46,7 @@ def chunks(lines):
     at, found, comments = 0, [], 0
     while at < len(lines):
         line = lines[at]
-        if line.startswith("--"):
+        if line.strip().startswith("--") or line.startswith("infix"):
             comments += 1
         elif not line.strip() or line.startswith(("use ", "pub use ", "pub mod ")) or line.startswith("module ") or line.startswith("open "):
             comments = 0
@@ -71,90 +77,157 @@ def chunks(lines):
     return found
 
 
-def contracts(file):
-    """The texts of the contracts of public calls and of public types in a file of code, each with the name of the call."""
-    text, lines = [], file.read_text().split("\n")
-    at = 0
+def constructors(text):
+    """The names of the constructors of a definition that has some."""
+    return re.findall(r"(?m)^ +([^\s:({]+) :", text) if re.match(r"(?:pub )?data ", text) else []
+
+
+@functools.cache
+def exported(crate):
+    """What a crate offers: for each of its modules the names that its root passes on; `None` for a module that is public as a whole."""
+    root = TOP / "crates" / crate / "src" / "lib.rt"
+    text = root.read_text() if root.exists() else ""
+    names = {}
+    for module, many, one in EXPORT.findall(text):
+        names.setdefault(module, set()).update(name.strip().partition(" as ")[0] for name in (many or one).split(","))
+    return {**names, **dict.fromkeys(re.findall(r"(?m)^pub mod (\w+);", text))}
+
+
+def block_of(line):
+    """The type or the trait that a block of methods is of, where one begins, and how a public one of its methods begins."""
+    while (plain := re.sub(r"<[^<>]*>", "", line)) != line:
+        line = plain
+    found = BLOCK.match(line)
+    return found and (found[3] or found[2], OF_TRAIT if found[1] else OF_TYPE)
+
+
+def contracts(crate, file):
+    """The texts of the contracts of public calls and of public types in a file of code, each with the name of the call. Public is what
+    the crate's root passes on, and each method of a type or a trait that is."""
+    own = exported(crate).get(file.stem, set())
+    types = {name for names in exported(crate).values() if names for name in names}
+    found, lines, at, owner, begins = [], file.read_text().split("\n"), 0, None, CALL
     while at < len(lines):
-        if found := re.match(r"^\s*pub fn (\w+)", lines[at]):
+        if lines[at].startswith("}"):
+            owner, begins = None, CALL
+        owner, begins = block_of(lines[at]) or (owner, begins)
+        if call := begins.match(lines[at]):
             body = []
-            while at < len(lines) and not re.match(r"^\s*\{(\})?$", lines[at]):
+            while at < len(lines) and not re.match(r"^\s*\{(\})?$", lines[at]) and not lines[at].endswith(";"):
                 body.append(lines[at])
                 at += 1
-            text.append((found[1], "\n".join(body)))
-        elif re.match(r"^\s*ghost (?!use)", lines[at]):
-            text.append(("", lines[at]))
+            if owner in types if owner else own is None or call[1] in own:
+                found.append((call[1], "\n".join([*body, *lines[at : at + 1]])))
+        elif re.match(r"^\s*ghost (?!use)", lines[at]) and owner in types:
+            found.append(("", lines[at]))
         at += 1
-    return text
+    return found
 
 
-def main():
-    definitions, sizes, owners, files, passed_on = {}, collections.Counter(), {}, {}, {}
-    for crate in CRATES:
-        for file in sorted((TOP / "crates" / crate / "specs").rglob("*.antt")):
-            module = f"{crate}.specs." + ".".join(file.relative_to(TOP / "crates" / crate / "specs").with_suffix("").parts)
-            lines = file.read_text().split("\n")
-            single, modules = imports(lines)
-            passed_on.update({(module, name): home for name, home in imports(line for line in lines if line.startswith("pub use "))[0].items()})
-            local = {}
-            for names, size, text in chunks(lines):
-                first = text.split()[0]
-                if not names or first in local:
-                    # a further clause, or what closes the definition before
-                    key = local.get(first, key)
-                    sizes[key] += size
-                    definitions[key] = (definitions[key][0] + "\n" + text, single, modules, local)
-                    continue
-                key = (module, names[0])
-                sizes[key], files[key] = size, file
-                definitions[key] = (text, single, modules, local)
-                for name in names:
-                    local[name] = key
-                    owners[module, name] = key
+class Definitions:
+    """All definitions of specs/, each by the module in which it stands and its first name."""
 
-    def owner(home):
-        while home in passed_on and home not in owners:
-            home = passed_on[home]
-        return owners.get(home)
+    def __init__(self):
+        self.texts, self.sizes, self.files = {}, collections.Counter(), {}
+        self.owners, self.passed_on = {}, {}
+        for crate in CRATES:
+            for file in sorted((TOP / "crates" / crate / "specs").rglob("*.antt")):
+                self.take(f"{crate}.specs.{'.'.join(file.relative_to(TOP / 'crates' / crate / 'specs').with_suffix('').parts)}", file)
 
-    def named(text, single, modules, local):
+    def take(self, module, file):
+        """Takes up those of a file."""
+        lines = file.read_text().split("\n")
+        single, modules = imports(lines)
+        self.passed_on.update({(module, name): home for name, home in imports(line for line in lines if line.startswith("pub use "))[0].items()})
+        local, key = {}, None
+        for names, size, text in chunks(lines):
+            first = text.split()[0]
+            if not names or first in local:
+                # a further clause, or what closes the definition before
+                key = local.get(first, key)
+                self.sizes[key] += size
+                self.texts[key] = (self.texts[key][0] + "\n" + text, single, modules, local)
+                continue
+            key = (module, names[0])
+            self.sizes[key], self.files[key] = size, file
+            self.texts[key] = (text, single, modules, local)
+            for name in [*names, *constructors(text)]:
+                local.setdefault(name, key)
+                self.owners.setdefault((module, name), key)
+
+    def owner(self, home):
+        """The definition that a module has under a name, by itself or from another one."""
+        while home in self.passed_on and home not in self.owners:
+            home = self.passed_on[home]
+        return self.owners.get(home)
+
+    def named(self, text, single, modules, local):
+        """The definitions that a text names, by what is imported where it stands."""
         for word in WORD.findall(text):
+            # an operator between what it takes is written without the places of these
+            word = next((name for name in (f"◌{word}◌",) if name in local or name in single), word)
             head, _, tail = word.partition(".")
             if word in local:
                 yield local[word]
             elif head in local:
                 yield local[head]
             elif word in single or head in single:
-                yield owner(single.get(word) or single[head])
+                yield self.owner(single.get(word) or single[head])
             elif head in modules and tail:
-                yield owner((modules[head], tail.split(".")[0]))
+                yield self.owner((modules[head], tail.split(".")[0]))
 
-    todo, seen = [], set()
+    def below(self, start):
+        """Those that are named from there on."""
+        todo, seen = list(start), set()
+        while todo:
+            key = todo.pop()
+            if key and key not in seen:
+                seen.add(key)
+                todo += self.named(*self.texts[key])
+        return seen
+
+
+@functools.cache
+def definitions():
+    return Definitions()
+
+
+def sources():
+    """The files of code of each crate."""
+    return ((crate, file) for crate in CRATES for file in sorted((TOP / "crates" / crate / "src").rglob("*.rt")))
+
+
+@functools.cache
+def trusted(engines=False):
+    """The definitions that contracts of public calls stand on, or those of the two engines alone."""
+    start = []
+    for crate, file in sources():
+        single, modules = imports(file.read_text().split("\n"))
+        for call, text in contracts(crate, file):
+            if not engines or (crate, call) in ENGINES:
+                start += definitions().named(text, single, modules, {})
+    return definitions().below(start)
+
+
+def counts():
+    """For each crate that has definitions: its lines, those that public calls stand on, and those that the engines stand on."""
+    sizes, rows = definitions().sizes, {}
     for crate in CRATES:
-        for file in sorted((TOP / "crates" / crate / "src").rglob("*.rt")):
-            single, modules = imports(file.read_text().split("\n"))
-            for call, text in contracts(file):
-                if "--programs" not in sys.argv or (crate, call) in ENGINES:
-                    todo += named(text, single, modules, {})
-    while todo:
-        key = todo.pop()
-        if key and key not in seen:
-            seen.add(key)
-            text, single, modules, local = definitions[key]
-            todo += named(text, single, modules, local)
-    total = [0, 0]
-    for crate in CRATES:
-        own = [key for key in definitions if key[0].split(".")[0] == crate]
+        own = [key for key in definitions().texts if key[0].split(".")[0] == crate]
         if own:
-            counts = sum(sizes[key] for key in own), sum(sizes[key] for key in own if key in seen)
-            total = [a + b for a, b in zip(total, counts)]
-            print(f"{crate:14} {counts[0]:6} {counts[1]:6}")
-            if "--names" in sys.argv:
-                for file in dict.fromkeys(files[key] for key in own):
-                    names = [key[1] for key in own if files[key] == file and key in seen]
-                    if names:
-                        print(f"    {file.name}: " + " ".join(name.split('\n')[0][:40] for name in names))
-    print(f"{'all':14} {total[0]:6} {total[1]:6}")
+            rows[crate] = [sum(sizes[key] for key in own if key in kept) for kept in (own, trusted(), trusted(True))]
+    return {**rows, "all": [sum(column) for column in zip(*rows.values())]}
+
+
+def main():
+    seen = trusted("--programs" in sys.argv)
+    for crate, numbers in counts().items():
+        print(f"{crate:14}" + "".join(f" {number:6}" for number in numbers))
+        if "--names" in sys.argv:
+            for file in dict.fromkeys(definitions().files[key] for key in definitions().texts if key[0].split(".")[0] == crate):
+                names = [key[1] for key in definitions().texts if definitions().files[key] == file and key in seen]
+                if names:
+                    print(f"    {file.name}: " + " ".join(name.split("\n")[0][:40] for name in names))
 
 
 if __name__ == "__main__":

@@ -1,0 +1,104 @@
+#!/usr/bin/env python3
+"""Writes what docs/DEFINITIONS.md has of the sources: how much there is to read, and the index of the definitions that contracts cite.
+
+    tools/definitions.py            writes both parts anew, each between its two lines of marks
+    tools/definitions.py NAME..     prints the definitions of a crate, or those of a name: each with its file and the comment above it
+
+A definition is cited where a line `ghost use` of crates/*/src brings it in from specs/. What a reader has to trust is what the contracts of
+public calls stand on (tools/trusted.py); what else is cited says what private functions compute.
+"""
+import functools
+import re
+import sys
+
+from trusted import CRATES, TOP, USE, counts, definitions, sources, trusted
+
+PAGE = TOP / "docs" / "DEFINITIONS.md"
+NAME = re.compile(r"[^\W\d][\w']*")
+# forms that the toolchain makes of the code, which nobody wrote
+MADE = re.compile(r"\.(declared|formers|contracts)\.")
+
+
+def page_of(crate):
+    return f"[{crate}](../crates/{crate}/README.md)"
+
+
+@functools.cache
+def cited():
+    """The definitions that contracts cite, each by its file and its name."""
+    found = {}
+    for _, file in sources():
+        for line in file.read_text().splitlines():
+            use = USE.match(line) if "ghost use Rattle.bz_" in line else None
+            if use and ".specs." in use[1] and not MADE.search(f"{use[1]}."):
+                for word in (use[2] or "").split(","):
+                    name = word.strip().partition(" as ")[0]
+                    key = definitions().owner((use[1], name))
+                    if key and NAME.fullmatch(name):
+                        found[definitions().files[key], name] = key
+    return found
+
+
+def table(header, rows):
+    lines = [header, ["---"] * len(header), *rows]
+    return "".join(f"| {' | '.join(line)} |\n" for line in lines)
+
+
+def sizes():
+    header = ["Crate", "Lines", "Public calls", "Both engines"]
+    return table(header, [[page_of(crate) if crate in CRATES else crate, *(f"{number:,}" for number in row)] for crate, row in counts().items()])
+
+
+def names_by_file(crate, keep):
+    """The names of the definitions of a crate that are cited and kept, by the files in which they are."""
+    files = {}
+    for (file, name), key in sorted(cited().items()):
+        if key[0].split(".")[0] == crate and keep(key):
+            files.setdefault(file.stem, []).append(f"`{name}`")
+    return "; ".join(f"{stem}: {' '.join(names)}" for stem, names in files.items())
+
+
+def index():
+    """A row for each crate: the definitions that a reader trusts, and those that only private functions are compared with."""
+    rows = [[page_of(crate), names_by_file(crate, lambda key: key in trusted()), names_by_file(crate, lambda key: key not in trusted())] for crate in CRATES]
+    return table(["Crate", "What contracts of public calls stand on", "Cited by private functions alone"], [row for row in rows if any(row[1:])])
+
+
+PARTS = {"sizes": sizes, "index": index}
+
+
+def renewed(page):
+    """The text of a page with each part made anew. Between the marks stands what the part gives, and nothing else."""
+    for name, part in PARTS.items():
+        first, last = f"<!-- tools/definitions.py: {name} -->\n", f"<!-- end of {name} -->"
+        before, begin, rest = page.partition(first)
+        _, end, after = rest.partition(last)
+        if not begin or not end:
+            raise SystemExit(f"{PAGE.name} has no marks for its {name}")
+        page = f"{before}{first}\n{part()}\n{last}{after}"
+    return page
+
+
+def said(word):
+    """The definitions of a crate, or those of a name, each with its file and the comment above it."""
+    for key, (text, *_) in definitions().texts.items():
+        if word in (key[0].split(".")[0], key[1]):
+            file = definitions().files[key]
+            at = file.read_text().find(f"\n{text}")
+            above = file.read_text()[: at + 1].splitlines()
+            comment = []
+            while above and above[-1].strip().startswith("--"):
+                comment.insert(0, above.pop().strip().lstrip("- "))
+            yield f"{key[1]} ({file.relative_to(TOP)}): {' '.join(comment)}".rstrip(": ")
+
+
+def main():
+    if len(sys.argv) > 1:
+        for word in sys.argv[1:]:
+            print(*said(word), sep="\n")
+    else:
+        PAGE.write_text(renewed(PAGE.read_text()))
+
+
+if __name__ == "__main__":
+    main()
