@@ -2,7 +2,7 @@
 #             and KEEP=yes keeps what was proved of each function, for whoever changes the sources
 # make install    puts both programs, their pages for man, and completions for bash, zsh and fish below PREFIX (/usr/local); with DESTDIR=.. before it
 # make uninstall  removes just these
-# make dist   packs the same, all pages and contrib/ into an archive in dist/, with its SHA-256 sum beside it
+# make dist   packs the same, all pages, those of the crates too, and contrib/ into an archive in dist/, with its SHA-256 sum beside it
 # make edits  tries the further edits that the prover must refuse, those of edits/; with CRATE=.. those of one crate
 # make test   the tests: runs of the programs (tests/), every proof from nothing, the edits that the prover must refuse, each program and each test
 # make bench  the time and the memory of a delete in a large file, of many commands in one run, also where it keeps a journal, of a run over many packages, and of reading a file; with FOLDER=.. of the BUILD files there
@@ -23,7 +23,7 @@ SHARED = $(foreach program,$(notdir $(PROGRAMS)),share/man/man1/$(program).1 sha
     share/zsh/site-functions/_$(program) share/fish/vendor_completions.d/$(program).fish)
 
 # what the programs are made of; a second 'make' with nothing changed does nothing
-SOURCES = crates.txt $(shell find crates -name out -prune -o -path '*/must-fail' -prune -o -type f -print)
+SOURCES = crates.txt $(shell find crates -name out -prune -o -path '*/must-fail' -prune -o -name README.md -o -type f -print)
 
 .PHONY: all share install uninstall dist test edits bench largest shapes hostile fuzz corpus clean rt
 
@@ -66,8 +66,8 @@ install: share
 uninstall:
 	@for file in $(PROGRAMS) $(SHARED); do rm -f "$(DESTDIR)$(PREFIX)/$$file" || exit 1; done
 
-# what is packed beside these
-PACKED = $(wildcard *.md LICENSE docs/*) .pre-commit-hooks.yaml $(shell find contrib -type f)
+# what is packed beside these: all pages, those of the crates too, so that each link leads somewhere in the archive
+PACKED = $(wildcard *.md LICENSE docs/* crates/*/README.md) .pre-commit-hooks.yaml $(shell find contrib -type f)
 
 dist: $(PROGRAMS) share
 	@PYTHONDONTWRITEBYTECODE=1 tools/archive.py dist $(PROGRAMS) $(SHARED) $(PACKED)

@@ -1,7 +1,8 @@
 #!/usr/bin/env python3
 """Installs the built programs from a copy of this folder, takes them away, and packs them, and looks at what is left each time.
 
-In the copy bin/ holds the programs, rt is a script that does nothing, and there are no crates, so nothing is proved or built.
+In the copy bin/ holds the programs, rt is a script that does nothing, and of the crates there are the pages alone, so nothing is proved or
+built.
 
     tests/install.py BUILDOZER BUILDIFIER
 """
@@ -17,7 +18,7 @@ import tarfile
 import tempfile
 
 from files import report
-from readme import TOP
+from readme import CRATE_PAGES, TOP, links_of
 
 PROGRAMS = ["buildozer", "buildifier"]
 SHARED = ["share/man/man1/{}.1", "share/bash-completion/completions/{}", "share/zsh/site-functions/_{}",
@@ -36,12 +37,14 @@ class Copy:
 
     def __init__(self, path, built):
         self.path, self.top, self.root = pathlib.Path(path), pathlib.Path(path, "top"), pathlib.Path(path, "a root")
-        for folder in ("bin", "crates"):
-            (self.top / folder).mkdir(parents=True)
+        (self.top / "bin").mkdir(parents=True)
         for file in [*TOP.glob("*.md"), *(TOP / name for name in ("Makefile", "crates.txt", ".pre-commit-hooks.yaml"))]:
             shutil.copy(file, self.top)
         for folder in ("tools", "docs", "contrib"):
             shutil.copytree(TOP / folder, self.top / folder, ignore=shutil.ignore_patterns("__pycache__"))
+        for page in CRATE_PAGES:
+            (self.top / page.relative_to(TOP)).parent.mkdir(parents=True)
+            shutil.copy(page, self.top / page.relative_to(TOP))
         for program, file in zip(PROGRAMS, built):
             shutil.copyfile(file, self.top / "bin" / program)
             (self.top / "bin" / program).chmod(0o700)
@@ -67,7 +70,8 @@ class Copy:
 
     def pages(self):
         """What is packed beside the programs and their files: each file, with the permission bits that it gets."""
-        pages = [*self.top.glob("*.md"), self.top / ".pre-commit-hooks.yaml", *(self.top / "docs").iterdir(), *(self.top / "contrib").rglob("*")]
+        folders = [*(self.top / "docs").iterdir(), *(self.top / "contrib").rglob("*"), *(self.top / "crates").glob("*/README.md")]
+        pages = [*self.top.glob("*.md"), self.top / ".pre-commit-hooks.yaml", *folders]
         return {str(file.relative_to(self.top)): 0o755 if os.access(file, os.X_OK) else 0o644 for file in pages if file.is_file()}
 
     def version(self):
@@ -132,8 +136,8 @@ def unpacked(copy, archive):
 
 
 def packed(copy):
-    """The archive has the same files, the pages and contrib/, its sum is written beside it, and what README.md's command unpacks runs;
-    a second one is the same. In place of the larger program is a short text."""
+    """The archive has the same files, the pages and contrib/, every link of a page leads to one of these, its sum is written beside it, and
+    what README.md's command unpacks runs; a second one is the same. In place of the larger program is a short text."""
     (copy.top / "bin/buildozer").write_text("#!/bin/sh\n")
     status, told = copy.make("dist")
     archive = copy.top / told.strip()
@@ -146,6 +150,9 @@ def packed(copy):
         rows = {row.name: (row.mode, row.uid, row.gid) for row in packed}
     wanted = {f"{front}/{file}": (mode, 0, 0) for file, mode in {**FILES, **copy.pages()}.items()}
     wrong += different("files", rows, wanted)
+    linked = [links_of(copy.top / file) for file in copy.pages() if file.endswith(".md")]
+    lost = {os.path.relpath(to, copy.top.resolve()) for to in set().union(*linked)} - {*copy.pages(), *FILES}
+    wrong += [f"a page links to {file}, which is not packed" for file in sorted(lost)]
     wrong += different("unpacking", unpacked(copy, archive), (0, ""))
     wrong += different("unpacked files", copy.installed("unpacked"), FILES)
     run = subprocess.run([copy.root / "unpacked/bin/buildifier"], input=ODD, stdout=subprocess.PIPE, timeout=SECONDS)
