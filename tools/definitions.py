@@ -64,6 +64,15 @@ def index():
     return table(["Crate", "What contracts of public calls stand on", "Cited by private functions alone"], [row for row in rows if any(row[1:])])
 
 
+def private_files(crate):
+    """The files of specs/ of a crate on which no contract of a public call stands."""
+    files = {}
+    for key, file in definitions().files.items():
+        if key[0].split(".")[0] == crate and not MADE.search(f"{key[0]}."):
+            files.setdefault(file.stem, []).append(key in trusted())
+    return sorted(stem for stem, seen in files.items() if not any(seen))
+
+
 PARTS = {"sizes": sizes, "index": index}
 
 

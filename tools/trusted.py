@@ -42,44 +42,40 @@ def imports(lines):
 
 
 def chunks(lines):
-    """The definitions of a file: the names that each begins, how many lines it has with the comments above, and its text."""
+    """The definitions of a file: the names that each begins, how many lines it has with the comments above, and its text. Those of a
+    module with parameters stand at its margin."""
     at, found, comments = 0, [], 0
     while at < len(lines):
-        line = lines[at]
-        if line.strip().startswith("--") or line.startswith("infix"):
+        line = lines[at].strip()
+        if line.startswith(("--", "infix")):
             comments += 1
-        elif not line.strip() or line.startswith(("use ", "pub use ", "pub mod ")) or line.startswith("module ") or line.startswith("open "):
+        elif not line or line.startswith(("use ", "pub use ", "pub mod ", "module ", "open ")):
             comments = 0
-        elif not line.startswith(" "):
-            end = at + 1
-            name = None if re.match(r"^(?:abbrev )?mutual$", line) else START.match(line)
-            own = name[1] if name else None
-            while end < len(lines) and (lines[end].startswith(" ") or own and re.match(rf"{re.escape(own)}[\s=]", lines[end])
-                                        or not lines[end].strip() and end + 1 < len(lines) and lines[end + 1].startswith(" ")):
+        else:
+            margin = lines[at][: len(lines[at]) - len(lines[at].lstrip())]
+            name = None if line in ("mutual", "abbrev mutual") else START.match(line)
+            own, end = name[1] if name else None, at + 1
+            while end < len(lines) and is_further(lines, end, margin, own):
                 end += 1
             body = lines[at:end]
             names = [own] if own else [m[1] for row in body if (m := START.match(row.strip()))]
             found.append((names, comments + sum(1 for row in body if row.strip()), "\n".join(body)))
             comments, at = 0, end
             continue
-        else:
-            # what stands in a module with parameters
-            body = [line]
-            end = at + 1
-            while end < len(lines) and lines[end].startswith(" ") and not START.match(lines[end].strip()):
-                body.append(lines[end])
-                end += 1
-            name = START.match(line.strip())
-            found.append(([name[1]] if name else [], comments + len(body), "\n".join(body)))
-            comments, at = 0, end
-            continue
         at += 1
     return found
 
 
+def is_further(lines, at, margin, own):
+    """Whether this line belongs to a definition of that name at that margin: it is indented further, or begins with the name."""
+    deeper = f"{margin} "
+    is_gap = not lines[at].strip() and at + 1 < len(lines) and lines[at + 1].startswith(deeper)
+    return is_gap or lines[at].startswith(deeper) or own is not None and bool(re.match(rf"{margin}{re.escape(own)}[\s=]", lines[at]))
+
+
 def constructors(text):
     """The names of the constructors of a definition that has some."""
-    return re.findall(r"(?m)^ +([^\s:({]+) :", text) if re.match(r"(?:pub )?data ", text) else []
+    return re.findall(r"(?m)^ +([^\s:({]+) :", text) if re.match(r" *(?:pub )?data ", text) else []
 
 
 @functools.cache
