@@ -10,6 +10,7 @@ where there is no git. The commands in the tables need only be such as the progr
 
     tests/readme.py BUILDOZER BUILDIFIER
 """
+import functools
 import os
 import pathlib
 import re
@@ -286,20 +287,12 @@ def definitions_are_there(programs, folder):
     return wrong
 
 
-def private_definitions_are_named(programs, folder):
-    """The page of each crate says, in a line of its own, which files of specs/ no contract of a public call stands on."""
-    wrong = []
-    for page in CRATE_PAGES:
-        said = re.findall(r"(?m)^For private functions alone: (.*)\.$", page.read_text())
-        wanted = ", ".join(definitions.private_files(page.parent.name))
-        wrong += different(f"{page.relative_to(TOP)}, for private functions alone", said, [wanted] * bool(wanted)) if said or wanted else []
-    return wrong
-
-
-def index_is_current(programs, folder):
-    """The parts of docs/DEFINITIONS.md that are made of the sources are what the tool makes now."""
-    page = definitions.PAGE.read_text()
-    return [] if definitions.renewed(page) == page else ["docs/DEFINITIONS.md is not what tools/definitions.py makes: run it"]
+def made_of_definitions(programs, folder):
+    """What the pages have of the definitions in the sources is what the tool makes now."""
+    made = {definitions.PAGE: definitions.renewed}
+    made |= {page: functools.partial(definitions.with_private_files, page.parent.name) for page in CRATE_PAGES}
+    stale = [page.relative_to(TOP) for page, renewed in made.items() if renewed(page.read_text()) != page.read_text()]
+    return [f"{page} is not what tools/definitions.py makes: run it" for page in stale]
 
 
 def index_has_what_is_cited(programs, folder):
@@ -323,7 +316,7 @@ def files_of_lemmas_are_there(programs, folder):
 OF_TABLES = [refusals, attributes, commands, examples_of_commands, layers]
 OF_PAGES = [
     pages_are_linked, readme_is_short, files_are_there, crates_are_there, names_are_there, definitions_are_there,
-    private_definitions_are_named, index_is_current, index_has_what_is_cited, files_of_lemmas_are_there,
+    made_of_definitions, index_has_what_is_cited, files_of_lemmas_are_there,
 ]  # fmt: skip
 SCENES = {name: an_example(name, block) for name, block in named_examples().items()}
 SCENES |= {scene.__name__.replace("_", " "): scene for scene in OF_TABLES + OF_PAGES}

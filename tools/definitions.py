@@ -1,7 +1,8 @@
 #!/usr/bin/env python3
-"""Writes what docs/DEFINITIONS.md has of the sources: how much there is to read, and the index of the definitions that contracts cite.
+"""Writes what the pages have of the definitions in the sources: in docs/DEFINITIONS.md how much there is to read, and the index of those that
+contracts cite; on the page of each crate, in a line of its own, which files of its specs/ are for private functions alone.
 
-    tools/definitions.py            writes both parts anew, each between its two lines of marks
+    tools/definitions.py            writes these anew; the two parts of docs/DEFINITIONS.md are each between two lines of marks
     tools/definitions.py NAME..     prints the definitions of a crate, or those of a name: each with its file and the comment above it
 
 A definition is cited where a line `ghost use` of crates/*/src brings it in from specs/. What a reader has to trust is what the contracts of
@@ -14,13 +15,17 @@ import sys
 from trusted import CRATES, TOP, USE, counts, definitions, sources, trusted
 
 PAGE = TOP / "docs" / "DEFINITIONS.md"
+CRATES_PAGE = "crates/{}/README.md"
+# which files of specs/ no contract of a public call stands on, as the page of a crate says it; and what comes after it there
+PRIVATE = re.compile(r"(?m)^For private functions alone: .*\n\n")
+PROVED = "## Proved\n"
 NAME = re.compile(r"[^\W\d][\w']*")
 # forms that the toolchain makes of the code, which nobody wrote
 MADE = re.compile(r"\.(declared|formers|contracts)\.")
 
 
 def page_of(crate):
-    return f"[{crate}](../crates/{crate}/README.md)"
+    return f"[{crate}](../{CRATES_PAGE.format(crate)})"
 
 
 @functools.cache
@@ -73,6 +78,13 @@ def private_files(crate):
     return sorted(stem for stem, seen in files.items() if not any(seen))
 
 
+def with_private_files(crate, page):
+    """The text of a crate's page with its line on these files as it has to be."""
+    files = private_files(crate)
+    line = f"For private functions alone: {', '.join(files)}.\n\n" if files else ""
+    return PRIVATE.sub(line, page, 1) if PRIVATE.search(page) else page.replace(PROVED, line + PROVED, 1)
+
+
 PARTS = {"sizes": sizes, "index": index}
 
 
@@ -107,6 +119,9 @@ def main():
             print(*said(word), sep="\n")
     else:
         PAGE.write_text(renewed(PAGE.read_text()))
+        for crate in CRATES:
+            page = TOP / CRATES_PAGE.format(crate)
+            page.write_text(with_private_files(crate, page.read_text()))
 
 
 if __name__ == "__main__":
