@@ -33,8 +33,10 @@ CRATE_PAGES = sorted(TOP.glob("crates/*/README.md"))
 PAGES = sorted([*TOP.glob("*.md"), *TOP.glob("docs/*.md"), *TOP.glob("contrib/*/*.md"), *CRATE_PAGES], key=lambda page: (page != README, page))
 # the pages that have the tables of commands, options, targets, statuses, attributes and refusals
 REFERENCE = "".join((TOP / "docs" / page).read_text() for page in ("buildozer.md", "buildifier.md", "refusals.md"))
-# how many lines README has at most
-LINES = 170
+# how many lines README has at most, and how many bytes the page of a crate
+LINES, BYTES = 170, 12_000
+# the sections of the page of a crate, of which it has some, in this order
+SECTIONS = ["Definitions", "Proved", "Only tested", "Neither proved nor tested", "Decisions"]
 CRATES = TOP / "crates"
 # lines with four spaces before them, and the empty ones between them
 BLOCK = re.compile(r"(?:^ {4}.*\n(?:\n+(?= {4}))?)+", re.MULTILINE)
@@ -233,6 +235,18 @@ def readme_is_short(programs, folder):
     return [f"README.md has {count} lines"] * (count > LINES)
 
 
+def pages_of_crates_have_their_form(programs, folder):
+    """Each has the name of its crate, these sections alone, in their order, and is not long."""
+    wrong = []
+    for page in CRATE_PAGES:
+        text = page.read_text()
+        title, *found = re.findall(r"(?m)^##? (.*)$", text)
+        has_form = title == page.parent.name and found == [name for name in SECTIONS if name in found]
+        wrong += [f"{page.relative_to(TOP)} has the sections {title}, {found}"] * (not has_form)
+        wrong += [f"{page.relative_to(TOP)} has {len(text.encode())} bytes"] * (len(text.encode()) > BYTES)
+    return wrong
+
+
 def files_are_there(programs, folder):
     """Each file that a page names is there, from the top of the repository, from docs/ or in a crate, on the page of a crate in that one
     or one that the page names; that of a module may lack `.antt`."""
@@ -315,7 +329,7 @@ def files_of_lemmas_are_there(programs, folder):
 
 OF_TABLES = [refusals, attributes, commands, examples_of_commands, layers]
 OF_PAGES = [
-    pages_are_linked, readme_is_short, files_are_there, crates_are_there, names_are_there, definitions_are_there,
+    pages_are_linked, readme_is_short, pages_of_crates_have_their_form, files_are_there, crates_are_there, names_are_there, definitions_are_there,
     made_of_definitions, index_has_what_is_cited, files_of_lemmas_are_there,
 ]  # fmt: skip
 SCENES = {name: an_example(name, block) for name, block in named_examples().items()}
