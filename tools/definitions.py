@@ -30,8 +30,8 @@ def page_of(crate):
 
 @functools.cache
 def cited():
-    """The definitions that contracts cite, each by its file and its name."""
-    found = {}
+    """The definitions that contracts cite, for each crate by file and name."""
+    found = {crate: {} for crate in CRATES}
     for _, file in sources():
         for line in file.read_text().splitlines():
             use = USE.match(line) if "ghost use Rattle.bz_" in line else None
@@ -40,8 +40,8 @@ def cited():
                     name = word.strip().partition(" as ")[0]
                     key = definitions().owner((use[1], name))
                     if key and NAME.fullmatch(name):
-                        found[definitions().files[key], name] = key
-    return found
+                        found[key[0].split(".")[0]][definitions().files[key].stem, name] = key
+    return {crate: dict(sorted(rows.items())) for crate, rows in found.items()}
 
 
 def table(header, rows):
@@ -57,15 +57,16 @@ def sizes():
 def names_by_file(crate, keep):
     """The names of the definitions of a crate that are cited and kept, by the files in which they are."""
     files = {}
-    for (file, name), key in sorted(cited().items()):
-        if key[0].split(".")[0] == crate and keep(key):
-            files.setdefault(file.stem, []).append(f"`{name}`")
+    for (stem, name), key in cited()[crate].items():
+        if keep(key):
+            files.setdefault(stem, []).append(f"`{name}`")
     return "; ".join(f"{stem}: {' '.join(names)}" for stem, names in files.items())
 
 
 def index():
     """A row for each crate: the definitions that a reader trusts, and those that only private functions are compared with."""
-    rows = [[page_of(crate), names_by_file(crate, lambda key: key in trusted()), names_by_file(crate, lambda key: key not in trusted())] for crate in CRATES]
+    seen = trusted()
+    rows = [[page_of(crate), names_by_file(crate, seen.__contains__), names_by_file(crate, lambda key: key not in seen)] for crate in CRATES]
     return table(["Crate", "What contracts of public calls stand on", "Cited by private functions alone"], [row for row in rows if any(row[1:])])
 
 
@@ -105,9 +106,7 @@ def said(word):
     for key, (text, *_) in definitions().texts.items():
         if word in (key[0].split(".")[0], key[1]):
             file = definitions().files[key]
-            at = file.read_text().find(f"\n{text}")
-            above = file.read_text()[: at + 1].splitlines()
-            comment = []
+            above, comment = file.read_text().partition(f"\n{text.splitlines()[0]}")[0].splitlines(), []
             while above and above[-1].strip().startswith("--"):
                 comment.insert(0, above.pop().strip().lstrip("- "))
             yield f"{key[1]} ({file.relative_to(TOP)}): {' '.join(comment)}".rstrip(": ")
