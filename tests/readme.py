@@ -52,7 +52,7 @@ FORM = re.compile(r"(?:^|/)[A-Z_]+(?:/|\.edit|$)|/out/")
 # pages that name what is in the sources, a name as these have it, and names that are none of theirs: Rattle's own, a tool's, a slip's
 OF_SOURCES = ["ARCHITECTURE.md", "DECISIONS.md", "DEFINITIONS.md", "PROMISES.md", "PROOFS.md", "PROVED.md"]
 WORD = re.compile(r"[A-Za-z_][\w-]*")
-NAMES_OF_OTHERS = {"Tie", "is-1", "loop-X-preserved", "grep", "make", "flock", "unversioned", "chekc", "st", "b1", "o8"}
+NAMES_OF_OTHERS = {"Tie", "is-1", "loop-X-preserved", "grep", "make", "flock", "chekc", "st", "b1", "o8"}
 # a row of a crate's definitions: names, the files of specs/ that have them
 OF_SPECS = re.compile(r"(?m)^\| ([^|]*`[^|]*) \| ([A-Z]\w*(?:, [A-Z]\w*)*) \|")
 # what contracts cite of the definitions; these have no names that the toolchain made
