@@ -22,9 +22,10 @@ import tempfile
 from files import report
 
 TOP = pathlib.Path(__file__).resolve().parent.parent
-sys.path.insert(0, str(TOP / "tools"))
-import crates as parts  # noqa: E402
+# after the tests, of which two have the name of a tool
+sys.path.append(str(TOP / "tools"))
 import definitions  # noqa: E402
+from crates import libraries_of  # noqa: E402
 
 README = TOP / "README.md"
 # the page of each crate
@@ -225,7 +226,7 @@ def links_of(page):
 def pages_are_linked(programs, folder):
     """README has a link to each page and picture, the index to that of each crate, and every link leads to a file."""
     index = TOP / "docs" / "PROVED.md"
-    owed = {README: {*PAGES, *TOP.glob("docs/*.svg")} - {README, *CRATE_PAGES}, index: {CRATES / crate / "README.md" for crate in parts.libraries_of()}}
+    owed = {README: {*PAGES, *TOP.glob("docs/*.svg")} - {README, *CRATE_PAGES}, index: {CRATES / crate / "README.md" for crate in libraries_of()}}
     lost = [f"{page.name} has no link to {other.relative_to(TOP)}" for page, others in owed.items() for other in sorted(others - links_of(page))]
     return lost + [f"{page.relative_to(TOP)} links to {file}" for page in PAGES for file in sorted(links_of(page)) if not file.exists()]
 
@@ -271,7 +272,7 @@ def crates_are_there(programs, folder):
 def names_in_sources():
     """The names in the sources of each crate, of the places in which they count on its page: in it, in a crate below, or in one that the page
     names."""
-    files = {crate: CRATES.glob(f"{crate}/*/**/*.*t") for crate in parts.libraries_of()}
+    files = {crate: CRATES.glob(f"{crate}/*/**/*.*t") for crate in libraries_of()}
     read = {crate: [file.read_text() for file in found if file.suffix in (".rt", ".antt") and "/out/" not in str(file)] for crate, found in files.items()}
     return {crate: {word for text in texts for word in WORD.findall(text)} for crate, texts in read.items()}
 
@@ -279,7 +280,7 @@ def names_in_sources():
 def names_are_there(programs, folder):
     """Each name that these pages have between marks of code, such as that of a clause, is in the sources, but for those of Rattle and
     of tools; on the page of a crate, in its own, in those of a crate below or of one that the page names."""
-    names, below, wrong = names_in_sources(), parts.libraries_of(), []
+    names, below, wrong = names_in_sources(), libraries_of(), []
     for page in [*(TOP / "docs" / page for page in OF_SOURCES), *CRATE_PAGES]:
         text = page.read_text()
         crates = {page.parent.name, *below[page.parent.name], *re.findall(r"\w+", text)} & set(names) if page in CRATE_PAGES else names
