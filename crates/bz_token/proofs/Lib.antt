@@ -13,3 +13,4 @@ pub mod Characters
 pub mod Pieces
 pub mod Texts
 pub mod Opening
+pub mod Glances

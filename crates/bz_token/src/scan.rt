@@ -1,10 +1,10 @@
-ghost use Rattle.std.specs.Prelude.{◌≡◌, ◌↔◌, ◌≤◌, ◌<◌, ℕ, IsTrue, Some, None, take, drop, length, get_or, MatchOption, IfSome, IsUtf8, IsCharBoundary};
+ghost use Rattle.std.specs.Prelude.{◌≡◌, ◌↔◌, ◌≤◌, ◌<◌, ℕ, false, IsTrue, Some, None, take, drop, length, get_or, MatchOption, IfSome, IsUtf8, IsCharBoundary};
 ghost use Rattle.bz_token.specs.Lexemes.{is_keyword};
 ghost use Rattle.bz_token.specs.Scanner.{move, longest_front, before_third, keyword_or_name};
 ghost use Rattle.bz_token.specs.Tokens.{NoToken, OpensString, TokenAt};
 
 use crate::Class;
-use crate::state::State;
+use crate::state::{Quote, State, start_step, word_step};
 
 /// The token at the front of a text.
 #[derive(Clone, Copy, Debug, PartialEq, Eq)]
@@ -19,12 +19,72 @@ pub fn token(text: &[u8]) -> Option<Found>
     ensures exact { MatchOption result (NoToken text.now) (λ found. TokenAt found.class found.len text.now) }
     ensures boundary { IsUtf8 text.now → IfSome result (λ found. IsCharBoundary text.now found.len) }
 {
+    let found = glance(text);
+    if found.is_some() {
+        return found;
+    }
     let (state, len) = longest_front(text)?;
     if before_third(state, &text[len..]) {
         return None;
     }
     let class = keyword_or_name(state.class()?, &text[..len]);
     Some(Found { class, len })
+}
+
+/// The token that a text begins with, where it is told at a glance: a mark with which no longer one begins, a name, or a string
+/// of one line between `"` without backslashes. `None` says nothing.
+fn glance(text: &[u8]) -> Option<Found>
+    ensures { IfSome result (λ found. TokenAt found.class found.len text.now) }
+{
+    if text.is_empty() {
+        return None;
+    }
+    match start_step(text[0]) {
+        Some(State::Ended) => Some(Found {
+            class: Class::Mark,
+            len: 1,
+        }),
+        Some(State::Word) => name(text),
+        Some(State::Opened(Quote::Double)) => plain_string(text),
+        _ => None,
+    }
+}
+
+/// The name or keyword that a text begins with, unless a byte is next that a longer one may go on with.
+fn name(text: &[u8]) -> Option<Found>
+    requires some { 0 < length text.now }
+    requires word { move State.Start (get_or text.now 0 0) ≡ Some State.Word }
+    ensures { IfSome result (λ found. TokenAt found.class found.len text.now) }
+{
+    let at = run(State::Word, text, 1);
+    if goes_on(text, at) {
+        return None;
+    }
+    let class = keyword_or_name(Class::Name, &text[..at]);
+    Some(Found { class, len: at })
+}
+
+/// Whether a word goes on with the byte at a place.
+fn goes_on(text: &[u8], at: usize) -> bool
+    ensures { result ≡ false → at < length text.now → move State.Word (get_or text.now at 0) ≡ None }
+{
+    at < text.len() && word_step(text[at]).is_some()
+}
+
+/// The string that a text begins with, where it is one of one line without backslashes and is not empty.
+fn plain_string(text: &[u8]) -> Option<Found>
+    requires some { 0 < length text.now }
+    requires opened { move State.Start (get_or text.now 0 0) ≡ Some (State.Opened Quote.Double) }
+    ensures { IfSome result (λ found. TokenAt found.class found.len text.now) }
+{
+    let at = run(State::Short(Quote::Double), text, 1);
+    if at < 2 || at >= text.len() || text[at] != b'"' {
+        return None;
+    }
+    Some(Found {
+        class: Class::String,
+        len: at + 1,
+    })
 }
 
 /// Whether a string begins here, its prefix first where it has one, that is not closed.
@@ -107,19 +167,17 @@ fn run(state: State, text: &[u8], from: usize) -> usize
 fn is_keyword(text: &[u8]) -> bool
     ensures { result ≡ is_keyword text.now }
 {
-    text == b"and".as_slice()
-        || text == b"break".as_slice()
-        || text == b"continue".as_slice()
-        || text == b"def".as_slice()
-        || text == b"elif".as_slice()
-        || text == b"else".as_slice()
-        || text == b"for".as_slice()
-        || text == b"if".as_slice()
-        || text == b"in".as_slice()
+    if text == b"continue".as_slice()
         || text == b"lambda".as_slice()
-        || text == b"load".as_slice()
-        || text == b"not".as_slice()
-        || text == b"or".as_slice()
-        || text == b"pass".as_slice()
         || text == b"return".as_slice()
+    {
+        return true;
+    }
+    match text {
+        b"if" | b"in" | b"or" => true,
+        b"and" | b"def" | b"for" | b"not" => true,
+        b"elif" | b"else" | b"load" | b"pass" => true,
+        b"break" => true,
+        _ => false,
+    }
 }

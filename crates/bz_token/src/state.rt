@@ -1,5 +1,4 @@
 ghost use Rattle.std.specs.Prelude.{◌≡◌, IsTrue, Some, None};
-ghost use Rattle.std.specs.Option.{option_or};
 ghost use Rattle.bz_token.specs.Bytes.{among, is_digit, is_hexadecimal, is_octal, is_e, is_x, is_o, is_sign, is_high, is_letter};
 ghost use Rattle.bz_token.specs.Scanner.{lone_marks, operator_marks, mark_start, number_start, text_start, quote_or_word, word_move, high_move, zero_move, whole_move, fraction_move, exponent_move, doubled_move, quote_byte, short_move, long_move, move, ends, may_end, is_in_string};
 
@@ -241,8 +240,9 @@ fn operator_mark(byte: u8) -> bool
     matches!(byte, b'+' | b'-' | b'%' | b'&' | b'|' | b'^' | b'=')
 }
 
-fn start_step(byte: u8) -> Option<State>
-    ensures { result ≡ option_or (option_or (mark_start byte) (number_start byte)) (text_start byte) }
+/// The state behind the first byte.
+pub fn start_step(byte: u8) -> Option<State>
+    ensures { result ≡ move State.Start byte }
 {
     if let Some(state) = mark_start(byte) {
         return Some(state);
@@ -297,7 +297,8 @@ fn text_start(byte: u8) -> Option<State>
     }
 }
 
-fn word_step(byte: u8) -> Option<State>
+/// The state behind one more byte in a word.
+pub fn word_step(byte: u8) -> Option<State>
     ensures { result ≡ word_move byte }
 {
     if byte == 0xEF {

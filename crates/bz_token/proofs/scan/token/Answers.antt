@@ -5,7 +5,11 @@ use Rattle.bz_token.specs.Scanner.{before_third}
 use Rattle.bz_token.specs.Tokens.{TokenAt}
 use Rattle.bz_token.proofs.Boundaries.{boundary_at}
 use Rattle.bz_token.proofs.Tokens.{front_of, none_token, no_class, third_token, some_token, whole_rest}
+use Rattle.bz_token.proofs.Glances.{found_boundary}
 use Rattle.bz_token.proofs.scan.token.Goals as goal
+
+pub returns-then-is_some-clause-boundary : goal.returns-then-is_some-clause-boundary
+returns-then-is_some-clause-boundary c = found_boundary c.args.text.now c.glance-found.result c.glance-found.ensures
 
 pub returns-in_err-state-clause-exact : goal.returns-in_err-state-clause-exact
 returns-in_err-state-clause-exact c = rw c.from_residual.ensures (none_token c.args.text.now c.in_err-state.ensures)
