@@ -1,4 +1,5 @@
 pub mod GroupSteps
+pub mod HostSteps
 pub mod InnerParts
 pub mod KeptFiles
 pub mod KeptParts
@@ -13,3 +14,4 @@ pub mod RowSteps
 pub mod SeenParts
 pub mod SequenceParts
 pub mod Sums
+pub mod UnsignedGaps

@@ -1,11 +1,12 @@
 -- For private functions only: what the walk over a tree has so far. No definition here is to be trusted by a reader.
-use Rattle.std.specs.Prelude.{ℕ, zero, suc, false, List, [], ◌∷◌, ◌++◌, Option, None, ◌&&◌, map, take, drop}
+use Rattle.std.specs.Prelude.{ℕ, Bool, zero, suc, false, not, nat_eq, List, [], ◌∷◌, ◌++◌, Option, None, ◌&&◌, map, take, drop}
 use Rattle.bz_tree.specs.declared.kind.Kind.{Kind}
 use Rattle.bz_value.specs.declared.value.Form.{Form}
 use Rattle.bz_value.specs.declared.value.Seq.{Seq}
 use Rattle.bz_value.specs.Comments.{HostComments}
 use Rattle.bz_value.specs.Frames.{Frame, row, sequence, lead, is_binary, is_comprehension}
-use Rattle.bz_items.specs.Characters.{Bytes}
+use Rattle.std.specs.List.{list_all}
+use Rattle.bz_items.specs.Characters.{Bytes, number_sign}
 use Rattle.bz_value.specs.Gaps.{suffix_in, others_in, all_in}
 use Rattle.bz_view.specs.View.{Seen, plain, first_seen_gap, loose_in, loose_behind, row_exprs, items_in, is_split, is_open}
 
@@ -50,6 +51,10 @@ abbrev pub above_behind : List Seen → List Bytes
 above_behind [] = []
 above_behind (mark ∷ []) = others_in mark.gap
 above_behind (mark ∷ t ∷ ss) = all_in mark.gap ++ others_in t.gap
+
+-- no number sign stands in the gap
+abbrev pub is_unsigned : Bytes → Bool
+is_unsigned gap = list_all (λ byte. not (nat_eq byte number_sign)) gap
 
 -- Behind a statement of a line, from its mark on: its suffix.
 abbrev pub line_suffix : List Seen → Option Bytes

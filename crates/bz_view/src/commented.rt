@@ -1,11 +1,17 @@
 //! An expression that becomes a host.
-ghost use Rattle.std.specs.Prelude.{◌≡◌, IfOk};
+ghost use Rattle.std.specs.Prelude.{◌≡◌, [], ◌∷◌, ◌++◌, ◌<◌, List, length, map, drop, IfOk, OnOk};
+ghost use Rattle.bz_value.specs.declared.value.Expr.{Expr};
 ghost use Rattle.bz_value.specs.Commented.{with_comments};
 ghost use Rattle.bz_value.specs.Gaps.{suffix_in as suffix_told};
+ghost use Rattle.bz_view.specs.View.{seen};
+ghost use Rattle.bz_view.specs.Walks.{above_behind, suffix_behind};
 
+use crate::marks::{above_next, gap_behind};
 use bz_items::{Items, Memory, Text};
+use bz_tree::Part;
 use bz_value::{Comments, Expr, suffix_in};
-use std::alloc::Global;
+use std::alloc::{AllocError, Global};
+use std::mem;
 
 /// The expression with these comments above it, and the suffix that a gap behind it tells. The error: memory was refused.
 pub(crate) fn commented(
@@ -31,4 +37,29 @@ pub(crate) fn commented(
             Err(fault)
         }
     }
+}
+
+/// Makes the last item a host: with these comments above it, and the suffix behind it, where this index is that of its comma or of
+/// the closing bracket. What stands above the next item, or at the end, is left `above` then. The error: memory was refused.
+pub(crate) fn comment_last(
+    alloc: Global,
+    parts: &[Part],
+    at: usize,
+    above: &mut Items<Text>,
+    items: &mut Vec<Expr>,
+) -> Result<(), Memory>
+    requires { at < length parts.now }
+    ensures above { OnOk result (above.new ≡ above_behind (map seen (drop at parts.now))) }
+    ensures items { OnOk result ((xs : List Expr) (x : Expr) → items.old.items ≡ xs ++ x ∷ []
+        → items.new.items ≡ xs ++ with_comments x (record { before = above.old; suffix = suffix_behind (map seen (drop at parts.now)) }) ∷ []) }
+{
+    let next = above_next(alloc, parts, at)?;
+    let before = mem::replace(above, next);
+    items.reserve(1)?;
+    let Some(expr) = items.pop() else {
+        return Err(AllocError);
+    };
+    let host = commented(alloc, expr, before, gap_behind(parts, at))?;
+    items.push_reserved(host);
+    Ok(())
 }

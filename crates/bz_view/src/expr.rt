@@ -1,13 +1,13 @@
 //! The expression of a part, and the comments inside it that stand in no host or sequence of its own.
-ghost use Rattle.std.specs.Prelude.{◌≡◌, ◌++◌, ◌≤◌, map, take, drop, suc, false, IfOk, OnOk};
+ghost use Rattle.std.specs.Prelude.{◌≡◌, [], ◌∷◌, ◌++◌, ◌+◌, ◌<◌, ◌≤◌, length, map, take, drop, suc, false, IfOk, OnOk};
 ghost use Rattle.bz_value.specs.Comments.{no_comments};
 ghost use Rattle.bz_value.specs.Frames.{frame};
-ghost use Rattle.bz_view.specs.View.{loose_in, plain, row_exprs, seen};
+ghost use Rattle.bz_view.specs.View.{items_in, loose_in, plain, row_exprs, seen};
 ghost use Rattle.bz_view.specs.Walks.{form_in, loose_of, seq_in};
 
 use crate::before::{breaks_from, gap_at, is_operator_in};
-use crate::commented::commented;
-use crate::marks::{above_next, before_operator, breaks_behind, gap_behind, opens, push_gap};
+use crate::commented::comment_last;
+use crate::marks::{before_operator, breaks_behind, is_quiet_behind, opens, push_gap};
 use bz_items::{Items, Memory, Text};
 use bz_tree::{Node, Part};
 use bz_value::{Comments, Expr, Form, Seq, Token, is_binary, is_sequence, lead_of, push_all};
@@ -15,7 +15,6 @@ use std::alloc::Global;
 
 /// The expression of a part without comments of its own; of a token with this break. What is loose in the part is appended
 /// to `loose`. The error: memory was refused.
-#[cycle(seen)]
 pub fn expr_of(
     alloc: Global,
     part: &Part,
@@ -36,7 +35,40 @@ pub fn expr_of(
     }
 }
 
+/// Appends what `expr_of` makes of a part.
 #[cycle(seen)]
+fn push_expr(
+    alloc: Global,
+    part: &Part,
+    break_: bool,
+    loose: &mut Items<Text>,
+    exprs: &mut Vec<Expr>,
+) -> Result<(), Memory>
+    ensures exprs { OnOk result (exprs.new.items ≡ exprs.old.items ++ (seen part.now).make no_comments break_ ∷ []) }
+    ensures loose { OnOk result (loose.new ≡ loose.old ++ (seen part.now).loose) }
+{
+    exprs.reserve(1)?;
+    match part {
+        Part::Leaf(leaf) => {
+            let text = leaf.token.copy()?;
+            exprs.push_reserved(Expr::Token(Token {
+                class: leaf.class,
+                text,
+                break_,
+                comments: Comments::none(),
+            }));
+            Ok(())
+        }
+        Part::Node(node) => {
+            let form = form_of(alloc, node, loose)?;
+            exprs.push_reserved(Expr::Form(form));
+            Ok(())
+        }
+    }
+}
+
+#[cycle(seen)]
+#[inline(always)]
 fn form_of(alloc: Global, node: &Node, loose: &mut Items<Text>) -> Result<Form, Memory>
     ensures form { IfOk result (λ form. form ≡ form_in (frame node.now.kind) node.now.kind (map seen node.now.parts) no_comments) }
     ensures loose { OnOk result (loose.new ≡ loose.old ++ loose_of (frame node.now.kind) node.now.kind (map seen node.now.parts)) }
@@ -88,7 +120,7 @@ pub fn row_of(
         // what stands before an operand is not looked for: it can be deep in there
         newline = operator && before_operator(parts, at, inside, newline);
         let break_ = breaks_behind(operator, newline, parts, at + 1);
-        exprs.push(expr_of(alloc, part, break_, loose)?)?;
+        push_expr(alloc, part, break_, loose, &mut exprs)?;
     }
     Ok(Items::from_vec(exprs))
 }
@@ -108,7 +140,7 @@ pub fn head_of(
     for at in 0..lead.min(parts.len()) {
         let part = &parts[at];
         push_gap(alloc, part, at, loose)?;
-        exprs.push(expr_of(alloc, part, false, loose)?)?;
+        push_expr(alloc, part, false, loose, &mut exprs)?;
     }
     if lead < parts.len() {
         let bracket = &parts[lead];
@@ -133,6 +165,29 @@ fn push_loose(alloc: Global, part: &Part, loose: &mut Items<Text>) -> Result<(),
     }
 }
 
+/// Appends the item of a sequence with this index, behind which its comma or the closing bracket stands: a host with the comments
+/// that are left `above` it, with what is loose in it, and with its suffix. What stands above the next item, or at the end, is left
+/// `above` then.
+#[cycle(seen)]
+fn push_host(
+    alloc: Global,
+    parts: &[Part],
+    at: usize,
+    above: &mut Items<Text>,
+    items: &mut Vec<Expr>,
+) -> Result<(), Memory>
+    requires { at + 1 < length parts.now }
+    ensures items { OnOk result (items.new.items ++ (items_in above.new (map seen (drop (at + 2) parts.now))).0 ≡ items.old.items ++ (items_in above.old (map seen (drop at parts.now))).0) }
+    ensures end_ { OnOk result ((items_in above.new (map seen (drop (at + 2) parts.now))).1 ≡ (items_in above.old (map seen (drop at parts.now))).1) }
+{
+    push_expr(alloc, &parts[at], false, above, items)?;
+    if above.is_empty() && is_quiet_behind(parts, at + 1) {
+        return Ok(());
+    }
+    comment_last(alloc, parts, at + 1, above, items)?;
+    Ok(())
+}
+
 /// The sequence whose items stand from this index on, behind the opening bracket.
 #[cycle(seen)]
 pub fn seq_of(alloc: Global, parts: &[Part], from: usize) -> Result<Seq, Memory>
@@ -140,20 +195,17 @@ pub fn seq_of(alloc: Global, parts: &[Part], from: usize) -> Result<Seq, Memory>
     ensures { IfOk result (λ seq. seq ≡ seq_in (map seen (drop from parts.now))) }
 {
     let count = parts.len();
-    let mut items = Items::from_vec(Vec::with_capacity(alloc, count / 2)?);
+    let mut items = Vec::with_capacity(alloc, count / 2)?;
     // the comments above the next item; what is loose in the item goes there too
     let mut above = Items::new(alloc);
     push_all(alloc, gap_at(parts, from), &mut above)?;
     let mut at = from;
     while at + 1 < count {
-        let expr = expr_of(alloc, &parts[at], false, &mut above)?;
-        let host = commented(alloc, expr, above, gap_behind(parts, at + 1))?;
-        items.push(host)?;
-        above = above_next(alloc, parts, at + 1)?;
+        push_host(alloc, parts, at, &mut above, &mut items)?;
         at += 2;
     }
     Ok(Seq {
-        items,
+        items: Items::from_vec(items),
         end_: above,
         split: breaks_from(parts, from),
     })

@@ -1,9 +1,9 @@
 //! What the gaps between the parts of a row say.
-ghost use Rattle.std.specs.Prelude.{◌≡◌, ◌∷◌, ◌++◌, ◌<◌, ◌&&◌, ◌||◌, not, map, drop, length, if◌then◌else◌, List, IfOk, OnOk};
+ghost use Rattle.std.specs.Prelude.{◌≡◌, ◌∷◌, ◌++◌, ◌+◌, ◌<◌, ◌&&◌, ◌||◌, not, map, drop, length, if◌then◌else◌, List, IfOk, OnOk};
 ghost use Rattle.bz_value.specs.Frames.{is_comprehension};
 ghost use Rattle.bz_value.specs.Gaps.{all_in, has_newline, suffix_in};
 ghost use Rattle.bz_view.specs.View.{Seen, begins_seen_operator, first_seen_gap, is_open, loose_behind, seen};
-ghost use Rattle.bz_view.specs.Walks.{above_behind, loose_from, suffix_behind};
+ghost use Rattle.bz_view.specs.Walks.{above_behind, is_unsigned, loose_from, suffix_behind};
 
 use crate::before::{breaks_before, gap_at, gap_before, is_operator_at};
 use bz_items::{Items, Memory, Text};
@@ -82,4 +82,20 @@ pub fn above_next(alloc: Global, parts: &[Part], at: usize) -> Result<Items<Text
     }
     push_others(alloc, gap_at(parts, at), &mut above)?;
     Ok(above)
+}
+
+/// Whether the gap has no number sign, with which each comment begins.
+fn is_quiet(gap: &[u8]) -> bool
+    ensures { result ≡ is_unsigned gap.now }
+{
+    gap.iter().all(|byte| *byte != b'#')
+}
+
+/// Behind an item of a sequence, where this index is that of its comma or of the closing bracket: whether it is seen at a glance that
+/// no comment stands before that and before what follows it.
+pub fn is_quiet_behind(parts: &[Part], at: usize) -> bool
+    requires { at < length parts.now }
+    ensures { result ≡ (is_unsigned (first_seen_gap (map seen (drop at parts.now))) && is_unsigned (first_seen_gap (map seen (drop (at + 1) parts.now)))) }
+{
+    is_quiet(gap_at(parts, at)) && is_quiet(gap_at(parts, at + 1))
 }

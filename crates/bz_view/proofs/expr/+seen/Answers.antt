@@ -1,18 +1,42 @@
-use Rattle.std.proofs.Common.{◌≡◌, ◌&&◌, if◌then◌else◌, map, ◌++◌, suc, sym, ap, refl, ◌∙◌, drop, arith}
+use Rattle.std.proofs.Common.{◌≡◌, ◌&&◌, if◌then◌else◌, [], ◌∷◌, map, ◌++◌, suc, sym, ap, refl, ◌∙◌, drop, arith}
 use Rattle.bz_value.specs.declared.value.Expr.TheVariants as e
 use Rattle.bz_value.specs.Frames.{frame}
 use Rattle.bz_value.specs.Gaps.{has_newline}
 use Rattle.bz_view.specs.View.{first_seen_gap, seen}
+use Rattle.bz_view.proofs.HostSteps.{host_quiet, host_commented}
 use Rattle.bz_view.proofs.NodeViews.{made_of_node, loose_of_node, sequence_made}
-use Rattle.bz_view.proofs.RowSteps.{part_here, at_operator, at_operand, row_more, row_done, loose_done, head_here, head_more, loose_more, bracket_more, no_bracket, item_more, items_done}
+use Rattle.bz_view.proofs.RowSteps.{part_here, at_operator, at_operand, row_more, row_done, loose_done, head_here, head_more, loose_more, bracket_more, no_bracket, items_done}
 use Rattle.bz_view.proofs.expr.+seen.Goals as goal
 use Rattle.bz_view.proofs.expr.+seen.Goals.{row_of-then-operator, row_of-else-operator, head_of-then-lead-parts+in_ok-push_gap-2+in_ok-push_loose, head_of-else-lead-parts}
 
-pub expr_of-returns-in_ok-form_of-in-Node-clause-expr : goal.expr_of-returns-in_ok-form_of-in-Node-clause-expr
-expr_of-returns-in_ok-form_of-in-Node-clause-expr t c = ap e.Form c.in_ok-form_of-in-Node.ensures.form ∙ made_of_node c.args.part.now c.in-Node.node c.args.break_ c.in-Node.is
+pub push_expr-returns-in_ok-form-in-Node-clause-exprs : goal.push_expr-returns-in_ok-form-in-Node-clause-exprs
+push_expr-returns-in_ok-form-in-Node-clause-exprs t c =
+    c.push_reserved-in-Node.ensures.items
+    ∙ (ap (λ xs. xs ++ e.Form c.in_ok-form-in-Node.form ∷ []) c.reserve.ensures.items
+    ∙ ap (λ x. c.args.exprs.now.items ++ x ∷ []) (ap e.Form c.in_ok-form-in-Node.ensures.form ∙ made_of_node c.args.part.now c.in-Node.node c.args.break_ c.in-Node.is))
 
-pub expr_of-returns-in_ok-form_of-in-Node-clause-loose : goal.expr_of-returns-in_ok-form_of-in-Node-clause-loose
-expr_of-returns-in_ok-form_of-in-Node-clause-loose t c = c.in_ok-form_of-in-Node.ensures.loose ∙ ap (λ ls. c.args.loose.now ++ ls) (loose_of_node c.args.part.now c.in-Node.node c.in-Node.is)
+pub push_expr-returns-in_ok-form-in-Node-clause-loose : goal.push_expr-returns-in_ok-form-in-Node-clause-loose
+push_expr-returns-in_ok-form-in-Node-clause-loose t c = c.in_ok-form-in-Node.ensures.loose ∙ ap (λ ls. c.args.loose.now ++ ls) (loose_of_node c.args.part.now c.in-Node.node c.in-Node.is)
+
+pub push_host-returns-then-is_quiet_behind-clause-items : goal.push_host-returns-then-is_quiet_behind-clause-items
+push_host-returns-then-is_quiet_behind-clause-items t c =
+    (host_quiet c.args.parts.now c.args.at c.index-parts-at.result c.args.above.now c.push_expr.new.loose c.is_quiet_behind.result c.args.items.now.items c.push_expr.new.exprs.items c.requires c.index-parts-at.is c.in_ok-push_expr.ensures.loose
+    (c.is_empty.ensures.0 c.if-is_empty.true) c.is_quiet_behind.ensures c.if-is_quiet_behind.true c.in_ok-push_expr.ensures.exprs).0
+
+pub push_host-returns-then-is_quiet_behind-clause-end_ : goal.push_host-returns-then-is_quiet_behind-clause-end_
+push_host-returns-then-is_quiet_behind-clause-end_ t c =
+    (host_quiet c.args.parts.now c.args.at c.index-parts-at.result c.args.above.now c.push_expr.new.loose c.is_quiet_behind.result c.args.items.now.items c.push_expr.new.exprs.items c.requires c.index-parts-at.is c.in_ok-push_expr.ensures.loose
+    (c.is_empty.ensures.0 c.if-is_empty.true) c.is_quiet_behind.ensures c.if-is_quiet_behind.true c.in_ok-push_expr.ensures.exprs).1
+
+pub push_host-returns-clause-items : goal.push_host-returns-clause-items
+push_host-returns-clause-items t c =
+    (host_commented c.args.parts.now c.args.at c.index-parts-at.result c.args.above.now c.push_expr.new.loose c.comment_last.new.above c.args.items.now.items c.push_expr.new.exprs.items c.comment_last.new.items.items c.requires c.index-parts-at.is
+    c.in_ok-push_expr.ensures.loose c.in_ok-push_expr.ensures.exprs c.in_ok-comment_last.ensures.above c.in_ok-comment_last.ensures.items).0
+
+pub push_host-returns-clause-end_ : goal.push_host-returns-clause-end_
+push_host-returns-clause-end_ t c =
+    (host_commented c.args.parts.now c.args.at c.index-parts-at.result c.args.above.now c.push_expr.new.loose c.comment_last.new.above c.args.items.now.items c.push_expr.new.exprs.items c.comment_last.new.items.items c.requires c.index-parts-at.is
+    c.in_ok-push_expr.ensures.loose c.in_ok-push_expr.ensures.exprs c.in_ok-comment_last.ensures.above c.in_ok-comment_last.ensures.items).1
 
 pub form_of-returns-clause-form : goal.form_of-returns-clause-form
 form_of-returns-clause-form t c =
@@ -28,8 +52,8 @@ row_of-loop-at-preserved t c =
       | row_of-else-operator w ↦ w.newline-is ∙ at_operand c.is_operator_in-operator.result _ w.if-operator.false
     ] in
     record {
-      exprs = row_more _ _ _ _ _ _ _ _ _ _ _ _ _ here c.is_operator_in-operator.ensures newline c.breaks_behind-break_.ensures c.in_ok-expr_of.ensures.expr c.loop-at.invariant.exprs c.in_ok-push.ensures.items;
-      loose = loose_more c.loop-at.at _ _ _ _ _ _ _ here c.in_ok-push_gap.ensures c.in_ok-expr_of.ensures.loose c.loop-at.invariant.loose;
+      exprs = row_more _ _ _ _ _ _ _ _ _ _ _ _ _ here c.is_operator_in-operator.ensures newline c.breaks_behind-break_.ensures refl c.loop-at.invariant.exprs c.in_ok-push_expr.ensures.exprs;
+      loose = loose_more c.loop-at.at _ _ _ _ _ _ _ here c.in_ok-push_gap.ensures c.in_ok-push_expr.ensures.loose c.loop-at.invariant.loose;
     }
 
 pub row_of-returns-clause-exprs : goal.row_of-returns-clause-exprs
@@ -42,15 +66,16 @@ pub head_of-loop-at-preserved : goal.head_of-loop-at-preserved
 head_of-loop-at-preserved t c =
     let ps = c.args.parts.now in
     record {
-      exprs = head_more _ _ _ _ _ _ _ (head_here ps c.loop-at.at c.args.lead c.index-parts-at.result (omega arith) (omega arith) c.index-parts-at.is) c.in_ok-expr_of.ensures.expr c.loop-at.invariant.exprs c.in_ok-push.ensures.items;
-      loose = loose_more c.loop-at.at _ _ _ _ _ _ _ (head_here ps c.loop-at.at (suc c.args.lead) c.index-parts-at.result (omega arith) (omega arith) c.index-parts-at.is) c.in_ok-push_gap.ensures c.in_ok-expr_of.ensures.loose c.loop-at.invariant.loose;
+      exprs = head_more _ _ _ _ _ _ _ (head_here ps c.loop-at.at c.args.lead c.index-parts-at.result (omega arith) (omega arith) c.index-parts-at.is) refl c.loop-at.invariant.exprs c.in_ok-push_expr.ensures.exprs;
+      loose = loose_more c.loop-at.at _ _ _ _ _ _ _ (head_here ps c.loop-at.at (suc c.args.lead) c.index-parts-at.result (omega arith) (omega arith) c.index-parts-at.is) c.in_ok-push_gap.ensures c.in_ok-push_expr.ensures.loose c.loop-at.invariant.loose;
     }
 
 pub seq_of-loop-at-preserved : goal.seq_of-loop-at-preserved
-seq_of-loop-at-preserved t c =
-    let w = item_more c.args.parts.now c.loop-at.at c.index-parts-at.result _ c.loop-at.above _ _ _ _ _ _ _ _ c.loop-at-test.true c.index-parts-at.is c.in_ok-expr.ensures.loose c.gap_behind.ensures c.in_ok-above.ensures
-    c.in_ok-expr.ensures.expr refl c.in_ok-host.ensures c.loop-at.invariant.items c.in_ok-push.ensures.ok in
-    record { within = omega arith; items = w.0; end_ = w.1 ∙ c.loop-at.invariant.end_ }
+seq_of-loop-at-preserved t c = record {
+  within = omega arith;
+  items = c.in_ok-push_host.ensures.items ∙ c.loop-at.invariant.items;
+  end_ = c.in_ok-push_host.ensures.end_ ∙ c.loop-at.invariant.end_;
+}
 
 pub head_of-returns-clause-loose : goal.head_of-returns-clause-loose
 head_of-returns-clause-loose t c =
@@ -65,4 +90,4 @@ push_loose-returns-in_ok-_form-in-Node t c = c.in_ok-_form-in-Node.ensures.loose
 
 pub seq_of-returns : goal.seq_of-returns
 seq_of-returns t c =
-    items_done c.args.parts.now (drop c.args.from c.args.parts.now) c.loop-at.at c.loop-at.above c.loop-at.items _ _ (omega arith) refl c.loop-at.invariant.items c.loop-at.invariant.end_ c.breaks_from.ensures
+    items_done c.args.parts.now (drop c.args.from c.args.parts.now) c.loop-at.at c.loop-at.above c.loop-at.items.items _ _ (omega arith) c.from_vec.ensures c.loop-at.invariant.items c.loop-at.invariant.end_ c.breaks_from.ensures
