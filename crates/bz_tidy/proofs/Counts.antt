@@ -32,31 +32,31 @@ use Rattle.bz_tidy.proofs.Levels.{within, at_kind, at_other}
 -- ---- sums over lists
 
 module _ {X : Type 0} (number : X → ℕ) where
-  abbrev Same : (X → X) → Type 0
+  abbrev pub Same : (X → X) → Type 0
   Same g = (x : X) → number (g x) ≡ number x
 
-  abbrev SameTotal : (List X → List X) → Type 0
+  abbrev pub SameTotal : (List X → List X) → Type 0
   SameTotal g = (xs : List X) → total number (g xs) ≡ total number xs
 
-  map_total : (g : X → X) → Same g → SameTotal (map g)
+  pub map_total : (g : X → X) → Same g → SameTotal (map g)
   map_total g h [] = refl
   map_total g h (x ∷ xs) = both (λ a b. a + b) (h x) (map_total g h xs)
 
-  first_total : (g : X → X) → Same g → SameTotal (on_first g)
+  pub first_total : (g : X → X) → Same g → SameTotal (on_first g)
   first_total g h [] = refl
   first_total g h (x ∷ xs) = ap (λ a. a + total number xs) (h x)
 
-  third_total : (g : X → X) → Same g → SameTotal (on_third g)
+  pub third_total : (g : X → X) → Same g → SameTotal (on_third g)
   third_total g h [] = refl
   third_total g h (x ∷ []) = refl
   third_total g h (x ∷ y ∷ []) = refl
   third_total g h (x ∷ y ∷ z ∷ zs) = ap (λ a. number x + (number y + (a + total number zs))) (h z)
 
-  behind_total : (g : List X → List X) → SameTotal g → SameTotal (behind_first g)
+  pub behind_total : (g : List X → List X) → SameTotal g → SameTotal (behind_first g)
   behind_total g h [] = refl
   behind_total g h (x ∷ xs) = ap (λ a. number x + a) (h xs)
 
-  append_total : (xs ys : List X) → total number (xs ++ ys) ≡ total number xs + total number ys
+  pub append_total : (xs ys : List X) → total number (xs ++ ys) ≡ total number xs + total number ys
   append_total [] ys = omega arith
   append_total (x ∷ xs) ys = ap (λ a. number x + a) (append_total xs ys) ∙ omega arith
 
@@ -67,7 +67,7 @@ module _ {X : Type 0} (number : X → ℕ) where
     | inr f ↦ rw f (omega arith)
   ]
 
-  either_total : (b : Bool) (y z x : X) → number y ≡ number x → number z ≡ number x → number (if b then y else z) ≡ number x
+  pub either_total : (b : Bool) (y z x : X) → number y ≡ number x → number z ≡ number x → number (if b then y else z) ≡ number x
   either_total true y z x h i = h
   either_total false y z x h i = i
 

@@ -25,3 +25,8 @@ pub mod MovedMarks
 pub mod ProperPasses
 pub mod ProperSorted
 pub mod ProperStrings
+pub mod SameTexts
+pub mod SameLists
+pub mod SameSyntax
+pub mod SameProgram
+pub mod TokensKept

@@ -1,5 +1,5 @@
 -- The items of one list, sorted: sorted again they stay; what is kept of them; flags are not seen.
-use Rattle.std.proofs.Common.{ℕ, suc, ◌+◌, ◌<◌, Bool, true, false, not, ◌&&◌, ◌||◌, List, [], ◌∷◌, ◌++◌, ◌≡◌, refl, sym, ap, subst, ◌∙◌, length, get_or, map, inl, inr, arith}
+use Rattle.std.proofs.Common.{ℕ, suc, ◌+◌, Bool, true, false, not, ◌&&◌, ◌||◌, List, [], ◌∷◌, ◌++◌, ◌≡◌, refl, sym, ap, subst, ◌∙◌, length, get_or, map, inl, inr, arith}
 use Rattle.std.proofs.lemmas.Bool.{cases_Bool, and_right, true≢false}
 use Rattle.std.proofs.lemmas.Slice.Eq.{bytes_eq-Decides}
 use Rattle.std.specs.List.{list_any, list_all, AllByRecursion, AllAdjacentBelow, IsAllAdjacentAnswer}

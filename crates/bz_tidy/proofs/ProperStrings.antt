@@ -52,15 +52,15 @@ within_marks m s h i = IsUtf8-append m (s ++ m) h (IsUtf8-append s m i h)
 
 -- ---- double quote marks
 
-same_byte : (c q : ℕ) → nat_eq c q ≡ true → c ≡ q
+pub same_byte : (c q : ℕ) → nat_eq c q ≡ true → c ≡ q
 same_byte c q h = grind (arith, nat_tests)
 
 -- without double marks and backslashes
-record Free (s : Bytes) : Type 0 where
-  mark : has_character quotation_mark s ≡ false
-  slash : has_character backslash s ≡ false
+pub record Free (s : Bytes) : Type 0 where
+  pub mark : has_character quotation_mark s ≡ false
+  pub slash : has_character backslash s ≡ false
 
-free_rest : (c : ℕ) (s : Bytes) → Free (c ∷ s) → Free s
+pub free_rest : (c : ℕ) (s : Bytes) → Free (c ∷ s) → Free s
 free_rest c s f = record { mark = (or_parts (nat_eq c quotation_mark) (has_character quotation_mark s) f.mark).1; slash = (or_parts (nat_eq c backslash) (has_character backslash s) f.slash).1 }
 
 long_free : (s : Bytes) → Free s → IsLong quotation_mark s
@@ -76,13 +76,13 @@ short_free (c ∷ d ∷ s) f (short_taken h) = absurd (true≢false f.slash)
 short_free (c ∷ d ∷ e ∷ s) f (short_line h) = absurd (true≢false f.slash)
 
 -- what stands between the marks
-inside_of : (n : ℕ) (m : ℕ) (s : Bytes) → drop n (replicate n m ++ (s ++ replicate n m)) ≡ s ++ replicate n m → length (replicate n m) ≡ n → inside n (replicate n m ++ (s ++ replicate n m)) ≡ s
+pub inside_of : (n : ℕ) (m : ℕ) (s : Bytes) → drop n (replicate n m ++ (s ++ replicate n m)) ≡ s ++ replicate n m → length (replicate n m) ≡ n → inside n (replicate n m ++ (s ++ replicate n m)) ≡ s
 inside_of n m s d l =
     let size : length (replicate n m ++ (s ++ replicate n m)) ≡ n + (length s + n) = length-append (replicate n m) (s ++ replicate n m) ∙ (ap (λ z. z + length (s ++ replicate n m)) l ∙ ap (λ z. n + z) (length-append s (replicate n m) ∙ ap (λ z. length s + z) l)) in
     let less : length (replicate n m ++ (s ++ replicate n m)) - 2 * n ≡ length s = omega arith in
     ap (λ k. take k (drop n (replicate n m ++ (s ++ replicate n m)))) less ∙ (ap (take (length s)) d ∙ take-append_seam s (replicate n m))
 
-free_front : (s t : Bytes) → Free (s ++ t) → Free s
+pub free_front : (s t : Bytes) → Free (s ++ t) → Free s
 free_front s t f = record {
   mark = (or_parts (has_character quotation_mark s) (has_character quotation_mark t) (sym (list_any-append (λ c. nat_eq c quotation_mark) s t) ∙ f.mark)).0;
   slash = (or_parts (has_character backslash s) (has_character backslash t) (sym (list_any-append (λ c. nat_eq c backslash) s t) ∙ f.slash)).0;
@@ -95,11 +95,11 @@ not_thrice : (c : ℕ) (s : Bytes) → nat_eq c apostrophe ≡ false → begins_
 not_thrice c [] h = refl
 not_thrice c (d ∷ s) h = ap (λ b. b && nat_eq c d) (turned c h)
 
-long_enough : (n k : ℕ) → n ≡ k + 6 → nat_le 6 n ≡ true
+pub long_enough : (n k : ℕ) → n ≡ k + 6 → nat_le 6 n ≡ true
 long_enough n k e = grind (arith, nat_tests)
 
 -- one mark at each end: no three marks begin such a text
-once : (s : Bytes) → IsShort apostrophe s → begins_thrice (apostrophe ∷ (s ++ apostrophe ∷ [])) ≡ false
+pub once : (s : Bytes) → IsShort apostrophe s → begins_thrice (apostrophe ∷ (s ++ apostrophe ∷ [])) ≡ false
 once [] h = refl
 once (c ∷ s) (short_plain a h) = not_thrice c (s ++ apostrophe ∷ []) (or_parts (nat_eq c apostrophe) _ a).0
 once (c ∷ d ∷ s) (short_taken h) = refl
@@ -122,7 +122,7 @@ three_marks s f u =
     let good : Good (quotation_mark ∷ quotation_mark ∷ quotation_mark ∷ (s ++ quotation_mark ∷ quotation_mark ∷ quotation_mark ∷ [])) = (triple quotation_mark s refl (long_free s f), within_marks (quotation_mark ∷ quotation_mark ∷ quotation_mark ∷ []) s (IsUtf8-append (quotation_mark ∷ []) (quotation_mark ∷ quotation_mark ∷ []) (ascii_text quotation_mark (omega arith)) (IsUtf8-append (quotation_mark ∷ []) (quotation_mark ∷ []) (ascii_text quotation_mark (omega arith)) (ascii_text quotation_mark (omega arith)))) u) in
     subst (λ n. Good (in_double n (apostrophe ∷ apostrophe ∷ apostrophe ∷ (s ++ apostrophe ∷ apostrophe ∷ apostrophe ∷ [])))) (sym three) (subst (λ z. Good (quotation_mark ∷ quotation_mark ∷ quotation_mark ∷ (z ++ quotation_mark ∷ quotation_mark ∷ quotation_mark ∷ []))) (sym (inside_of 3 apostrophe s refl refl)) good)
 
-no_prefix : (p q t : Bytes) → t ≡ p ++ q → is_prefix p ≡ true → begins_single t ≡ true → p ≡ []
+pub no_prefix : (p q t : Bytes) → t ≡ p ++ q → is_prefix p ≡ true → begins_single t ≡ true → p ≡ []
 no_prefix [] q t e h s = refl
 no_prefix (c ∷ p) q t e h s =
     let m : c ≡ apostrophe = same_byte c apostrophe (sym (ap begins_single e) ∙ s) in
@@ -138,7 +138,7 @@ free_quoted q (triple m s a h) b f u =
     subst (λ z. Good (in_double (marks_of (z ∷ z ∷ z ∷ (s ++ z ∷ z ∷ z ∷ []))) (z ∷ z ∷ z ∷ (s ++ z ∷ z ∷ z ∷ [])))) (sym e)
     (three_marks s (free_front s (m ∷ m ∷ m ∷ []) (free_rest m _ (free_rest m _ (free_rest m _ f)))) (core_thrice m s (omega arith) u))
 
-not_false : (b : Bool) → not b ≡ true → b ≡ false
+pub not_false : (b : Bool) → not b ≡ true → b ≡ false
 not_false true h = sym h
 not_false false h = refl
 

@@ -28,7 +28,7 @@ module _ {X : Type 0} (lt : X → X → Bool) where
     | inr f ↦ rw f (IsPermutation-refl (x ∷ y ∷ ys))
   ]
 
-  sort_same : (xs : List X) → IsPermutation xs (sort_by lt xs)
+  pub sort_same : (xs : List X) → IsPermutation xs (sort_by lt xs)
   sort_same [] = IsPermutation-refl []
   sort_same (x ∷ xs) = IsPermutation-trans (x ∷ xs) (x ∷ sort_by lt xs) (insert_by lt x (sort_by lt xs)) (IsPermutation-cons x xs (sort_by lt xs) (sort_same xs)) (insert_same x (sort_by lt xs))
 

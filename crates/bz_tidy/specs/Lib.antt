@@ -6,6 +6,7 @@ pub mod Marks
 pub mod MovedMarks
 pub mod Orders
 pub mod Passes
+pub mod Programs
 pub mod Ranks
 pub mod Repeats
 pub mod Rising
@@ -14,3 +15,4 @@ pub mod Sorted
 pub mod Sorting
 pub mod Spliced
 pub mod Strings
+pub mod Syntax

@@ -13,6 +13,8 @@ use Rattle.bz_value.specs.Comments.{no_comments}
 use Rattle.bz_write.specs.Written.{layout}
 use Rattle.bz_tidy.specs.Exchanged.{tidied_where}
 use Rattle.bz_tidy.specs.Passes.{tidied}
+use Rattle.bz_tidy.specs.Programs.{IsSameLabel, IsSameString, KeepsProgram}
+use Rattle.bz_tidy.specs.Syntax.{program, token_times}
 
 abbrev token : Class → Bytes → Expr
 token class text = e.Token (record { class = class; text = text; break_ = false; comments = no_comments })
@@ -102,3 +104,20 @@ Marked = tidied_where (true ∷ false ∷ true ∷ []) (named (codes "'a'") ∷ 
 abbrev pub WorkedPasses : Type 0
 WorkedPasses =
     (layout (tidied two_sources) ≡ codes "cc_library(\n    name = \"a\",\n    srcs = [\n        \"a.c\",\n        \"b.c\",\n    ],\n)\n") × Loads × Lists × Sums × Marked
+
+-- ---- programs
+
+-- a call x(name = "a", deps = [..])
+abbrev named_with : Bool → List Bytes → List Expr → Item
+named_with split above deps = statement above (codes "x") (argument (codes "name") (string (codes "\"a\"")) ∷ argument (codes "deps") (sequence k.List split [] deps) ∷ [])
+
+abbrev pub WorkedPrograms : Type 0
+WorkedPrograms =
+    -- comments and how a list is laid out are no program
+    (program (i.Block (codes "# a" ∷ []) ∷ named_with true (codes "# b" ∷ []) (with_suffix (codes "\"//a\"") (codes "# c") ∷ []) ∷ []) ≡ program (named_with false [] (string (codes "\"//a\"") ∷ []) ∷ []))
+    -- a name stands in it as often as it is written
+    × (token_times c.Name (codes "name") (program (named_with true [] [] ∷ named_with true [] [] ∷ [])) ≡ 2)
+    × IsSameString (codes "'a'") (codes "\"a\"") × IsSameLabel (codes "\"//a:a\"") (codes "\"//a\"")
+    -- where an argument is dropped, or another statement comes, the program is not kept
+    × (KeepsProgram (named_with true [] [] ∷ []) (statement [] (codes "x") (argument (codes "name") (string (codes "\"a\"")) ∷ []) ∷ []) → ⊥)
+    × (KeepsProgram (named_with true [] [] ∷ []) (named_with true [] [] ∷ named_with true [] [] ∷ []) → ⊥)

@@ -2,11 +2,16 @@
 ghost use Rattle.bz_tidy.specs.Exchanged.{ExchangedTidied};
 ghost use Rattle.bz_tidy.specs.Laws.{TidyingKeepsComments, FlagsSettle, SortingIsTheOne, TidySettles, TidyStays};
 ghost use Rattle.bz_tidy.specs.MovedMarks.{MarksMove};
-ghost use Rattle.bz_tidy.specs.Rows.{WorkedPasses};
+ghost use Rattle.bz_tidy.specs.Rows.{WorkedPasses, WorkedPrograms};
 
 /// Worked rows of the passes.
 pub fn worked_passes()
     ensures { WorkedPasses }
+{}
+
+/// Worked rows of what is the same program, and of what isn't.
+pub fn worked_programs()
+    ensures { WorkedPrograms }
 {}
 
 /// What is tidy stays as it is.

@@ -4,6 +4,7 @@ ghost use Rattle.bz_value.specs.Counted.{times};
 ghost use Rattle.bz_items.specs.Characters.{Bytes};
 ghost use Rattle.bz_write.specs.Flags.{IsSettled, flags, item_with_flags};
 ghost use Rattle.bz_tidy.specs.Passes.{on_statement, on_taken, symbols_in, taken, tidied};
+ghost use Rattle.bz_tidy.specs.Programs.{KeepsProgram};
 ghost use Rattle.bz_tidy.specs.Changes.{changed};
 
 use crate::flags::settle;
@@ -107,12 +108,13 @@ fn tidy_all(alloc: Global, items: &mut Items<Item>) -> Result<(), Memory>
 
 /// The tidy file value: strings take double quote marks, labels lose a repeated name, lists, arguments, symbols and loads are
 /// sorted, and each sequence is split where the layout breaks it. A statement with `buildifier: leave-alone` in a comment above
-/// stays, but for its flags. The error: memory was refused.
+/// stays, but for its flags. The program is kept. The error: memory was refused.
 pub fn tidy(alloc: Global, file: File) -> Result<File, Memory>
     ensures tidied { IfOk result (λ new. new ≡ tidied file) }
     ensures settled { IfOk result (λ new. IsSettled new) }
     ensures again { IfOk result (λ new. tidied new ≡ new) }
     ensures comments { IfOk result (λ new. (text : Bytes) → times text new ≡ times text file) }
+    ensures program { IfOk result (λ new. KeepsProgram file new) }
 {
     let File { mut items } = file;
     tidy_all(alloc, &mut items)?;

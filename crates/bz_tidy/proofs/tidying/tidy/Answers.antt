@@ -4,9 +4,11 @@ use Rattle.bz_value.specs.Proper.{IsProper}
 use Rattle.bz_value.specs.declared.value.Item.{Item}
 use Rattle.bz_write.specs.Flags.{flags}
 use Rattle.bz_tidy.specs.Passes.{tidied}
+use Rattle.bz_tidy.specs.Programs.{KeepsProgram}
 use Rattle.bz_tidy.proofs.Counts.{comments_stay}
 use Rattle.bz_tidy.proofs.Inner.{flags_settled}
 use Rattle.bz_tidy.proofs.ProperPasses.{tidied_proper}
+use Rattle.bz_tidy.proofs.SameProgram.{program_stays}
 use Rattle.bz_tidy.proofs.Settling.{tidy_stays}
 use Rattle.bz_tidy.proofs.tidying.tidy.Goals as goal
 
@@ -30,3 +32,6 @@ returns-clause-again c = let made = of_file _ _ _ c.in_ok-tidy_all.ensures c.fil
 
 pub returns-clause-comments : goal.returns-clause-comments
 returns-clause-comments c = λ text. ap (times text) (of_file _ _ _ c.in_ok-tidy_all.ensures c.file.view_is) ∙ comments_stay text c.args.file
+
+pub returns-clause-program : goal.returns-clause-program
+returns-clause-program c = subst (KeepsProgram c.args.file) (sym (of_file _ _ _ c.in_ok-tidy_all.ensures c.file.view_is)) (program_stays c.args.file)
