@@ -1,5 +1,5 @@
 -- Why several parts of a run are cut, one after the other.
-use Rattle.std.proofs.Common.{◌≡◌, ◌⊎◌, ◌∙◌, inl, inr, ℕ, List, refl, subst, sym}
+use Rattle.std.proofs.Common.{◌≡◌, ◌≢◌, ◌⊎◌, ◌∙◌, inl, inr, ℕ, List, refl, subst, sym, arith}
 use Rattle.bz_ports.specs.Outputs.{Counts}
 use Rattle.bz_ports.specs.declared.exit.Cut.{Cut}
 use Rattle.bz_ports.specs.declared.exit.Cut.TheVariants as c
@@ -35,18 +35,31 @@ files_cut cut later f g h (inl whole) more counts counts' = rw (whole.0) (subst 
 files_cut cut later f g h (inr (inl memory)) more counts counts' = rw (memory) (inr (inl refl))
 files_cut cut later f g h (inr (inr files)) more counts counts' = rw (files.0) (inr (inr (refl, rises_more f g h counts.grows files.1 counts')))
 
--- What comes behind it is cut for nothing, or for memory.
-cut_late : (cut later : Cut) (r s f g : ℕ) → (later ≡ c.Whole) ⊎ (later ≡ c.Memory) → AreCutBy cut r s f g → AreCutBy (first_cut cut later) r s f g
-cut_late c.Whole later r s f g (inl whole) first = subst (λ (it : Cut). AreCutBy it r s f g) (sym whole) first
-cut_late c.Whole later r s f g (inr memory) first = subst (λ (it : Cut). AreCutBy it r s f g) (sym memory) tt
-cut_late c.Memory later r s f g kinds first = first
-cut_late c.Read later r s f g kinds first = first
-cut_late c.Write later r s f g kinds first = first
-cut_late c.Files later r s f g kinds first = first
+-- What is done on files reads nothing of standard input.
+works_cut : (cut : Cut) (r f g : ℕ) → CutsFiles cut f g → AreCutBy cut r r f g
+works_cut cut r f g (inl whole) = subst (λ (it : Cut). AreCutBy it r r f g) (sym whole.0) (refl, whole.1)
+works_cut cut r f g (inr (inl memory)) = subst (λ (it : Cut). AreCutBy it r r f g) (sym memory) tt
+works_cut cut r f g (inr (inr files)) = subst (λ (it : Cut). AreCutBy it r r f g) (sym files.0) files.1
 
-pub cut_behind : (cut later result : Cut) (r s f g : ℕ) → result ≡ first_cut cut later → (later ≡ c.Whole) ⊎ (later ≡ c.Memory) → AreCutBy cut r s f g
-    → AreCutBy result r s f g
-cut_behind cut later result r s f g is kinds first = subst (λ (it : Cut). AreCutBy it r s f g) (sym is) (cut_late cut later r s f g kinds first)
+pub cut_behind : (cut later result : Cut) (r s f g h : ℕ) → result ≡ first_cut cut later → CutsFiles later g h → AreCutBy cut r s f g → Counts r s
+    → Counts f g → Counts g h → AreCutBy result r s f h
+cut_behind cut later result r s f g h is works first reads counts counts' =
+    subst (λ (it : Cut). AreCutBy it r s f h) (sym is)
+    (cut_more cut later r s s f g h first (works_cut later s g h works) reads (record { grows = omega arith; rises = inl refl }) counts counts')
+
+-- ---- cuts that are not for standard input
+
+pub neither_read : (cut later : Cut) → cut ≢ c.Read → later ≢ c.Read → first_cut cut later ≢ c.Read
+neither_read c.Whole later first more = more
+neither_read c.Memory later first more = first
+neither_read c.Read later first more = first
+neither_read c.Write later first more = first
+neither_read c.Files later first more = first
+
+pub works_unread : (cut : Cut) (f g : ℕ) → CutsFiles cut f g → cut ≢ c.Read
+works_unread cut f g (inl whole) = λ is. absurd (let e = sym whole.0 ∙ is in cc)
+works_unread cut f g (inr (inl memory)) = λ is. absurd (let e = sym memory ∙ is in cc)
+works_unread cut f g (inr (inr files)) = λ is. absurd (let e = sym files.0 ∙ is in cc)
 
 pub both_whole : (first later result : Cut) → result ≡ first_cut first later → result ≡ c.Whole → (first ≡ c.Whole) × (later ≡ c.Whole)
 both_whole first later result is whole = (whole_before first later (sym is ∙ whole), whole_behind first later (sym is ∙ whole))

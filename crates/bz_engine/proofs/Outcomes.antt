@@ -118,6 +118,12 @@ pub lines_done : (options : Options) (of_input : Bool) (lines : List Asked) (fol
     → LinesOutcome options of_input lines (record { folder = folder; known = known }) left
 lines_done options of_input lines folder known left_over left neither same performs = inr (neither, (left_over, λ is. sym (same is), performs))
 
+-- ---- rules of standard input, which has no journal
+
+pub both_true : (a b : Bool) → a && b ≡ true → (a ≡ true) × (b ≡ true)
+both_true true b both = (refl, both)
+both_true false b both = absurd (true≢false (sym both))
+
 -- ---- the text of a file of lines
 
 pub text_invalid : (options : Options) (name text told : Bytes) (world : World) (at at' : ℕ) (out : Option Bytes) (f g : ℕ) (old new : Option Bytes)

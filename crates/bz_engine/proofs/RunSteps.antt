@@ -1,5 +1,5 @@
 -- What several parts of a run do, one after the other.
-use Rattle.std.proofs.Common.{◌≡◌, ◌⊎◌, ◌∙◌, ◌++◌, ◌∷◌, ◌+◌, ◌<◌, ◌≤◌, inl, inr, ℕ, List, [], length, get_or, drop, Option, Bool, true, false, refl, sym, ap, subst, arith, append_assoc}
+use Rattle.std.proofs.Common.{◌≡◌, ◌≢◌, ◌⊎◌, ◌∙◌, ◌++◌, ◌∷◌, ◌+◌, ◌<◌, ◌≤◌, inl, inr, ℕ, List, [], length, get_or, drop, Option, Bool, true, false, refl, sym, ap, subst, arith, append_assoc}
 use Rattle.std.specs.List.{All}
 use Rattle.std.proofs.lemmas.List.{append-nil, drop_all}
 use Rattle.std.proofs.lemmas.List.Elements.{All-get_or}
@@ -9,10 +9,10 @@ use Rattle.bz_ports.specs.declared.exit.Cut.{Cut}
 use Rattle.bz_ports.specs.declared.exit.Cut.TheVariants as c
 use Rattle.bz_ports.proofs.Outputs.{counts_more, tells_more}
 use Rattle.bz_ports.proofs.Written.{left-cons}
-use Rattle.bz_engine.specs.Calls.{RunSpot, DoesBetween, Proceeds}
+use Rattle.bz_engine.specs.Calls.{RunSpot, DoesBetween, IsUnread, Proceeds}
 use Rattle.bz_engine.specs.Cuts.{AreCutBy, IsLeft, ReadsOnce}
 use Rattle.bz_ports.specs.Exits.{first_cut}
-use Rattle.bz_engine.proofs.CutSteps.{cut_more, whole_before, whole_behind}
+use Rattle.bz_engine.proofs.CutSteps.{cut_more, neither_read, whole_before, whole_behind}
 use Rattle.bz_engine.proofs.ReadSteps.{reads_none, reads_more}
 use Rattle.bz_engine.specs.Run.{World, Progress, Does, RunsSteps, ends_run}
 use Rattle.bz_engine.specs.Steps.{RunStep}
@@ -69,32 +69,35 @@ Passes folder keep_going steps left old new = (known : Option (List ℕ)) → Is
     × IsLeft known new.state.used new.left
     × Tells old.faults new.faults old.told new.told lines
 
--- What was done of steps. (A premise besides honest files, and why they were cut.)
-pub record Part (Premise : Type 0) (keep_going : Bool) (steps left : List RunStep) (why : Cut) (old new : RunSpot) : Type 0 where
-  pub runs : (old.honest ≡ true) ⊎ Premise → why ≡ c.Whole → Passes old.folder keep_going steps left old new
-  pub folder : (old.honest ≡ true) ⊎ Premise → new.folder ≡ old.folder
+-- What was done of steps, by whether journals are kept. (A premise besides honest files, and why they were cut.)
+pub record Part (journals : Bool) (Premise : Type 0) (keep_going : Bool) (steps left : List RunStep) (why : Cut) (old new : RunSpot) : Type 0 where
+  pub runs : journals ≡ false → (old.honest ≡ true) ⊎ Premise → why ≡ c.Whole → Passes old.folder keep_going steps left old new
+  pub folder : journals ≡ false → (old.honest ≡ true) ⊎ Premise → new.folder ≡ old.folder
+  pub unread : journals ≡ true → IsUnread why old new
   pub cut : AreCutBy why old.reads new.reads old.files new.files
   pub reads : Counts old.reads new.reads
   pub counts : Counts old.files new.files
   pub honest : new.honest ≡ old.honest
-  pub input : Premise → ReadsOnce why old.state new.state
+  pub input : journals ≡ false → Premise → ReadsOnce why old.state new.state
 
 -- steps are done
-abbrev pub Done : Type 0 → Bool → List RunStep → Cut → RunSpot → RunSpot → Type 0
-Done Premise keep_going steps why old new = Proceeds Premise (λ world. RunsSteps world keep_going steps) why old new
+abbrev pub Done : Bool → Type 0 → Bool → List RunStep → Cut → RunSpot → RunSpot → Type 0
+Done journals Premise keep_going steps why old new = Proceeds journals Premise (λ world. RunsSteps world keep_going steps) why old new
 
 counts_same : (count : ℕ) → Counts count count
 counts_same count = record { grows = omega arith; rises = inl refl }
 
-pub part_none : (Premise : Type 0) (keep_going : Bool) (steps : List RunStep) (spot : RunSpot) → Part Premise keep_going steps steps c.Whole spot spot
-part_none Premise keep_going steps spot = record {
-  runs = λ honest whole known left. ([], (λ more after runs. runs), left, (refl, refl));
-  folder = λ honest. refl;
+pub part_none : (journals : Bool) (Premise : Type 0) (keep_going : Bool) (steps : List RunStep) (spot : RunSpot)
+    → Part journals Premise keep_going steps steps c.Whole spot spot
+part_none journals Premise keep_going steps spot = record {
+  runs = λ plain honest whole known left. ([], (λ more after runs. runs), left, (refl, refl));
+  folder = λ plain honest. refl;
+  unread = λ kept. (refl, refl, (λ is. absurd (cc is)));
   cut = (refl, refl);
   reads = counts_same spot.reads;
   counts = counts_same spot.files;
   honest = refl;
-  input = λ is. reads_none spot.state;
+  input = λ plain is. reads_none spot.state;
 }
 
 passes_more : (folder folder' : Folder) (keep_going : Bool) (steps left part rest : List RunStep) (old mid new : RunSpot) → left ≡ part ++ rest
@@ -116,19 +119,21 @@ still Premise Now honest honest' same implies (inl is) = inl (same ∙ is)
 still Premise Now honest honest' same implies (inr holds) = inr (implies holds)
 
 -- a part more is done
-pub part_more : (Premise Now : Type 0) (keep_going : Bool) (steps left part rest : List RunStep) (cut later : Cut) (old mid new : RunSpot)
-    → (Premise → Now) → left ≡ part ++ rest → Part Premise keep_going steps left cut old mid → Done Now keep_going part later mid new
-    → Part Premise keep_going steps rest (first_cut cut later) old new
-part_more Premise Now keep_going steps left part rest cut later old mid new implies split before then = record {
-  runs = λ honest whole. passes_more old.folder mid.folder keep_going steps left part rest old mid new split (before.folder honest)
-      (before.runs honest (whole_before cut later whole))
-      (then.does (still Premise Now old.honest mid.honest before.honest implies honest) (whole_behind cut later whole));
-  folder = λ honest. then.folder (still Premise Now old.honest mid.honest before.honest implies honest) ∙ before.folder honest;
+pub part_more : (journals : Bool) (Premise Now : Type 0) (keep_going : Bool) (steps left part rest : List RunStep) (cut later : Cut) (old mid new : RunSpot)
+    → (Premise → Now) → left ≡ part ++ rest → Part journals Premise keep_going steps left cut old mid → Done journals Now keep_going part later mid new
+    → Part journals Premise keep_going steps rest (first_cut cut later) old new
+part_more journals Premise Now keep_going steps left part rest cut later old mid new implies split before then = record {
+  runs = λ plain honest whole. passes_more old.folder mid.folder keep_going steps left part rest old mid new split (before.folder plain honest)
+      (before.runs plain honest (whole_before cut later whole))
+      (then.does plain (still Premise Now old.honest mid.honest before.honest implies honest) (whole_behind cut later whole));
+  folder = λ plain honest. then.folder plain (still Premise Now old.honest mid.honest before.honest implies honest) ∙ before.folder plain honest;
+  unread = λ kept. let first = before.unread kept in let more = then.unread kept in
+      (more.0 ∙ first.0, more.1 ∙ first.1, neither_read cut later first.2 more.2);
   cut = cut_more cut later old.reads mid.reads new.reads old.files mid.files new.files before.cut then.cut before.reads then.reads before.counts then.counts;
   reads = counts_more old.reads mid.reads new.reads before.reads then.reads;
   counts = counts_more old.files mid.files new.files before.counts then.counts;
   honest = then.honest ∙ before.honest;
-  input = λ is. reads_more cut later old.state mid.state new.state (before.input is) (then.input (implies is));
+  input = λ plain is. reads_more cut later old.state mid.state new.state (before.input plain is) (then.input plain (implies is));
 }
 
 passes_all : (folder : Folder) (keep_going : Bool) (steps left : List RunStep) (old new : RunSpot)
@@ -143,11 +148,12 @@ passes_all folder keep_going steps left old new none passes known remains =
       before.3,
     )
 
-part_done : (Premise : Type 0) (keep_going : Bool) (steps left : List RunStep) (cut : Cut) (old new : RunSpot)
+part_done : (journals : Bool) (Premise : Type 0) (keep_going : Bool) (steps left : List RunStep) (cut : Cut) (old new : RunSpot)
     → ((known : Option (List ℕ)) → RunsSteps (record { folder = old.folder; known = known }) keep_going left new.state [] new.state)
-    → Part Premise keep_going steps left cut old new → Done Premise keep_going steps cut old new
-part_done Premise keep_going steps left cut old new none part = record {
-  does = λ honest whole. passes_all old.folder keep_going steps left old new none (part.runs honest whole);
+    → Part journals Premise keep_going steps left cut old new → Done journals Premise keep_going steps cut old new
+part_done journals Premise keep_going steps left cut old new none part = record {
+  does = λ plain honest whole. passes_all old.folder keep_going steps left old new none (part.runs plain honest whole);
+  unread = part.unread;
   folder = part.folder;
   cut = part.cut;
   reads = part.reads;
@@ -157,15 +163,15 @@ part_done Premise keep_going steps left cut old new none part = record {
 }
 
 -- Nothing is left.
-pub all_done : (Premise : Type 0) (keep_going : Bool) (steps left : List RunStep) (cut : Cut) (old new : RunSpot) → left ≡ []
-    → Part Premise keep_going steps left cut old new → Done Premise keep_going steps cut old new
-all_done Premise keep_going steps left cut old new none = part_done Premise keep_going steps left cut old new (λ known.
+pub all_done : (journals : Bool) (Premise : Type 0) (keep_going : Bool) (steps left : List RunStep) (cut : Cut) (old new : RunSpot) → left ≡ []
+    → Part journals Premise keep_going steps left cut old new → Done journals Premise keep_going steps cut old new
+all_done journals Premise keep_going steps left cut old new none = part_done journals Premise keep_going steps left cut old new (λ known.
     subst (λ (all : List RunStep). RunsSteps (record { folder = old.folder; known = known }) keep_going all new.state [] new.state) (sym none) (refl, refl))
 
 -- A step failed, so those that are left do nothing.
-pub done_early : (Premise : Type 0) (keep_going : Bool) (steps left : List RunStep) (cut : Cut) (old new : RunSpot) → ends_run keep_going new.state ≡ true
-    → Part Premise keep_going steps left cut old new → Done Premise keep_going steps cut old new
-done_early Premise keep_going steps left cut old new ended = part_done Premise keep_going steps left cut old new (λ known.
+pub done_early : (journals : Bool) (Premise : Type 0) (keep_going : Bool) (steps left : List RunStep) (cut : Cut) (old new : RunSpot) → ends_run keep_going new.state ≡ true
+    → Part journals Premise keep_going steps left cut old new → Done journals Premise keep_going steps cut old new
+done_early journals Premise keep_going steps left cut old new ended = part_done journals Premise keep_going steps left cut old new (λ known.
     ended_runs (record { folder = old.folder; known = known }) keep_going left new.state ended)
 
 -- ---- a loop over a list, which it holds under another name

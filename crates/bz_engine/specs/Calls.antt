@@ -1,6 +1,6 @@
 -- What a call does to the ports of a run. Each relation takes the ghost members of a port's bound, which a clause writes `R.Source`,
 -- `W.Sink`, `E.Sink` or `F.Files`, and the port before and after.
-use Rattle.std.specs.Prelude.{◌≡◌, ◌⊎◌, ℕ, List, Option, Bool, true}
+use Rattle.std.specs.Prelude.{◌≡◌, ◌≢◌, ◌⊎◌, ℕ, List, Option, Bool, true, false}
 use Rattle.std.specs.Io.KnownBytes.{Appends}
 use Rattle.bz_items.specs.Characters.{Bytes}
 use Rattle.bz_files.specs.Folder.{Folder, Elapses}
@@ -50,6 +50,10 @@ world_of source files input held = world_with files held (source.remaining input
 -- A folder of honest files was the same at each moment of the call.
 abbrev pub KeepsFolder : {F : Type 0} → FilesOf F → F → F → Type 0
 KeepsFolder files old new = Elapses (files.moment old) (files.moment new) (files.since old) (files.since new) (λ now. now ≡ files.folder old)
+
+-- Nothing is read of standard input. (Why a run is cut.)
+abbrev pub ReadsNothing : {R : Type 0} → SourceOf R → Cut → R → R → Type 0
+ReadsNothing source cut old new = (source.remaining new ≡ source.remaining old) × (source.faults new ≡ source.faults old) × (cut ≢ c.Read)
 
 -- ---- faults
 
@@ -101,11 +105,17 @@ DoesBetween folder Does old new = (known : Option Bytes) → IsLeft known old.st
     × IsLeft known new.state.used new.left
     × Tells old.faults new.faults old.told new.told lines
 
--- What a run does from one spot to another, and why it is cut. Where files are not honest the premise is that only standard input is used.
-pub record Proceeds (Premise : Type 0) (Does : World → Progress → List Bytes → Progress → Type 0) (why : Cut) (old new : RunSpot) : Type 0 where
-  pub does : (old.honest ≡ true) ⊎ Premise → why ≡ c.Whole → DoesBetween old.folder Does old new
-  pub folder : (old.honest ≡ true) ⊎ Premise → new.folder ≡ old.folder
-  pub input : Premise → ReadsOnce why old.state new.state
+-- Nothing is read of standard input, from one spot to another. (Why that is cut.)
+abbrev pub IsUnread : Cut → RunSpot → RunSpot → Type 0
+IsUnread why old new = (new.left ≡ old.left) × (new.reads ≡ old.reads) × (why ≢ c.Read)
+
+-- What a run does from one spot to another, by whether it keeps journals, and why it is cut. Where files are not honest the premise is
+-- that only standard input is used. With journals standard input isn't read.
+pub record Proceeds (journals : Bool) (Premise : Type 0) (Does : World → Progress → List Bytes → Progress → Type 0) (why : Cut) (old new : RunSpot) : Type 0 where
+  pub does : journals ≡ false → (old.honest ≡ true) ⊎ Premise → why ≡ c.Whole → DoesBetween old.folder Does old new
+  pub folder : journals ≡ false → (old.honest ≡ true) ⊎ Premise → new.folder ≡ old.folder
+  pub input : journals ≡ false → Premise → ReadsOnce why old.state new.state
+  pub unread : journals ≡ true → IsUnread why old new
   pub cut : AreCutBy why old.reads new.reads old.files new.files
   pub reads : Counts old.reads new.reads
   pub counts : Counts old.files new.files

@@ -1,12 +1,12 @@
 //! One step.
-ghost use Rattle.std.specs.Prelude.{◌≡◌, ◌≢◌, ◌⊎◌, ◌++◌, [], ◌∷◌, ℕ, List, Option, Some, None, Ok, Err, true, IsSome, IfOk, OnOk, OnErr};
+ghost use Rattle.std.specs.Prelude.{◌≡◌, ◌≢◌, ◌⊎◌, ◌++◌, [], ◌∷◌, ℕ, List, Option, Some, None, Ok, Err, true, false, IsSome, IfOk, OnOk, OnErr};
 ghost use Rattle.bz_workspace.specs.Sessions.{action_in, History, Answer, Leads, listing};
 ghost use Rattle.bz_workspace.specs.Sessions as Reply;
 ghost use Rattle.bz_line.specs.Paths.{HasPath};
 ghost use Rattle.bz_line.specs.Shown.{asking_in};
 ghost use Rattle.bz_workspace.specs.Packages.{Opened, file_at};
 ghost use Rattle.bz_workspace.specs.Shown.{used_in};
-ghost use Rattle.bz_engine.specs.Calls.{TellsLines, spot, Proceeds};
+ghost use Rattle.bz_engine.specs.Calls.{TellsLines, WorksOn, spot, Proceeds};
 ghost use Rattle.bz_engine.specs.Run.{Answers, Does, printed_in, answered, told_of};
 ghost use Rattle.bz_engine.specs.Shown.{progress_in};
 ghost use Rattle.bz_engine.specs.Steps.{input_package, step_of};
@@ -18,10 +18,11 @@ use crate::told::tell_refusal;
 use bz_attribute::Refusal;
 use bz_files::Files;
 use bz_items::{Text, at};
+use bz_keep::PairFault;
 use bz_label::Target;
 use bz_line::Asking;
-use bz_ports::{Cut, Sink, Source, first_cut};
-use bz_workspace::{Action, Reply, Used, Workspace};
+use bz_ports::{Cut, Sink, Source, first_cut, tell_named};
+use bz_workspace::{Action, KeepFault, Reply, Used, Workspace};
 use std::alloc::{AllocError, Global};
 
 // The name of the file of a package, where it is open.
@@ -35,7 +36,7 @@ fn name_of(used: &Used) -> &str
 }
 
 // The name of the open file of the package with this number.
-pub(crate) fn name_at(workspace: &Workspace, place: usize) -> &str
+fn name_at(workspace: &Workspace, place: usize) -> &str
     ensures { (file : Opened) → file_at place workspace.now ≡ Some file → result.now ≡ file.name }
 {
     match at(workspace.used(), place) {
@@ -65,7 +66,7 @@ fn listing_at(alloc: Global, workspace: &Workspace, place: usize) -> Result<Text
 }
 
 // Appends what a reply prints. The error: memory was refused, and nothing is appended.
-pub(crate) fn put_printed(reply: &Reply, printed: &mut Vec<u8>) -> Result<(), AllocError>
+fn put_printed(reply: &Reply, printed: &mut Vec<u8>) -> Result<(), AllocError>
     ensures ok { OnOk result (printed.new.items ≡ printed.old.items ++ printed_in reply.now) }
     ensures err { OnErr result (printed.new.items ≡ printed.old.items) }
 {
@@ -76,13 +77,7 @@ pub(crate) fn put_printed(reply: &Reply, printed: &mut Vec<u8>) -> Result<(), Al
 }
 
 // A command is refused, which is told by its file.
-pub(crate) fn refuse<E: Sink>(
-    run: &mut Run,
-    place: usize,
-    command: &str,
-    refusal: Refusal,
-    err: &mut E,
-) -> Cut
+fn refuse<E: Sink>(run: &mut Run, place: usize, command: &str, refusal: Refusal, err: &mut E) -> Cut
     ensures kinds { (result ≡ Cut.Whole) ⊎ (result ≡ Cut.Memory) }
     ensures whole { result ≡ Cut.Whole → (refusal ≢ Refusal.Memory) }
     ensures state { progress_in run.new ≡ record (progress_in run.old) { failed = true } }
@@ -121,13 +116,7 @@ fn act_at<E: Sink>(
 }
 
 // Lists the texts of the open file of the package with this number.
-pub(crate) fn list_at<E: Sink>(
-    alloc: Global,
-    run: &mut Run,
-    place: usize,
-    command: &str,
-    err: &mut E,
-) -> Cut
+fn list_at<E: Sink>(alloc: Global, run: &mut Run, place: usize, command: &str, err: &mut E) -> Cut
     requires { IsSome (file_at place run.old.workspace) }
     ensures kinds { (result ≡ Cut.Whole) ⊎ (result ≡ Cut.Memory) }
     ensures whole { result ≡ Cut.Whole → (file : Opened) × (file_at place run.old.workspace ≡ Some file)
@@ -143,30 +132,113 @@ pub(crate) fn list_at<E: Sink>(
     }
 }
 
-// Does a command on a target in the open file of the package with this number.
-fn act_on<E: Sink>(
+// Whether a file is left alone, since its journal and it could not both be written in this run.
+fn is_left(used: &Used) -> bool {
+    match &used.file {
+        Some(file) => file.left,
+        None => false,
+    }
+}
+
+// Whether journals are kept, and the file of the package with this number is left alone.
+fn is_left_at(journals: bool, workspace: &Workspace, place: usize) -> bool
+    ensures { journals ≡ false → result ≡ false }
+{
+    if !journals {
+        return false;
+    }
+    match at(workspace.used(), place) {
+        Some(used) => is_left(used),
+        None => false,
+    }
+}
+
+// The journal and the file of a package were not both replaced, which is told.
+fn leave<E: Sink>(run: &mut Run, place: usize, fault: PairFault, err: &mut E) -> Cut
+    ensures { ((result ≡ Cut.Whole) × (fault ≡ PairFault.Changed)) ⊎ ((result ≡ Cut.Memory) × (fault ≡ PairFault.Memory))
+        ⊎ ((result ≡ Cut.Files) × ((fault ≡ PairFault.Write) ⊎ (fault ≡ PairFault.Open))) }
+{
+    run.failed = true;
+    let name = name_at(&run.workspace, place);
+    match fault {
+        PairFault::Memory => {
+            tell_named(err, name, "Memory");
+            Cut::Memory
+        }
+        PairFault::Changed => {
+            tell_named(err, name, "cannot write");
+            Cut::Whole
+        }
+        PairFault::Open | PairFault::Write => {
+            tell_named(err, name, "cannot write");
+            Cut::Files
+        }
+    }
+}
+
+// Does an action in the open file of the package with this number, as `act_at` does, and keeps its journal and it.
+fn keep_at<F: Files, E: Sink>(
+    run: &mut Run,
+    place: usize,
+    action: &Action<'_>,
+    command: &str,
+    files: &mut F,
+    err: &mut E,
+) -> Cut
+    requires { IsSome (file_at place run.old.workspace) }
+    ensures { WorksOn F.Files result files.old files.new }
+{
+    match run.workspace.keep(place, action, command, files) {
+        Ok(reply) => match put_printed(&reply, &mut run.printed) {
+            Ok(()) => Cut::Whole,
+            Err(_) => refuse(run, place, command, Refusal::Memory, err),
+        },
+        Err(KeepFault::Refused(refusal)) => refuse(run, place, command, refusal, err),
+        Err(KeepFault::Pair(fault)) => leave(run, place, fault, err),
+    }
+}
+
+// Does a command on a target in the open file of the package with this number, unless that is left alone; where journals are kept, its
+// journal and it are kept behind an action.
+fn act_on<F: Files, E: Sink>(
     alloc: Global,
+    journals: bool,
     run: &mut Run,
     place: usize,
     target: &Target,
     asking: &Asking<'_>,
+    files: &mut F,
     err: &mut E,
 ) -> Cut
     requires { IsSome (file_at place run.old.workspace) }
-    ensures kinds { (result ≡ Cut.Whole) ⊎ (result ≡ Cut.Memory) }
-    ensures whole { result ≡ Cut.Whole → (lines : List (List ℕ))
+    ensures kinds { journals ≡ false → (result ≡ Cut.Whole) ⊎ (result ≡ Cut.Memory) }
+    ensures whole { journals ≡ false → result ≡ Cut.Whole → (lines : List (List ℕ))
         × Answers (step_of target.now (asking_in asking.now)) place (file_at place run.old.workspace) (progress_in run.old) lines (progress_in run.new)
         × TellsLines E.Sink err.old err.new lines }
+    ensures still { journals ≡ false → files.new ≡ files.old }
+    ensures works { WorksOn F.Files result files.old files.new }
 {
+    if is_left_at(journals, &run.workspace, place) {
+        run.failed = true;
+        return Cut::Whole;
+    }
     match action_of(&asking.verb, target) {
-        Some(action) => act_at(run, place, &action, asking.text, err),
         None => list_at(alloc, run, place, asking.text, err),
+        Some(action) => {
+            if journals {
+                keep_at(run, place, &action, asking.text, files, err)
+            } else {
+                act_at(run, place, &action, asking.text, err)
+            }
+        }
     }
 }
 
-/// Does one step: opens its package, if that was not used before, and does its command there.
+/// Does one step: opens its package, if that was not used before, and does its command there. Where journals are kept, that is done on
+/// the file and its journal.
 pub(crate) fn do_step<R: Source, F: Files, E: Sink>(
     alloc: Global,
+    journals: bool,
     run: &mut Run,
     target: &Target,
     asking: &Asking<'_>,
@@ -175,13 +247,24 @@ pub(crate) fn do_step<R: Source, F: Files, E: Sink>(
     err: &mut E,
 ) -> Cut
     requires { HasPath target.now }
-    ensures { Proceeds (target.now.«package» ≡ input_package) (λ world. Does world (step_of target.now (asking_in asking.now))) result
+    ensures { Proceeds journals (target.now.«package» ≡ input_package) (λ world. Does world (step_of target.now (asking_in asking.now))) result
         (spot R.Source F.Files E.Sink run.old input.old files.old err.old) (spot R.Source F.Files E.Sink run.new input.new files.new err.new) }
 {
     let package = package_of(target);
-    let opening = open_package(alloc, &mut run.workspace, package, input, files, err);
+    let opening = open_package(
+        alloc,
+        journals,
+        &mut run.workspace,
+        package,
+        input,
+        files,
+        err,
+    );
     match opening.place {
-        Some(place) => first_cut(opening.cut, act_on(alloc, run, place, target, asking, err)),
+        Some(place) => first_cut(
+            opening.cut,
+            act_on(alloc, journals, run, place, target, asking, files, err),
+        ),
         None => {
             run.failed = true;
             opening.cut

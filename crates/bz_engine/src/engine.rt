@@ -1,13 +1,12 @@
 //! The program buildozer over any reader, writers and files.
-ghost use Rattle.std.specs.Prelude.{◌≡◌, ◌≢◌, ◌⊎◌, ◌∷◌, [], List, ℕ, Option, true, false, map, Some};
+ghost use Rattle.std.specs.Prelude.{◌≡◌, ◌≢◌, ◌⊎◌, ◌&&◌, ◌∷◌, [], List, ℕ, Option, true, false, map, Some};
 ghost use Rattle.std.specs.List.{All};
 ghost use Rattle.bz_line.specs.Asked.{Usage};
 ghost use Rattle.bz_line.specs.Line.{LineUsage, command_line_of};
 ghost use Rattle.bz_line.specs.Line.{operands as words_given, script};
 ghost use Rattle.bz_line.specs.Paths.{HasPath};
 ghost use Rattle.bz_line.specs.Shown.{asked_in, usage_in, line_usage_in};
-ghost use Rattle.bz_engine.specs.Calls.{TellsLines, PrintsAll, PrintsSome, world_with, world_of, KeepsFolder, IsEndedOver, LeavesBehind};
-ghost use Rattle.bz_engine.specs.Cuts.{IsEndedBy};
+ghost use Rattle.bz_engine.specs.Calls.{TellsLines, PrintsAll, PrintsSome, ReadsNothing, world_with, world_of, KeepsFolder, IsEndedOver, LeavesBehind};
 ghost use Rattle.bz_engine.specs.Ending.{Left, Performs};
 ghost use Rattle.bz_engine.specs.Outcome.{WordsOutcome, OperandsOutcome, LinesOutcome, TextOutcome, ScriptOutcome, AreOfInput, IsOfInput, GivesNothing, KeepsNoJournal, LineGivesNothing, NamesNoFile, TakesNoFile, TakesNoInput, TakesScript};
 ghost use Rattle.bz_engine.specs.Steps.{all_steps, input_package, names_input};
@@ -15,7 +14,6 @@ ghost use Rattle.bz_engine.specs.Told.{IsUsageLine, IsLineUsageLine, no_journal_
 ghost use Rattle.bz_engine.specs.Usage.{OperandsTell, LinesTell, TextTells, GivenTells, LineTells};
 
 use crate::ending::{FAILED, finish, finish_kept};
-use crate::keeping::keep_lines;
 use crate::run::begun;
 use crate::running::run_lines;
 use crate::script::{INPUT, USAGE, read_bytes, told_name};
@@ -74,7 +72,7 @@ fn unlined<E: Sink>(alloc: Global, err: &mut E, fault: &LineFault) -> Exit
     }
 }
 
-// Does what lines ask for, and ends the run.
+// Does what lines ask for, on files alone or with their journals, and ends the run.
 fn perform<R: Source, W: Sink, E: Sink, F: Files>(
     alloc: Global,
     options: Options,
@@ -85,12 +83,15 @@ fn perform<R: Source, W: Sink, E: Sink, F: Files>(
     files: &mut F,
 ) -> Exit
     requires { All (λ asked. All HasPath asked.targets.items) lines.now }
-    ensures whole { (F.honest files.old ≡ true) ⊎ AreOfInput (map asked_in lines.now) → result.cut ≡ Cut.Whole → (left : Left)
+    ensures whole { options.journal ≡ false → (F.honest files.old ≡ true) ⊎ AreOfInput (map asked_in lines.now)
+        → result.cut ≡ Cut.Whole → (left : Left)
         × Performs options (all_steps (map asked_in lines.now)) (world_of R.Source F.Files input.old files.old) left
         × LeavesBehind W.Sink E.Sink F.Files left result.status out.old out.new err.old err.new files.new }
-    ensures write { (F.honest files.old ≡ true) ⊎ AreOfInput (map asked_in lines.now) → result.cut ≡ Cut.Write → (left : Left)
+    ensures write { options.journal ≡ false → (F.honest files.old ≡ true) ⊎ AreOfInput (map asked_in lines.now)
+        → result.cut ≡ Cut.Write → (left : Left)
         × Performs options (all_steps (map asked_in lines.now)) (world_of R.Source F.Files input.old files.old) left
         × PrintsSome W.Sink out.old out.new left.output }
+    ensures reads_nothing { options.journal ≡ true → ReadsNothing R.Source result.cut input.old input.new }
     ensures read { AreOfInput (map asked_in lines.now) → result.cut ≡ Cut.Read → PrintsAll W.Sink out.old out.new [] }
     ensures status { result.cut ≢ Cut.Whole → result.status ≡ 2 }
     ensures used { result.status ≢ 1 }
@@ -98,15 +99,10 @@ fn perform<R: Source, W: Sink, E: Sink, F: Files>(
     ensures honest { F.honest files.new ≡ F.honest files.old }
 {
     let mut run = begun(alloc);
-    let cut = run_lines(
-        alloc,
-        options.keep_going,
-        lines,
-        &mut run,
-        input,
-        files,
-        err,
-    );
+    let cut = run_lines(alloc, options, lines, &mut run, input, files, err);
+    if options.journal {
+        return finish_kept(options, run, cut, out, err);
+    }
     finish(
         alloc,
         options,
@@ -119,35 +115,14 @@ fn perform<R: Source, W: Sink, E: Sink, F: Files>(
     )
 }
 
-// Does what lines ask for on files with their journals, and ends the run. Standard input has none, so rules of it can't be meant.
-fn perform_kept<W: Sink, E: Sink, F: Files>(
-    alloc: Global,
-    options: Options,
-    lines: &[Asked<'_>],
-    out: &mut W,
-    err: &mut E,
-    files: &mut F,
-) -> Exit
-    requires { All (λ asked. All HasPath asked.targets.items) lines.now }
-    ensures unread { names_input (map asked_in lines.now) ≡ true → (out.new ≡ out.old) × (files.new ≡ files.old) }
-    ensures unused { result.status ≡ 1 → (out.new ≡ out.old) × (files.new ≡ files.old) }
-    ensures usage { result.status ≡ 1 → (names_input (map asked_in lines.now) ≡ true)
-        × TellsLines E.Sink err.old err.new (no_journal_line ∷ []) }
-    ensures read { result.cut ≢ Cut.Read }
-    ensures status { result.cut ≢ Cut.Whole → result.status ≡ 2 }
-    ensures ended { (reads : ℕ) → IsEndedBy result.cut reads reads (W.faults out.old) (W.faults out.new) (F.faults files.old) (F.faults files.new) }
-    ensures honest { F.honest files.new ≡ F.honest files.old }
+// Whether rules of standard input are meant where journals are kept: it has none.
+fn lacks_journal(options: Options, lines: &[Asked<'_>]) -> bool
+    ensures { result ≡ (options.journal && names_input (map asked_in lines.now)) }
 {
-    if names_input(lines) {
-        tell_no_journal(err);
-        return UNUSED;
-    }
-    let mut run = begun(alloc);
-    let cut = keep_lines(alloc, options.keep_going, lines, &mut run, files, err);
-    finish_kept(options, run, cut, out, err)
+    options.journal && names_input(lines)
 }
 
-// Does what lines ask for, on files alone or with their journals.
+// Does what lines ask for, unless that needs a journal of standard input.
 fn perform_lines<R: Source, W: Sink, E: Sink, F: Files>(
     alloc: Global,
     options: Options,
@@ -167,6 +142,7 @@ fn perform_lines<R: Source, W: Sink, E: Sink, F: Files>(
         × Performs options (all_steps (map asked_in lines.now)) (world_of R.Source F.Files input.old files.old) left
         × PrintsSome W.Sink out.old out.new left.output }
     ensures unread { options.journal ≡ true → names_input (map asked_in lines.now) ≡ true → (input.new ≡ input.old) × (out.new ≡ out.old) × (files.new ≡ files.old) }
+    ensures reads_nothing { options.journal ≡ true → ReadsNothing R.Source result.cut input.old input.new }
     ensures unused { result.status ≡ 1 → (input.new ≡ input.old) × (out.new ≡ out.old) × (files.new ≡ files.old) }
     ensures usage { result.status ≡ 1 → (options.journal ≡ true) × (names_input (map asked_in lines.now) ≡ true)
         × TellsLines E.Sink err.old err.new (no_journal_line ∷ []) }
@@ -175,8 +151,9 @@ fn perform_lines<R: Source, W: Sink, E: Sink, F: Files>(
     ensures ended { IsEndedOver R.Source W.Sink F.Files result.cut input.old input.new out.old out.new files.old files.new }
     ensures honest { F.honest files.new ≡ F.honest files.old }
 {
-    if options.journal {
-        return perform_kept(alloc, options, lines, out, err, files);
+    if lacks_journal(options, lines) {
+        tell_no_journal(err);
+        return UNUSED;
     }
     perform(alloc, options, lines, input, out, err, files)
 }

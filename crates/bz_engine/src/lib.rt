@@ -5,7 +5,6 @@
 mod acting;
 mod ending;
 mod engine;
-mod keeping;
 mod laws;
 mod opening;
 mod run;

@@ -4,7 +4,7 @@ ghost use Rattle.bz_ports.specs.Outputs.{Counts};
 ghost use Rattle.bz_ports.specs.Told.{stdin};
 ghost use Rattle.bz_workspace.specs.Opens.{Opens};
 ghost use Rattle.bz_workspace.specs.Packages.{Opened, package_number, file_at};
-ghost use Rattle.bz_engine.specs.Calls.{TellsLines, world_with, AreCutOver};
+ghost use Rattle.bz_engine.specs.Calls.{TellsLines, ReadsNothing, world_with, AreCutOver};
 ghost use Rattle.bz_engine.specs.Cuts.{AreCutBy, IsLeft, OpensInput};
 ghost use Rattle.bz_engine.specs.Run.{Uses};
 ghost use Rattle.bz_ports.specs.Ports.{IsInput};
@@ -53,17 +53,19 @@ fn open_input<R: Source, E: Sink>(
     }
 }
 
-// Whether standard input is to be read: the package stands for it, and was not used before.
-fn wants_input(workspace: &Workspace, package: &str) -> bool
-    ensures yes { result ≡ true → («package».now ≡ input_package) × (package_number input_package workspace.now ≡ None) }
-    ensures other { result ≡ false → «package».now ≡ input_package → package_number input_package workspace.now ≡ None → ⊥ }
+// Whether standard input is to be read: no journals are kept, the package stands for it, and was not used before.
+fn wants_input(journals: bool, workspace: &Workspace, package: &str) -> bool
+    ensures yes { result ≡ true → (journals ≡ false) × («package».now ≡ input_package) × (package_number input_package workspace.now ≡ None) }
+    ensures other { result ≡ false → journals ≡ false → «package».now ≡ input_package → package_number input_package workspace.now ≡ None → ⊥ }
 {
-    package == INPUT && workspace.place(INPUT.as_bytes()).is_none()
+    !journals && package == INPUT && workspace.place(INPUT.as_bytes()).is_none()
 }
 
-/// The open file of a package, which is read where it is used first. Where there is none, that was told at its first use.
+/// The open file of a package, which is read where it is used first, and its journal with it where journals are kept; standard
+/// input has none, and isn't read then. Where there is no file, that was told at its first use.
 pub(crate) fn open_package<R: Source, F: Files, E: Sink>(
     alloc: Global,
+    journals: bool,
     workspace: &mut Workspace,
     package: &str,
     input: &mut R,
@@ -71,21 +73,22 @@ pub(crate) fn open_package<R: Source, F: Files, E: Sink>(
     err: &mut E,
 ) -> Opening
     requires { length «package».now ≤ 65536 }
-    ensures uses { (F.honest files.old ≡ true) ⊎ («package».now ≡ input_package) → result.cut ≡ Cut.Whole → (known : Option (List ℕ))
+    ensures uses { journals ≡ false → (F.honest files.old ≡ true) ⊎ («package».now ≡ input_package) → result.cut ≡ Cut.Whole → (known : Option (List ℕ))
         → IsLeft known workspace.old (R.remaining input.old) → (place : ℕ) × (lines : List (List ℕ))
         × Uses (world_with F.Files files.old known) «package».now workspace.old place lines workspace.new
         × (result.place ≡ option_map (λ _. place) (file_at place workspace.new)) × IsLeft known workspace.new (R.remaining input.new)
         × TellsLines E.Sink err.old err.new lines }
     ensures there { IfSome result.place (λ at. IsSome (file_at at workspace.new)) }
-    ensures folder { (F.honest files.old ≡ true) ⊎ («package».now ≡ input_package) → F.folder files.new ≡ F.folder files.old }
-    ensures input { «package».now ≡ input_package → OpensInput result.cut result.place workspace.old workspace.new }
+    ensures folder { journals ≡ false → (F.honest files.old ≡ true) ⊎ («package».now ≡ input_package) → F.folder files.new ≡ F.folder files.old }
+    ensures input { journals ≡ false → «package».now ≡ input_package → OpensInput result.cut result.place workspace.old workspace.new }
+    ensures unread { journals ≡ true → ReadsNothing R.Source result.cut input.old input.new }
     ensures cut { AreCutOver R.Source F.Files result.cut input.old input.new files.old files.new }
     ensures reads { Counts (R.faults input.old) (R.faults input.new) }
     ensures counts { Counts (F.faults files.old) (F.faults files.new) }
     ensures honest { F.honest files.new ≡ F.honest files.old }
 {
-    if wants_input(workspace, package) {
+    if wants_input(journals, workspace, package) {
         return open_input(alloc, workspace, input, err);
     }
-    workspace.open(package, false, files, err)
+    workspace.open(package, journals, files, err)
 }

@@ -12,14 +12,14 @@ use crate::acting::do_step;
 use crate::run::Run;
 use bz_files::Files;
 use bz_label::Target;
-use bz_line::{Asked, Asking};
+use bz_line::{Asked, Asking, Options};
 use bz_ports::{Cut, Sink, Source, first_cut};
 use std::alloc::Global;
 
 // Does all commands on one target, in order.
 fn run_target<R: Source, F: Files, E: Sink>(
     alloc: Global,
-    keep_going: bool,
+    options: Options,
     target: &Target,
     commands: &[Asking<'_>],
     run: &mut Run,
@@ -28,16 +28,25 @@ fn run_target<R: Source, F: Files, E: Sink>(
     err: &mut E,
 ) -> Cut
     requires { HasPath target.now }
-    ensures { Proceeds (target.now.«package» ≡ input_package)
-        (λ world. RunsSteps world keep_going (map (step_of target.now) (map asking_in commands.now))) result
+    ensures { Proceeds options.journal (target.now.«package» ≡ input_package)
+        (λ world. RunsSteps world options.keep_going (map (step_of target.now) (map asking_in commands.now))) result
         (spot R.Source F.Files E.Sink run.old input.old files.old err.old) (spot R.Source F.Files E.Sink run.new input.new files.new err.new) }
 {
     let mut cut = Cut::Whole;
     for asking in commands {
-        if run.failed && !keep_going {
+        if run.failed && !options.keep_going {
             return cut;
         }
-        let later = do_step(alloc, run, target, asking, input, files, err);
+        let later = do_step(
+            alloc,
+            options.journal,
+            run,
+            target,
+            asking,
+            input,
+            files,
+            err,
+        );
         cut = first_cut(cut, later);
     }
     cut
@@ -46,7 +55,7 @@ fn run_target<R: Source, F: Files, E: Sink>(
 /// Does what a line asks for: all commands on each target, in order. A step that failed ends it, unless it is to go on.
 pub(crate) fn run_line<R: Source, F: Files, E: Sink>(
     alloc: Global,
-    keep_going: bool,
+    options: Options,
     line: &Asked<'_>,
     run: &mut Run,
     input: &mut R,
@@ -54,15 +63,15 @@ pub(crate) fn run_line<R: Source, F: Files, E: Sink>(
     err: &mut E,
 ) -> Cut
     requires { All HasPath line.now.targets.items }
-    ensures { Proceeds (All (λ target. target.«package» ≡ input_package) line.now.targets.items)
-        (λ world. RunsSteps world keep_going (steps_asked (asked_in line.now))) result
+    ensures { Proceeds options.journal (All (λ target. target.«package» ≡ input_package) line.now.targets.items)
+        (λ world. RunsSteps world options.keep_going (steps_asked (asked_in line.now))) result
         (spot R.Source F.Files E.Sink run.old input.old files.old err.old) (spot R.Source F.Files E.Sink run.new input.new files.new err.new) }
 {
     let mut cut = Cut::Whole;
     for target in &line.targets {
         let later = run_target(
             alloc,
-            keep_going,
+            options,
             target,
             &line.commands,
             run,
@@ -75,10 +84,10 @@ pub(crate) fn run_line<R: Source, F: Files, E: Sink>(
     cut
 }
 
-/// Does what the lines of a file ask for, in order.
+/// Does what the lines of a file ask for, in order, each step on a file, and with its journal where journals are kept.
 pub(crate) fn run_lines<R: Source, F: Files, E: Sink>(
     alloc: Global,
-    keep_going: bool,
+    options: Options,
     lines: &[Asked<'_>],
     run: &mut Run,
     input: &mut R,
@@ -86,13 +95,13 @@ pub(crate) fn run_lines<R: Source, F: Files, E: Sink>(
     err: &mut E,
 ) -> Cut
     requires { All (λ asked. All HasPath asked.targets.items) lines.now }
-    ensures { Proceeds (AreOfInput (map asked_in lines.now))
-        (λ world. RunsSteps world keep_going (all_steps (map asked_in lines.now))) result
+    ensures { Proceeds options.journal (AreOfInput (map asked_in lines.now))
+        (λ world. RunsSteps world options.keep_going (all_steps (map asked_in lines.now))) result
         (spot R.Source F.Files E.Sink run.old input.old files.old err.old) (spot R.Source F.Files E.Sink run.new input.new files.new err.new) }
 {
     let mut cut = Cut::Whole;
     for line in lines {
-        let later = run_line(alloc, keep_going, line, run, input, files, err);
+        let later = run_line(alloc, options, line, run, input, files, err);
         cut = first_cut(cut, later);
     }
     cut

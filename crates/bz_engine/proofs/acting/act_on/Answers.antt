@@ -9,7 +9,7 @@ use Rattle.bz_engine.proofs.DoSteps.{listed_answers}
 use Rattle.bz_engine.proofs.acting.act_on.Goals as goal
 
 pub returns-in-None-clause-whole : goal.returns-in-None-clause-whole
-returns-in-None-clause-whole g c = λ whole.
+returns-in-None-clause-whole g c = λ plain whole.
     let done = c.list_at.ensures.whole whole in (
       [],
       listed_answers (step_of c.args.target.now (asking_in c.args.asking.now)) c.args.place (file_at c.args.place c.args.run.now.workspace) done.0 (progress_in c.args.run.now)

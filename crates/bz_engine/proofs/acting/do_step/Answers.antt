@@ -1,10 +1,10 @@
-use Rattle.std.proofs.Common.{◌≡◌, ◌∙◌, ◌++◌, true, refl}
+use Rattle.std.proofs.Common.{◌≡◌, ◌∙◌, ◌++◌, true, refl, ap, sym}
 use Rattle.bz_line.specs.Shown.{asking_in}
-use Rattle.bz_ports.proofs.Outputs.{tells_more}
+use Rattle.bz_ports.proofs.Outputs.{counts_more, tells_more}
 use Rattle.bz_workspace.specs.Packages.{file_at}
 use Rattle.bz_engine.specs.Shown.{progress_in}
 use Rattle.bz_engine.specs.Steps.{input_package, step_of}
-use Rattle.bz_engine.proofs.CutSteps.{both_whole, by_name, cut_behind}
+use Rattle.bz_engine.proofs.CutSteps.{both_whole, by_name, cut_behind, neither_read, works_unread}
 use Rattle.bz_engine.proofs.DoSteps.{done_there, done_nowhere}
 use Rattle.bz_engine.proofs.OpenSteps.{left_after}
 use Rattle.bz_engine.proofs.ReadSteps.{step_there, step_nowhere}
@@ -21,11 +21,12 @@ returns-in-Some g c =
     let after = progress_in c.act_on.new.run in
     let used = opening.new.workspace in
     let at = c.in-Some.place in
+    let works = c.act_on.ensures.works in
     record {
-      does = λ can whole known left.
+      does = λ plain can whole known left.
           let both = both_whole opening.result.cut c.act_on.result c.first_cut.result c.first_cut.ensures whole in
-          let opened = opening.ensures.uses (by_name is_honest name c.args.target.now.«package» input_package named can) both.0 known left in
-          let done = c.act_on.ensures.whole both.1 in (
+          let opened = opening.ensures.uses plain (by_name is_honest name c.args.target.now.«package» input_package named can) both.0 known left in
+          let done = c.act_on.ensures.whole plain both.1 in (
             opened.1 ++ done.0,
             done_there (record { folder = g.F.Files.folder c.args.files.now; known = known }) step before after used opening.result.place opened.0 at name
                 opened.1 done.0 named opened.2 c.in-Some.is opened.3 done.1,
@@ -33,16 +34,27 @@ returns-in-Some g c =
             tells_more (g.E.Sink.faults c.args.err.now) (g.E.Sink.faults opening.new.err) (g.E.Sink.faults c.act_on.new.err)
                 (g.E.Sink.contents c.args.err.now) (g.E.Sink.contents opening.new.err) (g.E.Sink.contents c.act_on.new.err) opened.1 done.0 opened.5 done.2,
           );
-      folder = λ can. opening.ensures.folder (by_name is_honest name c.args.target.now.«package» input_package named can);
-      input = λ is.
+      folder = λ plain can. ap g.F.Files.folder (c.act_on.ensures.still plain)
+          ∙ opening.ensures.folder plain (by_name is_honest name c.args.target.now.«package» input_package named can);
+      input = λ plain is.
           step_there step opening.result.cut c.act_on.result c.first_cut.result opening.result.place at at before used after
-          (opening.ensures.input (named ∙ is)) c.in-Some.is c.first_cut.ensures c.act_on.ensures.kinds
-          (λ whole. let done = c.act_on.ensures.whole whole in (done.0, done.1));
+          (opening.ensures.input plain (named ∙ is)) c.in-Some.is c.first_cut.ensures (c.act_on.ensures.kinds plain)
+          (λ whole. let done = c.act_on.ensures.whole plain whole in (done.0, done.1));
+      unread = λ kept.
+          let same = opening.ensures.unread kept in (
+            same.0,
+            same.1,
+            (λ is. neither_read opening.result.cut c.act_on.result same.2
+                (works_unread c.act_on.result (g.F.Files.faults opening.new.files) (g.F.Files.faults c.act_on.new.files) works.cut)
+                (sym c.first_cut.ensures ∙ is)),
+          );
       cut = cut_behind opening.result.cut c.act_on.result c.first_cut.result (g.R.Source.faults c.args.input.now) (g.R.Source.faults opening.new.input)
-          (g.F.Files.faults c.args.files.now) (g.F.Files.faults opening.new.files) c.first_cut.ensures c.act_on.ensures.kinds opening.ensures.cut;
+          (g.F.Files.faults c.args.files.now) (g.F.Files.faults opening.new.files) (g.F.Files.faults c.act_on.new.files) c.first_cut.ensures works.cut
+          opening.ensures.cut opening.ensures.reads opening.ensures.counts works.counts;
       reads = opening.ensures.reads;
-      counts = opening.ensures.counts;
-      honest = opening.ensures.honest;
+      counts = counts_more (g.F.Files.faults c.args.files.now) (g.F.Files.faults opening.new.files) (g.F.Files.faults c.act_on.new.files)
+          opening.ensures.counts works.counts;
+      honest = works.honest ∙ opening.ensures.honest;
     }
 
 pub returns-in-None : goal.returns-in-None
@@ -54,17 +66,19 @@ returns-in-None g c =
     let before = progress_in c.args.run.now in
     let used = opening.new.workspace in
     record {
-      does = λ can whole known left.
-          let opened = opening.ensures.uses (by_name is_honest name c.args.target.now.«package» input_package named can) whole known left in (
+      does = λ plain can whole known left.
+          let opened = opening.ensures.uses plain (by_name is_honest name c.args.target.now.«package» input_package named can) whole known left in (
             opened.1,
             done_nowhere (record { folder = g.F.Files.folder c.args.files.now; known = known }) (step_of c.args.target.now (asking_in c.args.asking.now))
                 before used opening.result.place opened.0 name opened.1 named opened.2 c.in-None.is opened.3,
             opened.4,
             opened.5,
           );
-      folder = λ can. opening.ensures.folder (by_name is_honest name c.args.target.now.«package» input_package named can);
-      input = λ is.
-          step_nowhere opening.result.cut opening.result.place before used (record before { used = used; failed = true }) (opening.ensures.input (named ∙ is)) refl;
+      folder = λ plain can. opening.ensures.folder plain (by_name is_honest name c.args.target.now.«package» input_package named can);
+      input = λ plain is.
+          step_nowhere opening.result.cut opening.result.place before used (record before { used = used; failed = true })
+          (opening.ensures.input plain (named ∙ is)) refl;
+      unread = opening.ensures.unread;
       cut = opening.ensures.cut;
       reads = opening.ensures.reads;
       counts = opening.ensures.counts;

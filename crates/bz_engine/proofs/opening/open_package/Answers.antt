@@ -11,22 +11,22 @@ use Rattle.bz_engine.proofs.ReadSteps.{opens_first, opens_again, uses_so}
 use Rattle.bz_engine.proofs.opening.open_package.Goals as goal
 
 pub returns-then-wants_input-clause-uses : goal.returns-then-wants_input-clause-uses
-returns-then-wants_input-clause-uses g c = λ can whole known left.
+returns-then-wants_input-clause-uses g c = λ plain can whole known left.
     let asked = c.wants_input.ensures.yes c.if-wants_input.true in
     let done = c.open_input.ensures.whole whole in
     let old = c.args.workspace.now in
     let new = c.open_input.new.workspace in (
       length old,
       done.2,
-      uses_input (record { folder = g.F.Files.folder c.args.files.now; known = known }) c.args.package.now done.0 old new done.1 done.2 asked.0 asked.1
-          (subst (λ (bytes : Option Bytes). IsInput bytes done.0) (left asked.1) done.3) done.4 done.5,
+      uses_input (record { folder = g.F.Files.folder c.args.files.now; known = known }) c.args.package.now done.0 old new done.1 done.2 asked.1 asked.2
+          (subst (λ (bytes : Option Bytes). IsInput bytes done.0) (left asked.2) done.3) done.4 done.5,
       last_place old new input_package done.1 c.open_input.result.place done.5 done.6,
       left_behind_input known (g.R.Source.remaining c.open_input.new.input) old new (record { «package» = input_package; file = done.1 }) refl done.5,
       done.7,
     )
 
 pub returns-clause-uses : goal.returns-clause-uses
-returns-clause-uses g c = λ can whole known left.
+returns-clause-uses g c = λ plain can whole known left.
     let old = c.args.workspace.now in
     let new = c.open.new.self in
     let name = c.args.package.now in
@@ -34,10 +34,10 @@ returns-clause-uses g c = λ can whole known left.
     elim (is_found (package_number name old)) [
       | inl none ↦
           let other = λ (is : name ≡ input_package).
-          c.wants_input.ensures.other c.if-wants_input.false is (sym (ap (λ (n : Bytes). package_number n old) is) ∙ none) in
+          c.wants_input.ensures.other c.if-wants_input.false plain is (sym (ap (λ (n : Bytes). package_number n old) is) ∙ none) in
           elim can [
             | inl honest ↦
-                let done = c.open.ensures.first refl honest whole none in (
+                let done = c.open.ensures.first plain honest whole none in (
                   length old,
                   done.1,
                   uses_found (record { folder = g.F.Files.folder c.args.files.now; known = known }) name old new done.0 done.1 other none done.2 done.3,
@@ -59,29 +59,29 @@ returns-clause-uses g c = λ can whole known left.
     ]
 
 pub returns-clause-folder : goal.returns-clause-folder
-returns-clause-folder g c = λ can.
+returns-clause-folder g c = λ plain can.
     let old = c.args.workspace.now in
     let name = c.args.package.now in
     elim can [
       | inl honest ↦ c.open.ensures.folder honest
       | inr is ↦ elim (is_found (package_number name old)) [
-        | inl none ↦ absurd (c.wants_input.ensures.other c.if-wants_input.false is (sym (ap (λ (n : Bytes). package_number n old) is) ∙ none))
+        | inl none ↦ absurd (c.wants_input.ensures.other c.if-wants_input.false plain is (sym (ap (λ (n : Bytes). package_number n old) is) ∙ none))
         | inr some ↦ ap g.F.Files.folder (c.open.ensures.again some.0 some.1).2
       ]
     ]
 
 pub returns-then-wants_input-clause-input : goal.returns-then-wants_input-clause-input
-returns-then-wants_input-clause-input g c = λ is.
+returns-then-wants_input-clause-input g c = λ plain is.
     let asked = c.wants_input.ensures.yes c.if-wants_input.true in
-    opens_first c.args.workspace.now c.open_input.new.workspace c.open_input.result.place c.open_input.result.cut asked.1 c.open_input.ensures.failed
+    opens_first c.args.workspace.now c.open_input.new.workspace c.open_input.result.place c.open_input.result.cut asked.2 c.open_input.ensures.failed
     (λ whole. let done = c.open_input.ensures.whole whole in (done.1, done.5))
 
 pub returns-clause-input : goal.returns-clause-input
-returns-clause-input g c = λ is.
+returns-clause-input g c = λ plain is.
     let old = c.args.workspace.now in
     let name = c.args.package.now in
     elim (is_found (package_number name old)) [
-      | inl none ↦ absurd (c.wants_input.ensures.other c.if-wants_input.false is (sym (ap (λ (n : Bytes). package_number n old) is) ∙ none))
+      | inl none ↦ absurd (c.wants_input.ensures.other c.if-wants_input.false plain is (sym (ap (λ (n : Bytes). package_number n old) is) ∙ none))
       | inr some ↦
           let done = c.open.ensures.again some.0 some.1 in
           opens_again some.0 old c.open.new.self c.open.result.place c.open.result.cut (ap (λ (o : Opening). o.place) done.0)

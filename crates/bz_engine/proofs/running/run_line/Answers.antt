@@ -15,7 +15,7 @@ abbrev IsOfInput : Target → Type 0
 IsOfInput target = target.«package» ≡ input_package
 
 pub loop-target-init : goal.loop-target-init
-loop-target-init g c = part_none (All IsOfInput c.args.line.now.targets.items) c.args.keep_going (steps_asked (asked_in c.args.line.now))
+loop-target-init g c = part_none c.args.options.journal (All IsOfInput c.args.line.now.targets.items) c.args.options.keep_going (steps_asked (asked_in c.args.line.now))
     (spot g.R.Source g.F.Files g.E.Sink c.args.run.now c.args.input.now c.args.files.now c.args.err.now)
 
 pub loop-target-preserved : goal.loop-target-preserved
@@ -31,17 +31,18 @@ loop-target-preserved g c =
     let old = spot g.R.Source g.F.Files g.E.Sink c.args.run.now c.args.input.now c.args.files.now c.args.err.now in
     let mid = spot g.R.Source g.F.Files g.E.Sink l.run l.input l.files l.err in
     let new = spot g.R.Source g.F.Files g.E.Sink e.new.run e.new.input e.new.files e.new.err in
-    let done : Done (IsOfInput target) c.args.keep_going (on_target commands target) e.result mid new = record {
-      does = λ honest whole. subst (λ (all : List Asking). Goes mid.folder c.args.keep_going (on_target all target) mid new) c.deref.ensures.value
-          (e.ensures.does honest whole);
+    let done : Done c.args.options.journal (IsOfInput target) c.args.options.keep_going (on_target commands target) e.result mid new = record {
+      does = λ plain honest whole. subst (λ (all : List Asking). Goes mid.folder c.args.options.keep_going (on_target all target) mid new) c.deref.ensures.value
+          (e.ensures.does plain honest whole);
       folder = e.ensures.folder;
       cut = e.ensures.cut;
       reads = e.ensures.reads;
       counts = e.ensures.counts;
       honest = e.ensures.honest;
       input = e.ensures.input;
+      unread = e.ensures.unread;
     } in
-    rw (c.first_cut-cut.ensures) (part_more (All IsOfInput targets) (IsOfInput target) c.args.keep_going (steps_asked (asked_in c.args.line.now))
+    rw (c.first_cut-cut.ensures) (part_more c.args.options.journal (All IsOfInput targets) (IsOfInput target) c.args.options.keep_going (steps_asked (asked_in c.args.line.now))
     (flat_map (on_target commands) (drop at targets)) (on_target commands target) (flat_map (on_target commands) (drop (at + 1) targets))
     l.cut e.result old mid new (all_at IsOfInput targets held at target same c.loop-target-test.true c.target-item.is)
     (ap (flat_map (on_target commands)) (left_at targets held at target same c.loop-target-test.true c.target-item.is)) l.invariant done)
@@ -51,7 +52,7 @@ returns g c =
     let l = c.loop-target in
     let targets = c.args.line.now.targets.items in
     let commands = c.args.line.now.commands.items in
-    all_done (All IsOfInput targets) c.args.keep_going (steps_asked (asked_in c.args.line.now)) (flat_map (on_target commands) (drop l.target-index targets))
+    all_done c.args.options.journal (All IsOfInput targets) c.args.options.keep_going (steps_asked (asked_in c.args.line.now)) (flat_map (on_target commands) (drop l.target-index targets))
     l.cut (spot g.R.Source g.F.Files g.E.Sink c.args.run.now c.args.input.now c.args.files.now c.args.err.now) (spot g.R.Source g.F.Files g.E.Sink l.run l.input l.files l.err)
     (ap (flat_map (on_target commands)) (none_at targets c.deref-target-items.result.now l.target-index c.deref-target-items.ensures.value
     c.loop-target-test.false)) l.invariant

@@ -23,7 +23,7 @@ each_line lines all k d within = subst (λ (asked : a.Asked). All (λ target. ta
     (get_or-map asked_in lines k d (asked_in d) within) (all k (asked_in d) (rw (length-map) within))
 
 pub loop-line-init : goal.loop-line-init
-loop-line-init g c = part_none (AreOfInput (map asked_in c.args.lines.now)) c.args.keep_going (asked c.args.lines.now)
+loop-line-init g c = part_none c.args.options.journal (AreOfInput (map asked_in c.args.lines.now)) c.args.options.keep_going (asked c.args.lines.now)
     (spot g.R.Source g.F.Files g.E.Sink c.args.run.now c.args.input.now c.args.files.now c.args.err.now)
 
 pub run_line-later-requires : goal.run_line-later-requires
@@ -40,7 +40,7 @@ loop-line-preserved g c =
     let old = spot g.R.Source g.F.Files g.E.Sink c.args.run.now c.args.input.now c.args.files.now c.args.err.now in
     let mid = spot g.R.Source g.F.Files g.E.Sink l.run l.input l.files l.err in
     let new = spot g.R.Source g.F.Files g.E.Sink e.new.run e.new.input e.new.files e.new.err in
-    rw (c.first_cut-cut.ensures) (part_more (AreOfInput (map asked_in lines)) (IsOfInput line) c.args.keep_going (asked lines)
+    rw (c.first_cut-cut.ensures) (part_more c.args.options.journal (AreOfInput (map asked_in lines)) (IsOfInput line) c.args.options.keep_going (asked lines)
     (asked (drop at lines)) (steps_asked (asked_in line)) (asked (drop (at + 1) lines)) l.cut e.result old mid new
     (λ all. all_at IsOfInput lines lines at line refl c.loop-line-test.true c.line-item.is (each_line lines all))
     (ap asked (left_at lines lines at line refl c.loop-line-test.true c.line-item.is)) l.invariant e.ensures)
@@ -49,6 +49,6 @@ pub returns : goal.returns
 returns g c =
     let l = c.loop-line in
     let lines = c.args.lines.now in
-    all_done (AreOfInput (map asked_in lines)) c.args.keep_going (asked lines) (asked (drop l.line-index lines)) l.cut
+    all_done c.args.options.journal (AreOfInput (map asked_in lines)) c.args.options.keep_going (asked lines) (asked (drop l.line-index lines)) l.cut
     (spot g.R.Source g.F.Files g.E.Sink c.args.run.now c.args.input.now c.args.files.now c.args.err.now)
     (spot g.R.Source g.F.Files g.E.Sink l.run l.input l.files l.err) (ap asked (none_at lines lines l.line-index refl c.loop-line-test.false)) l.invariant

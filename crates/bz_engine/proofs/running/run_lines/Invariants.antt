@@ -8,5 +8,5 @@ use Rattle.bz_engine.proofs.running.run_lines.Given as goal
 
 -- what the lines that are left ask for is what all ask for
 abbrev pub invariant-loop-line : goal.invariant-loop-line
-invariant-loop-line g l = Part (AreOfInput (map asked_in l.lines)) l.keep_going (all_steps (map asked_in l.lines))
+invariant-loop-line g l = Part l.options.journal (AreOfInput (map asked_in l.lines)) l.options.keep_going (all_steps (map asked_in l.lines))
     (all_steps (map asked_in (drop l.line-index l.lines))) l.cut (spot g.R.Source g.F.Files g.E.Sink l.fn.run l.fn.input l.fn.files l.fn.err) (spot g.R.Source g.F.Files g.E.Sink l.run l.input l.files l.err)

@@ -8,21 +8,21 @@ use Rattle.bz_engine.specs.Shown.{progress_in}
 use Rattle.bz_engine.specs.Steps.{RunStep, input_package, step_of}
 use Rattle.bz_engine.proofs.RunSteps.{Done, one_runs, part_none, part_more, all_done, done_early, left_at, none_at}
 use Rattle.bz_engine.proofs.running.run_target.Goals as goal
-use Rattle.bz_engine.proofs.running.run_target.Goals.{else-run-via-then-run+else-not-keep_going, else-run-via-else-run}
+use Rattle.bz_engine.proofs.running.run_target.Goals.{else-run-via-then-run+else-not-options, else-run-via-else-run}
 
 abbrev steps : Target → List Asking → List RunStep
 steps target commands = map (step_of target) (map asking_in commands)
 
 pub loop-asking-init : goal.loop-asking-init
-loop-asking-init g c = part_none (c.args.target.now.«package» ≡ input_package) c.args.keep_going (steps c.args.target.now c.args.commands.now)
+loop-asking-init g c = part_none c.args.options.journal (c.args.target.now.«package» ≡ input_package) c.args.options.keep_going (steps c.args.target.now c.args.commands.now)
     (spot g.R.Source g.F.Files g.E.Sink c.args.run.now c.args.input.now c.args.files.now c.args.err.now)
 
-pub returns-then-not-keep_going : goal.returns-then-not-keep_going
-returns-then-not-keep_going g c =
+pub returns-then-not-options : goal.returns-then-not-options
+returns-then-not-options g c =
     let l = c.loop-asking in
     let failed = c.if-run.true in
-    let stops = c.if-not-keep_going.true in
-    done_early (c.args.target.now.«package» ≡ input_package) c.args.keep_going (steps c.args.target.now c.args.commands.now)
+    let stops = c.if-not-options.true in
+    done_early c.args.options.journal (c.args.target.now.«package» ≡ input_package) c.args.options.keep_going (steps c.args.target.now c.args.commands.now)
     (steps c.args.target.now (drop l.asking-index c.args.commands.now)) l.cut (spot g.R.Source g.F.Files g.E.Sink c.args.run.now c.args.input.now c.args.files.now c.args.err.now)
     (spot g.R.Source g.F.Files g.E.Sink l.run l.input l.files l.err) (rw (failed, stops) refl) l.invariant
 
@@ -37,29 +37,30 @@ loop-asking-preserved g c =
     let mid = spot g.R.Source g.F.Files g.E.Sink l.run l.input l.files l.err in
     let new = spot g.R.Source g.F.Files g.E.Sink e.new.run e.new.input e.new.files e.new.err in
     let step = step_of target (asking_in c.asking-item.result) in
-    let on : ends_run c.args.keep_going (progress_in l.run) ≡ false = elim c.else-run.branch [
-      | else-run-via-then-run+else-not-keep_going w ↦ (let failed = w.if-run.true in let goes = w.if-not-keep_going.false in rw (failed, goes) refl)
+    let on : ends_run c.args.options.keep_going (progress_in l.run) ≡ false = elim c.else-run.branch [
+      | else-run-via-then-run+else-not-options w ↦ (let failed = w.if-run.true in let goes = w.if-not-options.false in rw (failed, goes) refl)
       | else-run-via-else-run w ↦ (let works = w.if-run.false in rw (works) refl)
     ] in
-    let done : Done (target.«package» ≡ input_package) c.args.keep_going (step ∷ []) e.result mid new = record {
-      does = λ honest whole known left.
-          let does = e.ensures.does honest whole known left in
-          (does.0, one_runs (record { folder = mid.folder; known = known }) c.args.keep_going step mid.state new.state does.0 on does.1, does.2, does.3);
+    let done : Done c.args.options.journal (target.«package» ≡ input_package) c.args.options.keep_going (step ∷ []) e.result mid new = record {
+      does = λ plain honest whole known left.
+          let does = e.ensures.does plain honest whole known left in
+          (does.0, one_runs (record { folder = mid.folder; known = known }) c.args.options.keep_going step mid.state new.state does.0 on does.1, does.2, does.3);
       folder = e.ensures.folder;
       input = e.ensures.input;
+      unread = e.ensures.unread;
       cut = e.ensures.cut;
       reads = e.ensures.reads;
       counts = e.ensures.counts;
       honest = e.ensures.honest;
     } in
-    rw (c.first_cut-cut.ensures) (part_more (target.«package» ≡ input_package) (target.«package» ≡ input_package) c.args.keep_going (steps target commands)
+    rw (c.first_cut-cut.ensures) (part_more c.args.options.journal (target.«package» ≡ input_package) (target.«package» ≡ input_package) c.args.options.keep_going (steps target commands)
     (steps target (drop at commands)) (step ∷ []) (steps target (drop (at + 1) commands)) l.cut e.result old mid new (λ is. is)
     (ap (steps target) (left_at commands commands at c.asking-item.result refl c.loop-asking-test.true c.asking-item.is)) l.invariant done)
 
 pub returns : goal.returns
 returns g c =
     let l = c.loop-asking in
-    all_done (c.args.target.now.«package» ≡ input_package) c.args.keep_going (steps c.args.target.now c.args.commands.now)
+    all_done c.args.options.journal (c.args.target.now.«package» ≡ input_package) c.args.options.keep_going (steps c.args.target.now c.args.commands.now)
     (steps c.args.target.now (drop l.asking-index c.args.commands.now)) l.cut (spot g.R.Source g.F.Files g.E.Sink c.args.run.now c.args.input.now c.args.files.now c.args.err.now)
     (spot g.R.Source g.F.Files g.E.Sink l.run l.input l.files l.err)
     (ap (steps c.args.target.now) (none_at c.args.commands.now c.args.commands.now l.asking-index refl c.loop-asking-test.false)) l.invariant

@@ -7,5 +7,5 @@ use Rattle.bz_engine.proofs.running.run_target.Given as goal
 
 -- what the commands that are left do is what all do
 abbrev pub invariant-loop-asking : goal.invariant-loop-asking
-invariant-loop-asking g l = Part (l.target.«package» ≡ input_package) l.keep_going (map (step_of l.target) (map asking_in l.commands))
+invariant-loop-asking g l = Part l.options.journal (l.target.«package» ≡ input_package) l.options.keep_going (map (step_of l.target) (map asking_in l.commands))
     (map (step_of l.target) (map asking_in (drop l.asking-index l.commands))) l.cut (spot g.R.Source g.F.Files g.E.Sink l.fn.run l.fn.input l.fn.files l.fn.err) (spot g.R.Source g.F.Files g.E.Sink l.run l.input l.files l.err)
