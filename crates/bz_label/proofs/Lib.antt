@@ -12,3 +12,4 @@ pub mod Spellings
 pub mod Repeats
 pub mod LabelFunctions
 pub mod TargetReadings
+pub mod NamesByFirst

@@ -1,7 +1,7 @@
 //! The calls that take no memory, over bytes.
 //!
 //! The crate's calls of the same names take `&str`; these serve who holds the bytes of a text.
-ghost use Rattle.std.specs.Prelude.{◌≡◌, ◌↔◌, ◌<◌, [], ◌∷◌, false, IsTrue, IfSome, position, length};
+ghost use Rattle.std.specs.Prelude.{◌≡◌, ◌↔◌, [], ◌∷◌, false, get_or, if◌then◌else◌, IsTrue};
 ghost use Rattle.std.specs.Str.{bytes_eq};
 ghost use Rattle.std.specs.List.{list_any};
 ghost use Rattle.std.specs.Option.{option_map};
@@ -174,30 +174,32 @@ fn is_any(attribute: &[u8], names: &[&str]) -> bool
     names.iter().any(|name| attribute == name.as_bytes())
 }
 
-fn place(attribute: &[u8], names: &[&str]) -> Option<usize>
-    ensures place { result ≡ position (λ name. bytes_eq attribute.now name.now) names.now }
-    ensures within { IfSome result (λ at. at < length names.now) }
+/// The first byte of a text; 0 of an empty one. The tables are asked by it, since a text is then compared with two names or three.
+fn first_of(text: &[u8]) -> u8
+    ensures { result ≡ get_or text.now 0 0 }
 {
-    names.iter().position(|name| attribute == name.as_bytes())
+    match text {
+        [] => 0,
+        [first, ..] => *first,
+    }
 }
 
+#[tactic(auto, using(crate::proofs::NamesByFirst::sorted_c, crate::proofs::NamesByFirst::sorted_d, crate::proofs::NamesByFirst::sorted_e, crate::proofs::NamesByFirst::sorted_h, crate::proofs::NamesByFirst::sorted_i, crate::proofs::NamesByFirst::sorted_r, crate::proofs::NamesByFirst::sorted_s, crate::proofs::NamesByFirst::sorted_t, crate::proofs::NamesByFirst::sorted_v, crate::proofs::NamesByFirst::sorted_other))]
 fn is_sorted_attribute(attribute: &[u8]) -> bool
     ensures { result ≡ is_in sorted_attributes attribute.now }
 {
-    let names = [
-        "compatible_with",
-        "data",
-        "deps",
-        "exports",
-        "hdrs",
-        "implementation_deps",
-        "runtime_deps",
-        "srcs",
-        "tags",
-        "textual_hdrs",
-        "visibility",
-    ];
-    is_any(attribute, &names)
+    match first_of(attribute) {
+        b'c' => attribute == b"compatible_with".as_slice(),
+        b'd' => attribute == b"data".as_slice() || attribute == b"deps".as_slice(),
+        b'e' => attribute == b"exports".as_slice(),
+        b'h' => attribute == b"hdrs".as_slice(),
+        b'i' => attribute == b"implementation_deps".as_slice(),
+        b'r' => attribute == b"runtime_deps".as_slice(),
+        b's' => attribute == b"srcs".as_slice(),
+        b't' => attribute == b"tags".as_slice() || attribute == b"textual_hdrs".as_slice(),
+        b'v' => attribute == b"visibility".as_slice(),
+        _ => false,
+    }
 }
 
 /// Whether the lists of this attribute are sorted in a rule of this kind: the sorted attributes are, but not `srcs` of
@@ -226,19 +228,49 @@ pub fn is_list_attribute(attribute: &[u8]) -> bool
     is_sorted_attribute(attribute) || is_any(attribute, &names)
 }
 
+/// The place of an argument that has this name, and that of all others.
+fn place_if(attribute: &[u8], name: &[u8], place: usize) -> usize
+    ensures { result ≡ (if bytes_eq attribute.now name.now then place else 9) }
+{
+    if attribute == name { place } else { 9 }
+}
+
+/// The place of an argument that has one of these names, and that of all others.
+fn place_if_either(
+    attribute: &[u8],
+    one: &[u8],
+    place: usize,
+    other: &[u8],
+    place_of_other: usize,
+) -> usize
+    ensures { result ≡ (if bytes_eq attribute.now one.now then place else (if bytes_eq attribute.now other.now then place_of_other else 9)) }
+{
+    if attribute == one {
+        return place;
+    }
+    place_if(attribute, other, place_of_other)
+}
+
 /// Where an argument of this name stands in a rule: lower numbers come first, and equal ones go by name.
+#[tactic(auto, using(crate::proofs::NamesByFirst::place_n, crate::proofs::NamesByFirst::place_size, crate::proofs::NamesByFirst::place_s, crate::proofs::NamesByFirst::place_t, crate::proofs::NamesByFirst::place_o, crate::proofs::NamesByFirst::place_h, crate::proofs::NamesByFirst::place_e, crate::proofs::NamesByFirst::place_r, crate::proofs::NamesByFirst::place_d, crate::proofs::NamesByFirst::place_a, crate::proofs::NamesByFirst::place_other))]
 pub fn priority(attribute: &[u8]) -> usize
     ensures { result ≡ priority_of attribute.now }
 {
-    let first = [
-        "name", "size", "timeout", "testonly", "src", "srcs", "out", "outs", "hdrs",
-    ];
-    let later = ["exports", "runtime_deps", "deps", "alwayslink"];
-    if let Some(at) = place(attribute, &first) {
-        return at;
-    }
-    match place(attribute, &later) {
-        Some(at) => first.len() + 1 + at,
-        None => first.len(),
+    match first_of(attribute) {
+        b'n' => place_if(attribute, b"name", 0),
+        b's' => {
+            if attribute == b"size".as_slice() {
+                return 1;
+            }
+            place_if_either(attribute, b"src", 4, b"srcs", 5)
+        }
+        b't' => place_if_either(attribute, b"timeout", 2, b"testonly", 3),
+        b'o' => place_if_either(attribute, b"out", 6, b"outs", 7),
+        b'h' => place_if(attribute, b"hdrs", 8),
+        b'e' => place_if(attribute, b"exports", 10),
+        b'r' => place_if(attribute, b"runtime_deps", 11),
+        b'd' => place_if(attribute, b"deps", 12),
+        b'a' => place_if(attribute, b"alwayslink", 13),
+        _ => 9,
     }
 }

@@ -1,12 +1,13 @@
 -- A gap without a number sign has no comment.
-use Rattle.std.proofs.Common.{◌≡◌, ℕ, suc, zero, Bool, true, false, not, ◌&&◌, if◌then◌else◌, nat_eq, List, [], ◌∷◌, ◌++◌, ◌+◌, Some, None, refl, ap, ◌∙◌, subst, map, drop, add-one}
+use Rattle.std.proofs.Common.{◌≡◌, ℕ, suc, zero, Bool, true, false, not, ◌&&◌, if◌then◌else◌, nat_eq, List, [], ◌∷◌, ◌++◌, ◌+◌, Some, None, refl, sym, ap, ◌∙◌, subst, map, drop, append-nil, add-one}
 use Rattle.std.specs.List.{AllByRecursion}
 use Rattle.std.proofs.lemmas.Bool.{false≢true}
 use Rattle.bz_tree.specs.declared.tree.Part.{Part}
 use Rattle.bz_items.specs.Characters.{Bytes, backslash, line_feed, number_sign}
 use Rattle.bz_value.specs.Gaps.{GapLine, lines_of, in_comment, behind_backslash, trimmed, as_list, comments_in, first_comment, after_first_comment, suffix_in, others_in, all_in}
-use Rattle.bz_view.specs.View.{Seen, seen, first_seen_gap}
-use Rattle.bz_view.specs.Walks.{above_behind, is_unsigned, suffix_behind}
+use Rattle.bz_view.specs.View.{Seen, seen, first_seen_gap, loose_behind}
+use Rattle.bz_view.specs.Walks.{above_behind, is_unsigned, loose_from, suffix_behind}
+use Rattle.bz_view.proofs.RowSteps.{gap_pushed}
 
 abbrev Bare : List GapLine → Type 0
 Bare lines = AllByRecursion (λ line. line.comment ≡ None) lines
@@ -88,3 +89,11 @@ nothing_behind ps at h =
     let next : is_unsigned (first_seen_gap (drop 1 (map seen (drop at ps)))) ≡ true =
     subst (λ (g : Bytes). is_unsigned g ≡ true) (ap (λ k. first_seen_gap (map seen (drop k ps))) (add-one at) ∙ next_gap ps at) w.1 in
     (above_at (map seen (drop at ps)) w.0 next, suffix_at (map seen (drop at ps)) w.0 next)
+
+-- ---- before a part of a row
+
+pub gap_quiet : (at : ℕ) (s : Seen) (gap : Bytes) (quiet : Bool) (old : List Bytes) (rest : List Seen) → (at ≡ zero → ⊥) → gap ≡ s.gap → quiet ≡ is_unsigned gap → quiet ≡ true →
+    (old ++ s.loose) ++ loose_behind rest ≡ old ++ loose_from at (s ∷ rest)
+gap_quiet at s gap quiet old rest n g q t =
+    let none : all_in s.gap ≡ [] = all_quiet s.gap (ap is_unsigned (sym g) ∙ (sym q ∙ t)) in
+    gap_pushed at s old old rest n (sym (ap (λ texts. old ++ texts) none ∙ append-nil old))

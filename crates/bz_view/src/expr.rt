@@ -37,6 +37,7 @@ pub fn expr_of(
 
 /// Appends what `expr_of` makes of a part.
 #[cycle(seen)]
+#[inline(always)]
 fn push_expr(
     alloc: Global,
     part: &Part,
@@ -47,9 +48,9 @@ fn push_expr(
     ensures exprs { OnOk result (exprs.new.items ≡ exprs.old.items ++ (seen part.now).make no_comments break_ ∷ []) }
     ensures loose { OnOk result (loose.new ≡ loose.old ++ (seen part.now).loose) }
 {
-    exprs.reserve(1)?;
     match part {
         Part::Leaf(leaf) => {
+            exprs.reserve(1)?;
             let text = leaf.token.copy()?;
             exprs.push_reserved(Expr::Token(Token {
                 class: leaf.class,
@@ -60,11 +61,26 @@ fn push_expr(
             Ok(())
         }
         Part::Node(node) => {
-            let form = form_of(alloc, node, loose)?;
-            exprs.push_reserved(Expr::Form(form));
+            push_form(alloc, node, loose, exprs)?;
             Ok(())
         }
     }
+}
+
+#[cycle(seen)]
+fn push_form(
+    alloc: Global,
+    node: &Node,
+    loose: &mut Items<Text>,
+    exprs: &mut Vec<Expr>,
+) -> Result<(), Memory>
+    ensures exprs { OnOk result (exprs.new.items ≡ exprs.old.items ++ Expr.Form (form_in (frame node.now.kind) node.now.kind (map seen node.now.parts) no_comments) ∷ []) }
+    ensures loose { OnOk result (loose.new ≡ loose.old ++ loose_of (frame node.now.kind) node.now.kind (map seen node.now.parts)) }
+{
+    exprs.reserve(1)?;
+    let form = form_of(alloc, node, loose)?;
+    exprs.push_reserved(Expr::Form(form));
+    Ok(())
 }
 
 #[cycle(seen)]

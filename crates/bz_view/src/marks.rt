@@ -11,8 +11,16 @@ use bz_tree::{Kind, Part};
 use bz_value::{is_comprehension, push_all, push_others};
 use std::alloc::Global;
 
+/// Whether the gap has no number sign, with which each comment begins.
+fn is_quiet(gap: &[u8]) -> bool
+    ensures { result ≡ is_unsigned gap.now }
+{
+    gap.iter().all(|byte| *byte != b'#')
+}
+
 /// Appends the comments of the gap before the part of a row with this index. What stands before its first part stands
 /// outside.
+#[tactic(auto, using(crate::proofs::RowSteps::gap_pushed, crate::proofs::RowSteps::gap_outside, crate::proofs::UnsignedGaps::gap_quiet))]
 pub fn push_gap(
     alloc: Global,
     part: &Part,
@@ -24,7 +32,11 @@ pub fn push_gap(
     if at == 0 {
         return Ok(());
     }
-    push_all(alloc, gap_before(part), loose)
+    let gap = gap_before(part);
+    if is_quiet(gap) {
+        return Ok(());
+    }
+    push_all(alloc, gap, loose)
 }
 
 /// Whether an unescaped newline stands before the operator that the part with this index is: `newline`, where the part
@@ -82,13 +94,6 @@ pub fn above_next(alloc: Global, parts: &[Part], at: usize) -> Result<Items<Text
     }
     push_others(alloc, gap_at(parts, at), &mut above)?;
     Ok(above)
-}
-
-/// Whether the gap has no number sign, with which each comment begins.
-fn is_quiet(gap: &[u8]) -> bool
-    ensures { result ≡ is_unsigned gap.now }
-{
-    gap.iter().all(|byte| *byte != b'#')
 }
 
 /// Behind an item of a sequence, where this index is that of its comma or of the closing bracket: whether it is seen at a glance that

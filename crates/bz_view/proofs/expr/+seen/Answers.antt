@@ -1,5 +1,4 @@
 use Rattle.std.proofs.Common.{◌≡◌, ◌&&◌, if◌then◌else◌, [], ◌∷◌, map, ◌++◌, suc, sym, ap, refl, ◌∙◌, drop, arith}
-use Rattle.bz_value.specs.declared.value.Expr.TheVariants as e
 use Rattle.bz_value.specs.Frames.{frame}
 use Rattle.bz_value.specs.Gaps.{has_newline}
 use Rattle.bz_view.specs.View.{first_seen_gap, seen}
@@ -9,14 +8,12 @@ use Rattle.bz_view.proofs.RowSteps.{part_here, at_operator, at_operand, row_more
 use Rattle.bz_view.proofs.expr.+seen.Goals as goal
 use Rattle.bz_view.proofs.expr.+seen.Goals.{row_of-then-operator, row_of-else-operator, head_of-then-lead-parts+in_ok-push_gap-2+in_ok-push_loose, head_of-else-lead-parts}
 
-pub push_expr-returns-in_ok-form-in-Node-clause-exprs : goal.push_expr-returns-in_ok-form-in-Node-clause-exprs
-push_expr-returns-in_ok-form-in-Node-clause-exprs t c =
-    c.push_reserved-in-Node.ensures.items
-    ∙ (ap (λ xs. xs ++ e.Form c.in_ok-form-in-Node.form ∷ []) c.reserve.ensures.items
-    ∙ ap (λ x. c.args.exprs.now.items ++ x ∷ []) (ap e.Form c.in_ok-form-in-Node.ensures.form ∙ made_of_node c.args.part.now c.in-Node.node c.args.break_ c.in-Node.is))
+pub push_expr-returns-in_ok-push_form-in-Node-clause-exprs : goal.push_expr-returns-in_ok-push_form-in-Node-clause-exprs
+push_expr-returns-in_ok-push_form-in-Node-clause-exprs t c =
+    c.in_ok-push_form-in-Node.ensures.exprs ∙ ap (λ x. c.args.exprs.now.items ++ x ∷ []) (made_of_node c.args.part.now c.in-Node.node c.args.break_ c.in-Node.is)
 
-pub push_expr-returns-in_ok-form-in-Node-clause-loose : goal.push_expr-returns-in_ok-form-in-Node-clause-loose
-push_expr-returns-in_ok-form-in-Node-clause-loose t c = c.in_ok-form-in-Node.ensures.loose ∙ ap (λ ls. c.args.loose.now ++ ls) (loose_of_node c.args.part.now c.in-Node.node c.in-Node.is)
+pub push_expr-returns-in_ok-push_form-in-Node-clause-loose : goal.push_expr-returns-in_ok-push_form-in-Node-clause-loose
+push_expr-returns-in_ok-push_form-in-Node-clause-loose t c = c.in_ok-push_form-in-Node.ensures.loose ∙ ap (λ ls. c.args.loose.now ++ ls) (loose_of_node c.args.part.now c.in-Node.node c.in-Node.is)
 
 pub push_host-returns-then-is_quiet_behind-clause-items : goal.push_host-returns-then-is_quiet_behind-clause-items
 push_host-returns-then-is_quiet_behind-clause-items t c =

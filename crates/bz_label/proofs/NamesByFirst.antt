@@ -1,0 +1,146 @@
+-- The tables of names, asked by the first character.
+use Rattle.std.proofs.Common.{◌≡◌, ℕ, Bool, true, false, ◌||◌, if◌then◌else◌, nat_eq, [], ◌∷◌, ◌<◌, codes, get_or, refl, sym, ap, ◌∙◌, subst, arith}
+use Rattle.std.specs.List.{position}
+use Rattle.std.specs.Str.{bytes_eq}
+use Rattle.std.proofs.lemmas.Bool.Decides.{nat_tests}
+use Rattle.bz_items.specs.Characters.{Bytes}
+use Rattle.bz_label.specs.Tables.{is_in, sorted_attributes, priority_at, priority_of}
+
+-- what holds of each text with this first character
+begins : (P : Bytes → Type 0) (text : Bytes) (first letter : ℕ) → first ≡ get_or text 0 0 → first ≡ letter → 0 < letter → ((rest : Bytes) → P (letter ∷ rest)) → P text
+begins P [] first letter e f l all = absurd (omega arith)
+begins P (c ∷ rest) first letter e f l all = subst (λ (k : ℕ). P (k ∷ rest)) (sym f ∙ e) (all rest)
+
+differs : (first letter c : ℕ) → first ≡ c → (first ≡ letter → ⊥) → nat_eq c letter ≡ false
+differs first letter c e n = grind (arith, nat_tests)
+
+or_none : (a : Bool) → a ≡ (a || false)
+or_none true = refl
+or_none false = refl
+
+or_either : (a b : Bool) → (a || b) ≡ (a || (b || false))
+or_either true b = refl
+or_either false true = refl
+or_either false false = refl
+
+-- ---- the sorted attributes
+
+pub sorted_c : (text : Bytes) (first : ℕ) → first ≡ get_or text 0 0 → first ≡ 99 → bytes_eq text (codes "compatible_with") ≡ is_in sorted_attributes text
+sorted_c text first e f = begins (λ text. bytes_eq text (codes "compatible_with") ≡ is_in sorted_attributes text) text first 99 e f (omega arith) (λ rest. or_none (bytes_eq (99 ∷ rest) (codes "compatible_with")))
+
+pub sorted_d : (text : Bytes) (first : ℕ) → first ≡ get_or text 0 0 → first ≡ 100 → (bytes_eq text (codes "data") || bytes_eq text (codes "deps")) ≡ is_in sorted_attributes text
+sorted_d text first e f = begins (λ text. (bytes_eq text (codes "data") || bytes_eq text (codes "deps")) ≡ is_in sorted_attributes text) text first 100 e f (omega arith) (λ rest. or_either (bytes_eq (100 ∷ rest) (codes "data")) (bytes_eq (100 ∷ rest) (codes "deps")))
+
+pub sorted_e : (text : Bytes) (first : ℕ) → first ≡ get_or text 0 0 → first ≡ 101 → bytes_eq text (codes "exports") ≡ is_in sorted_attributes text
+sorted_e text first e f = begins (λ text. bytes_eq text (codes "exports") ≡ is_in sorted_attributes text) text first 101 e f (omega arith) (λ rest. or_none (bytes_eq (101 ∷ rest) (codes "exports")))
+
+pub sorted_h : (text : Bytes) (first : ℕ) → first ≡ get_or text 0 0 → first ≡ 104 → bytes_eq text (codes "hdrs") ≡ is_in sorted_attributes text
+sorted_h text first e f = begins (λ text. bytes_eq text (codes "hdrs") ≡ is_in sorted_attributes text) text first 104 e f (omega arith) (λ rest. or_none (bytes_eq (104 ∷ rest) (codes "hdrs")))
+
+pub sorted_i : (text : Bytes) (first : ℕ) → first ≡ get_or text 0 0 → first ≡ 105 → bytes_eq text (codes "implementation_deps") ≡ is_in sorted_attributes text
+sorted_i text first e f = begins (λ text. bytes_eq text (codes "implementation_deps") ≡ is_in sorted_attributes text) text first 105 e f (omega arith) (λ rest. or_none (bytes_eq (105 ∷ rest) (codes "implementation_deps")))
+
+pub sorted_r : (text : Bytes) (first : ℕ) → first ≡ get_or text 0 0 → first ≡ 114 → bytes_eq text (codes "runtime_deps") ≡ is_in sorted_attributes text
+sorted_r text first e f = begins (λ text. bytes_eq text (codes "runtime_deps") ≡ is_in sorted_attributes text) text first 114 e f (omega arith) (λ rest. or_none (bytes_eq (114 ∷ rest) (codes "runtime_deps")))
+
+pub sorted_s : (text : Bytes) (first : ℕ) → first ≡ get_or text 0 0 → first ≡ 115 → bytes_eq text (codes "srcs") ≡ is_in sorted_attributes text
+sorted_s text first e f = begins (λ text. bytes_eq text (codes "srcs") ≡ is_in sorted_attributes text) text first 115 e f (omega arith) (λ rest. or_none (bytes_eq (115 ∷ rest) (codes "srcs")))
+
+pub sorted_t : (text : Bytes) (first : ℕ) → first ≡ get_or text 0 0 → first ≡ 116 → (bytes_eq text (codes "tags") || bytes_eq text (codes "textual_hdrs")) ≡ is_in sorted_attributes text
+sorted_t text first e f = begins (λ text. (bytes_eq text (codes "tags") || bytes_eq text (codes "textual_hdrs")) ≡ is_in sorted_attributes text) text first 116 e f (omega arith) (λ rest. or_either (bytes_eq (116 ∷ rest) (codes "tags")) (bytes_eq (116 ∷ rest) (codes "textual_hdrs")))
+
+pub sorted_v : (text : Bytes) (first : ℕ) → first ≡ get_or text 0 0 → first ≡ 118 → bytes_eq text (codes "visibility") ≡ is_in sorted_attributes text
+sorted_v text first e f = begins (λ text. bytes_eq text (codes "visibility") ≡ is_in sorted_attributes text) text first 118 e f (omega arith) (λ rest. or_none (bytes_eq (118 ∷ rest) (codes "visibility")))
+
+pub sorted_other : (text : Bytes) (first : ℕ) → first ≡ get_or text 0 0 → (first ≡ 99 → ⊥) → (first ≡ 100 → ⊥) → (first ≡ 101 → ⊥) → (first ≡ 104 → ⊥) → (first ≡ 105 → ⊥) → (first ≡ 114 → ⊥) → (first ≡ 115 → ⊥) → (first ≡ 116 → ⊥) → (first ≡ 118 → ⊥) → false ≡ is_in sorted_attributes text
+sorted_other [] first e apart_c apart_d apart_e apart_h apart_i apart_r apart_s apart_t apart_v = refl
+sorted_other (c ∷ rest) first e apart_c apart_d apart_e apart_h apart_i apart_r apart_s apart_t apart_v = rw (differs first 99 c e apart_c, differs first 100 c e apart_d, differs first 101 c e apart_e, differs first 104 c e apart_h, differs first 105 c e apart_i, differs first 114 c e apart_r, differs first 115 c e apart_s, differs first 116 c e apart_t, differs first 118 c e apart_v) refl
+
+-- ---- places
+
+-- the place of an argument, by which name it has
+abbrev place_by : Bool → Bool → Bool → Bool → Bool → Bool → Bool → Bool → Bool → Bool → Bool → Bool → Bool → ℕ
+place_by name size timeout testonly src srcs out outs hdrs exports runtime_deps deps alwayslink =
+    priority_at (position (λ b. b) (name ∷ size ∷ timeout ∷ testonly ∷ src ∷ srcs ∷ out ∷ outs ∷ hdrs ∷ [])) (position (λ b. b) (exports ∷ runtime_deps ∷ deps ∷ alwayslink ∷ []))
+
+by_n : (a : Bool) → (if a then 0 else 9) ≡ place_by a false false false false false false false false false false false false
+by_n true = refl
+by_n false = refl
+
+pub place_n : (text : Bytes) (first : ℕ) → first ≡ get_or text 0 0 → first ≡ 110 → (if bytes_eq text (codes "name") then 0 else 9) ≡ priority_of text
+place_n text first e f = begins (λ text. (if bytes_eq text (codes "name") then 0 else 9) ≡ priority_of text) text first 110 e f (omega arith) (λ rest. by_n (bytes_eq (110 ∷ rest) (codes "name")))
+
+by_s : (a b c : Bool) → (if a then 1 else (if b then 4 else (if c then 5 else 9))) ≡ place_by false a false false b c false false false false false false false
+by_s true b c = refl
+by_s false true c = refl
+by_s false false true = refl
+by_s false false false = refl
+
+place_s_all : (text : Bytes) (first : ℕ) → first ≡ get_or text 0 0 → first ≡ 115 → (if bytes_eq text (codes "size") then 1 else (if bytes_eq text (codes "src") then 4 else (if bytes_eq text (codes "srcs") then 5 else 9))) ≡ priority_of text
+place_s_all text first e f = begins (λ text. (if bytes_eq text (codes "size") then 1 else (if bytes_eq text (codes "src") then 4 else (if bytes_eq text (codes "srcs") then 5 else 9))) ≡ priority_of text) text first 115 e f (omega arith) (λ rest. by_s (bytes_eq (115 ∷ rest) (codes "size")) (bytes_eq (115 ∷ rest) (codes "src")) (bytes_eq (115 ∷ rest) (codes "srcs")))
+
+by_t : (a b : Bool) → (if a then 2 else (if b then 3 else 9)) ≡ place_by false false a b false false false false false false false false false
+by_t true b = refl
+by_t false true = refl
+by_t false false = refl
+
+pub place_t : (text : Bytes) (first : ℕ) → first ≡ get_or text 0 0 → first ≡ 116 → (if bytes_eq text (codes "timeout") then 2 else (if bytes_eq text (codes "testonly") then 3 else 9)) ≡ priority_of text
+place_t text first e f = begins (λ text. (if bytes_eq text (codes "timeout") then 2 else (if bytes_eq text (codes "testonly") then 3 else 9)) ≡ priority_of text) text first 116 e f (omega arith) (λ rest. by_t (bytes_eq (116 ∷ rest) (codes "timeout")) (bytes_eq (116 ∷ rest) (codes "testonly")))
+
+by_o : (a b : Bool) → (if a then 6 else (if b then 7 else 9)) ≡ place_by false false false false false false a b false false false false false
+by_o true b = refl
+by_o false true = refl
+by_o false false = refl
+
+pub place_o : (text : Bytes) (first : ℕ) → first ≡ get_or text 0 0 → first ≡ 111 → (if bytes_eq text (codes "out") then 6 else (if bytes_eq text (codes "outs") then 7 else 9)) ≡ priority_of text
+place_o text first e f = begins (λ text. (if bytes_eq text (codes "out") then 6 else (if bytes_eq text (codes "outs") then 7 else 9)) ≡ priority_of text) text first 111 e f (omega arith) (λ rest. by_o (bytes_eq (111 ∷ rest) (codes "out")) (bytes_eq (111 ∷ rest) (codes "outs")))
+
+by_h : (a : Bool) → (if a then 8 else 9) ≡ place_by false false false false false false false false a false false false false
+by_h true = refl
+by_h false = refl
+
+pub place_h : (text : Bytes) (first : ℕ) → first ≡ get_or text 0 0 → first ≡ 104 → (if bytes_eq text (codes "hdrs") then 8 else 9) ≡ priority_of text
+place_h text first e f = begins (λ text. (if bytes_eq text (codes "hdrs") then 8 else 9) ≡ priority_of text) text first 104 e f (omega arith) (λ rest. by_h (bytes_eq (104 ∷ rest) (codes "hdrs")))
+
+by_e : (a : Bool) → (if a then 10 else 9) ≡ place_by false false false false false false false false false a false false false
+by_e true = refl
+by_e false = refl
+
+pub place_e : (text : Bytes) (first : ℕ) → first ≡ get_or text 0 0 → first ≡ 101 → (if bytes_eq text (codes "exports") then 10 else 9) ≡ priority_of text
+place_e text first e f = begins (λ text. (if bytes_eq text (codes "exports") then 10 else 9) ≡ priority_of text) text first 101 e f (omega arith) (λ rest. by_e (bytes_eq (101 ∷ rest) (codes "exports")))
+
+by_r : (a : Bool) → (if a then 11 else 9) ≡ place_by false false false false false false false false false false a false false
+by_r true = refl
+by_r false = refl
+
+pub place_r : (text : Bytes) (first : ℕ) → first ≡ get_or text 0 0 → first ≡ 114 → (if bytes_eq text (codes "runtime_deps") then 11 else 9) ≡ priority_of text
+place_r text first e f = begins (λ text. (if bytes_eq text (codes "runtime_deps") then 11 else 9) ≡ priority_of text) text first 114 e f (omega arith) (λ rest. by_r (bytes_eq (114 ∷ rest) (codes "runtime_deps")))
+
+by_d : (a : Bool) → (if a then 12 else 9) ≡ place_by false false false false false false false false false false false a false
+by_d true = refl
+by_d false = refl
+
+pub place_d : (text : Bytes) (first : ℕ) → first ≡ get_or text 0 0 → first ≡ 100 → (if bytes_eq text (codes "deps") then 12 else 9) ≡ priority_of text
+place_d text first e f = begins (λ text. (if bytes_eq text (codes "deps") then 12 else 9) ≡ priority_of text) text first 100 e f (omega arith) (λ rest. by_d (bytes_eq (100 ∷ rest) (codes "deps")))
+
+by_a : (a : Bool) → (if a then 13 else 9) ≡ place_by false false false false false false false false false false false false a
+by_a true = refl
+by_a false = refl
+
+pub place_a : (text : Bytes) (first : ℕ) → first ≡ get_or text 0 0 → first ≡ 97 → (if bytes_eq text (codes "alwayslink") then 13 else 9) ≡ priority_of text
+place_a text first e f = begins (λ text. (if bytes_eq text (codes "alwayslink") then 13 else 9) ≡ priority_of text) text first 97 e f (omega arith) (λ rest. by_a (bytes_eq (97 ∷ rest) (codes "alwayslink")))
+
+pub place_size : (text : Bytes) (first : ℕ) → first ≡ get_or text 0 0 → first ≡ 115 → bytes_eq text (codes "size") ≡ true → 1 ≡ priority_of text
+place_size text first e f h =
+    let all : (if bytes_eq text (codes "size") then 1 else (if bytes_eq text (codes "src") then 4 else (if bytes_eq text (codes "srcs") then 5 else 9))) ≡ priority_of text = place_s_all text first e f in
+    sym (ap (λ (b : Bool). if b then 1 else (if bytes_eq text (codes "src") then 4 else (if bytes_eq text (codes "srcs") then 5 else 9))) h) ∙ all
+
+pub place_s : (text : Bytes) (first : ℕ) → first ≡ get_or text 0 0 → first ≡ 115 → bytes_eq text (codes "size") ≡ false →
+    (if bytes_eq text (codes "src") then 4 else (if bytes_eq text (codes "srcs") then 5 else 9)) ≡ priority_of text
+place_s text first e f h =
+    let all : (if bytes_eq text (codes "size") then 1 else (if bytes_eq text (codes "src") then 4 else (if bytes_eq text (codes "srcs") then 5 else 9))) ≡ priority_of text = place_s_all text first e f in
+    sym (ap (λ (b : Bool). if b then 1 else (if bytes_eq text (codes "src") then 4 else (if bytes_eq text (codes "srcs") then 5 else 9))) h) ∙ all
+
+pub place_other : (text : Bytes) (first : ℕ) → first ≡ get_or text 0 0 → (first ≡ 110 → ⊥) → (first ≡ 115 → ⊥) → (first ≡ 116 → ⊥) → (first ≡ 111 → ⊥) → (first ≡ 104 → ⊥) → (first ≡ 101 → ⊥) → (first ≡ 114 → ⊥) → (first ≡ 100 → ⊥) → (first ≡ 97 → ⊥) → 9 ≡ priority_of text
+place_other [] first e apart_n apart_s apart_t apart_o apart_h apart_e apart_r apart_d apart_a = refl
+place_other (c ∷ rest) first e apart_n apart_s apart_t apart_o apart_h apart_e apart_r apart_d apart_a = rw (differs first 110 c e apart_n, differs first 115 c e apart_s, differs first 116 c e apart_t, differs first 111 c e apart_o, differs first 104 c e apart_h, differs first 101 c e apart_e, differs first 114 c e apart_r, differs first 100 c e apart_d, differs first 97 c e apart_a) refl
