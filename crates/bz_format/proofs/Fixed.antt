@@ -10,6 +10,8 @@ use Rattle.bz_indent.specs.Laws.{LevelKeepsComments, LevelStays}
 use Rattle.bz_indent.specs.Drawn.{bzl_drawn}
 use Rattle.bz_indent.specs.Layout.{bzl_layout}
 use Rattle.bz_indent.specs.Level.{level}
+use Rattle.bz_indent.specs.Syntax.{bzl_program, LevelKeepsProgram}
+use Rattle.bz_format.specs.TreePrograms.{BzlViewsKeepPrograms}
 use Rattle.bz_format.specs.Formatted.{BzlFixedPoint, bzl_formatted, formatted_tree, Lasts}
 
 -- What the layers below promise: of reading, of what a tree says, and of the pass.
@@ -18,6 +20,8 @@ pub record LayersHold : Type 0 where
   pub kept : BzlCommentsKept
   pub level_stays : LevelStays
   pub level_keeps : LevelKeepsComments
+  pub level_program : LevelKeepsProgram
+  pub seen : BzlViewsKeepPrograms
 
 pub formatted_again : LayersHold → BzlFixedPoint
 formatted_again layers text formatted formats =
@@ -38,4 +42,5 @@ formatted_again layers text formatted formats =
       value = valued;
       comments = λ t u h i comment.
           sym (layers.kept u i.0 comment) ∙ ap (bzl_times comment) (valued t u h i) ∙ layers.level_keeps comment (bzl_view_of t) ∙ layers.kept t h.0 comment;
+      program = λ t u h i. sym (layers.seen u) ∙ ap bzl_program (valued t u h i) ∙ layers.level_program (bzl_view_of t) ∙ layers.seen t;
     }

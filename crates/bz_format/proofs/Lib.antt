@@ -1,3 +1,4 @@
 pub mod Fixed
 pub mod PastLimits
 pub mod Unread
+pub mod SeenPrograms

@@ -13,6 +13,7 @@ use Rattle.bz_indent.specs.Level.{level}
 use Rattle.bz_tree.specs.Faults.{IsFaultOf}
 use Rattle.bz_formatter.specs.declared.formatter.FormatFault.{FormatFault}
 use Rattle.bz_formatter.specs.declared.formatter.FormatFault.TheVariants.{Unread, TooLarge, TooDeep, Memory}
+use Rattle.bz_format.specs.TreePrograms.{bzl_tree_program}
 
 -- What a text says where it reads as the tree of a .bzl file; of every other text a fault is told. Memory may be refused at each.
 abbrev pub Says : Bytes → Result (List BzlItem) FormatFault → Type 0
@@ -43,13 +44,14 @@ FormatsBzlTo text (Err TooLarge) = (tree : Node) × ReadsBzl text tree × (limit
 FormatsBzlTo text (Err TooDeep) = (tree : Node) × ReadsBzl text tree × (length (bzl_formatted tree) ≤ limit) × (depth_limit < depth_of (formatted_tree tree)) × NoBzlTree (bzl_formatted tree)
 FormatsBzlTo text (Err Memory) = Unit {0}
 
--- The formatted text of a text: formatting gives it, formatting it gives it again, it says what the text says, levelled, and each
--- comment stands in it as often as in the text.
+-- The formatted text of a text: formatting gives it, formatting it gives it again, it says what the text says, levelled, each
+-- comment stands in it as often as in the text, and the program is the same.
 pub record IsFormattedBzl (text formatted : Bytes) : Type 0 where
   pub given : FormatsBzlTo text (Ok formatted)
   pub again : FormatsBzlTo formatted (Ok formatted)
   pub value : (tree new : Node) → ReadsBzl text tree → ReadsBzl formatted new → bzl_view_of new ≡ level (bzl_view_of tree)
   pub comments : (tree new : Node) → ReadsBzl text tree → ReadsBzl formatted new → (comment : Bytes) → occurrences comment new ≡ occurrences comment tree
+  pub program : (tree new : Node) → ReadsBzl text tree → ReadsBzl formatted new → bzl_tree_program new ≡ bzl_tree_program tree
 
 -- Whatever text formatting gives is such.
 abbrev pub BzlFixedPoint : Type 0

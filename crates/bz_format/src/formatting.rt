@@ -68,8 +68,8 @@ fn formatted(alloc: Global, text: &[u8]) -> Result<Text, FormatFault>
     }
 }
 
-/// The formatted text of a .bzl text: what it says, levelled and laid out. It says the same, and to format it once more gives it
-/// again. Errors: `Unread` where the text is not accepted, with the fault of reading it; `TooLarge` and `TooDeep` where the
+/// The formatted text of a .bzl text: what it says, levelled and laid out. The program is the same, and to format it once more
+/// gives it again. Errors: `Unread` where the text is not accepted, with the fault of reading it; `TooLarge` and `TooDeep` where the
 /// formatted text would be past a limit; `Memory`: a growth was refused.
 pub fn format_bzl(alloc: Global, text: &[u8]) -> Result<Text, FormatFault>
     ensures formats { FormatsBzlTo text.now result }

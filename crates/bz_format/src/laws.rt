@@ -1,12 +1,18 @@
 //! Facts about the definitions, for readers and for the proofs of other crates: the functions do nothing.
 ghost use Rattle.bz_format.specs.Formatted.{BzlFixedPoint};
+ghost use Rattle.bz_format.specs.TreePrograms.{BzlViewsKeepPrograms};
 
-use bz_indent::{level_keeps_comments, level_stays};
+use bz_indent::{level_keeps_comments, level_keeps_program, level_stays};
 use bz_suite::bzl_comments_kept;
 use bz_tree::laws::one_bzl_reading;
 
-/// A formatted text is formatted to itself, it says what the text says that it was made of, levelled, and each comment stands in
-/// it as often as in that text.
+/// The program of what a tree says is that of the tree: nothing is lost but gaps, brackets and the marks between parts.
+pub fn bzl_views_keep_programs()
+    ensures { BzlViewsKeepPrograms }
+{}
+
+/// A formatted text is formatted to itself, it says what the text says that it was made of, levelled, each comment stands in it
+/// as often as in that text, and the program is the same.
 pub fn formatted_bzl_once()
     ensures { BzlFixedPoint }
 {
@@ -14,4 +20,6 @@ pub fn formatted_bzl_once()
     level_stays();
     bzl_comments_kept();
     level_keeps_comments();
+    level_keeps_program();
+    bzl_views_keep_programs();
 }

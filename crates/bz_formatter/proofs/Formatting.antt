@@ -1,4 +1,4 @@
--- A formatted text is formatted to itself, and its value is that of the text it was made of, tidied.
+-- A formatted text is formatted to itself, its value is that of the text it was made of, tidied, and the program is kept.
 use Rattle.std.proofs.Common.{◌≡◌, ◌∙◌, List, length, sym, ap, subst, Option, None, nat_lt, if◌then◌else◌}
 use Rattle.bz_tree.specs.declared.tree.Node.{Node}
 use Rattle.bz_tree.specs.Legal.{Reads}
@@ -15,10 +15,13 @@ use Rattle.bz_write.specs.Drawn.{drawn}
 use Rattle.bz_write.specs.Laws.{LayoutIsAccepted, LayoutReadsBack}
 use Rattle.bz_tidy.specs.Laws.{ProperStays, TidySettles, TidyStays, TidyingKeepsComments}
 use Rattle.bz_tidy.specs.Passes.{tidied}
+use Rattle.bz_tidy.specs.Programs.{KeepsProgram, KeptProgramsKeepTokens, TidyingKeepsProgram}
+use Rattle.bz_tidy.specs.Syntax.{token_times}
 use Rattle.bz_write.specs.Written.{layout}
 use Rattle.bz_attribute.specs.declared.refusal.Refusal.TheVariants.{TooLarge, TooDeep}
 use Rattle.bz_formatter.specs.Meaning.{Meaning, gives, refuses, written}
 use Rattle.bz_formatter.specs.Fixed.{FixedPoint}
+use Rattle.bz_formatter.specs.TreePrograms.{ViewsKeepPrograms}
 use Rattle.bz_formatter.proofs.Writes.{IsGiven, given}
 
 -- what is written of a value that is tidy already
@@ -36,6 +39,9 @@ pub record LayersHold : Type 0 where
   pub settled : TidySettles
   pub stays : TidyStays
   pub comments : TidyingKeepsComments
+  pub program : TidyingKeepsProgram
+  pub tokens : KeptProgramsKeepTokens
+  pub trees : ViewsKeepPrograms
 
 pub formatted_again : LayersHold → FixedPoint
 formatted_again layers text formatted formats =
@@ -49,10 +55,15 @@ formatted_again layers text formatted formats =
     let seen : view_of new ≡ tidy = layers.back tidy proper ∙ layers.settled items in
     let valued : (t u : Node) → Reads text t → Reads formatted u → view_of u ≡ tidied (view_of t) =
     λ t u h i. ap view_of (layers.one formatted u new i reads) ∙ seen ∙ ap (λ (n : Node). tidied (view_of n)) (layers.one text tree t formats.1 h) in
+    let kept : (t u : Node) → Reads text t → Reads formatted u → KeepsProgram (view_of t) (view_of u) =
+    λ t u h i. subst (KeepsProgram (view_of t)) (sym (valued t u h i)) (layers.program (view_of t)) in
     record {
       given = formats;
       again = (new, reads, formats.2 ∙ sym (ap (λ (xs : List Item). written xs None) seen ∙ ap (λ (xs : List Item). as_written xs None) (layers.stays items)));
       value = valued;
       comments = λ t u h i comment.
           sym (layers.kept u i.0 comment) ∙ ap (times comment) (valued t u h i) ∙ layers.comments comment (view_of t) ∙ layers.kept t h.0 comment;
+      program = kept;
+      tokens = λ t u h i class word other.
+          ap (token_times class word) (sym (layers.trees u)) ∙ layers.tokens (view_of t) (view_of u) (kept t u h i) class word other ∙ ap (token_times class word) (layers.trees t);
     }

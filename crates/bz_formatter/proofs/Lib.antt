@@ -3,3 +3,4 @@ pub mod Formatting
 pub mod Untold
 pub mod Copies
 pub mod Filled
+pub mod SeenPrograms

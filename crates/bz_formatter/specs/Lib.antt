@@ -2,3 +2,4 @@ pub mod Meaning
 pub mod Faults
 pub mod Fixed
 pub mod Filled
+pub mod TreePrograms

@@ -38,7 +38,8 @@ fn unread(fault: ReadFault) -> FormatFault
     }
 }
 
-/// The formatted text of a text: its value tidied and laid out; to format it once more gives it again. Errors: `Unread`
+/// The formatted text of a text: its value tidied and laid out, which keeps the program; to format it once more gives it
+/// again. Errors: `Unread`
 /// where the text is not accepted, with the fault of reading it; `TooLarge` and `TooDeep` where the formatted text would
 /// be past a limit; `Memory`: a growth was refused.
 pub fn format(alloc: Global, text: &[u8]) -> Result<Text, FormatFault>

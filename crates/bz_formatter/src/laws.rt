@@ -1,14 +1,15 @@
 //! Facts about the definitions, for readers: the functions do nothing.
 ghost use Rattle.bz_formatter.specs.Filled.{CommentsFill, CommentsFit};
 ghost use Rattle.bz_formatter.specs.Fixed.{FixedPoint};
+ghost use Rattle.bz_formatter.specs.TreePrograms.{ViewsKeepPrograms};
 
-use bz_tidy::{comments_stay, proper_stays, tidy_settles, tidy_stays};
+use bz_tidy::{comments_stay, program_stays, proper_stays, tidy_settles, tidy_stays, tokens_stay};
 use bz_tree::laws::one_reading;
 use bz_view::{comments_kept, views_are_proper};
 use bz_write::{layout_is_accepted, layout_reads_back};
 
-/// A formatted text is formatted to itself, its value is that of the text it was made of, tidied, and each comment stands
-/// in it as often as in that text.
+/// A formatted text is formatted to itself, its value is that of the text it was made of, tidied, each comment stands in it
+/// as often as in that text, and the program of that text is kept, with each token of it that is no string as often.
 pub fn formatted_once()
     ensures { FixedPoint }
 {
@@ -21,7 +22,15 @@ pub fn formatted_once()
     tidy_settles();
     tidy_stays();
     comments_stay();
+    program_stays();
+    tokens_stay();
+    views_keep_programs();
 }
+
+/// The program of the value of a tree is that of the tree: nothing is lost but gaps, brackets and the marks between parts.
+pub fn views_keep_programs()
+    ensures { ViewsKeepPrograms }
+{}
 
 /// Where a comment stands so often in a proper value that its copies alone are past the limit of a text, so is what is written of
 /// the value; in the value of a text none does.

@@ -28,3 +28,4 @@ pub mod Spelled
 pub mod StatementGaps
 pub mod StatementTokens
 pub mod TooDeep
+pub mod SameSyntax

@@ -7,7 +7,7 @@ use Rattle.bz_suite.specs.declared.value.Branch.{Branch}
 use Rattle.bz_indent.specs.Layout.{statement_text, branches_text, statements_text, all_branches, all_statements, header_text, indented_lines}
 use Rattle.bz_indent.specs.Level.{level_statement, level_branch, each_branch, each_statement, level_head}
 
-both : {X Y Z : Type 0} (f : X → Y → Z) {h h' : X} {i i' : Y} → h ≡ h' → i ≡ i' → f h i ≡ f h' i'
+pub both : {X Y Z : Type 0} (f : X → Y → Z) {h h' : X} {i i' : Y} → h ≡ h' → i ≡ i' → f h i ≡ f h' i'
 both f {h} {h'} {i} {i'} d e = ap (λ z. f z i) d ∙ ap (λ z. f h' z) e
 
 -- ---- the row of a statement

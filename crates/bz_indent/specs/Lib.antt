@@ -3,4 +3,5 @@ pub mod Drawn
 pub mod Laws
 pub mod Layout
 pub mod Level
+pub mod Syntax
 pub mod Worked

@@ -1,5 +1,6 @@
 //! Facts about the definitions, for readers and for the proofs of other crates: the functions do nothing.
 ghost use Rattle.bz_indent.specs.Laws.{BzlLayoutIsAccepted, BzlLayoutIsTooDeep, BzlLayoutReadsBack, LevelKeepsComments, LevelKeepsLayout, LevelStays};
+ghost use Rattle.bz_indent.specs.Syntax.{LevelKeepsProgram};
 ghost use Rattle.bz_indent.specs.Worked.{WorkedBzlLayouts};
 
 use bz_tidy::flags_settle;
@@ -17,6 +18,11 @@ pub fn level_keeps_comments()
 {
     flags_settle();
 }
+
+/// What is level is the same program.
+pub fn level_keeps_program()
+    ensures { LevelKeepsProgram }
+{}
 
 /// What is level is laid out as before, and is proper where that was.
 pub fn level_keeps_layout()

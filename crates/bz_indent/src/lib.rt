@@ -10,7 +10,7 @@ mod writing;
 
 pub use laws::{
     bzl_layout_is_accepted, bzl_layout_is_too_deep, bzl_layout_reads_back, level_keeps_comments,
-    level_keeps_layout, level_stays, worked_bzl_layouts,
+    level_keeps_layout, level_keeps_program, level_stays, worked_bzl_layouts,
 };
 pub use leveling::level;
 pub use setting::set_bzl;

@@ -30,3 +30,4 @@ pub mod SameLists
 pub mod SameSyntax
 pub mod SameProgram
 pub mod TokensKept
+pub mod OtherPrograms

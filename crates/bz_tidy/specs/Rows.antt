@@ -95,7 +95,7 @@ Sums =
     ≡ broken (codes "x") (codes "srcs") (sequence k.Call false (token c.Name (codes "glob") ∷ []) (strings (codes "\"b\"" ∷ codes "\"a\"" ∷ []) ∷ [])))
 
 -- the marked items alone take double quote marks
-abbrev named : Bytes → Item
+abbrev pub named : Bytes → Item
 named text = statement [] (codes "x") (argument (codes "name") (string text) ∷ [])
 
 abbrev pub Marked : Type 0
@@ -111,6 +111,10 @@ WorkedPasses =
 abbrev named_with : Bool → List Bytes → List Expr → Item
 named_with split above deps = statement above (codes "x") (argument (codes "name") (string (codes "\"a\"")) ∷ argument (codes "deps") (sequence k.List split [] deps) ∷ [])
 
+-- a call x(a, b) of names
+abbrev called_with : List Bytes → Item
+called_with names = statement [] (codes "x") (map (token c.Name) names)
+
 abbrev pub WorkedPrograms : Type 0
 WorkedPrograms =
     -- comments and how a list is laid out are no program
@@ -118,6 +122,9 @@ WorkedPrograms =
     -- a name stands in it as often as it is written
     × (token_times c.Name (codes "name") (program (named_with true [] [] ∷ named_with true [] [] ∷ [])) ≡ 2)
     × IsSameString (codes "'a'") (codes "\"a\"") × IsSameLabel (codes "\"//a:a\"") (codes "\"//a\"")
-    -- where an argument is dropped, or another statement comes, the program is not kept
+    -- where an argument is dropped, a statement comes, arguments without names change places, or a string outside labels gets another
+    -- body, the program is not kept
     × (KeepsProgram (named_with true [] [] ∷ []) (statement [] (codes "x") (argument (codes "name") (string (codes "\"a\"")) ∷ []) ∷ []) → ⊥)
     × (KeepsProgram (named_with true [] [] ∷ []) (named_with true [] [] ∷ named_with true [] [] ∷ []) → ⊥)
+    × (KeepsProgram (called_with (codes "a" ∷ codes "b" ∷ []) ∷ []) (called_with (codes "b" ∷ codes "a" ∷ []) ∷ []) → ⊥)
+    × (KeepsProgram (named (codes "\"a\"") ∷ []) (named (codes "\"b\"") ∷ []) → ⊥)

@@ -7,4 +7,6 @@ returns c = formatted_again (record {
   kept = c.bzl_comments_kept.ensures;
   level_stays = c.level_stays.ensures;
   level_keeps = c.level_keeps_comments.ensures;
+  level_program = c.level_keeps_program.ensures;
+  seen = c.bzl_views_keep_programs.ensures;
 })

@@ -13,4 +13,7 @@ returns c =
       settled = c.tidy_settles.ensures;
       stays = c.tidy_stays.ensures;
       comments = c.comments_stay.ensures;
+      program = c.program_stays.ensures;
+      tokens = c.tokens_stay.ensures;
+      trees = c.views_keep_programs.ensures;
     })
