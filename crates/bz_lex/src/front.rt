@@ -83,6 +83,7 @@ pub enum Reason {
 }
 
 /// The leaf at the front of a text that begins at this place.
+#[inline(always)]
 pub fn leaf_front(text: &[u8], place: Place) -> Result<Front, Stop>
     ensures told { TellsFront place text.now result }
     ensures within { IfErr result (λ stop. stop.at ≤ length text.now) }
@@ -101,6 +102,7 @@ pub fn leaf_front(text: &[u8], place: Place) -> Result<Front, Stop>
 }
 
 /// Before the first token of a line, or the end.
+#[inline(always)]
 fn fresh(text: &[u8], gap: GapFront) -> Result<Front, Stop>
     requires { IsGapFront true gap text.now }
     ensures told { TellsFront Place.Fresh text.now result }
@@ -113,6 +115,7 @@ fn fresh(text: &[u8], gap: GapFront) -> Result<Front, Stop>
 }
 
 /// Behind a token of a line: a token, a newline, or the newline that is no byte.
+#[inline(always)]
 fn behind(text: &[u8], gap: GapFront) -> Result<Front, Stop>
     requires { IsGapFront false gap text.now }
     ensures told { TellsFront Place.Behind text.now result }
@@ -126,6 +129,7 @@ fn behind(text: &[u8], gap: GapFront) -> Result<Front, Stop>
 }
 
 /// Inside brackets: a token.
+#[inline(always)]
 fn inside(text: &[u8], gap: GapFront) -> Result<Front, Stop>
     requires { IsGapFront true gap text.now }
     ensures told { (depth : ℕ) → TellsFront (Place.Inside depth) text.now result }
@@ -199,6 +203,7 @@ fn is_quote_at(text: &[u8], index: usize) -> bool
 }
 
 /// The token behind a gap.
+#[inline(always)]
 fn token_front(text: &[u8], gap: usize) -> Result<Front, Stop>
     requires { gap ≤ length text.now }
     ensures told { MatchResult result (λ front. (front.gap ≡ gap) × TokenAt front.class front.token (drop gap text.now)) (λ _. NoToken (drop gap text.now)) }

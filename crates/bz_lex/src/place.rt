@@ -27,6 +27,7 @@ impl Place {
     }
 
     /// The place behind a token of this class.
+    #[inline(always)]
     pub fn after_token(self, class: Class, token: &[u8]) -> Place
         requires { open_brackets self < 2 ^ 64 }
         ensures { result ≡ after_token class token.now self }

@@ -64,6 +64,7 @@ pub(crate) enum Symbol {
 
 impl Symbol {
     /// What a token of this class is.
+    #[inline(always)]
     pub fn of(class: Class, token: &[u8]) -> Symbol
         ensures { result ≡ symbol_of_token class token.now }
     {
@@ -124,6 +125,7 @@ fn later_keyword(token: &[u8]) -> Symbol
     }
 }
 
+#[inline(always)]
 fn mark(token: &[u8]) -> Symbol
     ensures { result ≡ known mark_table Symbol.OtherMark token.now }
 {

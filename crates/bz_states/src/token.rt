@@ -507,6 +507,7 @@ impl<'a> Leaves<'a> {
 }
 
 /// What the token of the next leaf is, where a text goes on so at a place.
+#[inline(always)]
 fn symbol_at(next: Result<Front, Stop>, rest: &[u8], place: Place) -> Symbol
     requires { TellsFront place rest.now next }
     ensures { TellsFirst result (to_come place rest.now) }

@@ -15,6 +15,7 @@ pub struct Found {
 }
 
 /// The token that the text begins with; `None` where it begins with none. A gap is no token, nor are the end and a newline.
+#[inline(always)]
 pub fn token(text: &[u8]) -> Option<Found>
     ensures exact { MatchOption result (NoToken text.now) (λ found. TokenAt found.class found.len text.now) }
     ensures boundary { IsUtf8 text.now → IfSome result (λ found. IsCharBoundary text.now found.len) }
@@ -33,6 +34,7 @@ pub fn token(text: &[u8]) -> Option<Found>
 
 /// The token that a text begins with, where it is told at a glance: a mark with which no longer one begins, a name, or a string
 /// of one line between `"` without backslashes. `None` says nothing.
+#[inline(always)]
 fn glance(text: &[u8]) -> Option<Found>
     ensures { IfSome result (λ found. TokenAt found.class found.len text.now) }
 {

@@ -225,6 +225,7 @@ fn letter(byte: u8) -> bool
     byte >= b'A' && byte <= b'Z' || byte >= b'a' && byte <= b'z' || byte == b'_' || high(byte)
 }
 
+#[inline(always)]
 fn lone_mark(byte: u8) -> bool
     ensures { result ≡ among byte lone_marks }
 {
@@ -234,6 +235,7 @@ fn lone_mark(byte: u8) -> bool
     )
 }
 
+#[inline(always)]
 fn operator_mark(byte: u8) -> bool
     ensures { result ≡ among byte operator_marks }
 {
@@ -241,6 +243,7 @@ fn operator_mark(byte: u8) -> bool
 }
 
 /// The state behind the first byte.
+#[inline(always)]
 pub fn start_step(byte: u8) -> Option<State>
     ensures { result ≡ move State.Start byte }
 {
@@ -253,6 +256,7 @@ pub fn start_step(byte: u8) -> Option<State>
     text_start(byte)
 }
 
+#[inline(always)]
 fn mark_start(byte: u8) -> Option<State>
     ensures { result ≡ mark_start byte }
 {
@@ -272,6 +276,7 @@ fn mark_start(byte: u8) -> Option<State>
     }
 }
 
+#[inline(always)]
 fn number_start(byte: u8) -> Option<State>
     ensures { result ≡ number_start byte }
 {
@@ -284,6 +289,7 @@ fn number_start(byte: u8) -> Option<State>
     }
 }
 
+#[inline(always)]
 fn text_start(byte: u8) -> Option<State>
     ensures { result ≡ text_start byte }
 {
