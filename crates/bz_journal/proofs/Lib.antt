@@ -1,6 +1,5 @@
 pub mod Acting
 pub mod Alike
-pub mod Faulted
 pub mod Following
 pub mod Formatting
 pub mod Hashes
@@ -11,5 +10,6 @@ pub mod Edited
 pub mod PutLines
 pub mod Resuming
 pub mod Opening
+pub mod Persisting
 pub mod Running
 pub mod Overfull

@@ -124,13 +124,13 @@ is_again s small text (Err f.Version) there known = known
 
 -- ---- keeping
 
-pub may_resume : (folder : Folder) (file standing told text standing' told' text' : Bytes) (h : History) (s : SessionState) → standing ≡ standing' → told ≡ told' → text ≡ text'
-    → standing' ≡ present h → told' ≡ saved s → text' ≡ present (session_history s) → IsSavedSession s → FollowsKept h (session_history s) → Resumes folder file h.«package» h.texts
+pub may_resume : (folder : Folder) (file standing told text : Bytes) (h : History) (s : SessionState) → standing ≡ present h → told ≡ saved s → text ≡ present (session_history s)
+    → IsSavedSession s → FollowsKept h (session_history s) → Resumes folder file h.«package» h.texts
     → MayResume folder file standing told text h (session_history s) s.steps
-may_resume folder file standing told text standing' told' text' h s a b c begun journal written own follows resumes = record {
+may_resume folder file standing told text h s begun journal written own follows resumes = record {
   resumes = resumes;
-  begun = a ∙ begun;
+  begun = begun;
   follows = follows;
-  journal = subst (λ (j : Bytes). Journal j (session_history s) s.steps) (sym (b ∙ journal)) own;
-  written = c ∙ written;
+  journal = subst (λ (j : Bytes). Journal j (session_history s) s.steps) (sym journal) own;
+  written = written;
 }

@@ -1,12 +1,22 @@
 -- What keeping an action leaves: an answer, and a file with its journal.
-use Rattle.std.specs.Prelude.{◌≡◌, ◌≢◌, ◌⊎◌, Result, Ok, Err}
+use Rattle.std.specs.Prelude.{◌≡◌, ◌≢◌, ◌≤◌, ◌<◌, ◌⊎◌, true, length, Some, Result, Ok, Err, IfErr, IsErrOf, OnErr, OnOk}
+use Rattle.std.specs.FinMap.{get}
+use Rattle.bz_files.specs.Faults.{Rises}
+use Rattle.bz_files.specs.Folder.{Elapses, Folder}
+use Rattle.bz_files.specs.declared.files.Files.{Ghosts as FilesOf}
 use Rattle.bz_items.specs.Characters.{Bytes}
+use Rattle.bz_keep.specs.Pair.{journal_name}
+use Rattle.bz_keep.specs.Resuming.{Holds, OthersStay, Resumes, Survives}
 use Rattle.bz_keep.specs.declared.fault.PairFault.TheVariants as f
+use Rattle.bz_trail.specs.Trails.{IsSmall}
 use Rattle.bz_journal.specs.Actions.{Action}
 use Rattle.bz_journal.specs.declared.action.Reply.{Reply}
 use Rattle.bz_journal.specs.declared.keeping.KeepFault.{KeepFault}
 use Rattle.bz_journal.specs.declared.keeping.KeepFault.TheVariants.{Refused, Pair}
-use Rattle.bz_journal.specs.History.{History, Acts}
+use Rattle.bz_journal.specs.History.{Answer, History, Acts, present}
+use Rattle.bz_journal.specs.Lasting.{saved}
+use Rattle.bz_journal.specs.Shown.{session_history}
+use Rattle.bz_journal.specs.State.{SessionState, session_trail}
 
 -- The action is done, or refused; or it is done and moved the history, and journal and file were not both replaced.
 abbrev pub Keeps : Action → Bytes → History → Result Reply KeepFault → History → Type 0
@@ -24,3 +34,42 @@ abbrev pub IsWriteOrOpen : Result Reply KeepFault → Type 0
 IsWriteOrOpen (Ok reply) = ⊥
 IsWriteOrOpen (Err (Refused refusal)) = ⊥
 IsWriteOrOpen (Err (Pair fault)) = (fault ≡ f.Write) ⊎ (fault ≡ f.Open)
+
+-- What an action did to a session: the one before, what it answered, and the one after.
+pub record HasActed (action : Action) (note : Bytes) (s : SessionState) (answer : Answer) (t : SessionState) : Type 0 where
+  pub within : s.cursor < length (session_history s).texts
+  pub acts : Acts action note (session_history s) answer (session_history t)
+  pub unmoved : OnErr answer (t ≡ s)
+  pub small : IsSmall (session_trail s) → IsSmall (session_trail t)
+
+-- What doing an action in a session and keeping it does to the session, to its file and to the journal.
+pub record KeepsPair {F : Type 0} (files : FilesOf F) (action : Action) (note file : Bytes) (s : SessionState) (answer : Result Reply KeepFault) (t : SessionState) (old new : F) : Type 0 where
+  pub keeps : Keeps action note (session_history s) answer (session_history t)
+  pub refused : IfErr answer (λ fault. IsRefused fault → (t ≡ s) × (new ≡ old))
+  pub small : IsSmall (session_trail s) → IsSmall (session_trail t)
+  -- A stop at any moment leaves a file that goes on with the texts of before or after, and that holds the present text of either.
+  pub each : files.honest old ≡ true → Resumes (files.folder old) file (session_history s).«package» (session_history s).texts
+      → (now : Folder) → files.since new (files.moment old) now
+      → (now ≡ files.folder old) ⊎ Survives file (session_history s) (session_history t) (files.folder old) now
+  pub time : files.honest old ≡ true → Resumes (files.folder old) file (session_history s).«package» (session_history s).texts
+      → Elapses (files.moment old) (files.moment new) (files.since old) (files.since new)
+      (λ now. (now ≡ files.folder old) ⊎ Survives file (session_history s) (session_history t) (files.folder old) now)
+  pub kept : files.honest old ≡ true → Resumes (files.folder old) file (session_history s).«package» (session_history s).texts
+      → OnOk answer (t.cursor ≢ s.cursor
+      → Holds (files.folder new) file (session_history s).«package» (present (session_history t)) (session_history t).texts
+      × OthersStay file (files.folder old) (files.folder new))
+  -- The journal is as before or the session's, at every moment, and the session's where the text is another one.
+  pub told : files.honest old ≡ true → (now : Folder) → files.since new (files.moment old) now
+      → (get now (journal_name file) ≡ get (files.folder old) (journal_name file)) ⊎ (get now (journal_name file) ≡ Some (saved t))
+  pub journal : files.honest old ≡ true → OnOk answer (t.cursor ≢ s.cursor → get (files.folder new) (journal_name file) ≡ Some (saved t))
+  -- That the file holds another text is said only where it does. Nothing is replaced where the present text stays, and at every
+  -- fault but Write.
+  pub changed : files.honest old ≡ true → IsErrOf answer (Pair f.Changed) → get (files.folder old) file ≢ Some (present (session_history s))
+  pub still : OnOk answer (t.cursor ≡ s.cursor → new ≡ old)
+  pub untouched : files.honest old ≡ true → IfErr answer (λ fault. fault ≢ Pair f.Write
+      → (now : Folder) → files.since new (files.moment old) now → now ≡ files.folder old)
+  -- A Write and an Open are counted, and nothing else.
+  pub cause : IsWriteOrOpen answer → Rises (files.faults old) (files.faults new)
+  pub rest : (IsWriteOrOpen answer → ⊥) → files.faults new ≡ files.faults old
+  pub count : files.faults old ≤ files.faults new
+  pub honest : files.honest new ≡ files.honest old

@@ -20,7 +20,7 @@ ghost use Rattle.bz_journal.specs.declared.action.Reply.{Reply};
 ghost use Rattle.bz_journal.specs.Editing.{IsCommandDone};
 ghost use Rattle.bz_formatter.specs.Fixed.{IsFormatted};
 ghost use Rattle.bz_journal.specs.History.{note_limit, opened, present, Acts, IsFormat};
-ghost use Rattle.bz_journal.specs.Keeping.{IsRefused, IsWriteOrOpen, Keeps};
+ghost use Rattle.bz_journal.specs.Keeping.{IsRefused, IsWriteOrOpen, Keeps, KeepsPair};
 ghost use Rattle.bz_journal.specs.Lasting.{saved};
 ghost use Rattle.bz_journal.specs.Listing.{listing};
 ghost use Rattle.bz_journal.specs.Shown.{session_history, IsOverEven};
@@ -341,13 +341,23 @@ impl Editor {
         ensures count { F.faults files.old ≤ F.faults files.new }
         ensures honest { F.honest files.new ≡ F.honest files.old }
     {
-        self.value = None;
-        self.lookups = Lookups::none();
-        self.written = false;
-        self.long = LENGTH_LIMIT;
+        self.keep_beside(action, note, file, files)
+    }
+
+    /// The same, with what it leaves said at once.
+    fn keep_beside<F: Files>(
+        &mut self,
+        action: &Action<'_>,
+        note: &str,
+        file: &str,
+        files: &mut F,
+    ) -> Result<Reply, KeepFault>
+        ensures { KeepsPair F.Files (action_in action.now) note.now file.now self.old result self.new files.old files.new }
+    {
         self.session.keep_digests();
-        let kept = self.session.keep_noted(action, note, file, files);
-        reads_back(self.session.present());
-        kept
+        let standing = self.session.own_text();
+        let from = self.cursor();
+        let answer = self.act_noted(action, note);
+        self.session.persist(answer, from, standing, file, files)
     }
 }
