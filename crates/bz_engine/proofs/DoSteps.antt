@@ -1,10 +1,14 @@
 -- One step, in the file that was opened for it.
-use Rattle.std.proofs.Common.{◌≡◌, ◌∙◌, ◌++◌, ℕ, List, [], Option, Some, None, Ok, true, refl, sym, subst}
+use Rattle.std.proofs.Common.{◌≡◌, ◌∙◌, ◌++◌, ◌||◌, inl, ℕ, List, [], Bool, Option, Some, None, Ok, true, false, refl, sym, ap, subst, not}
+use Rattle.std.specs.Prelude.{◌==◌}
+use Rattle.std.proofs.lemmas.Bool.{eq-eqb}
 use Rattle.std.specs.Option.{option_map}
 use Rattle.std.proofs.lemmas.List.{append-nil}
 use Rattle.bz_items.specs.Characters.{Bytes}
-use Rattle.bz_workspace.specs.Packages.{Opened, Used, file_at}
-use Rattle.bz_workspace.specs.Sessions.{Action, Printed, listing}
+use Rattle.bz_files.specs.Folder.{Folder}
+use Rattle.bz_workspace.specs.Packages.{Opened, Used, file_at, with_opened}
+use Rattle.bz_workspace.specs.Sessions.{Action, Reply, Printed, listing}
+use Rattle.bz_engine.specs.Keeping.{AnswersBeside, DoesBeside, UsesBeside, file_behind}
 use Rattle.bz_engine.specs.Run.{Answers, Does, LeadsBy, Progress, Uses, World, answered}
 use Rattle.bz_engine.specs.Steps.{RunStep, action_of}
 
@@ -55,4 +59,62 @@ listed_answers step place found file before after there none is =
       subst (λ (a : Option Action). LeadsBy a step.asking.text file.history (Ok (Printed (listing file.history))) file.history) none (refl, refl),
       refl,
       is,
+    )
+
+-- ---- with journals
+
+pub beside_there : (step : RunStep) (folder between folder' : Folder) (before after : Progress) (used : List Used) (found : Option ℕ) (place at : ℕ) (name : Bytes)
+    (opening answer : List Bytes) → name ≡ step.target.«package» → between ≡ folder → UsesBeside folder name before.used place opening used → found ≡ Some at
+    → found ≡ option_map (λ _. place) (file_at place used) → AnswersBeside step at (file_at at used) between (record before { used = used }) answer folder' after
+    → DoesBeside step folder before (opening ++ answer) folder' after
+beside_there step folder between folder' before after used found place at name opening answer named still uses is opened answers = record {
+  place = place;
+  used = used;
+  opening = opening;
+  answer = answer;
+  uses = subst (λ (text : Bytes). UsesBeside folder text before.used place opening used) named uses;
+  answers = subst (λ (f : Folder). AnswersBeside step place (file_at place used) f (record before { used = used }) answer folder' after) still
+      (subst (λ (n : ℕ). AnswersBeside step n (file_at n used) between (record before { used = used }) answer folder' after)
+      (same_place (file_at place used) at place (sym is ∙ opened)) answers);
+  told = refl;
+}
+
+pub beside_nowhere : (step : RunStep) (folder folder' : Folder) (before : Progress) (used : List Used) (found : Option ℕ) (place : ℕ) (name : Bytes) (opening : List Bytes)
+    → name ≡ step.target.«package» → folder' ≡ folder → UsesBeside folder name before.used place opening used → found ≡ None
+    → found ≡ option_map (λ _. place) (file_at place used) → DoesBeside step folder before opening folder' (record before { used = used; failed = true })
+beside_nowhere step folder folder' before used found place name opening named still uses is opened = record {
+  place = place;
+  used = used;
+  opening = opening;
+  answer = [];
+  uses = subst (λ (text : Bytes). UsesBeside folder text before.used place opening used) named uses;
+  answers = subst (λ (file : Option Opened). AnswersBeside step place file folder (record before { used = used }) [] folder' (record before { used = used; failed = true }))
+      (sym (no_file (file_at place used) place (sym is ∙ opened))) (refl, still, refl);
+  told = sym (append-nil opening);
+}
+
+pub or_false : (b : Bool) → b || false ≡ b
+or_false true = refl
+or_false false = refl
+
+-- a file whose history stays is the same
+file_still : (file : Opened) (reply : Reply) → file_behind (Ok reply) file.history file ≡ file
+file_still file reply =
+    let same : file.history.cursor == file.history.cursor ≡ true = eq-eqb file.history.cursor file.history.cursor refl in
+    ap (λ (b : Bool). record file { written = file.written || not b }) same ∙ ap (λ (b : Bool). record file { written = b }) (or_false file.written)
+
+-- the texts of the file are listed
+pub listed_beside : (step : RunStep) (place : ℕ) (found : Option Opened) (file : Opened) (folder : Folder) (before after : Progress) → found ≡ Some file
+    → None ≡ action_of step.target step.asking.verb → after ≡ answered place file (Ok (Printed (listing file.history))) file.history before
+    → AnswersBeside step place found folder before [] folder after
+listed_beside step place found file folder before after there none is =
+    let reply : Reply = Printed (listing file.history) in
+    subst (λ (f : Option Opened). AnswersBeside step place f folder before [] folder after) (sym there) (
+      Ok reply,
+      file.history,
+      subst (λ (a : Option Action). LeadsBy a step.asking.text file.history (Ok reply) file.history) none (refl, refl),
+      inl (refl, refl),
+      refl,
+      is ∙ ap (λ (f : Opened). record { used = with_opened place (Some f) before.used; printed = before.printed ++ listing file.history; failed = before.failed || false })
+          (sym (file_still file reply)),
     )

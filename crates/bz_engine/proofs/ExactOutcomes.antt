@@ -1,5 +1,5 @@
 -- Words, standard input and a folder have at most one outcome.
-use Rattle.std.proofs.Common.{◌≡◌, ◌⊎◌, ◌&&◌, ℕ, List, [], ◌∷◌, length, bytes_eq, Option, Some, None, Result, Ok, Err, Bool, true, false, true≢false, inl, inr, refl, sym, ap, subst, ◌∙◌, arith}
+use Rattle.std.proofs.Common.{◌≡◌, ◌⊎◌, ◌&&◌, ℕ, List, [], ◌∷◌, length, bytes_eq, Option, Some, None, Result, Ok, Err, IfOk, Bool, true, false, true≢false, inl, inr, refl, sym, ap, subst, ◌∙◌, arith}
 use Rattle.std.specs.FinMap.{get}
 use Rattle.std.specs.Str.{IsUtf8, IsValidUpTo}
 use Rattle.std.proofs.Math.Seq.{take-length}
@@ -15,7 +15,7 @@ use Rattle.bz_line.specs.declared.line.Options.{Options}
 use Rattle.bz_ports.specs.Told.{fault_line}
 use Rattle.bz_engine.specs.Ending.{Left, Performs}
 use Rattle.bz_engine.specs.Exact.{SameLeft, TellsPattern, GivenTellsPattern, IsToldPattern, OutcomesAreExact}
-use Rattle.bz_engine.specs.Outcome.{unused, IsScript, told_name, OperandsOutcome, LinesOutcome, TextOutcome, GivenOutcome, LineOutcome}
+use Rattle.bz_engine.specs.Outcome.{unused, LinesLeave, IsScript, told_name, OperandsOutcome, LinesOutcome, TextOutcome, GivenOutcome, LineOutcome}
 use Rattle.bz_engine.specs.Run.{World}
 use Rattle.bz_engine.specs.Steps.{all_steps, names_input, input_package}
 use Rattle.bz_engine.specs.Told.{IsUsageLine, IsLineUsageLine, operand_line}
@@ -23,6 +23,7 @@ use Rattle.bz_engine.proofs.ExactEnding.{no_steps, performed_unread, same_perfor
 use Rattle.bz_engine.proofs.ExactFaults.{group_fault, script_fault, one_usage_line}
 use Rattle.bz_engine.proofs.ExactLines.{same_lines, same_as}
 use Rattle.bz_engine.proofs.ExactSteps.{one_input}
+use Rattle.bz_engine.proofs.Outcomes.{plain_leaves}
 
 -- ---- what is left where nothing is done
 
@@ -72,14 +73,14 @@ OperandsDone options asked world left = Performs options (all_steps (asked ∷ [
 abbrev OperandsExact : Options → List Bytes → World → Left → Type 0
 OperandsExact options texts world left = Decided [] (OperandsDone options) (operand_group texts) world left
 
-operands_exact : (options : Options) (texts : List Bytes) (world : World) (left : Left) → OperandsOutcome options texts world left
+operands_exact : (options : Options) (texts : List Bytes) (world : World) (left : Left) → options.journal ≡ false → OperandsOutcome options texts world left
     → GivenTellsPattern (operands texts) world left ⊎ OperandsExact options texts world left
-operands_exact options texts world left (inl (usage, line, fault, told, none)) = elim (group_fault texts usage fault) [
+operands_exact options texts world left plain (inl (usage, line, fault, told, none)) = elim (group_fault texts usage fault) [
   | inl is ↦ inr (subst (λ (it : Result Asked Usage). Decided [] (OperandsDone options) it world left) (sym is) (line, told, none))
   | inr tells ↦ inl (tells.0, tells.2, (tells.3, told_pattern [] usage tells.0 world left line tells.1 told none))
 ]
-operands_exact options texts world left (inr (asked, is, performs)) =
-    inr (subst (λ (it : Result Asked Usage). Decided [] (OperandsDone options) it world left) (sym is) performs)
+operands_exact options texts world left plain (inr (asked, is, leave)) =
+    inr (subst (λ (it : Result Asked Usage). Decided [] (OperandsDone options) it world left) (sym is) (plain_leaves options (asked ∷ []) world left plain leave))
 
 -- ---- lines
 
@@ -96,21 +97,23 @@ not_whole : (text : Bytes) (n : ℕ) → IsUtf8 text → IsValidUpTo text n → 
 not_whole text n whole valid = valid.longest (length text) valid.short (subst IsUtf8 (sym (take-length text)) whole)
 
 done_at : (options : Options) (of_input : Bool) (lines : List Asked) (world : World) (known : Option Bytes) (left : Left) → of_input && names_input lines ≡ false
-    → (of_input ≡ false → known ≡ world.known) → Performs options (all_steps lines) (record world { known = known }) left
+    → (of_input ≡ false → known ≡ world.known) → options.journal ≡ false → LinesLeave options lines (record world { known = known }) left
     → Performs options (all_steps lines) world left
-done_at options true lines world known left none same performs = performed_unread options (all_steps lines) world known left (no_steps lines none) performs
-done_at options false lines world known left none same performs =
-    subst (λ (k : Option Bytes). Performs options (all_steps lines) (record world { known = k }) left) (same refl) performs
+done_at options true lines world known left none same plain leave =
+    performed_unread options (all_steps lines) world known left (no_steps lines none) (plain_leaves options lines (record world { known = known }) left plain leave)
+done_at options false lines world known left none same plain leave =
+    subst (λ (k : Option Bytes). Performs options (all_steps lines) (record world { known = k }) left) (same refl)
+    (plain_leaves options lines (record world { known = known }) left plain leave)
 
 same_lines_done : OneReading → (words : List Bytes) (bytes : Bytes) (options : Options) (of_input : Bool) (lines : List Asked) (world : World) (left other : Left)
-    → world.known ≡ Some bytes → LinesOutcome options of_input lines world left → LinesOutcome options of_input lines world other → SameLeft words world left other
-same_lines_done one words bytes options of_input lines world left other known (inl (named, is)) (inl (named', is')) =
+    → world.known ≡ Some bytes → options.journal ≡ false → LinesOutcome options of_input lines world left → LinesOutcome options of_input lines world other → SameLeft words world left other
+same_lines_done one words bytes options of_input lines world left other known plain (inl (named, is)) (inl (named', is')) =
     same_left words world left other (is ∙ sym is')
-same_lines_done one words bytes options of_input lines world left other known (inl (named, is)) (inr (none, done)) = absurd (true≢false (sym named ∙ none))
-same_lines_done one words bytes options of_input lines world left other known (inr (none, done)) (inl (named, is)) = absurd (true≢false (sym named ∙ none))
-same_lines_done one words bytes options of_input lines world left other known (inr (none, (left_over, same, performs))) (inr (none', (left_over', same', performs'))) =
-    same_performed one words bytes options (all_steps lines) world left other known (done_at options of_input lines world left_over left none same performs)
-    (done_at options of_input lines world left_over' other none' same' performs')
+same_lines_done one words bytes options of_input lines world left other known plain (inl (named, is)) (inr (none, done)) = absurd (true≢false (sym named ∙ none))
+same_lines_done one words bytes options of_input lines world left other known plain (inr (none, done)) (inl (named, is)) = absurd (true≢false (sym named ∙ none))
+same_lines_done one words bytes options of_input lines world left other known plain (inr (none, (left_over, same, performs))) (inr (none', (left_over', same', performs'))) =
+    same_performed one words bytes options (all_steps lines) world left other known (done_at options of_input lines world left_over left none same plain performs)
+    (done_at options of_input lines world left_over' other none' same' plain performs')
 
 abbrev TextDecided : Options → Bytes → Bytes → World → Left → Type 0
 TextDecided options name text world left = Decided (told_name name) (LinesOutcome options (bytes_eq name input_package)) (script_of text) world left
@@ -139,15 +142,15 @@ text_exact options name text world left (inr (inr (whole, (lines, is, done)))) =
 ))
 
 same_text : OneReading → (words : List Bytes) (bytes : Bytes) (options : Options) (name text : Bytes) (world : World) (left other : Left)
-    → world.known ≡ Some bytes → TextExact options name text world left → TextExact options name text world other → SameLeft words world left other
-same_text one words bytes options name text world left other known (inl (at, valid, is)) (inl (at', valid', is')) =
+    → world.known ≡ Some bytes → options.journal ≡ false → TextExact options name text world left → TextExact options name text world other → SameLeft words world left other
+same_text one words bytes options name text world left other known plain (inl (at, valid, is)) (inl (at', valid', is')) =
     same_left words world left other
     (is ∙ ap (λ (n : ℕ). unused world.folder (fault_line (told_name name) (NotUtf8 n))) (one_valid text at at' valid valid') ∙ sym is')
-same_text one words bytes options name text world left other known (inl (at, valid, is)) (inr (whole, decided)) = absurd (not_whole text at whole valid)
-same_text one words bytes options name text world left other known (inr (whole, decided)) (inl (at, valid, is)) = absurd (not_whole text at whole valid)
-same_text one words bytes options name text world left other known (inr (whole, decided)) (inr (whole', decided')) =
+same_text one words bytes options name text world left other known plain (inl (at, valid, is)) (inr (whole, decided)) = absurd (not_whole text at whole valid)
+same_text one words bytes options name text world left other known plain (inr (whole, decided)) (inl (at, valid, is)) = absurd (not_whole text at whole valid)
+same_text one words bytes options name text world left other known plain (inr (whole, decided)) (inr (whole', decided')) =
     same_decided words (told_name name) (LinesOutcome options (bytes_eq name input_package)) (script_of text) world left other
-    (λ lines l o done done'. same_lines_done one words bytes options (bytes_eq name input_package) lines world l o known done done') decided decided'
+    (λ lines l o done done'. same_lines_done one words bytes options (bytes_eq name input_package) lines world l o known plain done done') decided decided'
 
 one_script : (world : World) (bytes name : Bytes) (text text' : Option Bytes) → world.known ≡ Some bytes → IsScript world name text → IsScript world name text'
     → text ≡ text'
@@ -173,31 +176,31 @@ exactly_operands one words bytes options texts world left other known (inr exact
     (λ asked l o done done'. same_performed one words bytes options (all_steps (asked ∷ [])) world l o known done done') exact exact'))
 
 exactly_text : OneReading → (words : List Bytes) (bytes : Bytes) (options : Options) (name text : Bytes) (world : World) (left other : Left)
-    → world.known ≡ Some bytes → IsScript world name (Some text) → TextTells text world left ⊎ TextExact options name text world left
+    → world.known ≡ Some bytes → options.journal ≡ false → IsScript world name (Some text) → TextTells text world left ⊎ TextExact options name text world left
     → TextTells text world other ⊎ TextExact options name text world other → Exactly words (script name) world left other
-exactly_text one words bytes options name text world left other known is (inl tells) outcome = inl (text, is, tells.0, tells.1, tells.2)
-exactly_text one words bytes options name text world left other known is (inr exact) (inl tells) = inr (inl (text, is, tells.0, tells.1, tells.2))
-exactly_text one words bytes options name text world left other known is (inr exact) (inr exact') =
-    inr (inr (same_text one words bytes options name text world left other known exact exact'))
+exactly_text one words bytes options name text world left other known plain is (inl tells) outcome = inl (text, is, tells.0, tells.1, tells.2)
+exactly_text one words bytes options name text world left other known plain is (inr exact) (inl tells) = inr (inl (text, is, tells.0, tells.1, tells.2))
+exactly_text one words bytes options name text world left other known plain is (inr exact) (inr exact') =
+    inr (inr (same_text one words bytes options name text world left other known plain exact exact'))
 
 exactly_read : OneReading → (words : List Bytes) (bytes : Bytes) (options : Options) (name : Bytes) (text : Option Bytes) (world : World) (left other : Left)
-    → world.known ≡ Some bytes → IsScript world name text → TextOutcome options name text world left → TextOutcome options name text world other
+    → world.known ≡ Some bytes → options.journal ≡ false → IsScript world name text → TextOutcome options name text world left → TextOutcome options name text world other
     → Exactly words (script name) world left other
-exactly_read one words bytes options name None world left other known is outcome outcome' =
+exactly_read one words bytes options name None world left other known plain is outcome outcome' =
     inr (inr (same_left words world left other (outcome ∙ sym outcome')))
-exactly_read one words bytes options name (Some text) world left other known is outcome outcome' =
-    exactly_text one words bytes options name text world left other known is (text_exact options name text world left outcome)
+exactly_read one words bytes options name (Some text) world left other known plain is outcome outcome' =
+    exactly_text one words bytes options name text world left other known plain is (text_exact options name text world left outcome)
     (text_exact options name text world other outcome')
 
 exactly_given : OneReading → (words : List Bytes) (bytes : Bytes) (options : Options) (given : Given) (world : World) (left other : Left)
-    → world.known ≡ Some bytes → GivenOutcome options given world left → GivenOutcome options given world other → Exactly words given world left other
-exactly_given one words bytes options (operands texts) world left other known outcome outcome' =
-    exactly_operands one words bytes options texts world left other known (operands_exact options texts world left outcome)
-    (operands_exact options texts world other outcome')
-exactly_given one words bytes options (script name) world left other known (text, is, outcome) (text', is', outcome') =
+    → world.known ≡ Some bytes → options.journal ≡ false → GivenOutcome options given world left → GivenOutcome options given world other → Exactly words given world left other
+exactly_given one words bytes options (operands texts) world left other known plain outcome outcome' =
+    exactly_operands one words bytes options texts world left other known (operands_exact options texts world left plain outcome)
+    (operands_exact options texts world other plain outcome')
+exactly_given one words bytes options (script name) world left other known plain (text, is, outcome) (text', is', outcome') =
     let here : TextOutcome options name text world other = subst (λ (it : Option Bytes). TextOutcome options name it world other)
     (sym (one_script world bytes name text text' known is is')) outcome' in
-    exactly_read one words bytes options name text world left other known is outcome here
+    exactly_read one words bytes options name text world left other known plain is outcome here
 
 -- ---- whole lines
 
@@ -217,12 +220,12 @@ same_usage words beside_stdout world line line' left other claps told told' is i
     same_left words world left other (is ∙ ap (unused world.folder) (told ∙ sym told') ∙ sym is')
 
 exactly_line : OneReading → (words : List Bytes) (bytes : Bytes) (line : Result CommandLine LineUsage) (world : World) (left other : Left) → command_line_of words ≡ line
-    → world.known ≡ Some bytes → LineOutcome line world left → LineOutcome line world other
+    → IfOk line (λ whole. whole.options.journal ≡ false) → world.known ≡ Some bytes → LineOutcome line world left → LineOutcome line world other
     → TellsPattern words world left ⊎ TellsPattern words world other ⊎ SameLeft words world left other
-exactly_line one words bytes (Err usage) world left other says known (line, told, is) (line', told', is') =
+exactly_line one words bytes (Err usage) world left other says plain known (line, told, is) (line', told', is') =
     inr (inr (same_usage words usage world line line' left other says told told' is is'))
-exactly_line one words bytes (Ok line) world left other says known outcome outcome' =
-    elim (exactly_given one words bytes line.options line.given world left other known outcome outcome') [
+exactly_line one words bytes (Ok line) world left other says plain known outcome outcome' =
+    elim (exactly_given one words bytes line.options line.given world left other known plain outcome outcome') [
       | inl tells ↦ inl (line, says, tells)
       | inr rest ↦ elim rest [
         | inl tells ↦ inr (inl (line, says, tells))
@@ -231,4 +234,4 @@ exactly_line one words bytes (Ok line) world left other says known outcome outco
     ]
 
 pub exact : OneReading → OutcomesAreExact
-exact one words world bytes left other known outcome outcome' = exactly_line one words bytes (command_line_of words) world left other refl known outcome outcome'
+exact one words world bytes left other plain known outcome outcome' = exactly_line one words bytes (command_line_of words) world left other refl plain known outcome outcome'

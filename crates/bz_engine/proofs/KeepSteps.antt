@@ -1,5 +1,12 @@
 -- What keeping a file and its journal does to the count of faults.
-use Rattle.std.proofs.Common.{◌≡◌, ◌⊎◌, ◌∙◌, ◌≤◌, inl, inr, ℕ, refl, arith}
+use Rattle.std.proofs.Common.{◌≡◌, ◌⊎◌, ◌∙◌, ◌≤◌, ◌++◌, ◌||◌, inl, inr, ℕ, List, Bool, true, false, Some, Ok, Err, refl, sym, ap, subst, arith}
+use Rattle.std.proofs.lemmas.Bool.Decides.{eqb_tells}
+use Rattle.bz_items.specs.Characters.{Bytes}
+use Rattle.bz_journal.specs.declared.keeping.KeepFault.TheVariants.{Pair}
+use Rattle.bz_keep.specs.Resuming.{Holds}
+use Rattle.bz_workspace.specs.Keeps.{KeepsFile, after_keeping}
+use Rattle.bz_workspace.specs.Packages.{Opened, Used, with_opened}
+use Rattle.bz_workspace.specs.Sessions.{Reply, History, Answer, present}
 use Rattle.bz_keep.specs.declared.fault.PairFault.{PairFault}
 use Rattle.bz_keep.specs.declared.fault.PairFault.TheVariants as f
 use Rattle.bz_ports.specs.Faults.{Rises}
@@ -11,45 +18,63 @@ use Rattle.bz_ports.specs.Exits.{first_cut}
 use Rattle.bz_ports.proofs.Outputs.{counts_more}
 use Rattle.bz_engine.specs.Calls.{WorksOn}
 use Rattle.bz_engine.specs.Cuts.{CutsFiles}
+use Rattle.bz_engine.specs.Keeping.{FolderBehind, state_behind}
+use Rattle.bz_engine.specs.Run.{Progress, printed_in}
 use Rattle.bz_engine.proofs.CutSteps.{files_cut}
+use Rattle.bz_engine.proofs.DoSteps.{or_false}
+use Rattle.bz_engine.proofs.StandSteps.{Follows}
 
 -- it could not be written or read
 abbrev pub IsWritten : PairFault → Type 0
 IsWritten fault = (fault ≡ f.Write) ⊎ (fault ≡ f.Open)
 
-other_fault : (fault : PairFault) → fault ≡ f.Changed → IsWritten fault → ⊥
-other_fault fault is (inl e) = absurd (cc)
-other_fault fault is (inr e) = absurd (cc)
+-- ---- an action that is kept
 
-memory_other : IsWritten f.Memory → ⊥
-memory_other (inl e) = absurd (cc)
-memory_other (inr e) = absurd (cc)
+same_package : (answer : Answer) (h after : History) → Follows answer h after → after.«package» ≡ h.«package»
+same_package answer h after (inl same) = ap (λ (it : History). it.«package») same
+same_package answer h after (inr follows) = follows.1
 
-changed_other : IsWritten f.Changed → ⊥
-changed_other (inl e) = absurd (cc)
-changed_other (inr e) = absurd (cc)
+-- Where another text is the present one the history is kept, else nothing changes.
+pub kept_behind : {F : Type 0} (files : FilesOf F) (file : Opened) (history : History) (reply : Reply) (old new : F) → files.honest old ≡ true
+    → Holds (files.folder old) file.name file.history.«package» (present file.history) file.history.texts → Follows (Ok reply) file.history history
+    → KeepsFile files file.name file.history history (Ok reply) old new → FolderBehind (Ok reply) file history (files.folder old) (files.folder new)
+kept_behind files file history reply old new honest holds follows pair = elim (eqb_tells history.cursor file.history.cursor) [
+  | inl same ↦ inl (same.1, ap files.folder (pair.still same.1))
+  | inr other ↦
+      let done = pair.kept honest (present file.history, holds) other.1 in inr (
+        other.1,
+        record {
+          steps = pair.steps;
+          saved = pair.journal honest other.1;
+          holds = subst (λ (current : Bytes). Holds (files.folder new) file.name current (present history) history.texts)
+              (sym (same_package (Ok reply) file.history history follows)) done.0;
+          others = done.1;
+        },
+      )
+]
 
-pub left_cut : (cut : Cut) (fault : PairFault) (old new : ℕ)
-    → ((cut ≡ c.Whole) × (fault ≡ f.Changed)) ⊎ ((cut ≡ c.Memory) × (fault ≡ f.Memory)) ⊎ ((cut ≡ c.Files) × IsWritten fault)
-    → (IsWritten fault → Rises old new) → ((IsWritten fault → ⊥) → new ≡ old) → CutsFiles cut old new
-left_cut cut fault old new (inl whole) rises rest = inl (whole.0, rest (other_fault fault whole.1))
-left_cut cut fault old new (inr (inl memory)) rises rest = inr (inl memory.0)
-left_cut cut fault old new (inr (inr files)) rises rest = inr (inr (files.0, rises files.1))
+-- A file that holds its present text is not said to hold another.
+pub not_changed : {F : Type 0} (files : FilesOf F) (file : Opened) (history : History) (fault : PairFault) (old new : F) → files.honest old ≡ true
+    → Holds (files.folder old) file.name file.history.«package» (present file.history) file.history.texts
+    → KeepsFile files file.name file.history history (Err (Pair fault)) old new → fault ≡ f.Changed → ⊥
+not_changed files file history fault old new honest holds pair is =
+    pair.changed honest (ap (λ (it : PairFault). Err (Pair it)) is) holds.holds
 
-pub pair_counts : (fault : PairFault) (old new : ℕ) → old ≤ new → (IsWritten fault → Rises old new) → ((IsWritten fault → ⊥) → new ≡ old) → Counts old new
-pair_counts f.Memory old new grows rises rest = record { grows = grows; rises = inl (rest memory_other) }
-pair_counts f.Changed old new grows rises rest = record { grows = grows; rises = inl (rest changed_other) }
-pair_counts f.Open old new grows rises rest = record { grows = grows; rises = inr (rises (inr refl)) }
-pair_counts f.Write old new grows rises rest = record { grows = grows; rises = inr (rises (inl refl)) }
+-- A pair that was not written is left without a cut only where the file holds another text.
+pub changed_of : (cut : Cut) (fault : PairFault)
+    → ((cut ≡ c.Whole) × (fault ≡ f.Changed)) ⊎ ((cut ≡ c.Memory) × (fault ≡ f.Memory)) ⊎ ((cut ≡ c.Files) × IsWritten fault) → cut ≡ c.Whole → fault ≡ f.Changed
+changed_of cut fault (inl whole) is = whole.1
+changed_of cut fault (inr (inl memory)) is = absurd (let e = sym memory.0 ∙ is in cc)
+changed_of cut fault (inr (inr files)) is = absurd (let e = sym files.0 ∙ is in cc)
 
-pub opened_works : {F : Type 0} (files : FilesOf F) (cut : Cut) (old new : F)
-    → (cut ≡ c.Whole) ⊎ (cut ≡ c.Memory) ⊎ ((cut ≡ c.Files) × Rises (files.faults old) (files.faults new)) → (cut ≡ c.Whole → files.faults new ≡ files.faults old)
-    → Counts (files.faults old) (files.faults new) → files.honest new ≡ files.honest old → WorksOn files cut old new
-opened_works files cut old new (inl whole) steady counts honest = record { cut = inl (whole, steady whole); counts = counts; honest = honest }
-opened_works files cut old new (inr rest) steady counts honest = record { cut = inr rest; counts = counts; honest = honest }
-
-pub works_none : {F : Type 0} (files : FilesOf F) (held : F) → WorksOn files c.Whole held held
-works_none files held = record { cut = inl (refl, refl); counts = record { grows = omega arith; rises = inl refl }; honest = refl }
+pub was_kept : (place : ℕ) (file : Opened) (reply : Reply) (history : History) (before after : Progress) (used : List Used) (printed : Bytes)
+    → after ≡ record before { used = used; printed = printed } → used ≡ with_opened place (Some (after_keeping (Ok reply) history file)) before.used
+    → printed ≡ before.printed ++ printed_in reply → after ≡ state_behind place file (Ok reply) history before
+was_kept place file reply history before after used printed is put said =
+    is ∙ ap (λ (u : List Used). record { used = u; printed = printed; failed = before.failed }) put
+    ∙ ap (λ (text : Bytes). record { used = with_opened place (Some (after_keeping (Ok reply) history file)) before.used; printed = text; failed = before.failed }) said
+    ∙ ap (λ (b : Bool). record { used = with_opened place (Some (after_keeping (Ok reply) history file)) before.used; printed = before.printed ++ printed_in reply; failed = b })
+    (sym (or_false before.failed))
 
 -- what is done on files in two parts
 pub works_more : {F : Type 0} (files : FilesOf F) (cut later : Cut) (old mid new : F) → WorksOn files cut old mid → WorksOn files later mid new

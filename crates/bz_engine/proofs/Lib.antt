@@ -8,7 +8,6 @@ pub mod ExactFaults
 pub mod ExactLines
 pub mod ExactOutcomes
 pub mod ExactSteps
-pub mod HeldSteps
 pub mod InputSteps
 pub mod KeepSteps
 pub mod OpenSteps
@@ -16,6 +15,7 @@ pub mod Outcomes
 pub mod Performing
 pub mod ReadSteps
 pub mod RunSteps
+pub mod StandSteps
 pub mod StepLists
 pub mod UnusedSteps
 pub mod UsageSteps

@@ -1,11 +1,15 @@
 -- What words and lines come to, by what was read of them.
-use Rattle.std.proofs.Common.{◌≡◌, ◌≢◌, ◌⊎◌, ◌&&◌, inl, inr, ℕ, ◌<◌, List, [], ◌∷◌, length, take, codes, Option, Some, None, IfSome, IsSome, Result, Ok, Err, IfOk, Bool, true, false, true≢false, refl, sym, ap, subst, ◌∙◌, arith, bytes_eq}
+use Rattle.std.proofs.Common.{◌≡◌, ◌≢◌, ◌⊎◌, ◌&&◌, ◌||◌, inl, inr, ℕ, ◌<◌, List, [], ◌∷◌, length, take, codes, Option, Some, None, IfSome, IsSome, Result, Ok, Err, IfOk, Bool, true, false, true≢false, refl, sym, ap, subst, ◌∙◌, arith, bytes_eq}
+use Rattle.std.specs.List.{All, list_any}
 use Rattle.std.specs.Str.{IsUtf8, IsValidUpTo}
 use Rattle.std.proofs.lemmas.List.{take_all, length-take}
+use Rattle.std.proofs.lemmas.List.Elements.{All-head}
+use Rattle.std.proofs.lemmas.Slice.Eq.{bytes_eq-Decides}
 use Rattle.bz_lex.specs.declared.fault.ReadFault.TheVariants.{NotUtf8}
 use Rattle.bz_items.specs.Characters.{Bytes}
 use Rattle.bz_files.specs.Folder.{Folder}
-use Rattle.bz_line.specs.Asked.{Asked, Usage, operand_group}
+use Rattle.bz_label.specs.declared.target.Target.{Target}
+use Rattle.bz_line.specs.Asked.{Asked, Asking, Refused, Usage, accepted, asked_of, complete, operand_group}
 use Rattle.bz_line.specs.Line.{Given, script, CommandLine, LineUsage, command_line_of}
 use Rattle.bz_line.specs.Refused.{IsGroupFault, IsScriptFault}
 use Rattle.bz_line.specs.Script.{script_of}
@@ -15,10 +19,10 @@ use Rattle.bz_ports.specs.Outputs.{Tells}
 use Rattle.bz_ports.specs.Told.{named_line, fault_line}
 use Rattle.bz_ports.proofs.Outputs.{appends_nothing}
 use Rattle.bz_engine.specs.Ending.{Left, Performs, LeftStands}
-use Rattle.bz_engine.specs.Outcome.{unused, AreOfInput, IsOfInput, NamesNoFile, KeepsNoJournal, IsScript, told_name, OperandsOutcome, LinesOutcome, TextOutcome, ScriptOutcome, GivenOutcome, LineOutcome, WordsOutcome}
+use Rattle.bz_engine.specs.Outcome.{unused, LinesLeave, AreOfInput, AreOfInputAndSome, IsOfInput, NamesNoFile, KeepsJournals, IsScript, told_name, OperandsOutcome, LinesOutcome, TextOutcome, ScriptOutcome, GivenOutcome, LineOutcome, WordsOutcome}
 use Rattle.bz_engine.specs.Run.{World}
 use Rattle.bz_ports.specs.Ports.{IsInput}
-use Rattle.bz_engine.specs.Steps.{all_steps, names_input, input_package}
+use Rattle.bz_engine.specs.Steps.{all_steps, is_of_input, names_input, input_package}
 use Rattle.bz_engine.specs.Told.{IsUsageLine, IsLineUsageLine, input_line}
 
 -- ---- lines on standard error
@@ -77,19 +81,49 @@ operands_refused options texts world found usage line status out f g old new fau
 )
 
 pub operands_done : (options : Options) (texts : List Bytes) (world : World) (asked : Asked) (lines : List Asked) (left : Left) → operand_group texts ≡ Ok asked
-    → lines ≡ asked ∷ [] → Performs options (all_steps lines) world left → OperandsOutcome options texts world left
-operands_done options texts world asked lines left is same performs =
-    inr (asked, is, subst (λ (these : List Asked). Performs options (all_steps these) world left) same performs)
+    → lines ≡ asked ∷ [] → LinesLeave options lines world left → OperandsOutcome options texts world left
+operands_done options texts world asked lines left is same leave =
+    inr (asked, is, subst (λ (these : List Asked). LinesLeave options these world left) same leave)
 
 pub operands_of_input : (texts : List Bytes) (asked : Asked) (lines : List Asked) → operand_group texts ≡ Ok asked → lines ≡ asked ∷ []
     → IfOk (operand_group texts) (λ asked. AreOfInput (asked ∷ [])) → AreOfInput lines
 operands_of_input texts asked lines is same are =
     subst AreOfInput (sym same) (subst (λ (it : Result Asked Usage). IfOk it (λ asked. AreOfInput (asked ∷ []))) is are)
 
+-- Operands that ask for something have a target.
+has_target : (commands : List Asking) (targets : List Target) (asked : Asked) → complete commands targets ≡ Ok asked
+    → (target : Target) × (more : List Target) × (asked.targets ≡ target ∷ more)
+has_target [] targets asked is = absurd (let e = is in cc)
+has_target (command ∷ commands) [] asked is = absurd (let e = is in cc)
+has_target (command ∷ commands) (target ∷ targets) asked is =
+    (target, targets, ap (λ (a : Asked). a.targets) (one_asked asked (record { commands = command ∷ commands; targets = target ∷ targets }) (sym is)))
+  where
+    one_asked : (a b : Asked) → ◌≡◌ {A = Result Asked Usage} (Ok a) (Ok b) → a ≡ b
+    one_asked a b e = cc
+
+group_target : (found : Result Asked Refused) (asked : Asked) → accepted found ≡ Ok asked → (target : Target) × (more : List Target) × (asked.targets ≡ target ∷ more)
+group_target (Ok whole) asked is = has_target whole.commands whole.targets asked is
+group_target (Err refused) asked is = absurd (let e = is in cc)
+
+named_first : (targets : List Target) (target : Target) (more : List Target) → targets ≡ target ∷ more → All (λ (one : Target). one.«package» ≡ input_package) targets
+    → list_any is_of_input targets ≡ true
+named_first targets target more is all =
+    let first : target.«package» ≡ input_package = All-head (λ (one : Target). one.«package» ≡ input_package) target more
+    (subst (All (λ (one : Target). one.«package» ≡ input_package)) is all) in
+    ap (list_any is_of_input) is ∙ ap (λ (b : Bool). b || list_any is_of_input more) ((bytes_eq-Decides target.«package» input_package).1 first)
+
+group_named : (texts : List Bytes) (asked : Asked) → operand_group texts ≡ Ok asked → AreOfInput (asked ∷ []) → names_input (asked ∷ []) ≡ true
+group_named texts asked is are =
+    let some = group_target (asked_of texts) asked is in
+    ap (λ (b : Bool). b || false) (named_first asked.targets some.0 some.1 some.2
+    (All-head (λ (line : Asked). All (λ (one : Target). one.«package» ≡ input_package) line.targets) asked [] are))
+
 pub operands_premise : (honest : Bool) (texts : List Bytes) (asked : Asked) (lines : List Asked) → operand_group texts ≡ Ok asked → lines ≡ asked ∷ []
-    → (honest ≡ true) ⊎ IfOk (operand_group texts) (λ asked. AreOfInput (asked ∷ [])) → (honest ≡ true) ⊎ AreOfInput lines
+    → (honest ≡ true) ⊎ IfOk (operand_group texts) (λ asked. AreOfInput (asked ∷ [])) → (honest ≡ true) ⊎ AreOfInputAndSome lines
 operands_premise honest texts asked lines is same (inl is_honest) = inl is_honest
-operands_premise honest texts asked lines is same (inr are) = inr (operands_of_input texts asked lines is same are)
+operands_premise honest texts asked lines is same (inr are) =
+    let all = operands_of_input texts asked lines is same are in
+    inr (all, ap names_input same ∙ group_named texts asked is (subst AreOfInput same all))
 
 -- rules of standard input that operands name
 pub names_given : (texts : List Bytes) (asked : Asked) (lines : List Asked) → operand_group texts ≡ Ok asked → lines ≡ asked ∷ []
@@ -114,15 +148,31 @@ lines_refused options of_input names lines world status out f g old new here nam
 
 pub lines_done : (options : Options) (of_input : Bool) (lines : List Asked) (folder : Folder) (known left_over : Option Bytes) (left : Left)
     → of_input && names_input lines ≡ false → (of_input ≡ false → known ≡ left_over)
-    → Performs options (all_steps lines) (record { folder = folder; known = left_over }) left
+    → LinesLeave options lines (record { folder = folder; known = left_over }) left
     → LinesOutcome options of_input lines (record { folder = folder; known = known }) left
-lines_done options of_input lines folder known left_over left neither same performs = inr (neither, (left_over, λ is. sym (same is), performs))
+lines_done options of_input lines folder known left_over left neither same leave = inr (neither, (left_over, λ is. sym (same is), leave))
 
 -- ---- rules of standard input, which has no journal
+
+not_both : (a b : Bool) → a && b ≡ false → b ≡ true → a ≡ false
+not_both false b neither is = refl
+not_both true b neither is = absurd (true≢false (sym is ∙ neither))
 
 pub both_true : (a b : Bool) → a && b ≡ true → (a ≡ true) × (b ≡ true)
 both_true true b both = (refl, both)
 both_true false b both = absurd (true≢false (sym both))
+
+pub lines_premise : (honest journals : Bool) (lines : List Asked) → journals && names_input lines ≡ false → (honest ≡ true) ⊎ AreOfInputAndSome lines
+    → (honest ≡ true) ⊎ ((journals ≡ false) × AreOfInput lines)
+lines_premise honest journals lines neither (inl is) = inl is
+lines_premise honest journals lines neither (inr named) = inr (not_both journals (names_input lines) neither named.1, named.0)
+
+pub plain_leaves : (options : Options) (lines : List Asked) (world : World) (left : Left) → options.journal ≡ false → LinesLeave options lines world left
+    → Performs options (all_steps lines) world left
+plain_leaves options lines world left plain (inl (named, is)) =
+    absurd (true≢false (sym named ∙ ap (λ (kept : Bool). kept && names_input lines) plain))
+plain_leaves options lines world left plain (inr (neither, inl (alone, performs))) = performs
+plain_leaves options lines world left plain (inr (neither, inr (kept, performs))) = absurd (true≢false (sym kept ∙ plain))
 
 -- ---- the text of a file of lines
 
@@ -206,8 +256,8 @@ pub words_premise : (honest : Bool) (words : List Bytes) (line : CommandLine) (g
 words_premise honest words line given is same (inl is_honest) = inl is_honest
 words_premise honest words line given is same (inr none) = inr (words_of_input words line given is same none)
 
-pub words_plain : (words : List Bytes) (line : CommandLine) → command_line_of words ≡ Ok line → KeepsNoJournal words → line.options.journal ≡ false
-words_plain words line is plain = subst (λ (it : Result CommandLine LineUsage). IfOk it (λ line. line.options.journal ≡ false)) is plain
+pub words_kept : (words : List Bytes) (line : CommandLine) → command_line_of words ≡ Ok line → KeepsJournals words → line.options.journal ≡ true
+words_kept words line is kept = subst (λ (it : Result CommandLine LineUsage). IfOk it (λ line. line.options.journal ≡ true)) is kept
 
 pub script_premise : (honest : Bool) (name : Bytes) → (honest ≡ true) ⊎ IsOfInput (script name) → honest ≡ true
 script_premise honest name (inl is_honest) = is_honest

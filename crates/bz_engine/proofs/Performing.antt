@@ -1,8 +1,9 @@
 -- What is left where steps and their ending are put together.
-use Rattle.std.proofs.Common.{◌≡◌, ◌⊎◌, inl, inr, ℕ, List, [], ◌++◌, Option, Bool, true, refl, subst, ◌∙◌}
+use Rattle.std.proofs.Common.{◌≡◌, ◌⊎◌, inl, inr, ℕ, List, [], ◌++◌, Option, Bool, true, false, true≢false, refl, sym, ap, subst, ◌∙◌}
 use Rattle.std.specs.Io.KnownBytes.{Appends}
 use Rattle.bz_items.specs.Characters.{Bytes}
 use Rattle.bz_files.specs.Folder.{Folder}
+use Rattle.bz_workspace.specs.Packages.{Used}
 use Rattle.bz_line.specs.Asked.{Asked}
 use Rattle.bz_line.specs.declared.line.Options.{Options}
 use Rattle.bz_ports.specs.Faults.{AppendsSome}
@@ -11,11 +12,11 @@ use Rattle.bz_ports.proofs.Outputs.{tells_more}
 use Rattle.bz_ports.specs.declared.exit.Cut.{Cut}
 use Rattle.bz_ports.specs.declared.exit.Cut.TheVariants.{Write}
 use Rattle.bz_engine.specs.Cuts.{AreCutBy}
-use Rattle.bz_engine.specs.Ending.{Left, Performs, LeftStands, WritesFiles, all_writings, fixed_lines, texts_out, status_of}
-use Rattle.bz_engine.specs.Outcome.{AreOfInput}
+use Rattle.bz_engine.specs.Ending.{Left, Performs, LeftStands, Writing, WritesFiles, all_fixed, all_kept, all_writings, fixed_lines, texts_out, status_of}
+use Rattle.bz_engine.specs.Keeping.{PerformsBeside, RunsBeside}
+use Rattle.bz_engine.specs.Outcome.{AreOfInput, StepsLeave}
 use Rattle.bz_engine.specs.Run.{World, Progress, nothing_done, RunsSteps}
 use Rattle.bz_engine.specs.Steps.{RunStep, all_steps, shows_input}
-use Rattle.bz_engine.proofs.HeldSteps.{writes_exist}
 use Rattle.bz_engine.proofs.InputSteps.{nothing_written}
 
 -- what is left, by the state behind the steps, the lines that they told and the folder behind all
@@ -27,45 +28,124 @@ left_by options steps told state folder = record {
   folder = folder;
 }
 
-pub performs : (options : Options) (steps : List RunStep) (world : World) (told : List Bytes) (state : Progress) (after : Folder)
-    → RunsSteps world options.keep_going steps nothing_done told state → WritesFiles (all_writings options.to_stdout state.used) world.folder after
-    → Performs options steps world (left_by options steps told state after)
-performs options steps world told state after runs writes =
-    record { told = told; state = state; runs = runs; output = refl; writes = writes; lines = refl; status = refl }
+-- what is left where journals are kept
+abbrev pub left_beside : Options → List RunStep → List Bytes → Progress → Folder → Left
+left_beside options steps told state folder = record {
+  output = state.printed ++ texts_out (shows_input steps) options.to_stdout state.used;
+  lines = told ++ fixed_lines options.quiet (all_kept state.used);
+  status = status_of state;
+  folder = folder;
+}
+
+performs : (options : Options) (steps : List RunStep) (world : World) (start : Progress) (told : List Bytes) (state : Progress) (before after : Folder)
+    → start ≡ nothing_done → RunsSteps world options.keep_going steps start told state → before ≡ world.folder
+    → WritesFiles (all_writings options.to_stdout state.used) before after → Performs options steps world (left_by options steps told state after)
+performs options steps world start told state before after begins runs same writes = record {
+  told = told;
+  state = state;
+  runs = subst (λ (from : Progress). RunsSteps world options.keep_going steps from told state) begins runs;
+  output = refl;
+  writes = subst (λ (folder : Folder). WritesFiles (all_writings options.to_stdout state.used) folder after) same writes;
+  lines = refl;
+  status = refl;
+}
+
+performs_beside : (options : Options) (steps : List RunStep) (world : World) (start : Progress) (told : List Bytes) (state : Progress) (mid after : Folder)
+    → start ≡ nothing_done → RunsBeside options.keep_going steps world.folder start told mid state → after ≡ mid
+    → PerformsBeside options steps world (left_beside options steps told state after)
+performs_beside options steps world start told state mid after begins runs still = record {
+  told = told;
+  state = state;
+  runs = subst (λ (folder : Folder). RunsBeside options.keep_going steps world.folder nothing_done told folder state) (sym still)
+      (subst (λ (from : Progress). RunsBeside options.keep_going steps world.folder from told mid state) begins runs);
+  output = refl;
+  lines = refl;
+  status = refl;
+}
+
+-- the files that a run writes, without journals and with them
+fixed_plain : (journals to_stdout : Bool) (used : List Used) → journals ≡ false → all_fixed journals to_stdout used ≡ all_writings to_stdout used
+fixed_plain journals to_stdout used plain = ap (λ (kept : Bool). all_fixed kept to_stdout used) plain
+
+fixed_beside : (journals to_stdout : Bool) (used : List Used) → journals ≡ true → all_fixed journals to_stdout used ≡ all_kept used
+fixed_beside journals to_stdout used kept = ap (λ (kept : Bool). all_fixed kept to_stdout used) kept
 
 -- The run is whole.
 pub performed : (options : Options) (steps : List RunStep) (world : World) (start : Progress) (told : List Bytes) (state : Progress) (shown : Bool) (status : ℕ)
     (before after : Folder) (out out' : Option Bytes) (f g h : ℕ) (old mid new : Option Bytes)
-    → start ≡ nothing_done → RunsSteps world options.keep_going steps start told state → shown ≡ shows_input steps → status ≡ status_of state
+    → options.journal ≡ false → start ≡ nothing_done → RunsSteps world options.keep_going steps start told state → shown ≡ shows_input steps → status ≡ status_of state
     → before ≡ world.folder → WritesFiles (all_writings options.to_stdout state.used) before after
     → Appends out out' (state.printed ++ texts_out shown options.to_stdout state.used)
-    → Tells f g old mid told → Tells g h mid new (fixed_lines options.quiet (all_writings options.to_stdout state.used))
-    → (left : Left) × Performs options steps world left × LeftStands left status after out out' f h old new
-performed options steps world start told state shown status before after out out' f g h old mid new begins runs shows exit same writes appends first last = (
+    → Tells f g old mid told → Tells g h mid new (fixed_lines options.quiet (all_fixed options.journal options.to_stdout state.used))
+    → (left : Left) × StepsLeave options steps world left × LeftStands left status after out out' f h old new
+performed options steps world start told state shown status before after out out' f g h old mid new plain begins runs shows exit same writes appends first last = (
   left_by options steps told state after,
-  performs options steps world told state after (subst (λ (from : Progress). RunsSteps world options.keep_going steps from told state) begins runs)
-      (subst (λ (folder : Folder). WritesFiles (all_writings options.to_stdout state.used) folder after) same writes),
+  inl (plain, performs options steps world start told state before after begins runs same writes),
   record {
     exit = exit;
     files = refl;
     output = subst (λ (show : Bool). Appends out out' (state.printed ++ texts_out show options.to_stdout state.used)) shows appends;
-    lines = tells_more f g h old mid new told (fixed_lines options.quiet (all_writings options.to_stdout state.used)) first last;
+    lines = tells_more f g h old mid new told (fixed_lines options.quiet (all_writings options.to_stdout state.used)) first
+        (subst (λ (files : List Writing). Tells g h mid new (fixed_lines options.quiet files)) (fixed_plain options.journal options.to_stdout state.used plain) last);
   },
 )
 
--- Standard output failed; where nothing but the run writes, what is behind its steps could all have been written.
+-- The run is whole, with journals.
+pub performed_beside : (options : Options) (steps : List RunStep) (world : World) (start : Progress) (told : List Bytes) (state : Progress) (shown : Bool) (status : ℕ)
+    (between after : Folder) (out out' : Option Bytes) (f g h : ℕ) (old mid new : Option Bytes)
+    → options.journal ≡ true → start ≡ nothing_done → RunsBeside options.keep_going steps world.folder start told between state → shown ≡ shows_input steps
+    → status ≡ status_of state → after ≡ between → Appends out out' (state.printed ++ texts_out shown options.to_stdout state.used)
+    → Tells f g old mid told → Tells g h mid new (fixed_lines options.quiet (all_fixed options.journal options.to_stdout state.used))
+    → (left : Left) × StepsLeave options steps world left × LeftStands left status after out out' f h old new
+performed_beside options steps world start told state shown status between after out out' f g h old mid new kept begins runs shows exit still appends first last = (
+  left_beside options steps told state after,
+  inr (kept, performs_beside options steps world start told state between after begins runs still),
+  record {
+    exit = exit;
+    files = refl;
+    output = subst (λ (show : Bool). Appends out out' (state.printed ++ texts_out show options.to_stdout state.used)) shows appends;
+    lines = tells_more f g h old mid new told (fixed_lines options.quiet (all_kept state.used)) first
+        (subst (λ (files : List Writing). Tells g h mid new (fixed_lines options.quiet files)) (fixed_beside options.journal options.to_stdout state.used kept) last);
+  },
+)
+
+-- Standard output failed, and files are as a whole run leaves them.
 pub broken_off : (options : Options) (steps : List RunStep) (world : World) (start : Progress) (told : List Bytes) (state : Progress) (shown : Bool)
-    (out out' : Option Bytes) → start ≡ nothing_done → RunsSteps world options.keep_going steps start told state → shown ≡ shows_input steps
+    (before after : Folder) (out out' : Option Bytes) → options.journal ≡ false → start ≡ nothing_done → RunsSteps world options.keep_going steps start told state
+    → shown ≡ shows_input steps → before ≡ world.folder → WritesFiles (all_writings options.to_stdout state.used) before after
     → AppendsSome out out' (state.printed ++ texts_out shown options.to_stdout state.used)
-    → (left : Left) × Performs options steps world left × AppendsSome out out' left.output
-broken_off options steps world start told state shown out out' begins runs shows appends =
-    let runs_so : RunsSteps world options.keep_going steps nothing_done told state =
-    subst (λ (from : Progress). RunsSteps world options.keep_going steps from told state) begins runs in
-    let after = writes_exist options.to_stdout world options.keep_going steps told state runs_so in (
-      left_by options steps told state after.0,
-      performs options steps world told state after.0 runs_so after.1,
-      subst (λ (show : Bool). AppendsSome out out' (state.printed ++ texts_out show options.to_stdout state.used)) shows appends,
-    )
+    → (left : Left) × StepsLeave options steps world left × AppendsSome out out' left.output × (after ≡ left.folder)
+broken_off options steps world start told state shown before after out out' plain begins runs shows same writes appends = (
+  left_by options steps told state after,
+  inl (plain, performs options steps world start told state before after begins runs same writes),
+  subst (λ (show : Bool). AppendsSome out out' (state.printed ++ texts_out show options.to_stdout state.used)) shows appends,
+  refl,
+)
+
+pub broken_beside : (options : Options) (steps : List RunStep) (world : World) (start : Progress) (told : List Bytes) (state : Progress) (shown : Bool)
+    (between after : Folder) (out out' : Option Bytes) → options.journal ≡ true → start ≡ nothing_done
+    → RunsBeside options.keep_going steps world.folder start told between state → shown ≡ shows_input steps → after ≡ between
+    → AppendsSome out out' (state.printed ++ texts_out shown options.to_stdout state.used)
+    → (left : Left) × StepsLeave options steps world left × AppendsSome out out' left.output × (after ≡ left.folder)
+broken_beside options steps world start told state shown between after out out' kept begins runs shows still appends = (
+  left_beside options steps told state after,
+  inr (kept, performs_beside options steps world start told state between after begins runs still),
+  subst (λ (show : Bool). AppendsSome out out' (state.printed ++ texts_out show options.to_stdout state.used)) shows appends,
+  refl,
+)
+
+pub told_apart : (b : Bool) → (b ≡ false) ⊎ (b ≡ true)
+told_apart false = inl refl
+told_apart true = inr refl
+
+-- what is asked for where journals are not kept, and where they are
+pub plain_premise : (honest journals : Bool) (Premise : Type 0) → (honest ≡ true) ⊎ ((journals ≡ false) × Premise) → (honest ≡ true) ⊎ Premise
+plain_premise honest journals Premise (inl is) = inl is
+plain_premise honest journals Premise (inr holds) = inr holds.1
+
+pub kept_premise : (honest journals : Bool) (Premise : Type 0) → journals ≡ true → (honest ≡ true) ⊎ ((journals ≡ false) × Premise) → honest ≡ true
+kept_premise honest journals Premise kept (inl is) = is
+kept_premise honest journals Premise kept (inr holds) = absurd (true≢false (sym kept ∙ holds.0))
 
 -- Files that are not honest are only asked for where none is written.
 pub honest_still : (honest honest' to_stdout : Bool) (world : World) (keep_going : Bool) (lines : List Asked) (start : Progress) (told : List Bytes) (state : Progress)

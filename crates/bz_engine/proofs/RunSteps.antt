@@ -9,11 +9,13 @@ use Rattle.bz_ports.specs.declared.exit.Cut.{Cut}
 use Rattle.bz_ports.specs.declared.exit.Cut.TheVariants as c
 use Rattle.bz_ports.proofs.Outputs.{counts_more, tells_more}
 use Rattle.bz_ports.proofs.Written.{left-cons}
-use Rattle.bz_engine.specs.Calls.{RunSpot, DoesBetween, IsUnread, Proceeds}
+use Rattle.bz_engine.specs.Calls.{RunSpot, DoesBetween, IsUnread, KeepsBetween, Proceeds}
 use Rattle.bz_engine.specs.Cuts.{AreCutBy, IsLeft, ReadsOnce}
 use Rattle.bz_ports.specs.Exits.{first_cut}
 use Rattle.bz_engine.proofs.CutSteps.{cut_more, neither_read, whole_before, whole_behind}
 use Rattle.bz_engine.proofs.ReadSteps.{reads_none, reads_more}
+use Rattle.bz_engine.proofs.StandSteps.{runs_stand}
+use Rattle.bz_engine.specs.Keeping.{AllStand, DoesBeside, RunsBeside}
 use Rattle.bz_engine.specs.Run.{World, Progress, Does, RunsSteps, ends_run}
 use Rattle.bz_engine.specs.Steps.{RunStep}
 
@@ -55,6 +57,48 @@ pub one_runs : (world : World) (keep_going : Bool) (step : RunStep) (state after
     → Does world step state lines after → RunsSteps world keep_going (step ∷ []) state lines after
 one_runs world keep_going step state after lines on does = inr (on, (after, lines, [], does, (refl, refl), sym (append-nil lines)))
 
+-- ---- steps with journals
+
+-- a run that has ended stays ended
+beside_ended : (keep_going : Bool) (steps : List RunStep) (folder folder' : Folder) (state after : Progress) (lines : List (List ℕ)) → ends_run keep_going state ≡ true
+    → RunsBeside keep_going steps folder state lines folder' after → (lines ≡ []) × (folder' ≡ folder) × (after ≡ state)
+beside_ended keep_going [] folder folder' state after lines ended runs = runs
+beside_ended keep_going (step ∷ steps) folder folder' state after lines ended (inl stays) = (stays.1, stays.2, stays.3)
+beside_ended keep_going (step ∷ steps) folder folder' state after lines ended (inr goes) = absurd (let on = goes.0 in cc)
+
+ended_beside : (keep_going : Bool) (steps : List RunStep) (folder : Folder) (state : Progress) → ends_run keep_going state ≡ true
+    → RunsBeside keep_going steps folder state [] folder state
+ended_beside keep_going [] folder state ended = (refl, refl, refl)
+ended_beside keep_going (step ∷ steps) folder state ended = inl (ended, refl, refl, refl)
+
+beside_more : (keep_going : Bool) (xs ys : List RunStep) (folder between folder' : Folder) (state mid after : Progress) (lines more : List (List ℕ))
+    → RunsBeside keep_going xs folder state lines between mid → RunsBeside keep_going ys between mid more folder' after
+    → RunsBeside keep_going (xs ++ ys) folder state (lines ++ more) folder' after
+beside_more keep_going [] ys folder between folder' state mid after lines more first last =
+    subst (λ (told : List (List ℕ)). RunsBeside keep_going ys folder state (told ++ more) folder' after) (sym first.0)
+    (subst (λ (f : Folder). RunsBeside keep_going ys f state more folder' after) first.1
+    (subst (λ (s : Progress). RunsBeside keep_going ys between s more folder' after) first.2 last))
+beside_more keep_going (x ∷ xs) ys folder between folder' state mid after lines more (inl stays) last =
+    let none = beside_ended keep_going ys between folder' mid after more (ap (ends_run keep_going) stays.3 ∙ stays.0) last in
+    inl (stays.0, ap (λ (told : List (List ℕ)). told ++ more) stays.1 ∙ none.0, none.1 ∙ stays.2, none.2 ∙ stays.3)
+beside_more keep_going (x ∷ xs) ys folder between folder' state mid after lines more (inr goes) last = inr (
+  goes.0,
+  (
+    goes.1.0,
+    goes.1.1,
+    goes.1.2,
+    goes.1.3 ++ more,
+    goes.1.4,
+    beside_more keep_going xs ys goes.1.0 between folder' goes.1.1 mid after goes.1.3 more goes.1.5 last,
+    ap (λ (told : List (List ℕ)). told ++ more) goes.1.6 ∙ append_assoc goes.1.2 goes.1.3 more,
+  ),
+)
+
+pub one_beside : (keep_going : Bool) (step : RunStep) (folder folder' : Folder) (state after : Progress) (lines : List (List ℕ)) → ends_run keep_going state ≡ false
+    → DoesBeside step folder state lines folder' after → RunsBeside keep_going (step ∷ []) folder state lines folder' after
+one_beside keep_going step folder folder' state after lines on does =
+    inr (on, (folder', after, lines, [], does, (refl, refl, refl), sym (append-nil lines)))
+
 -- ---- parts of a run
 
 -- steps are run from one spot to another
@@ -69,10 +113,18 @@ Passes folder keep_going steps left old new = (known : Option (List ℕ)) → Is
     × IsLeft known new.state.used new.left
     × Tells old.faults new.faults old.told new.told lines
 
+-- the same with journals, and each open file stands
+abbrev pub Continues : Bool → List RunStep → List RunStep → RunSpot → RunSpot → Type 0
+Continues keep_going steps left old new = AllStand old.folder old.state.used → (lines : List (List ℕ)) × AllStand new.folder new.state.used
+    × ((more : List (List ℕ)) (folder' : Folder) (after : Progress) → RunsBeside keep_going left new.folder new.state more folder' after
+    → RunsBeside keep_going steps old.folder old.state (lines ++ more) folder' after)
+    × Tells old.faults new.faults old.told new.told lines
+
 -- What was done of steps, by whether journals are kept. (A premise besides honest files, and why they were cut.)
 pub record Part (journals : Bool) (Premise : Type 0) (keep_going : Bool) (steps left : List RunStep) (why : Cut) (old new : RunSpot) : Type 0 where
   pub runs : journals ≡ false → (old.honest ≡ true) ⊎ Premise → why ≡ c.Whole → Passes old.folder keep_going steps left old new
   pub folder : journals ≡ false → (old.honest ≡ true) ⊎ Premise → new.folder ≡ old.folder
+  pub keeps : journals ≡ true → old.honest ≡ true → why ≡ c.Whole → Continues keep_going steps left old new
   pub unread : journals ≡ true → IsUnread why old new
   pub cut : AreCutBy why old.reads new.reads old.files new.files
   pub reads : Counts old.reads new.reads
@@ -82,7 +134,8 @@ pub record Part (journals : Bool) (Premise : Type 0) (keep_going : Bool) (steps 
 
 -- steps are done
 abbrev pub Done : Bool → Type 0 → Bool → List RunStep → Cut → RunSpot → RunSpot → Type 0
-Done journals Premise keep_going steps why old new = Proceeds journals Premise (λ world. RunsSteps world keep_going steps) why old new
+Done journals Premise keep_going steps why old new =
+    Proceeds journals Premise (λ world. RunsSteps world keep_going steps) (RunsBeside keep_going steps) why old new
 
 counts_same : (count : ℕ) → Counts count count
 counts_same count = record { grows = omega arith; rises = inl refl }
@@ -92,6 +145,7 @@ pub part_none : (journals : Bool) (Premise : Type 0) (keep_going : Bool) (steps 
 part_none journals Premise keep_going steps spot = record {
   runs = λ plain honest whole known left. ([], (λ more after runs. runs), left, (refl, refl));
   folder = λ plain honest. refl;
+  keeps = λ kept honest whole stand. ([], stand, (λ more folder' after runs. runs), (refl, refl));
   unread = λ kept. (refl, refl, (λ is. absurd (cc is)));
   cut = (refl, refl);
   reads = counts_same spot.reads;
@@ -114,6 +168,21 @@ passes_more folder folder' keep_going steps left part rest old mid new split sam
       tells_more old.faults mid.faults new.faults old.told mid.told new.told before.0 then.0 before.3 then.3,
     )
 
+continues_more : (keep_going : Bool) (steps left part rest : List RunStep) (old mid new : RunSpot) → left ≡ part ++ rest
+    → Continues keep_going steps left old mid → KeepsBetween (RunsBeside keep_going part) mid new → Continues keep_going steps rest old new
+continues_more keep_going steps left part rest old mid new split continues goes stand =
+    let before = continues stand in
+    let then = goes before.1 in (
+      before.0 ++ then.0,
+      runs_stand keep_going part mid.folder new.folder mid.state new.state then.0 then.1 before.1,
+      (λ more folder' after runs. subst (λ (told : List (List ℕ)). RunsBeside keep_going steps old.folder old.state told folder' after)
+          (sym (append_assoc before.0 then.0 more))
+          (before.2 (then.0 ++ more) folder' after
+          (subst (λ (all : List RunStep). RunsBeside keep_going all mid.folder mid.state (then.0 ++ more) folder' after) (sym split)
+          (beside_more keep_going part rest mid.folder new.folder folder' mid.state new.state after then.0 more then.1 runs)))),
+      tells_more old.faults mid.faults new.faults old.told mid.told new.told before.0 then.0 before.3 then.2,
+    )
+
 still : (Premise Now : Type 0) (honest honest' : Bool) → honest' ≡ honest → (Premise → Now) → (honest ≡ true) ⊎ Premise → (honest' ≡ true) ⊎ Now
 still Premise Now honest honest' same implies (inl is) = inl (same ∙ is)
 still Premise Now honest honest' same implies (inr holds) = inr (implies holds)
@@ -127,6 +196,8 @@ part_more journals Premise Now keep_going steps left part rest cut later old mid
       (before.runs plain honest (whole_before cut later whole))
       (then.does plain (still Premise Now old.honest mid.honest before.honest implies honest) (whole_behind cut later whole));
   folder = λ plain honest. then.folder plain (still Premise Now old.honest mid.honest before.honest implies honest) ∙ before.folder plain honest;
+  keeps = λ kept honest whole. continues_more keep_going steps left part rest old mid new split (before.keeps kept honest (whole_before cut later whole))
+      (then.keeps kept (before.honest ∙ honest) (whole_behind cut later whole));
   unread = λ kept. let first = before.unread kept in let more = then.unread kept in
       (more.0 ∙ first.0, more.1 ∙ first.1, neither_read cut later first.2 more.2);
   cut = cut_more cut later old.reads mid.reads new.reads old.files mid.files new.files before.cut then.cut before.reads then.reads before.counts then.counts;
@@ -148,10 +219,22 @@ passes_all folder keep_going steps left old new none passes known remains =
       before.3,
     )
 
+continues_all : (keep_going : Bool) (steps left : List RunStep) (old new : RunSpot) → RunsBeside keep_going left new.folder new.state [] new.folder new.state
+    → Continues keep_going steps left old new → KeepsBetween (RunsBeside keep_going steps) old new
+continues_all keep_going steps left old new none continues stand =
+    let before = continues stand in (
+      before.0,
+      subst (λ (told : List (List ℕ)). RunsBeside keep_going steps old.folder old.state told new.folder new.state) (append-nil before.0)
+          (before.2 [] new.folder new.state none),
+      before.3,
+    )
+
 part_done : (journals : Bool) (Premise : Type 0) (keep_going : Bool) (steps left : List RunStep) (cut : Cut) (old new : RunSpot)
     → ((known : Option (List ℕ)) → RunsSteps (record { folder = old.folder; known = known }) keep_going left new.state [] new.state)
+    → RunsBeside keep_going left new.folder new.state [] new.folder new.state
     → Part journals Premise keep_going steps left cut old new → Done journals Premise keep_going steps cut old new
-part_done journals Premise keep_going steps left cut old new none part = record {
+part_done journals Premise keep_going steps left cut old new none none' part = record {
+  keeps = λ kept honest whole. continues_all keep_going steps left old new none' (part.keeps kept honest whole);
   does = λ plain honest whole. passes_all old.folder keep_going steps left old new none (part.runs plain honest whole);
   unread = part.unread;
   folder = part.folder;
@@ -167,12 +250,14 @@ pub all_done : (journals : Bool) (Premise : Type 0) (keep_going : Bool) (steps l
     → Part journals Premise keep_going steps left cut old new → Done journals Premise keep_going steps cut old new
 all_done journals Premise keep_going steps left cut old new none = part_done journals Premise keep_going steps left cut old new (λ known.
     subst (λ (all : List RunStep). RunsSteps (record { folder = old.folder; known = known }) keep_going all new.state [] new.state) (sym none) (refl, refl))
+    (subst (λ (all : List RunStep). RunsBeside keep_going all new.folder new.state [] new.folder new.state) (sym none) (refl, refl, refl))
 
 -- A step failed, so those that are left do nothing.
 pub done_early : (journals : Bool) (Premise : Type 0) (keep_going : Bool) (steps left : List RunStep) (cut : Cut) (old new : RunSpot) → ends_run keep_going new.state ≡ true
     → Part journals Premise keep_going steps left cut old new → Done journals Premise keep_going steps cut old new
 done_early journals Premise keep_going steps left cut old new ended = part_done journals Premise keep_going steps left cut old new (λ known.
     ended_runs (record { folder = old.folder; known = known }) keep_going left new.state ended)
+    (ended_beside keep_going left new.folder new.state ended)
 
 -- ---- a loop over a list, which it holds under another name
 

@@ -1,7 +1,7 @@
 -- How runs end, for the worked rows.
 use Rattle.std.specs.Str.{is_utf8, chars}
 use lib.Utf8.{encode}
-use Rattle.std.proofs.Common.{◌≡◌, inl, inr, ◌∙◌, ℕ, ◌≤◌, List, [], ◌∷◌, ◌++◌, length, codes, leb-true, Bool, true, false, Option, Some, None, Result, Ok, Err, refl, sym, ap, subst}
+use Rattle.std.proofs.Common.{◌≡◌, ◌&&◌, inl, inr, ◌∙◌, ℕ, ◌≤◌, List, [], ◌∷◌, ◌++◌, length, codes, leb-true, Bool, true, false, Option, Some, None, Result, Ok, Err, refl, sym, ap, subst}
 use Rattle.std.proofs.lemmas.Str.{IsUtf8-from_is_utf8}
 use Rattle.std.specs.FinMap.{get}
 use Rattle.std.specs.Fmt.{digits}
@@ -26,11 +26,11 @@ use Rattle.bz_words.specs.declared.command.RuleOperation.TheVariants as wr
 use Rattle.bz_words.specs.declared.fault.CommandFault.TheVariants.{Unknown, Arguments}
 use Rattle.bz_workspace.specs.Found.{found_in, found_at, first_name, second_name}
 use Rattle.bz_workspace.specs.Opens.{opened_fresh}
-use Rattle.bz_workspace.specs.Packages.{Opened, Used, package_number, file_at}
+use Rattle.bz_workspace.specs.Packages.{opened_with, Opened, Used, package_number, file_at}
 use Rattle.bz_engine.specs.Ending.{Left, Performs}
 use Rattle.bz_engine.specs.Outcome.{WordsOutcome, LineOutcome, ScriptOutcome, unused}
 use Rattle.bz_engine.specs.Run.{World, Progress, Finds, Uses, Answers, Does, RunsSteps, nothing_done, told_of, answered, ends_run}
-use Rattle.bz_engine.specs.Steps.{RunStep, all_steps}
+use Rattle.bz_engine.specs.Steps.{RunStep, all_steps, names_input}
 use Rattle.bz_engine.specs.Told.{IsUsageLine}
 use Rattle.bz_engine.specs.WorkedParts.{text_read, text_made}
 use Rattle.bz_engine.specs.WorkedRuns.{WorkedUsage, WorkedWholeRuns, IsMade, HasBuild, OverBuild, BesideNone, OverInput}
@@ -143,7 +143,7 @@ abbrev set_history : Bytes → History
 set_history current = changed set_text (opened current text_read) text_made
 
 abbrev file_with : Bytes → Bytes → History → Used
-file_with current name history = record { «package» = current; file = Some (record { name = name; read = text_read; history = history }) }
+file_with current name history = record { «package» = current; file = Some (opened_with name text_read history) }
 
 abbrev none_used : Used
 none_used = record { «package» = codes "none"; file = None }
@@ -183,10 +183,11 @@ one_step : (world : World) (keep : Bool) (step : RunStep) (steps : List RunStep)
 one_step world keep step steps before mid after first rest going done more = inr (going, (mid, first, rest, done, more, refl))
 
 run_of : (words texts : List Bytes) (options : Options) (asked : Asked) (world : World) (left : Left)
-    → command_line_of words ≡ Ok (record { options = options; given = operands texts }) → operand_group texts ≡ Ok asked
+    → options.journal ≡ false → command_line_of words ≡ Ok (record { options = options; given = operands texts }) → operand_group texts ≡ Ok asked
     → Performs options (all_steps (asked ∷ [])) world left → WordsOutcome words world left
-run_of words texts options asked world left is group done =
-    subst (λ (whole : Result CommandLine LineUsage). LineOutcome whole world left) (sym is) (inr (asked, group, done))
+run_of words texts options asked world left alone is group done =
+    subst (λ (whole : Result CommandLine LineUsage). LineOutcome whole world left) (sym is)
+    (inr (asked, group, inr (ap (λ (kept : Bool). kept && names_input (asked ∷ [])) alone, inl (alone, done))))
 
 -- ---- the first step, `set size small` or `undo`, in a file that is found
 
@@ -203,9 +204,9 @@ set_first world current name finds is =
 set_back : (world : World) (current name : Bytes) (count : ℕ) (text : Bytes) (answer : Answer) (history : History)
     → package_number current (after_set current name).used ≡ Some 0 → length text ≤ note_limit → (answer, history) ≡ undone count (set_history current)
     → Does world (step_at current (undo count text)) (after_set current name) (told_of name text answer)
-    (answered 0 (record { name = name; read = text_read; history = set_history current }) answer history (after_set current name))
+    (answered 0 (opened_with name text_read (set_history current)) answer history (after_set current name))
 set_back world current name count text answer history there short is =
-    let file : Opened = record { name = name; read = text_read; history = set_history current } in
+    let file : Opened = opened_with name text_read (set_history current) in
     does world (step_at current (undo count text)) (after_set current name) (answered 0 file answer history (after_set current name)) 0
     (after_set current name).used [] (told_of name text answer) (inl (there, refl, refl))
     (goes_back current count text 0 file (after_set current name) answer history short is)
@@ -288,20 +289,20 @@ unfolding clap_on_literals
 over_build world has is =
     let written : Folder = with_file world.folder build text_made in
     let asked : Asked = asked_of (set_size ∷ []) (rule_x [] ∷ []) in (
-      run_of (set_text ∷ rule_word ∷ []) (set_text ∷ rule_word ∷ []) plain asked world (left_of [] made_lines 0 written) refl refl
+      run_of (set_text ∷ rule_word ∷ []) (set_text ∷ rule_word ∷ []) plain asked world (left_of [] made_lines 0 written) refl refl refl
           (record { told = []; state = after_set [] build; runs = run_set world false has is; output = refl; writes = (has.1, written, (λ name other. refl), refl); lines = refl; status = refl }),
-      run_of (codes "--quiet" ∷ set_text ∷ rule_word ∷ []) (set_text ∷ rule_word ∷ []) (record plain { quiet = true }) asked world (left_of [] [] 0 written) refl refl
+      run_of (codes "--quiet" ∷ set_text ∷ rule_word ∷ []) (set_text ∷ rule_word ∷ []) (record plain { quiet = true }) asked world (left_of [] [] 0 written) refl refl refl
           (record { told = []; state = after_set [] build; runs = run_set world false has is; output = refl; writes = (has.1, written, (λ name other. refl), refl); lines = refl; status = refl }),
-      run_of (codes "--stdout" ∷ set_text ∷ rule_word ∷ []) (set_text ∷ rule_word ∷ []) (record plain { to_stdout = true }) asked world (left_of text_made [] 0 world.folder) refl refl
+      run_of (codes "--stdout" ∷ set_text ∷ rule_word ∷ []) (set_text ∷ rule_word ∷ []) (record plain { to_stdout = true }) asked world (left_of text_made [] 0 world.folder) refl refl refl
           (record { told = []; state = after_set [] build; runs = run_set world false has is; output = refl; writes = refl; lines = refl; status = refl }),
       run_of (set_text ∷ undo_text ∷ rule_word ∷ []) (set_text ∷ undo_text ∷ rule_word ∷ []) plain (asked_of (set_size ∷ undo 1 undo_text ∷ []) (rule_x [] ∷ []))
-          world (left_of [] [] 3 world.folder) refl refl
+          world (left_of [] [] 3 world.folder) refl refl refl
           (record { told = []; state = after_back [] build; runs = run_set_undo world [] build refl (finds_build world has) is; output = refl; writes = refl; lines = refl; status = refl }),
       run_of (set_text ∷ codes "undo 2" ∷ rule_word ∷ []) (set_text ∷ codes "undo 2" ∷ rule_word ∷ []) plain
-          (asked_of (set_size ∷ undo 2 (codes "undo 2") ∷ []) (rule_x [] ∷ [])) world (left_of [] (refused_two ∷ made_lines) 2 written) refl refl
+          (asked_of (set_size ∷ undo 2 (codes "undo 2") ∷ []) (rule_x [] ∷ [])) world (left_of [] (refused_two ∷ made_lines) 2 written) refl refl refl
           (record { told = refused_two ∷ []; state = after_two; runs = run_two world has is; output = refl; writes = (has.1, written, (λ name other. refl), refl); lines = refl; status = refl }),
       run_of (undo_text ∷ rule_word ∷ []) (undo_text ∷ rule_word ∷ []) plain (asked_of (undo 1 undo_text ∷ []) (rule_x [] ∷ [])) world
-          (left_of [] (refused_one ∷ []) 2 world.folder) refl refl
+          (left_of [] (refused_one ∷ []) 2 world.folder) refl refl refl
           (record { told = refused_one ∷ []; state = after_one; runs = run_one world has is; output = refl; writes = refl; lines = refl; status = refl }),
     )
 
@@ -342,7 +343,7 @@ beside_none world has gone is =
     let keep : Options = record plain { keep_going = true } in
     let texts : List Bytes = set_text ∷ codes "//none:x" ∷ rule_word ∷ [] in
     let asked : Asked = asked_of (set_size ∷ []) (rule_x none ∷ rule_x [] ∷ []) in (
-      run_of texts texts plain asked world (left_of [] (none_line ∷ []) 2 world.folder) refl refl
+      run_of texts texts plain asked world (left_of [] (none_line ∷ []) 2 world.folder) refl refl refl
           (record {
             told = none_line ∷ [];
             state = after_none;
@@ -353,7 +354,7 @@ beside_none world has gone is =
             runs = one_step world false (step_at none set_size) (step_at [] set_size ∷ []) nothing_done after_none after_none (none_line ∷ []) [] refl
                 (fails_first world set_size gone) (inl (refl, refl, refl));
           }),
-      run_of (codes "-k" ∷ texts) texts keep asked world (left_of [] (none_line ∷ made_lines) 2 written) refl refl
+      run_of (codes "-k" ∷ texts) texts keep asked world (left_of [] (none_line ∷ made_lines) 2 written) refl refl refl
           (record {
             told = none_line ∷ [];
             state = after_both;
@@ -365,7 +366,7 @@ beside_none world has gone is =
                 (one_step world true (step_at [] set_size) [] after_none after_both after_both [] [] refl (set_next world has is) (refl, refl));
           }),
       run_of (codes "-k" ∷ undo_text ∷ codes "redo" ∷ codes "//none:x" ∷ []) (undo_text ∷ codes "redo" ∷ codes "//none:x" ∷ []) keep
-          (asked_of (undo 1 undo_text ∷ redo ∷ []) (rule_x none ∷ [])) world (left_of [] (none_line ∷ []) 2 world.folder) refl refl
+          (asked_of (undo 1 undo_text ∷ redo ∷ []) (rule_x none ∷ [])) world (left_of [] (none_line ∷ []) 2 world.folder) refl refl refl
           (record {
             told = none_line ∷ [];
             state = after_none;
@@ -390,7 +391,7 @@ over_input folder is =
     let world : World = record { folder = folder; known = Some text_read } in
     let finds : Finds world dash (Some (stdin, text_read)) = inl (refl, (text_read, refl, refl)) in (
       run_of (codes "--" ∷ set_text ∷ codes "-:x" ∷ []) (set_text ∷ codes "-:x" ∷ []) plain (asked_of (set_size ∷ []) (rule_x dash ∷ [])) world
-          (left_of text_made [] 0 folder) refl refl
+          (left_of text_made [] 0 folder) refl refl refl
           (record {
             told = [];
             state = after_set dash stdin;
@@ -401,7 +402,7 @@ over_input folder is =
             runs = one_step world false (step_at dash set_size) [] nothing_done (after_set dash stdin) (after_set dash stdin) [] [] refl (set_first world dash stdin finds is) (refl, refl);
           }),
       run_of (codes "--" ∷ set_text ∷ undo_text ∷ codes "-:x" ∷ []) (set_text ∷ undo_text ∷ codes "-:x" ∷ []) plain
-          (asked_of (set_size ∷ undo 1 undo_text ∷ []) (rule_x dash ∷ [])) world (left_of text_read [] 3 folder) refl refl
+          (asked_of (set_size ∷ undo 1 undo_text ∷ []) (rule_x dash ∷ [])) world (left_of text_read [] 3 folder) refl refl refl
           (record {
             told = [];
             state = after_back dash stdin;

@@ -13,6 +13,7 @@ use Rattle.bz_ports.specs.declared.sink.Sink.{Ghosts as SinkOf}
 use Rattle.bz_ports.specs.declared.source.Source.{Ghosts as SourceOf}
 use Rattle.bz_engine.specs.Cuts.{AreCutBy, IsEndedBy, IsLeft, CutsFiles, ReadsOnce}
 use Rattle.bz_engine.specs.Ending.{Left, LeftStands}
+use Rattle.bz_engine.specs.Keeping.{AllStand}
 use Rattle.bz_engine.specs.Run.{World, Progress}
 use Rattle.bz_engine.specs.Shown.{progress_in}
 use Rattle.bz_engine.specs.declared.run.Run.{Run}
@@ -51,7 +52,11 @@ world_of source files input held = world_with files held (source.remaining input
 abbrev pub KeepsFolder : {F : Type 0} → FilesOf F → F → F → Type 0
 KeepsFolder files old new = Elapses (files.moment old) (files.moment new) (files.since old) (files.since new) (λ now. now ≡ files.folder old)
 
--- Nothing is read of standard input. (Why a run is cut.)
+-- Nothing is read of standard input, and it has not failed.
+abbrev pub IsStill : {R : Type 0} → SourceOf R → R → R → Type 0
+IsStill source old new = (source.remaining new ≡ source.remaining old) × (source.faults new ≡ source.faults old)
+
+-- The same, and it cuts no run. (Why a run is cut.)
 abbrev pub ReadsNothing : {R : Type 0} → SourceOf R → Cut → R → R → Type 0
 ReadsNothing source cut old new = (source.remaining new ≡ source.remaining old) × (source.faults new ≡ source.faults old) × (cut ≢ c.Read)
 
@@ -109,12 +114,20 @@ DoesBetween folder Does old new = (known : Option Bytes) → IsLeft known old.st
 abbrev pub IsUnread : Cut → RunSpot → RunSpot → Type 0
 IsUnread why old new = (new.left ≡ old.left) × (new.reads ≡ old.reads) × (why ≢ c.Read)
 
--- What a run does from one spot to another, by whether it keeps journals, and why it is cut. Where files are not honest the premise is
+-- This is done from one spot to another, and in the folder, where each open file stands; and its lines are told.
+abbrev pub KeepsBetween : (Folder → Progress → List Bytes → Folder → Progress → Type 0) → RunSpot → RunSpot → Type 0
+KeepsBetween Keeps old new = AllStand old.folder old.state.used → (lines : List Bytes)
+    × Keeps old.folder old.state lines new.folder new.state
+    × Tells old.faults new.faults old.told new.told lines
+
+-- What a run does from one spot to another, without journals or with them, and why it is cut. Where files are not honest the premise is
 -- that only standard input is used. With journals standard input isn't read.
-pub record Proceeds (journals : Bool) (Premise : Type 0) (Does : World → Progress → List Bytes → Progress → Type 0) (why : Cut) (old new : RunSpot) : Type 0 where
+pub record Proceeds (journals : Bool) (Premise : Type 0) (Does : World → Progress → List Bytes → Progress → Type 0)
+    (Keeps : Folder → Progress → List Bytes → Folder → Progress → Type 0) (why : Cut) (old new : RunSpot) : Type 0 where
   pub does : journals ≡ false → (old.honest ≡ true) ⊎ Premise → why ≡ c.Whole → DoesBetween old.folder Does old new
   pub folder : journals ≡ false → (old.honest ≡ true) ⊎ Premise → new.folder ≡ old.folder
   pub input : journals ≡ false → Premise → ReadsOnce why old.state new.state
+  pub keeps : journals ≡ true → old.honest ≡ true → why ≡ c.Whole → KeepsBetween Keeps old new
   pub unread : journals ≡ true → IsUnread why old new
   pub cut : AreCutBy why old.reads new.reads old.files new.files
   pub reads : Counts old.reads new.reads

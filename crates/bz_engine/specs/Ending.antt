@@ -69,6 +69,25 @@ WritesFiles (file ∷ files) before after =
     (get before file.name ≡ Some file.held)
     × (mid : Folder) × SameBut (λ other. other ≡ new_name file.name) (with_file before file.name file.bytes) mid × WritesFiles files mid after
 
+-- a file that was written with its journal: its name, the bytes that were read of it, and those that it was given last
+abbrev pub file_kept : Option Opened → List Writing
+file_kept None = []
+file_kept (Some file) = if file.written then record { name = file.name; held = file.read; bytes = present file.history } ∷ [] else []
+
+abbrev pub kept_of : Used → List Writing
+kept_of used = file_kept used.file
+
+-- the files that were written with their journals, in order of first use
+abbrev pub all_kept : List Used → List Writing
+all_kept used = flat_map kept_of used
+
+-- the files that a run writes: with their journals behind each step, or at the end
+abbrev pub fixed_of : Bool → Bool → Used → List Writing
+fixed_of journals to_stdout used = if journals then kept_of used else writing_of to_stdout used
+
+abbrev pub all_fixed : Bool → Bool → List Used → List Writing
+all_fixed journals to_stdout used = flat_map (fixed_of journals to_stdout) used
+
 abbrev pub fixed_lines : Bool → List Writing → List Bytes
 fixed_lines quiet files = if quiet then [] else map (λ (file : Writing). fixed_line file.name) files
 

@@ -12,7 +12,7 @@ use Rattle.bz_line.specs.Refused.{IsPatternFault, IsFirstRefused, IsFirstFault}
 use Rattle.bz_line.specs.Script.{lines_in}
 use Rattle.bz_ports.specs.Told.{fault_line}
 use Rattle.bz_engine.specs.Ending.{Left}
-use Rattle.bz_engine.specs.Outcome.{WordsOutcome, IsScript, unused}
+use Rattle.bz_engine.specs.Outcome.{KeepsNoJournal, WordsOutcome, IsScript, unused}
 use Rattle.bz_engine.specs.Run.{World, Finds}
 use Rattle.bz_engine.specs.Told.{operand_line}
 
@@ -69,7 +69,7 @@ GivenTellsPattern (script name) world left =
 abbrev pub TellsPattern : List Bytes → World → Left → Type 0
 TellsPattern words world left = (line : CommandLine) × (command_line_of words ≡ Ok line) × GivenTellsPattern line.given world left
 
--- Two outcomes of words are the same, unless one of them is that a pattern is refused.
+-- Two outcomes of words that don't ask for journals are the same, unless one of them is that a pattern is refused.
 abbrev pub OutcomesAreExact : Type 0
-OutcomesAreExact = (words : List Bytes) (world : World) (bytes : Bytes) (left other : Left) → world.known ≡ Some bytes → WordsOutcome words world left
+OutcomesAreExact = (words : List Bytes) (world : World) (bytes : Bytes) (left other : Left) → KeepsNoJournal words → world.known ≡ Some bytes → WordsOutcome words world left
     → WordsOutcome words world other → TellsPattern words world left ⊎ TellsPattern words world other ⊎ SameLeft words world left other

@@ -2,6 +2,7 @@ pub mod Calls
 pub mod Cuts
 pub mod Ending
 pub mod Exact
+pub mod Keeping
 pub mod Outcome
 pub mod Run
 pub mod Shown

@@ -13,21 +13,35 @@ use Rattle.bz_line.specs.Script.{script_of}
 use Rattle.bz_line.specs.declared.line.Options.{Options}
 use Rattle.bz_ports.specs.Told.{stdin, named_line, fault_line}
 use Rattle.bz_engine.specs.Ending.{Left, Performs}
+use Rattle.bz_engine.specs.Keeping.{PerformsBeside}
 use Rattle.bz_engine.specs.Run.{World}
 use Rattle.bz_ports.specs.Ports.{IsInput}
-use Rattle.bz_engine.specs.Steps.{input_package, all_steps, names_input}
-use Rattle.bz_engine.specs.Told.{IsUsageLine, IsLineUsageLine, input_line}
+use Rattle.bz_engine.specs.Steps.{RunStep, input_package, all_steps, names_input}
+use Rattle.bz_engine.specs.Told.{IsUsageLine, IsLineUsageLine, input_line, no_journal_line}
 
 -- A fault of usage is told by one line, and all else is as it was.
 abbrev pub unused : Folder → Bytes → Left
 unused folder line = record { output = []; lines = line ∷ []; status = 1; folder = folder }
+
+-- ---- steps
+
+-- Steps are done on files alone, or with their journals.
+abbrev pub StepsLeave : Options → List RunStep → World → Left → Type 0
+StepsLeave options steps world left =
+    ((options.journal ≡ false) × Performs options steps world left) ⊎ ((options.journal ≡ true) × PerformsBeside options steps world left)
+
+-- What lines ask for is done, unless that needs a journal of standard input, which has none.
+abbrev pub LinesLeave : Options → List Asked → World → Left → Type 0
+LinesLeave options lines world left =
+    ((options.journal && names_input lines ≡ true) × (left ≡ unused world.folder no_journal_line))
+    ⊎ ((options.journal && names_input lines ≡ false) × StepsLeave options (all_steps lines) world left)
 
 -- ---- operands among the words
 
 abbrev pub OperandsOutcome : Options → List Bytes → World → Left → Type 0
 OperandsOutcome options texts world left =
     ((usage : Usage) × (line : Bytes) × IsGroupFault texts usage × IsUsageLine [] usage line × (left ≡ unused world.folder line))
-    ⊎ ((asked : Asked) × (operand_group texts ≡ Ok asked) × Performs options (all_steps (asked ∷ [])) world left)
+    ⊎ ((asked : Asked) × (operand_group texts ≡ Ok asked) × LinesLeave options (asked ∷ []) world left)
 
 -- ---- operands in a file of lines
 
@@ -47,7 +61,7 @@ abbrev pub LinesOutcome : Options → Bool → List Asked → World → Left →
 LinesOutcome options of_input lines world left =
     ((of_input && names_input lines ≡ true) × (left ≡ unused world.folder input_line))
     ⊎ ((of_input && names_input lines ≡ false) × ((known : Option Bytes) × (of_input ≡ false → known ≡ world.known)
-    × Performs options (all_steps lines) (record world { known = known }) left))
+    × LinesLeave options lines (record world { known = known }) left))
 
 -- A file of lines is there, is text, and asks for something; else that is told.
 abbrev pub TextOutcome : Options → Bytes → Option Bytes → World → Left → Type 0
@@ -78,11 +92,19 @@ WordsOutcome words world left = LineOutcome (command_line_of words) world left
 abbrev pub TakesScript : List Bytes → Type 0
 TakesScript words = (options : Options) × (name : Bytes) × (command_line_of words ≡ Ok (record { options = options; given = script name }))
 
+-- The words ask for journals.
+abbrev pub KeepsJournals : List Bytes → Type 0
+KeepsJournals words = IfOk (command_line_of words) (λ line. line.options.journal ≡ true)
+
 -- ---- lines that reach no file
 
 -- Each target of these lines is one of standard input.
 abbrev pub AreOfInput : List Asked → Type 0
 AreOfInput lines = All (λ asked. All (λ target. target.«package» ≡ input_package) asked.targets) lines
+
+-- The same, and a line has a target.
+abbrev pub AreOfInputAndSome : List Asked → Type 0
+AreOfInputAndSome lines = AreOfInput lines × (names_input lines ≡ true)
 
 abbrev pub IsOfInput : Given → Type 0
 IsOfInput (operands texts) = IfOk (operand_group texts) (λ asked. AreOfInput (asked ∷ []))

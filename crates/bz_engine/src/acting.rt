@@ -1,5 +1,6 @@
 //! One step.
-ghost use Rattle.std.specs.Prelude.{◌≡◌, ◌≢◌, ◌⊎◌, ◌++◌, [], ◌∷◌, ℕ, List, Option, Some, None, Ok, Err, true, false, IsSome, IfOk, OnOk, OnErr};
+ghost use Rattle.std.specs.Prelude.{◌≡◌, ◌≢◌, ◌⊎◌, ◌&&◌, ◌++◌, [], ◌∷◌, ℕ, List, Option, Some, None, Ok, Err, true, false, IsSome, IfOk, OnOk, OnErr};
+ghost use Rattle.std.specs.Option.{option_map_or};
 ghost use Rattle.bz_workspace.specs.Sessions.{action_in, History, Answer, Leads, listing};
 ghost use Rattle.bz_workspace.specs.Sessions as Reply;
 ghost use Rattle.bz_line.specs.Paths.{HasPath};
@@ -7,6 +8,7 @@ ghost use Rattle.bz_line.specs.Shown.{asking_in};
 ghost use Rattle.bz_workspace.specs.Packages.{Opened, file_at};
 ghost use Rattle.bz_workspace.specs.Shown.{used_in};
 ghost use Rattle.bz_engine.specs.Calls.{TellsLines, WorksOn, spot, Proceeds};
+ghost use Rattle.bz_engine.specs.Keeping.{AllStand, AnswersBeside, DoesBeside, FolderBehind, is_left_at, state_behind};
 ghost use Rattle.bz_engine.specs.Run.{Answers, Does, printed_in, answered, told_of};
 ghost use Rattle.bz_engine.specs.Shown.{progress_in};
 ghost use Rattle.bz_engine.specs.Steps.{input_package, step_of};
@@ -133,7 +135,9 @@ fn list_at<E: Sink>(alloc: Global, run: &mut Run, place: usize, command: &str, e
 }
 
 // Whether a file is left alone, since its journal and it could not both be written in this run.
-fn is_left(used: &Used) -> bool {
+fn is_left(used: &Used) -> bool
+    ensures { result ≡ option_map_or (λ (file : Opened). file.left) (used_in used.now).file false }
+{
     match &used.file {
         Some(file) => file.left,
         None => false,
@@ -142,7 +146,7 @@ fn is_left(used: &Used) -> bool {
 
 // Whether journals are kept, and the file of the package with this number is left alone.
 fn is_left_at(journals: bool, workspace: &Workspace, place: usize) -> bool
-    ensures { journals ≡ false → result ≡ false }
+    ensures { result ≡ (journals && is_left_at place workspace.now) }
 {
     if !journals {
         return false;
@@ -186,7 +190,13 @@ fn keep_at<F: Files, E: Sink>(
     err: &mut E,
 ) -> Cut
     requires { IsSome (file_at place run.old.workspace) }
-    ensures { WorksOn F.Files result files.old files.new }
+    ensures whole { F.honest files.old ≡ true → AllStand (F.folder files.old) run.old.workspace → result ≡ Cut.Whole
+        → (file : Opened) × (answer : Answer) × (history : History) × (file_at place run.old.workspace ≡ Some file)
+        × Leads (action_in action.now) command.now file.history answer history
+        × FolderBehind answer file history (F.folder files.old) (F.folder files.new)
+        × (progress_in run.new ≡ state_behind place file answer history (progress_in run.old))
+        × TellsLines E.Sink err.old err.new (told_of file.name command.now answer) }
+    ensures works { WorksOn F.Files result files.old files.new }
 {
     match run.workspace.keep(place, action, command, files) {
         Ok(reply) => match put_printed(&reply, &mut run.printed) {
@@ -216,6 +226,12 @@ fn act_on<F: Files, E: Sink>(
         × Answers (step_of target.now (asking_in asking.now)) place (file_at place run.old.workspace) (progress_in run.old) lines (progress_in run.new)
         × TellsLines E.Sink err.old err.new lines }
     ensures still { journals ≡ false → files.new ≡ files.old }
+    ensures beside { journals ≡ true → F.honest files.old ≡ true → AllStand (F.folder files.old) run.old.workspace → result ≡ Cut.Whole
+        → (lines : List (List ℕ)) × AnswersBeside (step_of target.now (asking_in asking.now)) place (file_at place run.old.workspace)
+        (F.folder files.old) (progress_in run.old) lines (F.folder files.new) (progress_in run.new)
+        × TellsLines E.Sink err.old err.new lines }
+    ensures left { journals ≡ true → is_left_at place run.old.workspace ≡ true
+        → (result ≡ Cut.Whole) × (files.new ≡ files.old) × (err.new ≡ err.old) × (progress_in run.new ≡ record (progress_in run.old) { failed = true }) }
     ensures works { WorksOn F.Files result files.old files.new }
 {
     if is_left_at(journals, &run.workspace, place) {
@@ -247,7 +263,8 @@ pub(crate) fn do_step<R: Source, F: Files, E: Sink>(
     err: &mut E,
 ) -> Cut
     requires { HasPath target.now }
-    ensures { Proceeds journals (target.now.«package» ≡ input_package) (λ world. Does world (step_of target.now (asking_in asking.now))) result
+    ensures { Proceeds journals (target.now.«package» ≡ input_package) (λ world. Does world (step_of target.now (asking_in asking.now)))
+        (DoesBeside (step_of target.now (asking_in asking.now))) result
         (spot R.Source F.Files E.Sink run.old input.old files.old err.old) (spot R.Source F.Files E.Sink run.new input.new files.new err.new) }
 {
     let package = package_of(target);

@@ -6,8 +6,9 @@ ghost use Rattle.bz_ports.specs.Faults.{Rises};
 ghost use Rattle.bz_ports.specs.Outputs.{Counts};
 ghost use Rattle.bz_workspace.specs.Shown.{opened_in, used_in};
 ghost use Rattle.bz_engine.specs.Calls.{TellsLines, PrintsAll, PrintsSome, WorksOn};
-ghost use Rattle.bz_engine.specs.Ending.{differs, has_changed, is_input, goes_out, opened_out, text_out, texts_out, is_written, writing_of, all_writings, WritesFiles, fixed_lines, status_of};
-ghost use Rattle.bz_engine.specs.Shown.{progress_in, written_line, written_lines};
+ghost use Rattle.bz_engine.specs.Ending.{differs, has_changed, is_input, goes_out, opened_out, text_out, texts_out, is_written, writing_of, all_writings, WritesFiles, file_kept, fixed_of, all_fixed, fixed_lines, status_of};
+ghost use Rattle.bz_engine.specs.Shown.{progress_in};
+ghost use Rattle.bz_engine.specs.Told.{fixed_line};
 
 use crate::run::Run;
 use crate::told::tell_fixed;
@@ -141,6 +142,15 @@ fn new_text(alloc: Global, file: &Opened) -> Result<Option<Vec<u8>>, Memory>
     }
 }
 
+// Tells that a file was written, unless the run is quiet.
+fn tell_written<E: Sink>(quiet: bool, name: &str, err: &mut E)
+    ensures { TellsLines E.Sink err.old err.new (if quiet then [] else fixed_line name.now ∷ []) }
+{
+    if !quiet {
+        tell_fixed(err, name);
+    }
+}
+
 // Gives a file that still holds what was read of it its text at the end, which is told.
 fn replace<F: Files, E: Sink>(
     quiet: bool,
@@ -160,9 +170,7 @@ fn replace<F: Files, E: Sink>(
 {
     match files.rewrite(name, read, text) {
         Ok(()) => {
-            if !quiet {
-                tell_fixed(err, name);
-            }
+            tell_written(quiet, name, err);
             Cut::Whole
         }
         Err(_) => {
@@ -172,7 +180,16 @@ fn replace<F: Files, E: Sink>(
     }
 }
 
-// Writes the file of a package, where it changed and is to be written.
+// Tells that a file was written with its journal, where it was.
+fn tell_kept<E: Sink>(quiet: bool, file: &Opened, err: &mut E)
+    ensures { TellsLines E.Sink err.old err.new (fixed_lines quiet (file_kept (Some (opened_in file.now)))) }
+{
+    if file.written {
+        tell_written(quiet, file.name.as_str(), err);
+    }
+}
+
+// Writes the file of a package, where it changed and is to be written. With its journal it was written before, which is told.
 fn write_file<F: Files, E: Sink>(
     alloc: Global,
     options: Options,
@@ -181,14 +198,19 @@ fn write_file<F: Files, E: Sink>(
     err: &mut E,
 ) -> Cut
     ensures told { result ≡ Cut.Whole → TellsLines E.Sink err.old err.new
-        (fixed_lines options.quiet (writing_of options.to_stdout (used_in used.now))) }
-    ensures writes { (F.honest files.old ≡ true) ⊎ (writing_of options.to_stdout (used_in used.now) ≡ []) → result ≡ Cut.Whole
+        (fixed_lines options.quiet (fixed_of options.journal options.to_stdout (used_in used.now))) }
+    ensures writes { options.journal ≡ false → (F.honest files.old ≡ true) ⊎ (writing_of options.to_stdout (used_in used.now) ≡ []) → result ≡ Cut.Whole
         → WritesFiles (writing_of options.to_stdout (used_in used.now)) (F.folder files.old) (F.folder files.new) }
+    ensures kept { options.journal ≡ true → files.new ≡ files.old }
     ensures works { WorksOn F.Files result files.old files.new }
 {
     let Some(file) = &used.file else {
         return Cut::Whole;
     };
+    if options.journal {
+        tell_kept(options.quiet, file, err);
+        return Cut::Whole;
+    }
     if options.to_stdout || is_input(used) {
         return Cut::Whole;
     }
@@ -209,7 +231,7 @@ fn write_file<F: Files, E: Sink>(
     }
 }
 
-// Writes the files that changed, in order; each is tried.
+// Writes the files that changed, in order; each is tried. With journals they were written before, which is told.
 fn write_files<F: Files, E: Sink>(
     alloc: Global,
     options: Options,
@@ -218,9 +240,10 @@ fn write_files<F: Files, E: Sink>(
     err: &mut E,
 ) -> Cut
     ensures told { result ≡ Cut.Whole → TellsLines E.Sink err.old err.new
-        (fixed_lines options.quiet (all_writings options.to_stdout (map used_in packages.now))) }
-    ensures writes { (F.honest files.old ≡ true) ⊎ (all_writings options.to_stdout (map used_in packages.now) ≡ []) → result ≡ Cut.Whole
+        (fixed_lines options.quiet (all_fixed options.journal options.to_stdout (map used_in packages.now))) }
+    ensures writes { options.journal ≡ false → (F.honest files.old ≡ true) ⊎ (all_writings options.to_stdout (map used_in packages.now) ≡ []) → result ≡ Cut.Whole
         → WritesFiles (all_writings options.to_stdout (map used_in packages.now)) (F.folder files.old) (F.folder files.new) }
+    ensures kept { options.journal ≡ true → files.new ≡ files.old }
     ensures works { WorksOn F.Files result files.old files.new }
 {
     let mut cut = Cut::Whole;
@@ -264,9 +287,11 @@ fn leave<W: Sink, F: Files, E: Sink>(
         × (result.status ≡ status_of (record { used = map used_in packages.now; printed = printed.items; failed = failed }))
         × PrintsAll W.Sink out.old out.new (printed.items ++ texts_out shown options.to_stdout (map used_in packages.now))
         × (W.faults out.new ≡ W.faults out.old) × (F.faults files.new ≡ F.faults files.old)
-        × TellsLines E.Sink err.old err.new (fixed_lines options.quiet (all_writings options.to_stdout (map used_in packages.now))) }
-    ensures writes { (F.honest files.old ≡ true) ⊎ (all_writings options.to_stdout (map used_in packages.now) ≡ []) → result.cut ≡ Cut.Whole
+        × TellsLines E.Sink err.old err.new (fixed_lines options.quiet (all_fixed options.journal options.to_stdout (map used_in packages.now))) }
+    ensures writes { options.journal ≡ false → (F.honest files.old ≡ true) ⊎ (all_writings options.to_stdout (map used_in packages.now) ≡ [])
+        → cut ≡ Cut.Whole → (result.cut ≡ Cut.Whole) ⊎ (result.cut ≡ Cut.Write)
         → WritesFiles (all_writings options.to_stdout (map used_in packages.now)) (F.folder files.old) (F.folder files.new) }
+    ensures kept { options.journal ≡ true → files.new ≡ files.old }
     ensures status { result.cut ≢ Cut.Whole → result.status ≡ 2 }
     ensures used { result.status ≢ 1 }
     ensures write { result.cut ≡ Cut.Write → cut ≢ Cut.Write → (cut ≡ Cut.Whole)
@@ -282,13 +307,13 @@ fn leave<W: Sink, F: Files, E: Sink>(
     let written = write_files(alloc, options, packages, files, err);
     match output {
         Ok(changed) => ended(failed, changed, first_cut(cut, written)),
-        Err(later) => ended(failed, true, first_cut(cut, later)),
+        Err(later) => ended(failed, true, first_cut(cut, first_cut(written, later))),
     }
 }
 
 /// Ends a run that this failure cut, if one did: standard output is given what was printed and the texts behind it, and
-/// the files that changed are written, each where it still holds what was read of it. A failure is told, and what is left
-/// is done all the same.
+/// the files that changed are written, each where it still holds what was read of it; with their journals they were written before, which is
+/// told. A failure is told, and what is left is done all the same. Of two failures it is that of the files which cuts the run.
 pub(crate) fn finish<W: Sink, F: Files, E: Sink>(
     alloc: Global,
     options: Options,
@@ -302,9 +327,11 @@ pub(crate) fn finish<W: Sink, F: Files, E: Sink>(
     ensures whole { result.cut ≡ Cut.Whole → (cut ≡ Cut.Whole) × (result.status ≡ status_of (progress_in run))
         × PrintsAll W.Sink out.old out.new ((progress_in run).printed ++ texts_out shown options.to_stdout (progress_in run).used)
         × (W.faults out.new ≡ W.faults out.old) × (F.faults files.new ≡ F.faults files.old)
-        × TellsLines E.Sink err.old err.new (fixed_lines options.quiet (all_writings options.to_stdout (progress_in run).used)) }
-    ensures writes { (F.honest files.old ≡ true) ⊎ (all_writings options.to_stdout (progress_in run).used ≡ []) → result.cut ≡ Cut.Whole
+        × TellsLines E.Sink err.old err.new (fixed_lines options.quiet (all_fixed options.journal options.to_stdout (progress_in run).used)) }
+    ensures writes { options.journal ≡ false → (F.honest files.old ≡ true) ⊎ (all_writings options.to_stdout (progress_in run).used ≡ [])
+        → cut ≡ Cut.Whole → (result.cut ≡ Cut.Whole) ⊎ (result.cut ≡ Cut.Write)
         → WritesFiles (all_writings options.to_stdout (progress_in run).used) (F.folder files.old) (F.folder files.new) }
+    ensures kept { options.journal ≡ true → files.new ≡ files.old }
     ensures status { result.cut ≢ Cut.Whole → result.status ≡ 2 }
     ensures used { result.status ≢ 1 }
     ensures write { result.cut ≡ Cut.Write → cut ≢ Cut.Write → (cut ≡ Cut.Whole)
@@ -333,55 +360,4 @@ pub(crate) fn finish<W: Sink, F: Files, E: Sink>(
         files,
         err,
     )
-}
-
-// Tells that the file of a package was written, where it was.
-fn tell_if_written<E: Sink>(used: &Used, err: &mut E)
-    ensures { TellsLines E.Sink err.old err.new (written_line used.now) }
-{
-    if let Some(file) = &used.file {
-        if file.written {
-            tell_fixed(err, file.name.as_str());
-        }
-    }
-}
-
-// Tells which files were written, in order.
-fn tell_written<E: Sink>(packages: &[Used], err: &mut E)
-    ensures { TellsLines E.Sink err.old err.new (written_lines packages.now) }
-{
-    for used in packages {
-        tell_if_written(used, err);
-    }
-}
-
-/// Ends a run whose files kept their journals, and that this failure cut, if one did: standard output is given what was printed, and
-/// the files that were written are told.
-pub(crate) fn finish_kept<W: Sink, E: Sink>(
-    options: Options,
-    run: Run,
-    cut: Cut,
-    out: &mut W,
-    err: &mut E,
-) -> Exit
-    ensures status { result.cut ≢ Cut.Whole → result.status ≡ 2 }
-    ensures used { result.status ≢ 1 }
-    ensures whole { result.cut ≡ Cut.Whole → (cut ≡ Cut.Whole) × (W.faults out.new ≡ W.faults out.old) }
-    ensures exit { result.cut ≡ Cut.Whole → result.status ≡ status_of (progress_in run) }
-    ensures printed { result.cut ≡ Cut.Whole → PrintsAll W.Sink out.old out.new ((progress_in run).printed ++ texts_out false false (progress_in run).used) }
-    ensures cause { (result.cut ≡ cut) ⊎ ((cut ≡ Cut.Whole) × ((result.cut ≡ Cut.Memory) ⊎ ((result.cut ≡ Cut.Write) × Rises (W.faults out.old) (W.faults out.new)))) }
-{
-    let Run {
-        workspace,
-        printed,
-        failed,
-    } = run;
-    let output = print_all(workspace.used(), false, false, printed, out, err);
-    if !options.quiet {
-        tell_written(workspace.used(), err);
-    }
-    match output {
-        Ok(changed) => ended(failed, changed, cut),
-        Err(later) => ended(failed, true, first_cut(cut, later)),
-    }
 }

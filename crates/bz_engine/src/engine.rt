@@ -6,14 +6,14 @@ ghost use Rattle.bz_line.specs.Line.{LineUsage, command_line_of};
 ghost use Rattle.bz_line.specs.Line.{operands as words_given, script};
 ghost use Rattle.bz_line.specs.Paths.{HasPath};
 ghost use Rattle.bz_line.specs.Shown.{asked_in, usage_in, line_usage_in};
-ghost use Rattle.bz_engine.specs.Calls.{TellsLines, PrintsAll, PrintsSome, ReadsNothing, world_with, world_of, KeepsFolder, IsEndedOver, LeavesBehind};
-ghost use Rattle.bz_engine.specs.Ending.{Left, Performs};
-ghost use Rattle.bz_engine.specs.Outcome.{WordsOutcome, OperandsOutcome, LinesOutcome, TextOutcome, ScriptOutcome, AreOfInput, IsOfInput, GivesNothing, KeepsNoJournal, LineGivesNothing, NamesNoFile, TakesNoFile, TakesNoInput, TakesScript};
+ghost use Rattle.bz_engine.specs.Calls.{TellsLines, PrintsAll, PrintsSome, IsStill, ReadsNothing, world_with, world_of, KeepsFolder, IsEndedOver, LeavesBehind};
+ghost use Rattle.bz_engine.specs.Ending.{Left};
+ghost use Rattle.bz_engine.specs.Outcome.{StepsLeave, LinesLeave, WordsOutcome, OperandsOutcome, LinesOutcome, TextOutcome, ScriptOutcome, AreOfInput, AreOfInputAndSome, IsOfInput, GivesNothing, KeepsJournals, LineGivesNothing, NamesNoFile, TakesNoFile, TakesNoInput, TakesScript};
 ghost use Rattle.bz_engine.specs.Steps.{all_steps, input_package, names_input};
 ghost use Rattle.bz_engine.specs.Told.{IsUsageLine, IsLineUsageLine, no_journal_line};
 ghost use Rattle.bz_engine.specs.Usage.{OperandsTell, LinesTell, TextTells, GivenTells, LineTells};
 
-use crate::ending::{FAILED, finish, finish_kept};
+use crate::ending::{FAILED, finish};
 use crate::run::begun;
 use crate::running::run_lines;
 use crate::script::{INPUT, USAGE, read_bytes, told_name};
@@ -83,14 +83,14 @@ fn perform<R: Source, W: Sink, E: Sink, F: Files>(
     files: &mut F,
 ) -> Exit
     requires { All (λ asked. All HasPath asked.targets.items) lines.now }
-    ensures whole { options.journal ≡ false → (F.honest files.old ≡ true) ⊎ AreOfInput (map asked_in lines.now)
+    ensures whole { (F.honest files.old ≡ true) ⊎ ((options.journal ≡ false) × AreOfInput (map asked_in lines.now))
         → result.cut ≡ Cut.Whole → (left : Left)
-        × Performs options (all_steps (map asked_in lines.now)) (world_of R.Source F.Files input.old files.old) left
+        × StepsLeave options (all_steps (map asked_in lines.now)) (world_of R.Source F.Files input.old files.old) left
         × LeavesBehind W.Sink E.Sink F.Files left result.status out.old out.new err.old err.new files.new }
-    ensures write { options.journal ≡ false → (F.honest files.old ≡ true) ⊎ AreOfInput (map asked_in lines.now)
+    ensures write { (F.honest files.old ≡ true) ⊎ ((options.journal ≡ false) × AreOfInput (map asked_in lines.now))
         → result.cut ≡ Cut.Write → (left : Left)
-        × Performs options (all_steps (map asked_in lines.now)) (world_of R.Source F.Files input.old files.old) left
-        × PrintsSome W.Sink out.old out.new left.output }
+        × StepsLeave options (all_steps (map asked_in lines.now)) (world_of R.Source F.Files input.old files.old) left
+        × PrintsSome W.Sink out.old out.new left.output × (F.folder files.new ≡ left.folder) }
     ensures reads_nothing { options.journal ≡ true → ReadsNothing R.Source result.cut input.old input.new }
     ensures read { AreOfInput (map asked_in lines.now) → result.cut ≡ Cut.Read → PrintsAll W.Sink out.old out.new [] }
     ensures status { result.cut ≢ Cut.Whole → result.status ≡ 2 }
@@ -100,9 +100,6 @@ fn perform<R: Source, W: Sink, E: Sink, F: Files>(
 {
     let mut run = begun(alloc);
     let cut = run_lines(alloc, options, lines, &mut run, input, files, err);
-    if options.journal {
-        return finish_kept(options, run, cut, out, err);
-    }
     finish(
         alloc,
         options,
@@ -133,14 +130,14 @@ fn perform_lines<R: Source, W: Sink, E: Sink, F: Files>(
     files: &mut F,
 ) -> Exit
     requires { All (λ asked. All HasPath asked.targets.items) lines.now }
-    ensures whole { options.journal ≡ false → (F.honest files.old ≡ true) ⊎ AreOfInput (map asked_in lines.now)
+    ensures whole { (F.honest files.old ≡ true) ⊎ AreOfInputAndSome (map asked_in lines.now)
         → result.cut ≡ Cut.Whole → (left : Left)
-        × Performs options (all_steps (map asked_in lines.now)) (world_of R.Source F.Files input.old files.old) left
+        × LinesLeave options (map asked_in lines.now) (world_of R.Source F.Files input.old files.old) left
         × LeavesBehind W.Sink E.Sink F.Files left result.status out.old out.new err.old err.new files.new }
-    ensures write { options.journal ≡ false → (F.honest files.old ≡ true) ⊎ AreOfInput (map asked_in lines.now)
+    ensures write { (F.honest files.old ≡ true) ⊎ AreOfInputAndSome (map asked_in lines.now)
         → result.cut ≡ Cut.Write → (left : Left)
-        × Performs options (all_steps (map asked_in lines.now)) (world_of R.Source F.Files input.old files.old) left
-        × PrintsSome W.Sink out.old out.new left.output }
+        × LinesLeave options (map asked_in lines.now) (world_of R.Source F.Files input.old files.old) left
+        × PrintsSome W.Sink out.old out.new left.output × (F.folder files.new ≡ left.folder) }
     ensures unread { options.journal ≡ true → names_input (map asked_in lines.now) ≡ true → (input.new ≡ input.old) × (out.new ≡ out.old) × (files.new ≡ files.old) }
     ensures reads_nothing { options.journal ≡ true → ReadsNothing R.Source result.cut input.old input.new }
     ensures unused { result.status ≡ 1 → (input.new ≡ input.old) × (out.new ≡ out.old) × (files.new ≡ files.old) }
@@ -168,18 +165,19 @@ fn run_operands<R: Source, W: Sink, E: Sink, F: Files>(
     err: &mut E,
     files: &mut F,
 ) -> Exit
-    ensures whole { options.journal ≡ false → (F.honest files.old ≡ true) ⊎ IsOfInput (words_given (map (λ s. s.now) operands.now))
+    ensures whole { (F.honest files.old ≡ true) ⊎ IsOfInput (words_given (map (λ s. s.now) operands.now))
         → result.cut ≡ Cut.Whole → (left : Left)
         × OperandsOutcome options (map (λ s. s.now) operands.now) (world_of R.Source F.Files input.old files.old) left
         × LeavesBehind W.Sink E.Sink F.Files left result.status out.old out.new err.old err.new files.new }
-    ensures write { options.journal ≡ false → (F.honest files.old ≡ true) ⊎ IsOfInput (words_given (map (λ s. s.now) operands.now))
+    ensures write { (F.honest files.old ≡ true) ⊎ IsOfInput (words_given (map (λ s. s.now) operands.now))
         → result.cut ≡ Cut.Write → (left : Left)
         × OperandsOutcome options (map (λ s. s.now) operands.now) (world_of R.Source F.Files input.old files.old) left
-        × PrintsSome W.Sink out.old out.new left.output }
+        × PrintsSome W.Sink out.old out.new left.output × (F.folder files.new ≡ left.folder) }
     ensures unread { GivesNothing options (words_given (map (λ s. s.now) operands.now)) → (input.new ≡ input.old) × (out.new ≡ out.old) × (files.new ≡ files.old) }
     ensures unused { result.status ≡ 1 → (input.new ≡ input.old) × (out.new ≡ out.old) × (files.new ≡ files.old) }
     ensures usage { result.status ≡ 1 → (line : List ℕ) × OperandsTell options (map (λ s. s.now) operands.now) line
         × TellsLines E.Sink err.old err.new (line ∷ []) }
+    ensures unread_kept { options.journal ≡ true → IsStill R.Source input.old input.new }
     ensures read { IsOfInput (words_given (map (λ s. s.now) operands.now)) → result.cut ≡ Cut.Read → PrintsAll W.Sink out.old out.new [] }
     ensures status { result.cut ≢ Cut.Whole → result.status ≡ 2 }
     ensures ended { IsEndedOver R.Source W.Sink F.Files result.cut input.old input.new out.old out.new files.old files.new }
@@ -203,17 +201,18 @@ fn run_lines_of<R: Source, W: Sink, E: Sink, F: Files>(
     files: &mut F,
 ) -> Exit
     requires { All (λ asked. All HasPath asked.targets.items) lines.now }
-    ensures whole { options.journal ≡ false → F.honest files.old ≡ true → result.cut ≡ Cut.Whole
+    ensures whole { F.honest files.old ≡ true → result.cut ≡ Cut.Whole
         → (known : Option (List ℕ)) → (of_input ≡ false → known ≡ R.remaining input.old) → (left : Left)
         × LinesOutcome options of_input (map asked_in lines.now) (world_with F.Files files.old known) left
         × LeavesBehind W.Sink E.Sink F.Files left result.status out.old out.new err.old err.new files.new }
-    ensures write { options.journal ≡ false → F.honest files.old ≡ true → result.cut ≡ Cut.Write
+    ensures write { F.honest files.old ≡ true → result.cut ≡ Cut.Write
         → (known : Option (List ℕ)) → (of_input ≡ false → known ≡ R.remaining input.old) → (left : Left)
         × LinesOutcome options of_input (map asked_in lines.now) (world_with F.Files files.old known) left
-        × PrintsSome W.Sink out.old out.new left.output }
+        × PrintsSome W.Sink out.old out.new left.output × (F.folder files.new ≡ left.folder) }
     ensures unused { result.status ≡ 1 → (input.new ≡ input.old) × (out.new ≡ out.old) × (files.new ≡ files.old) }
     ensures usage { result.status ≡ 1 → (line : List ℕ) × LinesTell options of_input (map asked_in lines.now) line
         × TellsLines E.Sink err.old err.new (line ∷ []) }
+    ensures unread_kept { options.journal ≡ true → IsStill R.Source input.old input.new }
     ensures status { result.cut ≢ Cut.Whole → result.status ≡ 2 }
     ensures ended { IsEndedOver R.Source W.Sink F.Files result.cut input.old input.new out.old out.new files.old files.new }
     ensures honest { F.honest files.new ≡ F.honest files.old }
@@ -236,17 +235,18 @@ fn run_text<R: Source, W: Sink, E: Sink, F: Files>(
     err: &mut E,
     files: &mut F,
 ) -> Exit
-    ensures whole { options.journal ≡ false → F.honest files.old ≡ true → result.cut ≡ Cut.Whole
+    ensures whole { F.honest files.old ≡ true → result.cut ≡ Cut.Whole
         → (known : Option (List ℕ)) → (name.now ≢ input_package → known ≡ R.remaining input.old)
         → (left : Left) × TextOutcome options name.now (Some bytes.now) (world_with F.Files files.old known) left
         × LeavesBehind W.Sink E.Sink F.Files left result.status out.old out.new err.old err.new files.new }
-    ensures write { options.journal ≡ false → F.honest files.old ≡ true → result.cut ≡ Cut.Write
+    ensures write { F.honest files.old ≡ true → result.cut ≡ Cut.Write
         → (known : Option (List ℕ)) → (name.now ≢ input_package → known ≡ R.remaining input.old)
         → (left : Left) × TextOutcome options name.now (Some bytes.now) (world_with F.Files files.old known) left
-        × PrintsSome W.Sink out.old out.new left.output }
+        × PrintsSome W.Sink out.old out.new left.output × (F.folder files.new ≡ left.folder) }
     ensures unused { result.status ≡ 1 → (input.new ≡ input.old) × (out.new ≡ out.old) × (files.new ≡ files.old) }
     ensures usage { result.status ≡ 1 → (line : List ℕ) × TextTells options name.now (Some bytes.now) line
         × TellsLines E.Sink err.old err.new (line ∷ []) }
+    ensures unread_kept { options.journal ≡ true → IsStill R.Source input.old input.new }
     ensures status { result.cut ≢ Cut.Whole → result.status ≡ 2 }
     ensures ended { IsEndedOver R.Source W.Sink F.Files result.cut input.old input.new out.old out.new files.old files.new }
     ensures honest { F.honest files.new ≡ F.honest files.old }
@@ -284,12 +284,12 @@ fn run_script<R: Source, W: Sink, E: Sink, F: Files>(
     err: &mut E,
     files: &mut F,
 ) -> Exit
-    ensures whole { options.journal ≡ false → F.honest files.old ≡ true → result.cut ≡ Cut.Whole → (left : Left)
+    ensures whole { F.honest files.old ≡ true → result.cut ≡ Cut.Whole → (left : Left)
         × ScriptOutcome options name.now (world_of R.Source F.Files input.old files.old) left
         × LeavesBehind W.Sink E.Sink F.Files left result.status out.old out.new err.old err.new files.new }
-    ensures write { options.journal ≡ false → F.honest files.old ≡ true → result.cut ≡ Cut.Write → (left : Left)
+    ensures write { F.honest files.old ≡ true → result.cut ≡ Cut.Write → (left : Left)
         × ScriptOutcome options name.now (world_of R.Source F.Files input.old files.old) left
-        × PrintsSome W.Sink out.old out.new left.output }
+        × PrintsSome W.Sink out.old out.new left.output × (F.folder files.new ≡ left.folder) }
     ensures unused { result.status ≡ 1 → out.new ≡ out.old }
     ensures unused_input { result.status ≡ 1 → name.now ≢ input_package → input.new ≡ input.old }
     ensures unused_files { result.status ≡ 1 → name.now ≡ input_package → files.new ≡ files.old }
@@ -297,6 +297,7 @@ fn run_script<R: Source, W: Sink, E: Sink, F: Files>(
     ensures usage { result.status ≡ 1 → result.cut ≡ Cut.Whole → (line : List ℕ)
         × GivenTells (F.honest files.old) (world_of R.Source F.Files input.old files.old) options (script name.now) line
         × TellsLines E.Sink err.old err.new (line ∷ []) }
+    ensures unread_kept { options.journal ≡ true → name.now ≢ input_package → IsStill R.Source input.old input.new }
     ensures status { result.cut ≢ Cut.Whole → (result.status ≡ 2) ⊎ (result.status ≡ 1) }
     ensures ended { IsEndedOver R.Source W.Sink F.Files result.cut input.old input.new out.old out.new files.old files.new }
     ensures honest { F.honest files.new ≡ F.honest files.old }
@@ -324,18 +325,18 @@ pub fn buildozer<S: AsStr, R: Source, W: Sink, E: Sink, F: Files>(
     err: &mut E,
     files: &mut F,
 ) -> Exit
-    // Without journals, where the files are honest, or none is named, a whole run leaves what the words, the bytes of standard input
-    // and the folder mean.
-    ensures whole { KeepsNoJournal (map S.text words.now) → (F.honest files.old ≡ true) ⊎ NamesNoFile (map S.text words.now)
+    // Where the files are honest, or none is named, a whole run leaves what the words, the bytes of standard input and the folder
+    // mean, without journals as with them.
+    ensures whole { (F.honest files.old ≡ true) ⊎ NamesNoFile (map S.text words.now)
         → result.cut ≡ Cut.Whole → (left : Left)
         × WordsOutcome (map S.text words.now) (world_of R.Source F.Files input.old files.old) left
         × LeavesBehind W.Sink E.Sink F.Files left result.status out.old out.new err.old err.new files.new }
 
-    // Where standard output fails, a beginning of what it is to be given stands there.
-    ensures write { KeepsNoJournal (map S.text words.now) → (F.honest files.old ≡ true) ⊎ NamesNoFile (map S.text words.now)
+    // Where standard output fails, a beginning of what it is to be given stands there, and the files are as a whole run leaves them.
+    ensures write { (F.honest files.old ≡ true) ⊎ NamesNoFile (map S.text words.now)
         → result.cut ≡ Cut.Write → (left : Left)
         × WordsOutcome (map S.text words.now) (world_of R.Source F.Files input.old files.old) left
-        × PrintsSome W.Sink out.old out.new left.output }
+        × PrintsSome W.Sink out.old out.new left.output × (F.folder files.new ≡ left.folder) }
 
     // Words that ask for nothing leave the input, the output and the files as they were.
     ensures unread { LineGivesNothing (command_line_of (map S.text words.now)) → (input.new ≡ input.old) × (out.new ≡ out.old) × (files.new ≡ files.old) }
@@ -354,6 +355,9 @@ pub fn buildozer<S: AsStr, R: Source, W: Sink, E: Sink, F: Files>(
 
     // Where standard input can't be read, and no file and no package but it is named, nothing is written to standard output.
     ensures read { NamesNoFile (map S.text words.now) → result.cut ≡ Cut.Read → PrintsAll W.Sink out.old out.new [] }
+
+    // A run with journals reads nothing of standard input, unless lines stand there.
+    ensures unread_kept { KeepsJournals (map S.text words.now) → TakesNoInput (map S.text words.now) → IsStill R.Source input.old input.new }
 
     // Without a file of lines each run that is cut has status 2.
     ensures status { result.cut ≢ Cut.Whole → (result.status ≡ 2) ⊎ ((result.status ≡ 1) × TakesScript (map S.text words.now)) }

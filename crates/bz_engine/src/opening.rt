@@ -6,6 +6,7 @@ ghost use Rattle.bz_workspace.specs.Opens.{Opens};
 ghost use Rattle.bz_workspace.specs.Packages.{Opened, package_number, file_at};
 ghost use Rattle.bz_engine.specs.Calls.{TellsLines, ReadsNothing, world_with, AreCutOver};
 ghost use Rattle.bz_engine.specs.Cuts.{AreCutBy, IsLeft, OpensInput};
+ghost use Rattle.bz_engine.specs.Keeping.{UsesBeside};
 ghost use Rattle.bz_engine.specs.Run.{Uses};
 ghost use Rattle.bz_ports.specs.Ports.{IsInput};
 ghost use Rattle.bz_engine.specs.Steps.{input_package};
@@ -78,6 +79,11 @@ pub(crate) fn open_package<R: Source, F: Files, E: Sink>(
         × Uses (world_with F.Files files.old known) «package».now workspace.old place lines workspace.new
         × (result.place ≡ option_map (λ _. place) (file_at place workspace.new)) × IsLeft known workspace.new (R.remaining input.new)
         × TellsLines E.Sink err.old err.new lines }
+    ensures beside { journals ≡ true → F.honest files.old ≡ true → result.cut ≡ Cut.Whole → (place : ℕ) × (lines : List (List ℕ))
+        × UsesBeside (F.folder files.old) «package».now workspace.old place lines workspace.new
+        × (result.place ≡ option_map (λ _. place) (file_at place workspace.new))
+        × TellsLines E.Sink err.old err.new lines }
+    ensures kept { journals ≡ true → F.honest files.old ≡ true → F.folder files.new ≡ F.folder files.old }
     ensures there { IfSome result.place (λ at. IsSome (file_at at workspace.new)) }
     ensures folder { journals ≡ false → (F.honest files.old ≡ true) ⊎ («package».now ≡ input_package) → F.folder files.new ≡ F.folder files.old }
     ensures input { journals ≡ false → «package».now ≡ input_package → OpensInput result.cut result.place workspace.old workspace.new }

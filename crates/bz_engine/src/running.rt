@@ -5,6 +5,7 @@ ghost use Rattle.bz_line.specs.Paths.{HasPath};
 ghost use Rattle.bz_line.specs.Shown.{asked_in, asking_in};
 ghost use Rattle.bz_engine.specs.Calls.{spot, Proceeds};
 ghost use Rattle.bz_engine.specs.Outcome.{AreOfInput};
+ghost use Rattle.bz_engine.specs.Keeping.{RunsBeside};
 ghost use Rattle.bz_engine.specs.Run.{RunsSteps};
 ghost use Rattle.bz_engine.specs.Steps.{input_package, step_of, steps_asked, all_steps};
 
@@ -29,7 +30,8 @@ fn run_target<R: Source, F: Files, E: Sink>(
 ) -> Cut
     requires { HasPath target.now }
     ensures { Proceeds options.journal (target.now.«package» ≡ input_package)
-        (λ world. RunsSteps world options.keep_going (map (step_of target.now) (map asking_in commands.now))) result
+        (λ world. RunsSteps world options.keep_going (map (step_of target.now) (map asking_in commands.now)))
+        (RunsBeside options.keep_going (map (step_of target.now) (map asking_in commands.now))) result
         (spot R.Source F.Files E.Sink run.old input.old files.old err.old) (spot R.Source F.Files E.Sink run.new input.new files.new err.new) }
 {
     let mut cut = Cut::Whole;
@@ -64,7 +66,8 @@ pub(crate) fn run_line<R: Source, F: Files, E: Sink>(
 ) -> Cut
     requires { All HasPath line.now.targets.items }
     ensures { Proceeds options.journal (All (λ target. target.«package» ≡ input_package) line.now.targets.items)
-        (λ world. RunsSteps world options.keep_going (steps_asked (asked_in line.now))) result
+        (λ world. RunsSteps world options.keep_going (steps_asked (asked_in line.now)))
+        (RunsBeside options.keep_going (steps_asked (asked_in line.now))) result
         (spot R.Source F.Files E.Sink run.old input.old files.old err.old) (spot R.Source F.Files E.Sink run.new input.new files.new err.new) }
 {
     let mut cut = Cut::Whole;
@@ -96,7 +99,8 @@ pub(crate) fn run_lines<R: Source, F: Files, E: Sink>(
 ) -> Cut
     requires { All (λ asked. All HasPath asked.targets.items) lines.now }
     ensures { Proceeds options.journal (AreOfInput (map asked_in lines.now))
-        (λ world. RunsSteps world options.keep_going (all_steps (map asked_in lines.now))) result
+        (λ world. RunsSteps world options.keep_going (all_steps (map asked_in lines.now)))
+        (RunsBeside options.keep_going (all_steps (map asked_in lines.now))) result
         (spot R.Source F.Files E.Sink run.old input.old files.old err.old) (spot R.Source F.Files E.Sink run.new input.new files.new err.new) }
 {
     let mut cut = Cut::Whole;

@@ -1,45 +1,66 @@
--- The file that is found for a package, and what is told of it.
-use Rattle.std.proofs.Common.{◌≡◌, List, [], ◌∷◌, Option, Some, None, refl, sym, ap, subst, codes, ◌∙◌}
+-- Which file of a package is opened, by what its names and its journal hold.
+use Rattle.std.proofs.Common.{◌≡◌, ◌+◌, Bool, true, false, List, [], ◌∷◌, Option, Some, None, refl, sym, ap, subst, ◌∙◌, take, codes}
 use Rattle.std.specs.FinMap.{get}
-use Rattle.bz_files.specs.Folder.{Folder}
+use Rattle.bz_tree.specs.Spell.{limit}
 use Rattle.bz_items.specs.Characters.{Bytes}
+use Rattle.bz_files.specs.Folder.{Folder}
 use Rattle.bz_ports.specs.Told.{named_line}
-use Rattle.bz_workspace.specs.Found.{PackagesFound, found_at, found_in, first_name, second_name}
-use Rattle.bz_workspace.specs.Opens.{Opens, Takes}
+use Rattle.bz_workspace.specs.Found.{PackagesFound, first_name, found_at, found_in, second_name}
+use Rattle.bz_workspace.specs.Journals.{OpensBeside, TakesBeside, journal_beside}
+use Rattle.bz_workspace.specs.Opens.{Opens}
 use Rattle.bz_workspace.specs.Packages.{Opened}
+use Rattle.bz_workspace.proofs.JournalSteps.{front_beside}
 
--- a file that is there
-there_opens : (current wanted name text : Bytes) (folder : Folder) (other : Option PackagesFound) (file : Option Opened) (lines : List Bytes) → name ≡ wanted
-    → get folder name ≡ Some text → Takes current name text file lines → Opens current (found_at wanted (get folder wanted) other) file lines
-there_opens current wanted name text folder other file lines is held takes =
-    subst (λ (bytes : Option Bytes). Opens current (found_at wanted bytes other) file lines) (sym (ap (get folder) (sym is) ∙ held))
-    (subst (λ (n : Bytes). Takes current n text file lines) is takes)
+-- a file that is there, of which these first bytes were read; the folder is still the same
+there_opens : (journals : Bool) (current wanted name front text : Bytes) (folder now : Folder) (other : Option PackagesFound) (file : Option Opened) (lines : List Bytes)
+    → name ≡ wanted → get folder name ≡ Some text → front ≡ take (limit + 1) text → now ≡ folder
+    → TakesBeside (journal_beside journals now name) current name front file lines
+    → OpensBeside journals folder current (found_at wanted (get folder wanted) other) file lines
+there_opens journals current wanted name front text folder now other file lines is held cut same takes =
+    let whole = front_beside (journal_beside journals now name) current name front text file lines cut takes in
+    let here : TakesBeside (journal_beside journals folder name) current name text file lines =
+    subst (λ (f : Folder). TakesBeside (journal_beside journals f name) current name text file lines) same whole in
+    subst (λ (bytes : Option Bytes). OpensBeside journals folder current (found_at wanted bytes other) file lines) (sym (ap (get folder) (sym is) ∙ held))
+    (subst (λ (n : Bytes). TakesBeside (journal_beside journals folder n) current n text file lines) is here)
 
 -- a file that is not there
-absent_opens : (current wanted name : Bytes) (folder : Folder) (other : Option PackagesFound) (file : Option Opened) (lines : List Bytes) → name ≡ wanted
-    → get folder name ≡ None → Opens current other file lines → Opens current (found_at wanted (get folder wanted) other) file lines
-absent_opens current wanted name folder other file lines is held opens =
-    subst (λ (bytes : Option Bytes). Opens current (found_at wanted bytes other) file lines) (sym (ap (get folder) (sym is) ∙ held)) opens
+absent_opens : (journals : Bool) (current wanted name : Bytes) (folder : Folder) (other : Option PackagesFound) (file : Option Opened) (lines : List Bytes) → name ≡ wanted
+    → get folder name ≡ None → OpensBeside journals folder current other file lines
+    → OpensBeside journals folder current (found_at wanted (get folder wanted) other) file lines
+absent_opens journals current wanted name folder other file lines is held opens =
+    subst (λ (bytes : Option Bytes). OpensBeside journals folder current (found_at wanted bytes other) file lines) (sym (ap (get folder) (sym is) ∙ held)) opens
 
-pub second_opens : (current name text : Bytes) (folder : Folder) (file : Option Opened) (lines : List Bytes) → name ≡ second_name current
-    → get folder name ≡ Some text → Takes current name text file lines
-    → Opens current (found_at (second_name current) (get folder (second_name current)) None) file lines
-second_opens current name text folder file lines = there_opens current (second_name current) name text folder None file lines
+-- what the second name of a package opens
+abbrev second_found : Folder → Bytes → Option PackagesFound
+second_found folder current = found_at (second_name current) (get folder (second_name current)) None
 
-pub neither_opens : (current name : Bytes) (folder : Folder) → name ≡ second_name current → get folder name ≡ None
-    → Opens current (found_at (second_name current) (get folder (second_name current)) None) None (named_line name (codes "cannot open") ∷ [])
-neither_opens current name folder is held =
-    absent_opens current (second_name current) name folder None None (named_line name (codes "cannot open") ∷ []) is held
+pub second_opens : (journals : Bool) (current name front text : Bytes) (folder now : Folder) (file : Option Opened) (lines : List Bytes) → name ≡ second_name current
+    → get folder name ≡ Some text → front ≡ take (limit + 1) text → now ≡ folder → TakesBeside (journal_beside journals now name) current name front file lines
+    → OpensBeside journals folder current (second_found folder current) file lines
+second_opens journals current name front text folder now file lines = there_opens journals current (second_name current) name front text folder now None file lines
+
+pub neither_opens : (journals : Bool) (current name : Bytes) (folder : Folder) → name ≡ second_name current → get folder name ≡ None
+    → OpensBeside journals folder current (second_found folder current) None (named_line name (codes "cannot open") ∷ [])
+neither_opens journals current name folder is held =
+    absent_opens journals current (second_name current) name folder None None (named_line name (codes "cannot open") ∷ []) is held
     (refl, ap (λ (n : Bytes). named_line n (codes "cannot open") ∷ []) is)
 
-pub first_opens : (current name text : Bytes) (folder : Folder) (file : Option Opened) (lines : List Bytes) → name ≡ first_name current
-    → get folder name ≡ Some text → Takes current name text file lines → Opens current (found_in folder current) file lines
-first_opens current name text folder file lines =
-    there_opens current (first_name current) name text folder (found_at (second_name current) (get folder (second_name current)) None) file lines
+pub first_opens : (journals : Bool) (current name front text : Bytes) (folder now : Folder) (file : Option Opened) (lines : List Bytes) → name ≡ first_name current
+    → get folder name ≡ Some text → front ≡ take (limit + 1) text → now ≡ folder → TakesBeside (journal_beside journals now name) current name front file lines
+    → OpensBeside journals folder current (found_in folder current) file lines
+first_opens journals current name front text folder now file lines =
+    there_opens journals current (first_name current) name front text folder now (second_found folder current) file lines
 
-pub first_absent : (current name : Bytes) (folder now : Folder) (file : Option Opened) (lines : List Bytes) → name ≡ first_name current
-    → get folder name ≡ None → now ≡ folder → Opens current (found_at (second_name current) (get now (second_name current)) None) file lines
-    → Opens current (found_in folder current) file lines
-first_absent current name folder now file lines is held same opens =
-    absent_opens current (first_name current) name folder (found_at (second_name current) (get folder (second_name current)) None) file lines is held
-    (subst (λ (f : Folder). Opens current (found_at (second_name current) (get f (second_name current)) None) file lines) same opens)
+pub first_absent : (journals : Bool) (current name : Bytes) (folder now : Folder) (file : Option Opened) (lines : List Bytes) → name ≡ first_name current
+    → get folder name ≡ None → now ≡ folder → OpensBeside journals now current (second_found now current) file lines
+    → OpensBeside journals folder current (found_in folder current) file lines
+first_absent journals current name folder now file lines is held same opens =
+    absent_opens journals current (first_name current) name folder (second_found folder current) file lines is held
+    (subst (λ (f : Folder). OpensBeside journals f current (second_found f current) file lines) same opens)
+
+-- without journals a file is opened as its text says
+pub plain_opens : (journals : Bool) (current : Bytes) (folder : Folder) (found : Option PackagesFound) (file : Option Opened) (lines : List Bytes) → journals ≡ false
+    → OpensBeside journals folder current found file lines → Opens current found file lines
+plain_opens journals current folder (Some found) file lines is opens =
+    subst (λ (b : Bool). TakesBeside (journal_beside b folder found.0) current found.0 found.1 file lines) is opens
+plain_opens journals current folder None file lines is opens = opens

@@ -1,4 +1,6 @@
 pub mod Found
+pub mod Journals
+pub mod Keeps
 pub mod Kept
 pub mod Opens
 pub mod Packages

@@ -1,22 +1,19 @@
 -- How a package is opened, and what an action does in one.
-use Rattle.std.specs.Prelude.{◌≡◌, ◌⊎◌, ◌↔◌, ◌+◌, ℕ, List, [], ◌∷◌, take, codes, Option, Some, None, Result}
+use Rattle.std.specs.Prelude.{◌≡◌, ◌⊎◌, ◌↔◌, ◌+◌, ℕ, List, [], ◌∷◌, take, codes, Option, Some, None}
 use Rattle.bz_lex.specs.declared.fault.ReadFault.{ReadFault}
 use Rattle.bz_tree.specs.Legal.{Accepted}
 use Rattle.bz_tree.specs.Spell.{limit}
 use Rattle.bz_items.specs.Characters.{Bytes}
 use Rattle.bz_journal.specs.Actions.{Action}
-use Rattle.bz_journal.specs.declared.action.Reply.{Reply}
-use Rattle.bz_journal.specs.declared.keeping.KeepFault.{KeepFault}
 use Rattle.bz_tree.specs.Faults.{IsFaultOf}
 use Rattle.bz_journal.specs.History.{History, Answer, opened, Acts}
-use Rattle.bz_journal.specs.Keeping.{Keeps}
 use Rattle.bz_ports.specs.Told.{named_line, fault_line}
-use Rattle.bz_workspace.specs.Packages.{Opened, Used, file_at, with_opened}
+use Rattle.bz_workspace.specs.Packages.{Opened, Used, file_at, opened_with, with_opened}
 use Rattle.bz_workspace.specs.Found.{PackagesFound, second_name}
 
 -- a text of this name, as it was read, with the history that begins with it
 abbrev pub opened_fresh : Bytes → Bytes → Bytes → Opened
-opened_fresh current name text = record { name = name; read = text; history = opened current text }
+opened_fresh current name text = opened_with name text (opened current text)
 
 -- An accepted text is opened; of every other text its fault is told.
 abbrev pub Takes : Bytes → Bytes → Bytes → Option Opened → List Bytes → Type 0
@@ -40,12 +37,4 @@ pub record ActsAt (place : ℕ) (action : Action) (note : Bytes) (before : List 
   pub history : History
   pub there : file_at place before ≡ Some file
   pub acts : Acts action note file.history answer history
-  pub kept : after ≡ with_opened place (Some (record file { history = history })) before
-
--- The same, and its journal and it are kept, or not.
-pub record KeepsAt (place : ℕ) (action : Action) (note : Bytes) (before : List Used) (answer : Result Reply KeepFault) (after : List Used) : Type 0 where
-  pub file : Opened
-  pub history : History
-  pub there : file_at place before ≡ Some file
-  pub keeps : Keeps action note file.history answer history
   pub kept : after ≡ with_opened place (Some (record file { history = history })) before

@@ -1,14 +1,21 @@
 -- The packages that a run has used, each with its file where that was opened, in order of first use.
-use Rattle.std.specs.Prelude.{ℕ, ◌+◌, zero, suc, List, [], ◌∷◌, bytes_eq, if◌then◌else◌, Option, Some, None}
+use Rattle.std.specs.Prelude.{ℕ, ◌+◌, zero, suc, Bool, false, List, [], ◌∷◌, bytes_eq, if◌then◌else◌, Option, Some, None}
 use Rattle.std.specs.Option.{option_map}
 use Rattle.bz_items.specs.Characters.{Bytes}
 use Rattle.bz_journal.specs.History.{History}
 
--- an open file: its name, the text that was read, and its history
+-- an open file: its name, the text that was read, and its history; whether its journal and it were written in this run, and whether
+-- it is left alone since the two could not both be written
 pub record Opened : Type 0 where
   pub name : Bytes
   pub read : Bytes
   pub history : History
+  pub written : Bool
+  pub left : Bool
+
+-- a file of this name at the text that was read, with its history; nothing was written yet
+abbrev pub opened_with : Bytes → Bytes → History → Opened
+opened_with name text history = record { name = name; read = text; history = history; written = false; left = false }
 
 -- a package, and its file; none where it could not be opened
 pub record Used : Type 0 where

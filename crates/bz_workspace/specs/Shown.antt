@@ -7,7 +7,7 @@ use Rattle.bz_workspace.specs.declared.used.Opened.{Opened}
 use Rattle.bz_workspace.specs.declared.used.Used.{Used}
 
 abbrev pub opened_in : Opened → p.Opened
-opened_in file = record { name = string_bytes file.name; read = file.read; history = session_history file.editor }
+opened_in file = record { name = string_bytes file.name; read = file.read; history = session_history file.editor; written = file.written; left = file.left }
 
 abbrev pub used_in : Used → p.Used
 used_in used = record { «package» = used.«package»; file = option_map opened_in used.file }

@@ -1,7 +1,20 @@
 //! Facts about the definitions, for readers: the functions do nothing.
+ghost use Rattle.bz_workspace.specs.Found.{PackagesAreApart};
+ghost use Rattle.bz_workspace.specs.Journals.{JournalGivesOne};
 ghost use Rattle.bz_workspace.specs.Opens.{FrontsAreToldAlike};
 
 /// A text and its first bytes, one more than a text may have, are opened or told alike. So of a file no more has to be read.
 pub fn fronts_are_told_alike()
     ensures { FrontsAreToldAlike }
+{}
+
+/// One thing comes of a journal at the text of a file: the history that goes on, or why none does.
+pub fn one_thing_comes_of_a_journal()
+    ensures { JournalGivesOne }
+{}
+
+/// The files of two packages have different names, and none is the name of the other's journal, nor one under which that or the file
+/// is written first; nor has its journal such a name.
+pub fn packages_are_apart()
+    ensures { PackagesAreApart }
 {}

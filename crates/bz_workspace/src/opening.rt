@@ -1,13 +1,16 @@
 //! What opening a file takes: its name, its bytes and its session.
-ghost use Rattle.std.specs.Prelude.{◌≡◌, ◌≢◌, ◌⊎◌, ◌≤◌, length, take, true, Some, None, IfOk, IfErr, IsErrOf, string_bytes};
+ghost use Rattle.std.specs.Prelude.{◌≡◌, ◌≢◌, ◌⊎◌, ◌≤◌, length, take, true, Some, None, Ok, Err, IfOk, IfErr, IsErrOf, string_bytes};
 ghost use Rattle.std.specs.FinMap.{get};
 ghost use Rattle.bz_tree.specs.Legal.{Accepted};
 ghost use Rattle.bz_items.specs.Characters.{Bytes};
 ghost use Rattle.bz_tree.specs.Faults.{IsFaultOf};
 ghost use Rattle.bz_ports.specs.Faults.{Rises, AppendsUnlessFailed};
 ghost use Rattle.bz_ports.specs.Told.{named_line};
+ghost use Rattle.bz_journal.specs.History.{History};
 ghost use Rattle.bz_workspace.specs.Found.{in_package};
+ghost use Rattle.bz_workspace.specs.Journals.{JournalGives, fault_word};
 ghost use Rattle.bz_workspace.specs.Opens.{opened_fresh};
+ghost use Rattle.bz_workspace.specs.Packages.{opened_with};
 ghost use Rattle.bz_workspace.specs.Shown.{opened_in};
 
 use crate::Opened;
@@ -100,8 +103,15 @@ pub(crate) fn resumed(
     name: &str,
     journal: &[u8],
     text: Vec<u8>,
-) -> Result<Opened, ResumeFault> {
-    let session = Session::resume(alloc, journal, text.as_slice())?;
+) -> Result<Opened, ResumeFault>
+    ensures ok { IfOk result (λ file. (history : History) × JournalGives «package».now journal.now text.items (Ok history)
+        × (opened_in file ≡ opened_with name.now text.items history)) }
+    ensures err { IfErr result (λ fault. (fault ≡ ResumeFault.Memory) ⊎ JournalGives «package».now journal.now text.items (Err fault)) }
+{
+    let session = match Session::resume(alloc, journal, text.as_slice()) {
+        Ok(session) => session,
+        Err(fault) => return Err(fault),
+    };
     if session.package.as_str() != package {
         return Err(ResumeFault::Damaged);
     }
@@ -110,12 +120,25 @@ pub(crate) fn resumed(
 }
 
 /// The name and the number of why a journal is refused, as they are told after its name.
-pub(crate) fn told_fault(fault: &ResumeFault) -> &'static str {
+pub(crate) fn told_fault(fault: &ResumeFault) -> &'static str
+    ensures { result.now ≡ fault_word fault.now }
+{
     match fault {
         ResumeFault::Memory => "Memory (8)",
         ResumeFault::Damaged => "Damaged (71)",
         ResumeFault::Version => "Version (72)",
         ResumeFault::Stale => "Stale (73)",
+    }
+}
+
+/// Memory that was refused cuts a run, and no other fault of a journal.
+pub(crate) fn cut_of(fault: &ResumeFault) -> Cut
+    ensures whole { result ≡ Cut.Whole → fault.now ≢ ResumeFault.Memory }
+    ensures kinds { (result ≡ Cut.Whole) ⊎ (result ≡ Cut.Memory) }
+{
+    match fault {
+        ResumeFault::Memory => Cut::Memory,
+        _ => Cut::Whole,
     }
 }
 

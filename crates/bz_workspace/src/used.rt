@@ -1,14 +1,14 @@
 //! The packages that a run has used, and their files.
-ghost use Rattle.std.specs.Prelude.{◌≡◌, ◌<◌, ◌≤◌, map, length, Some, IsSome, string_bytes};
+ghost use Rattle.std.specs.Prelude.{◌≡◌, ◌<◌, ◌==◌, ◌||◌, not, true, map, length, Some, IsSome, string_bytes};
 ghost use Rattle.std.specs.Option.{option_map};
-ghost use Rattle.bz_files.specs.Faults.{Rises};
 ghost use Rattle.bz_journal.specs.Actions.{action_in};
 ghost use Rattle.bz_journal.specs.History.{History, Acts};
-ghost use Rattle.bz_journal.specs.Keeping.{IsWriteOrOpen, Keeps};
+ghost use Rattle.bz_journal.specs.Keeping.{IsRefused, Keeps};
 ghost use Rattle.bz_journal.specs.Shown.{session_history};
 ghost use Rattle.bz_workspace.specs.Packages as p;
-ghost use Rattle.bz_workspace.specs.Opens.{ActsAt, KeepsAt};
-ghost use Rattle.bz_workspace.specs.Packages.{file_at, with_opened};
+ghost use Rattle.bz_workspace.specs.Keeps.{KeepsAt, KeepsFile, after_keeping};
+ghost use Rattle.bz_workspace.specs.Opens.{ActsAt};
+ghost use Rattle.bz_workspace.specs.Packages.{file_at, opened_with, with_opened};
 ghost use Rattle.bz_workspace.specs.Shown.{opened_in, used_in};
 
 use bz_attribute::Refusal;
@@ -34,7 +34,7 @@ pub struct Opened {
 impl Opened {
     /// A file of this name as it was read, with its editor.
     pub(crate) fn new(name: String, read: Text, editor: Editor) -> Opened
-        ensures { opened_in result ≡ record { name = string_bytes name; read = read; history = session_history editor } }
+        ensures { opened_in result ≡ opened_with (string_bytes name) read (session_history editor) }
     {
         Opened {
             name,
@@ -45,30 +45,62 @@ impl Opened {
         }
     }
 
-    /// Does an action, and keeps the journal and the file where the text is another one then.
+    /// Does an action with a note, and keeps the journal and the file where the text is another one then. What became of the two is not
+    /// marked yet.
+    fn keep_pair<F: Files>(
+        &mut self,
+        action: &Action<'_>,
+        note: &str,
+        files: &mut F,
+    ) -> Result<Reply, KeepFault>
+        ensures keeps { Keeps (action_in action.now) note.now (opened_in self.old).history result (opened_in self.new).history }
+        ensures same { opened_in self.new ≡ record (opened_in self.old) { history = (opened_in self.new).history } }
+        ensures pair { KeepsFile F.Files (opened_in self.old).name (opened_in self.old).history (opened_in self.new).history result files.old files.new }
+    {
+        self.editor
+            .keep_noted(action, note, self.name.as_str(), files)
+    }
+
+    /// The same, and what became of the two is marked.
     fn keep<F: Files>(
         &mut self,
         action: &Action<'_>,
         note: &str,
         files: &mut F,
     ) -> Result<Reply, KeepFault>
-        ensures keeps { (history : History) × Keeps (action_in action.now) note.now (opened_in self.old).history result history
-            × (opened_in self.new ≡ record (opened_in self.old) { history = history }) }
-        ensures cause { IsWriteOrOpen result → Rises (F.faults files.old) (F.faults files.new) }
-        ensures rest { (IsWriteOrOpen result → ⊥) → F.faults files.new ≡ F.faults files.old }
-        ensures count { F.faults files.old ≤ F.faults files.new }
-        ensures honest { F.honest files.new ≡ F.honest files.old }
+        ensures { (history : History) × Keeps (action_in action.now) note.now (opened_in self.old).history result history
+            × (opened_in self.new ≡ after_keeping result history (opened_in self.old))
+            × KeepsFile F.Files (opened_in self.old).name (opened_in self.old).history history result files.old files.new }
     {
         let from = self.editor.cursor();
-        let kept = self
-            .editor
-            .keep_noted(action, note, self.name.as_str(), files);
-        match &kept {
-            Ok(_) => self.written = self.written || self.editor.cursor() != from,
-            Err(KeepFault::Refused(_)) => {}
-            Err(KeepFault::Pair(_)) => self.left = true,
+        match self.keep_pair(action, note, files) {
+            Ok(reply) => {
+                self.written = has_written(self.written, from, self.editor.cursor());
+                Ok(reply)
+            }
+            Err(fault) => {
+                self.left = leaves(self.left, &fault);
+                Err(fault)
+            }
         }
-        kept
+    }
+}
+
+/// Whether a pair was written before, or was now since the number of the present text is another one.
+fn has_written(before: bool, from: u32, to: u32) -> bool
+    ensures { result ≡ (before || not (to == from)) }
+{
+    before || to != from
+}
+
+/// Whether a file is left alone: it was before, or its pair could not be written now.
+fn leaves(before: bool, fault: &KeepFault) -> bool
+    ensures refused { IsRefused fault.now → result ≡ before }
+    ensures pair { (IsRefused fault.now → ⊥) → result ≡ true }
+{
+    match fault {
+        KeepFault::Refused(_) => before,
+        KeepFault::Pair(_) => true,
     }
 }
 
@@ -79,6 +111,40 @@ pub struct Used {
     pub package: Text,
     /// Its file; none where it could not be opened.
     pub file: Option<Opened>,
+}
+
+impl Used {
+    /// Does an action with a note in the file, which is open. Errors: those of `Editor::act_noted`.
+    fn act(&mut self, action: &Action<'_>, note: &str) -> Result<Reply, Refusal>
+        requires { IsSome self.old.file }
+        ensures { (file : p.Opened) × (history : History) × ((used_in self.old).file ≡ Some file)
+            × Acts (action_in action.now) note.now file.history result history
+            × (used_in self.new ≡ record (used_in self.old) { file = Some (record file { history = history }) }) }
+    {
+        match &mut self.file {
+            Some(opened) => opened.editor.act_noted(action, note),
+            None => unreachable!(),
+        }
+    }
+
+    /// The same, and its journal and it are kept. Errors: those of `Editor::keep_noted`.
+    fn keep<F: Files>(
+        &mut self,
+        action: &Action<'_>,
+        note: &str,
+        files: &mut F,
+    ) -> Result<Reply, KeepFault>
+        requires { IsSome self.old.file }
+        ensures { (file : p.Opened) × (history : History) × ((used_in self.old).file ≡ Some file)
+            × Keeps (action_in action.now) note.now file.history result history
+            × (used_in self.new ≡ record (used_in self.old) { file = Some (after_keeping result history file) })
+            × KeepsFile F.Files file.name file.history history result files.old files.new }
+    {
+        match &mut self.file {
+            Some(opened) => opened.keep(action, note, files),
+            None => unreachable!(),
+        }
+    }
 }
 
 /// The package with this number has this file from now on.
@@ -99,19 +165,6 @@ pub(crate) fn place_of_open(place: usize, used: &Used) -> Option<usize>
     }
 }
 
-/// Does an action with a note in the file, which is open.
-fn act_in(used: &mut Used, action: &Action<'_>, note: &str) -> Result<Reply, Refusal>
-    requires { IsSome used.old.file }
-    ensures { (file : p.Opened) × (history : History) × ((used_in used.old).file ≡ Some file)
-        × Acts (action_in action.now) note.now file.history result history
-        × (used_in used.new ≡ record (used_in used.old) { file = Some (record file { history = history }) }) }
-{
-    match &mut used.file {
-        Some(opened) => opened.editor.act_noted(action, note),
-        None => Err(Refusal::Memory),
-    }
-}
-
 /// Does an action with a note in the open file of the package with this number.
 pub(crate) fn act_at(
     used: &mut Vec<Used>,
@@ -123,32 +176,10 @@ pub(crate) fn act_at(
     requires there { IsSome (file_at place (map used_in used.old.items)) }
     ensures { ActsAt place (action_in action.now) note.now (map used_in used.old.items) result (map used_in used.new.items) }
 {
-    act_in(&mut used[place], action, note)
+    used[place].act(action, note)
 }
 
-/// Does an action with a note in the file, which is open, and keeps its journal and it.
-fn keep_in<F: Files>(
-    used: &mut Used,
-    action: &Action<'_>,
-    note: &str,
-    files: &mut F,
-) -> Result<Reply, KeepFault>
-    requires { IsSome used.old.file }
-    ensures keeps { (file : p.Opened) × (history : History) × ((used_in used.old).file ≡ Some file)
-        × Keeps (action_in action.now) note.now file.history result history
-        × (used_in used.new ≡ record (used_in used.old) { file = Some (record file { history = history }) }) }
-    ensures cause { IsWriteOrOpen result → Rises (F.faults files.old) (F.faults files.new) }
-    ensures rest { (IsWriteOrOpen result → ⊥) → F.faults files.new ≡ F.faults files.old }
-    ensures count { F.faults files.old ≤ F.faults files.new }
-    ensures honest { F.honest files.new ≡ F.honest files.old }
-{
-    match &mut used.file {
-        Some(opened) => opened.keep(action, note, files),
-        None => Err(KeepFault::Refused(Refusal::Memory)),
-    }
-}
-
-/// Does an action with a note in the open file of the package with this number, and keeps its journal and it.
+/// The same, and its journal and it are kept.
 pub(crate) fn keep_at<F: Files>(
     used: &mut Vec<Used>,
     place: usize,
@@ -158,11 +189,7 @@ pub(crate) fn keep_at<F: Files>(
 ) -> Result<Reply, KeepFault>
     requires within { place < length used.old.items }
     requires there { IsSome (file_at place (map used_in used.old.items)) }
-    ensures keeps { KeepsAt place (action_in action.now) note.now (map used_in used.old.items) result (map used_in used.new.items) }
-    ensures cause { IsWriteOrOpen result → Rises (F.faults files.old) (F.faults files.new) }
-    ensures rest { (IsWriteOrOpen result → ⊥) → F.faults files.new ≡ F.faults files.old }
-    ensures count { F.faults files.old ≤ F.faults files.new }
-    ensures honest { F.honest files.new ≡ F.honest files.old }
+    ensures { KeepsAt F.Files place (action_in action.now) note.now (map used_in used.old.items) result (map used_in used.new.items) files.old files.new }
 {
-    keep_in(&mut used[place], action, note, files)
+    used[place].keep(action, note, files)
 }

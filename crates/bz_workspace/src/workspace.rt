@@ -9,20 +9,22 @@ ghost use Rattle.bz_workspace.specs.Found.{found_in, found_at, second_name};
 ghost use Rattle.bz_workspace.specs.Kept.{texts_of_keys, packages_of};
 ghost use Rattle.bz_journal.specs.Actions.{action_in};
 ghost use Rattle.bz_journal.specs.Keeping.{IsWriteOrOpen};
-ghost use Rattle.bz_workspace.specs.Opens.{ActsAt, KeepsAt, Opens, Takes};
+ghost use Rattle.bz_workspace.specs.Journals.{OpensBeside, TakesBeside, journal_beside};
+ghost use Rattle.bz_workspace.specs.Keeps.{KeepsAt};
+ghost use Rattle.bz_workspace.specs.Opens.{ActsAt, Opens, Takes};
 ghost use Rattle.bz_workspace.specs.Packages as p;
 ghost use Rattle.bz_workspace.specs.Packages.{file_at, package_number, with_opened};
-ghost use Rattle.bz_workspace.specs.Shown.{used_in};
+ghost use Rattle.bz_workspace.specs.Shown.{opened_in, used_in};
 
 use crate::opening::{
-    bytes_of, fail, is_memory, name_in, opened, resumed, told_fault, unnamed, without_file,
+    bytes_of, cut_of, fail, is_memory, name_in, opened, resumed, told_fault, unnamed, without_file,
 };
 use crate::used::{act_at, keep_at, place_of_open, put_file};
-use crate::{Opening, Used};
+use crate::{Opened, Opening, Used};
 use bz_attribute::Refusal;
 use bz_files::{FileFault, Files};
 use bz_items::{Memory, Text, at};
-use bz_journal::{Action, KeepFault, Reply, ResumeFault};
+use bz_journal::{Action, KeepFault, Reply};
 use bz_keep::journal_name;
 use bz_ports::{Cut, MOST, Sink, tell_fault, tell_named};
 use indexmap::IndexSet;
@@ -123,6 +125,20 @@ impl Workspace {
         }
     }
 
+    /// The package with this number has this file, which is open, from now on.
+    fn put(&mut self, place: usize, file: Opened) -> Opening
+        requires { place < length self.old }
+        ensures opening { result ≡ record { place = Some place; cut = Cut.Whole } }
+        ensures put { self.new ≡ with_opened place (Some (opened_in file)) self.old }
+        ensures there { IsSome (file_at place self.new) }
+    {
+        put_file(&mut self.used, place, Some(file));
+        Opening {
+            place: Some(place),
+            cut: Cut::Whole,
+        }
+    }
+
     /// Opens the file of a used package with what was read of it, or tells its fault: `NAME:LINE:COLUMN: FAULT`,
     /// `NAME: NotUtf8 at BYTE` or `NAME: FAULT`. The name and the package are taken as given. It is cut where memory was
     /// refused, which is told as `NAME: Memory`; all packages are then as before.
@@ -146,13 +162,7 @@ impl Workspace {
     {
         let alloc = *self.used.allocator();
         let fault = match opened(alloc, package, name, text) {
-            Ok(file) => {
-                put_file(&mut self.used, place, Some(file));
-                return Opening {
-                    place: Some(place),
-                    cut: Cut::Whole,
-                };
-            }
+            Ok(file) => return self.put(place, file),
             Err(fault) => fault,
         };
         tell_fault(err, name, &fault);
@@ -161,37 +171,6 @@ impl Workspace {
         }
         put_file(&mut self.used, place, None);
         without_file(Cut::Whole)
-    }
-
-    /// Opens the file of a used package with what was read of it and of its journal, or tells `JOURNAL: NAME (NUMBER)`. It is cut
-    /// where memory was refused.
-    fn open_resumed<E: Sink>(
-        &mut self,
-        place: usize,
-        package: &str,
-        name: &str,
-        journal: (&str, Vec<u8>),
-        text: Vec<u8>,
-        err: &mut E,
-    ) -> Opening
-        requires { place < length self.old }
-        ensures there { IfSome result.place (λ at. IsSome (file_at at self.new)) }
-        ensures kept { take place self.new ≡ take place self.old }
-        ensures cut { (result.cut ≡ Cut.Whole) ⊎ (result.cut ≡ Cut.Memory) }
-    {
-        let alloc = *self.used.allocator();
-        let (journal, bytes) = journal;
-        match resumed(alloc, package, name, bytes.as_slice(), text) {
-            Ok(file) => {
-                put_file(&mut self.used, place, Some(file));
-                Opening {
-                    place: Some(place),
-                    cut: Cut::Whole,
-                }
-            }
-            Err(ResumeFault::Memory) => fail(err, journal, "Memory (8)", Cut::Memory),
-            Err(fault) => fail(err, journal, told_fault(&fault), Cut::Whole),
-        }
     }
 
     /// Opens the file of a used package with what was read of it: its journal is read, and resumed where it is there. A journal may be
@@ -207,6 +186,12 @@ impl Workspace {
     ) -> Opening
         requires short { length «package».now ≤ 65536 }
         requires within { place < length self.old }
+        requires closed { file_at place self.old ≡ None }
+        ensures whole { F.honest files.old ≡ true → result.cut ≡ Cut.Whole → (file : Option p.Opened) × (lines : List Bytes)
+            × TakesBeside (journal_beside true (F.folder files.old) name.now) «package».now name.now text.items file lines
+            × (self.new ≡ with_opened place file self.old)
+            × (result.place ≡ option_map (λ _. place) file)
+            × Tells (E.faults err.old) (E.faults err.new) (E.contents err.old) (E.contents err.new) lines }
         ensures there { IfSome result.place (λ at. IsSome (file_at at self.new)) }
         ensures kept { take place self.new ≡ take place self.old }
         ensures folder { F.honest files.old ≡ true → F.folder files.new ≡ F.folder files.old }
@@ -221,7 +206,10 @@ impl Workspace {
         };
         let journal = journal.as_str();
         match bytes_of(alloc, files, journal, usize::MAX) {
-            Ok(bytes) => self.open_resumed(place, package, name, (journal, bytes), text, err),
+            Ok(bytes) => match resumed(alloc, package, name, bytes.as_slice(), text) {
+                Ok(file) => self.put(place, file),
+                Err(fault) => fail(err, journal, told_fault(&fault), cut_of(&fault)),
+            },
             Err(FileFault::Absent) => self.open_text(place, package, name, text, err),
             Err(FileFault::Memory) => fail(err, journal, "Memory", Cut::Memory),
             Err(_) => fail(err, journal, "cannot open", Cut::Files),
@@ -241,8 +229,9 @@ impl Workspace {
     ) -> Opening
         requires short { length «package».now ≤ 65536 }
         requires within { place < length self.old }
-        ensures whole { journals ≡ false → result.cut ≡ Cut.Whole → (file : Option p.Opened) × (lines : List Bytes)
-            × Takes «package».now name.now text.items file lines
+        requires closed { file_at place self.old ≡ None }
+        ensures whole { F.honest files.old ≡ true → result.cut ≡ Cut.Whole → (file : Option p.Opened) × (lines : List Bytes)
+            × TakesBeside (journal_beside journals (F.folder files.old) name.now) «package».now name.now text.items file lines
             × (self.new ≡ with_opened place file self.old)
             × (result.place ≡ option_map (λ _. place) file)
             × Tells (E.faults err.old) (E.faults err.new) (E.contents err.old) (E.contents err.new) lines }
@@ -273,8 +262,8 @@ impl Workspace {
         requires short { length «package».now ≤ 65536 }
         requires within { place < length self.old }
         requires closed { file_at place self.old ≡ None }
-        ensures second { journals ≡ false → F.honest files.old ≡ true → result.cut ≡ Cut.Whole → (file : Option p.Opened) × (lines : List Bytes)
-            × Opens «package».now (found_at (second_name «package».now) (get (F.folder files.old) (second_name «package».now)) None) file lines
+        ensures second { F.honest files.old ≡ true → result.cut ≡ Cut.Whole → (file : Option p.Opened) × (lines : List Bytes)
+            × OpensBeside journals (F.folder files.old) «package».now (found_at (second_name «package».now) (get (F.folder files.old) (second_name «package».now)) None) file lines
             × (self.new ≡ with_opened place file self.old)
             × (result.place ≡ option_map (λ _. place) file)
             × Tells (E.faults err.old) (E.faults err.new) (E.contents err.old) (E.contents err.new) lines }
@@ -311,8 +300,8 @@ impl Workspace {
         requires short { length «package».now ≤ 65536 }
         requires within { place < length self.old }
         requires closed { file_at place self.old ≡ None }
-        ensures first { journals ≡ false → F.honest files.old ≡ true → result.cut ≡ Cut.Whole → (file : Option p.Opened) × (lines : List Bytes)
-            × Opens «package».now (found_in (F.folder files.old) «package».now) file lines
+        ensures first { F.honest files.old ≡ true → result.cut ≡ Cut.Whole → (file : Option p.Opened) × (lines : List Bytes)
+            × OpensBeside journals (F.folder files.old) «package».now (found_in (F.folder files.old) «package».now) file lines
             × (self.new ≡ with_opened place file self.old)
             × (result.place ≡ option_map (λ _. place) file)
             × Tells (E.faults err.old) (E.faults err.new) (E.contents err.old) (E.contents err.new) lines }
@@ -367,6 +356,12 @@ impl Workspace {
             × (self.new ≡ self.old ++ record { «package» = «package».now; file = file } ∷ [])
             × (result.place ≡ option_map (λ _. length self.old) file)
             × Tells (E.faults err.old) (E.faults err.new) (E.contents err.old) (E.contents err.new) lines }
+        ensures opens { F.honest files.old ≡ true → result.cut ≡ Cut.Whole → package_number «package».now self.old ≡ None
+            → (file : Option p.Opened) × (lines : List Bytes)
+            × OpensBeside journals (F.folder files.old) «package».now (found_in (F.folder files.old) «package».now) file lines
+            × (self.new ≡ self.old ++ record { «package» = «package».now; file = file } ∷ [])
+            × (result.place ≡ option_map (λ _. length self.old) file)
+            × Tells (E.faults err.old) (E.faults err.new) (E.contents err.old) (E.contents err.new) lines }
         ensures there { IfSome result.place (λ at. IsSome (file_at at self.new)) }
 
         // The packages that were used before stay as they were, whatever comes.
@@ -408,7 +403,7 @@ impl Workspace {
         files: &mut F,
     ) -> Result<Reply, KeepFault>
         requires { IsSome (file_at place self.old) }
-        ensures keeps { KeepsAt place (action_in action.now) note.now self.old result self.new }
+        ensures keeps { KeepsAt F.Files place (action_in action.now) note.now self.old result self.new files.old files.new }
         ensures cause { IsWriteOrOpen result → Rises (F.faults files.old) (F.faults files.new) }
         ensures rest { (IsWriteOrOpen result → ⊥) → F.faults files.new ≡ F.faults files.old }
         ensures count { F.faults files.old ≤ F.faults files.new }

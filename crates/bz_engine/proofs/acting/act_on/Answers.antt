@@ -1,11 +1,15 @@
-use Rattle.std.proofs.Common.{◌∙◌, [], ap, sym}
+use Rattle.std.proofs.Common.{◌∙◌, ◌&&◌, [], Bool, Option, false, true≢false, ap, sym}
+use Rattle.std.specs.Option.{option_map_or}
 use Rattle.std.specs.Prelude.{option_map}
 use Rattle.bz_workspace.specs.Sessions.{action_in}
 use Rattle.bz_line.specs.Shown.{asking_in}
-use Rattle.bz_workspace.specs.Packages.{file_at}
+use Rattle.bz_workspace.specs.Packages.{Opened, file_at}
+use Rattle.bz_engine.specs.Keeping.{is_left_at}
 use Rattle.bz_engine.specs.Shown.{progress_in}
 use Rattle.bz_engine.specs.Steps.{step_of}
-use Rattle.bz_engine.proofs.DoSteps.{listed_answers}
+use Rattle.bz_engine.proofs.ActSteps.{some_of}
+use Rattle.bz_engine.proofs.StandSteps.{package_at}
+use Rattle.bz_engine.proofs.DoSteps.{listed_answers, listed_beside}
 use Rattle.bz_engine.proofs.acting.act_on.Goals as goal
 
 pub returns-in-None-clause-whole : goal.returns-in-None-clause-whole
@@ -16,3 +20,22 @@ returns-in-None-clause-whole g c = λ plain whole.
           (progress_in c.list_at.new.run) done.1 (sym (ap (option_map action_in) c.in-None.is) ∙ c.action_of.ensures) done.2,
       done.3,
     )
+
+pub returns-in-None-clause-beside : goal.returns-in-None-clause-beside
+returns-in-None-clause-beside g c = λ kept honest stand whole.
+    let done = c.list_at.ensures.whole whole in (
+      [],
+      listed_beside (step_of c.args.target.now (asking_in c.args.asking.now)) c.args.place (file_at c.args.place c.args.run.now.workspace) done.0
+          (g.F.Files.folder c.args.files.now) (progress_in c.args.run.now) (progress_in c.list_at.new.run) done.1
+          (sym (ap (option_map action_in) c.in-None.is) ∙ c.action_of.ensures) done.2,
+      done.3,
+    )
+
+pub returns-then-is_left_at-clause-beside : goal.returns-then-is_left_at-clause-beside
+returns-then-is_left_at-clause-beside g c = λ kept honest stand whole.
+    let used = c.args.run.now.workspace in
+    let place = c.args.place in
+    let some = some_of (file_at place used) c.requires in
+    let stood = (package_at (g.F.Files.folder c.args.files.now) place used some.0 some.1 stand).1 in
+    absurd (true≢false (sym c.if-is_left_at.true ∙ c.is_left_at.ensures ∙ ap (λ (b : Bool). b && is_left_at place used) kept
+    ∙ ap (λ (found : Option Opened). option_map_or (λ (file : Opened). file.left) found false) some.1 ∙ stood.stays))

@@ -1,12 +1,15 @@
-use Rattle.std.proofs.Common.{◌≡◌, ◌∙◌, ◌++◌, true, refl, ap, sym}
+use Rattle.std.proofs.Common.{◌≡◌, ◌∙◌, ◌++◌, true, refl, ap, sym, subst}
 use Rattle.bz_line.specs.Shown.{asking_in}
 use Rattle.bz_ports.proofs.Outputs.{counts_more, tells_more}
+use Rattle.bz_files.specs.Folder.{Folder}
 use Rattle.bz_workspace.specs.Packages.{file_at}
+use Rattle.bz_engine.specs.Keeping.{AllStand}
 use Rattle.bz_engine.specs.Shown.{progress_in}
 use Rattle.bz_engine.specs.Steps.{input_package, step_of}
 use Rattle.bz_engine.proofs.CutSteps.{both_whole, by_name, cut_behind, neither_read, works_unread}
-use Rattle.bz_engine.proofs.DoSteps.{done_there, done_nowhere}
+use Rattle.bz_engine.proofs.DoSteps.{beside_there, beside_nowhere, done_there, done_nowhere}
 use Rattle.bz_engine.proofs.OpenSteps.{left_after}
+use Rattle.bz_engine.proofs.StandSteps.{uses_stand}
 use Rattle.bz_engine.proofs.ReadSteps.{step_there, step_nowhere}
 use Rattle.bz_engine.proofs.acting.do_step.Goals as goal
 
@@ -15,6 +18,7 @@ returns-in-Some g c =
     let opening = c.open_package-opening in
     let name = c.package_of-package.result.now in
     let named = c.package_of-package.ensures in
+    let folder = g.F.Files.folder in
     let is_honest = g.F.Files.honest c.args.files.now ≡ true in
     let step = step_of c.args.target.now (asking_in c.args.asking.now) in
     let before = progress_in c.args.run.now in
@@ -40,6 +44,18 @@ returns-in-Some g c =
           step_there step opening.result.cut c.act_on.result c.first_cut.result opening.result.place at at before used after
           (opening.ensures.input plain (named ∙ is)) c.in-Some.is c.first_cut.ensures (c.act_on.ensures.kinds plain)
           (λ whole. let done = c.act_on.ensures.whole plain whole in (done.0, done.1));
+      keeps = λ kept honest whole stand.
+          let both = both_whole opening.result.cut c.act_on.result c.first_cut.result c.first_cut.ensures whole in
+          let opened = opening.ensures.beside kept honest both.0 in
+          let still = opening.ensures.kept kept honest in
+          let stood = uses_stand (folder c.args.files.now) name before.used opened.0 opened.1 used opened.2 stand in
+          let done = c.act_on.ensures.beside kept (opening.ensures.honest ∙ honest) (subst (λ (f : Folder). AllStand f used) (sym still) stood) both.1 in (
+            opened.1 ++ done.0,
+            beside_there step (folder c.args.files.now) (folder opening.new.files) (folder c.act_on.new.files) before after used opening.result.place opened.0 at name
+                opened.1 done.0 named still opened.2 c.in-Some.is opened.3 done.1,
+            tells_more (g.E.Sink.faults c.args.err.now) (g.E.Sink.faults opening.new.err) (g.E.Sink.faults c.act_on.new.err)
+                (g.E.Sink.contents c.args.err.now) (g.E.Sink.contents opening.new.err) (g.E.Sink.contents c.act_on.new.err) opened.1 done.0 opened.4 done.2,
+          );
       unread = λ kept.
           let same = opening.ensures.unread kept in (
             same.0,
@@ -62,6 +78,7 @@ returns-in-None g c =
     let opening = c.open_package-opening in
     let name = c.package_of-package.result.now in
     let named = c.package_of-package.ensures in
+    let folder = g.F.Files.folder in
     let is_honest = g.F.Files.honest c.args.files.now ≡ true in
     let before = progress_in c.args.run.now in
     let used = opening.new.workspace in
@@ -78,6 +95,13 @@ returns-in-None g c =
       input = λ plain is.
           step_nowhere opening.result.cut opening.result.place before used (record before { used = used; failed = true })
           (opening.ensures.input plain (named ∙ is)) refl;
+      keeps = λ kept honest whole stand.
+          let opened = opening.ensures.beside kept honest whole in (
+            opened.1,
+            beside_nowhere (step_of c.args.target.now (asking_in c.args.asking.now)) (folder c.args.files.now) (folder opening.new.files) before used
+                opening.result.place opened.0 name opened.1 named (opening.ensures.kept kept honest) opened.2 c.in-None.is opened.3,
+            opened.4,
+          );
       unread = opening.ensures.unread;
       cut = opening.ensures.cut;
       reads = opening.ensures.reads;

@@ -6,7 +6,7 @@ use Rattle.bz_engine.proofs.EndingSteps.{one, writing_is, written_alone}
 use Rattle.bz_engine.proofs.ending.write_file.Goals as goal
 
 pub returns-in-Ok-Some-clause-writes : goal.returns-in-Ok-Some-clause-writes
-returns-in-Ok-Some-clause-writes g c either whole =
+returns-in-Ok-Some-clause-writes g c plain either whole =
     let F = g.F.Files in
     let before = F.folder c.args.files.now in
     let after = F.folder c.replace.new.files in
@@ -14,7 +14,7 @@ returns-in-Ok-Some-clause-writes g c either whole =
     let used = used_in c.args.used.now in
     let text = c.in-Ok-Some.text.items in
     written_alone before after file.name file.read text _ (F.honest c.args.files.now)
-    (writing_is c.args.options.to_stdout used file text c.if-options.false (sym c.is_input.ensures ∙ c.if-is_input.false)
+    (writing_is c.args.options.to_stdout used file text c.if-options-2.false (sym c.is_input.ensures ∙ c.if-is_input.false)
     (ap (option_map opened_in) c.in-Some.is) (rw c.in-Ok-Some.field-0-is at c.in-Ok-Some.ensures))
     (λ honest. subst (λ (name : List ℕ). WritesFiles (one name file.read text) before after) c.as_str.ensures.value
     (subst (λ (read : List ℕ). WritesFiles (one c.as_str.result.now read text) before after) c.as_slice.ensures

@@ -5,13 +5,13 @@ use Rattle.bz_line.specs.Shown.{given_in, line_in, line_usage_in}
 use Rattle.bz_ports.proofs.Outputs.{appends_nothing}
 use Rattle.bz_engine.specs.Outcome.{GivesNothing, LineGivesNothing}
 use Rattle.bz_engine.specs.Run.{World}
-use Rattle.bz_engine.proofs.Outcomes.{words_refused, words_done, words_plain, words_premise, words_of_input, script_premise}
+use Rattle.bz_engine.proofs.Outcomes.{words_refused, words_done, words_kept, words_premise, words_of_input, script_premise}
 use Rattle.bz_engine.proofs.UnusedSteps.{no_time, lines_apart, lines_of_input}
 use Rattle.bz_engine.proofs.UsageSteps.{words_told, given_told}
 use Rattle.bz_engine.proofs.engine.buildozer.Goals as goal
 
 pub returns-in-Err-clause-whole : goal.returns-in-Err-clause-whole
-returns-in-Err-clause-whole g c plain premise is_whole =
+returns-in-Err-clause-whole g c premise is_whole =
     let told = c.unlined.ensures.whole is_whole in
     let world : World = record { folder = g.F.Files.folder c.args.files.now; known = g.R.Source.remaining c.args.input.now } in
     words_refused (map g.S.AsStr.text c.args.words.now) world (line_usage_in c.in-Err.fault) told.1 told.2 c.unlined.result.status
@@ -19,27 +19,27 @@ returns-in-Err-clause-whole g c plain premise is_whole =
     (g.E.Sink.contents c.unlined.new.err) c.in-Err.ensures.err told.3 told.4 told.0 told.5
 
 pub returns-in-Operands-clause-whole : goal.returns-in-Operands-clause-whole
-returns-in-Operands-clause-whole g c plain premise is_whole =
+returns-in-Operands-clause-whole g c premise is_whole =
     let words = map g.S.AsStr.text c.args.words.now in
     let line = line_in c.in-Ok.line in
     let texts = map (λ (s : Bor (List ℕ)). s.now) c.deref.result.now in
     let same : line.given ≡ operands texts = ap given_in c.in-Operands.is ∙ ap (λ (these : List (Bor (List ℕ))). operands (map (λ (s : Bor (List ℕ)). s.now) these)) (sym c.deref.ensures.value) in
     let world : World = record { folder = g.F.Files.folder c.args.files.now; known = g.R.Source.remaining c.args.input.now } in
-    let done = c.run_operands.ensures.whole (words_plain words line c.in-Ok.ensures.ok plain) (words_premise (g.F.Files.honest c.args.files.now) words line (operands texts) c.in-Ok.ensures.ok same premise) is_whole in
+    let done = c.run_operands.ensures.whole (words_premise (g.F.Files.honest c.args.files.now) words line (operands texts) c.in-Ok.ensures.ok same premise) is_whole in
     (done.0, words_done words line (operands texts) world done.0 c.in-Ok.ensures.ok same done.1, done.2)
 
 pub returns-in-Operands-clause-write : goal.returns-in-Operands-clause-write
-returns-in-Operands-clause-write g c plain premise is_write =
+returns-in-Operands-clause-write g c premise is_write =
     let words = map g.S.AsStr.text c.args.words.now in
     let line = line_in c.in-Ok.line in
     let texts = map (λ (s : Bor (List ℕ)). s.now) c.deref.result.now in
     let same : line.given ≡ operands texts = ap given_in c.in-Operands.is ∙ ap (λ (these : List (Bor (List ℕ))). operands (map (λ (s : Bor (List ℕ)). s.now) these)) (sym c.deref.ensures.value) in
     let world : World = record { folder = g.F.Files.folder c.args.files.now; known = g.R.Source.remaining c.args.input.now } in
-    let done = c.run_operands.ensures.write (words_plain words line c.in-Ok.ensures.ok plain) (words_premise (g.F.Files.honest c.args.files.now) words line (operands texts) c.in-Ok.ensures.ok same premise) is_write in
-    (done.0, words_done words line (operands texts) world done.0 c.in-Ok.ensures.ok same done.1, done.2)
+    let done = c.run_operands.ensures.write (words_premise (g.F.Files.honest c.args.files.now) words line (operands texts) c.in-Ok.ensures.ok same premise) is_write in
+    (done.0, words_done words line (operands texts) world done.0 c.in-Ok.ensures.ok same done.1, done.2, done.3)
 
 pub returns-clause-whole : goal.returns-clause-whole
-returns-clause-whole g c plain premise is_whole =
+returns-clause-whole g c premise is_whole =
     let words = map g.S.AsStr.text c.args.words.now in
     let line = line_in c.in-Ok.line in
     let name = c.in-Script.name.now in
@@ -47,11 +47,11 @@ returns-clause-whole g c plain premise is_whole =
     let world : World = record { folder = g.F.Files.folder c.args.files.now; known = g.R.Source.remaining c.args.input.now } in
     let honest = script_premise (g.F.Files.honest c.args.files.now) name
     (words_premise (g.F.Files.honest c.args.files.now) words line (script name) c.in-Ok.ensures.ok same premise) in
-    let done = c.run_script.ensures.whole (words_plain words line c.in-Ok.ensures.ok plain) honest is_whole in
+    let done = c.run_script.ensures.whole honest is_whole in
     (done.0, words_done words line (script name) world done.0 c.in-Ok.ensures.ok same done.1, done.2)
 
 pub returns-clause-write : goal.returns-clause-write
-returns-clause-write g c plain premise is_write =
+returns-clause-write g c premise is_write =
     let words = map g.S.AsStr.text c.args.words.now in
     let line = line_in c.in-Ok.line in
     let name = c.in-Script.name.now in
@@ -59,8 +59,8 @@ returns-clause-write g c plain premise is_write =
     let world : World = record { folder = g.F.Files.folder c.args.files.now; known = g.R.Source.remaining c.args.input.now } in
     let honest = script_premise (g.F.Files.honest c.args.files.now) name
     (words_premise (g.F.Files.honest c.args.files.now) words line (script name) c.in-Ok.ensures.ok same premise) in
-    let done = c.run_script.ensures.write (words_plain words line c.in-Ok.ensures.ok plain) honest is_write in
-    (done.0, words_done words line (script name) world done.0 c.in-Ok.ensures.ok same done.1, done.2)
+    let done = c.run_script.ensures.write honest is_write in
+    (done.0, words_done words line (script name) world done.0 c.in-Ok.ensures.ok same done.1, done.2, done.3)
 
 pub returns-in-Operands-clause-unread : goal.returns-in-Operands-clause-unread
 returns-in-Operands-clause-unread g c nothing =
@@ -140,3 +140,13 @@ pub returns-clause-read : goal.returns-clause-read
 returns-clause-read g c none read =
     let line = line_in c.in-Ok.line in
     absurd (words_of_input (map g.S.AsStr.text c.args.words.now) line (script c.in-Script.name.now) c.in-Ok.ensures.ok (ap given_in c.in-Script.is) none)
+
+pub returns-in-Operands-clause-unread_kept : goal.returns-in-Operands-clause-unread_kept
+returns-in-Operands-clause-unread_kept g c kept takes =
+    c.run_operands.ensures.unread_kept (words_kept (map g.S.AsStr.text c.args.words.now) (line_in c.in-Ok.line) c.in-Ok.ensures.ok kept)
+
+pub returns-clause-unread_kept : goal.returns-clause-unread_kept
+returns-clause-unread_kept g c kept takes =
+    let line = line_in c.in-Ok.line in
+    c.run_script.ensures.unread_kept (words_kept (map g.S.AsStr.text c.args.words.now) line c.in-Ok.ensures.ok kept)
+    (lines_apart (map g.S.AsStr.text c.args.words.now) line c.in-Script.name.now c.in-Ok.ensures.ok (ap given_in c.in-Script.is) takes)

@@ -9,21 +9,21 @@ use Rattle.bz_engine.proofs.engine.run_lines_of.Goals.{else-of_input-via-then-of
 use Rattle.bz_engine.proofs.engine.run_lines_of.Goals as goal
 
 pub returns-then-names_input-clause-whole : goal.returns-then-names_input-clause-whole
-returns-then-names_input-clause-whole g c plain honest is_whole known before =
+returns-then-names_input-clause-whole g c honest is_whole known before =
     let world : World = record { folder = g.F.Files.folder c.args.files.now; known = known } in
     lines_refused c.args.options c.args.of_input c.names_input.result (map asked_in c.args.lines.now) world 1 (g.W.Sink.contents c.args.out.now)
     (g.E.Sink.faults c.args.err.now) (g.E.Sink.faults c.tell_input.new.err) (g.E.Sink.contents c.args.err.now) (g.E.Sink.contents c.tell_input.new.err)
     c.if-of_input.true c.if-names_input.true c.names_input.ensures refl c.tell_input.ensures
 
 pub returns-clause-whole : goal.returns-clause-whole
-returns-clause-whole g c plain honest is_whole known before =
+returns-clause-whole g c honest is_whole known before =
     let neither : c.args.of_input && names_input (map asked_in c.args.lines.now) ≡ false =
     elim c.else-of_input.branch [
       | else-of_input-via-then-of_input+else-names_input w ↦
           ap (λ (it : Bool). it && names_input (map asked_in c.args.lines.now)) w.if-of_input.true ∙ sym w.names_input.ensures ∙ w.if-names_input.false
       | else-of_input-via-else-of_input w ↦ ap (λ (it : Bool). it && names_input (map asked_in c.args.lines.now)) w.if-of_input.false
     ] in
-    let done = c.perform_lines.ensures.whole plain (inl honest) is_whole in (
+    let done = c.perform_lines.ensures.whole (inl honest) is_whole in (
       done.0,
       lines_done c.args.options c.args.of_input (map asked_in c.args.lines.now) (g.F.Files.folder c.args.files.now) known
           (g.R.Source.remaining c.args.input.now) done.0 neither before done.1,
@@ -31,18 +31,19 @@ returns-clause-whole g c plain honest is_whole known before =
     )
 
 pub returns-clause-write : goal.returns-clause-write
-returns-clause-write g c plain honest is_write known before =
+returns-clause-write g c honest is_write known before =
     let neither : c.args.of_input && names_input (map asked_in c.args.lines.now) ≡ false =
     elim c.else-of_input.branch [
       | else-of_input-via-then-of_input+else-names_input w ↦
           ap (λ (it : Bool). it && names_input (map asked_in c.args.lines.now)) w.if-of_input.true ∙ sym w.names_input.ensures ∙ w.if-names_input.false
       | else-of_input-via-else-of_input w ↦ ap (λ (it : Bool). it && names_input (map asked_in c.args.lines.now)) w.if-of_input.false
     ] in
-    let done = c.perform_lines.ensures.write plain (inl honest) is_write in (
+    let done = c.perform_lines.ensures.write (inl honest) is_write in (
       done.0,
       lines_done c.args.options c.args.of_input (map asked_in c.args.lines.now) (g.F.Files.folder c.args.files.now) known
           (g.R.Source.remaining c.args.input.now) done.0 neither before done.1,
       done.2,
+      done.3,
     )
 
 pub returns-then-names_input-clause-usage : goal.returns-then-names_input-clause-usage
@@ -53,3 +54,6 @@ returns-then-names_input-clause-usage g c is =
 
 pub returns-clause-usage : goal.returns-clause-usage
 returns-clause-usage g c is = let told = c.perform_lines.ensures.usage is in (no_journal_line, inr (told.0, told.1, refl), told.2)
+
+pub returns-clause-unread_kept : goal.returns-clause-unread_kept
+returns-clause-unread_kept g c kept = let still = c.perform_lines.ensures.reads_nothing kept in (still.0, still.1)

@@ -18,27 +18,27 @@ perform_lines-requires g c =
     subst (λ (lines : List Asked). All (λ (asked : Asked). All HasPath asked.targets.items) lines) (sym c.from_ref.ensures.value) paths
 
 pub returns-in-Ok-clause-whole : goal.returns-in-Ok-clause-whole
-returns-in-Ok-clause-whole g c plain premise is_whole =
+returns-in-Ok-clause-whole g c premise is_whole =
     let texts = map (λ (s : Bor (List ℕ)). s.now) c.args.operands.now in
     let asked = asked_in c.in-Ok.asked in
     let lines = map asked_in c.from_ref.result.now in
     let same : lines ≡ asked ∷ [] = ap (map asked_in) c.from_ref.ensures.value in
     let world : World = record { folder = g.F.Files.folder c.args.files.now; known = g.R.Source.remaining c.args.input.now } in
-    let done = c.perform_lines.ensures.whole plain (operands_premise (g.F.Files.honest c.args.files.now) texts asked lines c.in-Ok.ensures.ok same premise) is_whole in
+    let done = c.perform_lines.ensures.whole (operands_premise (g.F.Files.honest c.args.files.now) texts asked lines c.in-Ok.ensures.ok same premise) is_whole in
     (done.0, operands_done c.args.options texts world asked lines done.0 c.in-Ok.ensures.ok same done.1, done.2)
 
 pub returns-in-Ok-clause-write : goal.returns-in-Ok-clause-write
-returns-in-Ok-clause-write g c plain premise is_write =
+returns-in-Ok-clause-write g c premise is_write =
     let texts = map (λ (s : Bor (List ℕ)). s.now) c.args.operands.now in
     let asked = asked_in c.in-Ok.asked in
     let lines = map asked_in c.from_ref.result.now in
     let same : lines ≡ asked ∷ [] = ap (map asked_in) c.from_ref.ensures.value in
     let world : World = record { folder = g.F.Files.folder c.args.files.now; known = g.R.Source.remaining c.args.input.now } in
-    let done = c.perform_lines.ensures.write plain (operands_premise (g.F.Files.honest c.args.files.now) texts asked lines c.in-Ok.ensures.ok same premise) is_write in
-    (done.0, operands_done c.args.options texts world asked lines done.0 c.in-Ok.ensures.ok same done.1, done.2)
+    let done = c.perform_lines.ensures.write (operands_premise (g.F.Files.honest c.args.files.now) texts asked lines c.in-Ok.ensures.ok same premise) is_write in
+    (done.0, operands_done c.args.options texts world asked lines done.0 c.in-Ok.ensures.ok same done.1, done.2, done.3)
 
 pub returns-in-Err-clause-whole : goal.returns-in-Err-clause-whole
-returns-in-Err-clause-whole g c plain premise is_whole =
+returns-in-Err-clause-whole g c premise is_whole =
     let told = c.unasked.ensures.whole is_whole in
     let world : World = record { folder = g.F.Files.folder c.args.files.now; known = g.R.Source.remaining c.args.input.now } in
     operands_refused c.args.options (map (λ (s : Bor (List ℕ)). s.now) c.args.operands.now) world (usage_in c.in-Err.fault) told.1 told.2 c.unasked.result.status
@@ -75,3 +75,6 @@ returns-in-Ok-clause-read g c of_input read = c.perform_lines.ensures.read
 
 pub returns-in-Err-clause-read : goal.returns-in-Err-clause-read
 returns-in-Err-clause-read g c of_input read = appends_nothing (g.W.Sink.contents c.args.out.now)
+
+pub returns-in-Ok-clause-unread_kept : goal.returns-in-Ok-clause-unread_kept
+returns-in-Ok-clause-unread_kept g c kept = let still = c.perform_lines.ensures.reads_nothing kept in (still.0, still.1)

@@ -11,7 +11,7 @@ use Rattle.bz_engine.proofs.UsageSteps.{read_told, told_from}
 use Rattle.bz_engine.proofs.engine.run_script.Goals as goal
 
 pub returns-in-Err-clause-whole : goal.returns-in-Err-clause-whole
-returns-in-Err-clause-whole g c plain honest is_whole =
+returns-in-Err-clause-whole g c honest is_whole =
     let told = c.in-Err.ensures.err.0 is_whole in
     let world : World = record { folder = g.F.Files.folder c.args.files.now; known = g.R.Source.remaining c.args.input.now } in
     script_unread c.args.options c.args.name.now world (g.F.Files.folder c.read_bytes.new.files) c.in-Err.exit.status (g.W.Sink.contents c.args.out.now)
@@ -19,11 +19,11 @@ returns-in-Err-clause-whole g c plain honest is_whole =
     (c.read_bytes.ensures.folder honest) (told.1 honest) told.0 told.2
 
 pub returns-clause-whole : goal.returns-clause-whole
-returns-clause-whole g c plain honest is_whole =
+returns-clause-whole g c honest is_whole =
     let ok = c.in-Ok.ensures.ok in
     let known = g.R.Source.remaining c.args.input.now in
     let still = c.read_bytes.ensures.folder honest in
-    let done = c.run_text.ensures.whole plain (c.read_bytes.ensures.honest ∙ honest) is_whole known (λ differs. ap g.R.Source.remaining (sym (ok.4 differs))) in
+    let done = c.run_text.ensures.whole (c.read_bytes.ensures.honest ∙ honest) is_whole known (λ differs. ap g.R.Source.remaining (sym (ok.4 differs))) in
     let outcome = script_done c.args.options c.args.name.now c.in-Ok.bytes.items c.deref.result.now (g.F.Files.folder c.args.files.now)
     (g.F.Files.folder c.read_bytes.new.files) known done.0 c.deref.ensures.value still (ok.0 honest) done.1 in (
       done.0,
@@ -35,14 +35,14 @@ returns-clause-whole g c plain honest is_whole =
     )
 
 pub returns-clause-write : goal.returns-clause-write
-returns-clause-write g c plain honest is_write =
+returns-clause-write g c honest is_write =
     let ok = c.in-Ok.ensures.ok in
     let known = g.R.Source.remaining c.args.input.now in
     let still = c.read_bytes.ensures.folder honest in
-    let done = c.run_text.ensures.write plain (c.read_bytes.ensures.honest ∙ honest) is_write known (λ differs. ap g.R.Source.remaining (sym (ok.4 differs))) in
+    let done = c.run_text.ensures.write (c.read_bytes.ensures.honest ∙ honest) is_write known (λ differs. ap g.R.Source.remaining (sym (ok.4 differs))) in
     let outcome = script_done c.args.options c.args.name.now c.in-Ok.bytes.items c.deref.result.now (g.F.Files.folder c.args.files.now)
     (g.F.Files.folder c.read_bytes.new.files) known done.0 c.deref.ensures.value still (ok.0 honest) done.1 in
-    (done.0, outcome, done.2)
+    (done.0, outcome, done.2, done.3)
 
 pub returns-in-Err-clause-usage : goal.returns-in-Err-clause-usage
 returns-in-Err-clause-usage g c is is_whole =
@@ -65,3 +65,13 @@ pub returns-clause-unused_time : goal.returns-clause-unused_time
 returns-clause-unused_time g c is honest =
     no_more_time g.F.Files.moment g.F.Files.since c.args.files.now c.read_bytes.new.files c.run_text.new.files
     (λ (now : Folder). now ≡ g.F.Files.folder c.args.files.now) (c.run_text.ensures.unused is).2 (c.read_bytes.ensures.time honest)
+
+pub returns-in-Err-clause-unread_kept : goal.returns-in-Err-clause-unread_kept
+returns-in-Err-clause-unread_kept g c kept other =
+    let same = c.read_bytes.ensures.input other in (ap g.R.Source.remaining same, ap g.R.Source.faults same)
+
+pub returns-clause-unread_kept : goal.returns-clause-unread_kept
+returns-clause-unread_kept g c kept other =
+    let same = c.read_bytes.ensures.input other in
+    let still = c.run_text.ensures.unread_kept kept in
+    (still.0 ∙ ap g.R.Source.remaining same, still.1 ∙ ap g.R.Source.faults same)

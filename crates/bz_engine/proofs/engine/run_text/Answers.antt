@@ -10,7 +10,7 @@ use Rattle.bz_engine.proofs.UsageSteps.{text_told, script_told, script_lines_tol
 use Rattle.bz_engine.proofs.engine.run_text.Goals as goal
 
 pub returns-in-Err-clause-whole : goal.returns-in-Err-clause-whole
-returns-in-Err-clause-whole g c plain honest is_whole known before =
+returns-in-Err-clause-whole g c honest is_whole known before =
     let world : World = record { folder = g.F.Files.folder c.args.files.now; known = known } in
     text_invalid c.args.options c.args.name.now c.args.bytes.now c.told_name.result.now world (valid_up_to c.in-Err.fault) c.valid_up_to-at.result
     (g.W.Sink.contents c.args.out.now) (g.E.Sink.faults c.args.err.now) (g.E.Sink.faults c.tell_fault.new.err) (g.E.Sink.contents c.args.err.now)
@@ -21,9 +21,9 @@ run_lines_of-requires g c =
     subst (λ (lines : List Asked). All (λ (asked : Asked). All HasPath asked.targets.items) lines) (sym c.deref.ensures.value) c.in-Ok-read_script.ensures.paths
 
 pub returns-in-Ok-read_script-clause-whole : goal.returns-in-Ok-read_script-clause-whole
-returns-in-Ok-read_script-clause-whole g c plain honest is_whole known before =
+returns-in-Ok-read_script-clause-whole g c honest is_whole known before =
     let world : World = record { folder = g.F.Files.folder c.args.files.now; known = known } in
-    let done = c.run_lines_of.ensures.whole plain honest is_whole known (λ is. before (apart c.args.name.now (sym c.eq.ensures ∙ is))) in (
+    let done = c.run_lines_of.ensures.whole honest is_whole known (λ is. before (apart c.args.name.now (sym c.eq.ensures ∙ is))) in (
       done.0,
       text_done c.args.options c.args.name.now c.args.bytes.now c.in-Ok.text.now world c.eq.result (map asked_in c.in-Ok-read_script.lines.items)
           (map asked_in c.deref.result.now) done.0 c.in-Ok.ensures.cases.0 c.in-Ok.ensures.cases.1 c.in-Ok-read_script.ensures.ok
@@ -32,18 +32,19 @@ returns-in-Ok-read_script-clause-whole g c plain honest is_whole known before =
     )
 
 pub returns-in-Ok-read_script-clause-write : goal.returns-in-Ok-read_script-clause-write
-returns-in-Ok-read_script-clause-write g c plain honest is_write known before =
+returns-in-Ok-read_script-clause-write g c honest is_write known before =
     let world : World = record { folder = g.F.Files.folder c.args.files.now; known = known } in
-    let done = c.run_lines_of.ensures.write plain honest is_write known (λ is. before (apart c.args.name.now (sym c.eq.ensures ∙ is))) in (
+    let done = c.run_lines_of.ensures.write honest is_write known (λ is. before (apart c.args.name.now (sym c.eq.ensures ∙ is))) in (
       done.0,
       text_done c.args.options c.args.name.now c.args.bytes.now c.in-Ok.text.now world c.eq.result (map asked_in c.in-Ok-read_script.lines.items)
           (map asked_in c.deref.result.now) done.0 c.in-Ok.ensures.cases.0 c.in-Ok.ensures.cases.1 c.in-Ok-read_script.ensures.ok
           (ap (map asked_in) c.deref.ensures.value) c.eq.ensures done.1,
       done.2,
+      done.3,
     )
 
 pub returns-in-Err-read_script-clause-whole : goal.returns-in-Err-read_script-clause-whole
-returns-in-Err-read_script-clause-whole g c plain honest is_whole known before =
+returns-in-Err-read_script-clause-whole g c honest is_whole known before =
     let told = c.unasked.ensures.whole is_whole in
     let world : World = record { folder = g.F.Files.folder c.args.files.now; known = known } in
     text_refused c.args.options c.args.name.now c.args.bytes.now c.in-Ok.text.now c.told_name-in-Err-read_script.result.now world

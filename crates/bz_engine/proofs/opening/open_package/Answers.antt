@@ -1,5 +1,7 @@
-use Rattle.std.proofs.Common.{◌≡◌, ◌∙◌, List, [], length, inl, inr, ap, refl, sym, subst, Option}
+use Rattle.std.proofs.Common.{◌≡◌, ◌∙◌, List, [], length, inl, inr, ap, refl, sym, subst, Bool, Option, true≢false}
 use Rattle.bz_items.specs.Characters.{Bytes}
+use Rattle.bz_workspace.specs.Found.{found_in}
+use Rattle.bz_workspace.specs.Journals.{OpensBeside}
 use Rattle.bz_workspace.specs.Packages.{Used, package_number}
 use Rattle.bz_workspace.specs.declared.opening.Opening.{Opening}
 use Rattle.bz_ports.specs.declared.exit.Cut.TheVariants as cut
@@ -54,6 +56,35 @@ returns-clause-uses g c = λ plain can whole known left.
             inl (some.1, refl, done.1),
             place_again some.0 old new c.open.result cut.Whole done.0 done.1,
             subst (λ (used : List Used). IsLeft known used remaining) (sym done.1) left,
+            (ap g.E.Sink.faults done.3, ap g.E.Sink.contents done.3),
+          )
+    ]
+
+pub returns-then-wants_input-clause-beside : goal.returns-then-wants_input-clause-beside
+returns-then-wants_input-clause-beside g c = λ kept honest whole.
+    absurd (true≢false (sym kept ∙ (c.wants_input.ensures.yes c.if-wants_input.true).0))
+
+pub returns-clause-beside : goal.returns-clause-beside
+returns-clause-beside g c = λ kept honest whole.
+    let old = c.args.workspace.now in
+    let new = c.open.new.self in
+    let name = c.args.package.now in
+    let folder = g.F.Files.folder c.args.files.now in
+    elim (is_found (package_number name old)) [
+      | inl none ↦
+          let done = c.open.ensures.opens honest whole none in (
+            length old,
+            done.1,
+            inr (none, refl, (done.0, subst (λ (journals : Bool). OpensBeside journals folder name (found_in folder name) done.0 done.1) kept done.2, done.3)),
+            last_place old new name done.0 c.open.result.place done.3 done.4,
+            done.5,
+          )
+      | inr some ↦
+          let done = c.open.ensures.again some.0 some.1 in (
+            some.0,
+            [],
+            inl (some.1, refl, done.1),
+            place_again some.0 old new c.open.result cut.Whole done.0 done.1,
             (ap g.E.Sink.faults done.3, ap g.E.Sink.contents done.3),
           )
     ]

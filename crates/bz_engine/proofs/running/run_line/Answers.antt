@@ -3,7 +3,8 @@ use Rattle.std.specs.List.{All, flat_map}
 use Rattle.bz_label.specs.declared.target.Target.{Target}
 use Rattle.bz_line.specs.Shown.{asking_in, asked_in}
 use Rattle.bz_line.specs.declared.asked.Asking.{Asking}
-use Rattle.bz_engine.specs.Calls.{spot}
+use Rattle.bz_engine.specs.Calls.{KeepsBetween, spot}
+use Rattle.bz_engine.specs.Keeping.{RunsBeside}
 use Rattle.bz_engine.specs.Steps.{RunStep, input_package, step_of, steps_asked}
 use Rattle.bz_engine.proofs.RunSteps.{Done, Goes, part_none, part_more, all_done, left_at, none_at, all_at}
 use Rattle.bz_engine.proofs.running.run_line.Goals as goal
@@ -40,6 +41,9 @@ loop-target-preserved g c =
       counts = e.ensures.counts;
       honest = e.ensures.honest;
       input = e.ensures.input;
+      keeps = λ kept honest whole.
+          subst (λ (all : List Asking). KeepsBetween (RunsBeside c.args.options.keep_going (on_target all target)) mid new) c.deref.ensures.value
+          (e.ensures.keeps kept honest whole);
       unread = e.ensures.unread;
     } in
     rw (c.first_cut-cut.ensures) (part_more c.args.options.journal (All IsOfInput targets) (IsOfInput target) c.args.options.keep_going (steps_asked (asked_in c.args.line.now))

@@ -6,7 +6,7 @@ use Rattle.bz_engine.specs.Calls.{spot}
 use Rattle.bz_engine.specs.Run.{ends_run}
 use Rattle.bz_engine.specs.Shown.{progress_in}
 use Rattle.bz_engine.specs.Steps.{RunStep, input_package, step_of}
-use Rattle.bz_engine.proofs.RunSteps.{Done, one_runs, part_none, part_more, all_done, done_early, left_at, none_at}
+use Rattle.bz_engine.proofs.RunSteps.{Done, one_beside, one_runs, part_none, part_more, all_done, done_early, left_at, none_at}
 use Rattle.bz_engine.proofs.running.run_target.Goals as goal
 use Rattle.bz_engine.proofs.running.run_target.Goals.{else-run-via-then-run+else-not-options, else-run-via-else-run}
 
@@ -47,6 +47,9 @@ loop-asking-preserved g c =
           (does.0, one_runs (record { folder = mid.folder; known = known }) c.args.options.keep_going step mid.state new.state does.0 on does.1, does.2, does.3);
       folder = e.ensures.folder;
       input = e.ensures.input;
+      keeps = λ kept honest whole stand.
+          let does = e.ensures.keeps kept honest whole stand in
+          (does.0, one_beside c.args.options.keep_going step mid.folder new.folder mid.state new.state does.0 on does.1, does.2);
       unread = e.ensures.unread;
       cut = e.ensures.cut;
       reads = e.ensures.reads;

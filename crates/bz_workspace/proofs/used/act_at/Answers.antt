@@ -2,12 +2,12 @@ use Rattle.std.proofs.Common.{◌∙◌, Some}
 use Rattle.bz_workspace.proofs.FileSteps.{put_in, is_open, file_in}
 use Rattle.bz_workspace.proofs.used.act_at.Goals as goal
 
-pub act_in-requires : goal.act_in-requires
-act_in-requires c = is_open c.args.used.now.items c.args.place c.index_mut.result.now c.index_mut.result.now c.index_mut.ensures.value c.requires.there
+pub act-requires : goal.act-requires
+act-requires c = is_open c.args.used.now.items c.args.place c.index_mut.result.now c.index_mut.result.now c.index_mut.ensures.value c.requires.there
 
 pub returns : goal.returns
 returns c =
-    let done = c.act_in.ensures in
+    let done = c.act.ensures in
     let items = c.args.used.now.items in
     let there = c.index_mut.result.now in
     record {
@@ -15,5 +15,5 @@ returns c =
       history = done.1;
       there = file_in items c.args.place there there c.index_mut.ensures.value c.requires.there ∙ done.2;
       acts = done.3;
-      kept = put_in items c.args.place there there c.act_in.new.used (Some (record done.0 { history = done.1 })) c.index_mut.ensures.value done.4;
+      kept = put_in items c.args.place there there c.act.new.self (Some (record done.0 { history = done.1 })) c.index_mut.ensures.value done.4;
     }

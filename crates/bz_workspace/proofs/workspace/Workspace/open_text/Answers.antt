@@ -2,23 +2,15 @@ use Rattle.std.proofs.Common.{◌∙◌, ap, refl, Some, None, [], ◌∷◌, ma
 use Rattle.bz_ports.specs.Told.{fault_line}
 use Rattle.bz_workspace.specs.Kept.{texts_of_keys}
 use Rattle.bz_workspace.specs.Packages.{with_opened}
-use Rattle.bz_workspace.specs.Shown.{opened_in, used_in}
+use Rattle.bz_workspace.specs.Shown.{used_in}
 use Rattle.bz_workspace.specs.declared.opening.Opening.{Opening}
 use Rattle.bz_workspace.proofs.FaultSteps.{refused_takes}
-use Rattle.bz_workspace.proofs.FileSteps.{kept_by, opened_there}
+use Rattle.bz_workspace.proofs.FileSteps.{kept_by}
 use Rattle.bz_workspace.proofs.workspace.Workspace.open_text.Goals as goal
 
 pub invariant_of-self : goal.invariant_of-self
-invariant_of-self g c = kept_by (texts_of_keys c.self.inside.names.keys) c.args.place (Some (opened_in c.in-Ok.file))
+invariant_of-self g c = kept_by (texts_of_keys c.self.inside.names.keys) c.args.place None
     (map used_in c.self.inside.used.items) (map used_in c.put_file.new.used.items) c.self.invariant c.put_file.ensures
-
-pub returns-in-Ok-clause-there : goal.returns-in-Ok-clause-there
-returns-in-Ok-clause-there g c = opened_there c.args.place (opened_in c.in-Ok.file) (map used_in c.self.inside.used.items) c.args.self.now
-    (map used_in c.put_file.new.used.items) c.self.view_is c.requires.within c.put_file.ensures
-
-pub invariant_of-self-2 : goal.invariant_of-self-2
-invariant_of-self-2 g c = kept_by (texts_of_keys c.self.inside.names.keys) c.args.place None
-    (map used_in c.self.inside.used.items) (map used_in c.put_file-2.new.used.items) c.self.invariant c.put_file-2.ensures
 
 pub returns-clause-whole : goal.returns-clause-whole
 returns-clause-whole g c = λ _.
@@ -27,7 +19,7 @@ returns-clause-whole g c = λ _.
       None,
       fault_line name fault ∷ [],
       refused_takes c.args.package.now name c.args.text.items fault c.is_memory.result c.in-Err.ensures.err c.is_memory.ensures.other c.if-is_memory.false,
-      c.put_file-2.ensures ∙ ap (with_opened c.args.place None) c.self.view_is,
+      c.put_file.ensures ∙ ap (with_opened c.args.place None) c.self.view_is,
       ap (λ (o : Opening). o.place) c.without_file-2.ensures,
       (g.E.Sink.faults c.tell_fault.new.err, g.E.Sink.contents c.tell_fault.new.err, c.tell_fault.ensures, (refl, refl)),
     )

@@ -1,0 +1,117 @@
+-- What steps do where journals are kept: the folder goes on with them.
+use Rattle.std.specs.Prelude.{◌≡◌, ◌≢◌, ◌⊎◌, ◌||◌, Bool, true, false, ℕ, List, [], ◌∷◌, ◌++◌, length, is_err, if◌then◌else◌, Option, Some, None, Ok, Err, IfSome}
+use Rattle.std.specs.FinMap.{get}
+use Rattle.std.specs.Option.{option_map_or}
+use Rattle.bz_edit.specs.declared.edit.Edit.{Edit}
+use Rattle.bz_resume.specs.Journals.{journal_text}
+use Rattle.bz_items.specs.Characters.{Bytes}
+use Rattle.bz_files.specs.Folder.{Folder}
+use Rattle.bz_keep.specs.Pair.{journal_name}
+use Rattle.bz_keep.specs.Resuming.{Holds, OthersStay}
+use Rattle.bz_line.specs.declared.line.Options.{Options}
+use Rattle.bz_workspace.specs.Found.{IsNameOf, found_in}
+use Rattle.bz_workspace.specs.Journals.{OpensBeside}
+use Rattle.bz_workspace.specs.Keeps.{after_keeping}
+use Rattle.bz_workspace.specs.Packages.{Opened, Used, package_number, file_at, with_opened}
+use Rattle.bz_workspace.specs.Sessions.{History, Answer, present}
+use Rattle.bz_engine.specs.Ending.{Left, all_kept, texts_out, fixed_lines, status_of}
+use Rattle.bz_engine.specs.Run.{World, Progress, LeadsBy, ends_run, nothing_done, printed_by, told_of}
+use Rattle.bz_engine.specs.Steps.{RunStep, action_of, shows_input}
+
+-- ---- one step
+
+-- A package is read and opened where it is used first, with the journal of its file; it gets the next number.
+abbrev pub UsesBeside : Folder → Bytes → List Used → ℕ → List Bytes → List Used → Type 0
+UsesBeside folder current before place lines after =
+    ((package_number current before ≡ Some place) × (lines ≡ []) × (after ≡ before))
+    ⊎ ((package_number current before ≡ None) × (place ≡ length before)
+    × ((file : Option Opened) × OpensBeside true folder current (found_in folder current) file lines
+    × (after ≡ before ++ record { «package» = current; file = file } ∷ [])))
+
+-- the file behind an answer that left it this history: with its journal it was written where another text is the present one
+abbrev pub file_behind : Answer → History → Opened → Opened
+file_behind (Ok reply) history file = after_keeping (Ok reply) history file
+file_behind (Err refusal) history file = record file { history = history }
+
+-- the state behind an answer of the open file with this number
+abbrev pub state_behind : ℕ → Opened → Answer → History → Progress → Progress
+state_behind place file answer history state = record {
+  used = with_opened place (Some (file_behind answer history file)) state.used;
+  printed = state.printed ++ printed_by answer;
+  failed = state.failed || is_err answer;
+}
+
+-- A history is kept beside the file of this name: FILE.journal is what is saved of it, FILE holds the present text and goes on with all of
+-- its texts, and each other name stays, but the two under which these are written first.
+pub record KeepsPair (name : Bytes) (history : History) (before after : Folder) : Type 0 where
+  pub steps : List (List Edit)
+  pub saved : get after (journal_name name) ≡ Some (journal_text history steps)
+  pub holds : Holds after name history.«package» (present history) history.texts
+  pub others : OthersStay name before after
+
+-- The folder behind an answer: where another text is the present one its history is kept, else the folder stays.
+abbrev pub FolderBehind : Answer → Opened → History → Folder → Folder → Type 0
+FolderBehind (Ok reply) file history before after =
+    ((history.cursor ≡ file.history.cursor) × (after ≡ before))
+    ⊎ ((history.cursor ≢ file.history.cursor) × KeepsPair file.name history before after)
+FolderBehind (Err refusal) file history before after = after ≡ before
+
+-- In a package without an open file a step does nothing and fails.
+abbrev pub AnswersBeside : RunStep → ℕ → Option Opened → Folder → Progress → List Bytes → Folder → Progress → Type 0
+AnswersBeside step place None folder state lines folder' after = (lines ≡ []) × (folder' ≡ folder) × (after ≡ record state { failed = true })
+AnswersBeside step place (Some file) folder state lines folder' after =
+    (answer : Answer) × (history : History) × LeadsBy (action_of step.target step.asking.verb) step.asking.text file.history answer history
+    × FolderBehind answer file history folder folder'
+    × (lines ≡ told_of file.name step.asking.text answer) × (after ≡ state_behind place file answer history state)
+
+-- Its package is opened, if it was not used before; then its command is done there, and kept.
+pub record DoesBeside (step : RunStep) (folder : Folder) (before : Progress) (lines : List Bytes) (folder' : Folder) (after : Progress) : Type 0 where
+  pub place : ℕ
+  pub used : List Used
+  pub opening : List Bytes
+  pub answer : List Bytes
+  pub uses : UsesBeside folder step.target.«package» before.used place opening used
+  pub answers : AnswersBeside step place (file_at place used) folder (record before { used = used }) answer folder' after
+  pub told : lines ≡ opening ++ answer
+
+-- ---- whole runs
+
+-- Steps one after the other, with the lines that they tell. A step that failed ends them, unless they are to go on.
+abbrev pub RunsBeside : Bool → List RunStep → Folder → Progress → List Bytes → Folder → Progress → Type 0
+RunsBeside keep_going [] folder before lines folder' after = (lines ≡ []) × (folder' ≡ folder) × (after ≡ before)
+RunsBeside keep_going (step ∷ steps) folder before lines folder' after =
+    ((ends_run keep_going before ≡ true) × (lines ≡ []) × (folder' ≡ folder) × (after ≡ before))
+    ⊎ ((ends_run keep_going before ≡ false) × ((between : Folder) × (mid : Progress) × (first : List Bytes) × (rest : List Bytes)
+    × DoesBeside step folder before first between mid × RunsBeside keep_going steps between mid rest folder' after × (lines ≡ first ++ rest)))
+
+-- Steps are run, and files are written behind each; then standard output is given what was printed and the texts behind it, and the files
+-- that were written are told.
+pub record PerformsBeside (options : Options) (steps : List RunStep) (world : World) (left : Left) : Type 0 where
+  pub told : List Bytes
+  pub state : Progress
+  pub runs : RunsBeside options.keep_going steps world.folder nothing_done told left.folder state
+  pub output : left.output ≡ state.printed ++ texts_out (shows_input steps) options.to_stdout state.used
+  pub lines : left.lines ≡ told ++ fixed_lines options.quiet (all_kept state.used)
+  pub status : left.status ≡ status_of state
+
+-- ---- files that stand
+
+-- the open file of the package with this number is left alone
+abbrev pub is_left_at : ℕ → List Used → Bool
+is_left_at place used = option_map_or (λ (file : Opened). file.left) (file_at place used) false
+
+-- A file of a package is not left alone, and it goes on in the folder: it holds its present text, and its journal tells its history.
+pub record Stands (folder : Folder) (current : Bytes) (file : Opened) : Type 0 where
+  pub named : IsNameOf current file.name
+  pub stays : file.left ≡ false
+  pub holds : Holds folder file.name file.history.«package» (present file.history) file.history.texts
+
+-- none of these is the package
+abbrev pub IsApart : Bytes → List Used → Type 0
+IsApart current [] = Unit {0}
+IsApart current (used ∷ more) = (used.«package» ≢ current) × IsApart current more
+
+-- each open file stands, and all packages differ
+abbrev pub AllStand : Folder → List Used → Type 0
+AllStand folder [] = Unit {0}
+AllStand folder (used ∷ more) = IfSome used.file (Stands folder used.«package») × IsApart used.«package» more × AllStand folder more

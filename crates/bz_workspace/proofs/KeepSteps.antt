@@ -1,0 +1,32 @@
+-- A file behind an action that was kept, or not.
+use Rattle.std.proofs.Common.{◌≡◌, ◌∙◌, ◌||◌, ℕ, Bool, not, true, Result, Ok, Err, ap}
+use Rattle.std.specs.Prelude.{◌==◌, IfErr}
+use Rattle.bz_journal.specs.declared.action.Reply.{Reply}
+use Rattle.bz_journal.specs.declared.keeping.KeepFault.{KeepFault}
+use Rattle.bz_journal.specs.declared.keeping.KeepFault.TheVariants.{Refused, Pair}
+use Rattle.bz_journal.specs.History.{History}
+use Rattle.bz_journal.specs.Keeping.{IsRefused}
+use Rattle.bz_journal.specs.State.{SessionState}
+use Rattle.bz_workspace.specs.Keeps.{after_keeping}
+use Rattle.bz_workspace.specs.Packages.{Opened}
+
+pub refused_stays : {F : Type 0} (answer : Result Reply KeepFault) (s t : SessionState) (old new : F)
+    → IfErr answer (λ fault. IsRefused fault → (t ≡ s) × (new ≡ old)) → IfErr answer (λ fault. IsRefused fault → new ≡ old)
+refused_stays (Ok reply) s t old new stays = tt
+refused_stays (Err fault) s t old new stays = λ refused. (stays refused).1
+
+-- the file with what was marked; `mid` is it before
+pub marked_written : (after : History) (file mid : Opened) (written : Bool) (from to : ℕ) → mid ≡ record file { history = after }
+    → written ≡ (mid.written || not (to == from)) → from ≡ file.history.cursor → to ≡ after.cursor
+    → record mid { written = written } ≡ record file { history = after; written = file.written || not (after.cursor == file.history.cursor) }
+marked_written after file mid written from to same marked begun ended =
+    let wrote : written ≡ (file.written || not (after.cursor == file.history.cursor)) =
+    marked ∙ ap (λ (f : Opened). f.written || not (to == from)) same ∙ ap (λ (n : ℕ). file.written || not (to == n)) begun
+    ∙ ap (λ (n : ℕ). file.written || not (n == file.history.cursor)) ended in
+    ap (λ (f : Opened). record f { written = written }) same ∙ ap (λ (b : Bool). record file { history = after; written = b }) wrote
+
+pub marked_left : (fault : KeepFault) (after : History) (file mid : Opened) (left : Bool) → mid ≡ record file { history = after }
+    → (IsRefused fault → left ≡ mid.left) → ((IsRefused fault → ⊥) → left ≡ true) → record mid { left = left } ≡ after_keeping (Err fault) after file
+marked_left (Refused refusal) after file mid left same refused pair = ap (λ (b : Bool). record mid { left = b }) (refused tt) ∙ same
+marked_left (Pair why) after file mid left same refused pair =
+    ap (λ (b : Bool). record mid { left = b }) (pair (λ h. h)) ∙ ap (λ (f : Opened). record f { left = true }) same
