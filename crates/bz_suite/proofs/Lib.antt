@@ -1,4 +1,5 @@
 pub mod Branches
+pub mod BuildFiles
 pub mod Colons
 pub mod Ends
 pub mod Groups
