@@ -1,7 +1,7 @@
 //! Facts about the definitions, for readers and for the proofs of other crates: the functions do nothing.
 
 ghost use Rattle.bz_suite.specs.Kept.{BzlCommentsKept};
-ghost use Rattle.bz_suite.specs.Laws.{BuildFilesSayTheSame, BzlViewIsProper};
+ghost use Rattle.bz_suite.specs.Laws.{BuildFilesSayTheSame, BuildItemsAreProper, BuildItemsHaveTheSameComments, BzlViewIsProper};
 ghost use Rattle.bz_suite.specs.Worked.{WorkedBzlViews};
 
 /// Each comment of the legal tree of a .bzl file stands in what the file says as often as in the tree's gaps: none is lost or doubled.
@@ -18,6 +18,12 @@ pub fn bzl_view_is_proper()
 /// Block, and each statement is a simple statement of the same expression, with the same comments.
 pub fn build_files_say_the_same()
     ensures { BuildFilesSayTheSame }
+{}
+
+/// The items of a BUILD file, as those of a .bzl file, are proper where those are, and have each comment as often.
+pub fn build_items_are_bzl_items()
+    ensures proper { BuildItemsAreProper }
+    ensures comments { BuildItemsHaveTheSameComments }
 {}
 
 /// Worked rows of what .bzl files say: for each a text, its tree, and its items.
