@@ -9,6 +9,7 @@ pub mod BackProper
 pub mod BackStatements
 pub mod BackSuites
 pub mod Bounds
+pub mod BuildItems
 pub mod Depths
 pub mod Followed
 pub mod HeaderGaps

@@ -1,12 +1,16 @@
--- Laws of the pass over a .bzl file.
-use Rattle.std.specs.Prelude.{◌≡◌, ◌≤◌, ◌<◌, List, length}
+-- Laws of the layout of a .bzl file, and of the pass over it.
+use Rattle.std.specs.Prelude.{◌≡◌, ◌≤◌, ◌<◌, List, length, map}
 use Rattle.bz_tree.specs.Legal.{ReadsBzl, NoBzlTree}
 use Rattle.bz_tree.specs.Spell.{depth_of, limit, depth_limit}
 use Rattle.bz_items.specs.Characters.{Bytes}
+use Rattle.bz_value.specs.declared.value.Item.{Item}
+use Rattle.bz_write.specs.Drawn.{drawn}
+use Rattle.bz_write.specs.Flags.{flags}
+use Rattle.bz_write.specs.Written.{layout}
 use Rattle.bz_suite.specs.declared.value.BzlItem.{BzlItem}
 use Rattle.bz_suite.specs.Kept.{bzl_times}
 use Rattle.bz_suite.specs.Proper.{IsProperBzl}
-use Rattle.bz_suite.specs.View.{bzl_view_of}
+use Rattle.bz_suite.specs.View.{bzl_item, bzl_view_of}
 use Rattle.bz_indent.specs.Drawn.{bzl_drawn}
 use Rattle.bz_indent.specs.Layout.{bzl_layout}
 use Rattle.bz_indent.specs.Level.{level}
@@ -34,3 +38,15 @@ BzlLayoutIsTooDeep = (items : List BzlItem) → IsProperBzl items → depth_limi
 -- What the tree of the layout of a proper value says is the value, levelled.
 abbrev pub BzlLayoutReadsBack : Type 0
 BzlLayoutReadsBack = (items : List BzlItem) → IsProperBzl items → bzl_view_of (bzl_drawn items) ≡ level items
+
+-- The items of a BUILD file, as those of a .bzl file, have the layout of the BUILD file.
+abbrev pub BuildItemsAreLaidOutTheSame : Type 0
+BuildItemsAreLaidOutTheSame = (items : List Item) → bzl_layout (map bzl_item items) ≡ layout items
+
+-- Its tree is the same too.
+abbrev pub BuildItemsAreDrawnTheSame : Type 0
+BuildItemsAreDrawnTheSame = (items : List Item) → bzl_drawn (map bzl_item items) ≡ drawn items
+
+-- To level them is to settle their flags.
+abbrev pub BuildItemsAreLevelledTheSame : Type 0
+BuildItemsAreLevelledTheSame = (items : List Item) → level (map bzl_item items) ≡ map bzl_item (flags items)

@@ -1,13 +1,15 @@
 -- What a compiler reads of a .bzl file: the statements, without the comments and without the flags of the layout.
 use Rattle.std.specs.Prelude.{◌≡◌, false, List, [], ◌∷◌, map}
 use Rattle.bz_value.specs.declared.value.Form.{Form}
+use Rattle.bz_value.specs.declared.value.Item.{Item}
 use Rattle.bz_value.specs.Comments.{no_comments}
 use Rattle.bz_suite.specs.declared.value.Statement.{Statement, Simple, Compound', Row_of-Branch, end_of-Branch, more_of-Branch, Row_of-Statement, end_of-Statement, more_of-Statement}
 use Rattle.bz_suite.specs.declared.value.Statement.TheVariants as s
 use Rattle.bz_suite.specs.declared.value.Branch.{Branch}
 use Rattle.bz_suite.specs.declared.value.BzlItem.{BzlItem}
 use Rattle.bz_suite.specs.declared.value.BzlItem.TheVariants as b
-use Rattle.bz_tidy.specs.Syntax.{syntax_of}
+use Rattle.bz_suite.specs.View.{bzl_item}
+use Rattle.bz_tidy.specs.Syntax.{program, syntax_of}
 use Rattle.bz_indent.specs.Level.{level}
 
 -- of a header
@@ -38,3 +40,7 @@ bzl_program (b.Statement x ∷ items) = statement_syntax x ∷ bzl_program items
 -- What is level is the same program.
 abbrev pub LevelKeepsProgram : Type 0
 LevelKeepsProgram = (items : List BzlItem) → bzl_program (level items) ≡ bzl_program items
+
+-- The items of a BUILD file, as those of a .bzl file, are the same program: its statements, as simple statements.
+abbrev pub BuildItemsAreTheSameProgram : Type 0
+BuildItemsAreTheSameProgram = (items : List Item) → bzl_program (map bzl_item items) ≡ map s.Simple (program items)

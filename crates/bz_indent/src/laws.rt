@@ -1,6 +1,6 @@
 //! Facts about the definitions, for readers and for the proofs of other crates: the functions do nothing.
-ghost use Rattle.bz_indent.specs.Laws.{BzlLayoutIsAccepted, BzlLayoutIsTooDeep, BzlLayoutReadsBack, LevelKeepsComments, LevelKeepsLayout, LevelStays};
-ghost use Rattle.bz_indent.specs.Syntax.{LevelKeepsProgram};
+ghost use Rattle.bz_indent.specs.Laws.{BuildItemsAreDrawnTheSame, BuildItemsAreLaidOutTheSame, BuildItemsAreLevelledTheSame, BzlLayoutIsAccepted, BzlLayoutIsTooDeep, BzlLayoutReadsBack, LevelKeepsComments, LevelKeepsLayout, LevelStays};
+ghost use Rattle.bz_indent.specs.Syntax.{BuildItemsAreTheSameProgram, LevelKeepsProgram};
 ghost use Rattle.bz_indent.specs.Worked.{WorkedBzlLayouts};
 
 use bz_tidy::flags_settle;
@@ -44,6 +44,22 @@ pub fn bzl_layout_is_too_deep()
 /// What the tree of the layout of a proper value says is the value, levelled.
 pub fn bzl_layout_reads_back()
     ensures { BzlLayoutReadsBack }
+{}
+
+/// The items of a BUILD file, as those of a .bzl file, have the layout of the BUILD file: its text and its tree.
+pub fn build_items_are_laid_out_the_same()
+    ensures text { BuildItemsAreLaidOutTheSame }
+    ensures tree { BuildItemsAreDrawnTheSame }
+{}
+
+/// To level the items of a BUILD file is to settle their flags.
+pub fn build_items_are_levelled_the_same()
+    ensures { BuildItemsAreLevelledTheSame }
+{}
+
+/// The items of a BUILD file, as those of a .bzl file, are the same program.
+pub fn build_items_are_the_same_program()
+    ensures { BuildItemsAreTheSameProgram }
 {}
 
 /// Worked rows of the layout: small values of .bzl files, the text of each, and how it is levelled.

@@ -1,4 +1,6 @@
 pub mod Branches
+pub mod BuildFiles
+pub mod BuildItems
 pub mod Colons
 pub mod Ends
 pub mod Groups

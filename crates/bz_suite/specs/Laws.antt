@@ -1,9 +1,28 @@
--- The law that what a .bzl file says is a proper value.
+-- Laws of what a .bzl file says.
+use Rattle.std.specs.Prelude.{◌≡◌, List, map}
+use Rattle.bz_items.specs.Characters.{Bytes}
 use Rattle.bz_tree.specs.declared.tree.Node.{Node}
-use Rattle.bz_tree.specs.Legal.{LegalBzl}
+use Rattle.bz_tree.specs.Legal.{Legal, LegalBzl}
+use Rattle.bz_value.specs.declared.value.Item.{Item}
+use Rattle.bz_value.specs.Counted.{times}
+use Rattle.bz_value.specs.Proper.{IsProper}
+use Rattle.bz_view.specs.View.{view_of}
+use Rattle.bz_suite.specs.Kept.{bzl_times}
 use Rattle.bz_suite.specs.Proper.{IsProperBzl}
-use Rattle.bz_suite.specs.View.{bzl_view_of}
+use Rattle.bz_suite.specs.View.{bzl_item, bzl_view_of}
 
 -- What a legal tree says is a proper value.
 abbrev pub BzlViewIsProper : Type 0
 BzlViewIsProper = (tree : Node) → LegalBzl tree → IsProperBzl (bzl_view_of tree)
+
+-- What the legal tree of a BUILD file says as a .bzl file is, item by item, what it says as a BUILD file.
+abbrev pub BuildFilesSayTheSame : Type 0
+BuildFilesSayTheSame = (tree : Node) → Legal tree → bzl_view_of tree ≡ map bzl_item (view_of tree)
+
+-- The items of a proper BUILD file are, as those of a .bzl file, proper.
+abbrev pub BuildItemsAreProper : Type 0
+BuildItemsAreProper = (items : List Item) → IsProper items → IsProperBzl (map bzl_item items)
+
+-- They have each comment as often.
+abbrev pub BuildItemsHaveTheSameComments : Type 0
+BuildItemsHaveTheSameComments = (text : Bytes) (items : List Item) → bzl_times text (map bzl_item items) ≡ times text items

@@ -1,7 +1,7 @@
 //! Facts about the definitions, for readers and for the proofs of other crates: the functions do nothing.
 
 ghost use Rattle.bz_suite.specs.Kept.{BzlCommentsKept};
-ghost use Rattle.bz_suite.specs.Laws.{BzlViewIsProper};
+ghost use Rattle.bz_suite.specs.Laws.{BuildFilesSayTheSame, BuildItemsAreProper, BuildItemsHaveTheSameComments, BzlViewIsProper};
 ghost use Rattle.bz_suite.specs.Worked.{WorkedBzlViews};
 
 /// Each comment of the legal tree of a .bzl file stands in what the file says as often as in the tree's gaps: none is lost or doubled.
@@ -12,6 +12,18 @@ pub fn bzl_comments_kept()
 /// What the legal tree of a .bzl file says is a proper value: the layout can write it, and the grammar reads it back.
 pub fn bzl_view_is_proper()
     ensures { BzlViewIsProper }
+{}
+
+/// What the legal tree of a BUILD file says as a .bzl file is, item by item, what it says as a BUILD file: each Block is the same
+/// Block, and each statement is a simple statement of the same expression, with the same comments.
+pub fn build_files_say_the_same()
+    ensures { BuildFilesSayTheSame }
+{}
+
+/// The items of a BUILD file, as those of a .bzl file, are proper where those are, and have each comment as often.
+pub fn build_items_are_bzl_items()
+    ensures proper { BuildItemsAreProper }
+    ensures comments { BuildItemsHaveTheSameComments }
 {}
 
 /// Worked rows of what .bzl files say: for each a text, its tree, and its items.

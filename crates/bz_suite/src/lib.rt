@@ -7,6 +7,9 @@ mod rest;
 mod value;
 mod viewing;
 
-pub use laws::{bzl_comments_kept, bzl_view_is_proper, worked_bzl_views};
+pub use laws::{
+    build_files_say_the_same, build_items_are_bzl_items, bzl_comments_kept, bzl_view_is_proper,
+    worked_bzl_views,
+};
 pub use value::{Branch, BzlFile, BzlItem, Statement};
 pub use viewing::view_bzl;
