@@ -34,14 +34,14 @@ use Rattle.bz_formatter.specs.Tokens.{separators, is_separator, FormattingKeepsT
 
 -- ---- separators
 
-abbrev IsSeparator : Part → Type 0
+abbrev pub IsSeparator : Part → Type 0
 IsSeparator x = has_token separators x ≡ true
 
-first_is : (a b : Bool) → a ≡ true → (a || b) ≡ true
+pub first_is : (a b : Bool) → a ≡ true → (a || b) ≡ true
 first_is true b h = refl
 first_is false b h = no_such h
 
-later_is : (a b : Bool) → b ≡ true → (a || b) ≡ true
+pub later_is : (a b : Bool) → b ≡ true → (a || b) ≡ true
 later_is true b h = refl
 later_is false b h = h
 
@@ -58,25 +58,25 @@ separating : (n : ℕ) (t : Terminal) → take n separators ++ t ∷ drop (suc n
 separating n t same (p.Leaf l) h = subst (λ ts. is_one_of ts l ≡ true) same (among (take n separators) (drop (suc n) separators) t l (no_more (is_terminal t l) h))
 separating n t same (Node' kind m r) h = no_such h
 
-abbrev Separates : List Terminal → Type 0
+abbrev pub Separates : List Terminal → Type 0
 Separates ts = (x : Part) → has_token ts x ≡ true → IsSeparator x
 
-comma : Separates s.comma_mark
+pub comma : Separates s.comma_mark
 comma = separating 0 _ refl
 
-semicolon : Separates s.semicolon
+pub semicolon : Separates s.semicolon
 semicolon = separating 1 _ refl
 
-newline : Separates s.newline
+pub newline : Separates s.newline
 newline = separating 2 _ refl
 
-end_of_file : Separates s.end
+pub end_of_file : Separates s.end
 end_of_file = separating 3 _ refl
 
-open_round : Separates s.open_round
+pub open_round : Separates s.open_round
 open_round = separating 4 _ refl
 
-close_round : Separates s.close_round
+pub close_round : Separates s.close_round
 close_round = separating 5 _ refl
 
 open_square : Separates s.open_square
@@ -94,13 +94,13 @@ close_curly = separating 9 _ refl
 -- ---- where they stand
 
 -- every second part is one, and so is a last one behind pairs of a part and its separator
-abbrev Paired : List Part → Type 0
+abbrev pub Paired : List Part → Type 0
 Paired [] = Unit {0}
 Paired (x ∷ []) = IsSeparator x
 Paired (x ∷ y ∷ xs) = IsSeparator y × Paired xs
 
 -- the part at this index is one, if there is a part
-abbrev SeparatorAt : ℕ → List Part → Type 0
+abbrev pub SeparatorAt : ℕ → List Part → Type 0
 SeparatorAt n [] = Unit {0}
 SeparatorAt zero (x ∷ xs) = IsSeparator x
 SeparatorAt (suc n) (x ∷ xs) = SeparatorAt n xs
@@ -110,7 +110,7 @@ module _ (between close : List Terminal) (b : Separates between) (c : Separates 
   ends_paired x [] h = c x h.0
   ends_paired x (y ∷ xs) h = absurd h.1
 
-  listed_paired : (q : Sort) (xs : List Part) → Listed (IsSort q) between true (Fits IsSort (tok close done)) xs → Paired xs
+  pub listed_paired : (q : Sort) (xs : List Part) → Listed (IsSort q) between true (Fits IsSort (tok close done)) xs → Paired xs
   listed_paired q [] h = absurd h
   listed_paired q (x ∷ []) h = absurd h.1
   listed_paired q (x ∷ y ∷ []) (h, inl i) = (c y i.0, tt)
@@ -133,16 +133,16 @@ module _ (close : List Terminal) (c : Separates close) where
   one_paired q x (y ∷ xs) (inr h) = (comma y h.0, items_paired q xs h.1)
 
 -- the opening bracket, and what stands behind it
-record Bracketed (kind : Kind) (xs : List Part) : Type 0 where
-  opener : SeparatorAt (lead kind) xs
-  body : Paired (drop (suc (lead kind)) xs)
+pub record Bracketed (kind : Kind) (xs : List Part) : Type 0 where
+  pub opener : SeparatorAt (lead kind) xs
+  pub body : Paired (drop (suc (lead kind)) xs)
 
-call_bracketed : (xs : List Part) → Fits IsSort (shape k.Call) xs → Bracketed k.Call xs
+pub call_bracketed : (xs : List Part) → Fits IsSort (shape k.Call) xs → Bracketed k.Call xs
 call_bracketed [] h = absurd h
 call_bracketed (x ∷ []) h = absurd h.1
 call_bracketed (x ∷ y ∷ xs) h = record { opener = open_round y h.1.0; body = items_paired s.close_round close_round s.argument xs h.1.1 }
 
-load_bracketed : (xs : List Part) → Fits IsSort (shape k.Load) xs → Bracketed k.Load xs
+pub load_bracketed : (xs : List Part) → Fits IsSort (shape k.Load) xs → Bracketed k.Load xs
 load_bracketed [] h = absurd h
 load_bracketed (x ∷ []) h = absurd h.1
 load_bracketed (x ∷ y ∷ []) h = absurd h.1.1
@@ -153,19 +153,19 @@ tuple_body [] i = tt
 tuple_body (x ∷ xs) (inl i) = ends_paired s.comma_mark s.close_round comma close_round x xs i
 tuple_body (x ∷ xs) (inr i) = one_paired s.close_round close_round s.test x xs (inr i.1)
 
-tuple_bracketed : (xs : List Part) → Fits IsSort (shape k.Tuple) xs → Bracketed k.Tuple xs
+pub tuple_bracketed : (xs : List Part) → Fits IsSort (shape k.Tuple) xs → Bracketed k.Tuple xs
 tuple_bracketed [] h = absurd h
 tuple_bracketed (y ∷ xs) h = record { opener = open_round y h.0; body = tuple_body xs h.1 }
 
-list_bracketed : (xs : List Part) → Fits IsSort (shape k.List) xs → Bracketed k.List xs
+pub list_bracketed : (xs : List Part) → Fits IsSort (shape k.List) xs → Bracketed k.List xs
 list_bracketed [] h = absurd h
 list_bracketed (y ∷ xs) h = record { opener = open_square y h.0; body = items_paired s.close_square close_square s.test xs h.1 }
 
-dict_bracketed : (xs : List Part) → Fits IsSort (shape k.Dict) xs → Bracketed k.Dict xs
+pub dict_bracketed : (xs : List Part) → Fits IsSort (shape k.Dict) xs → Bracketed k.Dict xs
 dict_bracketed [] h = absurd h
 dict_bracketed (y ∷ xs) h = record { opener = open_curly y h.0; body = items_paired s.close_curly close_curly s.entry xs h.1 }
 
-abbrev BracketedIn : Frame → Kind → List Part → Type 0
+abbrev pub BracketedIn : Frame → Kind → List Part → Type 0
 BracketedIn row kind xs = Unit {0}
 BracketedIn (sequence opener closer) kind xs = Bracketed kind xs
 
@@ -179,7 +179,7 @@ node_bracketed _ xs h = tt
 
 -- ---- sums
 
-syntax_map : (m : _) (r : Row_of-Part m) → row_syntax r ≡ map part_syntax (items-the_row-Part m r)
+pub syntax_map : (m : _) (r : Row_of-Part m) → row_syntax r ≡ map part_syntax (items-the_row-Part m r)
 syntax_map m end_of-Part = refl
 syntax_map m (more_of-Part x rest) = ap (λ z. part_syntax x ∷ z) (syntax_map _ rest)
 
