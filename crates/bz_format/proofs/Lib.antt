@@ -2,3 +2,4 @@ pub mod Fixed
 pub mod PastLimits
 pub mod Unread
 pub mod SeenPrograms
+pub mod SameWords

@@ -1,6 +1,7 @@
 //! Facts about the definitions, for readers and for the proofs of other crates: the functions do nothing.
 ghost use Rattle.bz_format.specs.Formatted.{BzlFixedPoint};
 ghost use Rattle.bz_format.specs.TreePrograms.{BzlViewsKeepPrograms};
+ghost use Rattle.bz_format.specs.Words.{FormattingKeepsWords};
 
 use bz_indent::{level_keeps_comments, level_keeps_program, level_stays};
 use bz_suite::bzl_comments_kept;
@@ -22,4 +23,11 @@ pub fn formatted_bzl_once()
     level_keeps_comments();
     level_keeps_program();
     bzl_views_keep_programs();
+}
+
+/// The formatted text of a .bzl text has the same tokens in the same order, but for commas, semicolons, colons, brackets and newlines.
+pub fn words_kept()
+    ensures { FormattingKeepsWords }
+{
+    formatted_bzl_once();
 }

@@ -5,4 +5,4 @@ mod formatting;
 mod laws;
 
 pub use formatting::format_bzl;
-pub use laws::{bzl_views_keep_programs, formatted_bzl_once};
+pub use laws::{bzl_views_keep_programs, formatted_bzl_once, words_kept};

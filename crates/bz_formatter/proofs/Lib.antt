@@ -4,3 +4,4 @@ pub mod Untold
 pub mod Copies
 pub mod Filled
 pub mod SeenPrograms
+pub mod TreeTokens

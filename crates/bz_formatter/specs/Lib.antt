@@ -3,3 +3,4 @@ pub mod Faults
 pub mod Fixed
 pub mod Filled
 pub mod TreePrograms
+pub mod Tokens

@@ -1,6 +1,7 @@
 //! Facts about the definitions, for readers: the functions do nothing.
 ghost use Rattle.bz_formatter.specs.Filled.{CommentsFill, CommentsFit};
 ghost use Rattle.bz_formatter.specs.Fixed.{FixedPoint};
+ghost use Rattle.bz_formatter.specs.Tokens.{FormattingKeepsTokens, TreeProgramsKeepTokens};
 ghost use Rattle.bz_formatter.specs.TreePrograms.{ViewsKeepPrograms};
 
 use bz_tidy::{comments_stay, program_stays, proper_stays, tidy_settles, tidy_stays, tokens_stay};
@@ -31,6 +32,15 @@ pub fn formatted_once()
 pub fn views_keep_programs()
     ensures { ViewsKeepPrograms }
 {}
+
+/// Each token of a text stands in its program as often, and in the formatted text as often as in the text, but for strings, commas,
+/// semicolons, brackets and newlines.
+pub fn tokens_kept()
+    ensures program { TreeProgramsKeepTokens }
+    ensures formatted { FormattingKeepsTokens }
+{
+    formatted_once();
+}
 
 /// Where a comment stands so often in a proper value that its copies alone are past the limit of a text, so is what is written of
 /// the value; in the value of a text none does.

@@ -6,5 +6,5 @@ mod laws;
 mod writing;
 
 pub use formatter::{FormatFault, format};
-pub use laws::{comments_fill, formatted_once, views_keep_programs};
+pub use laws::{comments_fill, formatted_once, tokens_kept, views_keep_programs};
 pub use writing::{drawn_of, formatted, reads_back, written};
