@@ -1,7 +1,7 @@
 -- The digests of texts where one is put after the first ones, and those along a trail.
-use Rattle.std.proofs.Common.{◌≡◌, ◌∙◌, ◌+◌, ◌<◌, ℕ, List, [], ◌∷◌, ◌++◌, length, map, take, ap, sym}
+use Rattle.std.proofs.Common.{◌≡◌, ◌∙◌, ◌+◌, ◌<◌, ℕ, zero, suc, List, [], ◌∷◌, ◌++◌, length, map, take, ap, arith, length-append, refl, subst, sym}
 use Rattle.std.specs.Prelude.{slice_index_or}
-use Rattle.std.proofs.lemmas.List.{map-append, take-map, take_more}
+use Rattle.std.proofs.lemmas.List.{length-map, map-append, take-map, take_all, take_more}
 use Rattle.sha2.specs.Sha256.{sha256}
 use Rattle.bz_tree.specs.declared.tree.Node.{Node}
 use Rattle.bz_trail.specs.Shown.{texts_of}
@@ -26,3 +26,33 @@ hash_next n digests made texts text digest known within there is put =
 pub same_texts : (m n : Node) (es fs : List (List Edit)) (i j : ℕ) → m ≡ n → es ≡ fs → i ≡ j → texts_of (trail_at m es i) ≡ texts_of (trail_at n fs j)
 same_texts m n es fs i j tree steps at =
     ap (λ (z : Node). texts_of (trail_at z es i)) tree ∙ ap (λ (z : List (List Edit)). texts_of (trail_at n z i)) steps ∙ ap (λ (z : ℕ). texts_of (trail_at n fs z)) at
+
+-- ---- the digests of the first texts
+
+module _ {A B : Type 0} (f : A → B) where
+  -- after the first n another one comes
+  pub cut_first : (n : ℕ) (ds : List B) (xs : List A) (x : A) → ds ≡ map f (take (length ds) xs)
+      → take n ds ≡ map f (take (length (take n ds)) (take n xs ++ x ∷ []))
+  cut_first zero [] xs x known = refl
+  cut_first zero (d ∷ ds) xs x known = refl
+  cut_first (suc n) [] xs x known = refl
+  cut_first (suc n) (d ∷ ds) [] x known = absurd (cc)
+  cut_first (suc n) (d ∷ ds) (y ∷ ys) x known =
+      let one : d ≡ f y = cc in
+      let others : ds ≡ map f (take (length ds) ys) = cc in
+      ap (λ (z : B). z ∷ take n ds) one ∙ ap (λ (l : List B). f y ∷ l) (cut_first n ds ys x others)
+
+  -- those of all are there
+  pub all_first : (count : ℕ) (ds : List B) (xs : List A) → ds ≡ map f (take (length ds) xs) → length ds ≡ count → count ≡ length xs → ds ≡ map f xs
+  all_first count ds xs known here there = known ∙ ap (map f) (take_all (length ds) xs (omega (arith, here, there)))
+
+  pub first_of_all : (ds : List B) (xs : List A) → ds ≡ map f xs → ds ≡ map f (take (length ds) xs)
+  first_of_all ds xs known = known ∙ ap (map f) (sym (take_all (length ds) xs (omega (arith, ap length known, length-map xs f))))
+
+-- the digest of the next text
+pub learn_next : (number : ℕ) (first made texts : List Bytes) (text digest : Bytes) → first ≡ map sha256 (take (length first) texts) → length first ≡ number → number < length texts
+    → slice_index_or texts number [] ≡ text → digest ≡ sha256 text → made ≡ first ++ digest ∷ [] → made ≡ map sha256 (take (length made) texts)
+learn_next number first made texts text digest known here within there is put =
+    let grown : length made ≡ number + 1 = ap length put ∙ length-append first (digest ∷ []) ∙ ap (λ k. k + 1) here in
+    subst (λ k. made ≡ map sha256 (take k texts)) (sym grown)
+    (hash_next number first made texts text digest (subst (λ k. first ≡ map sha256 (take k texts)) here known) within there is put)

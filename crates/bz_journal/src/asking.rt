@@ -15,7 +15,7 @@ ghost use Rattle.bz_journal.specs.Shown.{session_history};
 
 use crate::action::Reply;
 use crate::beside::{lines_for, value_of};
-use crate::digests::OptionalDigests;
+use crate::digests::FirstDigests;
 use crate::meaning::told;
 use crate::session::{MOST_NOTE, Session, unchanged};
 use bz_attribute::Refusal;
@@ -116,7 +116,7 @@ fn run_beside(
 
 /// What a command answers of the value of the present text; none where it would change that.
 fn answer_of(
-    session: &Session<OptionalDigests>,
+    session: &Session<FirstDigests>,
     command: &Command,
     target: &Target,
     lookups: &Lookups,
@@ -209,7 +209,7 @@ fn look_up(
 /// What a command with a note answers by the value of the present text, which is made where none is kept, and stays, as does what
 /// was looked up; none where the note is too long, and where the command would change the text.
 pub(crate) fn answer_noted(
-    session: &Session<OptionalDigests>,
+    session: &Session<FirstDigests>,
     value: &mut Option<File>,
     lookups: &mut Lookups,
     command: &Command,

@@ -24,7 +24,7 @@ ghost use Rattle.bz_journal.specs.Shown.{session_history};
 ghost use Rattle.bz_journal.specs.State.{session_trail};
 
 use crate::action::Reply;
-use crate::digests::OptionalDigests;
+use crate::digests::FirstDigests;
 use crate::laws::{overfull_is_refused, written_is_drawn};
 use crate::lines::Lines;
 use crate::meaning::told;
@@ -230,7 +230,7 @@ fn tidy_in(
 
 /// Takes up the whole layout of a tidy value, with a note. Errors: `TooLarge`, `TooDeep`, `Full`; `Memory`: a growth was refused.
 fn take_up_whole(
-    session: &mut Session<OptionalDigests>,
+    session: &mut Session<FirstDigests>,
     file: &File,
     printed: Option<Text>,
     note: &str,
@@ -251,7 +251,7 @@ fn take_up_whole(
 /// Takes up the layout of a tidy value by its lines that are other ones than in the present tree, with a note. Errors: `Full`;
 /// `Memory`: a growth was refused; those of taking it up whole where the step isn't known.
 fn take_up_lines(
-    session: &mut Session<OptionalDigests>,
+    session: &mut Session<FirstDigests>,
     file: &File,
     lines: Lines,
     printed: Option<Text>,
@@ -278,7 +278,7 @@ fn take_up_lines(
 
 /// Takes up the layout of a tidy value, by some lines alone where these are known. The errors are those of both.
 fn take_up_tidied(
-    session: &mut Session<OptionalDigests>,
+    session: &mut Session<FirstDigests>,
     file: &File,
     lines: Option<Lines>,
     printed: Option<Text>,
@@ -300,7 +300,7 @@ fn take_up_tidied(
 
 /// Takes up the layout of a tidy value and keeps this as the value of the present text. The errors are those of taking it up.
 fn take_up_value(
-    session: &mut Session<OptionalDigests>,
+    session: &mut Session<FirstDigests>,
     value: &mut Option<File>,
     long: &mut usize,
     done: Tidied,
@@ -342,7 +342,7 @@ fn take_up_value(
 
 /// Tidies and takes up what a command made of the value of the present text: another value.
 fn take_up_made(
-    session: &mut Session<OptionalDigests>,
+    session: &mut Session<FirstDigests>,
     value: &mut Option<File>,
     long: &mut usize,
     changes: Changes,
@@ -375,7 +375,7 @@ fn take_up_made(
 /// `long` how many bytes it has at most. At an error the session is as before. Errors: those of the command; `TooLarge` and
 /// `TooDeep` where the new text would be past a limit; `Full` at the most steps; `Memory`: a growth was refused.
 pub(crate) fn edit_beside(
-    session: &mut Session<OptionalDigests>,
+    session: &mut Session<FirstDigests>,
     value: &mut Option<File>,
     long: &mut usize,
     command: &Command,

@@ -1,5 +1,5 @@
-//! What a session knows of each of its texts beside the steps: its SHA-256, or nothing.
-ghost use Rattle.std.specs.Prelude.{◌≡◌, ◌<◌, ◌++◌, [], ◌∷◌, List, ℕ, IfOk, IfSome, OnOk, map, take, vec_len, vec_capacity};
+//! What a session knows of each of its texts beside the steps: its SHA-256, or that of the first ones.
+ghost use Rattle.std.specs.Prelude.{◌≡◌, ◌<◌, ◌++◌, [], ◌∷◌, List, ℕ, IfOk, IfSome, OnOk, length, map, slice_index_or, take, vec_len, vec_capacity};
 ghost use Rattle.sha2.specs.Sha256.{sha256};
 ghost use Rattle.bz_tree.specs.Spell.{spell_node};
 ghost use Rattle.bz_items.specs.Characters.{Bytes};
@@ -10,9 +10,9 @@ use bz_tree::Tree;
 use sha2::{Digest, Sha256};
 use std::alloc::Global;
 
-/// The SHA-256 of each text of a session, or what stands in their place.
+/// The SHA-256 of each text of a session, or of the first ones.
 pub trait Digests {
-    /// Whether these are the digests of these texts, where any are kept.
+    /// Whether these are the digests of these texts, or of the first of them.
     ghost are_of: { Self → List Bytes → Type 0 };
 
     /// Whether there is room for one more.
@@ -32,9 +32,14 @@ pub trait Digests {
         requires room { has_room self.old }
         ensures { (texts : List Bytes) → are_of self.old texts → are_of self.new (take n texts ++ spell_node tree.now ∷ []) };
 
-    /// The digest of each text, where they are kept.
-    fn list(&self) -> Option<&[[u8; 32]]>
-        ensures { (texts : List Bytes) → are_of self.now texts → IfSome result (λ list. list.now ≡ map sha256 texts) };
+    /// Takes the digest of the text with this number, where those of the texts before it alone are there. Where memory is refused it
+    /// goes on without.
+    fn learn(&mut self, number: usize, text: &[u8])
+        ensures { (texts : List Bytes) → are_of self.old texts → number < length texts → slice_index_or texts number [] ≡ text.now → are_of self.new texts };
+
+    /// The digest of each of so many texts, where all are there.
+    fn list(&self, count: usize) -> Option<&[[u8; 32]]>
+        ensures { (texts : List Bytes) → are_of self.now texts → count ≡ length texts → IfSome result (λ list. list.now ≡ map sha256 texts) };
 }
 
 impl Digests for Vec<[u8; 32]> {
@@ -54,44 +59,59 @@ impl Digests for Vec<[u8; 32]> {
         put_after(self, n, digest_of(tree));
     }
 
-    fn list(&self) -> Option<&[[u8; 32]]> {
+    fn learn(&mut self, _number: usize, _text: &[u8]) {}
+
+    fn list(&self, _count: usize) -> Option<&[[u8; 32]]> {
         Some(self.as_slice())
     }
 }
 
-/// Digests that are kept only where something reads them: a journal does, and a listing.
+/// Digests that are taken only where something reads them: a journal does. They are those of the first texts.
 #[derive(Drop)]
-pub struct OptionalDigests {
-    /// The SHA-256 of each text, where they are kept.
-    pub kept: Option<Vec<[u8; 32]>>,
+pub struct FirstDigests {
+    /// The SHA-256 of each of the first texts.
+    pub first: Vec<[u8; 32]>,
 }
 
-impl Digests for OptionalDigests {
-    ghost are_of = { λ digests texts. IfSome digests.kept (λ kept. kept.items ≡ map sha256 texts) };
+impl FirstDigests {
+    /// The digests of all texts.
+    pub(crate) fn of_all(digests: Vec<[u8; 32]>) -> FirstDigests
+        ensures { (texts : List Bytes) → digests.items ≡ map sha256 texts → result.first.items ≡ map sha256 (take (length result.first.items) texts) }
+    {
+        FirstDigests { first: digests }
+    }
+}
 
-    ghost has_room = { λ digests. IfSome digests.kept (λ kept. vec_len kept < vec_capacity kept) };
+impl Digests for FirstDigests {
+    ghost are_of = { λ digests texts. digests.first.items ≡ map sha256 (take (length digests.first.items) texts) };
 
-    fn of_text(_alloc: Global, _text: &[u8]) -> Result<Self, Memory> {
-        Ok(OptionalDigests { kept: None })
+    ghost has_room = { λ _. Unit {0} };
+
+    fn of_text(alloc: Global, _text: &[u8]) -> Result<Self, Memory> {
+        Ok(FirstDigests {
+            first: Vec::new(alloc),
+        })
     }
 
     fn make_room(&mut self) -> Result<(), Memory> {
-        match &mut self.kept {
-            Some(kept) => kept.reserve(1),
-            None => Ok(()),
+        Ok(())
+    }
+
+    fn put_after(&mut self, n: usize, _tree: &Tree) {
+        self.first.truncate(n);
+    }
+
+    fn learn(&mut self, number: usize, text: &[u8]) {
+        if self.first.len() == number && self.first.reserve(1).is_ok() {
+            self.first.push(Sha256::digest(text)).unwrap();
         }
     }
 
-    fn put_after(&mut self, n: usize, tree: &Tree) {
-        if let Some(kept) = &mut self.kept {
-            put_after(kept, n, digest_of(tree));
-        }
-    }
-
-    fn list(&self) -> Option<&[[u8; 32]]> {
-        match &self.kept {
-            Some(kept) => Some(kept.as_slice()),
-            None => None,
+    fn list(&self, count: usize) -> Option<&[[u8; 32]]> {
+        if self.first.len() == count {
+            Some(self.first.as_slice())
+        } else {
+            None
         }
     }
 }

@@ -29,7 +29,7 @@ ghost use Rattle.bz_journal.specs.State.{session_trail};
 use crate::action::{Action, Reply};
 use crate::asking::{Lookups, answer_noted};
 use crate::beside::edit_beside;
-use crate::digests::OptionalDigests;
+use crate::digests::FirstDigests;
 use crate::keeping::KeepFault;
 use crate::laws::changed_is_written;
 use crate::session::{MOST_NOTE, Session, begin};
@@ -55,7 +55,7 @@ const OFTEN: u32 = 64;
 /// opened no digest is taken until something reads it: `keep_noted` or `listing`. Contracts see the session.
 #[derive(Drop)]
 pub struct Editor {
-    session: Session<OptionalDigests>,
+    session: Session<FirstDigests>,
     /// The value of the present text, where it is kept.
     value: Option<File>,
     /// What was looked up in the present text.
@@ -109,7 +109,7 @@ fn is_command_done(action: &Action<'_>, reply: &Result<Reply, Refusal>) -> bool
 /// Does an action as the session does it, and tells whether the present text is then known to be the layout of a tidy value, and
 /// how many bytes it has at most.
 fn act_by_session(
-    session: &mut Session<OptionalDigests>,
+    session: &mut Session<FirstDigests>,
     action: &Action<'_>,
     note: &str,
     written: &mut bool,
@@ -135,7 +135,7 @@ fn act_by_session(
 
 /// Does a command with a note on the present text, which is the layout of a tidy value; `value` is its value, where that is kept.
 fn edit_noted(
-    session: &mut Session<OptionalDigests>,
+    session: &mut Session<FirstDigests>,
     value: &mut Option<File>,
     long: &mut usize,
     command: &Command,
@@ -159,7 +159,7 @@ fn edit_noted(
 }
 
 /// An editor of a session. No value is kept yet.
-fn beside(session: Session<OptionalDigests>) -> Editor
+fn beside(session: Session<FirstDigests>) -> Editor
     ensures { result ≡ session }
 {
     reads_back(session.present());
@@ -354,8 +354,7 @@ impl Editor {
     ) -> Result<Reply, KeepFault>
         ensures { KeepsPair F.Files (action_in action.now) note.now file.now self.old result self.new files.old files.new }
     {
-        self.session.keep_digests();
-        let standing = self.session.own_text();
+        let standing = self.session.learned_text();
         let from = self.cursor();
         let answer = self.act_noted(action, note);
         self.session.persist(answer, from, standing, file, files)

@@ -1,12 +1,13 @@
 //! The digests of the texts of a session that keeps none.
-ghost use Rattle.std.specs.Prelude.{◌≡◌, IfOk, map};
+ghost use Rattle.std.specs.Prelude.{◌≡◌, IfOk, IfSome, map};
 ghost use Rattle.sha2.specs.Sha256.{sha256};
 ghost use Rattle.bz_trail.specs.Shown.{texts_of};
 ghost use Rattle.bz_trail.specs.Trails.{IsTrail, trail_at};
+ghost use Rattle.bz_journal.specs.History.{present};
 ghost use Rattle.bz_journal.specs.Shown.{session_history};
 
 use crate::digest::digest_of;
-use crate::digests::{Digests, OptionalDigests, one_digest};
+use crate::digests::{Digests, FirstDigests, one_digest};
 use crate::session::Session;
 use bz_edit::Step;
 use bz_items::{Items, Memory};
@@ -55,6 +56,23 @@ fn hashed_around(
 }
 
 impl<D: Digests + Drop> Session<D> {
+    /// The digest of each text, where all are known.
+    pub(crate) fn known(&self) -> Option<&[[u8; 32]]>
+        ensures { IfSome result (λ list. list.now ≡ map sha256 (session_history self.now).texts) }
+    {
+        texts_kept();
+        self.digests.list(self.steps.len() + 1)
+    }
+
+    /// Takes the digest of the present text, which is this, where it is still to be known and those of the texts before it are.
+    pub(crate) fn learn(&mut self, text: &[u8])
+        requires { text.now ≡ present (session_history self.old) }
+        ensures { self.new ≡ self.old }
+    {
+        texts_kept();
+        self.digests.learn(self.cursor as usize, text);
+    }
+
     /// The digests of all texts, taken of a copy that goes through them. The error: memory was refused.
     pub(crate) fn hashed(&self) -> Result<Vec<[u8; 32]>, Memory>
         ensures { IfOk result (λ digests. digests.items ≡ map sha256 (session_history self.now).texts) }
@@ -67,20 +85,9 @@ impl<D: Digests + Drop> Session<D> {
     }
 }
 
-impl Session<OptionalDigests> {
-    /// From now on a digest of each text is kept, where the session has only its first text. Where memory is refused it goes on
-    /// without.
-    pub(crate) fn keep_digests(&mut self)
-        ensures { self.new ≡ self.old }
-    {
-        texts_kept();
-        if self.steps.is_empty() && self.digests.kept.is_none() {
-            self.digests.kept = one_digest(self.alloc(), digest_of(&self.tree)).ok();
-        }
-    }
-
-    /// A session whose digests are kept.
-    pub(crate) fn of_session(session: Session) -> Session<OptionalDigests>
+impl Session<FirstDigests> {
+    /// A session of which all digests are known.
+    pub(crate) fn of_session(session: Session) -> Session<FirstDigests>
         ensures { result ≡ session }
     {
         let Session {
@@ -95,9 +102,7 @@ impl Session<OptionalDigests> {
         Session {
             tree,
             steps,
-            digests: OptionalDigests {
-                kept: Some(digests),
-            },
+            digests: FirstDigests::of_all(digests),
             notes,
             package,
             cursor,

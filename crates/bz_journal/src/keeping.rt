@@ -76,36 +76,50 @@ impl<D: Digests + Drop> Session<D> {
         ensures journal { OnOk result (IsSavedSession self.now) }
     {
         let mut told = Vec::new(self.alloc());
-        match self.digests.list() {
+        match self.known() {
             Some(digests) => self.save_by(digests, &mut told)?,
             None => self.save_by(self.hashed()?.as_slice(), &mut told)?,
         }
         Ok(told)
     }
 
-    /// The journal and the present text. The error: a growth was refused.
-    fn pair(&self) -> Result<(Vec<u8>, Vec<u8>), Memory>
-        ensures told { IfOk result (λ pair. pair.0.items ≡ saved self.now) }
-        ensures text { IfOk result (λ pair. pair.1.items ≡ present (session_history self.now)) }
-        ensures journal { OnOk result (IsSavedSession self.now) }
+    /// The present text, whose digest is then known where it is to be and those of the texts before it are. The error: a growth was
+    /// refused.
+    pub(crate) fn learned_text(&mut self) -> Result<Vec<u8>, Memory>
+        ensures text { IfOk result (λ text. text.items ≡ present (session_history self.new)) }
+        ensures within { (session_history self.new).cursor < length (session_history self.new).texts }
+        ensures same { self.new ≡ self.old }
     {
-        let told = self.journal()?;
         let text = self.own_text()?;
+        self.learn(text.as_slice());
+        Ok(text)
+    }
+
+    /// The journal and the present text. The error: a growth was refused.
+    fn pair(&mut self) -> Result<(Vec<u8>, Vec<u8>), Memory>
+        ensures told { IfOk result (λ pair. pair.0.items ≡ saved self.new) }
+        ensures text { IfOk result (λ pair. pair.1.items ≡ present (session_history self.new)) }
+        ensures journal { OnOk result (IsSavedSession self.new) }
+        ensures same { self.new ≡ self.old }
+    {
+        let text = self.learned_text()?;
+        let told = self.journal()?;
         Ok((told, text))
     }
 
     /// Keeps what an action answered: where the present text is another one than the one with the number `from`, at which the
     /// action was begun, replaces the journal of the file and then the file, which is still to hold that text, `standing`.
     pub(crate) fn persist<F: Files>(
-        &self,
+        &mut self,
         answer: Result<Reply, Refusal>,
         from: u32,
         standing: Result<Vec<u8>, Memory>,
         file: &str,
         files: &mut F,
     ) -> Result<Reply, KeepFault>
-        ensures { (s : SessionState) (action : a.Action) (note : Bytes) → from ≡ s.cursor → IfOk standing (λ text. text.items ≡ present (session_history s))
-            → HasActed action note s answer self.now → KeepsPair F.Files action note file.now s result self.now files.old files.new }
+        ensures kept { (s : SessionState) (action : a.Action) (note : Bytes) → from ≡ s.cursor → IfOk standing (λ text. text.items ≡ present (session_history s))
+            → HasActed action note s answer self.old → KeepsPair F.Files action note file.now s result self.new files.old files.new }
+        ensures same { self.new ≡ self.old }
     {
         let reply = match answer {
             Ok(reply) => reply,

@@ -19,7 +19,6 @@ mod taking;
 
 pub use action::{Action, Reply};
 pub use bz_resume::ResumeFault;
-pub use digests::{Digests, OptionalDigests};
 pub use editor::Editor;
 pub use keeping::KeepFault;
 pub use laws::{alike_goes_on, history_kept, session_holds, worked_histories};

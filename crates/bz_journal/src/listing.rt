@@ -77,7 +77,7 @@ impl<D: Digests + Drop> Session<D> {
     pub fn listing(&self, alloc: Global) -> Result<Text, Memory>
         ensures { IfOk result (λ text. text ≡ listing (session_history self.now)) }
     {
-        match self.digests.list() {
+        match self.known() {
             Some(digests) => self.listed(alloc, digests),
             None => self.listed(alloc, self.hashed()?.as_slice()),
         }
