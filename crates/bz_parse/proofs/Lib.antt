@@ -7,3 +7,4 @@ pub mod Accepts
 pub mod Rises
 pub mod Pushed
 pub mod Blocks
+pub mod Listed

@@ -35,6 +35,9 @@ fn follow(
     let mut deep = deep;
     let mut state = state;
     'moves: loop {
+        if let NodeState::Items(listed, ItemsAt::Begin) = state {
+            return items_of_row(from, deep, listed, depth, stack, leaves);
+        }
         match state.next_move() {
             Move::Finish(kind) => {
                 stack.close(kind, from)?;
@@ -53,6 +56,57 @@ fn follow(
             }
         }
     }
+}
+
+/// The items of a row that are left, from where one of them or the closing token stands, and that token.
+#[cycle(parser)]
+fn items_of_row(
+    from: usize,
+    deep: u32,
+    listed: ListedItems,
+    depth: u32,
+    stack: &mut Stack,
+    leaves: &mut Leaves,
+) -> Result<u32, ParseHalt>
+    requires from { from ≤ length stack.old }
+    requires deep { deep ≡ deepest (drop from stack.old) }
+    requires within { deep ≤ depth }
+    requires small { depth ≤ 2 * depth_limit }
+    ensures ok { IfOk result (λ deep. Pushes (found_from depth (drop from stack.old) (NodeState.Items listed ItemsAt.Begin) leaves.old) (take from stack.old) stack.new leaves.new deep) }
+    ensures err { Fails result (found_from depth (drop from stack.old) (NodeState.Items listed ItemsAt.Begin) leaves.old) }
+{
+    let row = listed.row();
+    let mut deep = deep;
+    'more: while !leaves.next_is(row.close) {
+        deep = deeper(deep, part(row.sort, depth, stack, leaves)?);
+        if !leaves.next_is(row.separator) {
+            return closing_token(from, deep, row.kind, row.close, depth, stack, leaves);
+        }
+        deep = deeper(deep, stack.take(row.separator, leaves)?);
+    }
+    closing_token(from, deep, row.kind, row.close, depth, stack, leaves)
+}
+
+/// A node of this kind of which the closing token alone is left.
+fn closing_token(
+    from: usize,
+    deep: u32,
+    kind: Kind,
+    close: TokenSet,
+    depth: u32,
+    stack: &mut Stack,
+    leaves: &mut Leaves,
+) -> Result<u32, ParseHalt>
+    requires from { from ≤ length stack.old }
+    requires deep { deep ≡ deepest (drop from stack.old) }
+    requires within { deep ≤ depth }
+    requires small { depth ≤ 2 * depth_limit }
+    ensures ok { IfOk result (λ deep. Pushes (found_from depth (drop from stack.old) (NodeState.Rest kind (Tail.Token close)) leaves.old) (take from stack.old) stack.new leaves.new deep) }
+    ensures err { Fails result (found_from depth (drop from stack.old) (NodeState.Rest kind (Tail.Token close)) leaves.old) }
+{
+    let deep = deeper(deep, stack.take(close, leaves)?);
+    stack.close(kind, from)?;
+    Ok(deep + 1)
 }
 
 /// A node from its first part on.

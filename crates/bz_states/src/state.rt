@@ -121,7 +121,7 @@ pub enum ListedItems {
 
 /// What such a row is made of.
 #[derive(Clone, Copy)]
-pub(crate) struct ItemRow {
+pub struct ItemRow {
     pub kind: Kind,
     pub sort: PartSort,
     pub separator: TokenSet,
@@ -407,7 +407,8 @@ impl Tail {
 }
 
 impl ListedItems {
-    fn row(self) -> ItemRow
+    /// What the row is made of.
+    pub fn row(self) -> ItemRow
         ensures { result ≡ row_of_items self }
     {
         let (kind, sort, separator, close) = match self {

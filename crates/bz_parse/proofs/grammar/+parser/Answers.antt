@@ -1,4 +1,4 @@
-use Rattle.std.proofs.Common.{sym, ap, refl, ◌∙◌, List, [], ◌∷◌, ◌++◌, drop, arith}
+use Rattle.std.proofs.Common.{sym, ap, refl, ◌∙◌, ◌≤◌, List, [], ◌∷◌, ◌++◌, drop, arith}
 use Rattle.bz_tree.specs.declared.tree.Part.{Part}
 use Rattle.bz_tree.specs.declared.kind.Kind.TheVariants as k
 use Rattle.bz_states.specs.declared.token.TokenSet.TheVariants as token
@@ -13,6 +13,7 @@ use Rattle.bz_states.specs.States.{sort_of}
 use Rattle.bz_parse.proofs.Deepest.{made_depth, leaf_depth}
 use Rattle.bz_parse.proofs.Moves.{finishes, takes, takes_none, reads, reads_none, chooses_left, chooses_right, fewer_taken, fewer_read, fewer_left, fewer_right}
 use Rattle.bz_parse.proofs.Climbs.{handed_on, inside, level_is, argument_is, entry_is, clause_is, first_clause_is, small_is, line_is, alias_is, loaded_is, part_depth, level_prefix, atom_round, atom_square, atom_curly, atom_leaf, primary_atom, primary_none, suffix_stops, suffix_goes, suffix_shorter, star_is, argument_none, argument_odd, argument_stays, argument_named, param_is, starred_is, param_none, param_stays, param_valued}
+use Rattle.bz_parse.proofs.Listed.{row_ends, item_none, item_last, separator_none, item_next, item_shorter}
 use Rattle.bz_parse.proofs.Pushed.{carry_ok, carry_err, added, take_push, within_push, deepest_more, drop_last, take_last, get_last, begins_last, depth_one, fits, unfit, fitted_begun, fitted_some, stays_last, suffix_fails}
 use Rattle.bz_parse.proofs.Rises.{from_parts, not_from, bound_infix, bound_other, bound_goes, bound_none, risen_end, passed, plain, starts_risen, starts_none}
 use Rattle.bz_parse.proofs.grammar.+parser.Goals as goal
@@ -271,3 +272,43 @@ param-returns-clause-ok t c = carry_ok _ _ _ _ _ _ _ (param_valued _ _ _ _ (sym 
 
 pub param-returns-clause-err : goal.param-returns-clause-err
 param-returns-clause-err t c = carry_err _ _ _ (param_valued _ _ _ _ (sym c.next_is.ensures ∙ c.if-next_is.false) c.in_ok-deep.ensures.ok.1 ∙ fitted_begun _ _ _ _ _ _ _ (drop_last _ _ _ _ c.in_ok-deep.ensures.ok.2 c.len-from.ensures) c.in_ok-deep.ensures.ok.3 (sym c.next_is-2.ensures ∙ c.if-not-next_is.false)) c.go_on.ensures.err
+
+pub items_of_row-returns-in_err-part-clause-err : goal.items_of_row-returns-in_err-part-clause-err
+items_of_row-returns-in_err-part-clause-err t c = handed_on _ _ _ _ c.from_residual.ensures.1 c.in_err-part.ensures.err (λ n. sym c.more.invariant.rest ∙ item_none c.args.depth c.args.listed c.row-row.result c.more.invariant.row (drop c.args.from c.more.stack) c.more.leaves (sym c.next_is.ensures ∙ c.more-test.true) n)
+
+pub items_of_row-closing_token-requires-clause-deep : goal.items_of_row-closing_token-requires-clause-deep
+items_of_row-closing_token-requires-clause-deep t c = deepest_more _ _ c.more.invariant.from _ _ _ _ _ _ c.more.invariant.deep c.in_ok-part.ensures.ok c.deeper-deep.ensures
+
+pub items_of_row-closing_token-requires-clause-within : goal.items_of_row-closing_token-requires-clause-within
+items_of_row-closing_token-requires-clause-within t c = omega (arith, c.more.invariant.within, c.deeper-deep.ensures, c.in_ok-part.ensures.ok.3, part_depth _ _ _ _ _ c.in_ok-part.ensures.ok.1)
+
+pub items_of_row-returns-then-not-next_is-clause-ok : goal.items_of_row-returns-then-not-next_is-clause-ok
+items_of_row-returns-then-not-next_is-clause-ok t c = carry_ok _ _ _ _ _ _ _ (sym (item_last c.args.depth c.args.listed c.row-row.result c.more.invariant.row (drop c.args.from c.more.stack) c.more.leaves (sym c.next_is.ensures ∙ c.more-test.true) (drop c.args.from c.part.new.stack) c.part.new.leaves (added _ _ c.more.invariant.from (part_at c.args.depth (sort_of c.row-row.result.sort)) _ _ _ _ c.in_ok-part.ensures.ok) (sym c.next_is-in-more.ensures ∙ c.if-not-next_is.true) ∙ c.more.invariant.rest)) (take_push _ _ c.more.invariant.from _ _ c.in_ok-part.ensures.ok.2 ∙ c.more.invariant.below) c.closing_token.ensures.ok
+
+pub items_of_row-returns-then-not-next_is-clause-err : goal.items_of_row-returns-then-not-next_is-clause-err
+items_of_row-returns-then-not-next_is-clause-err t c = carry_err _ _ _ (sym (item_last c.args.depth c.args.listed c.row-row.result c.more.invariant.row (drop c.args.from c.more.stack) c.more.leaves (sym c.next_is.ensures ∙ c.more-test.true) (drop c.args.from c.part.new.stack) c.part.new.leaves (added _ _ c.more.invariant.from (part_at c.args.depth (sort_of c.row-row.result.sort)) _ _ _ _ c.in_ok-part.ensures.ok) (sym c.next_is-in-more.ensures ∙ c.if-not-next_is.true) ∙ c.more.invariant.rest)) c.closing_token.ensures.err
+
+pub items_of_row-returns-in_err-take-clause-err : goal.items_of_row-returns-in_err-take-clause-err
+items_of_row-returns-in_err-take-clause-err t c = handed_on _ _ _ _ c.from_residual-in_err-take.ensures.1 c.in_err-take.ensures.err (λ n. sym c.more.invariant.rest ∙ separator_none c.args.depth c.args.listed c.row-row.result c.more.invariant.row (drop c.args.from c.more.stack) c.more.leaves (sym c.next_is.ensures ∙ c.more-test.true) (drop c.args.from c.part.new.stack) c.part.new.leaves (added _ _ c.more.invariant.from (part_at c.args.depth (sort_of c.row-row.result.sort)) _ _ _ _ c.in_ok-part.ensures.ok) (sym c.next_is-in-more.ensures ∙ c.if-not-next_is.false) n)
+
+pub items_of_row-more-smaller : goal.items_of_row-more-smaller
+items_of_row-more-smaller t c = item_shorter c.args.depth (sort_of c.row-row.result.sort) (terminals_of c.row-row.result.separator) c.more.leaves c.part.new.leaves c.take.new.leaves _ _ c.in_ok-part.ensures.ok.1 c.in_ok-take.ensures.ok.1
+
+pub items_of_row-more-preserved : goal.items_of_row-more-preserved
+items_of_row-more-preserved t c =
+    let deep = deepest_more _ _ c.more.invariant.from _ _ _ _ _ _ c.more.invariant.deep c.in_ok-part.ensures.ok c.deeper-deep.ensures in
+    let within : c.deeper-deep.result ≤ c.args.depth = omega (arith, c.more.invariant.within, c.deeper-deep.ensures, c.in_ok-part.ensures.ok.3, part_depth _ _ _ _ _ c.in_ok-part.ensures.ok.1) in
+    record {
+      row = c.more.invariant.row;
+      rest = item_next c.args.depth c.args.listed c.row-row.result c.more.invariant.row (drop c.args.from c.more.stack) c.more.leaves (sym c.next_is.ensures ∙ c.more-test.true) (drop c.args.from c.part.new.stack) c.part.new.leaves (added _ _ c.more.invariant.from (part_at c.args.depth (sort_of c.row-row.result.sort)) _ _ _ _ c.in_ok-part.ensures.ok) (sym c.next_is-in-more.ensures ∙ c.if-not-next_is.false) (drop c.args.from c.take.new.self) c.take.new.leaves (added _ _ (within_push _ _ c.more.invariant.from _ _ c.in_ok-part.ensures.ok.2) (token_at (terminals_of c.row-row.result.separator)) _ _ _ _ c.in_ok-take.ensures.ok) ∙ c.more.invariant.rest;
+      below = take_push _ _ (within_push _ _ c.more.invariant.from _ _ c.in_ok-part.ensures.ok.2) _ _ c.in_ok-take.ensures.ok.2 ∙ (take_push _ _ c.more.invariant.from _ _ c.in_ok-part.ensures.ok.2 ∙ c.more.invariant.below);
+      from = within_push _ _ (within_push _ _ c.more.invariant.from _ _ c.in_ok-part.ensures.ok.2) _ _ c.in_ok-take.ensures.ok.2;
+      deep = deepest_more _ _ (within_push _ _ c.more.invariant.from _ _ c.in_ok-part.ensures.ok.2) _ _ _ _ _ _ deep c.in_ok-take.ensures.ok c.deeper-deep-in-more.ensures;
+      within = omega (arith, within, c.deeper-deep-in-more.ensures, c.in_ok-take.ensures.ok.3, leaf_depth _ _ _ _ c.in_ok-take.ensures.ok.1);
+    }
+
+pub items_of_row-returns-clause-ok : goal.items_of_row-returns-clause-ok
+items_of_row-returns-clause-ok t c = carry_ok _ _ _ _ _ _ _ (sym (row_ends c.args.depth c.args.listed c.row-row.result c.more.invariant.row (drop c.args.from c.more.stack) c.more.leaves (sym c.next_is.ensures ∙ c.more-test.false) ∙ c.more.invariant.rest)) c.more.invariant.below c.closing_token-2.ensures.ok
+
+pub items_of_row-returns-clause-err : goal.items_of_row-returns-clause-err
+items_of_row-returns-clause-err t c = carry_err _ _ _ (sym (row_ends c.args.depth c.args.listed c.row-row.result c.more.invariant.row (drop c.args.from c.more.stack) c.more.leaves (sym c.next_is.ensures ∙ c.more-test.false) ∙ c.more.invariant.rest)) c.closing_token-2.ensures.err

@@ -1,7 +1,9 @@
 use Rattle.std.proofs.Common.{◌≡◌, ◌+◌, ◌*◌, ◌-◌, ◌≤◌, ◌++◌, ◌∷◌, [], length, take, drop}
 use Rattle.bz_tree.specs.declared.tree.Part.{Part}
 use Rattle.bz_tree.specs.Spell.{depth_part, deepest}
-use Rattle.bz_states.specs.States.{plan_at, choices}
+use Rattle.bz_states.specs.declared.state.NodeState.TheVariants as s
+use Rattle.bz_states.specs.declared.state.ItemsAt.TheVariants as items_at
+use Rattle.bz_states.specs.States.{plan_at, choices, row_of_items}
 use Rattle.bz_parse.specs.Words.{found_from}
 use Rattle.bz_parse.specs.Ranks.{suffixes_at, level_at, RisesFrom}
 use Rattle.bz_parse.proofs.grammar.+parser.Given as goal
@@ -10,35 +12,51 @@ use Rattle.bz_parse.proofs.grammar.+parser.Given as goal
 abbrev pub decreases-part : goal.decreases-part
 decreases-part l = 20 * l.depth
 
+abbrev pub decreases-items_of_row : goal.decreases-items_of_row
+decreases-items_of_row l = 20 * l.depth + 1
+
 abbrev pub decreases-follow : goal.decreases-follow
-decreases-follow l = 20 * l.depth + 1
+decreases-follow l = 20 * l.depth + 2
 
 abbrev pub decreases-begin : goal.decreases-begin
-decreases-begin l = 20 * l.depth + 2
+decreases-begin l = 20 * l.depth + 3
 
 abbrev pub decreases-go_on : goal.decreases-go_on
-decreases-go_on l = 20 * l.depth + 2
+decreases-go_on l = 20 * l.depth + 3
 
 abbrev pub decreases-raised : goal.decreases-raised
-decreases-raised l = 20 * l.depth + 3
+decreases-raised l = 20 * l.depth + 4
 
 abbrev pub decreases-atom : goal.decreases-atom
-decreases-atom l = 20 * l.depth + 3
+decreases-atom l = 20 * l.depth + 4
 
 abbrev pub decreases-primary : goal.decreases-primary
-decreases-primary l = 20 * l.depth + 4
+decreases-primary l = 20 * l.depth + 5
 
 abbrev pub decreases-operand : goal.decreases-operand
-decreases-operand l = 20 * l.depth + 5
+decreases-operand l = 20 * l.depth + 6
 
 abbrev pub decreases-expression : goal.decreases-expression
-decreases-expression l = 20 * l.depth + 6
+decreases-expression l = 20 * l.depth + 7
 
 abbrev pub decreases-argument : goal.decreases-argument
-decreases-argument l = 20 * l.depth + 7
+decreases-argument l = 20 * l.depth + 8
 
 abbrev pub decreases-param : goal.decreases-param
-decreases-param l = 20 * l.depth + 7
+decreases-param l = 20 * l.depth + 8
+
+abbrev pub invariant-items_of_row-more : goal.invariant-items_of_row-more
+invariant-items_of_row-more l = record {
+  row : l.row ≡ row_of_items l.fn.listed;
+  rest : found_from l.depth (drop l.from l.stack) (s.Items l.fn.listed items_at.Begin) l.leaves ≡ found_from l.fn.depth (drop l.fn.from l.fn.stack) (s.Items l.fn.listed items_at.Begin) l.fn.leaves;
+  below : take l.from l.stack ≡ take l.fn.from l.fn.stack;
+  from : l.from ≤ length l.stack;
+  deep : l.deep ≡ deepest (drop l.from l.stack);
+  within : l.deep ≤ l.depth;
+}
+
+abbrev pub decreases-items_of_row-more : goal.decreases-items_of_row-more
+decreases-items_of_row-more l = length l.leaves
 
 abbrev pub invariant-follow-moves : goal.invariant-follow-moves
 invariant-follow-moves l = record {

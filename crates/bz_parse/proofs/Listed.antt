@@ -1,0 +1,78 @@
+-- The items of a row, one at a time: the moves from one to the next, joined.
+use Rattle.std.proofs.Common.{◌≡◌, ℕ, ◌<◌, true, false, List, length, Some, None, refl, sym, ap, ◌∙◌, arith}
+use Rattle.bz_lex.specs.declared.leaf.Leaf.{Leaf}
+use Rattle.bz_tree.specs.declared.kind.Kind.{Kind}
+use Rattle.bz_tree.specs.declared.tree.Part.{Part}
+use Rattle.bz_tree.specs.Shapes.{Terminal, Sort}
+use Rattle.bz_tree.specs.Reading.{starts_with, node_part}
+use Rattle.bz_states.specs.declared.token.TokenSet.{TokenSet}
+use Rattle.bz_states.specs.declared.state.ListedItems.{ListedItems}
+use Rattle.bz_states.specs.declared.state.ItemRow.{ItemRow}
+use Rattle.bz_states.specs.declared.state.ItemsAt.TheVariants as items_at
+use Rattle.bz_states.specs.declared.state.Move.TheVariants as m
+use Rattle.bz_states.specs.declared.state.NodeState.TheVariants as s
+use Rattle.bz_states.specs.declared.state.Tail.TheVariants as in_rest
+use Rattle.bz_states.specs.Tokens.{terminals_of, token_at}
+use Rattle.bz_states.specs.States.{sort_of, plan_at, row_of_items, Asks}
+use Rattle.bz_parse.specs.Words.{part_at, found_from}
+use Rattle.bz_parse.proofs.Steps.{token_parts, reading_takes}
+use Rattle.bz_parse.proofs.Moves.{Adds, finishes, takes, takes_none, reads, reads_none, chooses_left, chooses_right}
+
+-- a node of which one token is left
+module _ (d : ℕ) (kind : Kind) (close : TokenSet) (front : List Part) (ts : List Leaf) where
+  asks_token : Asks (plan_at (s.Rest kind (in_rest.Token close))) (m.Take close (s.Rest kind in_rest.Nothing))
+  asks_token = (refl, refl)
+
+  pub closes_none : token_at (terminals_of close) ts ≡ None → found_from d front (s.Rest kind (in_rest.Token close)) ts ≡ None
+  closes_none n = takes_none d front (s.Rest kind (in_rest.Token close)) ts close (s.Rest kind in_rest.Nothing) asks_token n
+
+  pub closes : (more : List Part) (rest : List Leaf) → Adds (token_at (terminals_of close)) front ts more rest → found_from d front (s.Rest kind (in_rest.Token close)) ts ≡ Some (node_part kind more, rest)
+  closes more rest a =
+      sym (takes d front (s.Rest kind (in_rest.Token close)) ts close (s.Rest kind in_rest.Nothing) more rest asks_token a) ∙
+      finishes d more (s.Rest kind in_rest.Nothing) rest kind refl
+
+module _ (d : ℕ) (all : ListedItems) (row : ItemRow) (is : row ≡ row_of_items all) (front : List Part) (ts : List Leaf) where
+  at_begin : Asks (plan_at (s.Items all items_at.Begin)) (m.Choose row.close (s.Rest row.kind (in_rest.Token row.close)) (s.Items all items_at.Part))
+  at_begin = rw is (refl, refl, refl)
+
+  at_part : Asks (plan_at (s.Items all items_at.Part)) (m.Read row.sort (s.Items all items_at.Behind))
+  at_part = rw is (refl, refl)
+
+  at_behind : Asks (plan_at (s.Items all items_at.Behind)) (m.Choose row.separator (s.Items all items_at.Separator) (s.Rest row.kind (in_rest.Token row.close)))
+  at_behind = rw is (refl, refl, refl)
+
+  at_separator : Asks (plan_at (s.Items all items_at.Separator)) (m.Take row.separator (s.Items all items_at.Begin))
+  at_separator = rw is (refl, refl)
+
+  pub row_ends : starts_with (terminals_of row.close) ts ≡ true → found_from d front (s.Rest row.kind (in_rest.Token row.close)) ts ≡ found_from d front (s.Items all items_at.Begin) ts
+  row_ends h = chooses_left d front (s.Items all items_at.Begin) ts row.close (s.Rest row.kind (in_rest.Token row.close)) (s.Items all items_at.Part) at_begin h
+
+  pub item_none : starts_with (terminals_of row.close) ts ≡ false → part_at d (sort_of row.sort) ts ≡ None → found_from d front (s.Items all items_at.Begin) ts ≡ None
+  item_none h n =
+      sym (chooses_right d front (s.Items all items_at.Begin) ts row.close (s.Rest row.kind (in_rest.Token row.close)) (s.Items all items_at.Part) at_begin h) ∙
+      reads_none d front (s.Items all items_at.Part) ts row.sort (s.Items all items_at.Behind) at_part n
+
+  module _ (h : starts_with (terminals_of row.close) ts ≡ false) (more : List Part) (us : List Leaf) (a : Adds (part_at d (sort_of row.sort)) front ts more us) where
+    item_read : found_from d more (s.Items all items_at.Behind) us ≡ found_from d front (s.Items all items_at.Begin) ts
+    item_read =
+        reads d front (s.Items all items_at.Part) ts row.sort (s.Items all items_at.Behind) more us at_part a ∙
+        chooses_right d front (s.Items all items_at.Begin) ts row.close (s.Rest row.kind (in_rest.Token row.close)) (s.Items all items_at.Part) at_begin h
+
+    pub item_last : starts_with (terminals_of row.separator) us ≡ false → found_from d more (s.Rest row.kind (in_rest.Token row.close)) us ≡ found_from d front (s.Items all items_at.Begin) ts
+    item_last k = chooses_right d more (s.Items all items_at.Behind) us row.separator (s.Items all items_at.Separator) (s.Rest row.kind (in_rest.Token row.close)) at_behind k ∙ item_read
+
+    pub separator_none : starts_with (terminals_of row.separator) us ≡ true → token_at (terminals_of row.separator) us ≡ None → found_from d front (s.Items all items_at.Begin) ts ≡ None
+    separator_none k n =
+        sym item_read ∙
+        sym (chooses_left d more (s.Items all items_at.Behind) us row.separator (s.Items all items_at.Separator) (s.Rest row.kind (in_rest.Token row.close)) at_behind k) ∙
+        takes_none d more (s.Items all items_at.Separator) us row.separator (s.Items all items_at.Begin) at_separator n
+
+    pub item_next : starts_with (terminals_of row.separator) us ≡ true → (on : List Part) (vs : List Leaf) → Adds (token_at (terminals_of row.separator)) more us on vs → found_from d on (s.Items all items_at.Begin) vs ≡ found_from d front (s.Items all items_at.Begin) ts
+    item_next k on vs b =
+        takes d more (s.Items all items_at.Separator) us row.separator (s.Items all items_at.Begin) on vs at_separator b ∙
+        chooses_left d more (s.Items all items_at.Behind) us row.separator (s.Items all items_at.Separator) (s.Rest row.kind (in_rest.Token row.close)) at_behind k ∙
+        item_read
+
+pub item_shorter : (d : ℕ) (q : Sort) (terminals : List Terminal) (ts us vs : List Leaf) (x y : Part) → part_at d q ts ≡ Some (x, us) → token_at terminals us ≡ Some (y, vs) → length vs < length ts
+unfolding part_at
+item_shorter d q terminals ts us vs x y e f = let w = token_parts terminals us vs y f in omega (arith, reading_takes d q ts (x, us) e, ap length w.1)
