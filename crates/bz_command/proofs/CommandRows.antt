@@ -1,5 +1,5 @@
 -- What each command reads in its words is as the table says.
-use Rattle.std.proofs.Common.{◌≡◌, ℕ, Bool, true, false, List, [], ◌∷◌, ◌&&◌, not, get_or, Option, Some, None, Ok, Err, refl, option_map}
+use Rattle.std.proofs.Common.{◌≡◌, ℕ, Bool, true, false, List, [], ◌∷◌, ◌&&◌, get_or, Option, Some, None, Ok, Err, refl, option_map}
 use Rattle.std.specs.Prelude.{if◌then◌else◌}
 use Rattle.std.specs.Option.{ok_or, option_map_or}
 use Rattle.bz_items.specs.Characters.{Bytes}
@@ -35,10 +35,38 @@ made_listed : {X : Type 0} (row : CommandRow) (make : X → Operation) (o : Opti
 made_listed row make (Some x) h = h x
 made_listed row make None h = tt
 
+read_listed : {X : Type 0} (row : CommandRow) (make : X → Operation) (form : List Bytes → Option X) → ((x : X) → IsAsListed row (make x))
+    → (words : List Bytes) → ReadsAsListed row (ok_or (option_map make (form words)) Arguments)
+read_listed row make form h words = made_listed row make (form words) h
+
 if_listed : (row : CommandRow) (t : Bool) (one other : ReadCommand) → ReadsAsListed row one → ReadsAsListed row other
     → ReadsAsListed row (if t then one else other)
 if_listed row true one other h k = h
 if_listed row false one other h k = k
+
+-- ---- forms that commands share
+
+word_listed : (row : CommandRow) (operation : Bytes → Bytes → Operation) → ((attribute word : Bytes) → IsAsListed row (operation attribute word))
+    → (words : List Bytes) → ReadsAsListed row (c.attribute_word_of operation words)
+word_listed row operation h [] = tt
+word_listed row operation h (attribute ∷ []) = tt
+word_listed row operation h (attribute ∷ word ∷ []) = given_listed row (is_identifier attribute) (operation attribute word) (h attribute word)
+word_listed row operation h (attribute ∷ word ∷ more ∷ words) = tt
+
+values_listed : (row : CommandRow) (operation : Bytes → List Bytes → Operation) → ((attribute : Bytes) (values : List Bytes) → IsAsListed row (operation attribute values))
+    → (words : List Bytes) → ReadsAsListed row (c.attribute_values_of operation words)
+values_listed row operation h [] = tt
+values_listed row operation h (attribute ∷ values) = given_listed row (is_identifier attribute && is_nonempty values) (operation attribute values) (h attribute values)
+
+two_words_listed : (row : CommandRow) (operation : Attributes → Bytes → Bytes → Operation)
+    → ((attributes : Attributes) (first second : Bytes) → IsAsListed row (operation attributes first second))
+    → (words : List Bytes) → ReadsAsListed row (c.attributes_words_of operation words)
+two_words_listed row operation h [] = tt
+two_words_listed row operation h (attribute ∷ []) = tt
+two_words_listed row operation h (attribute ∷ first ∷ []) = tt
+two_words_listed row operation h (attribute ∷ first ∷ second ∷ []) =
+    made_listed row (λ attributes. operation attributes first second) (c.attributes_of attribute) (λ attributes. h attributes first second)
+two_words_listed row operation h (attribute ∷ first ∷ second ∷ more ∷ words) = tt
 
 -- ---- each command, by a row that its operations are listed in
 
@@ -55,28 +83,20 @@ delete_listed row h (word ∷ words) = tt
 
 set_kind_listed : (row : CommandRow) → ((kind : Bytes) → IsAsListed row (w.Rule (wr.SetKind kind))) → (words : List Bytes) → ReadsAsListed row (c.set_kind_of words)
 set_kind_listed row h [] = tt
-set_kind_listed row h (kind ∷ []) = given_listed row (is_rule_kind kind) (w.Rule (wr.SetKind kind)) (h kind)
-set_kind_listed row h (kind ∷ more ∷ words) = tt
+set_kind_listed row h (word ∷ []) = tt
+set_kind_listed row h (word ∷ kind ∷ []) = given_listed row (is_rule_kind kind) (w.Rule (wr.SetKind kind)) (h kind)
+set_kind_listed row h (word ∷ kind ∷ more ∷ words) = tt
 
 set_listed : (row : CommandRow) → ((kind : Bytes) → IsAsListed row (w.Rule (wr.SetKind kind)))
     → ((attribute : Bytes) (values : List Bytes) → IsAsListed row (w.Attribute (wa.Set attribute values)))
     → (words : List Bytes) → ReadsAsListed row (c.set_of words)
-set_listed row g h [] = tt
-set_listed row g h (attribute ∷ values) =
-    if_listed row (c.is_word_kind attribute) _ _ (set_kind_listed row g values)
-    (given_listed row (is_identifier attribute && is_nonempty values) (w.Attribute (wa.Set attribute values)) (h attribute values))
+set_listed row g h words =
+    if_listed row (c.begins_with_kind words) _ _ (set_kind_listed row g words) (values_listed row (λ attribute values. w.Attribute (wa.Set attribute values)) h words)
 
 set_if_absent_listed : (row : CommandRow) → ((attribute : Bytes) (values : List Bytes) → IsAsListed row (w.Attribute (wa.SetIfAbsent attribute values)))
     → (words : List Bytes) → ReadsAsListed row (c.set_if_absent_of words)
-set_if_absent_listed row h [] = tt
-set_if_absent_listed row h (attribute ∷ values) =
-    given_listed row (is_identifier attribute && not (c.is_word_kind attribute) && is_nonempty values) (w.Attribute (wa.SetIfAbsent attribute values)) (h attribute values)
-
-add_listed : (row : CommandRow) → ((attribute : Bytes) (values : List Bytes) → IsAsListed row (w.Value (wv.Add attribute values)))
-    → (words : List Bytes) → ReadsAsListed row (c.add_of words)
-add_listed row h [] = tt
-add_listed row h (attribute ∷ values) =
-    given_listed row (is_identifier attribute && is_nonempty values) (w.Value (wv.Add attribute values)) (h attribute values)
+set_if_absent_listed row h words =
+    if_listed row (c.begins_with_kind words) _ _ tt (values_listed row (λ attribute values. w.Attribute (wa.SetIfAbsent attribute values)) h words)
 
 remove_listed : (row : CommandRow) → ((attributes : Attributes) → IsAsListed row (w.Attribute (wa.Remove attributes)))
     → ((attribute : Bytes) (values : List Bytes) → IsAsListed row (w.Value (wv.Remove attribute values)))
@@ -85,24 +105,6 @@ remove_listed row g h [] = tt
 remove_listed row g h (attribute ∷ values) =
     if_listed row (is_nonempty values) _ _ (given_listed row (is_identifier attribute) (w.Value (wv.Remove attribute values)) (h attribute values))
     (made_listed row (λ attributes. w.Attribute (wa.Remove attributes)) (c.attributes_of attribute) g)
-
-replace_listed : (row : CommandRow) → ((attributes : Attributes) (old new : Bytes) → IsAsListed row (w.Value (wv.Replace attributes old new)))
-    → (words : List Bytes) → ReadsAsListed row (c.replace_of words)
-replace_listed row h [] = tt
-replace_listed row h (attribute ∷ []) = tt
-replace_listed row h (attribute ∷ old ∷ []) = tt
-replace_listed row h (attribute ∷ old ∷ new ∷ []) =
-    made_listed row (λ attributes. w.Value (wv.Replace attributes old new)) (c.attributes_of attribute) (λ attributes. h attributes old new)
-replace_listed row h (attribute ∷ old ∷ new ∷ more ∷ words) = tt
-
-substitute_listed : (row : CommandRow) → ((attributes : Attributes) (pattern template : Bytes) → IsAsListed row (w.Value (wv.Substitute attributes pattern template)))
-    → (words : List Bytes) → ReadsAsListed row (c.substitute_of words)
-substitute_listed row h [] = tt
-substitute_listed row h (attribute ∷ []) = tt
-substitute_listed row h (attribute ∷ pattern ∷ []) = tt
-substitute_listed row h (attribute ∷ pattern ∷ template ∷ []) =
-    made_listed row (λ attributes. w.Value (wv.Substitute attributes pattern template)) (c.attributes_of attribute) (λ attributes. h attributes pattern template)
-substitute_listed row h (attribute ∷ pattern ∷ template ∷ more ∷ words) = tt
 
 move_listed : (row : CommandRow) → ((from to : Bytes) (values : Values) → IsAsListed row (w.Value (wv.Move from to values)))
     → (words : List Bytes) → ReadsAsListed row (c.move_of words)
@@ -118,32 +120,11 @@ rename_listed row h (from ∷ []) = tt
 rename_listed row h (from ∷ to ∷ []) = given_listed row (is_identifier from && is_identifier to) (w.Attribute (wa.Rename from to)) (h from to)
 rename_listed row h (from ∷ to ∷ more ∷ words) = tt
 
-copy_listed : (row : CommandRow) → ((attribute rule : Bytes) → IsAsListed row (w.Attribute (wa.Copy attribute rule)))
-    → (words : List Bytes) → ReadsAsListed row (c.copy_of words)
-copy_listed row h [] = tt
-copy_listed row h (attribute ∷ []) = tt
-copy_listed row h (attribute ∷ rule ∷ []) = given_listed row (is_identifier attribute) (w.Attribute (wa.Copy attribute rule)) (h attribute rule)
-copy_listed row h (attribute ∷ rule ∷ more ∷ words) = tt
-
-copy_no_overwrite_listed : (row : CommandRow) → ((attribute rule : Bytes) → IsAsListed row (w.Attribute (wa.CopyNoOverwrite attribute rule)))
-    → (words : List Bytes) → ReadsAsListed row (c.copy_no_overwrite_of words)
-copy_no_overwrite_listed row h [] = tt
-copy_no_overwrite_listed row h (attribute ∷ []) = tt
-copy_no_overwrite_listed row h (attribute ∷ rule ∷ []) =
-    given_listed row (is_identifier attribute) (w.Attribute (wa.CopyNoOverwrite attribute rule)) (h attribute rule)
-copy_no_overwrite_listed row h (attribute ∷ rule ∷ more ∷ words) = tt
-
 entries_listed : (row : CommandRow) (operation : Bytes → List Entry → Operation) → ((attribute : Bytes) (entries : List Entry) → IsAsListed row (operation attribute entries))
     → (words : List Bytes) → ReadsAsListed row (c.dict_entries_of operation words)
 entries_listed row operation h [] = tt
 entries_listed row operation h (attribute ∷ words) =
     if_listed row (is_identifier attribute && is_nonempty words) _ _ (made_listed row (operation attribute) (c.each_of c.entry_of words) (h attribute)) tt
-
-dict_remove_listed : (row : CommandRow) → ((attribute : Bytes) (keys : List Bytes) → IsAsListed row (w.Dict (wd.Remove attribute keys)))
-    → (words : List Bytes) → ReadsAsListed row (c.dict_remove_of words)
-dict_remove_listed row h [] = tt
-dict_remove_listed row h (attribute ∷ keys) =
-    given_listed row (is_identifier attribute && is_nonempty keys) (w.Dict (wd.Remove attribute keys)) (h attribute keys)
 
 new_load_listed : (row : CommandRow) → ((path : Bytes) (symbols : List Symbol) → IsAsListed row (w.Load (wl.New path symbols)))
     → (words : List Bytes) → ReadsAsListed row (c.new_load_of words)
@@ -169,90 +150,30 @@ comment_listed row h words = said_listed row h (c.split_last words)
 abbrev row_at : ℕ → CommandRow
 row_at place = get_or command_rows place (record { name = []; subjects = []; is_printing = false; is_on_rules = false; is_keeping = false })
 
--- All of a row is computed.
+-- the row of a command before others; all of it is computed
+listed : {A B : Type 0} (row : CommandRow) → A → B → (row.name ≡ row.name) × A × B
+listed row first rest = (refl, first, rest)
+
 pub commands_are_listed : CommandsAreListed
-commands_are_listed = (
-  refl,
-  new_listed (row_at 0) (λ kind name place. (refl, refl, refl, refl)),
-  (
-    refl,
-    delete_listed (row_at 1) (refl, refl, refl, refl),
-    (
-      refl,
-      set_listed (row_at 2) (λ kind. (refl, refl, refl, refl)) (λ attribute values. (refl, refl, refl, refl)),
-      (
-        refl,
-        set_if_absent_listed (row_at 3) (λ attribute values. (refl, refl, refl, refl)),
-        (
-          refl,
-          add_listed (row_at 4) (λ attribute values. (refl, refl, refl, refl)),
-          (
-            refl,
-            remove_listed (row_at 5) (λ attributes. (refl, refl, refl, refl)) (λ attribute values. (refl, refl, refl, refl)),
-            (
-              refl,
-              replace_listed (row_at 6) (λ attributes old new. (refl, refl, refl, refl)),
-              (
-                refl,
-                substitute_listed (row_at 7) (λ attributes pattern template. (refl, refl, refl, refl)),
-                (
-                  refl,
-                  move_listed (row_at 8) (λ from to values. (refl, refl, refl, refl)),
-                  (
-                    refl,
-                    rename_listed (row_at 9) (λ from to. (refl, refl, refl, refl)),
-                    (
-                      refl,
-                      copy_listed (row_at 10) (λ attribute rule. (refl, refl, refl, refl)),
-                      (
-                        refl,
-                        copy_no_overwrite_listed (row_at 11) (λ attribute rule. (refl, refl, refl, refl)),
-                        (
-                          refl,
-                          entries_listed (row_at 12) (λ attribute entries. w.Dict (wd.Add attribute entries)) (λ attribute entries. (refl, refl, refl, refl)),
-                          (
-                            refl,
-                            entries_listed (row_at 13) (λ attribute entries. w.Dict (wd.Set attribute entries)) (λ attribute entries. (refl, refl, refl, refl)),
-                            (
-                              refl,
-                              dict_remove_listed (row_at 14) (λ attribute keys. (refl, refl, refl, refl)),
-                              (
-                                refl,
-                                new_load_listed (row_at 15) (λ path symbols. (refl, refl, refl, refl)),
-                                (
-                                  refl,
-                                  comment_listed (row_at 16) (λ host text. (refl, refl, refl, refl)),
-                                  (
-                                    refl,
-                                    (λ words. made_listed (row_at 17) (λ host. w.Comment (wc.Print host)) (c.host_of words) (λ host. (refl, refl, refl, refl))),
-                                    (
-                                      refl,
-                                      (λ words. made_listed (row_at 18) (λ host. w.Comment (wc.Remove host)) (c.host_of words) (λ host. (refl, refl, refl, refl))),
-                                      (
-                                        refl,
-                                        (λ words. made_listed (row_at 19) (λ fixes. w.Load (wl.Fix fixes)) (c.fixes_of words) (λ fixes. (refl, refl, refl, refl))),
-                                        (
-                                          refl,
-                                          (λ words. made_listed (row_at 20) (λ fields. w.Print fields) (c.fields_of words) (λ fields. (refl, refl, refl, refl))),
-                                          tt,
-                                        ),
-                                      ),
-                                    ),
-                                  ),
-                                ),
-                              ),
-                            ),
-                          ),
-                        ),
-                      ),
-                    ),
-                  ),
-                ),
-              ),
-            ),
-          ),
-        ),
-      ),
-    ),
-  ),
-)
+commands_are_listed =
+    listed (row_at 0) (new_listed (row_at 0) (λ kind name place. (refl, refl, refl, refl)))
+    (listed (row_at 1) (delete_listed (row_at 1) (refl, refl, refl, refl))
+    (listed (row_at 2) (set_listed (row_at 2) (λ kind. (refl, refl, refl, refl)) (λ attribute values. (refl, refl, refl, refl)))
+    (listed (row_at 3) (set_if_absent_listed (row_at 3) (λ attribute values. (refl, refl, refl, refl)))
+    (listed (row_at 4) (values_listed (row_at 4) (λ attribute values. w.Value (wv.Add attribute values)) (λ attribute values. (refl, refl, refl, refl)))
+    (listed (row_at 5) (remove_listed (row_at 5) (λ attributes. (refl, refl, refl, refl)) (λ attribute values. (refl, refl, refl, refl)))
+    (listed (row_at 6) (two_words_listed (row_at 6) (λ attributes old new. w.Value (wv.Replace attributes old new)) (λ attributes old new. (refl, refl, refl, refl)))
+    (listed (row_at 7) (two_words_listed (row_at 7) (λ attributes pattern template. w.Value (wv.Substitute attributes pattern template)) (λ attributes pattern template. (refl, refl, refl, refl)))
+    (listed (row_at 8) (move_listed (row_at 8) (λ from to values. (refl, refl, refl, refl)))
+    (listed (row_at 9) (rename_listed (row_at 9) (λ from to. (refl, refl, refl, refl)))
+    (listed (row_at 10) (word_listed (row_at 10) (λ attribute rule. w.Attribute (wa.Copy attribute rule)) (λ attribute rule. (refl, refl, refl, refl)))
+    (listed (row_at 11) (word_listed (row_at 11) (λ attribute rule. w.Attribute (wa.CopyNoOverwrite attribute rule)) (λ attribute rule. (refl, refl, refl, refl)))
+    (listed (row_at 12) (entries_listed (row_at 12) (λ attribute entries. w.Dict (wd.Add attribute entries)) (λ attribute entries. (refl, refl, refl, refl)))
+    (listed (row_at 13) (entries_listed (row_at 13) (λ attribute entries. w.Dict (wd.Set attribute entries)) (λ attribute entries. (refl, refl, refl, refl)))
+    (listed (row_at 14) (values_listed (row_at 14) (λ attribute keys. w.Dict (wd.Remove attribute keys)) (λ attribute keys. (refl, refl, refl, refl)))
+    (listed (row_at 15) (new_load_listed (row_at 15) (λ path symbols. (refl, refl, refl, refl)))
+    (listed (row_at 16) (comment_listed (row_at 16) (λ host text. (refl, refl, refl, refl)))
+    (listed (row_at 17) (read_listed (row_at 17) (λ host. w.Comment (wc.Print host)) c.host_of (λ host. (refl, refl, refl, refl)))
+    (listed (row_at 18) (read_listed (row_at 18) (λ host. w.Comment (wc.Remove host)) c.host_of (λ host. (refl, refl, refl, refl)))
+    (listed (row_at 19) (read_listed (row_at 19) (λ fixes. w.Load (wl.Fix fixes)) c.fixes_of (λ fixes. (refl, refl, refl, refl)))
+    (listed (row_at 20) (read_listed (row_at 20) (λ fields. w.Print fields) c.fields_of (λ fields. (refl, refl, refl, refl))) tt))))))))))))))))))))

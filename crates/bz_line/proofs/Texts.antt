@@ -1,8 +1,10 @@
 -- Texts behind references, cut at a place.
-use Rattle.std.proofs.Common.{◌≡◌, ◌<◌, ◌+◌, ◌++◌, ◌∷◌, [], ℕ, Bool, not, cond, nat_lt, List, Bor, map, position, take, drop, get_or, length, Some, None, add-one, refl, ap, sym, ◌∙◌}
+use Rattle.std.proofs.Common.{◌≡◌, ◌<◌, ◌+◌, ◌++◌, ◌∷◌, [], ℕ, Bool, not, cond, nat_lt, List, Bor, map, position, take, drop, get_or, length, Some, None, IsUtf8, add-one, arith, zero, suc, refl, ap, sym, ◌∙◌}
 use Rattle.std.proofs.Math.Seq.{take-suc, drop-cons}
 use Rattle.std.specs.List.{position_or_len}
 use Rattle.std.proofs.lemmas.List.{length-map, map-append, take-append-drop}
+use Rattle.bz_items.specs.Characters.{Bytes}
+use Rattle.bz_words.specs.Proper.{AreUtf8}
 
 abbrev pub texts_in : List (Bor (List ℕ)) → List (List ℕ)
 texts_in items = map (λ s. s.now) items
@@ -30,3 +32,9 @@ place_in_texts p items =
     ap (λ (at : ℕ). cond (nat_lt at (length items)) (Some at) None) (before_passing p items)
     ∙ ap (λ (n : ℕ). cond (nat_lt (position_or_len p (texts_in items)) n) (Some (position_or_len p (texts_in items))) None)
     (sym (length-map items (λ (s : Bor (List ℕ)). s.now)))
+
+-- each word of a text of characters is one
+pub utf8_at : (words : List Bytes) (at : ℕ) (d : Bytes) → at < length words → AreUtf8 words → IsUtf8 (get_or words at d)
+utf8_at [] at d within u = absurd (omega (arith, within))
+utf8_at (word ∷ words) zero d within u = u.0
+utf8_at (word ∷ words) (suc at) d within u = utf8_at words at d (omega (arith, within)) u.1

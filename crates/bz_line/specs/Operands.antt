@@ -8,7 +8,7 @@ use Rattle.bz_label.specs.Pieces.{has_colon}
 use Rattle.bz_label.specs.TargetRead.{target_in}
 use Rattle.bz_label.specs.Targets.{decimal}
 use Rattle.bz_label.specs.declared.target.Target.{Target}
-use Rattle.bz_words.specs.Commands.{command_of, text_limit}
+use Rattle.bz_words.specs.Commands.{command_in, text_limit}
 use Rattle.bz_words.specs.Words.{words_of}
 use Rattle.bz_words.specs.declared.command.Operation.{Operation}
 use Rattle.bz_words.specs.declared.fault.CommandFault.{CommandFault}
@@ -61,10 +61,6 @@ history_verb_in (name ∷ arguments) =
     else (if bytes_eq name (codes "redo") then Some (by_steps Redo (steps_of arguments))
     else (if bytes_eq name (codes "journal") then Some (journal_of arguments) else None))
 
--- Their text is as long at most as that of a command.
-abbrev pub within_limit : Bool → Result Verb OperandFault → Result Verb OperandFault
-within_limit fits verb = if fits then verb else Err (Command c.Arguments)
-
 -- ---- commands
 
 abbrev pub of_command : CommandFault → OperandFault
@@ -75,6 +71,10 @@ abbrev pub by_command : Result Operation CommandFault → Result Verb OperandFau
 by_command (Ok operation) = Ok (Do operation)
 by_command (Err fault) = Err (of_command fault)
 
--- `undo`, `redo` or `journal`, else a command on the rules of a target
+-- what the words of a text ask for: `undo`, `redo` or `journal`, else a command on the rules of a target; the flag: the text is not too long
+abbrev pub verb_in : Bool → List Bytes → Result Verb OperandFault
+verb_in fits words =
+    option_map_or (λ verb. if fits then verb else Err (Command c.Arguments)) (history_verb_in words) (by_command (command_in fits words))
+
 abbrev pub verb_of : Bytes → Result Verb OperandFault
-verb_of text = option_map_or (within_limit (nat_le (length text) text_limit)) (history_verb_in (words_of text)) (by_command (command_of text))
+verb_of text = verb_in (nat_le (length text) text_limit) (words_of text)

@@ -1,12 +1,14 @@
 //! What a command's text asks for.
-ghost use Rattle.std.specs.Prelude.{◌≡◌, ◌⊎◌, Ok, Err, IfOk, IfErr, option_map};
-ghost use Rattle.bz_words.specs.Commands.{command_of};
-ghost use Rattle.bz_line.specs.Operands.{verb_of, by_command, by_steps, count_of, history_verb_in, journal_of, steps_of, within_limit};
+ghost use Rattle.std.specs.Prelude.{◌≡◌, ◌⊎◌, Ok, Err, IfOk, IfErr};
+ghost use Rattle.bz_words.specs.Commands.{command_in};
+ghost use Rattle.bz_words.specs.Proper.{AreUtf8};
+ghost use Rattle.bz_words.specs.Refused.{HasBadPattern};
+ghost use Rattle.bz_line.specs.Operands.{verb_in, verb_of, by_command, by_steps, count_of, history_verb_in, journal_of, steps_of};
 ghost use Rattle.bz_line.specs.Refused.{IsPatternFault};
 ghost use Rattle.bz_line.specs.Verbs.{prints, fault_name, fault_number};
 
 use bz_items::Text;
-use bz_words::{Command, CommandFault, read_words};
+use bz_words::{Command, CommandFault, TEXT_LIMIT, read_words};
 use std::alloc::Global;
 
 /// What a command asks for.
@@ -85,9 +87,6 @@ impl From<CommandFault> for OperandFault {
     }
 }
 
-/// The most bytes of a text that asks for steps, or for the journal.
-const TEXT_LIMIT: usize = 65_536;
-
 const WRONG_ARGUMENTS: OperandFault = OperandFault::Command(CommandFault::Arguments);
 
 fn read_count(word: &[u8]) -> Option<u32>
@@ -117,28 +116,22 @@ fn read_steps(arguments: &[Text]) -> Result<u32, OperandFault>
     }
 }
 
-fn undo_in(fits: bool, arguments: &[Text]) -> Result<Verb, OperandFault>
-    ensures { result ≡ within_limit fits (by_steps Verb.Undo (steps_of arguments.now)) }
+fn undo_of(arguments: &[Text]) -> Result<Verb, OperandFault>
+    ensures { result ≡ by_steps Verb.Undo (steps_of arguments.now) }
 {
-    if !fits {
-        return Err(WRONG_ARGUMENTS);
-    }
     Ok(Verb::Undo(read_steps(arguments)?))
 }
 
-fn redo_in(fits: bool, arguments: &[Text]) -> Result<Verb, OperandFault>
-    ensures { result ≡ within_limit fits (by_steps Verb.Redo (steps_of arguments.now)) }
+fn redo_of(arguments: &[Text]) -> Result<Verb, OperandFault>
+    ensures { result ≡ by_steps Verb.Redo (steps_of arguments.now) }
 {
-    if !fits {
-        return Err(WRONG_ARGUMENTS);
-    }
     Ok(Verb::Redo(read_steps(arguments)?))
 }
 
-fn journal_in(fits: bool, arguments: &[Text]) -> Result<Verb, OperandFault>
-    ensures { result ≡ within_limit fits (journal_of arguments.now) }
+fn journal_of(arguments: &[Text]) -> Result<Verb, OperandFault>
+    ensures { result ≡ journal_of arguments.now }
 {
-    if fits && arguments.is_empty() {
+    if arguments.is_empty() {
         Ok(Verb::Journal)
     } else {
         Err(WRONG_ARGUMENTS)
@@ -146,24 +139,39 @@ fn journal_in(fits: bool, arguments: &[Text]) -> Result<Verb, OperandFault>
 }
 
 // What `undo`, `redo` or `journal` reads, where the words begin with one of them.
-fn history_verb_in(fits: bool, words: &[Text]) -> Option<Result<Verb, OperandFault>>
-    ensures { result ≡ option_map (within_limit fits) (history_verb_in words.now) }
+fn history_verb_in(words: &[Text]) -> Option<Result<Verb, OperandFault>>
+    ensures { result ≡ history_verb_in words.now }
 {
     let (name, arguments) = words.split_first()?;
     match name.as_slice() {
-        b"undo" => Some(undo_in(fits, arguments)),
-        b"redo" => Some(redo_in(fits, arguments)),
-        b"journal" => Some(journal_in(fits, arguments)),
+        b"undo" => Some(undo_of(arguments)),
+        b"redo" => Some(redo_of(arguments)),
+        b"journal" => Some(journal_of(arguments)),
         _ => None,
     }
 }
 
-fn read_command(alloc: Global, text: &str) -> Result<Verb, OperandFault>
-    ensures ok { IfOk result (λ verb. by_command (command_of text.now) ≡ Ok verb) }
-    ensures err { IfErr result (λ fault. (by_command (command_of text.now) ≡ Err fault) ⊎ IsPatternFault text.now fault
-        ⊎ (fault ≡ OperandFault.Memory)) }
+fn read_command(words: Vec<Text>, fits: bool) -> Result<Verb, OperandFault>
+    requires { AreUtf8 words.items }
+    ensures ok { IfOk result (λ verb. by_command (command_in fits words.items) ≡ Ok verb) }
+    ensures err { IfErr result (λ fault. (by_command (command_in fits words.items) ≡ Err fault)
+        ⊎ ((fault ≡ OperandFault.Command CommandFault.BadPattern) × HasBadPattern (command_in fits words.items)) ⊎ (fault ≡ OperandFault.Memory)) }
 {
-    Ok(Verb::Do(Command::read(alloc, text)?))
+    Ok(Verb::Do(Command::of_words(words, fits)?))
+}
+
+// What these words ask for; `fits` says that their text is not too long.
+fn verb_in(words: Vec<Text>, fits: bool) -> Result<Verb, OperandFault>
+    requires { AreUtf8 words.items }
+    ensures ok { IfOk result (λ verb. verb_in fits words.items ≡ Ok verb) }
+    ensures err { IfErr result (λ fault. (verb_in fits words.items ≡ Err fault)
+        ⊎ ((fault ≡ OperandFault.Command CommandFault.BadPattern) × HasBadPattern (command_in fits words.items)) ⊎ (fault ≡ OperandFault.Memory)) }
+{
+    match history_verb_in(&words) {
+        Some(verb) if fits => verb,
+        Some(_) => Err(WRONG_ARGUMENTS),
+        None => read_command(words, fits),
+    }
 }
 
 /// What the command of this text asks for. Errors: `Command`: there is no command of that name, its arguments are wrong,
@@ -175,8 +183,5 @@ pub(crate) fn read_verb(alloc: Global, text: &str) -> Result<Verb, OperandFault>
     let Ok(words) = read_words(alloc, text.as_bytes()) else {
         return Err(OperandFault::Memory);
     };
-    match history_verb_in(text.len() <= TEXT_LIMIT, &words) {
-        Some(verb) => verb,
-        None => read_command(alloc, text),
-    }
+    verb_in(words, text.len() <= TEXT_LIMIT)
 }

@@ -6,13 +6,12 @@ use bz_items::{Memory, Text};
 use regex::{Error, Regex, Template};
 use std::alloc::Global;
 use std::marker::Model;
-use std::rc::Rc;
 use std::str;
 
-/// A compiled pattern. Copies share what was compiled.
+/// A compiled pattern.
 #[derive(Debug, Drop)]
 pub struct Pattern {
-    regex: Rc<Regex>,
+    regex: Regex,
 }
 
 impl Model for Pattern {
@@ -22,9 +21,9 @@ impl Model for Pattern {
 
     ghost Value = { List ℕ };
 
-    ghost view = { λ pattern. regex_source pattern.regex.value };
+    ghost view = { λ pattern. regex_source pattern.regex };
 
-    ghost invariant = { λ pattern. (regex_config pattern.regex.value ≡ default_config) × IsReadFromSource pattern.regex.value };
+    ghost invariant = { λ pattern. (regex_config pattern.regex ≡ default_config) × IsReadFromSource pattern.regex };
 }
 
 /// Why a text is not taken as a pattern.
@@ -98,22 +97,10 @@ impl Pattern {
         ensures ok { IfOk result (λ pattern. pattern ≡ source.now) }
         ensures err { IfErr result (λ fault. fault ≡ PatternFault.BadPattern → IsRefusedPattern source.now) }
     {
-        let regex = match Regex::new(alloc, source) {
-            Ok(regex) => regex,
-            Err(error) => return Err(PatternFault::of(error, has_special(source))),
-        };
-        match Rc::new(alloc, regex) {
+        match Regex::new(alloc, source) {
             Ok(regex) => Ok(Pattern { regex }),
-            Err(_) => Err(PatternFault::Memory),
+            Err(error) => Err(PatternFault::of(error, has_special(source))),
         }
-    }
-
-    /// An equal pattern, which shares what was compiled. The error: there are too many copies.
-    pub fn copy(&self) -> Result<Pattern, Memory>
-        ensures { IfOk result (λ pattern. pattern ≡ self.now) }
-    {
-        let regex = self.regex.clone()?;
-        Ok(Pattern { regex })
     }
 
     /// The body with each match replaced as `regex` replaces all by the template; bytes that are not UTF-8 have no match. The
@@ -134,10 +121,8 @@ impl Pattern {
     fn replaced(&self, alloc: Global, template: &str, body: &str) -> Result<Text, Memory>
         ensures { IfOk result (λ text. text ≡ substituted_by (read default_config (chars self.now)) template.now body.now) }
     {
-        let _ = &self.regex;
-        let regex = self.regex.as_ref();
-        let template = Template::new(alloc, regex.capture_names(), template)?;
-        let mut matcher = regex.matcher(alloc)?;
+        let template = Template::new(alloc, self.regex.capture_names(), template)?;
+        let mut matcher = self.regex.matcher(alloc)?;
         let text = matcher.replace_all(alloc, body, &template)?;
         Ok(Text::from_vec(text.into_bytes()))
     }

@@ -2,25 +2,25 @@
 use Rattle.std.proofs.Common.{◌≡◌, true, List, [], ◌∷◌, ◌&&◌, not, Option, Some, None, Err, refl, arith, IsUtf8, IfSome, codes, bytes_eq, option_map}
 use Rattle.std.specs.Str.{is_utf8, chars}
 use lib.Utf8.{encode}
-use Rattle.std.specs.Option.{option_and_then, option_map_or}
+use Rattle.std.specs.Option.{ok_or, option_and_then, option_map_or}
 use Rattle.std.proofs.lemmas.Bool.{and_parts}
 use Rattle.std.proofs.lemmas.Str.{IsUtf8-from_is_utf8}
 use Rattle.bz_items.specs.Characters.{Bytes, colon, equals_sign}
 use Rattle.bz_words.specs.Words.{is_nonempty}
 use Rattle.bz_words.specs.Identifiers.{is_identifier}
 use Rattle.bz_words.specs.Commands as c
-use Rattle.bz_words.specs.Proper.{AreUtf8, EachIs, AreSome, IsEntry, IsSymbol, IsHost, IsField, IsProperCommand}
+use Rattle.bz_words.specs.Proper.{AreUtf8, EachIs, AreSome, IsAttribute, IsEntry, IsSymbol, IsHost, IsField, IsProperCommand}
 use Rattle.bz_words.specs.declared.command.Entry.{Entry}
 use Rattle.bz_words.specs.declared.command.Symbol.{Symbol}
 use Rattle.bz_words.specs.declared.command.Fixes.{Fixes}
+use Rattle.bz_words.specs.declared.command.Host.{Host}
 use Rattle.bz_words.specs.declared.command.Operation.{Operation}
 use Rattle.bz_words.specs.declared.command.Operation.TheVariants as w
-use Rattle.bz_words.specs.declared.command.DictOperation.TheVariants as wd
 use Rattle.bz_words.specs.declared.command.LoadOperation.TheVariants as wl
 use Rattle.bz_words.specs.declared.command.CommentOperation.TheVariants as wc
 use Rattle.bz_words.specs.declared.fault.CommandFault.TheVariants.{Arguments}
 use Rattle.bz_words.proofs.CommentWords.{said}
-use Rattle.bz_words.proofs.ProperReads.{ReadsProper, given_proper, if_proper, made_proper, either, with_values}
+use Rattle.bz_words.proofs.ProperReads.{ReadsProper, if_proper, made_proper, either}
 use Rattle.bz_words.proofs.Utf8Texts.{cut_utf8}
 
 -- ---- what each word is
@@ -60,8 +60,8 @@ entry_from (Some both) h = h
 entry_proper : (word : Bytes) → IsUtf8 word → IfSome (c.entry_of word) IsEntry
 entry_proper word u = entry_from (c.cut_at colon word) (cut_utf8 colon [] word (omega arith) u)
 
-entries_proper : (operation : Bytes → List Entry → Operation)
-    → ((attribute : Bytes) (entries : List Entry) → (is_identifier attribute ≡ true) × IsUtf8 attribute → AreSome IsEntry entries → IsProperCommand (operation attribute entries))
+pub entries_proper : (operation : Bytes → List Entry → Operation)
+    → ((attribute : Bytes) (entries : List Entry) → IsAttribute attribute → AreSome IsEntry entries → IsProperCommand (operation attribute entries))
     → (words : List Bytes) → AreUtf8 words → ReadsProper (c.dict_entries_of operation words)
 entries_proper operation make [] u = tt
 entries_proper operation make (attribute ∷ words) u =
@@ -69,17 +69,6 @@ entries_proper operation make (attribute ∷ words) u =
     let w = and_parts (is_identifier attribute) (is_nonempty words) h in
     made_proper (AreSome IsEntry) (operation attribute) (c.each_of c.entry_of words) (some_proper IsEntry c.entry_of entry_proper words w.1 u.1)
     (λ entries e. make attribute entries (w.0, u.0) e)) tt
-
-pub dict_add_proper : (words : List Bytes) → AreUtf8 words → ReadsProper (c.dict_add_of words)
-dict_add_proper words u = entries_proper (λ attribute entries. w.Dict (wd.Add attribute entries)) (λ attribute entries i e. (i, e)) words u
-
-pub dict_set_proper : (words : List Bytes) → AreUtf8 words → ReadsProper (c.dict_set_of words)
-dict_set_proper words u = entries_proper (λ attribute entries. w.Dict (wd.Set attribute entries)) (λ attribute entries i e. (i, e)) words u
-
-pub dict_remove_proper : (words : List Bytes) → AreUtf8 words → ReadsProper (c.dict_remove_of words)
-dict_remove_proper [] u = tt
-dict_remove_proper (attribute ∷ keys) u =
-    given_proper (is_identifier attribute && is_nonempty keys) (w.Dict (wd.Remove attribute keys)) (with_values attribute keys u.0 u.1)
 
 -- ---- loads
 
@@ -135,11 +124,9 @@ comment_from (Some both) h =
 pub comment_proper : (words : List Bytes) → AreUtf8 words → ReadsProper (c.comment_of words)
 comment_proper words u = comment_from (c.split_last words) (last_proper words u)
 
-pub print_comment_proper : (words : List Bytes) → AreUtf8 words → ReadsProper (c.print_comment_of words)
-print_comment_proper words u = made_proper IsHost (λ host. w.Comment (wc.Print host)) (c.host_of words) (host_proper words u) (λ host p. p)
-
-pub remove_comment_proper : (words : List Bytes) → AreUtf8 words → ReadsProper (c.remove_comment_of words)
-remove_comment_proper words u = made_proper IsHost (λ host. w.Comment (wc.Remove host)) (c.host_of words) (host_proper words u) (λ host p. p)
+pub hosts_proper : (operation : Host → Operation) → ((host : Host) → IsHost host → IsProperCommand (operation host))
+    → (words : List Bytes) → AreUtf8 words → ReadsProper (ok_or (option_map operation (c.host_of words)) Arguments)
+hosts_proper operation make words u = made_proper IsHost operation (c.host_of words) (host_proper words u) make
 
 -- ---- fixes and fields
 

@@ -1,5 +1,5 @@
 -- What every reader of commands needs to be proper.
-use Rattle.std.proofs.Common.{◌≡◌, Bool, true, false, List, ◌&&◌, Option, Some, None, Ok, Err, refl, IsUtf8, IfSome, option_map}
+use Rattle.std.proofs.Common.{◌≡◌, Bool, true, false, List, [], ◌∷◌, ◌&&◌, Option, Some, None, Ok, Err, refl, subst, IsUtf8, IfSome, option_map}
 use Rattle.std.specs.Prelude.{if◌then◌else◌}
 use Rattle.std.specs.Option.{ok_or}
 use Rattle.std.proofs.lemmas.Bool.{and_parts}
@@ -8,8 +8,11 @@ use Rattle.bz_words.specs.Words.{is_nonempty}
 use Rattle.bz_words.specs.Identifiers.{is_identifier}
 use Rattle.bz_words.specs.Commands as c
 use Rattle.bz_words.specs.Commands.{ReadCommand}
-use Rattle.bz_words.specs.Proper.{AreUtf8, IsAttribute, AreValues, IsProperCommand}
+use Rattle.bz_words.specs.Proper.{AreUtf8, AreAttributes, IsAttribute, AreValues, IsProperCommand}
+use Rattle.bz_words.specs.declared.command.Attributes.{Attributes}
 use Rattle.bz_words.specs.declared.command.Operation.{Operation}
+use Rattle.bz_words.specs.declared.command.Operation.TheVariants as w
+use Rattle.bz_words.specs.declared.command.ValueOperation.TheVariants as wv
 use Rattle.bz_words.specs.declared.fault.CommandFault.TheVariants.{Arguments}
 
 -- the command is proper, where there is one
@@ -34,7 +37,38 @@ pub either : {A : Type 0} (P : A → Type 0) (t : Bool) (x y : Option A) → (t 
 either P true x y f h = f refl
 either P false x y f h = h
 
--- an attribute and its values
-pub with_values : (attribute : Bytes) (values : List Bytes) → IsUtf8 attribute → AreUtf8 values → (is_identifier attribute && is_nonempty values) ≡ true
-    → IsAttribute attribute × AreValues values
-with_values attribute values u v h = let w = and_parts (is_identifier attribute) (is_nonempty values) h in ((w.0, u), (w.1, v))
+-- ---- forms that commands share
+
+pub word_proper : (operation : Bytes → Bytes → Operation)
+    → ((attribute word : Bytes) → IsAttribute attribute → IsUtf8 word → IsProperCommand (operation attribute word))
+    → (words : List Bytes) → AreUtf8 words → ReadsProper (c.attribute_word_of operation words)
+word_proper operation make [] u = tt
+word_proper operation make (attribute ∷ []) u = tt
+word_proper operation make (attribute ∷ word ∷ []) u = given_proper (is_identifier attribute) (operation attribute word) (λ i. make attribute word (i, u.0) u.1.0)
+word_proper operation make (attribute ∷ word ∷ more ∷ words) u = tt
+
+pub values_proper : (operation : Bytes → List Bytes → Operation)
+    → ((attribute : Bytes) (values : List Bytes) → IsAttribute attribute → AreValues values → IsProperCommand (operation attribute values))
+    → (words : List Bytes) → AreUtf8 words → ReadsProper (c.attribute_values_of operation words)
+values_proper operation make [] u = tt
+values_proper operation make (attribute ∷ values) u = given_proper (is_identifier attribute && is_nonempty values) (operation attribute values) (λ h.
+    let w = and_parts (is_identifier attribute) (is_nonempty values) h in make attribute values (w.0, u.0) (w.1, u.1))
+
+pub attributes_proper : (word : Bytes) → IsUtf8 word → IfSome (c.attributes_of word) AreAttributes
+attributes_proper word u = either AreAttributes (c.is_star word) _ _ (λ _. tt) (either AreAttributes (is_identifier word) _ _ (λ i. (i, u)) tt)
+
+pub two_words_proper : (operation : Attributes → Bytes → Bytes → Operation)
+    → ((attributes : Attributes) (first second : Bytes) → AreAttributes attributes → IsUtf8 first → IsUtf8 second → IsProperCommand (operation attributes first second))
+    → (words : List Bytes) → AreUtf8 words → ReadsProper (c.attributes_words_of operation words)
+two_words_proper operation make [] u = tt
+two_words_proper operation make (attribute ∷ []) u = tt
+two_words_proper operation make (attribute ∷ first ∷ []) u = tt
+two_words_proper operation make (attribute ∷ first ∷ second ∷ []) u =
+    made_proper AreAttributes (λ attributes. operation attributes first second) (c.attributes_of attribute) (attributes_proper attribute u.0) (λ attributes a. make attributes first second a u.1.0 u.1.1.0)
+two_words_proper operation make (attribute ∷ first ∷ second ∷ more ∷ words) u = tt
+
+-- the word behind the attributes
+pub first_utf8 : (words : List Bytes) (attributes : Attributes) (first second : Bytes) → AreUtf8 words
+    → ((operation : Attributes → Bytes → Bytes → Operation) → c.attributes_words_of operation words ≡ Ok (operation attributes first second)) → IsUtf8 first
+first_utf8 words attributes first second u told =
+    (subst ReadsProper (told (λ a x y. w.Value (wv.Replace a x y))) (two_words_proper (λ a x y. w.Value (wv.Replace a x y)) (λ a x y i j k. (i, j, k)) words u)).1

@@ -1,5 +1,5 @@
 -- The commands, by their words.
-use Rattle.std.specs.Prelude.{ℕ, ◌==◌, Bool, true, false, ◌&&◌, ◌||◌, not, if◌then◌else◌, List, [], ◌∷◌, length, Option, Some, None, Result, Ok, Err, codes, bytes_eq, nat_le, option_map}
+use Rattle.std.specs.Prelude.{ℕ, ◌==◌, Bool, true, false, ◌&&◌, ◌||◌, not, if◌then◌else◌, List, [], ◌∷◌, length, Option, Some, None, Result, Ok, Err, codes, bytes_eq, nat_le, map, option_map}
 use Rattle.std.specs.List.{list_any}
 use Rattle.std.specs.Option.{option_and_then, option_map_or, ok_or}
 use Rattle.bz_items.specs.Characters.{Bytes, asterisk, colon, equals_sign, line_feed}
@@ -43,10 +43,6 @@ given false command = Err Arguments
 abbrev pub is_star : Bytes → Bool
 is_star word = bytes_eq word (asterisk ∷ [])
 
--- the word `kind`, which is no attribute where a value is set
-abbrev pub is_word_kind : Bytes → Bool
-is_word_kind word = bytes_eq word (codes "kind")
-
 -- `*`, or an attribute
 abbrev pub attributes_of : Bytes → Option Attributes
 attributes_of word = if is_star word then Some AllAttributes else (if is_identifier word then Some (Named word) else None)
@@ -66,6 +62,21 @@ rule_place [] = Some End
 rule_place (side ∷ rule ∷ []) = beside side rule
 rule_place _ = None
 
+-- ATTRIBUTE WORD
+abbrev pub attribute_word_of : (Bytes → Bytes → Operation) → List Bytes → ReadCommand
+attribute_word_of operation (attribute ∷ word ∷ []) = given (is_identifier attribute) (operation attribute word)
+attribute_word_of operation _ = Err Arguments
+
+-- ATTRIBUTE VALUE..
+abbrev pub attribute_values_of : (Bytes → List Bytes → Operation) → List Bytes → ReadCommand
+attribute_values_of operation [] = Err Arguments
+attribute_values_of operation (attribute ∷ values) = given (is_identifier attribute && is_nonempty values) (operation attribute values)
+
+-- ATTRIBUTE WORD WORD or * WORD WORD
+abbrev pub attributes_words_of : (Attributes → Bytes → Bytes → Operation) → List Bytes → ReadCommand
+attributes_words_of operation (attribute ∷ first ∷ second ∷ []) = ok_or (option_map (λ attributes. operation attributes first second) (attributes_of attribute)) Arguments
+attributes_words_of operation _ = Err Arguments
+
 -- ---- what each command reads in the words behind its name
 
 -- new KIND NAME [before|after RULE]
@@ -80,25 +91,25 @@ delete_of _ = Err Arguments
 
 -- set kind KIND
 abbrev pub set_kind_of : List Bytes → ReadCommand
-set_kind_of (kind ∷ []) = given (is_rule_kind kind) (w.Rule (wr.SetKind kind))
+set_kind_of (word ∷ kind ∷ []) = given (is_rule_kind kind) (w.Rule (wr.SetKind kind))
 set_kind_of _ = Err Arguments
 
--- set ATTRIBUTE VALUE..
+-- the first word is `kind`
+abbrev pub begins_with_kind : List Bytes → Bool
+begins_with_kind [] = false
+begins_with_kind (word ∷ words) = bytes_eq word (codes "kind")
+
+-- set ATTRIBUTE VALUE..; `kind` is no attribute where a value is set
 abbrev pub set_of : List Bytes → ReadCommand
-set_of [] = Err Arguments
-set_of (attribute ∷ values) =
-    if is_word_kind attribute then set_kind_of values else given (is_identifier attribute && is_nonempty values) (w.Attribute (wa.Set attribute values))
+set_of words = if begins_with_kind words then set_kind_of words else attribute_values_of (λ attribute values. w.Attribute (wa.Set attribute values)) words
 
 -- set_if_absent ATTRIBUTE VALUE..
 abbrev pub set_if_absent_of : List Bytes → ReadCommand
-set_if_absent_of [] = Err Arguments
-set_if_absent_of (attribute ∷ values) =
-    given (is_identifier attribute && not (is_word_kind attribute) && is_nonempty values) (w.Attribute (wa.SetIfAbsent attribute values))
+set_if_absent_of words = if begins_with_kind words then Err Arguments else attribute_values_of (λ attribute values. w.Attribute (wa.SetIfAbsent attribute values)) words
 
 -- add ATTRIBUTE VALUE..
 abbrev pub add_of : List Bytes → ReadCommand
-add_of [] = Err Arguments
-add_of (attribute ∷ values) = given (is_identifier attribute && is_nonempty values) (w.Value (wv.Add attribute values))
+add_of words = attribute_values_of (λ attribute values. w.Value (wv.Add attribute values)) words
 
 -- remove ATTRIBUTE, remove * or remove ATTRIBUTE VALUE..
 abbrev pub remove_of : List Bytes → ReadCommand
@@ -109,14 +120,11 @@ remove_of (attribute ∷ values) =
 
 -- replace ATTRIBUTE OLD NEW or replace * OLD NEW
 abbrev pub replace_of : List Bytes → ReadCommand
-replace_of (attribute ∷ old ∷ new ∷ []) = ok_or (option_map (λ attributes. w.Value (wv.Replace attributes old new)) (attributes_of attribute)) Arguments
-replace_of _ = Err Arguments
+replace_of words = attributes_words_of (λ attributes old new. w.Value (wv.Replace attributes old new)) words
 
 -- substitute ATTRIBUTE PATTERN TEMPLATE or substitute * PATTERN TEMPLATE, for each text that `regex` takes as a pattern
 abbrev pub substitute_of : List Bytes → ReadCommand
-substitute_of (attribute ∷ pattern ∷ template ∷ []) =
-    ok_or (option_map (λ attributes. w.Value (wv.Substitute attributes pattern template)) (attributes_of attribute)) Arguments
-substitute_of _ = Err Arguments
+substitute_of words = attributes_words_of (λ attributes pattern template. w.Value (wv.Substitute attributes pattern template)) words
 
 -- move FROM TO VALUE..
 abbrev pub move_of : List Bytes → ReadCommand
@@ -130,13 +138,11 @@ rename_of _ = Err Arguments
 
 -- copy ATTRIBUTE RULE
 abbrev pub copy_of : List Bytes → ReadCommand
-copy_of (attribute ∷ rule ∷ []) = given (is_identifier attribute) (w.Attribute (wa.Copy attribute rule))
-copy_of _ = Err Arguments
+copy_of words = attribute_word_of (λ attribute rule. w.Attribute (wa.Copy attribute rule)) words
 
 -- copy_no_overwrite ATTRIBUTE RULE
 abbrev pub copy_no_overwrite_of : List Bytes → ReadCommand
-copy_no_overwrite_of (attribute ∷ rule ∷ []) = given (is_identifier attribute) (w.Attribute (wa.CopyNoOverwrite attribute rule))
-copy_no_overwrite_of _ = Err Arguments
+copy_no_overwrite_of words = attribute_word_of (λ attribute rule. w.Attribute (wa.CopyNoOverwrite attribute rule)) words
 
 -- what stands before the first such byte, and what stands behind it
 abbrev pub cut_at : ℕ → Bytes → Option (Bytes × Bytes)
@@ -168,8 +174,7 @@ dict_set_of words = dict_entries_of (λ attribute entries. w.Dict (wd.Set attrib
 
 -- dict_remove ATTRIBUTE KEY..
 abbrev pub dict_remove_of : List Bytes → ReadCommand
-dict_remove_of [] = Err Arguments
-dict_remove_of (attribute ∷ keys) = given (is_identifier attribute && is_nonempty keys) (w.Dict (wd.Remove attribute keys))
+dict_remove_of words = attribute_values_of (λ attribute keys. w.Dict (wd.Remove attribute keys)) words
 
 -- two names of a symbol, which are identifiers
 abbrev pub symbol_of_names : Bytes → Bytes → Option Symbol
@@ -281,6 +286,9 @@ commands =
     ∷ (codes "fix", fix_of)
     ∷ (codes "print", print_of)
     ∷ []
+
+abbrev pub command_names : List Bytes
+command_names = map (λ command. command.0) commands
 
 -- what the command of this name reads in these words, where there is one
 abbrev pub named_in : List (Bytes × (List Bytes → ReadCommand)) → Bytes → List Bytes → Option ReadCommand

@@ -57,10 +57,10 @@ fn fixes_of(words: &[Text]) -> Option<Fixes>
 }
 
 /// `fix [unusedLoads] [movePackageToTop]`. The error: `Arguments`: the words have another form.
-pub(crate) fn fix_of(words: &[Text]) -> Read
-    ensures { result ≡ c.fix_of words.now }
+pub(crate) fn fix_of(words: Vec<Text>) -> Read
+    ensures { result ≡ c.fix_of words.items }
 {
-    match fixes_of(words) {
+    match fixes_of(&words) {
         Some(fixes) => Ok(Operation::Load(LoadOperation::Fix { fixes })),
         None => Err(CommandFault::Arguments),
     }

@@ -1,13 +1,18 @@
 //! Forms that the readers of several commands share.
-ghost use Rattle.std.specs.Prelude.{◌≡◌, ◌∷◌, ◌==◌, [], Some, None, bytes_eq, position, MatchOption, MatchResult};
+ghost use Rattle.std.specs.Prelude.{◌≡◌, ◌⊎◌, ◌∷◌, ◌==◌, [], List, Option, Some, None, Ok, Err, IfOk, IfErr, IsUtf8, bytes_eq, position, MatchOption, MatchResult};
+ghost use Rattle.bz_items.specs.Characters.{Bytes};
 ghost use Rattle.bz_words.specs.Commands as c;
 ghost use Rattle.bz_words.specs.Identifiers.{is_identifier as is_identifier_in};
 ghost use Rattle.bz_words.specs.Words.{is_nonempty};
+ghost use Rattle.bz_words.specs.declared.command.Attributes.{Attributes as AttributesIn};
+ghost use Rattle.bz_words.specs.declared.command.Operation.{Operation as OperationIn};
 
 use crate::command::{Attributes, Operation};
 use crate::fault::CommandFault;
 use crate::identifier::is_identifier;
-use bz_items::Text;
+use bz_items::{Items, Memory, Text};
+use std::alloc::Global;
+use std::str;
 
 /// What a command reads.
 pub(crate) type Read = Result<Operation, CommandFault>;
@@ -41,6 +46,17 @@ pub(crate) fn is_attribute(word: &Text) -> bool
     is_identifier(word.as_slice())
 }
 
+/// The word as a text.
+pub fn as_text(word: &Text) -> &str
+    requires { IsUtf8 word.now }
+    ensures { result.now ≡ word.now }
+{
+    let Ok(text) = str::from_utf8(word.as_slice()) else {
+        unreachable!()
+    };
+    text
+}
+
 /// Whether the word is this text.
 pub(crate) fn is_text(word: &Text, text: &[u8]) -> bool
     ensures { result ≡ bytes_eq word.now text.now }
@@ -70,13 +86,94 @@ pub(crate) fn attributes_of(word: Text) -> Option<Attributes>
 }
 
 /// Whether there is a word.
-pub(crate) fn has_values(words: &Vec<Text>) -> bool
-    ensures { result ≡ is_nonempty words.now.items }
+pub(crate) fn has_values(words: &[Text]) -> bool
+    ensures { result ≡ is_nonempty words.now }
 {
-    match words.as_slice() {
+    match words {
         [] => false,
         _ => true,
     }
+}
+
+/// The attribute and the word behind it. The error: `Arguments`: the words have another form.
+pub(crate) fn attribute_and_word(mut words: Vec<Text>) -> Result<(Text, Text), CommandFault>
+    ensures ok { IfOk result (λ parts. (operation : Bytes → Bytes → OperationIn) → c.attribute_word_of operation words.items ≡ Ok (operation parts.0 parts.1)) }
+    ensures err { IfErr result (λ fault. (operation : Bytes → Bytes → OperationIn) → c.attribute_word_of operation words.items ≡ Err fault) }
+{
+    let attribute = take_first(&mut words)?;
+    let word = take_first(&mut words)?;
+    if words.is_empty() && is_attribute(&attribute) {
+        Ok((attribute, word))
+    } else {
+        Err(CommandFault::Arguments)
+    }
+}
+
+/// The attribute and its values, one or more. The error: `Arguments`: the words have another form.
+pub(crate) fn attribute_and_values(
+    mut words: Vec<Text>,
+) -> Result<(Text, Items<Text>), CommandFault>
+    ensures ok { IfOk result (λ parts. (operation : Bytes → List Bytes → OperationIn) → c.attribute_values_of operation words.items ≡ Ok (operation parts.0 parts.1)) }
+    ensures err { IfErr result (λ fault. (operation : Bytes → List Bytes → OperationIn) → c.attribute_values_of operation words.items ≡ Err fault) }
+{
+    let attribute = take_first(&mut words)?;
+    if is_attribute(&attribute) && has_values(&words) {
+        Ok((attribute, Items::from_vec(words)))
+    } else {
+        Err(CommandFault::Arguments)
+    }
+}
+
+/// The attributes and the two words behind them. The error: `Arguments`: the words have another form.
+pub(crate) fn attributes_and_words(
+    mut words: Vec<Text>,
+) -> Result<(Attributes, Text, Text), CommandFault>
+    ensures ok { IfOk result (λ parts. (operation : AttributesIn → Bytes → Bytes → OperationIn) → c.attributes_words_of operation words.items ≡ Ok (operation parts.0 parts.1 parts.2)) }
+    ensures err { IfErr result (λ fault. (operation : AttributesIn → Bytes → Bytes → OperationIn) → c.attributes_words_of operation words.items ≡ Err fault) }
+{
+    let attribute = take_first(&mut words)?;
+    let first = take_first(&mut words)?;
+    let second = take_first(&mut words)?;
+    if !words.is_empty() {
+        return Err(CommandFault::Arguments);
+    }
+    match attributes_of(attribute) {
+        Some(attributes) => Ok((attributes, first, second)),
+        None => Err(CommandFault::Arguments),
+    }
+}
+
+/// What a word of a command may be.
+pub(crate) trait FromWord: Sized {
+    ghost use Rattle.std.specs.Prelude.{◌≡◌, List, Option, ℕ, IfOk};
+
+    /// What the word is, where it is something.
+    ghost form: { List ℕ → Option Self };
+
+    /// What the word is, where it is something. The error: a growth was refused.
+    fn from_word(alloc: Global, word: &[u8]) -> Result<Option<Self>, Memory>
+        ensures { IfOk result (λ x. x ≡ form word.now) };
+}
+
+/// What the words are, where all are something. The errors: `Arguments`: one is nothing; `Memory`: a growth was refused.
+pub(crate) fn each<X: FromWord + Drop>(
+    alloc: Global,
+    words: &[Text],
+) -> Result<Items<X>, CommandFault>
+    ensures ok { IfOk result (λ all. c.each_of X.form words.now ≡ Some all) }
+    ensures err { IfErr result (λ fault. ((c.each_of X.form words.now ≡ None) × (fault ≡ CommandFault.Arguments)) ⊎ (fault ≡ CommandFault.Memory)) }
+{
+    let mut all = Vec::with_capacity(alloc, words.len())?;
+    for word in words {
+        match X::from_word(alloc, word.as_slice())? {
+            Some(x) => {
+                all.reserve(1)?;
+                all.push_reserved(x);
+            }
+            None => return Err(CommandFault::Arguments),
+        }
+    }
+    Ok(Items::from_vec(all))
 }
 
 /// Where the first such byte stands.

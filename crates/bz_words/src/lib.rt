@@ -14,6 +14,7 @@ mod printing;
 mod quoting;
 mod reading;
 mod substituting;
+mod table;
 mod words;
 
 pub use command::{
@@ -21,9 +22,11 @@ pub use command::{
     Host, LoadOperation, Operation, RuleOperation, RulePlace, Symbol, ValueOperation, Values,
 };
 pub use fault::CommandFault;
+pub use forms::as_text;
 pub use identifier::{is_identifier, is_kind};
 pub use laws::{
     identifiers_are_names, worked_commands, worked_identifiers, worked_strings, worked_words,
 };
 pub use quoting::quoted;
+pub use table::{COMMAND_NAMES, TEXT_LIMIT};
 pub use words::read_words;

@@ -1,51 +1,41 @@
 //! What `print` reads.
-ghost use Rattle.std.specs.Prelude.{◌≡◌, ◌⊎◌, [], Some, Ok, Err, IfOk, IfErr};
+ghost use Rattle.std.specs.Prelude.{◌≡◌, ◌⊎◌, [], Some, None, Ok, Err, IfOk, IfErr};
 ghost use Rattle.bz_words.specs.Commands as c;
+ghost use Rattle.bz_words.specs.Refused.{IsReadAs};
 
 use crate::command::{Field, Operation};
 use crate::fault::CommandFault;
-use crate::forms::{Read, is_attribute, is_text};
+use crate::forms::{FromWord, Read, each};
+use crate::identifier::is_identifier;
 use bz_items::{Items, Memory, Text};
 use std::alloc::Global;
 
-fn is_unknown_field(word: &Text) -> bool
+fn is_unknown_field(word: &[u8]) -> bool
     ensures { result ≡ c.is_unknown_field word.now }
 {
-    is_text(word, b"label") || is_text(word, b"endline") || is_text(word, b"path")
+    word == b"label".as_slice() || word == b"endline".as_slice() || word == b"path".as_slice()
 }
 
-// The field that the word names.
-fn field_of(word: Text) -> Option<Field>
-    ensures { result ≡ c.field_of word }
-{
-    if is_text(&word, b"kind") {
-        return Some(Field::Kind);
-    }
-    if is_text(&word, b"startline") {
-        return Some(Field::StartLine);
-    }
-    if is_text(&word, b"rule") {
-        return Some(Field::Rule);
-    }
-    if is_attribute(&word) && !is_unknown_field(&word) {
-        Some(Field::Attribute(word))
-    } else {
-        None
-    }
-}
+impl FromWord for Field {
+    ghost use Rattle.bz_words.specs.Commands.{field_of};
 
-// The fields that the words name, where all name some. The error: a growth was refused.
-fn each_field(words: Vec<Text>) -> Result<Option<Items<Field>>, Memory>
-    ensures { IfOk result (λ fields. fields ≡ c.each_of c.field_of words.items) }
-{
-    let mut fields = Vec::with_capacity(*words.allocator(), words.len())?;
-    for word in words {
-        match field_of(word) {
-            Some(field) => fields.push(field)?,
-            None => return Ok(None),
+    ghost form = { field_of };
+
+    fn from_word(alloc: Global, word: &[u8]) -> Result<Option<Field>, Memory> {
+        if word == b"kind".as_slice() {
+            return Ok(Some(Field::Kind));
         }
+        if word == b"startline".as_slice() {
+            return Ok(Some(Field::StartLine));
+        }
+        if word == b"rule".as_slice() {
+            return Ok(Some(Field::Rule));
+        }
+        if !is_identifier(word) || is_unknown_field(word) {
+            return Ok(None);
+        }
+        Ok(Some(Field::Attribute(Text::from_slice(alloc, word)?)))
     }
-    Ok(Some(Items::from_vec(fields)))
 }
 
 // The name and the kind. The error: a growth was refused.
@@ -57,24 +47,23 @@ fn name_and_kind(alloc: Global) -> Result<Items<Field>, Memory>
     Ok(Items::from_vec(fields))
 }
 
-// The fields that the words name; where there is no word, the name and the kind. The error: a growth was refused.
-fn fields_of(words: Vec<Text>) -> Result<Option<Items<Field>>, Memory>
-    ensures { IfOk result (λ fields. fields ≡ c.fields_of words.items) }
+// The fields that the words name; where there is no word, the name and the kind. The errors: `Arguments`: a word names none;
+// `Memory`: a growth was refused.
+fn fields_of(words: Vec<Text>) -> Result<Items<Field>, CommandFault>
+    ensures ok { IfOk result (λ fields. c.fields_of words.items ≡ Some fields) }
+    ensures err { IfErr result (λ fault. ((c.fields_of words.items ≡ None) × (fault ≡ CommandFault.Arguments)) ⊎ (fault ≡ CommandFault.Memory)) }
 {
+    let alloc = *words.allocator();
     if words.is_empty() {
-        let fields = name_and_kind(*words.allocator())?;
-        return Ok(Some(fields));
+        return Ok(name_and_kind(alloc)?);
     }
-    each_field(words)
+    each(alloc, &words)
 }
 
 /// `print [FIELD..]`. The errors: `Arguments`: the words have another form; `Memory`: a growth was refused.
 pub(crate) fn print_of(words: Vec<Text>) -> Read
-    ensures ok { IfOk result (λ operation. c.print_of words.items ≡ Ok operation) }
-    ensures err { IfErr result (λ fault. (c.print_of words.items ≡ Err fault) ⊎ (fault ≡ CommandFault.Memory)) }
+    ensures { IsReadAs (c.print_of words.items) result }
 {
-    match fields_of(words)? {
-        Some(fields) => Ok(Operation::Print { fields }),
-        None => Err(CommandFault::Arguments),
-    }
+    let fields = fields_of(words)?;
+    Ok(Operation::Print { fields })
 }

@@ -1,6 +1,7 @@
 //! The words of a command's text.
-ghost use Rattle.std.specs.Prelude.{◌≡◌, ◌==◌, [], ◌∷◌, ◌++◌, filter, not, OnOk, IfOk, ◌&&◌};
+ghost use Rattle.std.specs.Prelude.{◌≡◌, ◌==◌, [], ◌∷◌, ◌++◌, filter, not, OnOk, IfOk, IsUtf8, ◌&&◌};
 ghost use Rattle.bz_items.specs.Characters.{backslash, space};
+ghost use Rattle.bz_words.specs.Proper.{AreUtf8};
 ghost use Rattle.bz_words.specs.Words.{words_of, begins_with_space, is_nonempty};
 
 use bz_items::{Memory, Text};
@@ -34,7 +35,8 @@ fn is_dropped(byte: u8, rest: &[u8]) -> bool
 /// The words of a text: runs of spaces separate them; a space right behind a backslash belongs to the word and the
 /// backslash goes; other backslashes stay. The error: a growth was refused.
 pub fn read_words(alloc: Global, text: &[u8]) -> Result<Vec<Text>, Memory>
-    ensures { IfOk result (λ words. words.items ≡ words_of text.now) }
+    ensures words { IfOk result (λ words. words.items ≡ words_of text.now) }
+    ensures utf8 { IsUtf8 text.now → IfOk result (λ words. AreUtf8 words.items) }
 {
     let mut words = Vec::new(alloc);
     let mut word = Vec::new(alloc);

@@ -1,6 +1,8 @@
-use Rattle.std.proofs.Common.{◌≡◌, [], sym, ◌∙◌, rules}
+use Rattle.std.proofs.Common.{◌≡◌, [], sym, ◌∙◌, rules, subst}
 use Rattle.std.proofs.lemmas.List.{nil_from_length}
+use Rattle.bz_words.specs.Proper.{AreUtf8}
 use Rattle.bz_words.specs.Words.{words_of}
+use Rattle.bz_words.proofs.Utf8Texts.{words_utf8}
 use Rattle.bz_words.proofs.Pieces.{words_begin, words_end, onward, turn_at_space, turn_at_backslash, turn_at_byte}
 use Rattle.bz_words.proofs.words.read_words.Goals.{then-is_separating+in_ok-close, else-is_separating+then-not-is_dropped+in_ok-push, else-is_separating+else-not-is_dropped}
 use Rattle.bz_words.proofs.words.read_words.Goals as goal
@@ -28,5 +30,7 @@ pub returns : goal.returns
 returns c =
     let l = c.loop-byte in
     let none : l.left.now ≡ [] = nil_from_length l.left.now c.in_default.ensures.cases in
+    let same : c.close-2.new.words.items ≡ words_of c.args.text.now =
     c.in_ok-close-2.ensures ∙ onward l.word.items l.left.now [] l.behind_backslash (words_of c.args.text.now) _ l.words.items l.invariant none
-    (words_end l.word.items l.behind_backslash)
+    (words_end l.word.items l.behind_backslash) in
+    record { words = same; utf8 = λ u. subst AreUtf8 (sym same) (words_utf8 c.args.text.now u) }
