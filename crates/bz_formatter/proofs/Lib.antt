@@ -5,3 +5,4 @@ pub mod Copies
 pub mod Filled
 pub mod SeenPrograms
 pub mod TreeTokens
+pub mod WrittenPrograms

@@ -4,3 +4,4 @@ pub mod Fixed
 pub mod Filled
 pub mod TreePrograms
 pub mod Tokens
+pub mod Writing

@@ -3,6 +3,7 @@ ghost use Rattle.bz_formatter.specs.Filled.{CommentsFill, CommentsFit};
 ghost use Rattle.bz_formatter.specs.Fixed.{FixedPoint};
 ghost use Rattle.bz_formatter.specs.Tokens.{FormattingKeepsTokens, TreeProgramsKeepTokens};
 ghost use Rattle.bz_formatter.specs.TreePrograms.{ViewsKeepPrograms};
+ghost use Rattle.bz_formatter.specs.Writing.{WritingKeepsProgram};
 
 use bz_tidy::{comments_stay, program_stays, proper_stays, tidy_settles, tidy_stays, tokens_stay};
 use bz_tree::laws::one_reading;
@@ -40,6 +41,18 @@ pub fn tokens_kept()
     ensures formatted { FormattingKeepsTokens }
 {
     formatted_once();
+}
+
+/// The text that is written of a proper value, as of what a command makes of one, keeps the value's program.
+pub fn writing_keeps_program()
+    ensures { WritingKeepsProgram }
+{
+    one_reading();
+    layout_is_accepted();
+    layout_reads_back();
+    proper_stays();
+    tidy_settles();
+    program_stays();
 }
 
 /// Where a comment stands so often in a proper value that its copies alone are past the limit of a text, so is what is written of

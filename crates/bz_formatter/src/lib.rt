@@ -6,5 +6,7 @@ mod laws;
 mod writing;
 
 pub use formatter::{FormatFault, format};
-pub use laws::{comments_fill, formatted_once, tokens_kept, views_keep_programs};
+pub use laws::{
+    comments_fill, formatted_once, tokens_kept, views_keep_programs, writing_keeps_program,
+};
 pub use writing::{drawn_of, formatted, reads_back, written};
