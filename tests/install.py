@@ -1,7 +1,8 @@
 #!/usr/bin/env python3
 """Installs the built programs from a copy of this folder, takes them away, and packs them, and looks at what is left each time.
 
-In the copy bin/ holds the programs, rt is a script that does nothing, and there are no crates, so nothing is proved or built.
+In the copy bin/ holds the programs, rt is a script that does nothing, and of the crates there is one file, which has the version, so
+nothing is proved or built.
 
     tests/install.py BUILDOZER BUILDIFIER
 """
@@ -27,8 +28,8 @@ ODD, EVEN = b'f(name="x")\n', b'f(name = "x")\n'
 SECONDS = 600
 # the version of glibc with which the programs run, and every later one
 LIBRARY = (2, 34)
-# the words by which sources are called that have no tag
-OF_DAY = re.compile(r"\d{4}\.\d\d\.\d\d-[0-9a-f]{7,40}")
+# the file of the crates that has the version
+VERSIONED = "crates/bz_ports/src/lib.rt"
 
 
 class Copy:
@@ -36,8 +37,9 @@ class Copy:
 
     def __init__(self, path, built):
         self.path, self.top, self.root = pathlib.Path(path), pathlib.Path(path, "top"), pathlib.Path(path, "a root")
-        for folder in ("bin", "crates"):
-            (self.top / folder).mkdir(parents=True)
+        (self.top / "bin").mkdir(parents=True)
+        (self.top / VERSIONED).parent.mkdir(parents=True)
+        shutil.copy(TOP / VERSIONED, self.top / VERSIONED)
         for file in [*TOP.glob("*.md"), *(TOP / name for name in ("Makefile", "crates.txt", ".pre-commit-hooks.yaml"))]:
             shutil.copy(file, self.top)
         for folder in ("tools", "docs", "contrib"):
@@ -157,20 +159,22 @@ def packed(copy):
 
 
 def called_by_a_version(copy):
-    """By a fixed word outside of git, in git by the day and the commit, or by the tag, and by what was changed since."""
-    wrong = different("no repository", copy.version(), "unversioned")
+    """By the version that the programs print; in git by the commit too where it has no tag of that name, and by what was changed since."""
+    number, wrong = copy.version(), []
+    for program in PROGRAMS:
+        wrong += different(f"{program} --version", copy.run(f"bin/{program}", "--version")[1], f"{program} {number}\n")
     if not shutil.which("git"):
         print("tests/install.py: not run with git, which is not there", flush=True)
         return wrong
     for words in (["init", "-q"], ["add", "README.md"], ["commit", "-qm", "one"]):
         wrong += different(words[0], copy.git(*words), (0, ""))
     word = copy.version()
-    wrong += [] if OF_DAY.fullmatch(word) else [f"no tag: {word}"]
+    wrong += [] if re.fullmatch(re.escape(number) + "-[0-9a-f]{7,40}", word) else [f"no tag: {word}"]
     (copy.top / "README.md").write_text("changed")
     wrong += different("changed", copy.version(), f"{word}-changed")
     copy.git("checkout", "-q", "README.md")
-    copy.git("tag", "1.2")
-    return wrong + different("tag", copy.version(), "1.2")
+    copy.git("tag", number)
+    return wrong + different("tag", copy.version(), number)
 
 
 def runs_with_libraries_alone(copy):

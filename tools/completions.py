@@ -22,7 +22,8 @@ KNOWN = {"ATTR": "ATTR", "KIND": "KIND", "RULE": "RULE", "FIELD": "FIELD", "VALU
 OF_COMMAND = {("rename", "OLD"): "ATTR", ("move", "FROM"): "ATTR", ("move", "TO"): "ATTR",
               ("replace", "OLD"): "LABEL", ("replace", "NEW"): "LABEL"}  # fmt: skip
 UNKNOWN = "-"
-HELP = "--help"
+# what asks for a text alone, and what that text is
+ASKED = {"--help": "prints the options and examples", "--version": "prints the version"}
 
 
 # ---- the forms of commands
@@ -110,7 +111,7 @@ def options(blocks):
     """The options: each with the word that stands behind it, or none, and what it does, in a few words."""
     rows = [(CODE.findall(row[0])[0].split(" "), row[1]) for row in tables_of(blocks, "Option")]
     short = [(*words, "")[:2] + (re.split(r"[;,]", CODE.sub(r"\1", told))[0],) for words, told in rows]
-    return [*short, (HELP, "", "tells the options and shows examples")]
+    return [*short, *((option, "", told) for option, told in ASKED.items())]
 
 
 def words_of(blocks, option):
@@ -128,7 +129,7 @@ def fish(text):
 
 
 def zsh_option(option, word, told):
-    excluded = "(- *)" if option == HELP else "(*)" if word else ""
+    excluded = "(- *)" if option in ASKED else "(*)" if word else ""
     told = re.sub(r"([][:\\])", r"\\\1", told)
     return f"    '{excluded}{option}[{sh(told)}]{':' + word.lower() + ':_files' if word else ''}' \\"
 

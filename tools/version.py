@@ -1,16 +1,19 @@
 #!/usr/bin/env python3
 """Prints the version of these sources: its word, by which the archive is called, and its day, by which the pages are dated.
 
-In a repository of git the word is what git calls the present commit by its tags, or, where no tag is there, the commit's day and the
-beginning of its name, as 2026.01.31-4f55500; where files that git keeps were changed since, `-changed` stands behind it. Elsewhere
-the word is `unversioned`, and the day that of README.md.
+The version is that which `--version` prints, the constant VERSION of bz_ports. In a repository of git whose present commit has no tag of
+that name, the beginning of the commit's name follows it, as 1.0.0-4f55500; where files that git keeps were changed since, so does
+`-changed`. The day is that of the present commit, elsewhere that of README.md.
 """
 import datetime
+import re
 import subprocess
 
 from blocks import TOP
 
-UNKNOWN = "unversioned"
+# where the programs have it
+SOURCE = TOP / "crates" / "bz_ports" / "src" / "lib.rt"
+CONSTANT = re.compile(r'^pub const VERSION: &str = "([^"]+)";$', re.MULTILINE)
 
 
 def git(*words):
@@ -29,12 +32,13 @@ def day_of(seconds):
 
 def version():
     """The word of the version, and its day."""
+    word = CONSTANT.search(SOURCE.read_text())[1]
     seconds = git("log", "-1", "--format=%ct") if (TOP / ".git").exists() else ""
     if not seconds:
-        return UNKNOWN, day_of((TOP / "README.md").stat().st_mtime)
-    day = day_of(int(seconds))
-    word = git("describe", "--tags") or f"{day.replace('-', '.')}-{git('rev-parse', '--short', 'HEAD')}"
-    return word + ("-changed" if git("status", "--porcelain", "--untracked-files=no") else ""), day
+        return word, day_of((TOP / "README.md").stat().st_mtime)
+    if word not in git("tag", "--points-at", "HEAD").split():
+        word += f"-{git('rev-parse', '--short', 'HEAD')}"
+    return word + ("-changed" if git("status", "--porcelain", "--untracked-files=no") else ""), day_of(int(seconds))
 
 
 if __name__ == "__main__":

@@ -19,7 +19,7 @@ while [ "$count" -gt 0 ]; do
     esac
     case $program:${option%=true} in
         buildozer:k) set -- "$@" -k ;;
-        buildozer:stdout | buildozer:quiet | buildozer:journal | *:help) set -- "$@" "--${option%=true}" ;;
+        buildozer:stdout | buildozer:quiet | buildozer:journal | *:help | *:version) set -- "$@" "--${option%=true}" ;;
         buildozer:f=[!/-]*) set -- "$@" -f "$PWD/${option#f=}" ;;
         buildozer:f=*) set -- "$@" -f "${option#f=}" ;;
         buildozer:root_dir=*) root=${option#root_dir=} ;;

@@ -9,7 +9,7 @@ _buildifier() {
         [[ ${BASH_REMATCH[2]} == type ]] && words='@TYPES@'
         mapfile -t COMPREPLY < <(compgen -P "$front" -W "$words" -- "${BASH_REMATCH[3]}")
     elif [[ $line != *' -- '* && $2 == -* ]]; then
-        mapfile -t COMPREPLY < <(compgen -W '--mode= --type= --help' -- "$2")
+        mapfile -t COMPREPLY < <(compgen -W '--mode= --type= --help --version' -- "$2")
         [[ ${COMPREPLY[*]} == --mode= || ${COMPREPLY[*]} == --type= ]] && compopt -o nospace 2> /dev/null
     else
         compopt -o default 2> /dev/null

@@ -4,5 +4,6 @@
 _arguments -S \
     '--mode=[what is done with a file that differs]:mode:(@MODES@)' \
     '--type=[what the files are]:type:(@TYPES@)' \
-    '(- *)--help[tells the options]' \
+    '(- *)--help[prints the options]' \
+    '(- *)--version[prints the version]' \
     '*:BUILD or .bzl file:_files'

@@ -1,5 +1,5 @@
 //! Any reader or writer of std's.
-ghost use Rattle.std.specs.Prelude.{◌≡◌, ◌≤◌, Ok, IsErr, MatchResult};
+ghost use Rattle.std.specs.Prelude.{◌≡◌, ◌≤◌, Ok, IsErr, MatchResult, false};
 
 use crate::{PortFault, Sink, Source};
 use std::io;
@@ -52,6 +52,8 @@ impl<R: Read> Source for Device<R> {
     ghost remaining = { λ d. R.remaining d.device };
 
     ghost faults = { λ d. d.faults };
+
+    ghost sound = { λ _. false };
 
     fn read(&mut self, into: &mut [u8]) -> Result<usize, PortFault> {
         let given = self.device.read(into);

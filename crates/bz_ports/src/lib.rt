@@ -21,3 +21,6 @@ pub use sink::{Sink, write_whole};
 pub use source::{InputFault, MOST, PortFault, Source, read_most};
 pub use told::{STDIN, tell, tell_clap, tell_fault, tell_named};
 pub use words::{text_of, texts_of};
+
+/// The version of both programs, which `--version` prints.
+pub const VERSION: &str = "1.0.0";

@@ -1,5 +1,5 @@
 //! Readers and writers in memory, which can be made to fail.
-ghost use Rattle.std.specs.Prelude.{◌≡◌, ◌<◌, [], Some};
+ghost use Rattle.std.specs.Prelude.{◌≡◌, ◌<◌, ◌==◌, [], Some};
 
 use crate::{PortFault, Sink, Source};
 use std::alloc::Global;
@@ -38,6 +38,8 @@ impl Source for MemorySource<'_> {
     ghost remaining = { λ s. Some s.bytes.now };
 
     ghost faults = { λ s. s.faults };
+
+    ghost sound = { λ s. s.fails_at == 0 };
 
     fn read(&mut self, into: &mut [u8]) -> Result<usize, PortFault> {
         self.calls = self.calls.saturating_add(1);

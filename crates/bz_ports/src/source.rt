@@ -1,5 +1,5 @@
 //! Readers that count their faults.
-ghost use Rattle.std.specs.Prelude.{◌≡◌, ◌≤◌, ◌+◌, ◌<◌, ◌++◌, ℕ, List, Option, IfOk, IfSome, IsOk, IsErr, IsErrOf, take, length, vec_len};
+ghost use Rattle.std.specs.Prelude.{◌≡◌, ◌≤◌, ◌+◌, ◌<◌, ◌++◌, Bool, ℕ, List, Option, IfOk, IfSome, IsOk, IsErr, IsErrOf, take, length, true, vec_len};
 ghost use Rattle.std.specs.Io.{ReadsAtMost};
 ghost use Rattle.std.specs.Io.KnownBytes.{ReadConsumes, Consumes, IsAtEnd};
 ghost use Rattle.bz_ports.specs.Faults.{Rises};
@@ -19,13 +19,18 @@ pub trait Source {
     // How often a read has failed, up to the greatest number.
     ghost faults: { Self → ℕ };
 
+    // Whether it never fails.
+    ghost sound: { Self → Bool };
+
     /// Reads some bytes and answers how many; none only at the end, or where there is no room.
     fn read(&mut self, into: &mut [u8]) -> Result<usize, PortFault>
         ensures bound { ReadsAtMost result into.new }
         ensures bytes { ReadConsumes (remaining self.old) (remaining self.new) result into.new }
         ensures cause { IsErr result → Rises (faults self.old) (faults self.new) }
         ensures steady { IsOk result → faults self.new ≡ faults self.old }
-        ensures count { faults self.old ≤ faults self.new };
+        ensures count { faults self.old ≤ faults self.new }
+        ensures works { sound self.old ≡ true → IsOk result }
+        ensures sound { sound self.new ≡ sound self.old };
 }
 
 /// Why no bytes came.
@@ -57,6 +62,8 @@ fn read_part<S: Source>(
     ensures fault { IsErrOf result InputFault.Read → Rises (S.faults source.old) (S.faults source.new) }
     ensures steady { (IsErrOf result InputFault.Read → ⊥) → S.faults source.new ≡ S.faults source.old }
     ensures count { S.faults source.old ≤ S.faults source.new }
+    ensures works { S.sound source.old ≡ true → IsErrOf result InputFault.Read → ⊥ }
+    ensures sound { S.sound source.new ≡ S.sound source.old }
 {
     let mut chunk = [0u8; CHUNK];
     let room = (most - bytes.len()).min(CHUNK);
@@ -81,6 +88,8 @@ pub fn read_most<S: Source>(
     ensures fault { IsErrOf result InputFault.Read → Rises (S.faults source.old) (S.faults source.new) }
     ensures steady { (IsErrOf result InputFault.Read → ⊥) → S.faults source.new ≡ S.faults source.old }
     ensures count { S.faults source.old ≤ S.faults source.new }
+    ensures works { S.sound source.old ≡ true → IsErrOf result InputFault.Read → ⊥ }
+    ensures sound { S.sound source.new ≡ S.sound source.old }
 {
     let mut bytes = Vec::new(alloc);
     while bytes.len() < most {

@@ -17,6 +17,7 @@ FormatLines = (format_line [] ≡ Ok (record { mode = Fix; file_type = Auto; fil
     × (format_line (codes "--type=bzl" ∷ []) ≡ Ok (record { mode = Fix; file_type = Bzl; files = [] }))
     × (format_line (codes "--type=diff" ∷ codes "--mode=diff" ∷ []) ≡ Err (no_mode (codes "diff"))) × (format_line (codes "--type=module" ∷ []) ≡ Err (no_type (codes "module")))
     × (format_line (codes "--mode=fix" ∷ codes "--mode=fix" ∷ []) ≡ Err clap_fault) × (format_line (codes "--help" ∷ []) ≡ Err clap_fault)
+    × (format_line (codes "--version" ∷ codes "BUILD" ∷ []) ≡ Err clap_fault)
 
 -- what a text that differs does in each mode, what one does that is the same, and of which status a run of two is
 abbrev Formats : Type 0

@@ -6,7 +6,7 @@ ghost use Rattle.bz_tools.specs.FormatShown.{seen_line, usage_of};
 
 use crate::file_type::FileType;
 use crate::mode::Mode;
-use bz_ports::{text_of, texts_of};
+use bz_ports::{VERSION, text_of, texts_of};
 use clap::error::ErrorKind;
 use clap::{Arg, ArgAction, ArgMatches, Command};
 use std::alloc::{AllocError, Global};
@@ -83,6 +83,7 @@ fn described<'a>(alloc: Global) -> Command<'a>
 {
     Command::new(alloc, "buildifier")
         .no_binary_name(true)
+        .version(VERSION)
         .about(ABOUT)
         .after_help(EXAMPLES)
 }

@@ -132,6 +132,7 @@ fn input_effect<R: Source, W: Sink, E: Sink>(
     ensures unwritten { result.cut ≡ Cut.Read → out.new ≡ out.old }
     ensures read { result.cut ≡ Cut.Read → Rises (R.faults input.old) (R.faults input.new) }
     ensures write { result.cut ≡ Cut.Write → Rises (W.faults out.old) (W.faults out.new) }
+    ensures sound { R.sound input.old ≡ true → result.cut ≢ Cut.Read }
     ensures reader { result.cut ≢ Cut.Read → R.faults input.new ≡ R.faults input.old }
     ensures writer { result.cut ≢ Cut.Write → W.faults out.new ≡ W.faults out.old }
 {
@@ -296,6 +297,7 @@ pub fn buildifier<S: AsStr, R: Source, W: Sink, E: Sink, F: Files>(
 
     // A run is cut by the reader, the writer or the files where that counted a fault; where none did it is whole or wants memory.
     ensures read_cause { result.cut ≡ Cut.Read → Rises (R.faults input.old) (R.faults input.new) }
+    ensures sound { R.sound input.old ≡ true → result.cut ≢ Cut.Read }
     ensures write_cause { result.cut ≡ Cut.Write → Rises (W.faults out.old) (W.faults out.new) }
     ensures files_cause { result.cut ≡ Cut.Files → Rises (F.faults files.old) (F.faults files.new) }
     ensures steady { result.cut ≡ Cut.Whole → (R.faults input.new ≡ R.faults input.old) × (W.faults out.new ≡ W.faults out.old)

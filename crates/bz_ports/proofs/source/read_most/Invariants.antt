@@ -7,6 +7,7 @@ invariant-loop-source g l = record {
   read : Consumes (g.S.Source.remaining l.fn.source) (g.S.Source.remaining l.source) l.bytes.items;
   within : vec_len l.bytes ≤ l.most;
   steady : g.S.Source.faults l.source ≡ g.S.Source.faults l.fn.source;
+  sound : g.S.Source.sound l.source ≡ g.S.Source.sound l.fn.source;
 }
 
 abbrev pub decreases-loop-source : goal.decreases-loop-source
