@@ -27,9 +27,9 @@ journal_rule = record (new_rule (codes "journal")) { long = Some (codes "journal
 abbrev pub operand_rule : Rule
 operand_rule = record (new_rule (codes "operand")) { action = Some Append; value_names = 1 }
 
--- the words are those behind the program's own name
+-- the words are those after the program's own name, and `--version` is one
 abbrev pub nameless : App
-nameless = let app = new_app (codes "buildozer") in record { top = record app.top { no_binary_name = true }; subs = [] }
+nameless = let app = new_app (codes "buildozer") in record { top = record app.top { no_binary_name = true; has_version = true }; subs = [] }
 
 -- how lines are found and run
 abbrev pub lines_app : App

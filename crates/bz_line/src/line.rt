@@ -5,7 +5,7 @@ ghost use Rattle.bz_line.specs.App.{nameless, buildozer_app, lines_app, options_
 ghost use Rattle.bz_line.specs.Line.{is_flag_set, options_of, given_of, command_line_of};
 ghost use Rattle.bz_line.specs.Shown.{given_in, line_in, line_usage_in};
 
-use bz_ports::{text_of, texts_of};
+use bz_ports::{VERSION, text_of, texts_of};
 use clap::error::ErrorKind;
 use clap::{Arg, ArgAction, ArgMatches, Command};
 use std::alloc::{AllocError, Global};
@@ -132,6 +132,7 @@ fn described<'a>(alloc: Global) -> Command<'a>
 {
     Command::new(alloc, "buildozer")
         .no_binary_name(true)
+        .version(VERSION)
         .about(ABOUT)
         .after_help(EXAMPLES)
 }
