@@ -37,6 +37,7 @@ fn has_break(expr: &Expr) -> bool
 }
 
 /// The gap behind a part of a row, before the others. The error: no text is that wide.
+#[inline(always)]
 pub fn gap_behind(
     form: &Form,
     margin: usize,

@@ -19,6 +19,7 @@ use std::alloc::Global;
 
 /// Appends the layout of an expression at a margin. The error: a growth was refused, or the text is past the limit.
 #[cycle(push)]
+#[inline(always)]
 pub fn push_expr(out: &mut Vec<u8>, expr: &Expr, margin: usize, limit: usize) -> Result<(), Memory>
     ensures { OnOk result (out.new.items ≡ out.old.items ++ written.text_of expr.now margin) }
 {
