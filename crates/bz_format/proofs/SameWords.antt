@@ -30,10 +30,10 @@ use Rattle.bz_suite.specs.declared.value.Statement.TheVariants as st
 use Rattle.bz_suite.specs.View.{stated}
 use Rattle.bz_suite.proofs.KeptGaps.{NoColon, sort_plain, token_plain}
 use Rattle.bz_indent.proofs.Rows.{branches_behind, branches_are}
-use Rattle.bz_formatter.specs.TreePrograms.{in_front, node_syntax, part_syntax}
+use Rattle.bz_formatter.specs.TreePrograms.{before_marks, node_syntax, part_syntax}
 use Rattle.bz_formatter.proofs.TreeTokens.{BracketedIn, IsSeparator, Paired, SeparatorAt, call_bracketed, close_round, comma, dict_bracketed, end_of_file, first_is, later_is, list_bracketed, listed_paired, load_bracketed, newline, open_round, semicolon, syntax_map, tuple_bracketed}
 use Rattle.bz_format.specs.Formatted.{BzlFixedPoint}
-use Rattle.bz_format.specs.TreePrograms.{bzl_tree_program, head_in, headers_in, line_statements, node_statements, Parsed, parsed, parsed_row, parts_in, statements_in, suite_statements}
+use Rattle.bz_format.specs.TreePrograms.{bzl_tree_program, head_in, headers_in, line_statements, node_statements, Parsed, parsed, parsed_row, parsed_parts, statements_in, suite_statements}
 use Rattle.bz_format.specs.Words.{leaf_words, words_in, tree_words, FormattingKeepsWords}
 
 abbrev Words : Type 0
@@ -155,13 +155,13 @@ all_kept (x ∷ xs) h = both (λ us vs. us ++ vs) h.0 (all_kept xs h.1)
 silent : (us vs : Words) → us ≡ [] → us ++ vs ≡ vs
 silent us vs h = ap (λ ws. ws ++ vs) h
 
-front_kept : (xs : List Part) → Paired xs → AllByRecursion Kept xs → all_words (in_front (map part_syntax xs)) ≡ parts_words xs
+front_kept : (xs : List Part) → Paired xs → AllByRecursion Kept xs → all_words (before_marks (map part_syntax xs)) ≡ parts_words xs
 front_kept [] t h = refl
 front_kept (x ∷ []) t h = sym (silent (part_words x) [] (quiet_part x t))
 front_kept (x ∷ y ∷ xs) t h = both (λ us vs. us ++ vs) h.0 (front_kept xs t.1 h.1.1 ∙ sym (silent (part_words y) (parts_words xs) (quiet_part y t.0)))
 
 sequence_kept : (n : ℕ) (xs : List Part) → SeparatorAt n xs → Paired (drop (suc n) xs) → AllByRecursion Kept xs
-    → all_words (take n (map part_syntax xs)) ++ all_words (in_front (drop (suc n) (map part_syntax xs))) ≡ parts_words xs
+    → all_words (take n (map part_syntax xs)) ++ all_words (before_marks (drop (suc n) (map part_syntax xs))) ≡ parts_words xs
 sequence_kept zero [] a t h = refl
 sequence_kept zero (x ∷ xs) a t h = front_kept xs t h.1 ∙ sym (silent (part_words x) (parts_words xs) (quiet_part x a))
 sequence_kept (suc n) [] a t h = refl
@@ -170,7 +170,7 @@ sequence_kept (suc n) (x ∷ xs) a t h = append_assoc (expr_words (part_syntax x
 node_kept : (f : Frame) (kind : Kind) (xs : List Part) → BracketedIn f kind xs → AllByRecursion Kept xs → expr_words (node_syntax f kind (map part_syntax xs)) ≡ parts_words xs
 node_kept row kind xs a h = form_words (made kind (map part_syntax xs) [] [] false false no_comments) ∙ (append-nil (all_words (map part_syntax xs)) ∙ all_kept xs h)
 node_kept (sequence opener closer) kind xs a h =
-    form_words (made kind (take (lead kind) (map part_syntax xs)) (in_front (drop (suc (lead kind)) (map part_syntax xs))) [] false false no_comments)
+    form_words (made kind (take (lead kind) (map part_syntax xs)) (before_marks (drop (suc (lead kind)) (map part_syntax xs))) [] false false no_comments)
     ∙ sequence_kept (lead kind) xs a.opener a.body h
 
 node_bracketed : (kind : Kind) (xs : List Part) → Fits IsSort (bzl_shape kind) xs → BracketedIn (frame kind) kind xs
@@ -204,7 +204,7 @@ same_colon : (x : Part) → (parsed x).is_colon ≡ (stated x).is_colon
 same_colon (p.Leaf l) = refl
 same_colon (Node' kind m r) = refl
 
-parts_parsed : (xs : List Part) → parts_in (map parsed xs) ≡ map part_syntax xs
+parts_parsed : (xs : List Part) → parsed_parts (map parsed xs) ≡ map part_syntax xs
 parts_parsed [] = refl
 parts_parsed (x ∷ xs) = both (λ y ys. y ∷ ys) (part_parsed x) (parts_parsed xs)
 
@@ -405,8 +405,8 @@ def_statement (word ∷ name ∷ opener ∷ xs) h g =
 
 line_kept : (xs : List Part) → Fits IsSort (bzl_shape k.Line) xs → AllByRecursion Known xs → program_words (line_statements (map parsed xs)) ≡ parts_words xs
 line_kept xs h g =
-    simple_words (in_front (parts_in (map parsed xs)))
-    ∙ (ap (λ zs. all_words (in_front zs)) (parts_parsed xs) ∙ front_kept xs (listed_paired s.semicolon s.newline semicolon newline s.small xs h) (kept_all xs g))
+    simple_words (before_marks (parsed_parts (map parsed xs)))
+    ∙ (ap (λ zs. all_words (before_marks zs)) (parts_parsed xs) ∙ front_kept xs (listed_paired s.semicolon s.newline semicolon newline s.small xs h) (kept_all xs g))
 
 compound_kept : (kind : Kind) (xs : List Part) → HeadersKept kind xs → program_words (st.Compound (headers_in kind [] (map parsed xs)) ∷ []) ≡ parts_words xs
 compound_kept kind xs h = append-nil (statement_words (st.Compound (headers_in kind [] (map parsed xs)))) ∙ (compound_words (headers_in kind [] (map parsed xs)) ∙ h)

@@ -23,9 +23,9 @@ use Rattle.bz_suite.specs.declared.value.BzlItem.TheVariants as b
 use Rattle.bz_suite.specs.View.{bzl_items, block_items, branches, compound_read, head, indented_comments, indented_lines_before, is_compound, simple_statements, statement_read, stated, stated_row, suite_in, walked, with_suite, Stated}
 use Rattle.bz_indent.specs.Syntax.{head_syntax, statement_syntax, bzl_program}
 use Rattle.bz_indent.proofs.SameSyntax.{branch_syntax, syntax_Compound}
-use Rattle.bz_formatter.specs.TreePrograms.{in_front}
+use Rattle.bz_formatter.specs.TreePrograms.{before_marks}
 use Rattle.bz_formatter.proofs.SeenPrograms.{Says, EachSays, items_say, part_says, plain_says, row_says, statements_say, dropped_say, taken_say}
-use Rattle.bz_format.specs.TreePrograms.{BzlViewsKeepPrograms, bare_head, head_in, headers_in, node_statements, Parsed, parsed, parsed_row, parts_in, statements_in, suite_statements, suites_in}
+use Rattle.bz_format.specs.TreePrograms.{BzlViewsKeepPrograms, bare_head, head_in, headers_in, node_statements, Parsed, parsed, parsed_row, parsed_parts, statements_in, suite_statements, suites_in}
 
 -- whatever stands around it, a part that was read says this
 record Tells (x : Stated) (y : Parsed) : Type 0 where
@@ -39,7 +39,7 @@ EachTells [] [] = Unit {0}
 EachTells (x ∷ xs) (y ∷ ys) = Tells x y × EachTells xs ys
 EachTells _ _ = ⊥
 
-parts_tell : (xs : List Stated) (ys : List Parsed) → EachTells xs ys → EachSays (map (λ x. x.part) xs) (parts_in ys)
+parts_tell : (xs : List Stated) (ys : List Parsed) → EachTells xs ys → EachSays (map (λ x. x.part) xs) (parsed_parts ys)
 parts_tell [] [] h = tt
 parts_tell [] (y ∷ ys) h = absurd h
 parts_tell (x ∷ xs) [] h = absurd h
@@ -52,7 +52,7 @@ simple_syntax [] = refl
 simple_syntax (i.Block texts ∷ items) = simple_syntax items
 simple_syntax (i.Stmt x ∷ items) = ap (λ z. s.Simple (syntax_of x) ∷ z) (simple_syntax items)
 
-line_tells : (above : List Bytes) (ss : List Seen) (xs : List Expr) → EachSays ss xs → map statement_syntax (simple_statements (seen_statements above ss)) ≡ map s.Simple (in_front xs)
+line_tells : (above : List Bytes) (ss : List Seen) (xs : List Expr) → EachSays ss xs → map statement_syntax (simple_statements (seen_statements above ss)) ≡ map s.Simple (before_marks xs)
 line_tells above ss xs h = simple_syntax (seen_statements above ss) ∙ ap (map s.Simple) (statements_say above ss xs h)
 
 walk_tells : (above : List IndentedGapLine) (xs : List Stated) (ys : List Parsed) (after : List IndentedGapLine) → EachTells xs ys → map statement_syntax (walked above xs after).0 ≡ statements_in ys
@@ -108,7 +108,7 @@ compound_tells kind xs ys above after h =
 
 statement_tells : (kind : Kind) (xs : List Stated) (ys : List Parsed) (above : List Bytes) (after : List IndentedGapLine) → EachTells xs ys → map statement_syntax (statement_read kind xs above after).0 ≡ node_statements kind ys
 statement_tells kind xs ys above after h = elim (cases_Bool (is_kind kind k.Line)) [
-  | inl w ↦ rw w (line_tells above (map (λ x. x.part) xs) (parts_in ys) (parts_tell xs ys h))
+  | inl w ↦ rw w (line_tells above (map (λ x. x.part) xs) (parsed_parts ys) (parts_tell xs ys h))
   | inr w ↦ elim (cases_Bool (is_compound kind)) [
     | inl v ↦ rw (w, v) (compound_tells kind xs ys above after h)
     | inr v ↦ rw (w, v) refl
@@ -123,7 +123,7 @@ behind_newline (x ∷ xs) (y ∷ ys) h = h.1
 
 suite_tells : (kind : Kind) (xs : List Stated) (ys : List Parsed) (after : List IndentedGapLine) → EachTells xs ys → map statement_syntax (suite_in kind xs after).0.0 ≡ suite_statements kind ys
 suite_tells kind xs ys after h = elim (cases_Bool (is_kind kind k.Line)) [
-  | inl w ↦ rw w (line_tells [] (map (λ x. x.part) xs) (parts_in ys) (parts_tell xs ys h))
+  | inl w ↦ rw w (line_tells [] (map (λ x. x.part) xs) (parsed_parts ys) (parts_tell xs ys h))
   | inr w ↦ elim (cases_Bool (is_kind kind k.Suite)) [
     | inl v ↦ rw (w, v) (walk_tells (indented_lines_before (drop 1 xs) []) (drop 1 xs) (drop 1 ys) after (behind_newline xs ys h))
     | inr v ↦ rw (w, v) refl

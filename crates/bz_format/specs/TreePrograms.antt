@@ -15,7 +15,7 @@ use Rattle.bz_suite.specs.declared.value.Statement.{Statement}
 use Rattle.bz_suite.specs.declared.value.Statement.TheVariants as s
 use Rattle.bz_suite.specs.View.{bzl_view_of, is_compound}
 use Rattle.bz_indent.specs.Syntax.{bzl_program}
-use Rattle.bz_formatter.specs.TreePrograms.{in_front, part_syntax}
+use Rattle.bz_formatter.specs.TreePrograms.{before_marks, part_syntax}
 
 -- What a part says: as a part of a row; whether it is a colon; its statements; and those of a suite.
 pub record Parsed : Type 0 where
@@ -24,12 +24,12 @@ pub record Parsed : Type 0 where
   pub statements : List Statement
   pub suite : List Statement
 
-abbrev pub parts_in : List Parsed → List Expr
-parts_in xs = map (λ x. x.part) xs
+abbrev pub parsed_parts : List Parsed → List Expr
+parsed_parts xs = map (λ x. x.part) xs
 
 -- the statements of a line
 abbrev pub line_statements : List Parsed → List Statement
-line_statements xs = map s.Simple (in_front (parts_in xs))
+line_statements xs = map s.Simple (before_marks (parsed_parts xs))
 
 -- those of all these parts
 abbrev pub statements_in : List Parsed → List Statement
@@ -41,7 +41,7 @@ bare_head kind parts items = record { kind = kind; parts = parts; seq = record {
 
 -- The parts of a header up to its colon. Of a Def: the word and the name, and the parameters behind the bracket.
 abbrev pub head_in : Kind → List Expr → Form
-head_in kind xs = if is_kind kind k.Def then bare_head k.Def (take 2 xs) (in_front (drop 3 xs)) else bare_head kind xs []
+head_in kind xs = if is_kind kind k.Def then bare_head k.Def (take 2 xs) (before_marks (drop 3 xs)) else bare_head kind xs []
 
 -- The headers of a statement, each with its suite. parts: those of the header so far.
 abbrev mutual

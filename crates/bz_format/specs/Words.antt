@@ -8,12 +8,12 @@ use Rattle.bz_tree.specs.Legal.{ReadsBzl}
 use Rattle.bz_tree.specs.Shapes.{colon_mark, is_one_of}
 use Rattle.bz_tree.specs.Spell.{leaves_of}
 use Rattle.bz_items.specs.Characters.{Bytes}
-use Rattle.bz_formatter.specs.Tokens.{is_separator}
+use Rattle.bz_formatter.specs.Tokens.{is_mark_between}
 use Rattle.bz_format.specs.Formatted.{FormatsBzlTo}
 
 -- what stands between parts and around them, a colon too
 abbrev pub is_bzl_separator : Class → Bytes → Bool
-is_bzl_separator class token = is_separator class token || is_one_of colon_mark (record { class = class; gap = []; token = token })
+is_bzl_separator class token = is_mark_between class token || is_one_of colon_mark (record { class = class; gap = []; token = token })
 
 -- a token that is none of these
 abbrev pub words_in : Class → Bytes → List (Class × Bytes)

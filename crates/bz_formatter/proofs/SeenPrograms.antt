@@ -17,7 +17,7 @@ use Rattle.bz_tidy.specs.Syntax.{syntax_of, program}
 use Rattle.bz_tidy.proofs.Keeping.{both}
 use Rattle.bz_tidy.proofs.Parts.{made}
 use Rattle.bz_tidy.proofs.SameSyntax.{syntax_Form}
-use Rattle.bz_formatter.specs.TreePrograms.{in_front, bare_form, node_syntax, part_syntax, row_syntax, lines_program, ViewsKeepPrograms}
+use Rattle.bz_formatter.specs.TreePrograms.{before_marks, bare_form, node_syntax, part_syntax, row_syntax, lines_program, ViewsKeepPrograms}
 
 -- whatever comments and break it is given, a part that was read has this syntax
 abbrev pub Says : Seen → Expr → Type 0
@@ -62,13 +62,13 @@ row_says binary inside newline (s ∷ ss) (x ∷ xs) h = both (λ y ys. y ∷ ys
 -- ---- sequences
 
 mutual
-  pub items_say : (above : List Bytes) (ss : List Seen) (xs : List Expr) → EachSays ss xs → map syntax_of (items_in above ss).0 ≡ in_front xs
+  pub items_say : (above : List Bytes) (ss : List Seen) (xs : List Expr) → EachSays ss xs → map syntax_of (items_in above ss).0 ≡ before_marks xs
   items_say above [] [] h = refl
   items_say above [] (x ∷ xs) h = absurd h
   items_say above (s ∷ ss) [] h = absurd h
   items_say above (s ∷ ss) (x ∷ xs) h = item_says above s ss x xs h.0 h.1
 
-  item_says : (above : List Bytes) (s : Seen) (ss : List Seen) (x : Expr) (xs : List Expr) → Says s x → EachSays ss xs → map syntax_of (item_in above s ss).0 ≡ in_front (x ∷ xs)
+  item_says : (above : List Bytes) (s : Seen) (ss : List Seen) (x : Expr) (xs : List Expr) → Says s x → EachSays ss xs → map syntax_of (item_in above s ss).0 ≡ before_marks (x ∷ xs)
   item_says above s [] x [] a h = refl
   item_says above s [] x (y ∷ xs) a h = absurd h
   item_says above s (mark ∷ ss) x [] a h = absurd h
@@ -112,7 +112,7 @@ no_program ([] ∷ groups) ys = no_program groups ys
 no_program ((text ∷ group) ∷ groups) ys = no_program groups ys
 
 mutual
-  pub statements_say : (above : List Bytes) (ss : List Seen) (xs : List Expr) → EachSays ss xs → program (statements_in above ss) ≡ in_front xs
+  pub statements_say : (above : List Bytes) (ss : List Seen) (xs : List Expr) → EachSays ss xs → program (statements_in above ss) ≡ before_marks xs
   statements_say above [] [] h = refl
   statements_say above [] (x ∷ xs) h = absurd h
   statements_say above (s ∷ ss) [] h = absurd h
@@ -121,7 +121,7 @@ mutual
   statements_say above (s ∷ mark ∷ ss) (x ∷ []) h = absurd h.1
   statements_say above (s ∷ mark ∷ ss) (x ∷ y ∷ xs) h = statement_says above s mark ss x y xs h.0 h.1.1
 
-  statement_says : (above : List Bytes) (s mark : Seen) (ss : List Seen) (x y : Expr) (xs : List Expr) → Says s x → EachSays ss xs → program (statement_before above s mark ss) ≡ in_front (x ∷ y ∷ xs)
+  statement_says : (above : List Bytes) (s mark : Seen) (ss : List Seen) (x y : Expr) (xs : List Expr) → Says s x → EachSays ss xs → program (statement_before above s mark ss) ≡ before_marks (x ∷ y ∷ xs)
   statement_says above s mark [] x y [] a h = ap (λ z. z ∷ []) (a _ false)
   statement_says above s mark [] x y (z ∷ xs) a h = absurd h
   statement_says above s mark (t ∷ ss) x y [] a h = absurd h

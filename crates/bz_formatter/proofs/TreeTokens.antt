@@ -29,13 +29,13 @@ use Rattle.bz_tidy.specs.Syntax.{token_sum, row_token_sum, one_if_token}
 use Rattle.bz_tidy.proofs.Keeping.{both}
 use Rattle.bz_tidy.proofs.Parts.{made, parts_behind, items_behind, parts_are, items_are}
 use Rattle.bz_formatter.specs.Fixed.{FixedPoint}
-use Rattle.bz_formatter.specs.TreePrograms.{in_front, node_syntax, part_syntax, row_syntax, lines_program}
-use Rattle.bz_formatter.specs.Tokens.{separators, is_separator, FormattingKeepsTokens, TreeProgramsKeepTokens}
+use Rattle.bz_formatter.specs.TreePrograms.{before_marks, node_syntax, part_syntax, row_syntax, lines_program}
+use Rattle.bz_formatter.specs.Tokens.{marks_between, is_mark_between, FormattingKeepsTokens, TreeProgramsKeepTokens}
 
--- ---- separators
+-- ---- marks_between
 
 abbrev pub IsSeparator : Part → Type 0
-IsSeparator x = has_token separators x ≡ true
+IsSeparator x = has_token marks_between x ≡ true
 
 pub first_is : (a b : Bool) → a ≡ true → (a || b) ≡ true
 first_is true b h = refl
@@ -54,8 +54,8 @@ among [] back t l h = first_is _ _ h
 among (f ∷ front) back t l h = later_is (is_terminal f l) (is_one_of (front ++ t ∷ back) l) (among front back t l h)
 
 -- the separator at this place of the table
-separating : (n : ℕ) (t : Terminal) → take n separators ++ t ∷ drop (suc n) separators ≡ separators → (x : Part) → has_token (t ∷ []) x ≡ true → IsSeparator x
-separating n t same (p.Leaf l) h = subst (λ ts. is_one_of ts l ≡ true) same (among (take n separators) (drop (suc n) separators) t l (no_more (is_terminal t l) h))
+separating : (n : ℕ) (t : Terminal) → take n marks_between ++ t ∷ drop (suc n) marks_between ≡ marks_between → (x : Part) → has_token (t ∷ []) x ≡ true → IsSeparator x
+separating n t same (p.Leaf l) h = subst (λ ts. is_one_of ts l ≡ true) same (among (take n marks_between) (drop (suc n) marks_between) t l (no_more (is_terminal t l) h))
 separating n t same (Node' kind m r) h = no_such h
 
 abbrev pub Separates : List Terminal → Type 0
@@ -183,7 +183,7 @@ pub syntax_map : (m : _) (r : Row_of-Part m) → row_syntax r ≡ map part_synta
 syntax_map m end_of-Part = refl
 syntax_map m (more_of-Part x rest) = ap (λ z. part_syntax x ∷ z) (syntax_map _ rest)
 
-module _ (number : Class → Bytes → ℕ) (quiet : (l : Leaf) → is_one_of separators l ≡ true → number l.class l.token ≡ 0) where
+module _ (number : Class → Bytes → ℕ) (quiet : (l : Leaf) → is_one_of marks_between l ≡ true → number l.class l.token ≡ 0) where
   abbrev whole : Expr → ℕ
   whole = token_sum number
 
@@ -223,7 +223,7 @@ module _ (number : Class → Bytes → ℕ) (quiet : (l : Leaf) → is_one_of se
   all_sum [] h = refl
   all_sum (x ∷ xs) h = both (λ a b. a + b) h.0 (all_sum xs h.1)
 
-  front_sum : (xs : List Part) → Paired xs → AllByRecursion Kept xs → total whole (in_front (map part_syntax xs)) ≡ total part_sum xs
+  front_sum : (xs : List Part) → Paired xs → AllByRecursion Kept xs → total whole (before_marks (map part_syntax xs)) ≡ total part_sum xs
   front_sum [] t h = refl
   front_sum (x ∷ []) t h = let none = quiet_part x t in omega arith
   front_sum (x ∷ y ∷ xs) t h =
@@ -234,7 +234,7 @@ module _ (number : Class → Bytes → ℕ) (quiet : (l : Leaf) → is_one_of se
 
   -- what stands before an opening bracket, and the items behind it
   sequence_sum : (n : ℕ) (xs : List Part) → SeparatorAt n xs → Paired (drop (suc n) xs) → AllByRecursion Kept xs
-      → total whole (take n (map part_syntax xs)) + total whole (in_front (drop (suc n) (map part_syntax xs))) ≡ total part_sum xs
+      → total whole (take n (map part_syntax xs)) + total whole (before_marks (drop (suc n) (map part_syntax xs))) ≡ total part_sum xs
   sequence_sum zero [] a t h = refl
   sequence_sum zero (x ∷ xs) a t h =
       let none = quiet_part x a in
@@ -252,7 +252,7 @@ module _ (number : Class → Bytes → ℕ) (quiet : (l : Leaf) → is_one_of se
       let all = all_sum xs h in
       omega arith
   node_sum (sequence opener closer) kind xs a h =
-      sum_Form (made kind (take (lead kind) (map part_syntax xs)) (in_front (drop (suc (lead kind)) (map part_syntax xs))) [] false false no_comments)
+      sum_Form (made kind (take (lead kind) (map part_syntax xs)) (before_marks (drop (suc (lead kind)) (map part_syntax xs))) [] false false no_comments)
       ∙ sequence_sum (lead kind) xs a.opener a.body h
 
   mutual
@@ -282,9 +282,9 @@ module _ (number : Class → Bytes → ℕ) (quiet : (l : Leaf) → is_one_of se
       let is : kind ≡ k.Line = same_kind kind k.Line (eqb-true _ _ h.0) in
       let statements : Fits IsSort (shape k.Line) ys = subst (λ kd. Fits IsSort (shape kd) ys) is g.0.0 in
       let paired : Paired ys = listed_paired s.semicolon s.newline semicolon newline s.small ys statements in
-      let here : total whole (in_front (row_syntax r)) ≡ part_sum (Node' kind m r) =
-      ap (λ zs. total whole (in_front zs)) (syntax_map _ r) ∙ (front_sum ys paired (row_kept _ r g.0.1) ∙ sym (row_leaves _ r)) in
-      append_total whole (in_front (row_syntax r)) (lines_program xs) ∙ both (λ a b. a + b) here (lines_sum xs h.1 g.1)
+      let here : total whole (before_marks (row_syntax r)) ≡ part_sum (Node' kind m r) =
+      ap (λ zs. total whole (before_marks zs)) (syntax_map _ r) ∙ (front_sum ys paired (row_kept _ r g.0.1) ∙ sym (row_leaves _ r)) in
+      append_total whole (before_marks (row_syntax r)) (lines_program xs) ∙ both (λ a b. a + b) here (lines_sum xs h.1 g.1)
 
 -- ---- one token
 
@@ -293,11 +293,11 @@ alike [] l m d e = refl
 alike (any class ∷ ts) l m d e = both (λ a b. a || b) (ap (λ n. nat_eq n (class_number class)) d) (alike ts l m d e)
 alike (this class token ∷ ts) l m d e = both (λ a b. a || b) (both (λ n t. nat_eq n (class_number class) && bytes_eq t token) d e) (alike ts l m d e)
 
-other_token : (class : Class) (token : Bytes) → is_separator class token ≡ false → (l : Leaf) → is_one_of separators l ≡ true → one_if_token class token l.class l.token ≡ 0
+other_token : (class : Class) (token : Bytes) → is_mark_between class token ≡ false → (l : Leaf) → is_one_of marks_between l ≡ true → one_if_token class token l.class l.token ≡ 0
 other_token class token other l h = elim (cases_Bool (is_class l.class class && bytes_eq l.token token)) [
   | inl w ↦
       let tests = and_parts (is_class l.class class) (bytes_eq l.token token) w in
-      absurd (true≢false (sym h ∙ (alike separators l (record { class = class; gap = []; token = token }) (eqb-true _ _ tests.0) ((bytes_eq-Decides l.token token).0 tests.1) ∙ other)))
+      absurd (true≢false (sym h ∙ (alike marks_between l (record { class = class; gap = []; token = token }) (eqb-true _ _ tests.0) ((bytes_eq-Decides l.token token).0 tests.1) ∙ other)))
   | inr w ↦ rw w refl
 ]
 

@@ -13,11 +13,11 @@ use Rattle.bz_formatter.specs.Meaning.{gives, Formats}
 use Rattle.bz_formatter.specs.TreePrograms.{tree_program}
 
 -- what stands between parts and around them: commas, semicolons, brackets, newlines and the end of a file
-abbrev pub separators : List Terminal
-separators = comma_mark ++ (semicolon ++ (newline ++ (end ++ (open_round ++ (close_round ++ (open_square ++ (close_square ++ (open_curly ++ close_curly))))))))
+abbrev pub marks_between : List Terminal
+marks_between = comma_mark ++ (semicolon ++ (newline ++ (end ++ (open_round ++ (close_round ++ (open_square ++ (close_square ++ (open_curly ++ close_curly))))))))
 
-abbrev pub is_separator : Class → Bytes → Bool
-is_separator class token = is_one_of separators (record { class = class; gap = []; token = token })
+abbrev pub is_mark_between : Class → Bytes → Bool
+is_mark_between class token = is_one_of marks_between (record { class = class; gap = []; token = token })
 
 -- how often a token of this class and text stands among the tokens of a tree
 abbrev pub leaf_times : Class → Bytes → Node → ℕ
@@ -25,10 +25,10 @@ leaf_times class token tree = total (λ leaf. one_if_token class token leaf.clas
 
 -- Every other token of a legal tree stands in its program as often.
 abbrev pub TreeProgramsKeepTokens : Type 0
-TreeProgramsKeepTokens = (tree : Node) → Legal tree → (class : Class) (token : Bytes) → is_separator class token ≡ false → token_times class token (tree_program tree) ≡ leaf_times class token tree
+TreeProgramsKeepTokens = (tree : Node) → Legal tree → (class : Class) (token : Bytes) → is_mark_between class token ≡ false → token_times class token (tree_program tree) ≡ leaf_times class token tree
 
--- Of every text, each token that is neither a string nor such a separator stands in the formatted text as often.
+-- Of every text, each token that is neither a string nor such a mark stands in the formatted text as often.
 abbrev pub FormattingKeepsTokens : Type 0
 FormattingKeepsTokens =
     (text formatted : Bytes) → Formats text (gives formatted None) → (tree new : Node) → Reads text tree → Reads formatted new
-    → (class : Class) (token : Bytes) → is_class c.String class ≡ false → is_separator class token ≡ false → leaf_times class token new ≡ leaf_times class token tree
+    → (class : Class) (token : Bytes) → is_class c.String class ≡ false → is_mark_between class token ≡ false → leaf_times class token new ≡ leaf_times class token tree

@@ -13,10 +13,10 @@ use Rattle.bz_view.specs.View.{view_of}
 use Rattle.bz_tidy.specs.Syntax.{program}
 
 -- the parts in front of each comma, semicolon or newline, and of the closing bracket: every other one
-abbrev pub in_front : {X : Type 0} → List X → List X
-in_front [] = []
-in_front (x ∷ []) = []
-in_front (x ∷ mark ∷ xs) = x ∷ in_front xs
+abbrev pub before_marks : {X : Type 0} → List X → List X
+before_marks [] = []
+before_marks (x ∷ []) = []
+before_marks (x ∷ mark ∷ xs) = x ∷ before_marks xs
 
 abbrev pub bare_form : Kind → List Expr → List Expr → Expr
 bare_form kind parts items = e.Form (record { kind = kind; parts = parts; seq = record { items = items; end_ = []; split = false }; open_ = false; comments = no_comments })
@@ -24,7 +24,7 @@ bare_form kind parts items = e.Form (record { kind = kind; parts = parts; seq = 
 -- a row of parts; or what stands before the opening bracket, and the items behind it
 abbrev pub node_syntax : Frame → Kind → List Expr → Expr
 node_syntax row kind xs = bare_form kind xs []
-node_syntax (sequence opener closer) kind xs = bare_form kind (take (lead kind) xs) (in_front (drop (suc (lead kind)) xs))
+node_syntax (sequence opener closer) kind xs = bare_form kind (take (lead kind) xs) (before_marks (drop (suc (lead kind)) xs))
 
 abbrev mutual
   pub part_syntax : Part → Expr
@@ -39,7 +39,7 @@ abbrev mutual
 abbrev pub lines_program : List Part → List Expr
 lines_program [] = []
 lines_program (p.Leaf l ∷ xs) = lines_program xs
-lines_program (Node' kind _ parts ∷ xs) = in_front (row_syntax parts) ++ lines_program xs
+lines_program (Node' kind _ parts ∷ xs) = before_marks (row_syntax parts) ++ lines_program xs
 
 abbrev pub tree_program : Node → List Expr
 tree_program n = lines_program n.parts

@@ -41,16 +41,16 @@ abbrev mutual
   each_on_strings change (more_of-Expr x rest) = on_strings change x ∷ each_on_strings change rest
 
 -- neither " nor a backslash
-abbrev pub IsFree : Bytes → Type 0
-IsFree body = (has_character quotation_mark body ≡ false) × (has_character backslash body ≡ false)
+abbrev pub IsUnescaped : Bytes → Type 0
+IsUnescaped body = (has_character quotation_mark body ≡ false) × (has_character backslash body ≡ false)
 
 -- The same string: it stays, or its body, which holds neither " nor a backslash, stands between " in place of ', or between """ in
 -- place of '''.
 pub data IsSameString (text new : Bytes) : Type 0 where
   itself : new ≡ text → IsSameString text new
-  turned : (body : Bytes) → IsShort apostrophe body → IsFree body → text ≡ replicate 1 apostrophe ++ (body ++ replicate 1 apostrophe)
+  turned : (body : Bytes) → IsShort apostrophe body → IsUnescaped body → text ≡ replicate 1 apostrophe ++ (body ++ replicate 1 apostrophe)
       → new ≡ replicate 1 quotation_mark ++ (body ++ replicate 1 quotation_mark) → IsSameString text new
-  turned_thrice : (body : Bytes) → IsLong apostrophe body → IsFree body → text ≡ replicate 3 apostrophe ++ (body ++ replicate 3 apostrophe)
+  turned_thrice : (body : Bytes) → IsLong apostrophe body → IsUnescaped body → text ≡ replicate 3 apostrophe ++ (body ++ replicate 3 apostrophe)
       → new ≡ replicate 3 quotation_mark ++ (body ++ replicate 3 quotation_mark) → IsSameString text new
 
 abbrev pub HaveOtherQuotes : List Item → List Item → Type 0

@@ -95,11 +95,11 @@ Sums =
     ≡ broken (codes "x") (codes "srcs") (sequence k.Call false (token c.Name (codes "glob") ∷ []) (strings (codes "\"b\"" ∷ codes "\"a\"" ∷ []) ∷ [])))
 
 -- the marked items alone take double quote marks
-abbrev pub named : Bytes → Item
-named text = statement [] (codes "x") (argument (codes "name") (string text) ∷ [])
+abbrev pub rule_named : Bytes → Item
+rule_named text = statement [] (codes "x") (argument (codes "name") (string text) ∷ [])
 
 abbrev pub Marked : Type 0
-Marked = tidied_where (true ∷ false ∷ true ∷ []) (named (codes "'a'") ∷ named (codes "'b'") ∷ named (codes "'c'") ∷ []) ≡ named (codes "\"a\"") ∷ named (codes "'b'") ∷ named (codes "\"c\"") ∷ []
+Marked = tidied_where (true ∷ false ∷ true ∷ []) (rule_named (codes "'a'") ∷ rule_named (codes "'b'") ∷ rule_named (codes "'c'") ∷ []) ≡ rule_named (codes "\"a\"") ∷ rule_named (codes "'b'") ∷ rule_named (codes "\"c\"") ∷ []
 
 abbrev pub WorkedPasses : Type 0
 WorkedPasses =
@@ -127,4 +127,4 @@ WorkedPrograms =
     × (KeepsProgram (named_with true [] [] ∷ []) (statement [] (codes "x") (argument (codes "name") (string (codes "\"a\"")) ∷ []) ∷ []) → ⊥)
     × (KeepsProgram (named_with true [] [] ∷ []) (named_with true [] [] ∷ named_with true [] [] ∷ []) → ⊥)
     × (KeepsProgram (called_with (codes "a" ∷ codes "b" ∷ []) ∷ []) (called_with (codes "b" ∷ codes "a" ∷ []) ∷ []) → ⊥)
-    × (KeepsProgram (named (codes "\"a\"") ∷ []) (named (codes "\"b\"") ∷ []) → ⊥)
+    × (KeepsProgram (rule_named (codes "\"a\"") ∷ []) (rule_named (codes "\"b\"") ∷ []) → ⊥)

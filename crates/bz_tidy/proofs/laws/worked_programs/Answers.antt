@@ -4,7 +4,7 @@ use Rattle.bz_token.specs.Lexemes.{short_end, short_plain}
 use Rattle.bz_label.proofs.Repeats.{is_unrepeated}
 use Rattle.bz_label.proofs.Shorter.{unrepeated_same}
 use Rattle.bz_tidy.specs.Programs.{renamed, turned}
-use Rattle.bz_tidy.specs.Rows.{named}
+use Rattle.bz_tidy.specs.Rows.{rule_named}
 use Rattle.bz_tidy.proofs.OtherPrograms.{argument_text, body_stays, other_body, other_name, unmoved, value_text}
 use Rattle.bz_tidy.proofs.TokensKept.{tokens_kept}
 use Rattle.bz_tidy.proofs.laws.worked_programs.Goals as goal
@@ -25,5 +25,5 @@ returns c = (
   (λ h. never (tokens_kept _ _ h classes.Name (codes "deps") refl)),
   (λ h. never_two (tokens_kept _ _ h classes.Name (codes "name") refl)),
   (λ h. other_name (ap argument_text (unmoved _ _ h h.quotes.same (λ g. refl) (λ g. refl) refl refl refl))),
-  (λ h. other_body (ap value_text (unmoved _ _ h (h.quotes.same ∙ ap (λ text. named text ∷ []) (body_stays _ _ h)) (λ g. refl) (λ g. refl) refl refl refl))),
+  (λ h. other_body (ap value_text (unmoved _ _ h (h.quotes.same ∙ ap (λ text. rule_named text ∷ []) (body_stays _ _ h)) (λ g. refl) (λ g. refl) refl refl refl))),
 )
