@@ -16,12 +16,12 @@ pub enum GapState {
 }
 
 impl GapState {
-    /// Whether the state behind one more byte is surely the same, as in a run of spaces or in a comment.
+    /// Whether the state behind one more byte is surely the same, as in a run of spaces and newlines or in a comment.
     fn stays(self, newlines: bool, byte: u8) -> bool
         ensures { IsTrue result → gap_move newlines self byte ≡ Some self }
     {
         match self {
-            GapState::Open => byte == b' ',
+            GapState::Open => byte == b' ' || newlines && byte == b'\n',
             GapState::Comment => byte != b'\n',
             _ => false,
         }
@@ -96,7 +96,7 @@ pub fn gap_front(text: &[u8], newlines: bool) -> GapFront
     }
 }
 
-/// The first byte from this one on that does not simply go on with spaces or with a comment, or the end.
+/// The first byte from this one on that does not simply go on with spaces and newlines or with a comment, or the end.
 fn run(state: GapState, newlines: bool, text: &[u8], from: usize) -> usize
     requires { from ≤ length text.now }
     ensures above { from ≤ result }

@@ -5,7 +5,7 @@ use Rattle.std.proofs.Common.{IfSome, IsUtf8, IsCharBoundary}
 use Rattle.bz_token.specs.declared.scan.Found.{Found}
 use Rattle.bz_token.specs.declared.class.Class.TheVariants as v
 use Rattle.bz_token.specs.declared.state.State.{State}
-use Rattle.bz_token.specs.declared.state.State.TheVariants.{Start, Word, Opened, Short, Closed, Ended}
+use Rattle.bz_token.specs.declared.state.State.TheVariants.{Start, Word, Opened, Short, Closed, Operator, Ended}
 use Rattle.bz_token.specs.declared.state.Quote.TheVariants.{Double}
 use Rattle.bz_token.specs.Machine.{longest, or_found, or_best}
 use Rattle.bz_token.specs.Scanner.{move, may_end, keyword_or_name, longest_front}
@@ -31,6 +31,9 @@ ended q j s m h =
 
 pub mark_token : (s : List ℕ) → 0 < length s → move Start (get_or s 0 0) ≡ Some Ended → TokenAt v.Mark 1 s
 mark_token s lt e = some_token s (Ended, 1) v.Mark (sym (ended Ended 1 s refl (λ l. refl)) ∙ begun Ended s lt e) refl refl
+
+pub operator_token : (s : List ℕ) → 0 < length s → move Start (get_or s 0 0) ≡ Some Operator → (1 < length s → move Operator (get_or s 1 0) ≡ None) → TokenAt v.Mark 1 s
+operator_token s lt e stops = some_token s (Operator, 1) v.Mark (sym (ended Operator 1 s refl stops) ∙ begun Operator s lt e) refl refl
 
 pub word_token : (s : List ℕ) (j : ℕ) → 0 < length s → move Start (get_or s 0 0) ≡ Some Word → 1 ≤ j → j ≤ length s → ((k : ℕ) → 1 ≤ k → k < j → move Word (get_or s k 0) ≡ Some Word) → (j < length s → move Word (get_or s j 0) ≡ None)
     → TokenAt (keyword_or_name v.Name (take j s)) j s

@@ -32,7 +32,7 @@ pub fn token(text: &[u8]) -> Option<Found>
     Some(Found { class, len })
 }
 
-/// The token that a text begins with, where it is told at a glance: a mark with which no longer one begins, a name, or a string
+/// The token that a text begins with, where it is told at a glance: a mark of one byte, a name, or a string
 /// of one line between `"` without backslashes. `None` says nothing.
 #[inline(always)]
 fn glance(text: &[u8]) -> Option<Found>
@@ -46,10 +46,33 @@ fn glance(text: &[u8]) -> Option<Found>
             class: Class::Mark,
             len: 1,
         }),
+        Some(State::Operator) => operator(text),
         Some(State::Word) => name(text),
         Some(State::Opened(Quote::Double)) => plain_string(text),
         _ => None,
     }
+}
+
+/// The mark of one byte that a text begins with and that may stand before `=`, unless it does.
+fn operator(text: &[u8]) -> Option<Found>
+    requires some { 0 < length text.now }
+    requires operator { move State.Start (get_or text.now 0 0) ≡ Some State.Operator }
+    ensures { IfSome result (λ found. TokenAt found.class found.len text.now) }
+{
+    if is_before_equals(text) {
+        return None;
+    }
+    Some(Found {
+        class: Class::Mark,
+        len: 1,
+    })
+}
+
+/// Whether `=` is the second byte.
+fn is_before_equals(text: &[u8]) -> bool
+    ensures { result ≡ false → 1 < length text.now → move State.Operator (get_or text.now 1 0) ≡ None }
+{
+    text.len() > 1 && text[1] == b'='
 }
 
 /// The name or keyword that a text begins with, unless a byte is next that a longer one may go on with.

@@ -317,19 +317,19 @@ pub fn word_step(byte: u8) -> Option<State>
 fn word_stays(byte: u8) -> bool
     ensures { IsTrue result → word_move byte ≡ Some State.Word }
 {
-    byte != 0xEF && (letter(byte) || digit(byte))
+    byte >= b'a' && byte <= b'z' || byte != 0xEF && (letter(byte) || digit(byte))
 }
 
 fn short_stays(quote: Quote, byte: u8) -> bool
     ensures { IsTrue result → short_move quote byte ≡ Some (State.Short quote) }
 {
-    byte != quote.byte() && byte != b'\\' && byte != b'\n'
+    byte > b'\\' || byte != quote.byte() && byte != b'\\' && byte != b'\n'
 }
 
 fn long_stays(quote: Quote, byte: u8) -> bool
     ensures { IsTrue result → long_move (State.LongOne quote) quote byte ≡ Some (State.Long quote) }
 {
-    byte != quote.byte() && byte != b'\\'
+    byte > b'\\' || byte != quote.byte() && byte != b'\\'
 }
 
 fn quote_or_word(byte: u8) -> Option<State>
