@@ -1,5 +1,5 @@
 -- Which file of a package is opened, by what its names and its journal hold.
-use Rattle.std.proofs.Common.{◌≡◌, ◌+◌, Bool, true, false, List, [], ◌∷◌, Option, Some, None, refl, sym, ap, subst, ◌∙◌, take, codes}
+use Rattle.std.proofs.Common.{◌≡◌, ◌+◌, Bool, false, List, [], ◌∷◌, Option, Some, None, refl, sym, ap, subst, ◌∙◌, take, codes}
 use Rattle.std.specs.FinMap.{get}
 use Rattle.bz_tree.specs.Spell.{limit}
 use Rattle.bz_items.specs.Characters.{Bytes}

@@ -12,7 +12,6 @@ use Rattle.bz_items.specs.Characters.{Bytes}
 use Rattle.bz_tree.specs.Legal.{Accepted}
 use Rattle.bz_tree.specs.Spell.{limit}
 use Rattle.bz_trail.specs.Trails.{trail_at}
-use Rattle.bz_trail.specs.Shown.{texts_of}
 use Rattle.bz_trail.proofs.Keeps.{trail_kept}
 use Rattle.bz_record.specs.Texts.{IsOtherVersion}
 use Rattle.bz_resume.specs.declared.fault.ResumeFault.{ResumeFault}

@@ -4,5 +4,6 @@ pub mod FoundSteps
 pub mod FrontSteps
 pub mod JournalSteps
 pub mod KeepSteps
+pub mod LeaveSteps
 pub mod NameSteps
 pub mod PlaceSteps

@@ -1,10 +1,10 @@
 -- The names of files of different packages.
-use Rattle.std.proofs.Common.{arith, ◌≡◌, ◌≢◌, ◌⊎◌, inl, inr, ◌∙◌, ◌+◌, ◌++◌, ◌∷◌, ℕ, List, [], codes, refl, sym, ap, subst}
+use Rattle.std.proofs.Common.{arith, ◌≡◌, ◌≢◌, ◌⊎◌, inl, inr, ◌∙◌, ◌+◌, ◌++◌, ◌∷◌, ℕ, [], codes, refl, sym, ap, subst}
 use Rattle.std.proofs.lemmas.List.{append_cancel_right}
 use Rattle.bz_items.specs.Characters.{Bytes}
 use Rattle.bz_files.specs.Folder.{new_name}
 use Rattle.bz_keep.specs.Pair.{journal_name}
-use Rattle.bz_workspace.specs.Found.{in_package, first_name, second_name, IsNameOf, IsApartFrom, PackagesAreApart}
+use Rattle.bz_workspace.specs.Found.{in_package, first_name, second_name, IsNameOf, PackagesAreApart}
 
 -- what stands before the name in the folder of a package
 abbrev front : Bytes → Bytes

@@ -14,7 +14,7 @@ use Rattle.bz_journal.specs.Actions.{Action}
 use Rattle.bz_journal.specs.declared.action.Reply.{Reply}
 use Rattle.bz_journal.specs.declared.keeping.KeepFault.{KeepFault}
 use Rattle.bz_journal.specs.declared.keeping.KeepFault.TheVariants.{Refused, Pair}
-use Rattle.bz_journal.specs.History.{History, present}
+use Rattle.bz_journal.specs.History.{Acts, Answer, History, present}
 use Rattle.bz_journal.specs.Keeping.{IsRefused, IsWriteOrOpen, Keeps}
 use Rattle.bz_workspace.specs.Packages.{Opened, Used, file_at, with_opened}
 
@@ -64,3 +64,10 @@ pub record KeepsAt {F : Type 0} (files : FilesOf F) (place : ℕ) (action : Acti
   pub keeps : Keeps action note file.history answer history
   pub kept : after ≡ with_opened place (Some (after_keeping answer history file)) before
   pub pair : KeepsFile files file.name file.history history answer old new
+
+-- ---- laws
+
+-- An action leaves the package of a history, and where it leaves the number of the present text it leaves the history.
+abbrev pub StillIsSame : Type 0
+StillIsSame = (action : Action) (note : Bytes) (h after : History) (answer : Answer) → Acts action note h answer after
+    → (after.«package» ≡ h.«package») × (after.cursor ≡ h.cursor → after ≡ h)

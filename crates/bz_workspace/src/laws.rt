@@ -1,6 +1,7 @@
 //! Facts about the definitions, for readers: the functions do nothing.
 ghost use Rattle.bz_workspace.specs.Found.{PackagesAreApart};
 ghost use Rattle.bz_workspace.specs.Journals.{JournalGivesOne};
+ghost use Rattle.bz_workspace.specs.Keeps.{StillIsSame};
 ghost use Rattle.bz_workspace.specs.Opens.{FrontsAreToldAlike};
 
 /// A text and its first bytes, one more than a text may have, are opened or told alike. So of a file no more has to be read.
@@ -17,4 +18,9 @@ pub fn one_thing_comes_of_a_journal()
 /// is written first; nor has its journal such a name.
 pub fn packages_are_apart()
     ensures { PackagesAreApart }
+{}
+
+/// An action leaves the package of a history, and where it leaves the number of the present text it leaves the history.
+pub fn still_is_same()
+    ensures { StillIsSame }
 {}

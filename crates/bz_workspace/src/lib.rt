@@ -7,7 +7,9 @@ mod used;
 mod workspace;
 
 pub use bz_journal::{Action, KeepFault, Reply};
-pub use laws::{fronts_are_told_alike, one_thing_comes_of_a_journal, packages_are_apart};
+pub use laws::{
+    fronts_are_told_alike, one_thing_comes_of_a_journal, packages_are_apart, still_is_same,
+};
 pub use opening::Opening;
 pub use used::{Opened, Used};
 pub use workspace::Workspace;

@@ -1,4 +1,4 @@
-use Rattle.std.proofs.Common.{◌∙◌, ap, refl, Some, None, [], ◌∷◌, map}
+use Rattle.std.proofs.Common.{◌∙◌, ap, refl, None, [], ◌∷◌, map}
 use Rattle.bz_ports.specs.Told.{fault_line}
 use Rattle.bz_workspace.specs.Kept.{texts_of_keys}
 use Rattle.bz_workspace.specs.Packages.{with_opened}
