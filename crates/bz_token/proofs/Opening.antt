@@ -1,5 +1,5 @@
 -- The machine ends inside a string exactly where one begins that is not closed.
-use Rattle.std.proofs.Common.{◌≡◌, ℕ, suc, ◌+◌, ◌≤◌, ◌<◌, IsTrue, Bool, true, false, List, [], ◌∷◌, ◌++◌, ◌&&◌, ◌||◌, if◌then◌else◌, eqb, length, drop, get_or, drop-cons, add-one, inl, inr, Option, Some, None, refl, sym, ap, ◌∙◌, subst, arith, append_assoc}
+use Rattle.std.proofs.Common.{◌≡◌, ℕ, suc, ◌+◌, ◌≤◌, ◌<◌, IsTrue, Bool, true, false, List, [], ◌∷◌, ◌++◌, ◌||◌, if◌then◌else◌, eqb, length, drop, get_or, drop-cons, add-one, inl, inr, Option, Some, None, refl, sym, ap, ◌∙◌, subst, arith, append_assoc}
 use Rattle.std.proofs.lemmas.Bool.{both_ways, cases_Bool, and_parts, eqb-true}
 use Rattle.std.proofs.Math.ListN.{drop_of_length-le}
 use Rattle.std.proofs.lemmas.Option.{none-some, same_Some}
@@ -14,7 +14,7 @@ use Rattle.bz_token.specs.Bytes.{among, is_digit, is_hexadecimal, is_octal, is_e
 use Rattle.bz_token.specs.Laws.{OpensBehindPrefix}
 use Rattle.bz_token.specs.Lexemes.{prefixes, is_prefix, IsString}
 use Rattle.bz_token.specs.Machine.{after, and_next}
-use Rattle.bz_token.specs.Scanner.{lone_marks, operator_marks, mark_start, number_start, text_start, quote_or_word, word_move, quote_byte, move, ends, reads, keyword_or_name, before_third, is_in_string}
+use Rattle.bz_token.specs.Scanner.{lone_marks, operator_marks, mark_start, number_start, text_start, word_move, quote_byte, move, ends, reads, keyword_or_name, before_third, is_in_string}
 use Rattle.bz_token.specs.Tokens.{IsToken, NoToken, OpensString}
 use Rattle.bz_token.proofs.Complete.{is_class_1, at_1}
 use Rattle.bz_token.proofs.Fronts.{longer, same_front, rest_same, some_next}

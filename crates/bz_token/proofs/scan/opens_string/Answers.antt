@@ -1,4 +1,4 @@
-use Rattle.std.proofs.Common.{refl, sym, ap, ◌∙◌}
+use Rattle.std.proofs.Common.{sym, ap, ◌∙◌}
 use Rattle.bz_token.specs.Scanner.{is_in_string}
 use Rattle.bz_token.proofs.Opening.{told, stuck, moved, at_end}
 use Rattle.bz_token.proofs.scan.opens_string.Goals as goal
