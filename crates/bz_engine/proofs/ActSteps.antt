@@ -44,6 +44,10 @@ pub some_of : (found : Option Opened) → IsSome found → (file : Opened) × (f
 some_of None is = absurd (true≢false (sym is))
 some_of (Some file) is = (file, refl)
 
+pub is_there : (found : Option Opened) (file : Opened) → found ≡ Some file → IsSome found
+is_there None file is = absurd (let e = is in cc)
+is_there (Some one) file is = refl
+
 -- a file that takes its own place
 pub put_again : (place : ℕ) (used : List Used) (file : Opened) → file_at place used ≡ Some file → with_opened place (Some file) used ≡ used
 put_again place [] file there = refl

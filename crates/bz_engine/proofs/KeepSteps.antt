@@ -1,5 +1,5 @@
 -- What keeping a file and its journal does to the count of faults.
-use Rattle.std.proofs.Common.{◌≡◌, ◌⊎◌, ◌∙◌, ◌≤◌, ◌++◌, ◌||◌, inl, inr, ℕ, List, Bool, true, false, Some, Ok, Err, refl, sym, ap, subst, arith}
+use Rattle.std.proofs.Common.{◌≡◌, ◌⊎◌, ◌∙◌, ◌++◌, inl, inr, ℕ, List, Bool, true, Some, Ok, Err, sym, ap, subst}
 use Rattle.std.proofs.lemmas.Bool.Decides.{eqb_tells}
 use Rattle.bz_items.specs.Characters.{Bytes}
 use Rattle.bz_journal.specs.declared.keeping.KeepFault.TheVariants.{Pair}
@@ -9,15 +9,12 @@ use Rattle.bz_workspace.specs.Packages.{Opened, Used, with_opened}
 use Rattle.bz_workspace.specs.Sessions.{Reply, History, Answer, present}
 use Rattle.bz_keep.specs.declared.fault.PairFault.{PairFault}
 use Rattle.bz_keep.specs.declared.fault.PairFault.TheVariants as f
-use Rattle.bz_ports.specs.Faults.{Rises}
-use Rattle.bz_ports.specs.Outputs.{Counts}
 use Rattle.bz_ports.specs.declared.exit.Cut.{Cut}
 use Rattle.bz_ports.specs.declared.exit.Cut.TheVariants as c
 use Rattle.bz_files.specs.declared.files.Files.{Ghosts as FilesOf}
 use Rattle.bz_ports.specs.Exits.{first_cut}
 use Rattle.bz_ports.proofs.Outputs.{counts_more}
 use Rattle.bz_engine.specs.Calls.{WorksOn}
-use Rattle.bz_engine.specs.Cuts.{CutsFiles}
 use Rattle.bz_engine.specs.Keeping.{FolderBehind, state_behind}
 use Rattle.bz_engine.specs.Run.{Progress, printed_in}
 use Rattle.bz_engine.proofs.CutSteps.{files_cut}

@@ -1,10 +1,9 @@
 -- Where nothing but a run writes, each file that it has opened goes on with its journal.
-use Rattle.std.proofs.Common.{arith, ◌≡◌, ◌≢◌, ◌⊎◌, inl, inr, ◌∙◌, ◌++◌, ◌∷◌, ◌+◌, ◌-◌, ◌<◌, ℕ, zero, suc, List, [], length, Option, Some, None, Bool, true, false, true≢false, Result, Ok, Err, refl, sym, ap, subst, bytes_eq, nat_lt}
+use Rattle.std.proofs.Common.{arith, ◌≡◌, ◌≢◌, ◌⊎◌, inl, inr, ◌∙◌, ◌++◌, ◌∷◌, ◌+◌, ◌-◌, ℕ, zero, suc, List, [], length, Option, Some, None, Bool, true, false, true≢false, Result, Ok, Err, refl, sym, ap, subst, bytes_eq, nat_lt}
 use Rattle.std.specs.Prelude.{IfSome, if◌then◌else◌, ◌==◌, slice_index_or, unwrap_or}
 use Rattle.std.specs.FinMap.{get}
 use Rattle.std.specs.Option.{option_map}
 use Rattle.std.proofs.lemmas.Slice.Eq.{bytes_eq-Decides}
-use Rattle.bz_attribute.specs.declared.refusal.Refusal.{Refusal}
 use Rattle.bz_attribute.specs.declared.refusal.Refusal.TheVariants.{TooFar, Full, NoteTooLong}
 use Rattle.bz_items.specs.Characters.{Bytes}
 use Rattle.bz_files.specs.Folder.{Folder}
@@ -15,9 +14,9 @@ use Rattle.bz_keep.specs.Resuming.{Holds, IsToldBy, OthersStay}
 use Rattle.bz_resume.specs.Journals.{stands, text_at}
 use Rattle.bz_resume.specs.declared.fault.ResumeFault.{ResumeFault}
 use Rattle.bz_workspace.specs.Found.{PackagesFound, IsNameOf, first_name, found_at, found_in, second_name}
-use Rattle.bz_workspace.specs.Journals.{JournalGives, OpensBeside, TakesBeside, file_of_journal, lines_of_journal}
-use Rattle.bz_workspace.specs.Packages.{Opened, Used, file_at, opened_with, package_number, with_opened}
-use Rattle.bz_workspace.specs.Sessions.{Action, Do, Format, Undo, Redo, Reply, Changed, Moved, History, Answer, Leads, opened, present}
+use Rattle.bz_workspace.specs.Journals.{JournalGives, OpensBeside, TakesBeside, file_of_journal}
+use Rattle.bz_workspace.specs.Packages.{Opened, Used, file_at, package_number, with_opened}
+use Rattle.bz_workspace.specs.Sessions.{Action, Do, Format, Undo, Redo, Reply, Changed, Moved, History, Answer, Leads, present}
 use Rattle.bz_engine.specs.Keeping.{AllStand, AnswersBeside, DoesBeside, FolderBehind, IsApart, RunsBeside, Stands, UsesBeside, file_behind}
 use Rattle.bz_engine.specs.Run.{LeadsBy, Progress}
 use Rattle.bz_engine.specs.Steps.{RunStep, action_of}

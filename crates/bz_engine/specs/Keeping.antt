@@ -1,5 +1,5 @@
 -- What steps do where journals are kept: the folder goes on with them.
-use Rattle.std.specs.Prelude.{◌≡◌, ◌≢◌, ◌⊎◌, ◌||◌, Bool, true, false, ℕ, List, [], ◌∷◌, ◌++◌, length, is_err, if◌then◌else◌, Option, Some, None, Ok, Err, IfSome}
+use Rattle.std.specs.Prelude.{◌≡◌, ◌≢◌, ◌⊎◌, ◌||◌, Bool, true, false, ℕ, List, [], ◌∷◌, ◌++◌, length, is_err, Option, Some, None, Ok, Err, IfSome}
 use Rattle.std.specs.FinMap.{get}
 use Rattle.std.specs.Option.{option_map_or}
 use Rattle.bz_edit.specs.declared.edit.Edit.{Edit}

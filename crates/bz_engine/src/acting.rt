@@ -47,23 +47,25 @@ fn name_at(workspace: &Workspace, place: usize) -> &str
     }
 }
 
-// The listing of the texts of an open file. The error: memory was refused, or no file is open.
+// The listing of the texts of an open file. The error: memory was refused.
 fn listing_in(alloc: Global, used: &Used) -> Result<Text, AllocError>
+    requires { IsSome (used_in used.now).file }
     ensures { IfOk result (λ text. (file : Opened) → (used_in used.now).file ≡ Some file → text ≡ listing file.history) }
 {
     match &used.file {
         Some(file) => file.editor.listing(alloc),
-        None => Err(AllocError),
+        None => unreachable!(),
     }
 }
 
-// The listing of the texts of the open file of the package with this number. The error: memory was refused, or there is none.
+// The listing of the texts of the open file of the package with this number. The error: memory was refused.
 fn listing_at(alloc: Global, workspace: &Workspace, place: usize) -> Result<Text, AllocError>
+    requires { IsSome (file_at place workspace.now) }
     ensures { IfOk result (λ text. (file : Opened) → file_at place workspace.now ≡ Some file → text ≡ listing file.history) }
 {
     match at(workspace.used(), place) {
         Some(used) => listing_in(alloc, used),
-        None => Err(AllocError),
+        None => unreachable!(),
     }
 }
 

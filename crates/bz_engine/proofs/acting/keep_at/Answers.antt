@@ -1,4 +1,4 @@
-use Rattle.std.proofs.Common.{◌≡◌, Ok, Err, ap, refl, subst}
+use Rattle.std.proofs.Common.{Ok, Err, ap, refl, subst}
 use Rattle.bz_journal.specs.declared.keeping.KeepFault.{KeepFault}
 use Rattle.bz_journal.specs.declared.keeping.KeepFault.TheVariants.{Refused, Pair}
 use Rattle.bz_workspace.specs.Keeps.{KeepsAt}

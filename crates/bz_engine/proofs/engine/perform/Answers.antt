@@ -1,9 +1,8 @@
-use Rattle.std.proofs.Common.{inl, inr, refl, map, ap, subst, sym, List, []}
+use Rattle.std.proofs.Common.{inl, inr, refl, map, ap, subst, sym}
 use Rattle.bz_line.specs.Shown.{asked_in}
-use Rattle.bz_workspace.specs.Packages.{Used}
 use Rattle.bz_engine.specs.Keeping.{AllStand}
 use Rattle.bz_engine.specs.Outcome.{AreOfInput}
-use Rattle.bz_engine.specs.Run.{World, Progress, nothing_done}
+use Rattle.bz_engine.specs.Run.{World, Progress}
 use Rattle.bz_engine.specs.Shown.{progress_in}
 use Rattle.bz_engine.specs.Steps.{all_steps}
 use Rattle.bz_engine.proofs.Performing.{performed, performed_beside, broken_off, broken_beside, honest_still, uncut, told_apart, plain_premise, kept_premise}

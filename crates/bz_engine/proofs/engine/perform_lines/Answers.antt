@@ -1,7 +1,6 @@
-use Rattle.std.proofs.Common.{◌≡◌, ◌&&◌, ◌∙◌, true, false, true≢false, inl, inr, refl, map, sym}
+use Rattle.std.proofs.Common.{◌∙◌, true≢false, inl, inr, refl, map, sym}
 use Rattle.bz_line.specs.Shown.{asked_in}
 use Rattle.bz_engine.specs.Outcome.{unused}
-use Rattle.bz_engine.specs.Run.{World}
 use Rattle.bz_engine.specs.Steps.{names_input}
 use Rattle.bz_engine.specs.Told.{no_journal_line}
 use Rattle.bz_engine.proofs.Outcomes.{both_true, lines_premise, stands_unused, told_once}
