@@ -9,13 +9,13 @@ use Rattle.bz_ports.specs.declared.exit.Cut.{Cut}
 use Rattle.bz_ports.specs.declared.exit.Cut.TheVariants as c
 use Rattle.bz_ports.proofs.Outputs.{counts_more, tells_more}
 use Rattle.bz_ports.proofs.Written.{left-cons}
-use Rattle.bz_engine.specs.Calls.{RunSpot, DoesBetween, IsUnread, KeepsBetween, Proceeds}
+use Rattle.bz_engine.specs.Calls.{RunSpot, DoesBetween, ReadsNoInput, KeepsBetween, Proceeds}
 use Rattle.bz_engine.specs.Cuts.{AreCutBy, IsLeft, ReadsOnce}
 use Rattle.bz_ports.specs.Exits.{first_cut}
 use Rattle.bz_engine.proofs.CutSteps.{cut_more, neither_read, whole_before, whole_behind}
 use Rattle.bz_engine.proofs.ReadSteps.{reads_none, reads_more}
 use Rattle.bz_engine.proofs.StandSteps.{runs_stand}
-use Rattle.bz_engine.specs.Keeping.{AllStand, DoesBeside, RunsBeside}
+use Rattle.bz_engine.specs.Keeping.{AllAreKept, DoesBeside, RunsBeside}
 use Rattle.bz_engine.specs.Run.{World, Progress, Does, RunsSteps, ends_run}
 use Rattle.bz_engine.specs.Steps.{RunStep}
 
@@ -115,7 +115,7 @@ Passes folder keep_going steps left old new = (known : Option (List ℕ)) → Is
 
 -- the same with journals, and each open file stands
 abbrev pub Continues : Bool → List RunStep → List RunStep → RunSpot → RunSpot → Type 0
-Continues keep_going steps left old new = AllStand old.folder old.state.used → (lines : List (List ℕ)) × AllStand new.folder new.state.used
+Continues keep_going steps left old new = AllAreKept old.folder old.state.used → (lines : List (List ℕ)) × AllAreKept new.folder new.state.used
     × ((more : List (List ℕ)) (folder' : Folder) (after : Progress) → RunsBeside keep_going left new.folder new.state more folder' after
     → RunsBeside keep_going steps old.folder old.state (lines ++ more) folder' after)
     × Tells old.faults new.faults old.told new.told lines
@@ -125,7 +125,7 @@ pub record Part (journals : Bool) (Premise : Type 0) (keep_going : Bool) (steps 
   pub runs : journals ≡ false → (old.honest ≡ true) ⊎ Premise → why ≡ c.Whole → Passes old.folder keep_going steps left old new
   pub folder : journals ≡ false → (old.honest ≡ true) ⊎ Premise → new.folder ≡ old.folder
   pub keeps : journals ≡ true → old.honest ≡ true → why ≡ c.Whole → Continues keep_going steps left old new
-  pub unread : journals ≡ true → IsUnread why old new
+  pub unread : journals ≡ true → ReadsNoInput why old new
   pub cut : AreCutBy why old.reads new.reads old.files new.files
   pub reads : Counts old.reads new.reads
   pub counts : Counts old.files new.files

@@ -17,7 +17,7 @@ use Rattle.bz_workspace.specs.Found.{PackagesFound, IsNameOf, first_name, found_
 use Rattle.bz_workspace.specs.Journals.{JournalGives, OpensBeside, TakesBeside, file_of_journal}
 use Rattle.bz_workspace.specs.Packages.{Opened, Used, file_at, package_number, with_opened}
 use Rattle.bz_workspace.specs.Sessions.{Action, Do, Format, Undo, Redo, Reply, Changed, Moved, History, Answer, Leads, present}
-use Rattle.bz_engine.specs.Keeping.{AllStand, AnswersBeside, DoesBeside, FolderBehind, IsApart, RunsBeside, Stands, UsesBeside, file_behind}
+use Rattle.bz_engine.specs.Keeping.{AllAreKept, AnswersBeside, DoesBeside, FolderBehind, IsApart, RunsBeside, IsKeptIn, UsesBeside, file_behind}
 use Rattle.bz_engine.specs.Run.{LeadsBy, Progress}
 use Rattle.bz_engine.specs.Steps.{RunStep, action_of}
 use Rattle.bz_workspace.proofs.NameSteps.{apart as packages_apart}
@@ -162,7 +162,7 @@ goes_on_behind (Err refusal) file history folder folder' (inl same) still holds 
 goes_on_behind (Err refusal) file history folder folder' (inr (replies, same, texts)) still holds = absurd (let e = replies.1 in cc)
 
 stands_behind : (answer : Answer) (current : Bytes) (file : Opened) (history : History) (folder folder' : Folder) → Follows answer file.history history
-    → FolderBehind answer file history folder folder' → Stands folder current file → Stands folder' current (file_behind answer history file)
+    → FolderBehind answer file history folder folder' → IsKeptIn folder current file → IsKeptIn folder' current (file_behind answer history file)
 stands_behind (Ok reply) current file history folder folder' follows behind stands = record {
   named = stands.named;
   stays = stands.stays;
@@ -184,7 +184,7 @@ others_behind (Err refusal) file history folder folder' still = λ name a b c d.
 
 -- A file of another package stands as it did.
 other_stands : (folder folder' : Folder) (current other name : Bytes) (file : Opened) → IsNameOf current name → other ≢ current → OthersStay name folder folder'
-    → Stands folder other file → Stands folder' other file
+    → IsKeptIn folder other file → IsKeptIn folder' other file
 other_stands folder folder' current other name file named differs stay stands =
     let apart = packages_apart other current file.name name differs stands.named named in
     let same : get folder' file.name ≡ get folder file.name =
@@ -201,12 +201,12 @@ other_stands folder folder' current other name file named differs stay stands =
     }
 
 may_stand : (folder folder' : Folder) (current other name : Bytes) (file : Option Opened) → IsNameOf current name → other ≢ current
-    → OthersStay name folder folder' → IfSome file (Stands folder other) → IfSome file (Stands folder' other)
+    → OthersStay name folder folder' → IfSome file (IsKeptIn folder other) → IfSome file (IsKeptIn folder' other)
 may_stand folder folder' current other name None named differs stay stands = tt
 may_stand folder folder' current other name (Some file) named differs stay stands = other_stands folder folder' current other name file named differs stay stands
 
 others_stand : (folder folder' : Folder) (current name : Bytes) (used : List Used) → IsNameOf current name → IsApart current used
-    → OthersStay name folder folder' → AllStand folder used → AllStand folder' used
+    → OthersStay name folder folder' → AllAreKept folder used → AllAreKept folder' used
 others_stand folder folder' current name [] named apart stay all = tt
 others_stand folder folder' current name (used ∷ more) named apart stay all = (
   may_stand folder folder' current used.«package» name used.file named apart.0 stay all.0,
@@ -215,20 +215,20 @@ others_stand folder folder' current name (used ∷ more) named apart stay all = 
 )
 
 -- the package of an open file, from which all differ that differ from each
-pub package_at : (folder : Folder) (place : ℕ) (used : List Used) (file : Opened) → file_at place used ≡ Some file → AllStand folder used
-    → (current : Bytes) × Stands folder current file × ((other : Bytes) → IsApart other used → current ≢ other)
+pub package_at : (folder : Folder) (place : ℕ) (used : List Used) (file : Opened) → file_at place used ≡ Some file → AllAreKept folder used
+    → (current : Bytes) × IsKeptIn folder current file × ((other : Bytes) → IsApart other used → current ≢ other)
 package_at folder place [] file at all = absurd (let e = at in cc)
 package_at folder zero (used ∷ more) file at all =
-    (used.«package», subst (λ (it : Option Opened). IfSome it (Stands folder used.«package»)) at all.0, λ other apart. apart.0)
+    (used.«package», subst (λ (it : Option Opened). IfSome it (IsKeptIn folder used.«package»)) at all.0, λ other apart. apart.0)
 package_at folder (suc place) (used ∷ more) file at all =
     let found = package_at folder place more file at all.2 in (found.0, found.1, λ other apart. found.2 other apart.1)
 
 all_behind : (answer : Answer) (place : ℕ) (used : List Used) (file : Opened) (history : History) (folder folder' : Folder)
-    → file_at place used ≡ Some file → Follows answer file.history history → FolderBehind answer file history folder folder' → AllStand folder used
-    → AllStand folder' (with_opened place (Some (file_behind answer history file)) used)
+    → file_at place used ≡ Some file → Follows answer file.history history → FolderBehind answer file history folder folder' → AllAreKept folder used
+    → AllAreKept folder' (with_opened place (Some (file_behind answer history file)) used)
 all_behind answer place [] file history folder folder' at follows behind all = tt
 all_behind answer zero (used ∷ more) file history folder folder' at follows behind all =
-    let stood : Stands folder used.«package» file = subst (λ (it : Option Opened). IfSome it (Stands folder used.«package»)) at all.0 in (
+    let stood : IsKeptIn folder used.«package» file = subst (λ (it : Option Opened). IfSome it (IsKeptIn folder used.«package»)) at all.0 in (
       stands_behind answer used.«package» file history folder folder' follows behind stood,
       all.1,
       others_stand folder folder' used.«package» file.name more stood.named all.1 (others_behind answer file history folder folder' behind) all.2,
@@ -259,7 +259,7 @@ stands_text h text at is = go (bytes_eq text (text_at h h.cursor)) (bytes_eq tex
     go false false here there is = absurd (let e = is in cc)
 
 given_stands : (folder : Folder) (current name text bytes : Bytes) (given : Result History ResumeFault) → IsNameOf current name → get folder name ≡ Some text
-    → get folder (journal_name name) ≡ Some bytes → JournalGives current bytes text given → IfSome (file_of_journal name text given) (Stands folder current)
+    → get folder (journal_name name) ≡ Some bytes → JournalGives current bytes text given → IfSome (file_of_journal name text given) (IsKeptIn folder current)
 given_stands folder current name text bytes (Err fault) named there beside comes = tt
 given_stands folder current name text bytes (Ok history) named there beside (h, at, ((es, journal), stood), of, is) =
     let here : text_at h at ≡ text = stands_text h text at stood in
@@ -274,58 +274,58 @@ given_stands folder current name text bytes (Ok history) named there beside (h, 
 
 takes_stand : (folder : Folder) (current name text : Bytes) (journal : Option Bytes) (file : Option Opened) (lines : List Bytes) → IsNameOf current name
     → get folder name ≡ Some text → get folder (journal_name name) ≡ journal → TakesBeside journal current name text file lines
-    → IfSome file (Stands folder current)
+    → IfSome file (IsKeptIn folder current)
 takes_stand folder current name text None file lines named there beside (inl opens) =
-    subst (λ (it : Option Opened). IfSome it (Stands folder current)) (sym opens.1)
+    subst (λ (it : Option Opened). IfSome it (IsKeptIn folder current)) (sym opens.1)
     (record { named = named; stays = refl; holds = record { holds = there; history = inl (beside, refl) } })
 takes_stand folder current name text None file lines named there beside (inr refused) =
-    subst (λ (it : Option Opened). IfSome it (Stands folder current)) (sym refused.1.2) tt
+    subst (λ (it : Option Opened). IfSome it (IsKeptIn folder current)) (sym refused.1.2) tt
 takes_stand folder current name text (Some bytes) file lines named there beside (given, comes, is, told) =
-    subst (λ (it : Option Opened). IfSome it (Stands folder current)) (sym is) (given_stands folder current name text bytes given named there beside comes)
+    subst (λ (it : Option Opened). IfSome it (IsKeptIn folder current)) (sym is) (given_stands folder current name text bytes given named there beside comes)
 
 opens_stand : (folder : Folder) (current : Bytes) (found : Option PackagesFound) (file : Option Opened) (lines : List Bytes) → found_in folder current ≡ found
-    → OpensBeside true folder current found file lines → IfSome file (Stands folder current)
-opens_stand folder current None file lines is opens = subst (λ (it : Option Opened). IfSome it (Stands folder current)) (sym opens.0) tt
+    → OpensBeside true folder current found file lines → IfSome file (IsKeptIn folder current)
+opens_stand folder current None file lines is opens = subst (λ (it : Option Opened). IfSome it (IsKeptIn folder current)) (sym opens.0) tt
 opens_stand folder current (Some found) file lines is opens =
     let held = found_holds folder current found.0 found.1 is in
     takes_stand folder current found.0 found.1 (get folder (journal_name found.0)) file lines held.0 held.1 refl opens
 
-stand_last : (folder : Folder) (used : List Used) (one : Used) → AllStand folder used → IfSome one.file (Stands folder one.«package») → IsApart one.«package» used
-    → AllStand folder (used ++ one ∷ [])
+stand_last : (folder : Folder) (used : List Used) (one : Used) → AllAreKept folder used → IfSome one.file (IsKeptIn folder one.«package») → IsApart one.«package» used
+    → AllAreKept folder (used ++ one ∷ [])
 stand_last folder [] one all stands apart = (stands, tt, tt)
 stand_last folder (used ∷ more) one all stands apart =
     (all.0, apart_last used.«package» more one all.1 (λ is. apart.0 (sym is)), stand_last folder more one all.2 stands apart.1)
 
 pub uses_stand : (folder : Folder) (current : Bytes) (before : List Used) (place : ℕ) (lines : List Bytes) (after : List Used)
-    → UsesBeside folder current before place lines after → AllStand folder before → AllStand folder after
-uses_stand folder current before place lines after (inl again) all = subst (AllStand folder) (sym again.2) all
+    → UsesBeside folder current before place lines after → AllAreKept folder before → AllAreKept folder after
+uses_stand folder current before place lines after (inl again) all = subst (AllAreKept folder) (sym again.2) all
 uses_stand folder current before place lines after (inr (none, number, (file, opens, new))) all =
-    subst (AllStand folder) (sym new) (stand_last folder before (record { «package» = current; file = file }) all
+    subst (AllAreKept folder) (sym new) (stand_last folder before (record { «package» = current; file = file }) all
     (opens_stand folder current (found_in folder current) file lines refl opens) (apart_from current before none))
 
 -- ---- steps
 
 answers_stand : (step : RunStep) (place : ℕ) (found : Option Opened) (folder folder' : Folder) (state after : Progress) (lines : List Bytes)
-    → file_at place state.used ≡ found → AnswersBeside step place found folder state lines folder' after → AllStand folder state.used
-    → AllStand folder' after.used
+    → file_at place state.used ≡ found → AnswersBeside step place found folder state lines folder' after → AllAreKept folder state.used
+    → AllAreKept folder' after.used
 answers_stand step place None folder folder' state after lines at (told, still, is) all =
-    subst (λ (now : Progress). AllStand folder' now.used) (sym is) (subst (λ (f : Folder). AllStand f state.used) (sym still) all)
+    subst (λ (now : Progress). AllAreKept folder' now.used) (sym is) (subst (λ (f : Folder). AllAreKept f state.used) (sym still) all)
 answers_stand step place (Some file) folder folder' state after lines at (answer, history, leads, behind, told, is) all =
-    subst (λ (now : Progress). AllStand folder' now.used) (sym is)
+    subst (λ (now : Progress). AllAreKept folder' now.used) (sym is)
     (all_behind answer place state.used file history folder folder' at
     (follows_by (action_of step.target step.asking.verb) step.asking.text file.history history answer leads) behind all)
 
 pub does_stand : (step : RunStep) (folder folder' : Folder) (before after : Progress) (lines : List Bytes) → DoesBeside step folder before lines folder' after
-    → AllStand folder before.used → AllStand folder' after.used
+    → AllAreKept folder before.used → AllAreKept folder' after.used
 does_stand step folder folder' before after lines does all =
     answers_stand step does.place (file_at does.place does.used) folder folder' (record before { used = does.used }) after does.answer refl does.answers
     (uses_stand folder step.target.«package» before.used does.place does.opening does.used does.uses all)
 
 pub runs_stand : (keep_going : Bool) (steps : List RunStep) (folder folder' : Folder) (before after : Progress) (lines : List Bytes)
-    → RunsBeside keep_going steps folder before lines folder' after → AllStand folder before.used → AllStand folder' after.used
+    → RunsBeside keep_going steps folder before lines folder' after → AllAreKept folder before.used → AllAreKept folder' after.used
 runs_stand keep_going [] folder folder' before after lines (told, still, is) all =
-    subst (λ (now : Progress). AllStand folder' now.used) (sym is) (subst (λ (f : Folder). AllStand f before.used) (sym still) all)
+    subst (λ (now : Progress). AllAreKept folder' now.used) (sym is) (subst (λ (f : Folder). AllAreKept f before.used) (sym still) all)
 runs_stand keep_going (step ∷ steps) folder folder' before after lines (inl (ended, told, still, is)) all =
-    subst (λ (now : Progress). AllStand folder' now.used) (sym is) (subst (λ (f : Folder). AllStand f before.used) (sym still) all)
+    subst (λ (now : Progress). AllAreKept folder' now.used) (sym is) (subst (λ (f : Folder). AllAreKept f before.used) (sym still) all)
 runs_stand keep_going (step ∷ steps) folder folder' before after lines (inr (goes, (between, mid, first, rest, does, runs, told))) all =
     runs_stand keep_going steps between folder' mid after rest runs (does_stand step folder between before mid first does all)

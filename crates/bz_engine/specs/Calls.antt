@@ -13,7 +13,7 @@ use Rattle.bz_ports.specs.declared.sink.Sink.{Ghosts as SinkOf}
 use Rattle.bz_ports.specs.declared.source.Source.{Ghosts as SourceOf}
 use Rattle.bz_engine.specs.Cuts.{AreCutBy, IsEndedBy, IsLeft, CutsFiles, ReadsOnce}
 use Rattle.bz_engine.specs.Ending.{Left, LeftStands}
-use Rattle.bz_engine.specs.Keeping.{AllStand}
+use Rattle.bz_engine.specs.Keeping.{AllAreKept}
 use Rattle.bz_engine.specs.Run.{World, Progress}
 use Rattle.bz_engine.specs.Shown.{progress_in}
 use Rattle.bz_engine.specs.declared.run.Run.{Run}
@@ -111,12 +111,12 @@ DoesBetween folder Does old new = (known : Option Bytes) → IsLeft known old.st
     × Tells old.faults new.faults old.told new.told lines
 
 -- Nothing is read of standard input, from one spot to another. (Why that is cut.)
-abbrev pub IsUnread : Cut → RunSpot → RunSpot → Type 0
-IsUnread why old new = (new.left ≡ old.left) × (new.reads ≡ old.reads) × (why ≢ c.Read)
+abbrev pub ReadsNoInput : Cut → RunSpot → RunSpot → Type 0
+ReadsNoInput why old new = (new.left ≡ old.left) × (new.reads ≡ old.reads) × (why ≢ c.Read)
 
 -- This is done from one spot to another, and in the folder, where each open file stands; and its lines are told.
 abbrev pub KeepsBetween : (Folder → Progress → List Bytes → Folder → Progress → Type 0) → RunSpot → RunSpot → Type 0
-KeepsBetween Keeps old new = AllStand old.folder old.state.used → (lines : List Bytes)
+KeepsBetween Keeps old new = AllAreKept old.folder old.state.used → (lines : List Bytes)
     × Keeps old.folder old.state lines new.folder new.state
     × Tells old.faults new.faults old.told new.told lines
 
@@ -128,7 +128,7 @@ pub record Proceeds (journals : Bool) (Premise : Type 0) (Does : World → Progr
   pub folder : journals ≡ false → (old.honest ≡ true) ⊎ Premise → new.folder ≡ old.folder
   pub input : journals ≡ false → Premise → ReadsOnce why old.state new.state
   pub keeps : journals ≡ true → old.honest ≡ true → why ≡ c.Whole → KeepsBetween Keeps old new
-  pub unread : journals ≡ true → IsUnread why old new
+  pub unread : journals ≡ true → ReadsNoInput why old new
   pub cut : AreCutBy why old.reads new.reads old.files new.files
   pub reads : Counts old.reads new.reads
   pub counts : Counts old.files new.files

@@ -43,7 +43,7 @@ state_behind place file answer history state = record {
 
 -- A history is kept beside the file of this name: FILE.journal is what is saved of it, FILE holds the present text and goes on with all of
 -- its texts, and each other name stays, but the two under which these are written first.
-pub record KeepsPair (name : Bytes) (history : History) (before after : Folder) : Type 0 where
+pub record KeepsHistory (name : Bytes) (history : History) (before after : Folder) : Type 0 where
   pub steps : List (List Edit)
   pub saved : get after (journal_name name) ≡ Some (journal_text history steps)
   pub holds : Holds after name history.«package» (present history) history.texts
@@ -53,7 +53,7 @@ pub record KeepsPair (name : Bytes) (history : History) (before after : Folder) 
 abbrev pub FolderBehind : Answer → Opened → History → Folder → Folder → Type 0
 FolderBehind (Ok reply) file history before after =
     ((history.cursor ≡ file.history.cursor) × (after ≡ before))
-    ⊎ ((history.cursor ≢ file.history.cursor) × KeepsPair file.name history before after)
+    ⊎ ((history.cursor ≢ file.history.cursor) × KeepsHistory file.name history before after)
 FolderBehind (Err refusal) file history before after = after ≡ before
 
 -- In a package without an open file a step does nothing and fails.
@@ -101,7 +101,7 @@ abbrev pub is_left_at : ℕ → List Used → Bool
 is_left_at place used = option_map_or (λ (file : Opened). file.left) (file_at place used) false
 
 -- A file of a package is not left alone, and it goes on in the folder: it holds its present text, and its journal tells its history.
-pub record Stands (folder : Folder) (current : Bytes) (file : Opened) : Type 0 where
+pub record IsKeptIn (folder : Folder) (current : Bytes) (file : Opened) : Type 0 where
   pub named : IsNameOf current file.name
   pub stays : file.left ≡ false
   pub holds : Holds folder file.name file.history.«package» (present file.history) file.history.texts
@@ -112,6 +112,6 @@ IsApart current [] = Unit {0}
 IsApart current (used ∷ more) = (used.«package» ≢ current) × IsApart current more
 
 -- each open file stands, and all packages differ
-abbrev pub AllStand : Folder → List Used → Type 0
-AllStand folder [] = Unit {0}
-AllStand folder (used ∷ more) = IfSome used.file (Stands folder used.«package») × IsApart used.«package» more × AllStand folder more
+abbrev pub AllAreKept : Folder → List Used → Type 0
+AllAreKept folder [] = Unit {0}
+AllAreKept folder (used ∷ more) = IfSome used.file (IsKeptIn folder used.«package») × IsApart used.«package» more × AllAreKept folder more

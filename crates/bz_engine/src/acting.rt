@@ -8,7 +8,7 @@ ghost use Rattle.bz_line.specs.Shown.{asking_in};
 ghost use Rattle.bz_workspace.specs.Packages.{Opened, file_at};
 ghost use Rattle.bz_workspace.specs.Shown.{used_in};
 ghost use Rattle.bz_engine.specs.Calls.{TellsLines, WorksOn, spot, Proceeds};
-ghost use Rattle.bz_engine.specs.Keeping.{AllStand, AnswersBeside, DoesBeside, FolderBehind, is_left_at, state_behind};
+ghost use Rattle.bz_engine.specs.Keeping.{AllAreKept, AnswersBeside, DoesBeside, FolderBehind, is_left_at, state_behind};
 ghost use Rattle.bz_engine.specs.Run.{Answers, Does, printed_in, answered, told_of};
 ghost use Rattle.bz_engine.specs.Shown.{progress_in};
 ghost use Rattle.bz_engine.specs.Steps.{input_package, step_of};
@@ -192,7 +192,7 @@ fn keep_at<F: Files, E: Sink>(
     err: &mut E,
 ) -> Cut
     requires { IsSome (file_at place run.old.workspace) }
-    ensures whole { F.honest files.old ≡ true → AllStand (F.folder files.old) run.old.workspace → result ≡ Cut.Whole
+    ensures whole { F.honest files.old ≡ true → AllAreKept (F.folder files.old) run.old.workspace → result ≡ Cut.Whole
         → (file : Opened) × (answer : Answer) × (history : History) × (file_at place run.old.workspace ≡ Some file)
         × Leads (action_in action.now) command.now file.history answer history
         × FolderBehind answer file history (F.folder files.old) (F.folder files.new)
@@ -228,7 +228,7 @@ fn act_on<F: Files, E: Sink>(
         × Answers (step_of target.now (asking_in asking.now)) place (file_at place run.old.workspace) (progress_in run.old) lines (progress_in run.new)
         × TellsLines E.Sink err.old err.new lines }
     ensures still { journals ≡ false → files.new ≡ files.old }
-    ensures beside { journals ≡ true → F.honest files.old ≡ true → AllStand (F.folder files.old) run.old.workspace → result ≡ Cut.Whole
+    ensures beside { journals ≡ true → F.honest files.old ≡ true → AllAreKept (F.folder files.old) run.old.workspace → result ≡ Cut.Whole
         → (lines : List (List ℕ)) × AnswersBeside (step_of target.now (asking_in asking.now)) place (file_at place run.old.workspace)
         (F.folder files.old) (progress_in run.old) lines (F.folder files.new) (progress_in run.new)
         × TellsLines E.Sink err.old err.new lines }

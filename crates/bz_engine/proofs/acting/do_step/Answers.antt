@@ -3,7 +3,7 @@ use Rattle.bz_line.specs.Shown.{asking_in}
 use Rattle.bz_ports.proofs.Outputs.{counts_more, tells_more}
 use Rattle.bz_files.specs.Folder.{Folder}
 use Rattle.bz_workspace.specs.Packages.{file_at}
-use Rattle.bz_engine.specs.Keeping.{AllStand}
+use Rattle.bz_engine.specs.Keeping.{AllAreKept}
 use Rattle.bz_engine.specs.Shown.{progress_in}
 use Rattle.bz_engine.specs.Steps.{input_package, step_of}
 use Rattle.bz_engine.proofs.CutSteps.{both_whole, by_name, cut_behind, neither_read, works_unread}
@@ -49,7 +49,7 @@ returns-in-Some g c =
           let opened = opening.ensures.beside kept honest both.0 in
           let still = opening.ensures.kept kept honest in
           let stood = uses_stand (folder c.args.files.now) name before.used opened.0 opened.1 used opened.2 stand in
-          let done = c.act_on.ensures.beside kept (opening.ensures.honest ∙ honest) (subst (λ (f : Folder). AllStand f used) (sym still) stood) both.1 in (
+          let done = c.act_on.ensures.beside kept (opening.ensures.honest ∙ honest) (subst (λ (f : Folder). AllAreKept f used) (sym still) stood) both.1 in (
             opened.1 ++ done.0,
             beside_there step (folder c.args.files.now) (folder opening.new.files) (folder c.act_on.new.files) before after used opening.result.place opened.0 at name
                 opened.1 done.0 named still opened.2 c.in-Some.is opened.3 done.1,

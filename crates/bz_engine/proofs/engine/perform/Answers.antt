@@ -1,6 +1,6 @@
 use Rattle.std.proofs.Common.{inl, inr, refl, map, ap, subst, sym}
 use Rattle.bz_line.specs.Shown.{asked_in}
-use Rattle.bz_engine.specs.Keeping.{AllStand}
+use Rattle.bz_engine.specs.Keeping.{AllAreKept}
 use Rattle.bz_engine.specs.Outcome.{AreOfInput}
 use Rattle.bz_engine.specs.Run.{World, Progress}
 use Rattle.bz_engine.specs.Shown.{progress_in}
@@ -35,7 +35,7 @@ returns-clause-whole g c premise is_whole =
           ended.2 done.3 ended.5
       | inr kept ↦
           let honest = kept_premise (g.F.Files.honest c.args.files.now) options.journal (AreOfInput lines) kept premise in
-          let done = ran.ensures.keeps kept honest ended.0 (subst (λ (from : Progress). AllStand (folder c.args.files.now) from.used) (sym begun_is) tt) in
+          let done = ran.ensures.keeps kept honest ended.0 (subst (λ (from : Progress). AllAreKept (folder c.args.files.now) from.used) (sym begun_is) tt) in
           performed_beside options (all_steps lines) world start done.0 state c.shows_input.result c.finish.result.status
           (folder ran.new.files) (folder c.finish.new.files) (g.W.Sink.contents c.args.out.now) (g.W.Sink.contents c.finish.new.out)
           (g.E.Sink.faults c.args.err.now) (g.E.Sink.faults ran.new.err) (g.E.Sink.faults c.finish.new.err)
@@ -67,7 +67,7 @@ returns-clause-write g c premise is_write =
           (ran.ensures.folder plain can) (c.finish.ensures.writes plain still ended.0 (inr is_write)) ended.1
       | inr kept ↦
           let honest = kept_premise (g.F.Files.honest c.args.files.now) options.journal (AreOfInput lines) kept premise in
-          let done = ran.ensures.keeps kept honest ended.0 (subst (λ (from : Progress). AllStand (folder c.args.files.now) from.used) (sym begun_is) tt) in
+          let done = ran.ensures.keeps kept honest ended.0 (subst (λ (from : Progress). AllAreKept (folder c.args.files.now) from.used) (sym begun_is) tt) in
           broken_beside options (all_steps lines) world start done.0 state c.shows_input.result (folder ran.new.files) (folder c.finish.new.files)
           (g.W.Sink.contents c.args.out.now) (g.W.Sink.contents c.finish.new.out) kept begun_is done.1 c.shows_input.ensures
           (ap folder (c.finish.ensures.kept kept)) ended.1
