@@ -1,10 +1,9 @@
 -- A named argument with another value: its name, and its value once more changed.
-use Rattle.std.proofs.Common.{◌≡◌, ℕ, Bool, true, false, ◌||◌, List, [], ◌∷◌, ◌++◌, length, take, drop, arith, refl, sym, ap, ◌∙◌, true≢false, inl, inr}
+use Rattle.std.proofs.Common.{◌≡◌, Bool, true, false, ◌||◌, List, [], ◌∷◌, refl, sym, ap, ◌∙◌, true≢false, inl, inr}
 use Rattle.std.specs.Prelude.{Option, Some, None, is_some, if◌then◌else◌}
 use Rattle.std.specs.List.{list_any, slice_index_or}
 use Rattle.std.specs.Option.{option_and_then}
 use Rattle.std.proofs.lemmas.Bool.{cases_Bool}
-use Rattle.std.proofs.lemmas.Grind.{common_steps}
 use Rattle.bz_tree.specs.declared.kind.Kind.{Kind}
 use Rattle.bz_tree.specs.declared.kind.Kind.TheVariants as k
 use Rattle.bz_tree.specs.Shapes.{is_kind}
@@ -37,17 +36,6 @@ pub row_Form : (kind : Kind) (change : List Expr → List Expr) (f : Form) → o
 row_Form kind change f =
     ap (λ (x : Expr). if is_kind f.kind kind then x else e.Form f)
     (ap (λ xs. with_parts (change xs) (e.Form f)) (parts_Form f) ∙ with_parts_Form (change f.parts) f)
-
--- ---- a form whose row is taken out, changed and put back
-
--- a form of the kind with its row changed
-pub row_changed : (kind : Kind) (change : List Expr → List Expr) (f : Form) (ps : List Expr) → is_kind f.kind kind ≡ true → ps ≡ change f.parts → in_form f ps f.seq.items ≡ on_row kind change (e.Form f)
-row_changed kind change f ps is row =
-    ap (λ xs. in_form f xs f.seq.items) row ∙ sym (row_Form kind change f ∙ if_true (is_kind f.kind kind) (in_form f (change f.parts) f.seq.items) (e.Form f) is)
-
--- a vector of so many elements into which as many were written
-pub written_back : {X : Type 0} (n : ℕ) (new now items : List X) → length new ≡ length now → now ≡ items → length now ≡ n → take n (new ++ drop (length new) items) ≡ new
-written_back n new now items as_long same many = grind (arith, common_steps)
 
 -- ---- a named argument with other parts
 

@@ -12,6 +12,7 @@ use Rattle.std.proofs.lemmas.Map.Text.{is_eq-slice_cmp}
 use Rattle.std.proofs.lemmas.Slice.Eq.{bytes_eq-Decides}
 use Rattle.std.specs.declared.alloc.Global.{Global}
 use Rattle.bz_items.specs.Characters.{Bytes}
+use Rattle.bz_attribute.specs.Sets.{texts_of}
 
 -- ---- any of a list
 
@@ -63,23 +64,19 @@ equal_texts xs ys e = (bytes_eq-Decides xs ys).0 e
 abbrev pub text_cmp : Vec ℕ Global → Vec ℕ Global → Ordering
 text_cmp one other = slice_cmp nat_cmp one.items other.items
 
--- the texts of a set
-abbrev pub texts_in : BTreeSet (Vec ℕ Global) → List Bytes
-texts_in set = map (λ (text : Vec ℕ Global). text.items) set.keys
-
 text_alike : (word : Bytes) (one other : Vec ℕ Global) → text_cmp one other ≡ Equal → bytes_eq word one.items ≡ bytes_eq word other.items
 text_alike word one other e = ap (bytes_eq word) (equal_texts one.items other.items (sym (is_eq-slice_cmp one.items other.items) ∙ ap is_eq e))
 
-pub text_found : (set : BTreeSet (Vec ℕ Global)) (word : Bytes) → list_any (is_at (λ (text : Vec ℕ Global). slice_cmp nat_cmp word text.items)) set.keys ≡ list_any (bytes_eq word) (texts_in set)
+pub text_found : (set : BTreeSet (Vec ℕ Global)) (word : Bytes) → list_any (is_at (λ (text : Vec ℕ Global). slice_cmp nat_cmp word text.items)) set.keys ≡ list_any (bytes_eq word) (texts_of set)
 text_found set word =
     any_like (is_at (λ (text : Vec ℕ Global). slice_cmp nat_cmp word text.items)) (λ (text : Vec ℕ Global). bytes_eq word text.items) (λ text. is_eq-slice_cmp word text.items) set.keys
     ∙ sym (any_map (bytes_eq word) (λ (text : Vec ℕ Global). text.items) set.keys)
 
 pub text_inserted : (old new : BTreeSet (Vec ℕ Global)) (text : Vec ℕ Global) (bytes word : Bytes) → text.items ≡ bytes → new.keys ≡ insert_key text_cmp old.keys text
-    → list_any (bytes_eq word) (texts_in new) ≡ (bytes_eq word bytes || list_any (bytes_eq word) (texts_in old))
+    → list_any (bytes_eq word) (texts_of new) ≡ (bytes_eq word bytes || list_any (bytes_eq word) (texts_of old))
 text_inserted old new text bytes word same e =
     ap (λ keys. list_any (bytes_eq word) (map (λ (other : Vec ℕ Global). other.items) keys)) e
     ∙ (any_map (bytes_eq word) (λ (other : Vec ℕ Global). other.items) (insert_key text_cmp old.keys text)
     ∙ (any_inserted text_cmp (λ (other : Vec ℕ Global). bytes_eq word other.items) (text_alike word) old.keys text
     ∙ (ap (λ z. bytes_eq word text.items || z) (sym (any_map (bytes_eq word) (λ (other : Vec ℕ Global). other.items) old.keys))
-    ∙ ap (λ z. bytes_eq word z || list_any (bytes_eq word) (texts_in old)) same)))
+    ∙ ap (λ z. bytes_eq word z || list_any (bytes_eq word) (texts_of old)) same)))

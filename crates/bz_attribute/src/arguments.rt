@@ -22,7 +22,7 @@ pub fn has_kind(kind: Kind, x: &Expr) -> bool
 {
     match x {
         Expr::Token(_) => false,
-        Expr::Form(form) => form.kind.number() == kind.number(),
+        Expr::Form(form) => form.kind == kind,
     }
 }
 
@@ -62,17 +62,17 @@ fn first_starred(arguments: &[Expr]) -> Option<usize>
 }
 
 /// Exchanges an expression for the operand behind the sign.
-fn swap_third(other: &mut Expr, parts: &mut [Expr])
+fn swap_third(other: &mut Expr, parts: &mut Items<Expr>)
     ensures parts { parts.new ≡ on_third (λ _. other.old) parts.old }
     ensures other { other.new ≡ slice_index_or parts.old 2 other.old }
 {
-    if let [_, _, third, ..] = parts {
+    if let [_, _, third, ..] = parts.as_mut_slice() {
         mem::swap(third, other);
     }
 }
 
 /// Exchanges an expression for the value of a named argument.
-fn swap_value(alloc: Global, other: &mut Expr, argument: &mut Expr)
+fn swap_value(other: &mut Expr, argument: &mut Expr)
     ensures argument { argument.new ≡ on_value (λ _. other.old) argument.old }
     ensures other { (name : Bytes) → is_attribute name argument.old ≡ true → Some other.new ≡ value_named name argument.old }
 {
@@ -80,32 +80,28 @@ fn swap_value(alloc: Global, other: &mut Expr, argument: &mut Expr)
         Expr::Token(_) => {}
         Expr::Form(form) => {
             if form.kind == Kind::Named {
-                let mut parts = mem::replace(&mut form.parts, Items::new(alloc)).into_vec();
-                swap_third(other, parts.as_mut_slice());
-                form.parts = Items::from_vec(parts);
+                swap_third(other, &mut form.parts);
             }
         }
     }
 }
 
 /// Exchanges an expression for the value of the first attribute of the name.
-fn swap_in(alloc: Global, name: &[u8], other: &mut Expr, arguments: &mut [Expr])
+fn swap_in(name: &[u8], other: &mut Expr, arguments: &mut [Expr])
     ensures arguments { arguments.new ≡ with_value name.now other.old arguments.old }
     ensures other { has_attribute name.now arguments.old ≡ true → Some other.new ≡ attribute name.now arguments.old }
 {
     if let Some(at) = place_of(name, arguments) {
-        swap_value(alloc, other, &mut arguments[at]);
+        swap_value(other, &mut arguments[at]);
     }
 }
 
 /// The same for a list that can grow.
-fn swap_first(alloc: Global, name: &[u8], other: &mut Expr, arguments: &mut Items<Expr>)
+fn swap_first(name: &[u8], other: &mut Expr, arguments: &mut Items<Expr>)
     ensures arguments { arguments.new ≡ with_value name.now other.old arguments.old }
     ensures other { has_attribute name.now arguments.old ≡ true → Some other.new ≡ attribute name.now arguments.old }
 {
-    let mut all = mem::replace(arguments, Items::new(alloc)).into_vec();
-    swap_in(alloc, name, other, all.as_mut_slice());
-    *arguments = Items::from_vec(all);
+    swap_in(name, other, arguments.as_mut_slice());
 }
 
 /// Takes the value of the attribute out. What stands in its place until `set_value` puts a value there, or `remove_first`
@@ -120,16 +116,16 @@ pub fn take_value(alloc: Global, name: &[u8], arguments: &mut Items<Expr>) -> Op
         return None;
     }
     let mut value = token(Class::Name, Text::from_vec(Vec::new(alloc)));
-    swap_first(alloc, name, &mut value, arguments);
+    swap_first(name, &mut value, arguments);
     Some(value)
 }
 
 /// The value becomes the attribute's.
-pub fn set_value(alloc: Global, name: &[u8], value: Expr, arguments: &mut Items<Expr>)
+pub fn set_value(name: &[u8], value: Expr, arguments: &mut Items<Expr>)
     ensures { arguments.new ≡ with_value name.now value arguments.old }
 {
     let mut old = value;
-    swap_first(alloc, name, &mut old, arguments);
+    swap_first(name, &mut old, arguments);
 }
 
 /// Puts an argument before the first starred one, else last.
@@ -189,7 +185,7 @@ pub fn put(
     ensures { OnOk result (arguments.new ≡ put name.now value arguments.old) }
 {
     if has_attribute(name, arguments.as_slice()) {
-        set_value(alloc, name, value, arguments);
+        set_value(name, value, arguments);
         return Ok(());
     }
     add_attribute(alloc, name, value, arguments)

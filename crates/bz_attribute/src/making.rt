@@ -1,12 +1,12 @@
 //! New parts of a file value: no comments, no sequence split, no break. Where memory is refused, what a function was given is handed
 //! to `drop`: let go of by the end of its scope, each form of it would be a path of that function's proof.
-ghost use Rattle.std.specs.Prelude.{◌≡◌, IfOk, [], ◌∷◌, ◌++◌, nat_eq, nat_lt, codes, position, length, ◌<◌, IfSome};
+ghost use Rattle.std.specs.Prelude.{◌≡◌, IfOk, OnOk, [], ◌∷◌, ◌++◌, nat_eq, nat_lt, codes, position, length, ◌<◌, IfSome};
 ghost use Rattle.std.specs.List.{slice_split};
 ghost use Rattle.std.specs.Option.{option_map_or};
 ghost use Rattle.bz_tree.specs.declared.kind.Kind.TheVariants as k;
 ghost use Rattle.bz_tree.specs.Shapes.{rank};
 ghost use Rattle.bz_items.specs.Characters.{full_stop};
-ghost use Rattle.bz_rule.specs.Values.{with_text};
+ghost use Rattle.bz_rule.specs.Values.{on_items, with_text};
 ghost use Rattle.bz_attribute.specs.Made.{token, node, sequence, name, mark, shortened_in, string_text, string_of, list_of, binds_looser, operand, plus, function_of, argument_of, rule_made};
 
 use bz_items::{Items, Memory, Text};
@@ -15,6 +15,7 @@ use bz_tree::{Class, Kind};
 use bz_value::{Comments, Expr, Form, Item, Seq, Token};
 use bz_words::quoted;
 use std::alloc::{AllocError, Global};
+use std::mem;
 
 /// A token of this class and text.
 pub fn token(class: Class, text: Text) -> Expr
@@ -29,7 +30,7 @@ pub fn token(class: Class, text: Text) -> Expr
 }
 
 /// A node with a sequence behind these parts.
-fn sequence(alloc: Global, kind: Kind, parts: Items<Expr>, items: Items<Expr>) -> Expr
+pub fn sequence(alloc: Global, kind: Kind, parts: Items<Expr>, items: Items<Expr>) -> Expr
     ensures { result ≡ sequence kind parts items }
 {
     Expr::Form(Form {
@@ -46,7 +47,7 @@ fn sequence(alloc: Global, kind: Kind, parts: Items<Expr>, items: Items<Expr>) -
 }
 
 /// A node of a row of parts.
-fn node(alloc: Global, kind: Kind, parts: Items<Expr>) -> Expr
+pub fn node(alloc: Global, kind: Kind, parts: Items<Expr>) -> Expr
     ensures { result ≡ node kind parts }
 {
     sequence(alloc, kind, parts, Items::new(alloc))
@@ -128,6 +129,32 @@ pub fn set_text(text: Text, x: &mut Expr)
     match x {
         Expr::Token(token) => token.text = text,
         Expr::Form(_) => {}
+    }
+}
+
+/// Puts all of `more` behind the items.
+pub fn append(more: &mut Vec<Expr>, items: &mut Items<Expr>) -> Result<(), Memory>
+    ensures { OnOk result (items.new ≡ items.old ++ more.old.items) }
+{
+    let alloc = items.alloc();
+    let mut all = mem::replace(items, Items::new(alloc)).into_vec();
+    all.append(more)?;
+    *items = Items::from_vec(all);
+    Ok(())
+}
+
+/// Puts all of `more` behind the items of a sequence of this kind; any other expression stays.
+pub fn append_to(kind: Kind, more: &mut Vec<Expr>, x: &mut Expr) -> Result<(), Memory>
+    ensures { OnOk result (x.new ≡ on_items kind (λ items. items ++ more.old.items) x.old) }
+{
+    match x {
+        Expr::Token(_) => Ok(()),
+        Expr::Form(form) => {
+            if form.kind == kind {
+                append(more, &mut form.seq.items)?;
+            }
+            Ok(())
+        }
     }
 }
 

@@ -17,7 +17,7 @@ fn has_class(class: Class, x: &Expr) -> bool
     ensures { result ≡ is_in class x.now }
 {
     match x {
-        Expr::Token(token) => token.class.number() == class.number(),
+        Expr::Token(token) => token.class == class,
         Expr::Form(_) => false,
     }
 }
@@ -97,10 +97,7 @@ pub fn is_empty_list(value: &Expr) -> bool
 pub fn body_of(x: &Expr) -> Option<&[u8]>
     ensures { option_copied result ≡ plain x.now }
 {
-    let Some(text) = text_in(Class::String, x) else {
-        return None;
-    };
-    body(text)
+    body(text_in(Class::String, x)?)
 }
 
 /// Whether two words mean one value of the attribute.

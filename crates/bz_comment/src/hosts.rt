@@ -155,7 +155,7 @@ fn change_item(
         return Err(Refusal::NoAttribute);
     };
     change_in_value(alloc, sought, change, &mut value)?;
-    set_value(alloc, sought.attribute, value, arguments);
+    set_value(sought.attribute, value, arguments);
     Ok(())
 }
 

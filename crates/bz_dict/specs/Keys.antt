@@ -1,5 +1,5 @@
 -- What is known of the keys of a dict while its entries change, and of the keys that go.
-use Rattle.std.specs.Prelude.{◌≡◌, ℕ, Bool, false, List, Vec, Option, map, bytes_eq}
+use Rattle.std.specs.Prelude.{◌≡◌, ℕ, Bool, false, List, Vec, Option, bytes_eq}
 use Rattle.std.specs.List.{list_any, position_from}
 use Rattle.std.specs.Option.{option_map_or}
 use Rattle.std.specs.Ordering.{nat_cmp}
@@ -10,6 +10,7 @@ use Rattle.std.specs.BTreeSet.{BTreeSet}
 use Rattle.std.specs.declared.alloc.Global.{Global}
 use Rattle.bz_value.specs.declared.value.Expr.{Expr}
 use Rattle.bz_items.specs.Characters.{Bytes}
+use Rattle.bz_attribute.specs.Sets.{texts_of}
 use Rattle.bz_words.specs.declared.command.Entry.{Entry}
 use Rattle.bz_dict.specs.declared.entries.Change.{Change}
 use Rattle.bz_dict.specs.declared.entries.Change.TheVariants.{Add, Set}
@@ -40,9 +41,6 @@ entries_put Add current name entries items = with_entries current name entries i
 entries_put Set current name entries items = with_entries_set current name entries items
 
 -- ---- the keys that go
-
-abbrev pub texts_of : BTreeSet (Vec ℕ Global) → List Bytes
-texts_of set = map (λ (text : Vec ℕ Global). text.items) set.keys
 
 -- whether an entry's key is in the set
 abbrev pub is_chosen : BTreeSet (Vec ℕ Global) → Expr → Bool

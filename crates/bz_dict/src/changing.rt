@@ -155,8 +155,11 @@ fn value_with(
     Ok(value)
 }
 
-/// Puts entries into the dict of an attribute; where that is absent, into a new one.
-fn change_dict(
+/// Puts entries, as strings, into the dict of an attribute; where that is absent, it gets a dict of them. A key is there where an
+/// entry's key is a plain string of that body: the first such entry stays or gets the new value, as the change says. An entry whose
+/// key isn't there goes to the end. `current` is the path of the file's package. Errors: `NotADict`: the attribute's value is no
+/// dict; `Memory`: a growth was refused. Part of the arguments is then lost.
+pub(crate) fn change_dict(
     alloc: Global,
     change: Change,
     current: &[u8],
@@ -173,38 +176,6 @@ fn change_dict(
         return Ok(());
     };
     let new = value_with(alloc, change, current, name, entries, value)?;
-    set_value(alloc, name, new, arguments);
+    set_value(name, new, arguments);
     Ok(())
-}
-
-/// Adds entries, as strings, to the end of the attribute's dict, each where no entry has its key; where the attribute is
-/// absent, it gets a dict of them. `current` is the path of the file's package. A key is there where an entry's key is a
-/// plain string of that body. Errors: `NotADict`: the attribute's value is no dict; `Memory`: a growth was refused. Part of
-/// the arguments is then lost.
-pub(crate) fn dict_add(
-    alloc: Global,
-    current: &[u8],
-    name: &[u8],
-    entries: &[Entry],
-    arguments: &mut Items<Expr>,
-) -> Result<(), Refusal>
-    ensures ok { OnOk result (d.dict_add current.now name.now entries.now arguments.old ≡ Ok arguments.new) }
-    ensures err { IfErr result (λ refusal. (d.dict_add current.now name.now entries.now arguments.old ≡ Err refusal) ⊎ (refusal ≡ Refusal.Memory)) }
-{
-    change_dict(alloc, Change::Add, current, name, entries, arguments)
-}
-
-/// As `dict_add`, but where an entry has the key, the first such entry gets the new value. The errors are those of
-/// `dict_add`.
-pub(crate) fn dict_set(
-    alloc: Global,
-    current: &[u8],
-    name: &[u8],
-    entries: &[Entry],
-    arguments: &mut Items<Expr>,
-) -> Result<(), Refusal>
-    ensures ok { OnOk result (d.dict_set current.now name.now entries.now arguments.old ≡ Ok arguments.new) }
-    ensures err { IfErr result (λ refusal. (d.dict_set current.now name.now entries.now arguments.old ≡ Err refusal) ⊎ (refusal ≡ Refusal.Memory)) }
-{
-    change_dict(alloc, Change::Set, current, name, entries, arguments)
 }

@@ -3,13 +3,12 @@ ghost use Rattle.std.specs.Prelude.{◌≡◌, IfOk};
 ghost use Rattle.std.specs.Option.{option_copied};
 ghost use Rattle.bz_tree.specs.declared.kind.Kind.TheVariants as kinds;
 ghost use Rattle.bz_rule.specs.Values.{on_row, on_third};
-ghost use Rattle.bz_attribute.specs.Made.{sequence};
 ghost use Rattle.bz_dict.specs.Dicts.{dict_of, entry_made, key_of};
 
-use bz_attribute::{body_of, has_kind, parts_of, string_of, token};
+use bz_attribute::{body_of, has_kind, node, parts_of, sequence, string_of, token};
 use bz_items::{Items, Memory, Text};
 use bz_tree::{Class, Kind};
-use bz_value::{Comments, Expr, Form, Seq};
+use bz_value::Expr;
 use bz_words::{Entry, quoted};
 use std::alloc::Global;
 use std::mem;
@@ -23,28 +22,11 @@ pub(crate) enum Change {
     Set,
 }
 
-/// A node of these parts and items, without comments.
-fn node(alloc: Global, kind: Kind, parts: Items<Expr>, items: Items<Expr>) -> Expr
-    ensures { result ≡ sequence kind parts items }
-{
-    Expr::Form(Form {
-        kind,
-        parts,
-        seq: Seq {
-            items,
-            end_: Items::new(alloc),
-            split: false,
-        },
-        open_: false,
-        comments: Comments::none(),
-    })
-}
-
 /// A dict of these entries.
 pub(crate) fn dict_of(alloc: Global, items: Items<Expr>) -> Expr
     ensures { result ≡ dict_of items }
 {
-    node(alloc, Kind::Dict, Items::new(alloc), items)
+    sequence(alloc, Kind::Dict, Items::new(alloc), items)
 }
 
 /// The entry that is put into the dict of an attribute.
@@ -61,12 +43,7 @@ pub(crate) fn entry_made(
     let value = string_of(alloc, current, name, entry.value.as_slice())?;
     let key = token(Class::String, key);
     let parts = Vec::from_array(alloc, [key, token(Class::Mark, colon), value])?;
-    Ok(node(
-        alloc,
-        Kind::Entry,
-        Items::from_vec(parts),
-        Items::new(alloc),
-    ))
+    Ok(node(alloc, Kind::Entry, Items::from_vec(parts)))
 }
 
 /// The key of an entry, where it is a plain string.

@@ -1,12 +1,14 @@
 //! The keys of a dict, each with the place of its first entry, and a set of keys.
-ghost use Rattle.std.specs.Prelude.{◌≡◌, ◌||◌, ◌∷◌, ◌++◌, [], List, length, Some, IfOk, OnOk, if◌then◌else◌, bytes_eq};
+ghost use Rattle.std.specs.Prelude.{◌≡◌, ◌∷◌, ◌++◌, [], List, length, Some, IfOk, OnOk, if◌then◌else◌, bytes_eq};
 ghost use Rattle.std.specs.List.{list_any};
 ghost use Rattle.bz_items.specs.Characters.{Bytes};
 ghost use Rattle.bz_value.specs.declared.value.Expr.{Expr as Value};
+ghost use Rattle.bz_attribute.specs.Sets.{texts_of};
 ghost use Rattle.bz_dict.specs.Dicts.{has_some_key};
-ghost use Rattle.bz_dict.specs.Keys.{AreIndexed, place_at as place_in, texts_of, is_chosen as has_chosen};
+ghost use Rattle.bz_dict.specs.Keys.{AreIndexed, place_at as place_in, is_chosen as has_chosen};
 
 use crate::entries::key_of;
+use bz_attribute::{has_text, insert_text};
 use bz_items::{Memory, Text};
 use bz_value::Expr;
 use std::alloc::Global;
@@ -63,29 +65,13 @@ pub(crate) fn places_of(alloc: Global, items: &[Expr]) -> Result<BTreeMap<Vec<u8
     Ok(places)
 }
 
-/// Whether the key is in the set.
-fn has_text(texts: &BTreeSet<Vec<u8>>, key: &[u8]) -> bool
-    ensures { result ≡ list_any (bytes_eq key.now) (texts_of texts.now) }
-{
-    texts.contains(key)
-}
-
-/// The key is in the set from now on.
-fn insert_text(alloc: Global, key: &[u8], texts: &mut BTreeSet<Vec<u8>>) -> Result<(), Memory>
-    ensures { (other : Bytes) → OnOk result (list_any (bytes_eq other) (texts_of texts.new) ≡ (bytes_eq other key.now || list_any (bytes_eq other) (texts_of texts.old))) }
-{
-    let copy = Vec::from_slice(alloc, key)?;
-    texts.insert(copy)?;
-    Ok(())
-}
-
 /// The set of these keys.
 fn texts_of(alloc: Global, keys: &[Text]) -> Result<BTreeSet<Vec<u8>>, Memory>
     ensures { IfOk result (λ texts. (other : Bytes) → list_any (bytes_eq other) (texts_of texts) ≡ list_any (bytes_eq other) keys.now) }
 {
     let mut texts = BTreeSet::new(alloc);
     for key in keys {
-        insert_text(alloc, key.as_slice(), &mut texts)?;
+        insert_text(alloc, &mut texts, key.as_slice())?;
     }
     Ok(texts)
 }

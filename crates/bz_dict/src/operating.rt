@@ -2,7 +2,8 @@
 ghost use Rattle.std.specs.Prelude.{◌≡◌, ◌⊎◌, Ok, Err, OnOk, IfErr, IfOk};
 ghost use Rattle.bz_dict.specs.Dicts.{dicts_changed};
 
-use crate::changing::{dict_add, dict_set};
+use crate::changing::change_dict;
+use crate::entries::Change;
 use crate::removing::dict_remove;
 use bz_attribute::Refusal;
 use bz_items::Items;
@@ -21,20 +22,14 @@ fn change_in_place(
     ensures err { IfErr result (λ refusal. (dicts_changed operation.now current.now arguments.old ≡ Err refusal) ⊎ (refusal ≡ Refusal.Memory)) }
 {
     match operation {
-        DictOperation::Add { attribute, entries } => dict_add(
-            alloc,
-            current,
-            attribute.as_slice(),
-            entries.as_slice(),
-            arguments,
-        ),
-        DictOperation::Set { attribute, entries } => dict_set(
-            alloc,
-            current,
-            attribute.as_slice(),
-            entries.as_slice(),
-            arguments,
-        ),
+        DictOperation::Add { attribute, entries } => {
+            let (name, entries) = (attribute.as_slice(), entries.as_slice());
+            change_dict(alloc, Change::Add, current, name, entries, arguments)
+        }
+        DictOperation::Set { attribute, entries } => {
+            let (name, entries) = (attribute.as_slice(), entries.as_slice());
+            change_dict(alloc, Change::Set, current, name, entries, arguments)
+        }
         DictOperation::Remove { attribute, keys } => {
             dict_remove(alloc, attribute.as_slice(), keys.as_slice(), arguments)
         }

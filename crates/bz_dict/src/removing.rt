@@ -81,7 +81,7 @@ fn remove_chosen(
         remove_first(name, arguments);
         return;
     }
-    set_value(alloc, name, value, arguments);
+    set_value(name, value, arguments);
 }
 
 /// Takes all entries of these keys from the attribute's dict; the attribute goes where its dict is then empty. Nothing

@@ -21,7 +21,8 @@ use Rattle.bz_list.specs.contracts.known.KeyOrd.TheImpl as key_ord
 use Rattle.bz_label.specs.Tables.{is_label_attribute}
 use Rattle.bz_list.specs.KnownValues.{KnownValues, label_meant, asked, none_known, with_word}
 use Rattle.bz_list.proofs.KnownSteps.{nothing_known, label_pushed, text_pushed}
-use Rattle.bz_list.specs.KnownKeys.{label_of_key, labels_of, texts_of}
+use Rattle.bz_attribute.specs.Sets.{texts_of}
+use Rattle.bz_list.specs.KnownKeys.{label_of_key, labels_of}
 
 -- ---- labels
 

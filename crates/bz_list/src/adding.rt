@@ -15,8 +15,8 @@ ghost use Rattle.bz_list.specs.Adding.{added_by, added_to, shorter, with_added};
 
 use crate::known::Known;
 use bz_attribute::{
-    Refusal, add_attribute, body_of, has_kind, has_lists, is_item, is_no_list, items_of, list_of,
-    parts_of, plus, set_text, set_value, string_of, take_value,
+    Refusal, add_attribute, append, append_to, body_of, has_kind, has_lists, is_item, is_no_list,
+    items_of, list_of, parts_of, plus, set_text, set_value, string_of, take_value,
 };
 use bz_items::{Items, Memory, Text};
 use bz_label::bytes::{is_label_attribute, shortened};
@@ -24,7 +24,6 @@ use bz_tree::Kind;
 use bz_value::Expr;
 use bz_words::quoted;
 use std::alloc::Global;
-use std::mem;
 
 /// What is added to an attribute.
 #[derive(Drop)]
@@ -270,32 +269,6 @@ fn added_alone(alloc: Global, current: &[u8], name: &[u8], added: Added<'_>) -> 
     Ok(list_of(alloc, Items::from_vec(items)))
 }
 
-/// Puts all of `more` behind the items.
-fn append(more: &mut Vec<Expr>, items: &mut Items<Expr>) -> Result<(), Memory>
-    ensures { OnOk result (items.new ≡ items.old ++ more.old.items) }
-{
-    let alloc = items.alloc();
-    let mut all = mem::replace(items, Items::new(alloc)).into_vec();
-    all.append(more)?;
-    *items = Items::from_vec(all);
-    Ok(())
-}
-
-/// The same for a list; any other expression stays.
-fn append_to_list(more: &mut Vec<Expr>, x: &mut Expr) -> Result<(), Memory>
-    ensures { OnOk result (x.new ≡ on_items kinds.List (λ items. items ++ more.old.items) x.old) }
-{
-    match x {
-        Expr::Token(_) => Ok(()),
-        Expr::Form(form) => {
-            if form.kind == Kind::List {
-                append(more, &mut form.seq.items)?;
-            }
-            Ok(())
-        }
-    }
-}
-
 /// Where the first list among the operands of a sum stands.
 fn first_list(operands: &[Expr]) -> Option<usize>
     ensures { result ≡ position (is_of kinds.List) operands.now }
@@ -303,14 +276,14 @@ fn first_list(operands: &[Expr]) -> Option<usize>
     operands.iter().position(|x| has_kind(Kind::List, x))
 }
 
-/// The same for the first list among the operands of a sum.
+/// Puts all of `more` behind the items of the first list among the operands of a sum.
 fn append_to_first(more: &mut Vec<Expr>, operands: &mut Items<Expr>) -> Result<(), Memory>
     ensures { OnOk result (operands.new ≡ on_first_that (is_of kinds.List) (on_items kinds.List (λ items. items ++ more.old.items)) operands.old) }
 {
     let Some(at) = first_list(operands.as_slice()) else {
         return Ok(());
     };
-    append_to_list(more, operands.at_mut(at))?;
+    append_to(Kind::List, more, operands.at_mut(at))?;
     Ok(())
 }
 
@@ -415,7 +388,7 @@ pub(crate) fn add_items(
     };
     match value_with(alloc, current, name, added, value) {
         Ok(new) => {
-            set_value(alloc, name, new, arguments);
+            set_value(name, new, arguments);
             Ok(())
         }
         Err(refusal) => Err(refusal),

@@ -11,11 +11,11 @@ ghost use Rattle.bz_tree.specs.declared.kind.Kind.TheVariants as kinds;
 ghost use Rattle.bz_rule.specs.Values.{has_kind as is_of, items_of as items};
 ghost use Rattle.bz_attribute.specs.Lists.{items_in, is_some_item, listed};
 ghost use Rattle.bz_list.specs.Changes.{is_moved};
-ghost use Rattle.bz_list.specs.KnownKeys.{label_of_key, labels_of, texts_of};
+ghost use Rattle.bz_list.specs.KnownKeys.{label_of_key, labels_of};
 ghost use Rattle.bz_list.specs.KnownValues.{label_meant, asked, none_known, with_word, with_words, is_known_item, with_item, with_known_items};
 ghost use Rattle.bz_list.specs.Listing.{chooses, with_lists};
 
-use bz_attribute::{body_of, has_kind, items_of, parts_of};
+use bz_attribute::{body_of, has_kind, has_text, insert_text, items_of, parts_of};
 use bz_items::{Memory, Text};
 use bz_label::bytes::{Parts, is_label_attribute, label_parts};
 use bz_tree::Kind;
@@ -61,22 +61,6 @@ fn insert_label(labels: &mut BTreeSet<Key>, key: Key) -> Result<(), Memory>
     Ok(())
 }
 
-/// Whether the word is one of the texts.
-fn has_text(texts: &BTreeSet<Vec<u8>>, word: &[u8]) -> bool
-    ensures { result ≡ list_any (bytes_eq word.now) (texts_of texts.now) }
-{
-    texts.contains(word)
-}
-
-/// The text is one of them from now on.
-fn insert_text(alloc: Global, texts: &mut BTreeSet<Vec<u8>>, text: &[u8]) -> Result<(), Memory>
-    ensures { (word : Bytes) → OnOk result (list_any (bytes_eq word) (texts_of texts.new) ≡ (bytes_eq word text.now || list_any (bytes_eq word) (texts_of texts.old))) }
-{
-    let copy = Vec::from_slice(alloc, text)?;
-    texts.insert(copy)?;
-    Ok(())
-}
-
 /// Values of an attribute. In a label attribute words that mean one label are one value: a word that reads as a label is
 /// kept by the parts of it, any other by its bytes.
 #[derive(Drop)]
@@ -90,7 +74,8 @@ pub(crate) struct Known {
 
 impl Model for Known {
     ghost use Rattle.bz_list.specs.KnownValues.{KnownValues};
-    ghost use Rattle.bz_list.specs.KnownKeys.{labels_of, texts_of};
+    ghost use Rattle.bz_attribute.specs.Sets.{texts_of};
+    ghost use Rattle.bz_list.specs.KnownKeys.{labels_of};
 
     ghost Value = { KnownValues };
 

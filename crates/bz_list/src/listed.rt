@@ -116,7 +116,7 @@ fn take_from_lists(chosen: &Chosen, value: &mut Expr, taken: &mut Vec<Expr>) -> 
 
 /// Puts what is left of the attribute's value back. Where items were taken and the whole value is an empty list, the
 /// attribute goes.
-fn put_back(alloc: Global, name: &[u8], taken: &[Expr], value: Expr, arguments: &mut Items<Expr>)
+fn put_back(name: &[u8], taken: &[Expr], value: Expr, arguments: &mut Items<Expr>)
     ensures { arguments.new ≡ put_back name.now (not (is_empty taken.now)) value arguments.old }
 {
     if !taken.is_empty() && is_empty_list(&value) {
@@ -124,7 +124,7 @@ fn put_back(alloc: Global, name: &[u8], taken: &[Expr], value: Expr, arguments: 
         remove_first(name, arguments);
         return;
     }
-    set_value(alloc, name, value, arguments);
+    set_value(name, value, arguments);
 }
 
 /// Takes the items that the command is meant for from the attribute's lists; the attribute goes where its whole value is
@@ -143,7 +143,7 @@ fn take_items(
         return Ok(Items::from_vec(taken));
     };
     take_from_lists(chosen, &mut value, &mut taken)?;
-    put_back(alloc, name, taken.as_slice(), value, arguments);
+    put_back(name, taken.as_slice(), value, arguments);
     Ok(Items::from_vec(taken))
 }
 

@@ -2,7 +2,7 @@ use Rattle.std.proofs.Common.{◌≡◌, ◌||◌, drop}
 use Rattle.std.specs.Prelude.{bytes_eq}
 use Rattle.std.specs.List.{list_any}
 use Rattle.bz_items.specs.Characters.{Bytes}
-use Rattle.bz_dict.specs.Keys.{texts_of}
+use Rattle.bz_attribute.specs.Sets.{texts_of}
 use Rattle.bz_dict.proofs.keys.texts_of.Given as goal
 
 abbrev pub invariant-loop-key : goal.invariant-loop-key

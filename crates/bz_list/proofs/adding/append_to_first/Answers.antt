@@ -18,5 +18,5 @@ returns c =
     let change = on_items k.List (λ items. items ++ c.args.more.now.items) in
     let xs = c.args.operands.now in
     let x = c.at_mut.result.now in
-    ap (slice_set xs c.in-Some.at) (c.in_ok-append_to_list.ensures ∙ ap change (sym (get_or_from_slice_get xs c.in-Some.at x x c.at_mut.ensures.value)))
+    ap (slice_set xs c.in-Some.at) (c.in_ok-append_to.ensures ∙ ap change (sym (get_or_from_slice_get xs c.in-Some.at x x c.at_mut.ensures.value)))
     ∙ sym (changed_at test change xs c.in-Some.at x (is_first test xs c.in-Some.at x (c.in-Some.ensures ∙ ap (position test) c.as_slice.ensures)))
