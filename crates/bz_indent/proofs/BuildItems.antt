@@ -8,6 +8,7 @@ use Rattle.bz_value.specs.declared.value.Expr.{Expr}
 use Rattle.bz_value.specs.declared.value.Item.{Item}
 use Rattle.bz_value.specs.declared.value.Item.TheVariants as i
 use Rattle.bz_value.specs.Proper.{comments_of}
+use Rattle.bz_view.specs.View.{view_of}
 use Rattle.bz_write.specs.Drawn.{before_next, line_part, lines_from, part_of}
 use Rattle.bz_write.specs.Flags.{item_with_flags}
 use Rattle.bz_write.specs.Layout.{suffix_text}
@@ -15,10 +16,11 @@ use Rattle.bz_write.specs.Written.{behind_item, comment_lines, gap_between, item
 use Rattle.bz_write.proofs.Made.{two}
 use Rattle.bz_tidy.specs.Syntax.{syntax_of}
 use Rattle.bz_suite.specs.declared.value.Statement.TheVariants as s
+use Rattle.bz_suite.specs.Laws.{BuildFilesSayTheSame}
 use Rattle.bz_suite.specs.View.{bzl_item}
 use Rattle.bz_indent.specs.Drawn.{bzl_lines, newline_part, simple_part}
-use Rattle.bz_indent.specs.Laws.{BuildItemsAreDrawnTheSame, BuildItemsAreLaidOutTheSame, BuildItemsAreLevelledTheSame}
-use Rattle.bz_indent.specs.Layout.{before_others, between_items, bzl_item_text, indented_lines, simple_text}
+use Rattle.bz_indent.specs.Laws.{BuildFilesAreLaidOutTheSame, BuildItemsAreDrawnTheSame, BuildItemsAreLaidOutTheSame, BuildItemsAreLevelledTheSame}
+use Rattle.bz_indent.specs.Layout.{before_others, between_items, bzl_item_text, bzl_layout, indented_lines, simple_text}
 use Rattle.bz_indent.specs.Level.{level_item}
 use Rattle.bz_indent.specs.Syntax.{BuildItemsAreTheSameProgram}
 
@@ -59,6 +61,10 @@ laid_out_the_same [] = refl
 laid_out_the_same (item ∷ items) =
     two (λ own rest. own ++ rest) (text_same item)
     (two (λ between rest. between ++ rest) (others_same item items) (laid_out_the_same items) ∙ behind_is item items)
+
+-- so what the tree of a BUILD file says is laid out the same
+pub files_laid_out_the_same : BuildFilesSayTheSame → BuildFilesAreLaidOutTheSame
+files_laid_out_the_same says tree legal = ap bzl_layout (says tree legal) ∙ laid_out_the_same (view_of tree)
 
 -- ---- the tree
 

@@ -1,9 +1,11 @@
 -- Laws of the layout of a .bzl file, and of the pass over it.
 use Rattle.std.specs.Prelude.{◌≡◌, ◌≤◌, ◌<◌, List, length, map}
-use Rattle.bz_tree.specs.Legal.{ReadsBzl, NoBzlTree}
+use Rattle.bz_tree.specs.declared.tree.Node.{Node}
+use Rattle.bz_tree.specs.Legal.{Legal, ReadsBzl, NoBzlTree}
 use Rattle.bz_tree.specs.Spell.{depth_of, limit, depth_limit}
 use Rattle.bz_items.specs.Characters.{Bytes}
 use Rattle.bz_value.specs.declared.value.Item.{Item}
+use Rattle.bz_view.specs.View.{view_of}
 use Rattle.bz_write.specs.Drawn.{drawn}
 use Rattle.bz_write.specs.Flags.{flags}
 use Rattle.bz_write.specs.Written.{layout}
@@ -50,3 +52,7 @@ BuildItemsAreDrawnTheSame = (items : List Item) → bzl_drawn (map bzl_item item
 -- To level them is to settle their flags.
 abbrev pub BuildItemsAreLevelledTheSame : Type 0
 BuildItemsAreLevelledTheSame = (items : List Item) → level (map bzl_item items) ≡ map bzl_item (flags items)
+
+-- So what the tree of a BUILD file says is laid out the same as a .bzl file and as a BUILD file.
+abbrev pub BuildFilesAreLaidOutTheSame : Type 0
+BuildFilesAreLaidOutTheSame = (tree : Node) → Legal tree → bzl_layout (bzl_view_of tree) ≡ layout (view_of tree)

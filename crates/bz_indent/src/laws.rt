@@ -1,8 +1,9 @@
 //! Facts about the definitions, for readers and for the proofs of other crates: the functions do nothing.
-ghost use Rattle.bz_indent.specs.Laws.{BuildItemsAreDrawnTheSame, BuildItemsAreLaidOutTheSame, BuildItemsAreLevelledTheSame, BzlLayoutIsAccepted, BzlLayoutIsTooDeep, BzlLayoutReadsBack, LevelKeepsComments, LevelKeepsLayout, LevelStays};
+ghost use Rattle.bz_indent.specs.Laws.{BuildFilesAreLaidOutTheSame, BuildItemsAreDrawnTheSame, BuildItemsAreLaidOutTheSame, BuildItemsAreLevelledTheSame, BzlLayoutIsAccepted, BzlLayoutIsTooDeep, BzlLayoutReadsBack, LevelKeepsComments, LevelKeepsLayout, LevelStays};
 ghost use Rattle.bz_indent.specs.Syntax.{BuildItemsAreTheSameProgram, LevelKeepsProgram};
 ghost use Rattle.bz_indent.specs.Worked.{WorkedBzlLayouts};
 
+use bz_suite::build_files_say_the_same;
 use bz_tidy::flags_settle;
 
 /// What is level stays as it is.
@@ -51,6 +52,14 @@ pub fn build_items_are_laid_out_the_same()
     ensures text { BuildItemsAreLaidOutTheSame }
     ensures tree { BuildItemsAreDrawnTheSame }
 {}
+
+/// What the legal tree of a BUILD file says is laid out the same as a .bzl file and as a BUILD file. (Before its layout a BUILD file
+/// is tidied too, a .bzl file is only levelled.)
+pub fn build_files_are_laid_out_the_same()
+    ensures { BuildFilesAreLaidOutTheSame }
+{
+    build_files_say_the_same();
+}
 
 /// To level the items of a BUILD file is to settle their flags.
 pub fn build_items_are_levelled_the_same()

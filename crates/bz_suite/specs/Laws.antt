@@ -1,5 +1,5 @@
 -- Laws of what a .bzl file says.
-use Rattle.std.specs.Prelude.{◌≡◌, List, map}
+use Rattle.std.specs.Prelude.{◌≡◌, ◌↔◌, All, List, map}
 use Rattle.bz_items.specs.Characters.{Bytes}
 use Rattle.bz_tree.specs.declared.tree.Node.{Node}
 use Rattle.bz_tree.specs.Legal.{Legal, LegalBzl}
@@ -7,6 +7,7 @@ use Rattle.bz_value.specs.declared.value.Item.{Item}
 use Rattle.bz_value.specs.Counted.{times}
 use Rattle.bz_value.specs.Proper.{IsProper}
 use Rattle.bz_view.specs.View.{view_of}
+use Rattle.bz_suite.specs.BuildValues.{IsBuildItem}
 use Rattle.bz_suite.specs.Kept.{bzl_times}
 use Rattle.bz_suite.specs.Proper.{IsProperBzl}
 use Rattle.bz_suite.specs.View.{bzl_item, bzl_view_of}
@@ -19,9 +20,9 @@ BzlViewIsProper = (tree : Node) → LegalBzl tree → IsProperBzl (bzl_view_of t
 abbrev pub BuildFilesSayTheSame : Type 0
 BuildFilesSayTheSame = (tree : Node) → Legal tree → bzl_view_of tree ≡ map bzl_item (view_of tree)
 
--- The items of a proper BUILD file are, as those of a .bzl file, proper.
+-- The items of a BUILD file are proper exactly where they are, as those of a .bzl file, proper and have none of the newer kinds.
 abbrev pub BuildItemsAreProper : Type 0
-BuildItemsAreProper = (items : List Item) → IsProper items → IsProperBzl (map bzl_item items)
+BuildItemsAreProper = (items : List Item) → IsProper items ↔ (IsProperBzl (map bzl_item items) × All IsBuildItem items)
 
 -- They have each comment as often.
 abbrev pub BuildItemsHaveTheSameComments : Type 0

@@ -1,3 +1,4 @@
+pub mod BuildValues
 pub mod Kept
 pub mod Laws
 pub mod Proper

@@ -20,7 +20,8 @@ pub fn build_files_say_the_same()
     ensures { BuildFilesSayTheSame }
 {}
 
-/// The items of a BUILD file, as those of a .bzl file, are proper where those are, and have each comment as often.
+/// The items of a BUILD file are proper exactly where they are, as those of a .bzl file, proper and have none of the kinds that BUILD
+/// files have not; and these have each comment as often.
 pub fn build_items_are_bzl_items()
     ensures proper { BuildItemsAreProper }
     ensures comments { BuildItemsHaveTheSameComments }
