@@ -69,20 +69,32 @@ fn call_values() {
     bz_tidy::sorting_is_the_one();
     bz_tidy::flags_settle();
     bz_tidy::exchanged_tidied();
+    bz_tidy::worked_programs();
+    bz_tidy::program_stays();
+    bz_tidy::tokens_stay();
 }
 
 fn call_suites() {
     bz_suite::bzl_view_is_proper();
     bz_suite::bzl_comments_kept();
     bz_suite::worked_bzl_views();
+    bz_suite::build_files_say_the_same();
+    bz_suite::build_items_are_bzl_items();
     bz_indent::level_stays();
     bz_indent::level_keeps_comments();
     bz_indent::level_keeps_layout();
+    bz_indent::level_keeps_program();
     bz_indent::bzl_layout_is_accepted();
     bz_indent::bzl_layout_is_too_deep();
     bz_indent::bzl_layout_reads_back();
     bz_indent::worked_bzl_layouts();
+    bz_indent::build_items_are_laid_out_the_same();
+    bz_indent::build_items_are_levelled_the_same();
+    bz_indent::build_items_are_the_same_program();
+    bz_indent::build_files_are_laid_out_the_same();
     bz_format::formatted_bzl_once();
+    bz_format::bzl_views_keep_programs();
+    bz_format::words_kept();
 }
 
 fn call_words() {
@@ -139,6 +151,10 @@ fn call_histories() {
     bz_journal::worked_histories();
     bz_journal::alike_goes_on();
     bz_formatter::formatted_once();
+    bz_formatter::comments_fill();
+    bz_formatter::views_keep_programs();
+    bz_formatter::tokens_kept();
+    bz_formatter::writing_keeps_program();
 }
 
 /// Calls the laws that speak of values. Whether each value was there.
