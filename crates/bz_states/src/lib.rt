@@ -9,8 +9,8 @@ mod token;
 
 pub use deep::{deeper_at, goes_on, mark_deep_part, mark_next};
 pub use state::{
-    BracketsAt, ClausesAt, HeaderAt, ItemRow, ItemsAt, LAMBDA, LambdaAt, ListedItems, Move, NOT, NamesAt,
-    NodeState, Operands, OperandsAt, PRIMARY, PartSort, RoundAt, Rung, SliceAt, SquareOrCurly,
-    StarredAt, StatementAt, SuffixAt, TEST, Tail, UNARY, rung_at,
+    BracketsAt, ClausesAt, HeaderAt, ItemRow, ItemsAt, LAMBDA, LambdaAt, ListedItems, Move, NOT,
+    NamesAt, NodeState, Operands, OperandsAt, PRIMARY, PartSort, RoundAt, Rung, SliceAt,
+    SquareOrCurly, StarredAt, StatementAt, SuffixAt, TEST, Tail, UNARY, rung_at,
 };
 pub use token::{Leaves, ParseHalt, TokenSet};
