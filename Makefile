@@ -95,7 +95,7 @@ shapes: bin/cases
 	@bench/shapes.py
 
 hostile: $(PROGRAMS) bin/cases
-	@HOSTILE=whole tests/torn.py $(PROGRAMS)
+	@HOSTILE=whole tests/torn.py $(PROGRAMS) bin/cases
 	@HOSTILE=whole tests/journals.py bin/buildozer
 	@HOSTILE=whole tests/killed.py bin/buildozer
 	@HOSTILE=whole tests/memory.py bin/buildozer bin/cases bin/buildifier

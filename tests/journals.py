@@ -736,6 +736,23 @@ def the_longest_command_is_a_note(w):
     return longer and written and w.leaves(LISTING, 3, out=listing([ODD, text], 1, [note]))
 
 
+def each_action_goes_on_behind_a_stop(w):
+    """Stopped before its two writes, or between them, each action is done by the next run as if nothing had been; stopped behind them, undo leads back."""
+    for words, before in ((ADDING, FILE), (UNDOING, ADDED), (REDOING, BACK), (["--journal", "delete", "//p:a"], ADDED)):
+        put(w.path, before)
+        after = w.left() if w.ended(words, b"") == (0, b"", fixed(P)) else {}
+        for stopped in (before, {P: before[P], KEPT: after.get(KEPT, b"")}):
+            (w.path / KEPT).unlink(missing_ok=True)
+            put(w.path, stopped)
+            if w.ended(words, b"") != (0, b"", fixed(P)) or w.left() != after:
+                w.wrong.append(f"{words[1]} behind a stop: {w.left()}")
+        back = UNDOING if words is not UNDOING else REDOING
+        if w.ended(back, b"") != (0, b"", fixed(P)) or w.left()[P] != before[P]:
+            w.wrong.append(f"{back[1]} behind {words[1]}: {w.left()}")
+        (w.path / KEPT).unlink(missing_ok=True)
+    return not w.wrong
+
+
 # how many texts a history may have after its first one
 MOST_STEPS = 100_000
 
@@ -797,7 +814,7 @@ def long_texts_come_back(w):
 FUNCTIONS = [
     left_files_are_written_over, permission_bits_stay, a_new_journal_has_the_bits_of_its_file, a_folder_for_a_journal_is_told, a_journal_that_nobody_may_read_is_told,
     a_journal_that_cannot_be_written_is_told, a_file_that_cannot_be_written_is_told, a_closed_folder_is_told,
-    a_second_path_finds_the_journal_of_the_first, a_second_path_that_was_open_before, the_longest_command_is_a_note,
+    a_second_path_finds_the_journal_of_the_first, a_second_path_that_was_open_before, each_action_goes_on_behind_a_stop, the_longest_command_is_a_note,
     the_most_texts_come_back, the_most_texts_of_a_run, odd_texts_come_back, long_texts_come_back,
 ]  # fmt: skip
 

@@ -77,7 +77,7 @@ SCRIPTS = [
     ("runs that are killed", killed, ["buildozer"]),
     ("runs with memory refused", memory, ["buildozer", "cases", "buildifier"]),
     ("calls with memory refused", asked, ["cases"]),
-    ("torn, deep and made texts", torn, ["buildozer", "buildifier"]),
+    ("torn, deep and made texts", torn, ["buildozer", "buildifier", "cases"]),
     ("runs with failing calls", failing, ["buildozer", "buildifier"]),
     ("runs with failing devices", devices, ["buildozer", "buildifier"]),
     ("runs beside one another", races, ["buildozer", "buildifier"]),

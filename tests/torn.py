@@ -10,7 +10,9 @@ leave it as it is; or both accept it, and then
 - each comment stands in the formatted text as often (what a comment is, is found by a few lines of this script);
 - buildozer, which adds a rule to it and takes that back, leaves it byte for byte.
 
-    [HOSTILE=whole] tests/torn.py BUILDOZER BUILDIFIER
+The program cases copies what such texts say: tree, value, each expression, and the step to the tree before; each copy is there and equal.
+
+    [HOSTILE=whole] tests/torn.py BUILDOZER BUILDIFIER CASES
 """
 
 import collections
@@ -72,7 +74,7 @@ class Runs:
     """The runs of both programs over some texts, each in a package of its own, and what is wrong with them."""
 
     def __init__(self, programs, texts):
-        self.buildozer, self.buildifier = programs
+        self.buildozer, self.buildifier, _cases = programs
         self.texts = texts
         self.names = [name_of(number) for number in range(len(texts))]
         self.wrong = []
@@ -240,6 +242,21 @@ def texts_by_the_grammar(*programs):
     return wrong + [f"{text} is refused: {line}" for text, line in refused.items()]
 
 
+# ---- copies
+
+
+def all_is_copied(_buildozer, _buildifier, cases):
+    """What deep texts and those by the grammar say is copied; torn texts may be refused, but for the rows themselves."""
+    accepted = [nested(nest, LEVELS) for nest in NESTS.values()] + list(map(grammar.text, sample(range(TEXTS_OF_GRAMMAR), SAMPLE)))
+    maybe = [text for text in sample(torn(worked.texts()), SAMPLE) if b"\0" not in text]
+    run = subprocess.run([cases, "copies"], input=b"\0".join([*accepted, *maybe]), capture_output=True, timeout=PATIENCE)
+    lines = run.stdout.decode().splitlines()
+    wrong = [f"copies end with {run.returncode}"] if run.returncode else []
+    wrong += [f"{text[:80]!r} is {line}" for text, line in zip(accepted, lines) if line != "copied"]
+    wrong += [f"{text!r} is {line}" for text, line in zip(maybe, lines[len(accepted) :]) if line not in ("copied", "refused")]
+    return wrong + [f"{len(lines)} lines of {len(accepted) + len(maybe)}"] * (len(lines) != len(accepted) + len(maybe))
+
+
 # Each scene by its name; each gives what is wrong.
 SCENES = {
     "beginnings and removals of the rows": torn_texts_of(worked.texts()),
@@ -248,12 +265,13 @@ SCENES = {
     "far too many levels": far_too_many_levels,
     "texts of pieces are refused": pieces_by_chance,
     "texts by the grammar are accepted": texts_by_the_grammar,
+    "all that they say is copied": all_is_copied,
 }
 
 
-def failures(buildozer, buildifier):
+def failures(buildozer, buildifier, cases):
     """The names of the scenes that the programs fail, each with what was wrong."""
-    return told(SCENES, buildozer, buildifier)
+    return told(SCENES, buildozer, buildifier, cases)
 
 
 if __name__ == "__main__":

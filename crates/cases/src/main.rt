@@ -53,6 +53,7 @@
 
 mod commands;
 mod copies;
+mod copying;
 mod journals;
 mod labels;
 mod laws;

@@ -3,7 +3,8 @@
 //! file value, `set` the layout of that, and `format` the layout of it tidied. `time` prints the nanoseconds of the fastest of
 //! several rounds of `copy`, `lex`, `parse`, `view`, `set` and `format`; `peak WORK` does a work once and prints how many KiB of
 //! memory the process took at most. `spell` writes what the tree spells to standard output, and `layout` what it is laid out
-//! as, or the fault of a text that has none to standard error.
+//! as, or the fault of a text that has none to standard error. `copies` tells of each of several texts whether all that it says is copied.
+use crate::copying::tell_copies;
 use bz_lex::lex;
 use bz_parse::parse;
 use bz_tidy::tidy;
@@ -163,6 +164,7 @@ pub(crate) fn measure(
 ) -> Option<()> {
     match word {
         "time" => timed(rt, bytes),
+        "copies" => tell_copies(rt, bytes),
         "spell" => spelled(rt, &read(rt, bytes)?),
         "layout" => spelled(rt, &laid_out(rt.alloc(), &read(rt, bytes)?)?),
         "peak" => {
