@@ -101,7 +101,7 @@ fn call_words() {
     bz_label::laws::path_law();
     bz_label::laws::key_laws();
     bz_label::laws::label_functions();
-    bz_pattern::text_stays_text();
+    bz_words::text_stays_text();
     bz_words::identifiers_are_names();
     bz_words::worked_words();
     bz_words::worked_identifiers();

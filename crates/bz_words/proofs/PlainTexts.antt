@@ -5,7 +5,7 @@ use Rattle.std.proofs.lemmas.Bool.{false_from_ne_true}
 use Rattle.std.proofs.lemmas.Str.{IsUtf8-from_is_utf8, is_utf8-from_IsUtf8}
 use Rattle.regex_syntax.specs.Grammar.{read}
 use Rattle.regex.specs.Patterns.{default_config}
-use Rattle.bz_pattern.specs.Patterns.{substituted, substituted_by}
+use Rattle.bz_words.specs.Patterns.{substituted, substituted_by}
 
 is_no_text : (bytes : List ℕ) → (IsUtf8 bytes → ⊥) → is_utf8 bytes ≡ false
 is_no_text bytes other = false_from_ne_true _ (λ e. other (IsUtf8-from_is_utf8 bytes e))

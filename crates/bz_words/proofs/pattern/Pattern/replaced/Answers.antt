@@ -1,6 +1,6 @@
 use Rattle.std.proofs.Common.{ap, ◌∙◌}
-use Rattle.bz_pattern.proofs.Alike.{as_matched}
-use Rattle.bz_pattern.proofs.pattern.Pattern.replaced.Goals as goal
+use Rattle.bz_words.proofs.Alike.{as_matched}
+use Rattle.bz_words.proofs.pattern.Pattern.replaced.Goals as goal
 
 pub returns : goal.returns
 returns c =

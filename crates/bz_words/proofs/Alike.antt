@@ -10,7 +10,7 @@ use Rattle.regex.specs.Templates.{written_after}
 use Rattle.regex.specs.Strings.{regex_pattern, regex_names, regex_source, regex_config, IsReadFromSource}
 use Rattle.regex.specs.declared.string.regex.Regex.{Regex}
 use Rattle.regex.proofs.ForCallers.{spans, find_all_alike}
-use Rattle.bz_pattern.specs.Patterns.{replaced_in, substituted_by}
+use Rattle.bz_words.specs.Patterns.{replaced_in, substituted_by}
 
 -- what a caller sees of a match: where it starts and ends, and its slots
 abbrev Seen : Type 0

@@ -28,9 +28,10 @@ use Rattle.regex.proofs.TemplateLemmas.{name_is_ascii}
 use Rattle.regex.proofs.Utf8Lemmas.{IsCharBoundary-of_test, match_ends_cleanly}
 use Rattle.regex.proofs.WritesLemmas.{last_write_has, writes_are_tidy_in_text}
 use Rattle.regex.proofs.WrittenLemmas.{IsFound, all_found}
-use Rattle.bz_pattern.specs.Patterns.{substituted, substituted_by}
-use Rattle.bz_pattern.proofs.PlainTexts.{with_texts}
-use Rattle.bz_pattern.proofs.TextParts.{reads_text}
+use Rattle.bz_words.specs.Patterns.{substituted, substituted_by}
+use Rattle.bz_words.proofs.PlainTexts.{with_texts}
+use Rattle.bz_words.proofs.TextParts.{reads_text}
+use Rattle.bz_words.proofs.Utf8Texts.{beside_ascii, one_ascii}
 
 -- ---- texts of characters
 
@@ -73,22 +74,6 @@ encoded_all (c ∷ cs) h =
 
 all_bytes : (text : List ℕ) → IsUtf8 text → All (λ b. b < 256) text
 all_bytes text u = subst (All (λ b. b < 256)) u.1.1 (encoded_all u.0 u.1.0)
-
--- a text on both sides of an ASCII byte
-beside_ascii : (front : List ℕ) (byte : ℕ) (rest : List ℕ) → byte < 128 → IsUtf8 (front ++ byte ∷ rest) → IsUtf8 front × IsUtf8 rest
-beside_ascii front byte rest h u =
-    let all : List ℕ = front ++ byte ∷ rest in
-    let long : length all ≡ length front + length (byte ∷ rest) = length-append front (byte ∷ rest) in
-    let here : get_or all (length front) 0 ≡ byte = get_or-append_seam front byte rest 0 in
-    let more : front ++ byte ∷ rest ≡ (front ++ byte ∷ []) ++ rest = sym (append_assoc front (byte ∷ []) rest) in
-    let past : drop (length front + 1) all ≡ rest =
-    ap (drop (length front + 1)) more ∙ drop_at (front ++ byte ∷ []) rest (length front + 1) (length-append front (byte ∷ [])) in (
-      subst IsUtf8 (take_at front (byte ∷ rest) (length front) refl) (IsUtf8-take all (length front) u (IsCharBoundary-before_ascii all (length front) (omega arith) (omega arith))),
-      subst IsUtf8 past (IsUtf8-drop all (length front + 1) u (IsCharBoundary-after_ascii all (length front) u (omega arith) (omega arith))),
-    )
-
-one_ascii : (byte : ℕ) → byte < 128 → IsUtf8 (byte ∷ [])
-one_ascii byte h = IsUtf8-from_ascii (byte ∷ []) (IsAscii-from_all (byte ∷ []) (All-cons (λ b. b < 128) byte [] h (All-nil (λ b. b < 128))))
 
 between_cuts : (text : List ℕ) (from to : ℕ) → IsUtf8 text → IsCharBoundary text from → IsCharBoundary text to → IsUtf8 (slice_range text from to)
 between_cuts text from to u a b = elim (cases_lt to from) [

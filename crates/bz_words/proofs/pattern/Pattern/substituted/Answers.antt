@@ -1,9 +1,9 @@
 use Rattle.std.proofs.Common.{◌≡◌, ◌∙◌, IfOk, ap₂, chars, sym, subst}
 use Rattle.regex_syntax.specs.Grammar.{read}
 use Rattle.regex.specs.Patterns.{default_config}
-use Rattle.bz_pattern.specs.Patterns.{substituted_by}
-use Rattle.bz_pattern.proofs.PlainTexts.{without_template, without_body, with_texts}
-use Rattle.bz_pattern.proofs.pattern.Pattern.substituted.Goals as goal
+use Rattle.bz_words.specs.Patterns.{substituted_by}
+use Rattle.bz_words.proofs.PlainTexts.{without_template, without_body, with_texts}
+use Rattle.bz_words.proofs.pattern.Pattern.substituted.Goals as goal
 
 pub returns-in_default : goal.returns-in_default
 returns-in_default c =

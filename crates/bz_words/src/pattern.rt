@@ -1,7 +1,10 @@
-ghost use Rattle.std.specs.Prelude.{◌≡◌, nat_eq};
-ghost use Rattle.std.specs.List.{list_any};
-ghost use Rattle.bz_pattern.specs.Patterns.{is_special as special, has_special as more_than_text};
+//! Patterns of `regex`, and what replacing their matches makes of a text. A contract sees a pattern as its text: what it matches is
+//! what `regex`'s grammar reads there.
+ghost use Rattle.std.specs.Prelude.{◌≡◌, ◌≢◌, ◌⊎◌, true};
+ghost use Rattle.bz_words.specs.Patterns.{is_special as special, has_special as more_than_text};
+ghost use Rattle.regex.specs.declared.error.Error.TheVariants.{OutOfMemory};
 
+use crate::fault::CommandFault;
 use bz_items::{Memory, Text};
 use regex::{Error, Regex, Template};
 use std::alloc::Global;
@@ -26,80 +29,51 @@ impl Model for Pattern {
     ghost invariant = { λ pattern. (regex_config pattern.regex ≡ default_config) × IsReadFromSource pattern.regex };
 }
 
-/// Why a text is not taken as a pattern.
-#[derive(Clone, Copy, Debug)]
-pub enum PatternFault {
-    /// `regex` refuses it.
-    BadPattern,
-    /// A growth was refused.
-    Memory,
-}
-
-impl PatternFault {
-    ghost use Rattle.std.specs.Prelude.{◌≡◌, ◌≢◌, true};
-    ghost use Rattle.regex.specs.declared.error.Error.TheVariants.{OutOfMemory};
-
-    // Why a text is not taken, where `regex` gives this error for it. A text without special characters is a pattern: it can only
-    // want memory.
-    fn of(error: Error, has_special: bool) -> PatternFault
-        ensures memory { result ≡ PatternFault.BadPattern → error ≢ OutOfMemory }
-        ensures special { result ≡ PatternFault.BadPattern → has_special ≡ true }
-    {
-        if !has_special {
-            return PatternFault::Memory;
-        }
-        match error {
-            Error::OutOfMemory => PatternFault::Memory,
-            _ => PatternFault::BadPattern,
-        }
-    }
-}
-
-// Whether the byte is one of these.
-fn is_one_of(byte: u8, bytes: &[u8]) -> bool
-    ensures { result ≡ list_any (nat_eq byte) bytes.now }
+// Why a text is not taken as a pattern, where `regex` gives this error for it. A text without special characters is a pattern:
+// it can only want memory.
+fn fault_of(error: Error, has_special: bool) -> CommandFault
+    ensures { ((result ≡ CommandFault.BadPattern) × (error ≢ OutOfMemory) × (has_special ≡ true)) ⊎ (result ≡ CommandFault.Memory) }
 {
-    bytes.iter().any(|other| byte == *other)
+    if !has_special {
+        return CommandFault::Memory;
+    }
+    match error {
+        Error::OutOfMemory => CommandFault::Memory,
+        _ => CommandFault::BadPattern,
+    }
 }
 
 // Whether the character is one by which a pattern is more than a text.
 #[tactic(auto, unfolding(crate::specs::Patterns::is_special))]
-fn is_special(byte: u8) -> bool
-    ensures { result ≡ special byte }
+fn is_special(byte: &u8) -> bool
+    ensures { result ≡ special byte.now }
 {
-    is_one_of(byte, b"\\.+*?()|[]{}^$")
-}
-
-// Whether one of these bytes is a special character.
-fn is_any_special(bytes: &[u8]) -> bool
-    ensures { result ≡ list_any special bytes.now }
-{
-    bytes.iter().any(|byte| is_special(*byte))
+    b"\\.+*?()|[]{}^$".iter().any(|other| byte == other)
 }
 
 // Whether the text has a special character.
 fn has_special(source: &str) -> bool
     ensures { result ≡ more_than_text source.now }
 {
-    is_any_special(source.as_bytes())
+    source.as_bytes().iter().any(is_special)
 }
 
 impl Pattern {
-    ghost use Rattle.std.specs.Prelude.{◌≡◌, IfOk, IfErr, chars};
+    ghost use Rattle.std.specs.Prelude.{◌≡◌, ◌⊎◌, IfOk, IfErr, chars};
     ghost use Rattle.regex_syntax.specs.Grammar.{read};
     ghost use Rattle.regex.specs.Patterns.{default_config};
-    ghost use Rattle.bz_pattern.specs.Patterns.{IsRefusedPattern, substituted, substituted_by};
+    ghost use Rattle.bz_words.specs.Patterns.{IsRefusedPattern, substituted, substituted_by};
 
     /// Compiles a pattern, with `regex`'s default options. Errors: `BadPattern` where `regex` refuses a text with a special
     /// character for another cause than memory: it is no pattern, is nested deeper than 250, or its tables would take more than 10 MiB;
     /// `Memory`: a growth was refused.
-    pub fn read(alloc: Global, source: &str) -> Result<Pattern, PatternFault>
+    pub fn read(alloc: Global, source: &str) -> Result<Pattern, CommandFault>
         ensures ok { IfOk result (λ pattern. pattern ≡ source.now) }
-        ensures err { IfErr result (λ fault. fault ≡ PatternFault.BadPattern → IsRefusedPattern source.now) }
+        ensures err { IfErr result (λ fault. ((fault ≡ CommandFault.BadPattern) × IsRefusedPattern source.now) ⊎ (fault ≡ CommandFault.Memory)) }
     {
         match Regex::new(alloc, source) {
             Ok(regex) => Ok(Pattern { regex }),
-            Err(error) => Err(PatternFault::of(error, has_special(source))),
+            Err(error) => Err(fault_of(error, has_special(source))),
         }
     }
 
