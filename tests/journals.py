@@ -617,7 +617,7 @@ RUNS = {
     # usage
     "--journal beside --stdout": runs(ADDED, (["--stdout", *UNDOING], 1, told(err=b"buildozer: --stdout beside --journal\n"))),
     "--journal beside standard input": runs({"BUILD": ODD}, (["--journal", "--", "add deps :x", "//:a", "-:a"], 1, told(err=b"buildozer: package - has no journal\n"))),
-    "journal takes no words": runs(ADDED, (["--journal", "journal 1", "//p:a"], 1, told(err=b"buildozer: journal 1: Arguments (32)\n"))),
+    "journal takes no words": runs(ADDED, (["--journal", "journal 1", "//p:a"], 1, told(err=b"buildozer: journal 1: Arguments (32)\nbuildozer: the form is 'journal'\n"))),
     "--journal twice": lambda w: runs(ADDED)(w) and w.leaves(["--journal", *UNDOING], 1, err=b"error: the argument '--journal' cannot be used multiple times\n", begins=True),
 }  # fmt: skip
 

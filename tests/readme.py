@@ -121,10 +121,20 @@ def command_examples():
 # ---- what the code says
 
 
-def texts_in(file, name):
-    """The texts in the definition of this name, in a file of definitions."""
+def definition(file, name):
+    """The definition of this name, in a file of definitions."""
     found = re.search(rf"^{name} =.*\n(?: {{4}}.*\n)*", (CRATES / file).read_text(), re.MULTILINE)
-    return re.findall(r'codes "(\w+)"', found[0] if found else "")
+    return found[0] if found else ""
+
+
+def texts_in(file, name):
+    return re.findall(r'codes "(\w+)"', definition(file, name))
+
+
+def forms_of_code():
+    """The forms of commands, as hints tell them."""
+    tables = definition("bz_words/specs/Commands.antt", "command_forms") + definition("bz_line/specs/Hints.antt", "verb_forms")
+    return sorted(re.findall(r"'([^']+)'", tables))
 
 
 def refusals_of_code():
@@ -188,10 +198,11 @@ def attributes(programs, folder):
 
 
 def commands(programs, folder):
-    """Each command has a row, and no other; the words of a row begin with its name."""
-    told = {word.split()[0] for row in rows_of("Command") for word in CODE.findall(row[0])}
+    """Each command has a row, and no other, with its forms; these begin with its name."""
+    forms = sorted({form for row in rows_of("Command") for form in CODE.findall(row[0])})
+    told = {form.split()[0] for form in forms}
     known = texts_in("bz_words/specs/Commands.antt", "commands") + texts_in("bz_line/specs/Operands.antt", r"history_verb_in \(.*")
-    return different("commands", sorted(told), sorted(set(known)))
+    return different("commands", sorted(told), sorted(set(known))) + different("forms of commands", forms, forms_of_code())
 
 
 def examples_of_commands(programs, folder):

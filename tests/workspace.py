@@ -152,8 +152,14 @@ FAULTS = [
     (["delete", "//a:x", "make it"], b"buildozer: make it: Unknown (31)\n", b""),
     (["delete", "//a:x", "udno 2"], b"buildozer: udno 2: Unknown (31)\nbuildozer: did you mean 'undo'?\n", b""),
     (["fix unusedLoad", "//a:x"], b"buildozer: fix unusedLoad: Arguments (32)\nbuildozer: did you mean 'unusedLoads'?\n", b""),
+    (
+        ["add", "deps", ":a", "//a:x"],
+        b"buildozer: add: Arguments (32)\nbuildozer: the form is 'add ATTR VALUE..'\n"
+        b"buildozer: on a command line, put a command and its words in one pair of quotation marks\n",
+        b"",
+    ),
     (["help", "delete"], b"buildozer: help: Unknown (31)\nbuildozer: see buildozer --help, or man buildozer\n", b""),
-    (["delete", "//a:x", "rename deps", "make it"], b"buildozer: rename deps: Arguments (32)\n", b""),
+    (["delete", "//a:x", "rename deps", "make it"], b"buildozer: rename deps: Arguments (32)\nbuildozer: the form is 'rename OLD NEW'\n", b""),
     (["delete", "substitute deps ( x", "//a:x"], b"buildozer: substitute deps ( x: BadPattern (33)\n", b""),
     (["-f", "lines", "//a:x"], b"buildozer: operands beside -f\n", b""),
     (["-f", "none"], b"none: cannot open\n", b""),

@@ -13,7 +13,7 @@ use Rattle.bz_value.specs.declared.value.Item.TheVariants as i
 use Rattle.bz_value.specs.Counted.{total, amount, item_amount, one_if}
 use Rattle.bz_value.proofs.Totals.{form_amount}
 use Rattle.bz_items.specs.Characters.{Bytes}
-use Rattle.bz_pattern.specs.Patterns.{substituted}
+use Rattle.bz_words.specs.Patterns.{substituted}
 use Rattle.bz_words.specs.declared.command.Operation.{Operation}
 use Rattle.bz_words.specs.declared.command.Operation.TheVariants as w
 use Rattle.bz_words.specs.declared.command.RuleOperation.TheVariants as wr

@@ -48,7 +48,7 @@ use Rattle.bz_attribute.specs.declared.refusal.Refusal.{Refusal}
 use Rattle.bz_attribute.specs.declared.refusal.Refusal.TheVariants.{NoTarget, NameTaken}
 use Rattle.bz_command.specs.Laws.{EffectsStayProper}
 use Rattle.bz_attribute.proofs.ProperAttributes.{Made, Keeps}
-use Rattle.bz_pattern.proofs.TextMatches.{substituted_utf8}
+use Rattle.bz_words.proofs.TextMatches.{substituted_utf8}
 use Rattle.bz_change.proofs.ProperCommands.{set_keeps, set_if_absent_keeps, remove_keeps, rename_keeps, copy_keeps, copy_no_overwrite_keeps}
 use Rattle.bz_list.proofs.ProperCommands.{add_keeps, remove_values_keeps, replace_keeps, substitute_keeps, move_keeps}
 use Rattle.bz_attribute.proofs.ProperMade.{made_rule, kind_function}

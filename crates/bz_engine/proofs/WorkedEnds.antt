@@ -102,7 +102,7 @@ usage = (
   (λ world. usage_of (codes "//:x" ∷ []) no_command (codes "buildozer: no command\n") world refl refl refl),
   (λ world. usage_of [] no_command (codes "buildozer: no command\n") world refl refl refl),
   (λ world. usage_of (codes "add deps" ∷ codes "grow" ∷ codes "//:x" ∷ []) (refused (codes "add deps") (Command Arguments))
-      (codes "buildozer: add deps: Arguments (32)\n") world refl
+      (codes "buildozer: add deps: Arguments (32)\nbuildozer: the form is 'add ATTR VALUE..'\n") world refl
       (record { front = []; rest = codes "grow" ∷ codes "//:x" ∷ []; asked = nothing_asked; split = refl; before = refl; fault = inl refl }) refl),
   (λ world. usage_of (codes "delete" ∷ codes "//a/:x" ∷ []) (refused (codes "//a/:x") BadTarget) (codes "buildozer: //a/:x: BadTarget (12)\n") world refl
       (record { front = codes "delete" ∷ []; rest = []; asked = only_delete; split = refl; before = refl; fault = inl refl }) refl),

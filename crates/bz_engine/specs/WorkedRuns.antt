@@ -30,7 +30,7 @@ WorkedUsage =
     IsUsage (codes "delete" ∷ []) (codes "buildozer: no target\n")
     × IsUsage (codes "//:x" ∷ []) (codes "buildozer: no command\n") × IsUsage [] (codes "buildozer: no command\n")
     -- 'add deps' grow //:x: the first refused operand is told; delete //a/:x; help //:x
-    × IsUsage (codes "add deps" ∷ codes "grow" ∷ codes "//:x" ∷ []) (codes "buildozer: add deps: Arguments (32)\n")
+    × IsUsage (codes "add deps" ∷ codes "grow" ∷ codes "//:x" ∷ []) (codes "buildozer: add deps: Arguments (32)\nbuildozer: the form is 'add ATTR VALUE..'\n")
     × IsUsage (codes "delete" ∷ codes "//a/:x" ∷ []) (codes "buildozer: //a/:x: BadTarget (12)\n")
     × IsUsage (codes "help" ∷ codes "//:x" ∷ []) (codes "buildozer: help: Unknown (31)\nbuildozer: see buildozer --help, or man buildozer\n")
     -- delete -f lines; --stdout --journal undo //:x

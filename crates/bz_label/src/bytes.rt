@@ -1,6 +1,4 @@
-//! The calls that take no memory, over bytes.
-//!
-//! The crate's calls of the same names take `&str`; these serve who holds the bytes of a text.
+//! The calls that take no memory, over the bytes of texts.
 ghost use Rattle.std.specs.Prelude.{◌≡◌, ◌↔◌, [], ◌∷◌, false, get_or, if◌then◌else◌, IsTrue};
 ghost use Rattle.std.specs.Str.{bytes_eq};
 ghost use Rattle.std.specs.List.{list_any};

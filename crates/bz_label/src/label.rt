@@ -1,11 +1,10 @@
 //! Labels.
-ghost use Rattle.std.specs.Prelude.{◌≡◌, ◌↔◌, IsTrue, IfOk, Err};
-ghost use Rattle.bz_label.specs.Labels.{IsLabel, IsSame};
+ghost use Rattle.std.specs.Prelude.{◌≡◌, ◌↔◌, IfOk, Err};
+ghost use Rattle.bz_label.specs.Labels.{IsLabel};
 ghost use Rattle.bz_label.specs.Forms.{label_of};
 ghost use Rattle.bz_label.specs.Faults.{label_fault_number};
 ghost use Rattle.bz_label.specs.declared.label.Label.{Label};
 
-use crate::bytes;
 use crate::form::{Parts, parts_of};
 use bz_items::{Memory, Text};
 use std::alloc::Global;
@@ -78,12 +77,4 @@ impl Label {
         };
         Ok(copied(alloc, parts)?)
     }
-}
-
-/// Whether two texts mean the same in the current package: both are labels with equal three parts, or the texts are
-/// equal. It takes no memory.
-pub fn same(current: &str, first: &str, second: &str) -> bool
-    ensures { IsTrue result ↔ IsSame current.now first.now second.now }
-{
-    bytes::same(current.as_bytes(), first.as_bytes(), second.as_bytes())
 }

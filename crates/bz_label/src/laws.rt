@@ -33,18 +33,13 @@ pub fn label_functions()
     ensures shorter { (current text : List ℕ) → IsShortened current text (shortened current text) }
 {}
 
-/// A text has one shorter form in a package.
-pub fn one_short(current: &str, text: &str, one: &str, other: &str)
-    requires first { IsShortened current.now text.now one.now }
-    requires second { IsShortened current.now text.now other.now }
-    ensures { one.now ≡ other.now }
-{}
-
-/// A text has one form without a repeated name.
-pub fn one_repeat(text: &str, one: &str, other: &str)
-    requires first { IsUnrepeated text.now one.now }
-    requires second { IsUnrepeated text.now other.now }
-    ensures { one.now ≡ other.now }
+/// A shorter form means the same as the text, and is shortened no further; the one that looks at no package does so in every package.
+/// A text has one of each.
+pub fn shorter_forms()
+    ensures shortened { (current text short : List ℕ) → IsShortened current text short → IsSame current text short × IsShortened current short short }
+    ensures unrepeated { (text short : List ℕ) → IsUnrepeated text short → ((current : List ℕ) → IsSame current text short) × IsUnrepeated short short }
+    ensures one_shortened { (current text one other : List ℕ) → IsShortened current text one → IsShortened current text other → one ≡ other }
+    ensures one_unrepeated { (text one other : List ℕ) → IsUnrepeated text one → IsUnrepeated text other → one ≡ other }
 {}
 
 /// The order of keys is total, and ties only equal texts.

@@ -7,6 +7,7 @@ use Rattle.bz_words.specs.declared.command.Operation.TheVariants as w
 use Rattle.bz_words.specs.declared.command.RuleOperation.TheVariants as wr
 use Rattle.bz_words.specs.declared.fault.CommandFault.TheVariants.{Unknown, Arguments}
 use Rattle.bz_line.specs.Asked.{Asked, Asking, Usage, of_operand, no_command, no_target, no_line, nul, operand_group}
+use Rattle.bz_line.specs.Hints.{hint_for}
 use Rattle.bz_line.specs.Line.{CommandLine, Given, operands, script, of_clap, beside_script, beside_stdout, command_line_of}
 use Rattle.bz_line.specs.Operands.{operand_target, verb_of}
 use Rattle.bz_line.specs.Script.{byte_order_mark, script_of}
@@ -119,5 +120,16 @@ Listed = (verb_of (codes " journal ") ≡ Ok Journal) × (verb_of (codes "journa
     × (operand_group (codes "journal" ∷ codes "//a:x" ∷ []) ≡ Ok (record { commands = asking Journal (codes "journal") ∷ []; targets = meant (codes "x") ∷ [] }))
     × (prints Journal ≡ true) × (prints (Undo 1) ≡ false) × (prints (Redo 1) ≡ false)
 
+abbrev tells : Bytes → Bytes → Type 0
+tells operand lines = hint_for (record { operand = operand; fault = Command Arguments }) ≡ lines
+
+-- the forms of a command; a name without its words; words of `fix`, one of them twice; a step of a history
+abbrev Forms : Type 0
+Forms = tells (codes "set kind") (codes "buildozer: the form is 'set ATTR VALUE..' or 'set kind KIND'\n")
+    × tells (codes " add ")
+    (codes "buildozer: the form is 'add ATTR VALUE..'\nbuildozer: on a command line, put a command and its words in one pair of quotation marks\n")
+    × tells (codes "fix unusedLoads unusedLoads") (codes "buildozer: the form is 'fix [unusedLoads] [movePackageToTop]'\n")
+    × tells (codes "undo 0") (codes "buildozer: the form is 'undo [N]'\n")
+
 abbrev pub WorkedCommandLines : Type 0
-WorkedCommandLines = Words × Scripts × Journals × Groups × Lines × Bytewise × Faults × Operands × Listed
+WorkedCommandLines = Words × Scripts × Journals × Groups × Lines × Bytewise × Faults × Operands × Listed × Forms

@@ -1,7 +1,8 @@
 //! The words of a command line: options, and where commands and targets stand.
-ghost use Rattle.std.specs.Prelude.{◌≡◌, [], false, Ok, Err, IfOk, IfErr, IfSome, map};
-ghost use Rattle.clap.specs.Words.{app_of, rule_of, found_of, fault_of, matches_of, rows_of};
-ghost use Rattle.bz_line.specs.App.{nameless, buildozer_app, lines_app, options_app, keep_going_rule, file_rule, stdout_rule, quiet_rule, journal_rule, operand_rule};
+ghost use Rattle.std.specs.Prelude.{◌≡◌, [], false, Some, Ok, Err, IfOk, IfErr, IfSome, map};
+ghost use Rattle.clap.specs.Words.{app_of, new_rule, rule_of, found_of, fault_of, matches_of, rows_of};
+ghost use Rattle.clap.specs.declared.builder.action.ArgAction.TheVariants.{SetTrue};
+ghost use Rattle.bz_line.specs.App.{nameless, buildozer_app, lines_app, options_app, keep_going_rule, file_rule, operand_rule};
 ghost use Rattle.bz_line.specs.Line.{is_flag_set, options_of, given_of, command_line_of};
 ghost use Rattle.bz_line.specs.Shown.{given_in, line_in, line_usage_in};
 
@@ -87,34 +88,15 @@ fn file<'a>(alloc: Global) -> Arg<'a>
     )
 }
 
-fn to_stdout<'a>(alloc: Global) -> Arg<'a>
-    ensures rule { rule_of result ≡ stdout_rule }
+// An option of this name without a value.
+fn flag<'a>(alloc: Global, name: &'a str, help: &'a str) -> Arg<'a>
+    ensures rule { rule_of result ≡ record (new_rule name.entry.now) { long = Some name.entry.now; action = Some SetTrue } }
     ensures local { result.global ≡ false }
 {
-    Arg::new(alloc, "stdout")
-        .long("stdout")
+    Arg::new(alloc, name)
+        .long(name)
         .action(ArgAction::SetTrue)
-        .help("Writes changed files to standard output instead of replacing them")
-}
-
-fn quiet<'a>(alloc: Global) -> Arg<'a>
-    ensures rule { rule_of result ≡ quiet_rule }
-    ensures local { result.global ≡ false }
-{
-    Arg::new(alloc, "quiet")
-        .long("quiet")
-        .action(ArgAction::SetTrue)
-        .help("Does not report which files were written")
-}
-
-fn journal<'a>(alloc: Global) -> Arg<'a>
-    ensures rule { rule_of result ≡ journal_rule }
-    ensures local { result.global ≡ false }
-{
-    Arg::new(alloc, "journal")
-        .long("journal")
-        .action(ArgAction::SetTrue)
-        .help("Keeps FILE.journal beside each file, so that a later run can undo")
+        .help(help)
 }
 
 fn operand<'a>(alloc: Global) -> Arg<'a>
@@ -147,9 +129,17 @@ fn options_command<'a>(alloc: Global) -> Result<Command<'a>, AllocError>
     ensures { IfOk result (λ command. app_of command ≡ options_app) }
 {
     lines_command(alloc)?
-        .arg(to_stdout(alloc))?
-        .arg(quiet(alloc))?
-        .arg(journal(alloc))
+        .arg(flag(
+            alloc,
+            "stdout",
+            "Writes changed files to standard output instead of replacing them",
+        ))?
+        .arg(flag(alloc, "quiet", "Does not report which files were written"))?
+        .arg(flag(
+            alloc,
+            "journal",
+            "Keeps FILE.journal beside each file, so that a later run can undo",
+        ))
 }
 
 fn buildozer_command<'a>(alloc: Global) -> Result<Command<'a>, AllocError>

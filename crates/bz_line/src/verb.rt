@@ -3,7 +3,7 @@ ghost use Rattle.std.specs.Prelude.{◌≡◌, ◌⊎◌, Ok, Err, IfOk, IfErr};
 ghost use Rattle.bz_words.specs.Commands.{command_in};
 ghost use Rattle.bz_words.specs.Proper.{AreUtf8};
 ghost use Rattle.bz_words.specs.Refused.{HasBadPattern};
-ghost use Rattle.bz_line.specs.Operands.{verb_in, verb_of, by_command, by_steps, count_of, history_verb_in, journal_of, steps_of};
+ghost use Rattle.bz_line.specs.Operands.{verb_in, verb_of, by_command, count_of, history_verb_in, journal_of, steps_of};
 ghost use Rattle.bz_line.specs.Refused.{IsPatternFault};
 ghost use Rattle.bz_line.specs.Verbs.{prints, fault_name, fault_number};
 
@@ -116,18 +116,6 @@ fn read_steps(arguments: &[Text]) -> Result<u32, OperandFault>
     }
 }
 
-fn undo_of(arguments: &[Text]) -> Result<Verb, OperandFault>
-    ensures { result ≡ by_steps Verb.Undo (steps_of arguments.now) }
-{
-    Ok(Verb::Undo(read_steps(arguments)?))
-}
-
-fn redo_of(arguments: &[Text]) -> Result<Verb, OperandFault>
-    ensures { result ≡ by_steps Verb.Redo (steps_of arguments.now) }
-{
-    Ok(Verb::Redo(read_steps(arguments)?))
-}
-
 fn journal_of(arguments: &[Text]) -> Result<Verb, OperandFault>
     ensures { result ≡ journal_of arguments.now }
 {
@@ -144,8 +132,8 @@ fn history_verb_in(words: &[Text]) -> Option<Result<Verb, OperandFault>>
 {
     let (name, arguments) = words.split_first()?;
     match name.as_slice() {
-        b"undo" => Some(undo_of(arguments)),
-        b"redo" => Some(redo_of(arguments)),
+        b"undo" => Some(read_steps(arguments).map(|count| Verb::Undo(count))),
+        b"redo" => Some(read_steps(arguments).map(|count| Verb::Redo(count))),
         b"journal" => Some(journal_of(arguments)),
         _ => None,
     }

@@ -18,7 +18,7 @@ use Rattle.bz_value.specs.Comments.{HostComments}
 use Rattle.bz_items.specs.Characters.{Bytes}
 use Rattle.bz_value.specs.Proper.{ProperExpr, behind_expr}
 use Rattle.bz_value.proofs.FormParts.{AreParts}
-use Rattle.bz_pattern.specs.Patterns.{substituted}
+use Rattle.bz_words.specs.Patterns.{substituted}
 use Rattle.bz_words.specs.Proper.{AreUtf8}
 use Rattle.bz_words.specs.Quoted.{quoted_of}
 use Rattle.bz_rule.specs.Rules.{body}

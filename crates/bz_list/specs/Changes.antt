@@ -4,7 +4,7 @@ use Rattle.std.specs.List.{list_any, filter}
 use Rattle.std.specs.Option.{option_map_or}
 use Rattle.bz_value.specs.declared.value.Expr.{Expr}
 use Rattle.bz_items.specs.Characters.{Bytes}
-use Rattle.bz_pattern.specs.Patterns.{substituted}
+use Rattle.bz_words.specs.Patterns.{substituted}
 use Rattle.bz_words.specs.declared.command.ValueOperation.{ValueOperation}
 use Rattle.bz_words.specs.declared.command.ValueOperation.TheVariants as wv
 use Rattle.bz_words.specs.declared.command.Attributes.{Attributes}

@@ -12,10 +12,9 @@ use bz_attribute::{
     string_text,
 };
 use bz_items::{Items, Memory, Text};
-use bz_pattern::Pattern;
 use bz_tree::Kind;
 use bz_value::Expr;
-use bz_words::Attributes;
+use bz_words::{Attributes, Pattern};
 use std::alloc::Global;
 
 /// What is done to an item, in the current package.

@@ -1,11 +1,15 @@
+pub mod Alike
 pub mod CommentWords
 pub mod CutTexts
 pub mod EachForms
 pub mod NameTests
 pub mod Named
 pub mod Pieces
+pub mod PlainTexts
 pub mod ProperCommands
 pub mod ProperEntries
 pub mod ProperReads
 pub mod Strings
+pub mod TextMatches
+pub mod TextParts
 pub mod Utf8Texts

@@ -6,7 +6,7 @@ use Rattle.std.specs.List.{list_any}
 use Rattle.std.proofs.lemmas.Bool.{cases_Bool}
 use Rattle.std.proofs.lemmas.Slice.Eq.{bytes_eq-Decides}
 use Rattle.bz_items.specs.Characters.{Bytes}
-use Rattle.bz_words.specs.Commands.{ReadCommand, named_in, commands, command_names, command_in}
+use Rattle.bz_words.specs.Commands.{ReadCommand, commands, command_names, command_in, row_named}
 use Rattle.bz_words.specs.declared.fault.CommandFault.TheVariants.{Unknown, Arguments}
 use Rattle.bz_words.specs.Refused.{IsReadAs}
 
@@ -33,12 +33,12 @@ differs name text other = elim (cases_Bool (bytes_eq name text)) [
   | inr e ↦ e
 ]
 
-none_in : (table : Table) (name : Bytes) (words : List Bytes) → IsNone name (map (λ command. command.0) table) → named_in table name words ≡ None
-none_in [] name words other = refl
-none_in (command ∷ table) name words other = rw (differs name command.0 other.0) (none_in table name words other.1)
+none_in : (table : Table) (name : Bytes) → IsNone name (map (λ command. command.0) table) → row_named table name ≡ None
+none_in [] name other = refl
+none_in (command ∷ table) name other = rw (differs name command.0 other.0) (none_in table name other.1)
 
 pub unknown : (name : Bytes) (words : List Bytes) → IsNone name command_names → IsReadAs (command_in true (name ∷ words)) (Err Unknown)
-unknown name words other = inl (inl (ap (λ found. option_map_or (λ read. if true then read else Err Arguments) found (Err Unknown)) (none_in commands name words other)))
+unknown name words other = inl (inl (ap (λ found. option_map_or (λ reader. reader words) found (Err Unknown)) (none_in commands name other)))
 
 -- ---- a text that is too long
 
@@ -48,7 +48,7 @@ told true = Err Arguments
 told false = Err Unknown
 
 told_by : (table : Table) (name : Bytes) (words : List Bytes)
-    → option_map_or (λ read. if false then read else Err Arguments) (named_in table name words) (Err Unknown) ≡ told (list_any (bytes_eq name) (map (λ command. command.0) table))
+    → option_map_or (λ reader. if false then reader words else Err Arguments) (row_named table name) (Err Unknown) ≡ told (list_any (bytes_eq name) (map (λ command. command.0) table))
 told_by [] name words = refl
 told_by (command ∷ table) name words = elim (cases_Bool (bytes_eq name command.0)) [
   | inl e ↦ rw e refl

@@ -91,9 +91,12 @@ rename_proper (from ∷ to ∷ more ∷ words) u = tt
 abbrev Reader : Type 0
 Reader = List Bytes → ReadCommand
 
+abbrev IsProperReader : Reader → Type 0
+IsProperReader reader = (words : List Bytes) → AreUtf8 words → ReadsProper (reader words)
+
 abbrev AllReadProper : List (Bytes × Reader) → Type 0
 AllReadProper [] = Unit {0}
-AllReadProper (command ∷ table) = ((words : List Bytes) → AreUtf8 words → ReadsProper (command.1 words)) × AllReadProper table
+AllReadProper (command ∷ table) = IsProperReader command.1 × AllReadProper table
 
 -- a command before others
 with_row : {A B : Type 0} → A → B → A × B
@@ -123,19 +126,20 @@ commands_proper =
     (with_row fix_proper
     (with_row print_proper tt))))))))))))))))))))
 
-named_proper : (table : List (Bytes × Reader)) → AllReadProper table → (name : Bytes) (words : List Bytes) → AreUtf8 words → IfSome (c.named_in table name words) ReadsProper
-named_proper [] h name words u = tt
-named_proper (command ∷ table) h name words u = either ReadsProper (bytes_eq name command.0) _ _ (λ _. h.0 words u) (named_proper table h.1 name words u)
+named_proper : (table : List (Bytes × Reader)) → AllReadProper table → (name : Bytes) → IfSome (c.row_named table name) IsProperReader
+named_proper [] h name = tt
+named_proper (command ∷ table) h name = either IsProperReader (bytes_eq name command.0) _ _ (λ _. h.0) (named_proper table h.1 name)
 
-fitting : (fits : Bool) (o : Option ReadCommand) → IfSome o ReadsProper → ReadsProper (option_map_or (λ read. if fits then read else Err Arguments) o (Err Unknown))
-fitting true (Some read) h = h
-fitting false (Some read) h = tt
-fitting fits None h = tt
+fitting : (fits : Bool) (words : List Bytes) → AreUtf8 words → (o : Option Reader) → IfSome o IsProperReader
+    → ReadsProper (option_map_or (λ reader. if fits then reader words else Err Arguments) o (Err Unknown))
+fitting true words u (Some reader) h = h words u
+fitting false words u (Some reader) h = tt
+fitting fits words u None h = tt
 
 -- The operation that is read in words is proper.
 pub in_words : (fits : Bool) (words : List Bytes) → AreUtf8 words → ReadsProper (c.command_in fits words)
 in_words fits [] u = tt
-in_words fits (name ∷ words) u = fitting fits (c.named_in c.commands name words) (named_proper c.commands commands_proper name words u.1)
+in_words fits (name ∷ words) u = fitting fits words u.1 (c.row_named c.commands name) (named_proper c.commands commands_proper name)
 
 pub read_proper : (fits : Bool) (words : List Bytes) (operation : Operation) → AreUtf8 words → c.command_in fits words ≡ Ok operation → IsProperCommand operation
 read_proper fits words operation u e = subst ReadsProper e (in_words fits words u)

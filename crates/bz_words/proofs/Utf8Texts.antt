@@ -50,7 +50,7 @@ cut_utf8 byte front (first ∷ rest) l u =
           rw e (byte_behind front first (cut_at byte rest) (cut_utf8 byte (front ++ first ∷ []) rest l (subst IsUtf8 (sym (append_assoc front (first ∷ []) rest)) u)))
     ]
 
-one_ascii : (byte : ℕ) → byte < 128 → IsUtf8 (byte ∷ [])
+pub one_ascii : (byte : ℕ) → byte < 128 → IsUtf8 (byte ∷ [])
 one_ascii byte h = IsUtf8-from_ascii (byte ∷ []) (IsAscii-from_all (byte ∷ []) (All-cons (λ b. b < 128) byte [] h (λ k d l. absurd (omega arith))))
 
 -- ---- a word between quotation marks

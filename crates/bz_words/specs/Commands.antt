@@ -290,10 +290,36 @@ commands =
 abbrev pub command_names : List Bytes
 command_names = map (λ command. command.0) commands
 
--- what the command of this name reads in these words, where there is one
-abbrev pub named_in : List (Bytes × (List Bytes → ReadCommand)) → Bytes → List Bytes → Option ReadCommand
-named_in [] name words = None
-named_in (command ∷ more) name words = if bytes_eq name command.0 then Some (command.1 words) else named_in more name words
+-- the forms of the words of each command, as they are told where words have another one
+abbrev pub command_forms : List (Bytes × Bytes)
+command_forms =
+    (codes "new", codes "'new KIND NAME [before RULE]' or 'new KIND NAME [after RULE]'")
+    ∷ (codes "delete", codes "'delete'")
+    ∷ (codes "set", codes "'set ATTR VALUE..' or 'set kind KIND'")
+    ∷ (codes "set_if_absent", codes "'set_if_absent ATTR VALUE..'")
+    ∷ (codes "add", codes "'add ATTR VALUE..'")
+    ∷ (codes "remove", codes "'remove ATTR', 'remove *' or 'remove ATTR VALUE..'")
+    ∷ (codes "replace", codes "'replace ATTR OLD NEW' or 'replace * OLD NEW'")
+    ∷ (codes "substitute", codes "'substitute ATTR PATTERN TEMPLATE' or 'substitute * PATTERN TEMPLATE'")
+    ∷ (codes "move", codes "'move FROM TO VALUE..' or 'move FROM TO *'")
+    ∷ (codes "rename", codes "'rename OLD NEW'")
+    ∷ (codes "copy", codes "'copy ATTR RULE'")
+    ∷ (codes "copy_no_overwrite", codes "'copy_no_overwrite ATTR RULE'")
+    ∷ (codes "dict_add", codes "'dict_add ATTR KEY:VALUE..'")
+    ∷ (codes "dict_set", codes "'dict_set ATTR KEY:VALUE..'")
+    ∷ (codes "dict_remove", codes "'dict_remove ATTR KEY..'")
+    ∷ (codes "new_load", codes "'new_load PATH [TO=]FROM..'")
+    ∷ (codes "comment", codes "'comment [ATTR [VALUE]] TEXT'")
+    ∷ (codes "print_comment", codes "'print_comment [ATTR [VALUE]]'")
+    ∷ (codes "remove_comment", codes "'remove_comment [ATTR [VALUE]]'")
+    ∷ (codes "fix", codes "'fix [unusedLoads] [movePackageToTop]'")
+    ∷ (codes "print", codes "'print [FIELD..]'")
+    ∷ []
+
+-- what a table has for this name, where it has something
+abbrev pub row_named : {X : Type 0} → List (Bytes × X) → Bytes → Option X
+row_named [] name = None
+row_named (row ∷ rows) name = if bytes_eq name row.0 then Some row.1 else row_named rows name
 
 -- the most bytes of a command's text
 abbrev pub text_limit : ℕ
@@ -302,7 +328,7 @@ text_limit = 65536
 -- An unknown name is told first, then a text that is too long, then what is wrong with the words.
 abbrev pub command_in : Bool → List Bytes → ReadCommand
 command_in fits [] = Err Unknown
-command_in fits (name ∷ words) = option_map_or (λ read. if fits then read else Err Arguments) (named_in commands name words) (Err Unknown)
+command_in fits (name ∷ words) = option_map_or (λ reader. if fits then reader words else Err Arguments) (row_named commands name) (Err Unknown)
 
 -- The command of a text.
 abbrev pub command_of : Bytes → ReadCommand

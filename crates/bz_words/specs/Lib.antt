@@ -1,6 +1,7 @@
 pub mod Commands
 pub mod Faults
 pub mod Identifiers
+pub mod Patterns
 pub mod Printing
 pub mod Proper
 pub mod Quoted

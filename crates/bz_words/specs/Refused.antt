@@ -1,6 +1,6 @@
 -- Why a text gives no command.
 use Rattle.std.specs.Prelude.{◌≡◌, ◌⊎◌, Ok, Err}
-use Rattle.bz_pattern.specs.Patterns.{IsRefusedPattern}
+use Rattle.bz_words.specs.Patterns.{IsRefusedPattern}
 use Rattle.bz_items.specs.Characters.{Bytes}
 use Rattle.bz_words.specs.Commands.{ReadCommand, command_of}
 use Rattle.bz_words.specs.declared.command.Operation.TheVariants as w

@@ -1,6 +1,6 @@
 //! Commands, as their words give them.
+use crate::pattern::Pattern;
 use bz_items::{Items, Text};
-use bz_pattern::Pattern;
 use std::marker::Model;
 
 /// A command as it can be read: the attributes of its operation are identifiers, its kinds are kinds, where values are

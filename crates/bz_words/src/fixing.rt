@@ -60,8 +60,6 @@ fn fixes_of(words: &[Text]) -> Option<Fixes>
 pub(crate) fn fix_of(words: Vec<Text>) -> Read
     ensures { result ≡ c.fix_of words.items }
 {
-    match fixes_of(&words) {
-        Some(fixes) => Ok(Operation::Load(LoadOperation::Fix { fixes })),
-        None => Err(CommandFault::Arguments),
-    }
+    let fixes = fixes_of(&words).ok_or(CommandFault::Arguments)?;
+    Ok(Operation::Load(LoadOperation::Fix { fixes }))
 }

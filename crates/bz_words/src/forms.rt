@@ -89,10 +89,7 @@ pub(crate) fn attributes_of(word: Text) -> Option<Attributes>
 pub(crate) fn has_values(words: &[Text]) -> bool
     ensures { result ≡ is_nonempty words.now }
 {
-    match words {
-        [] => false,
-        _ => true,
-    }
+    !words.is_empty()
 }
 
 /// The attribute and the word behind it. The error: `Arguments`: the words have another form.
@@ -137,10 +134,8 @@ pub(crate) fn attributes_and_words(
     if !words.is_empty() {
         return Err(CommandFault::Arguments);
     }
-    match attributes_of(attribute) {
-        Some(attributes) => Ok((attributes, first, second)),
-        None => Err(CommandFault::Arguments),
-    }
+    let attributes = attributes_of(attribute).ok_or(CommandFault::Arguments)?;
+    Ok((attributes, first, second))
 }
 
 /// What a word of a command may be.

@@ -48,28 +48,22 @@ pub(crate) fn comment_of(mut words: Vec<Text>) -> Read
     if !is_one_line(&text) {
         return Err(CommandFault::Arguments);
     }
-    match host_of(words) {
-        Some(host) => Ok(Operation::Comment(CommentOperation::Add { host, text })),
-        None => Err(CommandFault::Arguments),
-    }
+    let host = host_of(words).ok_or(CommandFault::Arguments)?;
+    Ok(Operation::Comment(CommentOperation::Add { host, text }))
 }
 
 /// `print_comment [ATTRIBUTE [VALUE]]`. The error: `Arguments`: the words have another form.
 pub(crate) fn print_comment_of(words: Vec<Text>) -> Read
     ensures { result ≡ c.print_comment_of words.items }
 {
-    match host_of(words) {
-        Some(host) => Ok(Operation::Comment(CommentOperation::Print { host })),
-        None => Err(CommandFault::Arguments),
-    }
+    let host = host_of(words).ok_or(CommandFault::Arguments)?;
+    Ok(Operation::Comment(CommentOperation::Print { host }))
 }
 
 /// `remove_comment [ATTRIBUTE [VALUE]]`. The error: `Arguments`: the words have another form.
 pub(crate) fn remove_comment_of(words: Vec<Text>) -> Read
     ensures { result ≡ c.remove_comment_of words.items }
 {
-    match host_of(words) {
-        Some(host) => Ok(Operation::Comment(CommentOperation::Remove { host })),
-        None => Err(CommandFault::Arguments),
-    }
+    let host = host_of(words).ok_or(CommandFault::Arguments)?;
+    Ok(Operation::Comment(CommentOperation::Remove { host }))
 }

@@ -1,5 +1,6 @@
 //! Facts about the definitions, for readers: the functions do nothing.
 ghost use Rattle.bz_words.specs.Identifiers.{IdentifiersAreNames};
+ghost use Rattle.bz_words.specs.Patterns.{TextStaysText};
 ghost use Rattle.bz_words.specs.Worked.{WorkedCommands, WorkedIdentifiers, WorkedStrings, WorkedWords};
 
 /// An identifier is a lexeme of class Name, and each such lexeme is one.
@@ -25,4 +26,10 @@ pub fn worked_commands()
 /// Worked rows: words as strings.
 pub fn worked_strings()
     ensures { WorkedStrings }
+{}
+
+/// What a substitution makes of a text is a text, where its pattern and its template are texts.
+#[tactic(auto, using(crate::proofs::TextMatches::substituted_utf8))]
+pub fn text_stays_text()
+    ensures { TextStaysText }
 {}

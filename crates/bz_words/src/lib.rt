@@ -10,6 +10,7 @@ mod hosts;
 mod identifier;
 mod laws;
 mod loads;
+mod pattern;
 mod printing;
 mod quoting;
 mod reading;
@@ -25,8 +26,10 @@ pub use fault::CommandFault;
 pub use forms::as_text;
 pub use identifier::{is_identifier, is_kind};
 pub use laws::{
-    identifiers_are_names, worked_commands, worked_identifiers, worked_strings, worked_words,
+    identifiers_are_names, text_stays_text, worked_commands, worked_identifiers, worked_strings,
+    worked_words,
 };
+pub use pattern::Pattern;
 pub use quoting::quoted;
-pub use table::{COMMAND_NAMES, TEXT_LIMIT};
+pub use table::{COMMAND_NAMES, TEXT_LIMIT, command_form};
 pub use words::read_words;

@@ -1,5 +1,5 @@
 //! The table of commands, and what each reads in the words behind its name.
-ghost use Rattle.std.specs.Prelude.{◌≡◌, ◌⊎◌, ◌∷◌, true, false, bytes_eq, Ok, Err, IfOk, IfErr};
+ghost use Rattle.std.specs.Prelude.{◌≡◌, ◌⊎◌, ◌∷◌, true, false, bytes_eq, Ok, Err, IfOk, IfErr, map, option_map};
 ghost use Rattle.std.specs.List.{list_any};
 ghost use Rattle.bz_words.specs.Commands as c;
 ghost use Rattle.bz_words.specs.Proper.{AreUtf8};
@@ -22,44 +22,50 @@ use crate::words::read_words;
 use bz_items::Text;
 use std::alloc::Global;
 
-// Hands the table to another macro: the name of each command, and what reads the words behind it.
+// Hands the table to another macro: the name of each command, what reads the words behind it, and the forms that these have.
 macro_rules! commands {
     ($with:ident $($argument:ident)*) => {
         $with!(
             ($($argument)*)
-            "new" => new_of,
-            "delete" => delete_of,
-            "set" => set_of,
-            "set_if_absent" => set_if_absent_of,
-            "add" => add_of,
-            "remove" => remove_of,
-            "replace" => replace_of,
-            "substitute" => substitute_of,
-            "move" => move_of,
-            "rename" => rename_of,
-            "copy" => copy_of,
-            "copy_no_overwrite" => copy_no_overwrite_of,
-            "dict_add" => dict_add_of,
-            "dict_set" => dict_set_of,
-            "dict_remove" => dict_remove_of,
-            "new_load" => new_load_of,
-            "comment" => comment_of,
-            "print_comment" => print_comment_of,
-            "remove_comment" => remove_comment_of,
-            "fix" => fix_of,
-            "print" => print_of
+            "new" => new_of, "'new KIND NAME [before RULE]' or 'new KIND NAME [after RULE]'";
+            "delete" => delete_of, "'delete'";
+            "set" => set_of, "'set ATTR VALUE..' or 'set kind KIND'";
+            "set_if_absent" => set_if_absent_of, "'set_if_absent ATTR VALUE..'";
+            "add" => add_of, "'add ATTR VALUE..'";
+            "remove" => remove_of, "'remove ATTR', 'remove *' or 'remove ATTR VALUE..'";
+            "replace" => replace_of, "'replace ATTR OLD NEW' or 'replace * OLD NEW'";
+            "substitute" => substitute_of, "'substitute ATTR PATTERN TEMPLATE' or 'substitute * PATTERN TEMPLATE'";
+            "move" => move_of, "'move FROM TO VALUE..' or 'move FROM TO *'";
+            "rename" => rename_of, "'rename OLD NEW'";
+            "copy" => copy_of, "'copy ATTR RULE'";
+            "copy_no_overwrite" => copy_no_overwrite_of, "'copy_no_overwrite ATTR RULE'";
+            "dict_add" => dict_add_of, "'dict_add ATTR KEY:VALUE..'";
+            "dict_set" => dict_set_of, "'dict_set ATTR KEY:VALUE..'";
+            "dict_remove" => dict_remove_of, "'dict_remove ATTR KEY..'";
+            "new_load" => new_load_of, "'new_load PATH [TO=]FROM..'";
+            "comment" => comment_of, "'comment [ATTR [VALUE]] TEXT'";
+            "print_comment" => print_comment_of, "'print_comment [ATTR [VALUE]]'";
+            "remove_comment" => remove_comment_of, "'remove_comment [ATTR [VALUE]]'";
+            "fix" => fix_of, "'fix [unusedLoads] [movePackageToTop]'";
+            "print" => print_of, "'print [FIELD..]'";
         )
     };
 }
 
 macro_rules! names {
-    (() $($name:literal => $reader:ident),*) => {
+    (() $($name:literal => $reader:ident, $forms:literal;)*) => {
         &[$($name),*]
     };
 }
 
+macro_rules! names_and_forms {
+    (() $($name:literal => $reader:ident, $forms:literal;)*) => {
+        &[$(($name, $forms)),*]
+    };
+}
+
 macro_rules! read_by_name {
-    (($given:ident $words:ident) $($name:literal => $reader:ident),*) => {
+    (($given:ident $words:ident) $($name:literal => $reader:ident, $forms:literal;)*) => {
         match $given {
             $($name => $reader($words),)*
             _ => Err(CommandFault::Unknown),
@@ -69,6 +75,27 @@ macro_rules! read_by_name {
 
 /// The names of all commands.
 pub const COMMAND_NAMES: &[&str] = commands!(names);
+
+const COMMAND_FORMS: &[(&str, &str)] = commands!(names_and_forms);
+
+// What a table of texts has for this name.
+fn row_named(rows: &[(&'static str, &'static str)], name: &str) -> Option<&'static str>
+    ensures { option_map (λ s. s.now) result ≡ c.row_named (map (λ row. (row.0.now, row.1.now)) rows.now) name.now }
+{
+    for row in rows {
+        if name == row.0 {
+            return Some(row.1);
+        }
+    }
+    None
+}
+
+/// The forms of the words of the command of this name, each in quotation marks.
+pub fn command_form(name: &str) -> Option<&'static str>
+    ensures { option_map (λ s. s.now) result ≡ c.row_named c.command_forms name.now }
+{
+    row_named(COMMAND_FORMS, name)
+}
 
 fn is_among(name: &str, names: &[&str]) -> bool
     ensures { result ≡ list_any (λ known. bytes_eq name.now known.now) names.now }

@@ -1,9 +1,10 @@
 //! Labels, targets, the order of keys and the tables of attributes.
 use bz_items::Memory;
-use bz_label::{
-    Label, LabelFault, Target, TargetFault, Which, is_label_attribute, is_list_attribute,
-    is_sorted, key_cmp, priority, same, shorten, shorten_repeat,
+use bz_label::bytes::{
+    is_label_attribute, is_list_attribute, is_sorted, key_cmp, priority, same, shortened,
+    unrepeated,
 };
+use bz_label::{Label, LabelFault, Target, TargetFault, Which};
 use sheets::{Case, CaseFault, Page};
 use std::alloc::{AllocError, Global};
 
@@ -38,17 +39,17 @@ impl LabelQuery {
     }
 
     pub(crate) fn answer(self, case: &Case, page: &mut Page) -> Result<(), CaseFault> {
-        let text = case.text(0)?;
-        let argument = case.argument()?;
+        let text = case.bytes(0)?;
+        let argument = case.argument.as_slice();
         match self {
-            LabelQuery::Label => label_of(case.alloc, argument, text, page)?,
-            LabelQuery::Same => page.answer(sameness(argument, text, case.text(1)?))?,
+            LabelQuery::Label => label_of(case.alloc, case.argument()?, case.text(0)?, page)?,
+            LabelQuery::Same => page.answer(sameness(argument, text, case.bytes(1)?))?,
             LabelQuery::Shorten => {
-                page.answer(shorten(case.alloc, argument, text)?.as_slice())?;
-                page.answer(shorten_repeat(case.alloc, text)?.as_slice())?;
+                page.answer(shortened(argument, text))?;
+                page.answer(unrepeated(text))?;
             }
             LabelQuery::Order => order_of(case, page)?,
-            LabelQuery::Target => target_of(case.alloc, text, page)?,
+            LabelQuery::Target => target_of(case.alloc, case.text(0)?, page)?,
             LabelQuery::Priority => {
                 let place = priority(text);
                 page.answer(format!(in case.alloc; "{place}")?.as_bytes())?;
@@ -93,7 +94,7 @@ fn label_of(alloc: Global, current: &str, text: &str, page: &mut Page) -> Result
 }
 
 /// Whether two texts mean the same, asked in both orders.
-fn sameness(current: &str, first: &str, second: &str) -> &'static [u8] {
+fn sameness(current: &[u8], first: &[u8], second: &[u8]) -> &'static [u8] {
     match (same(current, first, second), same(current, second, first)) {
         (true, true) => b"same",
         (false, false) => b"different",
@@ -108,7 +109,7 @@ fn order_of(case: &Case, page: &mut Page) -> Result<(), CaseFault> {
         for later in 0..case.texts.len() {
             let first = case.text(place)?;
             let second = case.text(later)?;
-            let order = key_cmp(first, second);
+            let order = key_cmp(first.as_bytes(), second.as_bytes());
             if order != place.cmp(&later) {
                 is_ordered = false;
                 let line = format!(in case.alloc; "{first} {second} {order:?}")?;

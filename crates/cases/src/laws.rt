@@ -2,7 +2,7 @@
 //! that what a law requires can be met.
 use bz_edit::advance;
 use bz_journal::{Session, history_kept, session_holds};
-use bz_label::{Label, LabelFault, Target, TargetFault, shorten, shorten_repeat};
+use bz_label::{Label, LabelFault, Target, TargetFault};
 use bz_parse::parse;
 use bz_tree::ReadFault;
 use sheets::{Case, CaseFault, Page};
@@ -101,7 +101,8 @@ fn call_words() {
     bz_label::laws::path_law();
     bz_label::laws::key_laws();
     bz_label::laws::label_functions();
-    bz_pattern::text_stays_text();
+    bz_label::laws::shorter_forms();
+    bz_words::text_stays_text();
     bz_words::identifiers_are_names();
     bz_words::worked_words();
     bz_words::worked_identifiers();
@@ -161,8 +162,6 @@ fn call_histories() {
 fn are_met(alloc: Global) -> bool {
     one_label(alloc).is_ok()
         && one_target(alloc).is_ok()
-        && one_short(alloc).is_ok()
-        && one_repeat(alloc).is_ok()
         && one_tree(alloc).is_ok()
         && one_step(alloc).is_ok()
         && one_history(alloc).is_ok()
@@ -179,20 +178,6 @@ fn one_target(alloc: Global) -> Result<(), TargetFault> {
     let one = Target::read(alloc, "//a:b")?;
     let other = Target::read(alloc, "//a:b")?;
     bz_label::laws::one_target("//a:b", &one, &other);
-    Ok(())
-}
-
-fn one_short(alloc: Global) -> Result<(), CaseFault> {
-    let short = shorten(alloc, "p", "//p:x")?;
-    let short = str::from_utf8(short.as_slice())?;
-    bz_label::laws::one_short("p", "//p:x", short, short);
-    Ok(())
-}
-
-fn one_repeat(alloc: Global) -> Result<(), CaseFault> {
-    let short = shorten_repeat(alloc, "//a/x:x")?;
-    let short = str::from_utf8(short.as_slice())?;
-    bz_label::laws::one_repeat("//a/x:x", short, short);
     Ok(())
 }
 

@@ -14,4 +14,5 @@ returns c = (
   (refl, refl, refl, refl, refl, refl, refl, refl),
   (refl, refl, refl, refl, refl, refl, refl, refl),
   (refl, refl, refl, refl, refl, refl),
+  (refl, refl, refl, refl),
 )

@@ -1,4 +1,0 @@
-pub mod Alike
-pub mod PlainTexts
-pub mod TextMatches
-pub mod TextParts
