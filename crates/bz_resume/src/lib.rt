@@ -14,6 +14,7 @@ mod saving;
 mod splitting;
 mod standing;
 mod telling;
+mod touching;
 
 pub use fault::ResumeFault;
 pub use resumed::Resumed;

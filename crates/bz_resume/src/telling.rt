@@ -14,10 +14,11 @@ use crate::fault::Halt;
 use crate::outlining::outline_of;
 use crate::placing::swap;
 use crate::reading::read;
+use crate::touching::is_led_to;
 use bz_edit::{EditFault, Step};
 use bz_items::{Items, Memory};
 use bz_parse::parse;
-use bz_tree::{Node, ReadFault, Tree};
+use bz_tree::{LENGTH_LIMIT, Node, ReadFault, Tree};
 use sha2::{Digest, Sha256};
 use std::alloc::{AllocError, Global};
 
@@ -72,11 +73,25 @@ pub(crate) fn has_digest(text: &[u8], digest: &[u8; 32]) -> bool
     own.as_slice() == digest.as_slice()
 }
 
-/// Whether a step leads from a tree to a text with this digest; the node is then the next tree, and `text` its text. The error:
-/// a growth was refused.
+/// The same of the node to which a step led from a tree: first by what the step touched, and by the whole text only where that
+/// says nothing.
+fn is_next_tree(node: &mut Node, step: &Step, text: &[u8]) -> Result<bool, Memory>
+    requires { text.now ≡ spell_node node.old }
+    ensures fine { (from : Node) → IsTree from → node.old ≡ swap_node step.now from → IfOk result (λ fine. IsTrue fine ↔ IsTree node.old) }
+    ensures node { IfOk result (λ fine. IsTrue fine → node.new ≡ node.old) }
+{
+    if text.len() <= LENGTH_LIMIT as usize && is_led_to(node, step.edits.as_slice())? {
+        return Ok(true);
+    }
+    is_tree(node, text)
+}
+
+/// Whether a step leads from a tree to a text with this digest; the node is then the next tree, and `text` its text. `next` is room
+/// for a text. The error: a growth was refused.
 fn goes_on(
     node: &mut Node,
     text: &mut Vec<u8>,
+    next: &mut Vec<u8>,
     step: &Step,
     digest: &[u8; 32],
 ) -> Result<bool, Memory>
@@ -91,18 +106,18 @@ fn goes_on(
         Err(EditFault::Memory) => return Err(AllocError),
         Err(EditFault::BadPlace) => return Ok(false),
     }
-    let mut next = Vec::new(node.parts.alloc());
-    node.spell_into(&mut next)?;
+    next.clear();
+    node.spell_into(next)?;
     if next.as_slice() == text.as_slice() {
         return Ok(false);
     }
     if !has_digest(next.as_slice(), digest) {
         return Ok(false);
     }
-    if !is_tree(node, next.as_slice())? {
+    if !is_next_tree(node, step, next.as_slice())? {
         return Ok(false);
     }
-    *text = next;
+    std::mem::swap(text, next);
     Ok(true)
 }
 
@@ -111,12 +126,14 @@ fn lead_on(tree: Tree, steps: &[Step], digests: &[[u8; 32]]) -> Result<bool, Mem
     requires { length steps.now ≡ length digests.now }
     ensures { IfOk result (λ told. IsTrue told ↔ AreTold tree steps.now digests.now) }
 {
-    let mut text = Vec::new(tree.root.parts.alloc());
+    let alloc = tree.root.parts.alloc();
+    let mut text = Vec::new(alloc);
     tree.spell_into(&mut text)?;
+    let mut next = Vec::new(alloc);
     let Tree { root } = tree;
     let mut node = root;
     for i in 0..steps.len() {
-        if !goes_on(&mut node, &mut text, &steps[i], &digests[i])? {
+        if !goes_on(&mut node, &mut text, &mut next, &steps[i], &digests[i])? {
             return Ok(false);
         }
     }
@@ -129,13 +146,21 @@ fn lead_back(tree: Tree, steps: &[Step], digests: &[[u8; 32]]) -> Result<bool, M
     ensures { IfOk result (λ told. IsTrue told ↔ AreTold tree (reverse steps.now) (reverse digests.now)) }
 {
     let count = steps.len();
-    let mut text = Vec::new(tree.root.parts.alloc());
+    let alloc = tree.root.parts.alloc();
+    let mut text = Vec::new(alloc);
     tree.spell_into(&mut text)?;
+    let mut next = Vec::new(alloc);
     let Tree { root } = tree;
     let mut node = root;
     for i in 0..count {
         let place = count - 1 - i;
-        if !goes_on(&mut node, &mut text, &steps[place], &digests[place])? {
+        if !goes_on(
+            &mut node,
+            &mut text,
+            &mut next,
+            &steps[place],
+            &digests[place],
+        )? {
             return Ok(false);
         }
     }

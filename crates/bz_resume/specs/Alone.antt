@@ -1,0 +1,63 @@
+-- Statements of a file by themselves.
+use Rattle.std.specs.Prelude.{◌≡◌, ◌⊎◌, ℕ, List, [], ◌∷◌, ◌++◌, Some, slice_get}
+use Rattle.std.specs.List.{AllByRecursion}
+use Rattle.bz_items.specs.Characters.{line_feed}
+use Rattle.bz_token.specs.declared.class.Class.TheVariants as c
+use Rattle.bz_lex.specs.declared.leaf.Leaf.{Leaf}
+use Rattle.bz_tree.specs.declared.tree.Part.{Part, Node'}
+use Rattle.bz_tree.specs.declared.tree.Part.TheVariants as p
+use Rattle.bz_tree.specs.Legal.{Legal}
+use Rattle.bz_tree.specs.Suites.{file_of}
+use Rattle.bz_edit.specs.declared.edit.Edit.{Edit}
+use Rattle.bz_resume.specs.Joined.{AreWholeLines}
+
+-- the end of a text, with nothing before it
+abbrev pub bare_end : Part
+bare_end = p.Leaf (record { class = c.End; gap = []; token = [] })
+
+-- what stands behind a part in a file that has it alone
+abbrev pub behind_alone : Part → List Part
+behind_alone (p.Leaf l) = []
+behind_alone (Node' k s r) = bare_end ∷ []
+
+-- the part makes a legal file by itself
+abbrev pub IsAlone : Part → Type 0
+IsAlone x = Legal (file_of (x ∷ behind_alone x))
+
+abbrev pub AreAlone : List Part → Type 0
+AreAlone xs = AllByRecursion IsAlone xs
+
+-- the part is a statement that ends with a newline of its own
+abbrev pub EndsLine : Part → Type 0
+EndsLine (p.Leaf l) = ⊥
+EndsLine (Node' k s r) = AreWholeLines (Node' k s r ∷ [])
+
+-- the part is a line feed, with what stands before it
+abbrev pub IsLineFeed : Part → Type 0
+IsLineFeed x = (l : Leaf) × (x ≡ p.Leaf l) × (l.token ≡ line_feed ∷ [])
+
+-- the parts are statements that each end with a newline of their own, and one leaf behind them
+abbrev pub AreLined : List Part → Type 0
+AreLined ps = (xs : List Part) × (l : Leaf) × (ps ≡ xs ++ p.Leaf l ∷ []) × AllByRecursion EndsLine xs
+
+-- ---- what a step touches
+
+-- the part of a number, if there is one, makes a legal file by itself
+abbrev pub IsAloneAt : List Part → ℕ → Type 0
+IsAloneAt ps i = (x : Part) → slice_get ps i ≡ Some x → IsAlone x
+
+-- the edit is made in the part of a number
+abbrev pub IsWithin : Edit → ℕ → Type 0
+IsWithin e i = (path : List ℕ) × (e.path ≡ i ∷ path)
+
+-- the edit is made in a part that makes a legal file by itself
+abbrev pub IsTouchedAlone : List Part → Edit → Type 0
+IsTouchedAlone ps e = (i : ℕ) × IsWithin e i × IsAloneAt ps i
+
+-- the edit puts parts into the root that each make a legal file by itself
+abbrev pub IsHeldAlone : Edit → Type 0
+IsHeldAlone e = (e.path ≡ []) × AreAlone e.held
+
+-- all edits of a step are of one of the two forms
+abbrev pub AreTouchedAlone : List Part → List Edit → Type 0
+AreTouchedAlone ps es = AllByRecursion (IsTouchedAlone ps) es ⊎ AllByRecursion IsHeldAlone es
