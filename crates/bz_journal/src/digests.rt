@@ -97,20 +97,6 @@ fn hashed_from(alloc: Global, tree: &mut Tree, steps: &mut [Step]) -> Result<Vec
     Ok(digests)
 }
 
-/// The digests of all texts of a trail, whose tree goes to the first one and then on to the last. The error: a growth was refused.
-fn hashed_around(
-    alloc: Global,
-    tree: &mut Tree,
-    steps: &mut [Step],
-    cursor: usize,
-) -> Result<Vec<[u8; 32]>, Memory>
-    requires { IsTrail (trail_at tree.old steps.old cursor) }
-    ensures { IfOk result (λ digests. digests.items ≡ map sha256 (texts_of (trail_at tree.old steps.old cursor))) }
-{
-    go_back(tree, steps, cursor, cursor)?;
-    hashed_from(alloc, tree, steps)
-}
-
 impl Course {
     /// The digests of all texts, taken of a copy that goes through them. The error: memory was refused.
     pub(crate) fn hashed(&self) -> Result<Vec<[u8; 32]>, Memory>
@@ -119,7 +105,9 @@ impl Course {
         let alloc = self.alloc();
         let mut tree = self.tree.copy()?;
         let mut steps = copy_steps(alloc, self.steps.as_slice())?.into_vec();
+        let steps = steps.as_mut_slice();
         let cursor = self.cursor as usize;
-        hashed_around(alloc, &mut tree, steps.as_mut_slice(), cursor)
+        go_back(&mut tree, steps, cursor, cursor)?;
+        hashed_from(alloc, &mut tree, steps)
     }
 }

@@ -48,20 +48,6 @@ fn journal(course: &Course, digests: &[[u8; 32]]) -> Result<Vec<u8>, Memory>
     Ok(told)
 }
 
-/// The journal and the present text. The error: a growth was refused.
-fn pair(course: &Course, digests: &mut Vec<[u8; 32]>) -> Result<(Vec<u8>, Vec<u8>), Memory>
-    requires { AreFirstDigests digests.old.items (session_history course.now).texts }
-    ensures told { IfOk result (λ pair. pair.0.items ≡ saved course.now) }
-    ensures text { IfOk result (λ pair. pair.1.items ≡ present (session_history course.now)) }
-    ensures journal { OnOk result (IsSavedSession course.now) }
-    ensures first { AreFirstDigests digests.new.items (session_history course.now).texts }
-    ensures more { length digests.old.items ≤ length digests.new.items }
-{
-    let text = learned_text(course, digests)?;
-    let told = journal(course, digests.as_slice())?;
-    Ok((told, text))
-}
-
 /// Keeps what an action answered: where the present text is another one than the one with the number `from`, at which the action was
 /// begun, replaces the journal of the file and then the file, which is still to hold that text, `standing`.
 pub(crate) fn persist<F: Files>(
@@ -86,8 +72,12 @@ pub(crate) fn persist<F: Files>(
     if course.cursor() == from {
         return Ok(reply);
     }
-    let (Ok(standing), Ok((told, text))) = (standing, pair(course, digests)) else {
+    let (Ok(standing), Ok(text)) = (standing, learned_text(course, digests)) else {
         return Err(KeepFault::Pair(PairFault::Memory));
+    };
+    let told = match journal(course, digests.as_slice()) {
+        Ok(told) => told,
+        Err(_) => return Err(KeepFault::Pair(PairFault::Memory)),
     };
     match keep(course.alloc(), files, file, &standing, &told, &text) {
         Ok(()) => Ok(reply),

@@ -22,11 +22,17 @@ returns-in_default-clause-kept g c = λ s action note from begun acted.
     (subst (λ (a : Answer). HasActed action note s a c.args.course.now) c.in-Ok.is acted)
     (has_moved c.cursor.result c.args.from _ _ c.if-cursor-from.false c.cursor.ensures from)
 
+pub returns-in-Err-journal-clause-kept : goal.returns-in-Err-journal-clause-kept
+returns-in-Err-journal-clause-kept g c = λ s action note from begun acted.
+    kept_unmade g.F.Files action note c.args.file.now s c.args.course.now c.args.files.now (g.met.F.Files.only_now c.args.files.now) c.in-Ok.reply
+    (subst (λ (a : Answer). HasActed action note s a c.args.course.now) c.in-Ok.is acted)
+    (has_moved c.cursor.result c.args.from _ _ c.if-cursor-from.false c.cursor.ensures from)
+
 pub returns-in-Ok-keep-clause-kept : goal.returns-in-Ok-keep-clause-kept
 returns-in-Ok-keep-clause-kept g c = λ s action note from begun acted.
     kept_both g.F.Files action note c.args.file.now s c.args.course.now c.args.files.now (g.met.F.Files.only_now c.args.files.now)
-    c.keep.new.files c.deref.result.now c.deref-2.result.now c.deref-3.result.now (c.deref.ensures.value ∙ (rw c.in-Ok-Ok.is-0 at begun)) (c.deref-2.ensures.value ∙ c.in-Ok-Ok.ensures.told)
-    (c.deref-3.ensures.value ∙ c.in-Ok-Ok.ensures.text) c.in-Ok-Ok.ensures.journal c.in-Ok.reply
+    c.keep.new.files c.deref.result.now c.deref-2.result.now c.deref-3.result.now (c.deref.ensures.value ∙ (rw c.in-Ok-Ok.is-0 at begun)) (c.deref-2.ensures.value ∙ c.in-Ok-journal.ensures.told)
+    (c.deref-3.ensures.value ∙ c.in-Ok-Ok.ensures.text) c.in-Ok-journal.ensures.journal c.in-Ok.reply
     (subst (λ (a : Answer). HasActed action note s a c.args.course.now) c.in-Ok.is acted)
     (has_moved c.cursor.result c.args.from _ _ c.if-cursor-from.false c.cursor.ensures from)
     c.keep.ensures.time c.keep.ensures.told c.keep.ensures.count c.keep.ensures.honest c.in-Ok-keep.ensures.kept
@@ -35,8 +41,8 @@ returns-in-Ok-keep-clause-kept g c = λ s action note from begun acted.
 pub returns-in-Err-keep-clause-kept : goal.returns-in-Err-keep-clause-kept
 returns-in-Err-keep-clause-kept g c = λ s action note from begun acted.
     kept_neither g.F.Files action note c.args.file.now s c.args.course.now c.args.files.now (g.met.F.Files.only_now c.args.files.now)
-    c.keep.new.files c.deref.result.now c.deref-2.result.now c.deref-3.result.now (c.deref.ensures.value ∙ (rw c.in-Ok-Ok.is-0 at begun)) (c.deref-2.ensures.value ∙ c.in-Ok-Ok.ensures.told)
-    (c.deref-3.ensures.value ∙ c.in-Ok-Ok.ensures.text) c.in-Ok-Ok.ensures.journal c.in-Ok.reply
+    c.keep.new.files c.deref.result.now c.deref-2.result.now c.deref-3.result.now (c.deref.ensures.value ∙ (rw c.in-Ok-Ok.is-0 at begun)) (c.deref-2.ensures.value ∙ c.in-Ok-journal.ensures.told)
+    (c.deref-3.ensures.value ∙ c.in-Ok-Ok.ensures.text) c.in-Ok-journal.ensures.journal c.in-Ok.reply
     (subst (λ (a : Answer). HasActed action note s a c.args.course.now) c.in-Ok.is acted)
     (has_moved c.cursor.result c.args.from _ _ c.if-cursor-from.false c.cursor.ensures from)
     c.keep.ensures.time c.keep.ensures.told c.keep.ensures.count c.keep.ensures.honest c.in-Err-keep.fault
