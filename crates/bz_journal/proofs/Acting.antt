@@ -33,13 +33,6 @@ pub acts_refused : (note : Bytes) (operation : Operation) (target : Target) (h :
 acts_refused note operation target h current here refusal own is (inl means) = inl (refuses refusal, meant_there operation target h current here (refuses refusal) own is means, refl)
 acts_refused note operation target h current here refusal own is (inr memory) = inr (λ none. none, ap Err memory, refl)
 
--- what a command leaves: the text of a tree, or the one that was there
-pub means_left : (operation : Operation) (target : Target) (current here : Bytes) (left other : Option Node) (printed : Option Bytes) → left ≡ other
-    → Means operation target current here (gives (unwrap_or (option_map spell_node left) here) printed)
-    → Means operation target current here (gives (unwrap_or (option_map spell_node other) here) printed)
-means_left operation target current here left other printed is =
-    subst (λ (l : Option Node). Means operation target current here (gives (unwrap_or (option_map spell_node l) here) printed)) is
-
 pub acts_same : (note : Bytes) (operation : Operation) (target : Target) (h : History) (current here : Bytes) (printed : Option Bytes) (reply : Reply) → current ≡ h.package → here ≡ present h
     → Means operation target current here (gives here printed) → reply ≡ unchanged printed → MakesOrWants (Do operation target) note h (Ok reply) h
 acts_same note operation target h current here printed reply own is means told =
@@ -54,16 +47,6 @@ pub acts_given : (note : Bytes) (operation : Operation) (target : Target) (h : H
 acts_given note operation target h current here text printed answer after own is means (inl led) = inl (gives text printed, meant_there operation target h current here (gives text printed) own is means, led)
 acts_given note operation target h current here text printed answer after own is means (inr memory) = inr (λ none. none, memory.0, memory.1)
 
--- ---- a new value
-
--- the new value where one is left
-left_new : (made : Result (List Item) Refusal) (value new : List Item) (left : Option (List Item)) → left ≡ Some new → made ≡ Ok (unwrap_or left value) → made ≡ Ok new
-left_new made value new left some is = is ∙ ap (λ (l : Option (List Item)). Ok (unwrap_or l value)) some
-
--- it is another one
-left_apart : (made : Result (List Item) Refusal) (value new : List Item) (left : Option (List Item)) → left ≡ Some new → (left ≡ None) ↔ (made ≡ Ok value) → made ≡ Ok new → new ≢ value
-left_apart made value new left some told is same = let none : left ≡ None = told.1 (is ∙ ap Ok same) in absurd (cc)
-
 -- what an effect means on the value that was seen and the lines that were counted, it means on the text
 pub means_on : (operation : Operation) (target : Target) (current text : Bytes) (m : Meaning) (tree : Node) (value : List Item) (lines : List ℕ)
     → Reads text tree → value ≡ view_of tree → lines ≡ lines_of tree
@@ -77,20 +60,6 @@ means_on operation target current text m tree value lines reads seen counted mea
 -- what is told of what was printed
 pub told_of : (operation : Operation) (made : Result Bytes Refusal) (out : Bytes) (answer : Option Bytes) → made ≡ Ok out → answer ≡ told operation (Ok out) → answer ≡ told operation made
 told_of operation made out answer printed_is answer_is = answer_is ∙ sym (ap (told operation) printed_is)
-
--- A new value is written. `value` is the value that was seen, `lines` are those that were counted.
-pub means_written : (operation : Operation) (target : Target) (current text out laid : Bytes) (tree : Node) (value new : List Item) (lines : List ℕ) (left : Option (List Item)) (answer : Option Bytes)
-    → Reads text tree → value ≡ view_of tree → lines ≡ lines_of tree → left ≡ Some new
-    → effect operation target current lines value ≡ Ok (unwrap_or left value) → (left ≡ None) ↔ (effect operation target current lines value ≡ Ok value)
-    → printed operation target current lines value ≡ Ok out → answer ≡ told operation (Ok out)
-    → ((answer : Option Bytes) → written new answer ≡ gives laid answer) → Means operation target current text (gives laid answer)
-means_written operation target current text out laid tree value new lines left answer reads seen counted some ran is printed_is answer_is spelled =
-    let made : Result (List Item) Refusal = effect operation target current lines value in
-    let new_is : made ≡ Ok new = left_new made value new left some ran in
-    let other : Option Bytes = told operation (printed operation target current lines value) in
-    means_on operation target current text (gives laid answer) tree value lines reads seen counted
-    (subst (λ (r : Result (List Item) Refusal). EffectMeans r other value text (gives laid answer)) (sym new_is)
-    (inr (left_apart made value new left some is new_is, sym (spelled answer) ∙ ap (written new) (told_of operation (printed operation target current lines value) out answer printed_is answer_is))))
 
 -- ---- formatting
 

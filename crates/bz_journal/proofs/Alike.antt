@@ -8,7 +8,7 @@ use Rattle.bz_journal.specs.Actions.{Do, Format, Undo, Redo}
 use Rattle.bz_journal.specs.declared.action.Reply.TheVariants.{Changed, Moved}
 use Rattle.bz_journal.specs.Meaning.{Meaning, gives, refuses}
 use Rattle.bz_journal.specs.History.{History, Answer, Acts, IsFree, Makes, Runs, after_meaning, changed, most_steps, moved, present, unchanged}
-use Rattle.bz_journal.specs.Lasting.{AlikeGoesOn, AreAlike}
+use Rattle.bz_journal.specs.Lasting.{AlikeActs, AlikeGoesOn, AreAlike}
 
 -- the history with this number of the text that was present before
 abbrev after_at : History → ℕ → History
@@ -85,6 +85,11 @@ acts_alike action note h after b answer (inr (short, inl makes)) =
     let next = makes_alike action note h after b answer makes in record { before = next.before; acts = inr (short, inl next.makes) }
 acts_alike action note h after b answer (inr (short, inr (takes, memory, same))) =
     record { before = b; acts = inr (short, inr ((λ free. takes (free_alike action h b free)), memory, ap (λ (z : History). after_at z b) same)) }
+
+pub alike_acts : AlikeActs
+alike_acts h g after action note answer alike acts =
+    let next = acts_alike action note h after g.before answer acts in
+    (after_at after next.before, subst (λ (z : History). Acts action note z answer (after_at after next.before)) (sym alike) next.acts, refl)
 
 -- ---- many
 

@@ -1,5 +1,5 @@
 -- The digests of texts where one is put after the first ones, and those along a trail.
-use Rattle.std.proofs.Common.{◌≡◌, ◌∙◌, ◌+◌, ◌<◌, ℕ, zero, suc, List, [], ◌∷◌, ◌++◌, length, map, take, ap, arith, length-append, refl, subst, sym}
+use Rattle.std.proofs.Common.{◌≡◌, ◌∙◌, ◌+◌, ◌<◌, ◌≤◌, Ok, ℕ, zero, suc, List, [], ◌∷◌, ◌++◌, length, map, take, ap, arith, length-append, refl, subst, sym}
 use Rattle.std.specs.Prelude.{slice_index_or}
 use Rattle.std.proofs.lemmas.List.{length-map, map-append, take-map, take_all, take_more}
 use Rattle.sha2.specs.Sha256.{sha256}
@@ -8,6 +8,10 @@ use Rattle.bz_trail.specs.Shown.{texts_of}
 use Rattle.bz_edit.specs.declared.edit.Edit.{Edit}
 use Rattle.bz_trail.specs.Trails.{trail_at}
 use Rattle.bz_items.specs.Characters.{Bytes}
+use Rattle.bz_journal.specs.declared.action.Reply.TheVariants.{Changed}
+use Rattle.bz_journal.specs.Editing.{AreFirstDigests}
+use Rattle.bz_journal.specs.History.{Answer, History, present}
+use Rattle.bz_journal.proofs.Following.{Goes}
 
 pub put_one : (n : ℕ) (digests made texts : List Bytes) (text digest : Bytes) → digests ≡ map sha256 texts → digest ≡ sha256 text → made ≡ take n digests ++ digest ∷ []
     → made ≡ map sha256 (take n texts ++ text ∷ [])
@@ -56,3 +60,30 @@ learn_next number first made texts text digest known here within there is put =
     let grown : length made ≡ number + 1 = ap length put ∙ length-append first (digest ∷ []) ∙ ap (λ k. k + 1) here in
     subst (λ k. made ≡ map sha256 (take k texts)) (sym grown)
     (hash_next number first made texts text digest (subst (λ k. first ≡ map sha256 (take k texts)) here known) within there is put)
+
+-- ---- the digests behind an action
+
+-- of all texts: that of a new one was put
+pub digest_put : (answer : Answer) (h after : History) (n : ℕ) (digests made : List Bytes) (text digest : Bytes) → Goes answer h after → answer ≡ Ok Changed → n ≡ after.cursor
+    → digests ≡ map sha256 h.texts → text ≡ present after → digest ≡ sha256 text → made ≡ take n digests ++ digest ∷ [] → made ≡ map sha256 after.texts
+digest_put answer h after n digests made text digest went is at known there taken put =
+    put_one n digests made h.texts text digest known taken put
+    ∙ ap (λ (k : ℕ). map sha256 (take k h.texts ++ text ∷ [])) (at ∙ (went.new is).0) ∙ ap (λ (t : Bytes). map sha256 (take (h.cursor + 1) h.texts ++ t ∷ [])) there
+    ∙ ap (map sha256) (sym (went.new is).1)
+
+-- of the first texts: those of the ones that are gone were cut
+pub first_cut : (answer : Answer) (h after : History) (n : ℕ) (digests made : List Bytes) → Goes answer h after → answer ≡ Ok Changed → n ≡ after.cursor
+    → AreFirstDigests digests h.texts → made ≡ take n digests → AreFirstDigests made after.texts
+first_cut answer h after n digests made went is at known cut =
+    let new : List Bytes = take (h.cursor + 1) h.texts ++ present after ∷ [] in
+    let here : take n digests ≡ map sha256 (take (length (take n digests)) new) =
+    cut_first sha256 n digests h.texts (present after) known ∙ ap (λ (k : ℕ). map sha256 (take (length (take n digests)) (take k h.texts ++ present after ∷ []))) (at ∙ (went.new is).0) in
+    subst (λ (l : List Bytes). AreFirstDigests l after.texts) (sym cut) (here ∙ ap (λ (l : List Bytes). map sha256 (take (length (take n digests)) l)) (sym (went.new is).1))
+
+pub first_stay : (answer : Answer) (h after : History) (digests : List Bytes) → Goes answer h after → (answer ≡ Ok Changed → ⊥) → AreFirstDigests digests h.texts → AreFirstDigests digests after.texts
+first_stay answer h after digests went other known = subst (λ (ts : List Bytes). AreFirstDigests digests ts) (sym (went.old other)) known
+
+-- those of all texts are there yet
+pub all_still : (digests made texts : List Bytes) → digests ≡ map sha256 texts → AreFirstDigests made texts → length digests ≤ length made → made ≡ map sha256 texts
+all_still digests made texts known first more =
+    first ∙ ap (map sha256) (take_all (length made) texts (omega (arith, more, ap length known, length-map texts sha256)))

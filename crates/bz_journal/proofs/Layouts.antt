@@ -29,7 +29,7 @@ use Rattle.bz_journal.specs.declared.action.Reply.{Reply}
 use Rattle.bz_journal.specs.declared.action.Reply.TheVariants.{Changed}
 use Rattle.bz_journal.specs.Meaning.{Meaning, gives, refuses, told, written, EffectMeans}
 use Rattle.bz_journal.specs.History.{History, Answer, Acts, MakesOrWants, present, changed, unchanged, after_text, after_meaning, most_steps}
-use Rattle.bz_journal.specs.Editing.{IsCommandDone, IsLayoutOf, WrittenIsDrawn, ChangedIsWritten}
+use Rattle.bz_journal.specs.Editing.{IsLayoutOf, WrittenIsDrawn}
 use Rattle.bz_journal.proofs.Formatting.{present_changed}
 use Rattle.bz_formatter.proofs.Writes.{IsGiven, given}
 
@@ -71,56 +71,3 @@ by_meaning layers (refuses refusal) items asked note h after reply tree is prope
 pub written_is_drawn : LayoutsHold → WrittenIsDrawn
 written_is_drawn layers items printed note h after reply tree proper within led reads =
     by_meaning layers (written items printed) items printed note h after reply tree refl proper within led reads
-
--- ---- a command that changed the text
-
--- Changed is no answer of a text that stays
-other_reply : (printed : Option Bytes) → ◌≡◌ {A = Answer} (Ok Changed) (Ok (unchanged printed)) → ⊥
-other_reply None e = absurd (cc)
-other_reply (Some text) e = absurd (cc)
-
-not_same : (note : Bytes) (h after : History) (printed : Option Bytes) → ◌≡◌ {A = Answer × History} (Ok Changed, after) (after_text note h (present h) printed) → ⊥
-not_same note h after printed led =
-    let same : bytes_eq (present h) (present h) ≡ true = (bytes_eq-Decides (present h) (present h)).1 refl in
-    let stayed : ◌≡◌ {A = Answer × History} (after_text note h (present h) printed) (Ok (unchanged printed), h) = rw same refl in
-    other_reply printed (ap (λ (z : Answer × History). z.0) (led ∙ stayed))
-
--- the value that was written
-abbrev WasWritten : (note : Bytes) (h after : History) (answer : Option Bytes) → Type 0
-WasWritten note h after answer = (new : List Item) × IsProper new × (◌≡◌ {A = Answer × History} (Ok Changed, after) (after_meaning note h (written new answer)))
-
-by_effect : (made : Result (List Item) Refusal) (answer : Option Bytes) (items : List Item) (note : Bytes) (h after : History) (m : Meaning)
-    → ((new : List Item) → made ≡ Ok new → IsProper new) → EffectMeans made answer items (present h) m
-    → ◌≡◌ {A = Answer × History} (Ok Changed, after) (after_meaning note h m) → WasWritten note h after answer
-by_effect (Err refusal) answer items note h after m proper means led =
-    let refused : ◌≡◌ {A = Answer × History} (Ok Changed, after) (Err refusal, h) = led ∙ ap (after_meaning note h) means in
-    let reply : ◌≡◌ {A = Answer} (Ok Changed) (Err refusal) = ap (λ (z : Answer × History). z.0) refused in absurd (cc)
-by_effect (Ok new) answer items note h after m proper (inl stays) led = absurd (not_same note h after answer (led ∙ ap (after_meaning note h) stays.1))
-by_effect (Ok new) answer items note h after m proper (inr means) led = (new, proper new refl, led ∙ ap (after_meaning note h) means.1)
-
-by_makes : WrittenIsDrawn → ViewsAreProper → EffectsStayProper → (operation : Operation) (target : Target) (note : Bytes) (h after : History) (tree : Node)
-    → IsProperCommand operation → h.cursor < length h.texts → MakesOrWants (Do operation target) note h (Ok Changed) after
-    → Reads (present after) tree → IsWritten (view_of tree) tree
-by_makes layouts seen effects operation target note h after tree command within (inl (m, means, led)) reads =
-    let old : Node = means.0 in
-    let proper : IsProper (view_of old) = seen old means.1.0 in
-    let was : WasWritten note h after (told operation (printed operation target h.package (lines_of old) (view_of old))) =
-    by_effect (effect operation target h.package (lines_of old) (view_of old)) (told operation (printed operation target h.package (lines_of old) (view_of old))) (view_of old) note h after m
-    (λ new made. effects operation target h.package (lines_of old) (view_of old) new command proper made) means.2 led in
-    let laid : IsLayoutOf was.0 tree = layouts was.0 (told operation (printed operation target h.package (lines_of old) (view_of old))) note h after Changed tree was.1 within was.2 reads in
-    subst (λ (xs : List Item). IsWritten xs tree) (sym laid.1) laid.0
-by_makes layouts seen effects operation target note h after tree command within (inr memory) reads = let answer = memory.1 in absurd (cc)
-
-pub changed_is_written : WrittenIsDrawn → ViewsAreProper → EffectsStayProper → ChangedIsWritten
-changed_is_written layouts seen effects operation target note h after tree command within (inl long) reads =
-    let reply : ◌≡◌ {A = Answer} (Ok Changed) (Err NoteTooLong) = ap (λ (z : Answer × History). z.0) long.1 in absurd (cc)
-changed_is_written layouts seen effects operation target note h after tree command within (inr makes) reads =
-    by_makes layouts seen effects operation target note h after tree command within makes.1 reads
-
-pub done_is_written : ChangedIsWritten → (action : Action) (note : Bytes) (h after : History) (answer : Answer) (tree : Node) → h.cursor < length h.texts → IsCommandDone action answer
-    → Acts action note h answer after → Reads (present after) tree → IsWritten (view_of tree) tree
-done_is_written law (Do operation target) note h after answer tree within done acts reads =
-    law operation target note h after tree done.0 within (subst (λ (a : Answer). Acts (Do operation target) note h a after) done.1 acts) reads
-done_is_written law Format note h after answer tree within done acts reads = absurd done
-done_is_written law (Undo n) note h after answer tree within done acts reads = absurd done
-done_is_written law (Redo n) note h after answer tree within done acts reads = absurd done

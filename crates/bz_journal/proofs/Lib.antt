@@ -13,3 +13,4 @@ pub mod Opening
 pub mod Persisting
 pub mod Running
 pub mod Overfull
+pub mod Stopped

@@ -50,17 +50,3 @@ edited_not refused note operation target h current tree value refusal own is rea
     acts_refused note operation target h current (spell_node tree) refusal own is
     (inl (subst (λ (r : Refusal). Means operation target current (spell_node tree) (refuses r)) (sym over.0)
     (means_overfull refused operation target current (spell_node tree) tree value (lines_of tree) reads seen refl over.1)))
-
--- a command on a text that is refused, or is past the limit
-pub means_not : OverfullIsRefused → (operation : Operation) (target : Target) (current text : Bytes) (tree : Node) (value : List Item) (refusal : Refusal)
-    → Reads text tree → value ≡ view_of tree
-    → ((effect operation target current (lines_of tree) value ≡ Err refusal) ⊎ (refusal ≡ Memory)) ⊎ ((refusal ≡ TooLarge) × Overfills (effect operation target current (lines_of tree) value))
-    → Means operation target current text (refuses refusal) ⊎ (refusal ≡ Memory)
-means_not refused operation target current text tree value refusal reads seen (inl (inl made)) =
-    let answer : Option Bytes = told operation (printed operation target current (lines_of tree) value) in
-    inl (means_on operation target current text (refuses refusal) tree value (lines_of tree) reads seen refl
-    (subst (λ (r : Result (List Item) Refusal). EffectMeans r answer value text (refuses refusal)) (sym made) refl))
-means_not refused operation target current text tree value refusal reads seen (inl (inr memory)) = inr memory
-means_not refused operation target current text tree value refusal reads seen (inr over) =
-    inl (subst (λ (r : Refusal). Means operation target current text (refuses r)) (sym over.0)
-    (means_overfull refused operation target current text tree value (lines_of tree) reads seen refl over.1))

@@ -18,3 +18,10 @@ action_in (v.Do command target) = Do command.now target.now
 action_in v.Format = Format
 action_in (v.Undo n) = Undo n
 action_in (v.Redo n) = Redo n
+
+-- what may make a new text: a command, and formatting
+abbrev pub MakesText : Action → Type 0
+MakesText (Do command target) = Unit {0}
+MakesText Format = Unit {0}
+MakesText (Undo n) = ⊥
+MakesText (Redo n) = ⊥

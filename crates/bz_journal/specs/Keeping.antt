@@ -1,10 +1,11 @@
 -- What keeping an action leaves: an answer, and a file with its journal.
-use Rattle.std.specs.Prelude.{◌≡◌, ◌≢◌, ◌≤◌, ◌<◌, ◌⊎◌, true, length, Some, Result, Ok, Err, IfErr, IsErrOf, OnErr, OnOk}
+use Rattle.std.specs.Prelude.{◌≡◌, ◌≢◌, ◌≤◌, ◌<◌, ◌⊎◌, true, length, Some, Result, Ok, Err, IfErr, IsErrOf, IsOk, OnErr, OnOk}
 use Rattle.std.specs.FinMap.{get}
 use Rattle.bz_files.specs.Faults.{Rises}
 use Rattle.bz_files.specs.Folder.{Elapses, Folder}
 use Rattle.bz_files.specs.declared.files.Files.{Ghosts as FilesOf}
 use Rattle.bz_items.specs.Characters.{Bytes}
+use Rattle.bz_formatter.specs.Fixed.{IsFormatted}
 use Rattle.bz_keep.specs.Pair.{journal_name}
 use Rattle.bz_keep.specs.Resuming.{Holds, OthersStay, Resumes, Survives}
 use Rattle.bz_keep.specs.declared.fault.PairFault.TheVariants as f
@@ -13,9 +14,9 @@ use Rattle.bz_journal.specs.Actions.{Action}
 use Rattle.bz_journal.specs.declared.action.Reply.{Reply}
 use Rattle.bz_journal.specs.declared.keeping.KeepFault.{KeepFault}
 use Rattle.bz_journal.specs.declared.keeping.KeepFault.TheVariants.{Refused, Pair}
-use Rattle.bz_journal.specs.History.{Answer, History, Acts, present}
+use Rattle.bz_journal.specs.History.{Answer, History, Acts, IsFormat, note_limit, present}
 use Rattle.bz_journal.specs.Lasting.{saved}
-use Rattle.bz_journal.specs.Shown.{session_history}
+use Rattle.bz_journal.specs.Shown.{session_history, IsOverEven}
 use Rattle.bz_journal.specs.State.{SessionState, session_trail}
 
 -- The action is done, or refused; or it is done and moved the history, and journal and file were not both replaced.
@@ -39,7 +40,9 @@ IsWriteOrOpen (Err (Pair fault)) = (fault ≡ f.Write) ⊎ (fault ≡ f.Open)
 pub record HasActed (action : Action) (note : Bytes) (s : SessionState) (answer : Answer) (t : SessionState) : Type 0 where
   pub within : s.cursor < length (session_history s).texts
   pub acts : Acts action note (session_history s) answer (session_history t)
+  pub formatted : OnOk answer (IsFormat action → IsFormatted (present (session_history s)) (present (session_history t)))
   pub unmoved : OnErr answer (t ≡ s)
+  pub even : length note ≤ note_limit → IsOverEven action (session_trail s) → IsOk answer
   pub small : IsSmall (session_trail s) → IsSmall (session_trail t)
 
 -- What doing an action in a session and keeping it does to the session, to its file and to the journal.

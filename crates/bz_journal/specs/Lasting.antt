@@ -7,7 +7,7 @@ use Rattle.bz_resume.specs.declared.fault.ResumeFault.{ResumeFault}
 use Rattle.bz_resume.specs.declared.fault.ResumeFault.TheVariants as f
 use Rattle.bz_resume.specs.Journals.{Journal, AreSmall, journal_text, stands}
 use Rattle.bz_journal.specs.Actions.{Action}
-use Rattle.bz_journal.specs.History.{History, Answer, Runs}
+use Rattle.bz_journal.specs.History.{History, Answer, Acts, Runs}
 use Rattle.bz_journal.specs.Shown.{session_history}
 use Rattle.bz_journal.specs.State.{SessionState, session_trail}
 
@@ -52,6 +52,11 @@ IsAgain s (Err f.Version) = ⊥
 -- two histories that differ at most in the number of the text that was present before
 abbrev pub AreAlike : History → History → Type 0
 AreAlike h g = g ≡ record h { before = g.before }
+
+-- What an action with a note answers and leaves of the one it may answer and leave of the other, and they stay alike.
+abbrev pub AlikeActs : Type 0
+AlikeActs = (h g after : History) (action : Action) (note : Bytes) (answer : Answer) → AreAlike h g → Acts action note h answer after
+    → (other : History) × Acts action note g answer other × AreAlike after other
 
 -- Whatever is done to the one may be done to the other, with the same answers, and they stay alike.
 abbrev pub AlikeGoesOn : Type 0

@@ -1,4 +1,6 @@
 pub mod Actions
+pub mod Clauses
+pub mod Doing
 pub mod Editing
 pub mod History
 pub mod Keeping
@@ -8,5 +10,6 @@ pub mod Listing
 pub mod Lookups
 pub mod Meaning
 pub mod Shown
+pub mod Stopping
 pub mod Worked
 pub mod State

@@ -1,4 +1,7 @@
 //! What a session is asked to do, and what it answers.
+ghost use Rattle.std.specs.Prelude.{◌≡◌, Ok, true};
+
+use bz_attribute::Refusal;
 use bz_items::Text;
 use bz_label::Target;
 use bz_words::Command;
@@ -27,4 +30,12 @@ pub enum Reply {
     Printed(Text),
     /// Another text of the history is the present one; at 0 steps the same.
     Moved,
+}
+
+/// Whether it is answered that the text is another one.
+pub(crate) fn is_changed(answer: &Result<Reply, Refusal>) -> bool
+    ensures yes { result ≡ true → answer.now ≡ Ok Reply.Changed }
+    ensures no { answer.now ≡ Ok Reply.Changed → result ≡ true }
+{
+    matches!(answer, Ok(Reply::Changed))
 }

@@ -1,23 +1,13 @@
 //! Commands that leave the present text as it is, answered by the value beside a session.
 ghost use Rattle.std.specs.Prelude.{◌≡◌, ◌⊎◌, ◌↔◌, None, Ok, Err, IfErr, IfOk, IfSome};
 ghost use Rattle.std.specs.Option.{unwrap_or};
-ghost use Rattle.bz_tree.specs.Statements.{lines_of};
-ghost use Rattle.bz_items.specs.Characters.{Bytes};
-ghost use Rattle.bz_view.specs.View.{view_of};
-ghost use Rattle.bz_attribute.specs.declared.refusal.Refusal.{Refusal};
-ghost use Rattle.bz_command.specs.Effect.{effect, printed};
-ghost use Rattle.bz_names.specs.Index.{IsIndexOf};
-ghost use Rattle.bz_tree.specs.declared.tree.Node.{Node};
+ghost use Rattle.bz_journal.specs.Clauses.{AreLookupsOf, Bytes, IsBeside, IsIndexOf, MakesOrWants, Node, Refusal, effect, lines_of, printed, session_history, view_of};
 ghost use Rattle.bz_journal.specs.Actions as a;
-ghost use Rattle.bz_journal.specs.Lookups.{AreLookupsOf};
-ghost use Rattle.bz_journal.specs.History.{Acts, MakesOrWants};
-ghost use Rattle.bz_journal.specs.Shown.{session_history};
 
 use crate::action::Reply;
-use crate::beside::{lines_for, value_of};
-use crate::digests::FirstDigests;
-use crate::meaning::told;
-use crate::session::{MOST_NOTE, Session, unchanged};
+use crate::beside::Beside;
+use crate::course::{Course, unchanged};
+use crate::meaning::{lines_for, told, value_of};
 use bz_attribute::Refusal;
 use bz_command::{Outcome, looks_at_lines, run, run_named};
 use bz_formatter::reads_back;
@@ -116,24 +106,24 @@ fn run_beside(
 
 /// What a command answers of the value of the present text; none where it would change that.
 fn answer_of(
-    session: &Session<FirstDigests>,
+    course: &Course,
     command: &Command,
     target: &Target,
     lookups: &Lookups,
     file: &File,
 ) -> Option<Result<Reply, Refusal>>
-    requires value { file.now ≡ view_of session.now.tree }
-    requires lookups { AreLookupsOf lookups.now session.now.tree }
-    ensures { IfSome result (λ answer. (note : Bytes) → MakesOrWants (a.Do command.now target.now) note (session_history session.now) answer (session_history session.now)) }
+    requires value { file.now ≡ view_of course.now.tree }
+    requires lookups { AreLookupsOf lookups.now course.now.tree }
+    ensures { IfSome result (λ answer. (note : Bytes) → MakesOrWants (a.Do command.now target.now) note (session_history course.now) answer (session_history course.now)) }
 {
-    let alloc = session.alloc();
-    let here = session.present();
+    let alloc = course.alloc();
+    let here = course.present();
     reads_back(here);
     match run_beside(
         alloc,
         command,
         target,
-        session.own_package(),
+        course.own_package().as_bytes(),
         here,
         lookups,
         file,
@@ -206,34 +196,27 @@ fn look_up(
     find_lines(alloc, command, target, &mut lookups.lines, tree)
 }
 
-/// What a command with a note answers by the value of the present text, which is made where none is kept, and stays, as does what
-/// was looked up; none where the note is too long, and where the command would change the text.
-pub(crate) fn answer_noted(
-    session: &Session<FirstDigests>,
-    value: &mut Option<File>,
-    lookups: &mut Lookups,
+/// What a command answers by the value of the present text, which is made where none is kept, and stays, as does what was looked up;
+/// none where the command would change the text.
+pub(crate) fn answer(
+    course: &Course,
+    beside: &mut Beside,
     command: &Command,
     target: &Target,
-    note: &str,
 ) -> Option<Result<Reply, Refusal>>
-    requires value { IfSome value.old (λ items. items ≡ view_of session.now.tree) }
-    requires lookups { AreLookupsOf lookups.old session.now.tree }
-    ensures acts { IfSome result (λ answer. Acts (a.Do command.now target.now) note.now (session_history session.now) answer (session_history session.now)) }
-    ensures value { IfSome value.new (λ items. items ≡ view_of session.now.tree) }
-    ensures lookups { AreLookupsOf lookups.new session.now.tree }
+    requires { IsBeside course.now.tree beside.old }
+    ensures makes { IfSome result (λ answer. (note : Bytes) → MakesOrWants (a.Do command.now target.now) note (session_history course.now) answer (session_history course.now)) }
+    ensures beside { IsBeside course.now.tree beside.new }
 {
-    if note.len() > MOST_NOTE {
-        return None;
-    }
-    let alloc = session.alloc();
-    let here = session.present();
-    let Ok(file) = value_of(alloc, value.take(), here) else {
+    let alloc = course.alloc();
+    let here = course.present();
+    let Ok(file) = value_of(alloc, beside.value.take(), here) else {
         return Some(Err(Refusal::Memory));
     };
-    if look_up(alloc, command, target, lookups, &file, here).is_err() {
+    if look_up(alloc, command, target, &mut beside.lookups, &file, here).is_err() {
         return Some(Err(Refusal::Memory));
     }
-    let answer = answer_of(session, command, target, lookups, &file);
-    *value = Some(file);
+    let answer = answer_of(course, command, target, &beside.lookups, &file);
+    beside.value = Some(file);
     answer
 }

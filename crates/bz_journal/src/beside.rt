@@ -1,284 +1,115 @@
-//! Commands on the value beside a session whose present text is the layout of a tidy value: only what changes is tidied and
-//! drawn.
-ghost use Rattle.std.specs.Prelude.{◌≡◌, ◌≤◌, ◌⊎◌, ◌↔◌, Err, IfErr, IfOk, IfSome, IsTrue, None, List, Ok, OnErr, OnOk, Option, length};
-ghost use Rattle.bz_tree.specs.declared.tree.Node.{Node};
-ghost use Rattle.bz_tree.specs.Spell.{limit, spell_node};
-ghost use Rattle.bz_tree.specs.Statements.{lines_of};
-ghost use Rattle.bz_value.specs.declared.value.Item.{Item};
-ghost use Rattle.bz_value.specs.Exchanged.{AreExchanged, IsSpliced};
-ghost use Rattle.bz_items.specs.Characters.{Bytes};
-ghost use Rattle.bz_view.specs.View.{view_of};
-ghost use Rattle.bz_write.specs.Drawn.{drawn};
-ghost use Rattle.bz_write.specs.Written.{layout};
-ghost use Rattle.bz_tidy.specs.Passes.{tidied};
-ghost use Rattle.bz_command.specs.Effect.{effect, printed};
-ghost use Rattle.bz_command.specs.Overfull.{Overfills};
-ghost use Rattle.bz_trail.specs.Trails.{IsSmall};
-ghost use Rattle.bz_redraw.specs.Redrawn.{IsWritten};
-ghost use Rattle.bz_attribute.specs.declared.refusal.Refusal.{Refusal};
+//! What is kept beside a course from one command to the next: the value of the present text, so that a command need not make it anew.
+//! Where that text is the layout of a tidy value only what changes is tidied and drawn.
+ghost use Rattle.std.specs.Prelude.{◌≡◌, ◌≤◌, ◌⊎◌, true, Err, IfOk, IfSome, IsOk, IsSome, None, Ok, OnErr, OnOk, length};
+ghost use Rattle.bz_journal.specs.Clauses.{AreExchanged, AreLinesOf, AreLookupsOf, EndsAt, HasActed, HasMade, IsBeside, IsFormat, IsFormatted, IsOverEven, IsSmall, IsSpliced, IsWritten, MakesOrWants, Node, Refusal, action_in, after_meaning, layout, limit, note_limit, present, session_history, session_trail, spell_node, tidied, view_of, written};
 ghost use Rattle.bz_journal.specs.Actions as a;
-ghost use Rattle.bz_journal.specs.History.{after_meaning, note_limit, present, MakesOrWants};
-ghost use Rattle.bz_journal.specs.Lines.{AreLinesOf};
-ghost use Rattle.bz_journal.specs.Meaning.{told, written};
-ghost use Rattle.bz_journal.specs.Shown.{session_history};
-ghost use Rattle.bz_journal.specs.State.{session_trail};
 
-use crate::action::Reply;
-use crate::digests::FirstDigests;
+use crate::action::{Action, Reply};
+use crate::asking::{Lookups, answer};
+use crate::course::{Course, MOST_NOTE, unchanged};
 use crate::laws::{overfull_is_refused, written_is_drawn};
 use crate::lines::Lines;
-use crate::meaning::told;
-use crate::session::{Session, unchanged};
+use crate::meaning::{run_on_tree, told, value_of};
 use bz_attribute::Refusal;
-use bz_command::{Ran, Spliced, lines_matter, looks_at_lines, overfills, run_in};
-use bz_formatter::{drawn_of, reads_back};
-use bz_items::{Memory, Text};
+use bz_command::Spliced;
+use bz_formatter::{drawn_of, reads_back, written};
+use bz_items::{Items, Memory, Text};
 use bz_label::Target;
-use bz_redraw::{Renewed, RenewedWindow, renew, renew_spliced};
+use bz_redraw::{renew, renew_spliced};
 use bz_rule::take_apart;
 use bz_tidy::{tidy, tidy_stays};
 use bz_tree::{LENGTH_LIMIT, Tree};
 use bz_value::File;
-use bz_view::view;
 use bz_words::Command;
 use bz_write::layout_is_accepted;
 use std::alloc::Global;
+use std::mem;
 
-/// The value of a tree: the one that is kept, or one that is made. The error: memory was refused.
-pub(crate) fn value_of(alloc: Global, kept: Option<File>, tree: &Tree) -> Result<File, Memory>
-    requires { IfSome kept (λ items. items ≡ view_of tree.now) }
-    ensures { IfOk result (λ file. file ≡ view_of tree.now) }
-{
-    match kept {
-        Some(file) => Ok(file),
-        None => view(alloc, tree),
-    }
-}
-
-/// The lines on which the statements of a tree begin, where a command depends on them; else none, which comes to the same. The
-/// error: memory was refused.
-pub(crate) fn lines_for(
-    alloc: Global,
-    command: &Command,
-    target: &Target,
-    tree: &Tree,
-) -> Result<Vec<u32>, Memory>
-    ensures effect { IfOk result (λ lines. (current : Bytes) (items : List Item) → effect command.now target.now current lines.items items ≡ effect command.now target.now current (lines_of tree.now) items) }
-    ensures printed { IfOk result (λ lines. (current : Bytes) (items : List Item) → printed command.now target.now current lines.items items ≡ printed command.now target.now current (lines_of tree.now) items) }
-{
-    lines_matter();
-    if looks_at_lines(command, target) {
-        return tree.lines(alloc);
-    }
-    Ok(Vec::new(alloc))
-}
-
-/// Runs a command on the value of a tree, in place. Errors: those of the command; `TooLarge` where what it makes is past the limit by
-/// the comments that it puts in, and isn't made.
-fn run_on_tree(
-    alloc: Global,
-    command: &Command,
-    target: &Target,
-    current: &[u8],
-    tree: &Tree,
-    file: &mut File,
-) -> Result<Ran, Refusal>
-    ensures ok { OnOk result (effect command.now target.now current.now (lines_of tree.now) file.old ≡ Ok file.new) }
-    ensures same { IfOk result (λ ran. IsTrue ran.same ↔ (file.new ≡ file.old)) }
-    ensures printed { IfOk result (λ ran. printed command.now target.now current.now (lines_of tree.now) file.old ≡ Ok ran.printed) }
-    ensures renewed { IfOk result (λ ran. IfSome ran.renewed (λ marks. AreExchanged marks.items file.old file.new)) }
-    ensures spliced { IfOk result (λ ran. IfSome ran.spliced (λ s. IsSpliced s.from s.gone s.come file.old file.new)) }
-    ensures err { IfErr result (λ refusal. ((effect command.now target.now current.now (lines_of tree.now) file.old ≡ Err refusal) ⊎ (refusal ≡ Refusal.Memory))
-        ⊎ ((refusal ≡ Refusal.TooLarge) × Overfills (effect command.now target.now current.now (lines_of tree.now) file.old))) }
-{
-    let lines = lines_for(alloc, command, target, tree)?;
-    if overfills(alloc, command, target, current, lines.as_slice(), file)? {
-        return Err(Refusal::TooLarge);
-    }
-    run_in(alloc, command, target, current, lines.as_slice(), file)
-}
-
-/// A tidy value, lines with which the present tree is the one of its layout, where some are known, and how many bytes its layout has
-/// at most, where it isn't past the limit.
+/// What is kept beside a course.
 #[derive(Drop)]
-struct Tidied {
-    file: File,
-    lines: Option<Lines>,
-    most: usize,
+pub(crate) struct Beside {
+    /// The value of the present text, where it is kept.
+    pub(crate) value: Option<File>,
+    /// What was looked up in the present text.
+    pub(crate) lookups: Lookups,
+    /// Whether the present text is known to be the layout of a tidy value.
+    pub(crate) written: bool,
+    /// How many bytes the present text has at most.
+    pub(crate) long: usize,
+    /// Whether the last command printed something, so that the value is worth keeping for the next one that prints.
+    pub(crate) asked: bool,
 }
 
-/// Tidies items of which those that are marked were exchanged. The error: memory was refused.
-fn tidy_marked_in(
-    alloc: Global,
-    marks: &[bool],
-    file: File,
-    tree: &Tree,
-    long: usize,
-) -> Result<Tidied, Memory>
-    requires marked { AreExchanged marks.now (view_of tree.now) file }
-    requires written { IsWritten (view_of tree.now) tree.now }
-    requires long { length (spell_node tree.now) ≤ long }
-    ensures tidy { IfOk result (λ done. done.file ≡ tidied file) }
-    ensures lines { IfOk result (λ done. IfSome done.lines (λ lines. AreLinesOf lines tree.now done.file)) }
-    ensures most { IfOk result (λ done. length (layout done.file) ≤ limit → length (layout done.file) ≤ done.most) }
-{
-    let mut file = file;
-    match renew(alloc, marks, &mut file, tree, long) {
-        Ok(Some(renewed)) => {
-            let Renewed { redrawn, most } = renewed;
-            Ok(Tidied {
-                file,
-                lines: Some(Lines::Exchanged(redrawn)),
-                most,
-            })
-        }
-        Ok(None) => Ok(Tidied {
-            file,
-            lines: None,
-            most: LENGTH_LIMIT,
-        }),
-        Err(fault) => {
-            take_apart(file);
-            Err(fault)
+impl Beside {
+    /// Nothing is kept yet.
+    pub(crate) fn none() -> Beside
+        ensures { (tree : Node) → IsBeside tree result }
+    {
+        Beside {
+            value: None,
+            lookups: Lookups::none(),
+            written: false,
+            long: LENGTH_LIMIT,
+            asked: false,
         }
     }
 }
 
-/// Tidies items of which some were taken out, and others put in their place. The error: memory was refused.
-fn tidy_spliced_in(
-    alloc: Global,
-    spliced: &Spliced,
-    file: File,
-    tree: &Tree,
-    long: usize,
-) -> Result<Tidied, Memory>
-    requires spliced { IsSpliced spliced.now.from spliced.now.gone spliced.now.come (view_of tree.now) file }
-    requires written { IsWritten (view_of tree.now) tree.now }
-    requires long { length (spell_node tree.now) ≤ long }
-    ensures tidy { IfOk result (λ done. done.file ≡ tidied file) }
-    ensures lines { IfOk result (λ done. IfSome done.lines (λ lines. AreLinesOf lines tree.now done.file)) }
-    ensures most { IfOk result (λ done. length (layout done.file) ≤ limit → length (layout done.file) ≤ done.most) }
-{
-    let mut file = file;
-    match renew_spliced(alloc, spliced.from, spliced.come, &mut file, tree, long) {
-        Ok(Some(renewed)) => {
-            let RenewedWindow { respliced, most } = renewed;
-            Ok(Tidied {
-                file,
-                lines: Some(Lines::Spliced(respliced)),
-                most,
-            })
-        }
-        Ok(None) => Ok(Tidied {
-            file,
-            lines: None,
-            most: LENGTH_LIMIT,
-        }),
-        Err(fault) => {
-            take_apart(file);
-            Err(fault)
-        }
-    }
-}
-
-/// Tidies a new value whole. The error: memory was refused.
-fn tidy_whole(alloc: Global, file: File) -> Result<Tidied, Memory>
-    ensures tidy { IfOk result (λ done. done.file ≡ tidied file) }
-    ensures lines { IfOk result (λ done. done.lines ≡ None) }
-    ensures most { IfOk result (λ done. length (layout done.file) ≤ limit → length (layout done.file) ≤ done.most) }
-{
-    Ok(Tidied {
-        file: tidy(alloc, file)?,
-        lines: None,
-        most: LENGTH_LIMIT,
-    })
-}
-
-/// What a command did to the value of the present text, as far as it tells.
-#[derive(Drop)]
-struct Changes {
-    /// A mark for each item, where it exchanged the marked ones alone.
-    marks: Option<Vec<bool>>,
-    /// Where it took some out and put others in their place.
-    spliced: Option<Spliced>,
-}
-
-/// Tidies a new value: only what changed, where that is told. The error: memory was refused.
+/// Tidies a new value: only the items that are marked, or that stand in the place of others, where that is told. Gives lines with which
+/// the present tree is the one of the layout, where some are known, and how many bytes that has at most, where it isn't past the limit.
+/// The error: memory was refused.
 fn tidy_in(
     alloc: Global,
-    changes: Changes,
-    file: File,
+    marks: Option<Vec<bool>>,
+    spliced: Option<Spliced>,
+    file: &mut File,
     tree: &Tree,
     long: usize,
-) -> Result<Tidied, Memory>
-    requires marked { IfSome changes.marks (λ marks. AreExchanged marks.items (view_of tree.now) file) }
-    requires spliced { IfSome changes.spliced (λ s. IsSpliced s.from s.gone s.come (view_of tree.now) file) }
+) -> Result<(Option<Lines>, usize), Memory>
+    requires marked { IfSome marks (λ marks. AreExchanged marks.items (view_of tree.now) file.old) }
+    requires spliced { IfSome spliced (λ s. IsSpliced s.from s.gone s.come (view_of tree.now) file.old) }
     requires written { IsWritten (view_of tree.now) tree.now }
     requires long { length (spell_node tree.now) ≤ long }
-    ensures tidy { IfOk result (λ done. done.file ≡ tidied file) }
-    ensures lines { IfOk result (λ done. IfSome done.lines (λ lines. AreLinesOf lines tree.now done.file)) }
-    ensures most { IfOk result (λ done. length (layout done.file) ≤ limit → length (layout done.file) ≤ done.most) }
+    ensures tidy { OnOk result (file.new ≡ tidied file.old) }
+    ensures lines { IfOk result (λ made. IfSome made.0 (λ lines. AreLinesOf lines tree.now file.new)) }
+    ensures most { IfOk result (λ made. length (layout file.new) ≤ limit → length (layout file.new) ≤ made.1) }
 {
-    if let Some(marks) = changes.marks {
-        return tidy_marked_in(alloc, marks.as_slice(), file, tree, long);
+    if let Some(marks) = marks {
+        return match renew(alloc, marks.as_slice(), file, tree, long)? {
+            Some(made) => Ok((Some(Lines::Exchanged(made.redrawn)), made.most)),
+            None => Ok((None, LENGTH_LIMIT)),
+        };
     }
-    match changes.spliced {
-        Some(spliced) => tidy_spliced_in(alloc, &spliced, file, tree, long),
-        None => tidy_whole(alloc, file),
+    if let Some(spliced) = spliced {
+        return match renew_spliced(alloc, spliced.from, spliced.come, file, tree, long)? {
+            Some(made) => Ok((Some(Lines::Spliced(made.respliced)), made.most)),
+            None => Ok((None, LENGTH_LIMIT)),
+        };
     }
+    let items = mem::replace(&mut file.items, Items::new(alloc));
+    *file = tidy(alloc, File { items })?;
+    Ok((None, LENGTH_LIMIT))
 }
 
 /// Takes up the whole layout of a tidy value, with a note. Errors: `TooLarge`, `TooDeep`, `Full`; `Memory`: a growth was refused.
 fn take_up_whole(
-    session: &mut Session<FirstDigests>,
+    course: &mut Course,
     file: &File,
     printed: Option<Text>,
     note: &str,
 ) -> Result<Reply, Refusal>
     requires short { length note.now ≤ note_limit }
     requires tidy { tidied file.now ≡ file.now }
-    ensures makes { ((result, session_history session.new) ≡ after_meaning note.now (session_history session.old) (written file.now printed))
-        ⊎ ((result ≡ Err Refusal.Memory) × (session_history session.new ≡ session_history session.old)) }
-    ensures unmoved { OnErr result (session.new ≡ session.old) }
-    ensures small { IsSmall (session_trail session.old) → IsSmall (session_trail session.new) }
+    ensures { EndsAt (after_meaning note.now (session_history course.old) (written file.now printed)) course.old result course.new }
 {
-    match drawn_of(session.alloc(), file) {
-        Ok(tree) => session.take_up(tree, printed, note),
-        Err(refusal) => Err(refusal),
-    }
+    let tree = drawn_of(course.alloc(), file)?;
+    course.take_up(tree, printed, note)
 }
 
-/// Takes up the layout of a tidy value by its lines that are other ones than in the present tree, with a note. Errors: `Full`;
-/// `Memory`: a growth was refused; those of taking it up whole where the step isn't known.
-fn take_up_lines(
-    session: &mut Session<FirstDigests>,
-    file: &File,
-    lines: Lines,
-    printed: Option<Text>,
-    note: &str,
-) -> Result<Reply, Refusal>
-    requires short { length note.now ≤ note_limit }
-    requires tidy { tidied file.now ≡ file.now }
-    requires lines { AreLinesOf lines session.old.tree file.now }
-    ensures makes { ((result, session_history session.new) ≡ after_meaning note.now (session_history session.old) (written file.now printed))
-        ⊎ ((result ≡ Err Refusal.Memory) × (session_history session.new ≡ session_history session.old)) }
-    ensures unmoved { OnErr result (session.new ≡ session.old) }
-    ensures small { IsSmall (session_trail session.old) → IsSmall (session_trail session.new) }
-{
-    layout_is_accepted();
-    reads_back(session.present());
-    let _items = &file.items;
-    let mut printed = printed;
-    match session.take_up_with(lines, &mut printed, note) {
-        Ok(Some(reply)) => Ok(reply),
-        Ok(None) => take_up_whole(session, file, printed, note),
-        Err(refusal) => Err(refusal),
-    }
-}
-
-/// Takes up the layout of a tidy value, by some lines alone where these are known. The errors are those of both.
+/// Takes up the layout of a tidy value, with a note, by its lines that are other ones than in the present tree where these are known.
+/// Errors: `Full`; `Memory`: a growth was refused; those of taking it up whole where the step isn't known.
 fn take_up_tidied(
-    session: &mut Session<FirstDigests>,
+    course: &mut Course,
     file: &File,
     lines: Option<Lines>,
     printed: Option<Text>,
@@ -286,51 +117,51 @@ fn take_up_tidied(
 ) -> Result<Reply, Refusal>
     requires short { length note.now ≤ note_limit }
     requires tidy { tidied file.now ≡ file.now }
-    requires lines { IfSome lines (λ lines. AreLinesOf lines session.old.tree file.now) }
-    ensures makes { ((result, session_history session.new) ≡ after_meaning note.now (session_history session.old) (written file.now printed))
-        ⊎ ((result ≡ Err Refusal.Memory) × (session_history session.new ≡ session_history session.old)) }
-    ensures unmoved { OnErr result (session.new ≡ session.old) }
-    ensures small { IsSmall (session_trail session.old) → IsSmall (session_trail session.new) }
+    requires lines { IfSome lines (λ lines. AreLinesOf lines course.old.tree file.now) }
+    ensures { EndsAt (after_meaning note.now (session_history course.old) (written file.now printed)) course.old result course.new }
 {
-    match lines {
-        Some(lines) => take_up_lines(session, file, lines, printed, note),
-        None => take_up_whole(session, file, printed, note),
+    let Some(lines) = lines else {
+        return take_up_whole(course, file, printed, note);
+    };
+    layout_is_accepted();
+    reads_back(course.present());
+    let _items = &file.items;
+    let mut printed = printed;
+    match course.take_up_with(lines, &mut printed, note) {
+        Ok(Some(reply)) => Ok(reply),
+        Ok(None) => take_up_whole(course, file, printed, note),
+        Err(refusal) => Err(refusal),
     }
 }
 
 /// Takes up the layout of a tidy value and keeps this as the value of the present text. The errors are those of taking it up.
 fn take_up_value(
-    session: &mut Session<FirstDigests>,
-    value: &mut Option<File>,
-    long: &mut usize,
-    done: Tidied,
+    course: &mut Course,
+    beside: &mut Beside,
+    file: File,
+    lines: Option<Lines>,
+    most: usize,
     printed: Option<Text>,
     note: &str,
 ) -> Result<Reply, Refusal>
     requires short { length note.now ≤ note_limit }
-    requires none { value.old ≡ None }
-    requires long { length (spell_node session.old.tree) ≤ long.old }
-    requires tidy { tidied done.file ≡ done.file }
-    requires lines { IfSome done.lines (λ lines. AreLinesOf lines session.old.tree done.file) }
-    requires most { length (layout done.file) ≤ limit → length (layout done.file) ≤ done.most }
-    requires written { IsWritten (view_of session.old.tree) session.old.tree }
-    ensures makes { ((result, session_history session.new) ≡ after_meaning note.now (session_history session.old) (written done.file printed))
-        ⊎ ((result ≡ Err Refusal.Memory) × (session_history session.new ≡ session_history session.old)) }
-    ensures unmoved { OnErr result (session.new ≡ session.old) }
-    ensures small { IsSmall (session_trail session.old) → IsSmall (session_trail session.new) }
-    ensures value { IfSome value.new (λ items. items ≡ view_of session.new.tree) }
-    ensures written { IsWritten (view_of session.new.tree) session.new.tree }
-    ensures long { length (spell_node session.new.tree) ≤ long.new }
+    requires none { beside.old.value ≡ None }
+    requires beside { IsBeside course.old.tree beside.old }
+    requires looked { (tree : Node) → AreLookupsOf beside.old.lookups tree }
+    requires tidy { tidied file ≡ file }
+    requires lines { IfSome lines (λ lines. AreLinesOf lines course.old.tree file) }
+    requires most { length (layout file) ≤ limit → length (layout file) ≤ most }
+    ensures end { EndsAt (after_meaning note.now (session_history course.old) (written file printed)) course.old result course.new }
+    ensures beside { IsBeside course.new.tree beside.new }
 {
     written_is_drawn();
-    let _before = session.present();
-    let Tidied { file, lines, most } = done;
+    let _before = course.present();
     let _items = &file.items;
-    match take_up_tidied(session, &file, lines, printed, note) {
+    match take_up_tidied(course, &file, lines, printed, note) {
         Ok(reply) => {
-            reads_back(session.present());
-            *long = most;
-            *value = Some(file);
+            reads_back(course.present());
+            beside.long = most;
+            beside.value = Some(file);
             Ok(reply)
         }
         Err(refusal) => {
@@ -342,94 +173,189 @@ fn take_up_value(
 
 /// Tidies and takes up what a command made of the value of the present text: another value.
 fn take_up_made(
-    session: &mut Session<FirstDigests>,
-    value: &mut Option<File>,
-    long: &mut usize,
-    changes: Changes,
+    course: &mut Course,
+    beside: &mut Beside,
+    marks: Option<Vec<bool>>,
+    spliced: Option<Spliced>,
     file: File,
     printed: Option<Text>,
     note: &str,
 ) -> Result<Reply, Refusal>
     requires short { length note.now ≤ note_limit }
-    requires none { value.old ≡ None }
-    requires long { length (spell_node session.old.tree) ≤ long.old }
-    requires marked { IfSome changes.marks (λ marks. AreExchanged marks.items (view_of session.old.tree) file) }
-    requires spliced { IfSome changes.spliced (λ s. IsSpliced s.from s.gone s.come (view_of session.old.tree) file) }
-    requires written { IsWritten (view_of session.old.tree) session.old.tree }
-    ensures makes { ((result, session_history session.new) ≡ after_meaning note.now (session_history session.old) (written file printed))
-        ⊎ ((result ≡ Err Refusal.Memory) × (session_history session.new ≡ session_history session.old)) }
-    ensures unmoved { OnErr result (session.new ≡ session.old) }
-    ensures small { IsSmall (session_trail session.old) → IsSmall (session_trail session.new) }
-    ensures value { IfSome value.new (λ items. items ≡ view_of session.new.tree) }
-    ensures written { IsWritten (view_of session.new.tree) session.new.tree }
-    ensures long { length (spell_node session.new.tree) ≤ long.new }
+    requires none { beside.old.value ≡ None }
+    requires beside { IsBeside course.old.tree beside.old }
+    requires looked { (tree : Node) → AreLookupsOf beside.old.lookups tree }
+    requires marked { IfSome marks (λ marks. AreExchanged marks.items (view_of course.old.tree) file) }
+    requires spliced { IfSome spliced (λ s. IsSpliced s.from s.gone s.come (view_of course.old.tree) file) }
+    requires written { beside.old.written ≡ true }
+    ensures end { EndsAt (after_meaning note.now (session_history course.old) (written file printed)) course.old result course.new }
+    ensures beside { IsBeside course.new.tree beside.new }
 {
     tidy_stays();
-    match tidy_in(session.alloc(), changes, file, session.present(), *long) {
-        Ok(done) => take_up_value(session, value, long, done, printed, note),
-        Err(_) => Err(Refusal::Memory),
+    let mut file = file;
+    let here = course.present();
+    match tidy_in(course.alloc(), marks, spliced, &mut file, here, beside.long) {
+        Ok((lines, most)) => take_up_value(course, beside, file, lines, most, printed, note),
+        Err(_) => {
+            take_apart(file);
+            Err(Refusal::Memory)
+        }
     }
 }
 
-/// Does a command with a note on the present text, which is the layout of a tidy value; `value` is its value, where that is kept, and
-/// `long` how many bytes it has at most. At an error the session is as before. Errors: those of the command; `TooLarge` and
+/// Takes up the layout of a new value, which is given up, with a note. Errors: `TooLarge`, `TooDeep`, `Full`; `Memory`: a growth was
+/// refused.
+fn take_up_new(
+    course: &mut Course,
+    beside: &mut Beside,
+    file: File,
+    printed: Option<Text>,
+    note: &str,
+) -> Result<Reply, Refusal>
+    requires short { length note.now ≤ note_limit }
+    requires none { beside.old.value ≡ None }
+    requires beside { IsBeside course.old.tree beside.old }
+    requires looked { (tree : Node) → AreLookupsOf beside.old.lookups tree }
+    ensures end { EndsAt (after_meaning note.now (session_history course.old) (written file printed)) course.old result course.new }
+    ensures beside { IsBeside course.new.tree beside.new }
+{
+    written_is_drawn();
+    let _before = course.present();
+    let _items = &file.items;
+    match written(course.alloc(), file) {
+        Ok(tree) => {
+            let answer = course.take_up(tree, printed, note);
+            beside.written = answer.is_ok();
+            beside.long = LENGTH_LIMIT;
+            reads_back(course.present());
+            answer
+        }
+        Err(refusal) => Err(refusal),
+    }
+}
+
+/// The value of a text, where that is known to be its layout. That of another one is kept from the second command that prints on.
+fn if_written(written: bool, file: File) -> Option<File>
+    ensures { IfSome result (λ items. items ≡ file) }
+{
+    if written { Some(file) } else { None }
+}
+
+/// Does a command with a note on the present text. At an error the course is as before. Errors: those of the command; `TooLarge` and
 /// `TooDeep` where the new text would be past a limit; `Full` at the most steps; `Memory`: a growth was refused.
-pub(crate) fn edit_beside(
-    session: &mut Session<FirstDigests>,
-    value: &mut Option<File>,
-    long: &mut usize,
+fn edit(
+    course: &mut Course,
+    beside: &mut Beside,
     command: &Command,
     target: &Target,
     note: &str,
 ) -> Result<Reply, Refusal>
     requires short { length note.now ≤ note_limit }
-    requires long { length (spell_node session.old.tree) ≤ long.old }
-    requires value { IfSome value.old (λ items. items ≡ view_of session.old.tree) }
-    requires written { IsWritten (view_of session.old.tree) session.old.tree }
-    ensures makes { MakesOrWants (a.Do command.now target.now) note.now (session_history session.old) result (session_history session.new) }
-    ensures unmoved { OnErr result (session.new ≡ session.old) }
-    ensures small { IsSmall (session_trail session.old) → IsSmall (session_trail session.new) }
-    ensures value { IfSome value.new (λ items. items ≡ view_of session.new.tree) }
-    ensures written { IsWritten (view_of session.new.tree) session.new.tree }
-    ensures long { length (spell_node session.new.tree) ≤ long.new }
+    requires beside { IsBeside course.old.tree beside.old }
+    ensures made { HasMade (a.Do command.now target.now) note.now course.old result course.new }
+    ensures beside { IsBeside course.new.tree beside.new }
 {
-    let alloc = session.alloc();
-    let here = session.present();
+    let alloc = course.alloc();
+    let here = course.present();
     reads_back(here);
     overfull_is_refused();
-    let Ok(seen) = value_of(alloc, value.take(), here) else {
+    beside.lookups = Lookups::none(); // those of the text before
+    let Ok(seen) = value_of(alloc, beside.value.take(), here) else {
         return Err(Refusal::Memory);
     };
     let mut file = seen;
-    match run_on_tree(
-        alloc,
-        command,
-        target,
-        session.own_package(),
-        here,
-        &mut file,
-    ) {
+    let current = course.own_package().as_bytes();
+    match run_on_tree(alloc, command, target, current, here, &mut file) {
         Ok(ran) => {
-            let Ran {
-                same,
-                renewed,
-                spliced,
-                printed,
-            } = ran;
-            let printed = told(command, printed);
-            if same {
-                *value = Some(file);
+            let printed = told(command, ran.printed);
+            if ran.same {
+                beside.value = if_written(beside.written, file);
                 return Ok(unchanged(printed));
             }
-            let changes = Changes {
-                marks: renewed,
-                spliced,
-            };
-            take_up_made(session, value, long, changes, file, printed, note)
+            if beside.written {
+                let (marks, spliced) = (ran.renewed, ran.spliced);
+                return take_up_made(course, beside, marks, spliced, file, printed, note);
+            }
+            take_up_new(course, beside, file, printed, note)
         }
         Err(refusal) => {
             take_apart(file);
             Err(refusal)
         }
     }
+}
+
+/// Does a command with a note; one that prints is answered by the value beside the course, where that is worth keeping.
+fn do_command(
+    course: &mut Course,
+    beside: &mut Beside,
+    command: &Command,
+    target: &Target,
+    note: &str,
+) -> Result<Reply, Refusal>
+    requires short { length note.now ≤ note_limit }
+    requires beside { IsBeside course.old.tree beside.old }
+    ensures made { HasMade (a.Do command.now target.now) note.now course.old result course.new }
+    ensures beside { IsBeside course.new.tree beside.new }
+{
+    let asks = command.prints();
+    if asks && (beside.written || beside.asked) {
+        if let Some(answer) = answer(course, beside, command, target) {
+            return answer;
+        }
+    }
+    beside.asked = asks;
+    edit(course, beside, command, target, note)
+}
+
+/// Does an action whose note isn't too long.
+fn act_short(
+    course: &mut Course,
+    beside: &mut Beside,
+    action: &Action<'_>,
+    note: &str,
+) -> Result<Reply, Refusal>
+    requires short { length note.now ≤ note_limit }
+    requires beside { IsBeside course.old.tree beside.old }
+    ensures makes { MakesOrWants (action_in action.now) note.now (session_history course.old) result (session_history course.new) }
+    ensures formatted { OnOk result (IsFormat (action_in action.now) → IsFormatted (present (session_history course.old)) (present (session_history course.new))) }
+    ensures unmoved { OnErr result (course.new ≡ course.old) }
+    ensures even { IsOverEven (action_in action.now) (session_trail course.old) → IsOk result }
+    ensures small { IsSmall (session_trail course.old) → IsSmall (session_trail course.new) }
+    ensures beside { IsBeside course.new.tree beside.new }
+{
+    match *action {
+        Action::Do(command, target) => do_command(course, beside, command, target, note),
+        Action::Format => {
+            *beside = Beside::none();
+            course.format(note)
+        }
+        Action::Undo(n) => {
+            *beside = Beside::none();
+            course.undo(n)
+        }
+        Action::Redo(n) => {
+            *beside = Beside::none();
+            course.redo(n)
+        }
+    }
+}
+
+/// Does an action with a note by what is kept beside the course, as `Session::act_noted` says; the value is kept then. The errors are
+/// those.
+pub(crate) fn act(
+    course: &mut Course,
+    beside: &mut Beside,
+    action: &Action<'_>,
+    note: &str,
+) -> Result<Reply, Refusal>
+    requires { IsBeside course.old.tree beside.old }
+    ensures acted { HasActed (action_in action.now) note.now course.old result course.new }
+    ensures beside { IsBeside course.new.tree beside.new }
+{
+    let _before = course.present();
+    if note.len() > MOST_NOTE {
+        return Err(Refusal::NoteTooLong);
+    }
+    act_short(course, beside, action, note)
 }

@@ -1,9 +1,7 @@
 //! The SHA-256 of the text of a tree, taken leaf by leaf: the text itself is not made.
 ghost use Rattle.std.specs.Prelude.{◌≡◌, ◌++◌, List, ℕ};
 ghost use Rattle.std.specs.List.{flat_map};
-ghost use Rattle.sha2.specs.Sha256.{sha256};
-ghost use Rattle.sha2.specs.Hashers.{Holds256};
-ghost use Rattle.bz_tree.specs.Spell.{spell_leaf, spell_node, spell_part};
+ghost use Rattle.bz_journal.specs.Clauses.{Holds256, sha256, spell_leaf, spell_node, spell_part};
 
 use bz_lex::Leaf;
 use bz_tree::{Part, Tree};

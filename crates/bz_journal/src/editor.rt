@@ -2,45 +2,19 @@
 ghost use Rattle.std.specs.Prelude.{◌≡◌, ◌≢◌, ◌≤◌, ◌<◌, ◌++◌, ◌↔◌, ◌⊎◌, ℕ, length, true, Err, IfErr, IfOk, IfSome, IsErrOf, IsOk, Ok, OnErr, OnOk, Some};
 ghost use Rattle.std.specs.FinMap.{get};
 ghost use Rattle.std.specs.Str.{IsValidUpTo};
-ghost use Rattle.bz_files.specs.Faults.{Rises};
-ghost use Rattle.bz_files.specs.Folder.{Elapses, Folder};
-ghost use Rattle.bz_keep.specs.Pair.{journal_name};
-ghost use Rattle.bz_keep.specs.Resuming.{Holds, OthersStay, Resumes, Survives};
-ghost use Rattle.bz_tree.specs.Faults.{IsOfText};
-ghost use Rattle.bz_tree.specs.Legal.{Accepted};
-ghost use Rattle.bz_tree.specs.Spell.{limit, spell_node};
-ghost use Rattle.bz_trail.specs.Trails.{IsSmall};
-ghost use Rattle.bz_view.specs.View.{view_of};
-ghost use Rattle.bz_redraw.specs.Redrawn.{IsWritten};
-ghost use Rattle.bz_keep.specs.declared.fault.PairFault.{PairFault};
-ghost use Rattle.bz_attribute.specs.declared.refusal.Refusal.{Refusal};
-ghost use Rattle.bz_journal.specs.Actions as a;
-ghost use Rattle.bz_journal.specs.Actions.{action_in};
-ghost use Rattle.bz_journal.specs.declared.action.Reply.{Reply};
-ghost use Rattle.bz_journal.specs.Editing.{IsCommandDone};
-ghost use Rattle.bz_formatter.specs.Fixed.{IsFormatted};
-ghost use Rattle.bz_journal.specs.History.{note_limit, opened, present, Acts, IsFormat};
-ghost use Rattle.bz_journal.specs.Keeping.{IsRefused, IsWriteOrOpen, Keeps, KeepsPair};
-ghost use Rattle.bz_journal.specs.Lasting.{saved};
-ghost use Rattle.bz_journal.specs.Listing.{listing};
-ghost use Rattle.bz_journal.specs.Shown.{session_history, IsOverEven};
-ghost use Rattle.bz_journal.specs.State.{session_trail};
+ghost use Rattle.bz_journal.specs.Clauses.{Accepted, Acts, AreFirstDigests, Elapses, Folder, Holds, IsFormat, IsFormatted, IsOfText, IsOverEven, IsRefused, IsSmall, IsWriteOrOpen, Keeps, KeepsPair, OthersStay, PairFault, Refusal, Reply, Resumes, Rises, Survives, action_in, journal_name, limit, listing, note_limit, opened, present, saved, session_history, session_trail};
 
 use crate::action::{Action, Reply};
-use crate::asking::{Lookups, answer_noted};
-use crate::beside::edit_beside;
-use crate::digests::FirstDigests;
-use crate::keeping::KeepFault;
-use crate::laws::changed_is_written;
-use crate::session::{MOST_NOTE, Session, begin};
+use crate::asking::Lookups;
+use crate::beside::{Beside, act};
+use crate::course::{Course, begin};
+use crate::digests::{cut_off, known};
+use crate::keeping::{KeepFault, learned_text, persist};
+use crate::session::Session;
 use bz_attribute::Refusal;
 use bz_files::Files;
-use bz_formatter::reads_back;
 use bz_items::{Memory, Text};
-use bz_label::Target;
-use bz_tree::{LENGTH_LIMIT, ReadFault};
-use bz_value::File;
-use bz_words::Command;
+use bz_tree::ReadFault;
 use std::alloc::Global;
 use std::marker::Model;
 
@@ -51,21 +25,14 @@ const FEWEST: usize = 500;
 /// After how many commands any value is kept, so that further ones cost the same in a short file as in a long one.
 const OFTEN: u32 = 64;
 
-/// A session, and the value of its present text where one is kept, so that a command need not make it anew. Of a text that was
-/// opened no digest is taken until something reads it: `keep_noted` or `listing`. Contracts see the session.
+/// The course of a file, and what is kept beside it. Of a text that was opened no digest is taken until something reads it:
+/// `keep_noted` or `listing`. Contracts see the session.
 #[derive(Drop)]
 pub struct Editor {
-    session: Session<FirstDigests>,
-    /// The value of the present text, where it is kept.
-    value: Option<File>,
-    /// What was looked up in the present text.
-    lookups: Lookups,
-    /// Whether the present text is known to be the layout of a tidy value.
-    written: bool,
-    /// How many bytes the present text has at most.
-    long: usize,
-    /// Whether the last command printed something, so that the value is worth keeping for the next one that prints.
-    asked: bool,
+    pub(crate) course: Course,
+    /// The SHA-256 of each of the first texts.
+    digests: Vec<[u8; 32]>,
+    beside: Beside,
     /// How many commands were done, up to `OFTEN`.
     done: u32,
 }
@@ -74,102 +41,27 @@ impl Model for Editor {
     ghost use Rattle.bz_tree.specs.contracts.tree.Tree as t;
     ghost use Rattle.bz_edit.specs.contracts.step.Step as s;
     ghost use Rattle.bz_journal.specs.State.{SessionState, state_code};
-    ghost use Rattle.bz_journal.specs.Editing.{IsBeside};
+    ghost use Rattle.bz_journal.specs.Editing.{AreFirstDigests, IsBeside};
+    ghost use Rattle.bz_journal.specs.Shown.{session_history};
 
     ghost Value = { SessionState };
 
     ghost coded = { state_code t.the_row.coded s.the_row.coded };
 
-    ghost view = { λ editor. editor.session };
+    ghost view = { λ editor. editor.course };
 
-    ghost invariant = { λ editor. IsBeside editor.session.tree editor.value editor.lookups editor.written editor.long };
+    ghost invariant = { λ editor. IsBeside editor.course.tree editor.beside × AreFirstDigests editor.digests.items (session_history editor.course).texts };
 }
 
-/// Whether it is answered that the text is another one.
-fn is_changed(reply: &Result<Reply, Refusal>) -> bool
-    ensures { result ≡ true → reply.now ≡ Ok Reply.Changed }
+/// An editor of a course of whose first texts these are the digests. Nothing is kept beside it yet.
+fn editor_of(course: Course, digests: Vec<[u8; 32]>) -> Editor
+    requires { AreFirstDigests digests.items (session_history course).texts }
+    ensures { result ≡ course }
 {
-    matches!(reply, Ok(Reply::Changed))
-}
-
-/// Whether this is the answer to a command that changed the text.
-fn is_command_done(action: &Action<'_>, reply: &Result<Reply, Refusal>) -> bool
-    ensures { result ≡ true → IsCommandDone (action_in action.now) reply.now }
-{
-    match *action {
-        Action::Do(command, _) => {
-            // What is read of the command, so that its words are known to be proper.
-            let _operation = &command.operation;
-            is_changed(reply)
-        }
-        Action::Format | Action::Undo(_) | Action::Redo(_) => false,
-    }
-}
-
-/// Does an action as the session does it, and tells whether the present text is then known to be the layout of a tidy value, and
-/// how many bytes it has at most.
-fn act_by_session(
-    session: &mut Session<FirstDigests>,
-    action: &Action<'_>,
-    note: &str,
-    written: &mut bool,
-    long: &mut usize,
-) -> Result<Reply, Refusal>
-    ensures acts { Acts (action_in action.now) note.now (session_history session.old) result (session_history session.new) }
-    ensures formatted { OnOk result (IsFormat (action_in action.now) → IsFormatted (present (session_history session.old)) (present (session_history session.new))) }
-    ensures err { OnErr result (session_history session.new ≡ session_history session.old) }
-    ensures unmoved { OnErr result (session.new ≡ session.old) }
-    ensures even { length note.now ≤ note_limit → IsOverEven (action_in action.now) (session_trail session.old) → IsOk result }
-    ensures small { IsSmall (session_trail session.old) → IsSmall (session_trail session.new) }
-    ensures written { written.new ≡ true → IsWritten (view_of session.new.tree) session.new.tree }
-    ensures long { length (spell_node session.new.tree) ≤ long.new }
-{
-    changed_is_written();
-    let _before = session.present();
-    let reply = session.act_noted(action, note);
-    *written = is_command_done(action, &reply);
-    *long = LENGTH_LIMIT;
-    reads_back(session.present());
-    reply
-}
-
-/// Does a command with a note on the present text, which is the layout of a tidy value; `value` is its value, where that is kept.
-fn edit_noted(
-    session: &mut Session<FirstDigests>,
-    value: &mut Option<File>,
-    long: &mut usize,
-    command: &Command,
-    target: &Target,
-    note: &str,
-) -> Result<Reply, Refusal>
-    requires value { IfSome value.old (λ items. items ≡ view_of session.old.tree) }
-    requires long { length (spell_node session.old.tree) ≤ long.old }
-    requires written { IsWritten (view_of session.old.tree) session.old.tree }
-    ensures acts { Acts (a.Do command.now target.now) note.now (session_history session.old) result (session_history session.new) }
-    ensures unmoved { OnErr result (session.new ≡ session.old) }
-    ensures small { IsSmall (session_trail session.old) → IsSmall (session_trail session.new) }
-    ensures value { IfSome value.new (λ items. items ≡ view_of session.new.tree) }
-    ensures written { IsWritten (view_of session.new.tree) session.new.tree }
-    ensures long { length (spell_node session.new.tree) ≤ long.new }
-{
-    if note.len() > MOST_NOTE {
-        return Err(Refusal::NoteTooLong);
-    }
-    edit_beside(session, value, long, command, target, note)
-}
-
-/// An editor of a session. No value is kept yet.
-fn beside(session: Session<FirstDigests>) -> Editor
-    ensures { result ≡ session }
-{
-    reads_back(session.present());
     Editor {
-        session,
-        value: None,
-        lookups: Lookups::none(),
-        written: false,
-        long: LENGTH_LIMIT,
-        asked: false,
+        course,
+        digests,
+        beside: Beside::none(),
         done: 0,
     }
 }
@@ -186,7 +78,7 @@ impl Editor {
         ensures refused { IfErr result (λ fault. IsOfText fault → Accepted text.now → ⊥) }
     {
         match begin(alloc, package, text) {
-            Ok(session) => Ok(beside(session)),
+            Ok(course) => Ok(editor_of(course, Vec::new(alloc))),
             Err(fault) => Err(fault),
         }
     }
@@ -195,14 +87,15 @@ impl Editor {
     pub fn new(session: Session) -> Editor
         ensures { result ≡ session }
     {
-        beside(Session::of_session(session))
+        let Session { course, digests } = session;
+        editor_of(course, digests)
     }
 
     /// The number of the present text; the first is 0.
     pub fn cursor(&self) -> u32
         ensures { result ≡ (session_history self.now).cursor }
     {
-        self.session.cursor()
+        self.course.cursor()
     }
 
     /// Appends the present text to `out`. The error: a growth was refused; `out` is then as before.
@@ -210,14 +103,17 @@ impl Editor {
         ensures ok { OnOk result (out.new.items ≡ out.old.items ++ present (session_history self.now)) }
         ensures err { OnErr result (out.new.items ≡ out.old.items) }
     {
-        self.session.text_into(out)
+        self.course.text_into(out)
     }
 
     /// The texts, one line each, as `Session::listing` gives them. The error: a growth was refused.
     pub fn listing(&self, alloc: Global) -> Result<Text, Memory>
         ensures { IfOk result (λ text. text ≡ listing (session_history self.now)) }
     {
-        self.session.listing(alloc)
+        match known(self.digests.as_slice(), &self.course) {
+            Some(digests) => self.course.listed(alloc, digests),
+            None => self.course.listed(alloc, self.course.hashed()?.as_slice()),
+        }
     }
 
     /// Does an action with a note, as `Session::act_noted` does. Behind a command that changed the text the next ones cost what
@@ -231,56 +127,10 @@ impl Editor {
         ensures even { length note.now ≤ note_limit → IsOverEven (action_in action.now) (session_trail self.old) → IsOk result }
         ensures small { IsSmall (session_trail self.old) → IsSmall (session_trail self.new) }
     {
-        let answer = self.act_beside(action, note);
+        let answer = act(&mut self.course, &mut self.beside, action, note);
+        cut_off(&mut self.digests, &self.course, &answer);
         self.let_go();
         answer
-    }
-
-    /// The same by what is kept beside the session; the value is kept then.
-    fn act_beside(&mut self, action: &Action<'_>, note: &str) -> Result<Reply, Refusal>
-        ensures acts { Acts (action_in action.now) note.now (session_history self.old) result (session_history self.new) }
-        ensures formatted { OnOk result (IsFormat (action_in action.now) → IsFormatted (present (session_history self.old)) (present (session_history self.new))) }
-        ensures err { OnErr result (session_history self.new ≡ session_history self.old) }
-        ensures unmoved { OnErr result (self.new ≡ self.old) }
-        ensures even { length note.now ≤ note_limit → IsOverEven (action_in action.now) (session_trail self.old) → IsOk result }
-        ensures small { IsSmall (session_trail self.old) → IsSmall (session_trail self.new) }
-    {
-        if let Action::Do(command, target) = *action {
-            let asks = command.prints();
-            if asks && (self.written || self.asked) {
-                if let Some(answer) = answer_noted(
-                    &self.session,
-                    &mut self.value,
-                    &mut self.lookups,
-                    command,
-                    target,
-                    note,
-                ) {
-                    return answer;
-                }
-            }
-            self.asked = asks;
-            if self.written {
-                self.lookups = Lookups::none(); // those of the text before
-                return edit_noted(
-                    &mut self.session,
-                    &mut self.value,
-                    &mut self.long,
-                    command,
-                    target,
-                    note,
-                );
-            }
-        }
-        self.lookups = Lookups::none();
-        self.value = None;
-        act_by_session(
-            &mut self.session,
-            action,
-            note,
-            &mut self.written,
-            &mut self.long,
-        )
     }
 
     /// Lets go of the value of a short text, and of what was looked up in it, unless commands came often.
@@ -291,11 +141,11 @@ impl Editor {
             return;
         }
         self.done += 1;
-        if let Some(file) = &self.value
+        if let Some(file) = &self.beside.value
             && file.items.len() < FEWEST
         {
-            self.value = None;
-            self.lookups = Lookups::none();
+            self.beside.value = None;
+            self.beside.lookups = Lookups::none();
         }
     }
 
@@ -354,9 +204,10 @@ impl Editor {
     ) -> Result<Reply, KeepFault>
         ensures { KeepsPair F.Files (action_in action.now) note.now file.now self.old result self.new files.old files.new }
     {
-        let standing = self.session.learned_text();
+        let standing = learned_text(&self.course, &mut self.digests);
         let from = self.cursor();
         let answer = self.act_noted(action, note);
-        self.session.persist(answer, from, standing, file, files)
+        let (course, digests) = (&self.course, &mut self.digests);
+        persist(course, digests, answer, from, standing, file, files)
     }
 }

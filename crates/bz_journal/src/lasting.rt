@@ -1,18 +1,10 @@
 //! Sessions that outlive the run: their journal, and what is resumed of one.
 ghost use Rattle.std.specs.Prelude.{◌≡◌, ◌++◌, ◌↔◌, ℕ, List, Err, IfOk, IfErr, OnOk, OnErr, IsUtf8, map, option_map, slice_get, string_bytes};
-ghost use Rattle.sha2.specs.Sha256.{sha256};
-ghost use Rattle.bz_edit.specs.declared.edit.Edit.{Edit};
-ghost use Rattle.bz_record.specs.Texts.{IsOtherVersion};
+ghost use Rattle.bz_journal.specs.Clauses.{AreSmall, Edit, GoesOn, History, IsAgain, IsKnownSession, IsOtherVersion, IsResumedSession, IsSavedSession, IsSmall, IsStale, Journal, NoJournal, StandsFor, saved, session_history, session_trail, sha256};
 ghost use Rattle.bz_resume.specs.declared.fault.ResumeFault.TheVariants as f;
-ghost use Rattle.bz_resume.specs.Journals.{AreSmall, Journal, NoJournal};
-ghost use Rattle.bz_resume.specs.Resumed.{IsResumed as WasResumed, IsStale, StandsFor};
-ghost use Rattle.bz_trail.specs.Trails.{IsSmall};
-ghost use Rattle.bz_journal.specs.History.{History};
-ghost use Rattle.bz_journal.specs.Lasting.{GoesOn, IsAgain, IsKnownSession, IsResumedSession, IsSavedSession, saved};
-ghost use Rattle.bz_journal.specs.Shown.{session_history};
-ghost use Rattle.bz_journal.specs.State.{session_trail};
+ghost use Rattle.bz_resume.specs.Resumed.{IsResumed as WasResumed};
 
-use crate::digests::Digests;
+use crate::course::Course;
 use crate::session::Session;
 use bz_items::{Memory, Text};
 use bz_resume::laws::reopened;
@@ -29,17 +21,7 @@ fn path_of(alloc: Global, package: &Text) -> Result<String, Memory>
     String::from_str(alloc, str::from_utf8(package.as_slice()).unwrap())
 }
 
-impl<D: Digests + Drop> Session<D> {
-    /// The note of the step between texts i and i + 1; `None` past the last step.
-    pub fn note(&self, i: u32) -> Option<&str>
-        ensures { option_map (λ note. note.now) result ≡ slice_get (session_history self.now).notes i }
-    {
-        match bz_items::at(self.notes.as_slice(), i as usize) {
-            Some(note) => Some(str::from_utf8(note.as_slice()).unwrap()),
-            None => None,
-        }
-    }
-
+impl Course {
     /// Appends the journal of the session, whose texts have these digests, in version 2. The error: a growth was refused; `out` is
     /// then as before.
     pub(crate) fn save_by(&self, digests: &[[u8; 32]], out: &mut Vec<u8>) -> Result<(), Memory>
@@ -47,7 +29,9 @@ impl<D: Digests + Drop> Session<D> {
         ensures ok { OnOk result (out.new.items ≡ out.old.items ++ saved self.now) }
         ensures err { OnErr result (out.new.items ≡ out.old.items) }
         ensures journal { IsSavedSession self.now }
+        ensures small { IsSmall (session_trail self.now) → AreSmall (session_history self.now) self.now.steps }
     {
+        one_reading();
         texts_kept();
         let saved = Saved {
             package: self.package.as_bytes(),
@@ -63,6 +47,16 @@ impl<D: Digests + Drop> Session<D> {
 }
 
 impl Session {
+    /// The note of the step between texts i and i + 1; `None` past the last step.
+    pub fn note(&self, i: u32) -> Option<&str>
+        ensures { option_map (λ note. note.now) result ≡ slice_get (session_history self.now).notes i }
+    {
+        match bz_items::at(self.course.notes.as_slice(), i as usize) {
+            Some(note) => Some(str::from_utf8(note.as_slice()).unwrap()),
+            None => None,
+        }
+    }
+
     /// Appends the journal of the session, in version 2. The error: a growth was refused; `out` is then as before.
     pub fn save_into(&self, out: &mut Vec<u8>) -> Result<(), Memory>
         ensures ok { OnOk result (out.new.items ≡ out.old.items ++ saved self.now) }
@@ -72,10 +66,7 @@ impl Session {
         ensures journal { IsSavedSession self.now }
         ensures small { IsSmall (session_trail self.now) → AreSmall (session_history self.now) self.now.steps }
     {
-        one_reading();
-        texts_kept();
-        let _tree = &self.tree;
-        self.save_by(self.digests(), out)
+        self.course.save_by(self.digests(), out)
     }
 
     /// The session that a journal says, at the text that the file has now: at the cursor where that is the text there, else at
@@ -110,14 +101,17 @@ impl Session {
             cursor,
         } = resumed;
         let package = path_of(alloc, &package)?;
-        Ok(Session {
+        let course = Course {
             tree,
             steps: steps.into_vec(),
-            digests: digests.into_vec(),
             notes: notes.into_vec(),
             package,
             cursor: cursor as u32,
             before: cursor as u32,
+        };
+        Ok(Session {
+            course,
+            digests: digests.into_vec(),
         })
     }
 

@@ -1,22 +1,14 @@
 //! Facts about the definitions, for readers: the functions do nothing.
 
-ghost use Rattle.bz_trail.specs.Shown.{StepsAreBetween, StepsLead};
-ghost use Rattle.bz_trail.specs.Trails.{HasLeast, IsSmall};
-ghost use Rattle.bz_journal.specs.Editing.{ChangedIsWritten, WrittenIsDrawn};
-ghost use Rattle.bz_journal.specs.History.{IsKept};
-ghost use Rattle.bz_journal.specs.Lasting.{AlikeGoesOn};
-ghost use Rattle.bz_journal.specs.Meaning.{OverfullIsRefused};
-ghost use Rattle.bz_journal.specs.Shown.{session_history};
-ghost use Rattle.bz_journal.specs.State.{session_trail};
-ghost use Rattle.bz_journal.specs.Worked.{WorkedHistories};
+ghost use Rattle.bz_journal.specs.Clauses.{AlikeActs, AlikeGoesOn, HasLeast, IsKept, IsSmall, OverfullIsRefused, StepsAreBetween, StepsLead, StoppedIsResumed, WorkedHistories, WrittenIsDrawn, session_history, session_trail};
 
+use crate::course::Course;
+use crate::editor::Editor;
 use crate::session::Session;
-use bz_command::effects_stay_proper;
 use bz_formatter::comments_fill;
 use bz_tidy::{proper_stays, tidy_settles, tidy_stays};
 use bz_trail::laws::{small_steps, steps_lead, texts_kept};
 use bz_tree::laws::one_reading;
-use bz_view::views_are_proper;
 use bz_write::{layout_is_accepted, layout_reads_back};
 
 /// Worked rows: what undo, redo and new texts make of small histories.
@@ -27,15 +19,20 @@ pub fn worked_histories()
 /// Two histories that differ at most in the number of the text that was present before answer alike whatever is done, and stay so:
 /// a session that was saved and resumed at its own text goes on as one that never stopped.
 pub fn alike_goes_on()
-    ensures { AlikeGoesOn }
+    ensures act { AlikeActs }
+    ensures run { AlikeGoesOn }
+{}
+
+/// A pair that was stopped at any moment while an action was kept is resumed at the text that the file holds, or memory is refused.
+pub fn stopped_is_resumed()
+    ensures { StoppedIsResumed }
 {}
 
 /// What the history of each session keeps.
 pub fn history_kept(session: &Session)
     ensures { ∥ IsKept (session_history session.now) ∥₁ }
 {
-    texts_kept();
-    let _tree = &session.tree;
+    course_holds(&session.course);
 }
 
 /// What a session holds: each step leads between the trees of two texts that follow one another and differ; those of a small
@@ -45,9 +42,30 @@ pub fn session_holds(session: &Session)
     ensures between { IsSmall (session_trail session.now) → StepsAreBetween (session_trail session.now) }
     ensures least { IsSmall (session_trail session.now) → HasLeast (session_trail session.now) }
 {
+    course_holds(&session.course);
+}
+
+/// The same of an editor: what its history keeps, and what it holds.
+pub fn editor_holds(editor: &Editor)
+    ensures kept { ∥ IsKept (session_history editor.now) ∥₁ }
+    ensures lead { StepsLead (session_trail editor.now) }
+    ensures between { IsSmall (session_trail editor.now) → StepsAreBetween (session_trail editor.now) }
+    ensures least { IsSmall (session_trail editor.now) → HasLeast (session_trail editor.now) }
+{
+    course_holds(&editor.course);
+}
+
+/// The same of a course.
+fn course_holds(course: &Course)
+    ensures kept { ∥ IsKept (session_history course.now) ∥₁ }
+    ensures lead { StepsLead (session_trail course.now) }
+    ensures between { IsSmall (session_trail course.now) → StepsAreBetween (session_trail course.now) }
+    ensures least { IsSmall (session_trail course.now) → HasLeast (session_trail course.now) }
+{
+    texts_kept();
     steps_lead();
     small_steps();
-    let _tree = &session.tree;
+    let _tree = &course.tree;
 }
 
 /// Where a value is written and the answer is no refusal, the tree of the present text is the layout of the value tidied.
@@ -60,15 +78,6 @@ pub(crate) fn written_is_drawn()
     proper_stays();
     tidy_settles();
     tidy_stays();
-}
-
-/// Where a command changed the text, the tree of the new one is the layout of its own value, which is tidy.
-pub(crate) fn changed_is_written()
-    ensures { ChangedIsWritten }
-{
-    views_are_proper();
-    effects_stay_proper();
-    written_is_drawn();
 }
 
 /// Where what a command makes is past the limit by the comments that it puts in, the command is refused as too large.

@@ -4,10 +4,10 @@
 mod action;
 mod asking;
 mod beside;
+mod course;
 mod digest;
 mod digests;
 mod editor;
-mod hashing;
 mod keeping;
 mod lasting;
 mod laws;
@@ -15,11 +15,12 @@ mod lines;
 mod listing;
 mod meaning;
 mod session;
-mod taking;
 
 pub use action::{Action, Reply};
 pub use bz_resume::ResumeFault;
 pub use editor::Editor;
 pub use keeping::KeepFault;
-pub use laws::{alike_goes_on, history_kept, session_holds, worked_histories};
+pub use laws::{
+    alike_goes_on, editor_holds, history_kept, session_holds, stopped_is_resumed, worked_histories,
+};
 pub use session::Session;

@@ -1,10 +1,6 @@
 //! Lines that stand in the place of others of a tree.
 ghost use Rattle.std.specs.Prelude.{◌≡◌, ◌≤◌, ◌+◌, ◌++◌, ◌↔◌, false, drop, length, take, IfOk, IsTrue, OnErr};
-ghost use Rattle.bz_tree.specs.Places.{Ascend, put_all};
-ghost use Rattle.bz_tree.specs.Spell.{spell_node};
-ghost use Rattle.bz_trail.specs.Shown.{TakesUp};
-ghost use Rattle.bz_trail.specs.Trails.{IsTrail, IsTree, trail_at};
-ghost use Rattle.bz_journal.specs.Lines.{AreIn, tree_with};
+ghost use Rattle.bz_journal.specs.Clauses.{AreIn, Ascend, IsTrail, IsTree, TakesUp, put_all, spell_node, trail_at, tree_with};
 
 use bz_edit::Step;
 use bz_items::Memory;

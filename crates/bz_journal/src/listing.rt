@@ -1,11 +1,8 @@
 //! The texts of a session, listed.
 ghost use Rattle.std.specs.Prelude.{◌≡◌, ◌++◌, IfOk, OnOk, length, map};
-ghost use Rattle.sha2.specs.Sha256.{sha256};
-ghost use Rattle.bz_journal.specs.Listing.{text_lines_from, listing, noted, text_line};
-ghost use Rattle.bz_journal.specs.Shown.{session_history};
+ghost use Rattle.bz_journal.specs.Clauses.{listing, noted, session_history, sha256, text_line, text_lines_from};
 
-use crate::digests::Digests;
-use crate::session::Session;
+use crate::course::Course;
 use bz_exact::{hex_digits, push_number};
 use bz_items::{Memory, Text};
 use bz_trail::laws::texts_kept;
@@ -70,21 +67,9 @@ fn put_lines(
     Ok(())
 }
 
-impl<D: Digests + Drop> Session<D> {
-    /// The texts, one line each: `*` at the present one or a space, a space, its number from 0, a space, its SHA-256 in 64
-    /// digits, and after a space the note of the step to it where there is one, newlines as `\n`. The error: a growth was
-    /// refused.
-    pub fn listing(&self, alloc: Global) -> Result<Text, Memory>
-        ensures { IfOk result (λ text. text ≡ listing (session_history self.now)) }
-    {
-        match self.known() {
-            Some(digests) => self.listed(alloc, digests),
-            None => self.listed(alloc, self.hashed()?.as_slice()),
-        }
-    }
-
+impl Course {
     /// The listing of texts that have these digests. The error: a growth was refused.
-    fn listed(&self, alloc: Global, digests: &[[u8; 32]]) -> Result<Text, Memory>
+    pub(crate) fn listed(&self, alloc: Global, digests: &[[u8; 32]]) -> Result<Text, Memory>
         requires { digests.now ≡ map sha256 (session_history self.now).texts }
         ensures { IfOk result (λ text. text ≡ listing (session_history self.now)) }
     {

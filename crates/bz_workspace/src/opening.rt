@@ -112,7 +112,7 @@ pub(crate) fn resumed(
         Ok(session) => session,
         Err(fault) => return Err(fault),
     };
-    if session.package.as_str() != package {
+    if session.package() != package {
         return Err(ResumeFault::Damaged);
     }
     let name = String::from_str(alloc, name)?;

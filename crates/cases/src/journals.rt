@@ -82,12 +82,7 @@ fn kept(
     note: &str,
     files: &mut MemoryFiles,
 ) -> Result<Result<Reply, bz_attribute::Refusal>, CaseFault> {
-    let answer = if note.is_empty() {
-        session.keep(action, FILE, files)
-    } else {
-        session.keep_noted(action, note, FILE, files)
-    };
-    match answer {
+    match session.keep_noted(action, note, FILE, files) {
         Ok(reply) => Ok(Ok(reply)),
         Err(KeepFault::Refused(refusal)) => Ok(Err(refusal)),
         Err(KeepFault::Pair(PairFault::Memory)) => Err(CaseFault::Memory),

@@ -1,7 +1,7 @@
 //! The laws: functions that do nothing, whose contracts say something of all texts, labels, trees or values. A call shows
 //! that what a law requires can be met.
 use bz_edit::advance;
-use bz_journal::{Session, history_kept, session_holds};
+use bz_journal::{Editor, Session, editor_holds, history_kept, session_holds};
 use bz_label::{Label, LabelFault, Target, TargetFault};
 use bz_parse::parse;
 use bz_tree::ReadFault;
@@ -205,5 +205,6 @@ fn one_history(alloc: Global) -> Result<(), ReadFault> {
     let session = Session::open(alloc, "p", b"x = [1]\n")?;
     history_kept(&session);
     session_holds(&session);
+    editor_holds(&Editor::new(session));
     Ok(())
 }

@@ -11,21 +11,14 @@ use Rattle.bz_journal.specs.Shown.{session_history}
 use Rattle.bz_journal.proofs.Edited.{value_taken}
 use Rattle.bz_journal.proofs.beside.take_up_value.Goals as goal
 
-pub returns-in-Ok-clause-value : goal.returns-in-Ok-clause-value
-returns-in-Ok-clause-value c =
-    let taken = value_taken c.written_is_drawn.ensures c.args.done.file c.args.printed c.args.note.now (session_history c.args.session.now) (session_history c.take_up_tidied.new.session) c.in-Ok.reply c.present.result.now
-    (subst (λ (xs : List Item). IsProper xs) c.file.view_is c.file.invariant) c.requires.tidy c.present-before.ensures.within c.in-Ok.ensures.makes c.reads_back.ensures c.present.ensures.text in
-    taken.0 ∙ ap view_of c.present.ensures.tree
-
-pub returns-in-Ok-clause-written : goal.returns-in-Ok-clause-written
-returns-in-Ok-clause-written c =
-    let taken = value_taken c.written_is_drawn.ensures c.args.done.file c.args.printed c.args.note.now (session_history c.args.session.now) (session_history c.take_up_tidied.new.session) c.in-Ok.reply c.present.result.now
-    (subst (λ (xs : List Item). IsProper xs) c.file.view_is c.file.invariant) c.requires.tidy c.present-before.ensures.within c.in-Ok.ensures.makes c.reads_back.ensures c.present.ensures.text in
-    subst (λ (n : Node). IsWritten (view_of n) n) c.present.ensures.tree taken.1
-
-pub returns-in-Ok-clause-long : goal.returns-in-Ok-clause-long
-returns-in-Ok-clause-long c =
-    let taken = value_taken c.written_is_drawn.ensures c.args.done.file c.args.printed c.args.note.now (session_history c.args.session.now) (session_history c.take_up_tidied.new.session) c.in-Ok.reply c.present.result.now
-    (subst (λ (xs : List Item). IsProper xs) c.file.view_is c.file.invariant) c.requires.tidy c.present-before.ensures.within c.in-Ok.ensures.makes c.reads_back.ensures c.present.ensures.text in
-    let short : length (layout c.args.done.file) ≤ limit = subst (λ (t : Bytes). length t ≤ limit) taken.2 c.reads_back.ensures.2 in
-    subst (λ (t : Bytes). length t ≤ c.args.done.most) (sym taken.2 ∙ ap spell_node c.present.ensures.tree) (c.requires.most short)
+pub returns-in-Ok-clause-beside : goal.returns-in-Ok-clause-beside
+returns-in-Ok-clause-beside c =
+    let taken = value_taken c.written_is_drawn.ensures c.args.file c.args.printed c.args.note.now (session_history c.args.course.now) (session_history c.take_up_tidied.new.course) c.in-Ok.reply c.present.result.now
+    (subst (λ (xs : List Item). IsProper xs) c.file.view_is c.file.invariant) c.requires.tidy c.present-before.ensures.within c.in-Ok.ensures.made c.reads_back.ensures c.present.ensures.text in
+    let short : length (layout c.args.file) ≤ limit = subst (λ (t : Bytes). length t ≤ limit) taken.2 c.reads_back.ensures.2 in
+    record {
+      seen = taken.0 ∙ ap view_of c.present.ensures.tree;
+      looked = c.requires.looked _;
+      written = λ _. subst (λ (n : Node). IsWritten (view_of n) n) c.present.ensures.tree taken.1;
+      long = λ _. subst (λ (t : Bytes). length t ≤ c.args.most) (sym taken.2 ∙ ap spell_node c.present.ensures.tree) (c.requires.most short);
+    }

@@ -24,11 +24,8 @@ pub returns-then-ne-clause-err : goal.returns-then-ne-clause-err
 returns-then-ne-clause-err c =
     let session = c.in-Ok.session in
     let current = c.args.package.now in
-    let own = c.as_str.ensures.value in
-    let shown = ap (λ (s : SessionState). s.«package») c.session.view_is in
     let other : session.«package» ≢ current = λ same.
-    let called : c.as_str.result.now ≡ current = cc in
-    true≢false (sym c.if-ne.true ∙ c.ne.ensures ∙ ap not ((bytes_eq-Decides c.as_str.result.now current).1 called)) in
+    true≢false (sym c.if-ne.true ∙ c.ne.ensures ∙ ap not ((bytes_eq-Decides c.«package».result.now current).1 (c.«package».ensures ∙ same))) in
     inr (subst (λ (text : Bytes). JournalGives current c.args.journal.now text (Err f.Damaged)) c.as_slice.ensures.value
     (other_gives current c.args.journal.now c.as_slice.result.now session c.in-Ok.ensures.ok other))
 
@@ -36,10 +33,8 @@ pub returns-clause-ok : goal.returns-clause-ok
 returns-clause-ok c =
     let session = c.in-Ok.session in
     let current = c.args.package.now in
-    let own = c.as_str.ensures.value in
-    let shown = ap (λ (s : SessionState). s.«package») c.session.view_is in
-    let called = (bytes_eq-Decides c.as_str.result.now current).0 (not_false _ (sym c.ne.ensures ∙ c.if-ne.false)) in
-    let named : session.«package» ≡ current = cc in (
+    let called = (bytes_eq-Decides c.«package».result.now current).0 (not_false _ (sym c.ne.ensures ∙ c.if-ne.false)) in
+    let named : session.«package» ≡ current = sym c.«package».ensures ∙ called in (
       session_history session,
       subst (λ (text : Bytes). JournalGives current c.args.journal.now text (Ok (session_history session))) c.as_slice.ensures.value
           (resumed_gives current c.args.journal.now c.as_slice.result.now session c.in-Ok.ensures.ok named),

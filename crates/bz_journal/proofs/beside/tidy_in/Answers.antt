@@ -1,0 +1,9 @@
+use Rattle.std.proofs.Common.{◌∙◌, ap, length}
+use Rattle.bz_view.specs.View.{view_of}
+use Rattle.bz_journal.proofs.Edited.{exchanged_length}
+use Rattle.bz_journal.proofs.beside.tidy_in.Goals as goal
+
+pub renew-requires-clause-marks : goal.renew-requires-clause-marks
+renew-requires-clause-marks c =
+    let marked = c.requires.marked in
+    ap length c.as_slice.ensures.value ∙ exchanged_length c.in-Some.marks.items (view_of c.args.tree.now) c.args.file.now (rw c.in-Some.is at marked)

@@ -1,0 +1,23 @@
+use Rattle.std.proofs.Common.{ap, length, arith, subst}
+use Rattle.std.proofs.lemmas.List.{length-map}
+use Rattle.sha2.specs.Sha256.{sha256}
+use Rattle.bz_trail.specs.Shown.{texts_of}
+use Rattle.bz_journal.specs.State.{SessionState, IsSession, session_trail}
+use Rattle.bz_journal.proofs.Kept.{session_counted}
+use Rattle.bz_journal.proofs.course.Course.listed.Goals as goal
+
+pub put_lines-requires : goal.put_lines-requires
+put_lines-requires c =
+    let i = c.self.inside in
+    let s : SessionState = c.args.self.now in
+    let own : IsSession s = subst (λ (t : SessionState). IsSession t) c.self.view_is c.self.invariant in
+    omega (
+      arith,
+      c.in-Some.ensures.cases.1,
+      ap length c.requires,
+      length-map (texts_of (session_trail s)) sha256,
+      session_counted c.texts_kept.ensures s own,
+      own.noted,
+      ap (λ (t : SessionState). length t.notes) c.self.view_is,
+      ap length c.as_slice.ensures.value,
+    )

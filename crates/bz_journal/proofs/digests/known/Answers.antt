@@ -1,0 +1,10 @@
+use Rattle.std.proofs.Common.{◌≡◌, ◌∙◌, ◌+◌, ap, length, rules}
+use Rattle.sha2.specs.Sha256.{sha256}
+use Rattle.bz_journal.specs.Shown.{session_history}
+use Rattle.bz_journal.proofs.Digested.{all_first}
+use Rattle.bz_journal.proofs.digests.known.Goals as goal
+
+pub returns-then-digests-count : goal.returns-then-digests-count
+returns-then-digests-count c =
+    let here : length c.args.digests.now ≡ c.steps.result + 1 = search rules in
+    all_first sha256 (c.steps.result + 1) c.args.digests.now (session_history c.args.course.now).texts c.requires here c.steps.ensures

@@ -1,0 +1,16 @@
+use Rattle.std.proofs.Common.{◌≡◌, ◌∙◌, ◌<◌, ◌++◌, ◌∷◌, [], ap, length, rules, subst, sym, ℕ, List}
+use Rattle.std.specs.Prelude.{slice_index_or}
+use Rattle.bz_items.specs.Characters.{Bytes}
+use Rattle.bz_journal.specs.Shown.{session_history}
+use Rattle.bz_journal.proofs.Digested.{learn_next}
+use Rattle.bz_journal.proofs.digests.learn.Goals as goal
+
+pub returns-then-is_ok-clause-first : goal.returns-then-is_ok-clause-first
+returns-then-is_ok-clause-first c =
+    let first = c.args.digests.now.items in
+    let texts : List Bytes = (session_history c.args.course.now).texts in
+    let here : length first ≡ c.cursor-cursor.result = search rules in
+    let grown : c.push.new.self.items ≡ first ++ c.digest.result ∷ [] = search rules in
+    learn_next c.cursor-cursor.result first c.push.new.self.items texts c.args.text.now c.digest.result c.requires.first here
+    (subst (λ (k : ℕ). k < length texts) (sym c.cursor-cursor.ensures) c.present-tree.ensures.within)
+    (ap (λ (k : ℕ). slice_index_or texts k []) c.cursor-cursor.ensures ∙ sym c.requires.text) c.digest.ensures grown

@@ -1,0 +1,5 @@
+use Rattle.bz_journal.proofs.Opening.{refused_tells}
+use Rattle.bz_journal.proofs.session.Session.open.Goals as goal
+
+pub returns-in-Err-one_digest-clause-not_utf8 : goal.returns-in-Err-one_digest-clause-not_utf8
+returns-in-Err-one_digest-clause-not_utf8 c = refused_tells c.args.text.now _ c.in-Ok.ensures.not_utf8

@@ -1,0 +1,47 @@
+-- What the clauses of this crate speak of, from its own definitions and from those of the crates below.
+pub use Rattle.bz_attribute.specs.declared.refusal.Refusal.{Refusal}
+pub use Rattle.bz_command.specs.Effect.{effect, printed}
+pub use Rattle.bz_command.specs.Overfull.{Overfills}
+pub use Rattle.bz_edit.specs.declared.edit.Edit.{Edit}
+pub use Rattle.bz_files.specs.Faults.{Rises}
+pub use Rattle.bz_files.specs.Folder.{Elapses, Folder}
+pub use Rattle.bz_formatter.specs.Fixed.{IsFormatted}
+pub use Rattle.bz_items.specs.Characters.{Bytes}
+pub use Rattle.bz_journal.specs.Actions.{MakesText, action_in}
+pub use Rattle.bz_journal.specs.Doing.{EndsAt, HasMade}
+pub use Rattle.bz_journal.specs.Editing.{AreFirstDigests, IsBeside, WrittenIsDrawn}
+pub use Rattle.bz_journal.specs.History.{Acts, Answer, History, IsFormat, IsKept, MakesOrWants, Runs, after_meaning, after_text, changed, most_steps, note_limit, opened, present, unchanged}
+pub use Rattle.bz_journal.specs.Keeping.{HasActed, IsRefused, IsWriteOrOpen, Keeps, KeepsPair}
+pub use Rattle.bz_journal.specs.Lasting.{AlikeActs, AlikeGoesOn, GoesOn, IsAgain, IsKnownSession, IsResumedSession, IsSavedSession, saved}
+pub use Rattle.bz_journal.specs.Lines.{AreIn, AreLinesOf, tree_with}
+pub use Rattle.bz_journal.specs.Listing.{listing, noted, text_line, text_lines_from}
+pub use Rattle.bz_journal.specs.Lookups.{AreLookupsOf}
+pub use Rattle.bz_journal.specs.Meaning.{Means, OverfullIsRefused, gives, refuses, told, written}
+pub use Rattle.bz_journal.specs.Shown.{IsOverEven, session_history}
+pub use Rattle.bz_journal.specs.State.{SessionState, session_trail}
+pub use Rattle.bz_journal.specs.Stopping.{StoppedIsResumed}
+pub use Rattle.bz_journal.specs.Worked.{WorkedHistories}
+pub use Rattle.bz_journal.specs.declared.action.Reply.{Reply}
+pub use Rattle.bz_keep.specs.Pair.{journal_name}
+pub use Rattle.bz_keep.specs.Resuming.{Holds, OthersStay, Resumes, Survives}
+pub use Rattle.bz_keep.specs.declared.fault.PairFault.{PairFault}
+pub use Rattle.bz_names.specs.Index.{IsIndexOf}
+pub use Rattle.bz_record.specs.Texts.{IsOtherVersion}
+pub use Rattle.bz_redraw.specs.Redrawn.{IsWritten}
+pub use Rattle.bz_resume.specs.Journals.{AreSmall, Journal, NoJournal}
+pub use Rattle.bz_resume.specs.Resumed.{IsStale, StandsFor}
+pub use Rattle.bz_tidy.specs.Passes.{tidied}
+pub use Rattle.bz_trail.specs.Shown.{StepsAreBetween, StepsLead, TakesUp, texts_of}
+pub use Rattle.bz_trail.specs.Trails.{HasLeast, IsSmall, IsTrail, IsTree, are_even, steps_back, steps_forward, trail_at}
+pub use Rattle.bz_tree.specs.Faults.{IsOfText}
+pub use Rattle.bz_tree.specs.Legal.{Accepted}
+pub use Rattle.bz_tree.specs.Places.{Ascend, put_all}
+pub use Rattle.bz_tree.specs.Spell.{limit, spell_leaf, spell_node, spell_part}
+pub use Rattle.bz_tree.specs.Statements.{lines_of}
+pub use Rattle.bz_tree.specs.declared.tree.Node.{Node}
+pub use Rattle.bz_value.specs.Exchanged.{AreExchanged, IsSpliced}
+pub use Rattle.bz_value.specs.declared.value.Item.{Item}
+pub use Rattle.bz_view.specs.View.{view_of}
+pub use Rattle.bz_write.specs.Written.{layout}
+pub use Rattle.sha2.specs.Hashers.{Holds256}
+pub use Rattle.sha2.specs.Sha256.{sha256}
