@@ -28,6 +28,7 @@ impl Front {
     }
 
     /// The leaf, cut off the text. The error: a growth was refused.
+    #[inline(always)]
     pub fn leaf(self, alloc: Global, text: &[u8]) -> Result<Leaf, AllocError>
         requires { self.gap + self.token ≤ length text.now }
         ensures { IfOk result (λ leaf. leaf ≡ front_leaf self text.now) }

@@ -1,4 +1,4 @@
-ghost use Rattle.std.specs.Prelude.{◌≡◌, ◌≤◌, ◌<◌, ◌-◌, ℕ, Some, IsTrue, get_or, length, take, drop, MatchOption, true, false};
+ghost use Rattle.std.specs.Prelude.{◌≡◌, ◌≤◌, ◌<◌, ◌-◌, ℕ, Bool, None, Some, IsTrue, get_or, length, take, drop, MatchOption, true, false};
 ghost use Rattle.bz_lex.specs.declared.gap.GapState.TheVariants.{Open};
 ghost use Rattle.bz_lex.specs.GapStates.{gap_move, gap_state_after, Stops, is_end, broken_off};
 
@@ -73,8 +73,36 @@ impl GapFront {
     }
 }
 
-/// Reads as much as a gap can go on with; `newlines` says whether unescaped newlines may stand in it.
+/// Whether no gap goes on with a byte between two pieces, as far as that is seen at a glance: most tokens begin with such a byte.
+#[inline(always)]
+fn is_past(byte: u8) -> bool
+    ensures { IsTrue result → (newlines : Bool) → gap_move newlines Open byte ≡ None }
+{
+    byte > b'#' && byte != b'\\' || byte == b'"'
+}
+
+/// Reads as much as a gap can go on with; `newlines` says whether unescaped newlines may stand in it. Most gaps are empty or one space.
+#[inline(always)]
 pub fn gap_front(text: &[u8], newlines: bool) -> GapFront
+    ensures within { result.length ≤ length text.now }
+    ensures taken { gap_state_after newlines Open (take result.length text.now) ≡ Some result.state }
+    ensures stops { Stops newlines result.state (drop result.length text.now) }
+{
+    match text {
+        [first, ..] if is_past(*first) => GapFront {
+            length: 0,
+            state: GapState::Open,
+        },
+        [b' ', second, ..] if is_past(*second) => GapFront {
+            length: 1,
+            state: GapState::Open,
+        },
+        _ => longer_gap(text, newlines),
+    }
+}
+
+/// Reads as much as a gap can go on with, byte by byte.
+fn longer_gap(text: &[u8], newlines: bool) -> GapFront
     ensures within { result.length ≤ length text.now }
     ensures taken { gap_state_after newlines Open (take result.length text.now) ≡ Some result.state }
     ensures stops { Stops newlines result.state (drop result.length text.now) }

@@ -7,6 +7,7 @@ use Rattle.bz_tree.specs.Shapes.{Terminal, Sort}
 use Rattle.bz_tree.specs.Reading.{starts_with, node_part}
 use Rattle.bz_states.specs.declared.token.TokenSet.{TokenSet}
 use Rattle.bz_states.specs.declared.state.ListedItems.{ListedItems}
+use Rattle.bz_states.specs.declared.state.PartSort.{PartSort}
 use Rattle.bz_states.specs.declared.state.ItemRow.{ItemRow}
 use Rattle.bz_states.specs.declared.state.ItemsAt.TheVariants as items_at
 use Rattle.bz_states.specs.declared.state.Move.TheVariants as m
@@ -30,6 +31,30 @@ module _ (d : ℕ) (kind : Kind) (close : TokenSet) (front : List Part) (ts : Li
   closes more rest a =
       sym (takes d front (s.Rest kind (in_rest.Token close)) ts close (s.Rest kind in_rest.Nothing) more rest asks_token a) ∙
       finishes d more (s.Rest kind in_rest.Nothing) rest kind refl
+
+-- a node of which a token and a part are left
+module _ (d : ℕ) (kind : Kind) (token : TokenSet) (sort : PartSort) (front : List Part) (ts : List Leaf) where
+  asks_front : Asks (plan_at (s.Rest kind (in_rest.TokenPart token sort))) (m.Take token (s.Rest kind (in_rest.Part sort)))
+  asks_front = (refl, refl)
+
+  asks_part : Asks (plan_at (s.Rest kind (in_rest.Part sort))) (m.Read sort (s.Rest kind in_rest.Nothing))
+  asks_part = (refl, refl)
+
+  pub front_none : token_at (terminals_of token) ts ≡ None → found_from d front (s.Rest kind (in_rest.TokenPart token sort)) ts ≡ None
+  front_none n = takes_none d front (s.Rest kind (in_rest.TokenPart token sort)) ts token (s.Rest kind (in_rest.Part sort)) asks_front n
+
+  module _ (mid : List Part) (us : List Leaf) (a : Adds (token_at (terminals_of token)) front ts mid us) where
+    front_read : found_from d mid (s.Rest kind (in_rest.Part sort)) us ≡ found_from d front (s.Rest kind (in_rest.TokenPart token sort)) ts
+    front_read = takes d front (s.Rest kind (in_rest.TokenPart token sort)) ts token (s.Rest kind (in_rest.Part sort)) mid us asks_front a
+
+    pub part_none : part_at d (sort_of sort) us ≡ None → found_from d front (s.Rest kind (in_rest.TokenPart token sort)) ts ≡ None
+    part_none n = sym front_read ∙ reads_none d mid (s.Rest kind (in_rest.Part sort)) us sort (s.Rest kind in_rest.Nothing) asks_part n
+
+    pub both_read : (more : List Part) (rest : List Leaf) → Adds (part_at d (sort_of sort)) mid us more rest → found_from d front (s.Rest kind (in_rest.TokenPart token sort)) ts ≡ Some (node_part kind more, rest)
+    both_read more rest b =
+        sym front_read ∙
+        sym (reads d mid (s.Rest kind (in_rest.Part sort)) us sort (s.Rest kind in_rest.Nothing) more rest asks_part b) ∙
+        finishes d more (s.Rest kind in_rest.Nothing) rest kind refl
 
 module _ (d : ℕ) (all : ListedItems) (row : ItemRow) (is : row ≡ row_of_items all) (front : List Part) (ts : List Leaf) where
   at_begin : Asks (plan_at (s.Items all items_at.Begin)) (m.Choose row.close (s.Rest row.kind (in_rest.Token row.close)) (s.Items all items_at.Part))

@@ -1,5 +1,6 @@
 //! The parser: nodes by the table of states, expressions by their ranks.
 ghost use Rattle.std.specs.Prelude.{◌≡◌, ◌∷◌, ◌≤◌, ◌*◌, [], ℕ, IfOk, length, take, drop};
+ghost use Rattle.bz_tree.specs.Reading.{starts_with};
 ghost use Rattle.bz_tree.specs.Spell.{deepest, depth_limit};
 ghost use Rattle.bz_states.specs.Tokens.{terminals_of, Fails};
 ghost use Rattle.bz_parse.specs.Words.{part_at, Pushes, found_from};
@@ -14,6 +15,15 @@ use bz_states::{
     goes_on, mark_deep_part, mark_next, rung_at,
 };
 use bz_tree::Kind;
+
+/// Whether the next leaf is one of these tokens. It is called and not compiled into the loop over moves, where each of them would
+/// have its own table of tokens.
+#[inline(never)]
+fn comes(token: TokenSet, leaves: &Leaves) -> bool
+    ensures { result ≡ starts_with (terminals_of token) leaves.now }
+{
+    leaves.next_is(token)
+}
 
 /// What is left to read in a state of a node whose parts stand on the stack from a place on. Tells how deep the node is.
 #[cycle(parser)]
@@ -38,6 +48,9 @@ fn follow(
         if let NodeState::Items(listed, ItemsAt::Begin) = state {
             return items_of_row(from, deep, listed, depth, stack, leaves);
         }
+        if let NodeState::Rest(kind, Tail::TokenPart(token, sort)) = state {
+            return token_and_part(from, deep, kind, token, sort, depth, stack, leaves);
+        }
         match state.next_move() {
             Move::Finish(kind) => {
                 stack.close(kind, from)?;
@@ -52,7 +65,7 @@ fn follow(
                 state = next;
             }
             Move::Choose(token, one, other) => {
-                state = if leaves.next_is(token) { one } else { other };
+                state = if comes(token, leaves) { one } else { other };
             }
         }
     }
@@ -107,6 +120,31 @@ fn closing_token(
     let deep = deeper(deep, stack.take(close, leaves)?);
     stack.close(kind, from)?;
     Ok(deep + 1)
+}
+
+/// A node of this kind of which a token and a part are left.
+#[cycle(parser)]
+fn token_and_part(
+    from: usize,
+    deep: u32,
+    kind: Kind,
+    token: TokenSet,
+    sort: PartSort,
+    depth: u32,
+    stack: &mut Stack,
+    leaves: &mut Leaves,
+) -> Result<u32, ParseHalt>
+    requires from { from ≤ length stack.old }
+    requires deep { deep ≡ deepest (drop from stack.old) }
+    requires within { deep ≤ depth }
+    requires small { depth ≤ 2 * depth_limit }
+    ensures ok { IfOk result (λ deep. Pushes (found_from depth (drop from stack.old) (NodeState.Rest kind (Tail.TokenPart token sort)) leaves.old) (take from stack.old) stack.new leaves.new deep) }
+    ensures err { Fails result (found_from depth (drop from stack.old) (NodeState.Rest kind (Tail.TokenPart token sort)) leaves.old) }
+{
+    let front = deeper(deep, stack.take(token, leaves)?);
+    let whole = deeper(front, part(sort, depth, stack, leaves)?);
+    stack.close(kind, from)?;
+    Ok(whole + 1)
 }
 
 /// A node from its first part on.

@@ -1,4 +1,4 @@
-use Rattle.std.proofs.Common.{sym, ap, refl, ◌∙◌, ◌≤◌, List, [], ◌∷◌, ◌++◌, drop, arith}
+use Rattle.std.proofs.Common.{rules, sym, ap, refl, ◌∙◌, ◌≤◌, List, [], ◌∷◌, ◌++◌, drop, arith}
 use Rattle.bz_tree.specs.declared.tree.Part.{Part}
 use Rattle.bz_tree.specs.declared.kind.Kind.TheVariants as k
 use Rattle.bz_states.specs.declared.token.TokenSet.TheVariants as token
@@ -13,7 +13,7 @@ use Rattle.bz_states.specs.States.{sort_of}
 use Rattle.bz_parse.proofs.Deepest.{made_depth, leaf_depth}
 use Rattle.bz_parse.proofs.Moves.{finishes, takes, takes_none, reads, reads_none, chooses_left, chooses_right, fewer_taken, fewer_read, fewer_left, fewer_right}
 use Rattle.bz_parse.proofs.Climbs.{handed_on, inside, level_is, argument_is, entry_is, clause_is, first_clause_is, small_is, line_is, alias_is, loaded_is, part_depth, level_prefix, atom_round, atom_square, atom_curly, atom_leaf, primary_atom, primary_none, suffix_stops, suffix_goes, suffix_shorter, star_is, argument_none, argument_odd, argument_stays, argument_named, param_is, starred_is, param_none, param_stays, param_valued}
-use Rattle.bz_parse.proofs.Listed.{row_ends, item_none, item_last, separator_none, item_next, item_shorter}
+use Rattle.bz_parse.proofs.Listed.{front_none, part_none, both_read, row_ends, item_none, item_last, separator_none, item_next, item_shorter}
 use Rattle.bz_parse.proofs.Pushed.{carry_ok, carry_err, added, take_push, within_push, deepest_more, drop_last, take_last, get_last, begins_last, depth_one, fits, unfit, fitted_begun, fitted_some, stays_last, suffix_fails}
 use Rattle.bz_parse.proofs.Rises.{from_parts, not_from, bound_infix, bound_other, bound_goes, bound_none, risen_end, passed, plain, starts_risen, starts_none}
 use Rattle.bz_parse.proofs.grammar.+parser.Goals as goal
@@ -168,17 +168,17 @@ follow-moves-preserved-in-Read t c = record {
   within = omega (arith, c.moves.invariant.within, c.deeper-deep-in-Read.ensures, (c.in_ok-part-in-Read.ensures.ok).3, part_depth _ _ _ _ _ (c.in_ok-part-in-Read.ensures.ok).1);
 }
 
-pub follow-moves-smaller-then-next_is : goal.follow-moves-smaller-then-next_is
-follow-moves-smaller-then-next_is t c = fewer_left _ _ _ _ _ c.in-Choose.ensures.asks
+pub follow-moves-smaller-then-comes : goal.follow-moves-smaller-then-comes
+follow-moves-smaller-then-comes t c = fewer_left _ _ _ _ _ c.in-Choose.ensures.asks
 
 pub follow-moves-smaller : goal.follow-moves-smaller
 follow-moves-smaller t c = fewer_right _ _ _ _ _ c.in-Choose.ensures.asks
 
-pub follow-moves-preserved-then-next_is : goal.follow-moves-preserved-then-next_is
-follow-moves-preserved-then-next_is t c = record { rest = chooses_left _ _ _ _ _ _ _ c.in-Choose.ensures.asks (sym c.next_is.ensures ∙ c.if-next_is.true) ∙ c.moves.invariant.rest; below = c.moves.invariant.below; from = c.moves.invariant.from; deep = c.moves.invariant.deep; within = c.moves.invariant.within }
+pub follow-moves-preserved-then-comes : goal.follow-moves-preserved-then-comes
+follow-moves-preserved-then-comes t c = record { rest = chooses_left _ _ _ _ _ _ _ c.in-Choose.ensures.asks (sym c.comes.ensures ∙ c.if-comes.true) ∙ c.moves.invariant.rest; below = c.moves.invariant.below; from = c.moves.invariant.from; deep = c.moves.invariant.deep; within = c.moves.invariant.within }
 
 pub follow-moves-preserved : goal.follow-moves-preserved
-follow-moves-preserved t c = record { rest = chooses_right _ _ _ _ _ _ _ c.in-Choose.ensures.asks (sym c.next_is.ensures ∙ c.if-next_is.false) ∙ c.moves.invariant.rest; below = c.moves.invariant.below; from = c.moves.invariant.from; deep = c.moves.invariant.deep; within = c.moves.invariant.within }
+follow-moves-preserved t c = record { rest = chooses_right _ _ _ _ _ _ _ c.in-Choose.ensures.asks (sym c.comes.ensures ∙ c.if-comes.false) ∙ c.moves.invariant.rest; below = c.moves.invariant.below; from = c.moves.invariant.from; deep = c.moves.invariant.deep; within = c.moves.invariant.within }
 
 pub primary-returns-in_err-deep-clause-err : goal.primary-returns-in_err-deep-clause-err
 primary-returns-in_err-deep-clause-err t c = handed_on _ _ _ _ c.from_residual.ensures.1 c.in_err-deep.ensures.err (λ n. primary_none _ _ n)
@@ -312,3 +312,24 @@ items_of_row-returns-clause-ok t c = carry_ok _ _ _ _ _ _ _ (sym (row_ends c.arg
 
 pub items_of_row-returns-clause-err : goal.items_of_row-returns-clause-err
 items_of_row-returns-clause-err t c = carry_err _ _ _ (sym (row_ends c.args.depth c.args.listed c.row-row.result c.more.invariant.row (drop c.args.from c.more.stack) c.more.leaves (sym c.next_is.ensures ∙ c.more-test.false) ∙ c.more.invariant.rest)) c.closing_token-2.ensures.err
+
+pub token_and_part-returns-in_err-take-clause-err : goal.token_and_part-returns-in_err-take-clause-err
+token_and_part-returns-in_err-take-clause-err t c = handed_on _ _ _ _ c.from_residual.ensures.1 c.in_err-take.ensures.err (λ n. front_none _ _ _ _ _ _ n)
+
+pub token_and_part-returns-in_err-part-clause-err : goal.token_and_part-returns-in_err-part-clause-err
+token_and_part-returns-in_err-part-clause-err t c = handed_on _ _ _ _ c.from_residual-in_err-part.ensures.1 c.in_err-part.ensures.err (λ n. part_none _ _ _ _ _ _ _ _ (added _ _ c.requires.from (token_at (terminals_of c.args.token)) _ _ _ _ c.in_ok-take.ensures.ok) n)
+
+pub token_and_part-overflow_add-result : goal.token_and_part-overflow_add-result
+token_and_part-overflow_add-result t c =
+    let front : c.deeper-front.result ≤ c.args.depth = omega (arith, c.requires.within, c.deeper-front.ensures, c.in_ok-take.ensures.ok.3, leaf_depth _ _ _ _ c.in_ok-take.ensures.ok.1) in
+    let within : c.deeper-whole.result ≤ c.args.depth = omega (arith, front, c.deeper-whole.ensures, c.in_ok-part.ensures.ok.3, part_depth _ _ _ _ _ c.in_ok-part.ensures.ok.1) in
+    search rules
+
+pub token_and_part-returns-clause-ok : goal.token_and_part-returns-clause-ok
+token_and_part-returns-clause-ok t c =
+    let from = within_push _ _ c.requires.from _ _ c.in_ok-take.ensures.ok.2 in (
+      node_part c.args.kind (drop c.args.from c.part.new.stack),
+      both_read _ _ _ _ _ _ _ _ (added _ _ c.requires.from (token_at (terminals_of c.args.token)) _ _ _ _ c.in_ok-take.ensures.ok) _ _ (added _ _ from (part_at c.args.depth (sort_of c.args.sort)) _ _ _ _ c.in_ok-part.ensures.ok),
+      c.in_ok-close.ensures ∙ ap (λ (ps : List Part). ps ++ (node_part c.args.kind (drop c.args.from c.part.new.stack) ∷ [])) (take_push _ _ from _ _ c.in_ok-part.ensures.ok.2 ∙ take_push _ _ c.requires.from _ _ c.in_ok-take.ensures.ok.2),
+      made_depth c.args.kind _ _ _ refl (deepest_more _ _ from _ _ _ _ _ _ (deepest_more _ _ c.requires.from _ _ _ _ _ _ c.requires.deep c.in_ok-take.ensures.ok c.deeper-front.ensures) c.in_ok-part.ensures.ok c.deeper-whole.ensures),
+    )

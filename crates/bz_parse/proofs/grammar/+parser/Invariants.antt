@@ -15,6 +15,9 @@ decreases-part l = 20 * l.depth
 abbrev pub decreases-items_of_row : goal.decreases-items_of_row
 decreases-items_of_row l = 20 * l.depth + 1
 
+abbrev pub decreases-token_and_part : goal.decreases-token_and_part
+decreases-token_and_part l = 20 * l.depth + 1
+
 abbrev pub decreases-follow : goal.decreases-follow
 decreases-follow l = 20 * l.depth + 2
 

@@ -2,7 +2,7 @@ use Rattle.std.proofs.Common.{◌≡◌, ◌∙◌, ℕ, length, take, sym, ap, 
 use Rattle.bz_lex.specs.declared.gap.GapState.TheVariants.{Open}
 use Rattle.bz_lex.specs.GapStates.{gap_state_after}
 use Rattle.bz_lex.proofs.Gaps.{after_more, after_run}
-use Rattle.bz_lex.proofs.gap.gap_front.Goals as goal
+use Rattle.bz_lex.proofs.gap.longer_gap.Goals as goal
 
 pub bytes-preserved : goal.bytes-preserved
 bytes-preserved c = record {

@@ -1,7 +1,7 @@
 use Rattle.std.proofs.Common.{◌≡◌, ◌≤◌, ◌-◌, Some, take, length}
 use Rattle.bz_lex.specs.declared.gap.GapState.TheVariants.{Open}
 use Rattle.bz_lex.specs.GapStates.{gap_state_after}
-use Rattle.bz_lex.proofs.gap.gap_front.Given as goal
+use Rattle.bz_lex.proofs.gap.longer_gap.Given as goal
 
 abbrev pub invariant-bytes : goal.invariant-bytes
 invariant-bytes l = record {
