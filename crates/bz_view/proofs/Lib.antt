@@ -1,6 +1,7 @@
 pub mod GroupSteps
 pub mod HostSteps
 pub mod InnerParts
+pub mod JoinedLines
 pub mod KeptFiles
 pub mod KeptParts
 pub mod LineSteps

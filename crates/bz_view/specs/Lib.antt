@@ -1,3 +1,4 @@
+pub mod Joined
 pub mod Kept
 pub mod Laws
 pub mod View

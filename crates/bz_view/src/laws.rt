@@ -1,8 +1,11 @@
 //! Facts about the definitions, for readers and for the proofs of other crates: the functions do nothing.
 
+ghost use Rattle.bz_view.specs.Joined.{EmptyReads, ViewsJoin};
 ghost use Rattle.bz_view.specs.Kept.{CommentsKept};
 ghost use Rattle.bz_view.specs.Laws.{ViewsAreProper};
 ghost use Rattle.bz_view.specs.Worked.{WorkedViews};
+
+use bz_tree::laws::lines_join;
 
 /// Each comment of a legal tree stands in its file value as often as in the tree's gaps: none is lost or doubled.
 pub fn comments_kept()
@@ -13,6 +16,14 @@ pub fn comments_kept()
 pub fn views_are_proper()
     ensures { ViewsAreProper }
 {}
+
+/// The view of a text behind one that ends with a line is its own, behind that of the other one; and that of no text is nothing.
+pub fn views_join()
+    ensures joined { ViewsJoin }
+    ensures empty { EmptyReads }
+{
+    lines_join();
+}
 
 /// Worked rows of the view: for each a text, its tree, and the file value, or how often its comments stand in it.
 pub fn worked_views()
