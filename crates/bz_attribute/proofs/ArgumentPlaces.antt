@@ -1,12 +1,13 @@
 -- The first element of a list that passes a test, by its index.
 use Rattle.std.proofs.Common.{◌≡◌, ℕ, ◌<◌, ◌≤◌, Bool, true, false, List, [], ◌∷◌, ◌++◌, length, get_or, set, refl, ap, sym, arith, zero, suc, ◌∙◌, true≢false}
-use Rattle.std.specs.Prelude.{Option, Some, None, cond, not, is_some}
+use Rattle.std.specs.Prelude.{Option, Some, None, cond, not, is_some, slice_get, slice_set}
 use Rattle.std.specs.List.{position, position_or_len, insert, remove}
 use Rattle.std.specs.Option.{option_or}
 use Rattle.std.proofs.lemmas.List.Quantifiers.{position-Some}
 use Rattle.std.proofs.lemmas.List.Sums.{prefix_len_passes}
 use Rattle.std.proofs.lemmas.Bool.{ltb-false, not-true}
 use Rattle.std.proofs.lemmas.List.Edits.{insert_end}
+use Rattle.std.proofs.lemmas.Option.{get_or_from_slice_get}
 use Rattle.bz_tree.specs.declared.kind.Kind.TheVariants as k
 use Rattle.bz_value.specs.declared.value.Expr.{Expr}
 use Rattle.bz_items.specs.Characters.{Bytes}
@@ -98,3 +99,11 @@ attribute_at name (x ∷ xs) (suc i) d h =
 pub attribute_none : (name : Bytes) (xs : List Expr) → NonePasses (is_attribute name) xs → attribute name xs ≡ None
 attribute_none name [] h = refl
 attribute_none name (x ∷ xs) h = other_some (value_named name x) (attribute name xs) (h.all 0 x (omega arith)) ∙ attribute_none name xs (none_later (is_attribute name) x xs h)
+
+-- the first element that passes, changed in its place; and where none passes
+pub changed_there : {X : Type 0} (test : X → Bool) (f : X → X) (xs : List X) (i : ℕ) (x new : X) → Some i ≡ position test xs → slice_get xs i ≡ Some x → new ≡ f x → slice_set xs i new ≡ on_first_that test f xs
+changed_there test f xs i x new at there made =
+    ap (slice_set xs i) (made ∙ ap f (sym (get_or_from_slice_get xs i x x there))) ∙ sym (changed_at test f xs i x (is_first test xs i x at))
+
+pub changed_nowhere : {X : Type 0} (test : X → Bool) (f : X → X) (xs : List X) → None ≡ position test xs → xs ≡ on_first_that test f xs
+changed_nowhere test f xs none = sym (unchanged test f xs (none_passes test xs none))

@@ -1,5 +1,5 @@
 -- Whether a value has lists, and their items, one list after the other.
-use Rattle.std.proofs.Common.{◌≡◌, Bool, true, false, not, ◌&&◌, ◌||◌, List, [], ◌∷◌, ◌++◌, refl, sym, ap, true≢false}
+use Rattle.std.proofs.Common.{◌≡◌, Bool, true, false, not, ◌&&◌, ◌||◌, List, [], ◌∷◌, ◌++◌, refl, sym, ap, ◌∙◌, true≢false}
 use Rattle.std.specs.Prelude.{if◌then◌else◌}
 use Rattle.std.specs.List.{list_any, filter, flat_map}
 use Rattle.std.proofs.lemmas.List.{append-nil}
@@ -53,3 +53,10 @@ items_by false false value ps h = refl
 
 pub items_there : (value : Expr) → items_in value ≡ (if has_kind k.Sum value then flat_map listed (parts_of value) else listed value)
 items_there value = items_by (has_kind k.List value) (has_kind k.Sum value) value (parts_of value) (sum_no_list value)
+
+-- by the operands of a sum, and by a value alone
+pub in_sum : (value : Expr) → has_kind k.Sum value ≡ true → flat_map listed (parts_of value) ≡ items_in value
+in_sum value h = sym (items_there value ∙ ap (λ b. if b then flat_map listed (parts_of value) else listed value) h)
+
+pub in_value : (value : Expr) → has_kind k.Sum value ≡ false → flat_map listed (value ∷ []) ≡ items_in value
+in_value value h = append-nil (listed value) ∙ sym (items_there value ∙ ap (λ b. if b then flat_map listed (parts_of value) else listed value) h)

@@ -5,8 +5,8 @@ ghost use Rattle.bz_tree.specs.declared.kind.Kind.TheVariants as kinds;
 ghost use Rattle.bz_value.specs.declared.value.Expr.{Expr};
 ghost use Rattle.bz_items.specs.Characters.{Bytes};
 ghost use Rattle.bz_rule.specs.Rules.{attribute, value_named};
-ghost use Rattle.bz_rule.specs.Values.{has_kind, on_third};
-ghost use Rattle.bz_attribute.specs.Attributes.{is_attribute, has_attribute, is_other_attribute, inserted, on_value, with_value, with_new, without, put};
+ghost use Rattle.bz_rule.specs.Values.{has_kind, on_row, on_third};
+ghost use Rattle.bz_attribute.specs.Attributes.{is_attribute, has_attribute, is_other_attribute, inserted, with_value, with_new, without, put};
 
 use crate::making::{argument_of, token};
 use bz_items::{Items, Memory, Text};
@@ -71,18 +71,14 @@ fn swap_third(other: &mut Expr, parts: &mut Items<Expr>)
     }
 }
 
-/// Exchanges an expression for the value of a named argument.
-fn swap_value(other: &mut Expr, argument: &mut Expr)
-    ensures argument { argument.new ≡ on_value (λ _. other.old) argument.old }
-    ensures other { (name : Bytes) → is_attribute name argument.old ≡ true → Some other.new ≡ value_named name argument.old }
+/// Exchanges an expression for the value of a node of this kind: of a named argument, or of an entry of a dict.
+pub fn swap_value(kind: Kind, other: &mut Expr, x: &mut Expr)
+    ensures there { x.new ≡ on_row kind (on_third (λ _. other.old)) x.old }
+    ensures other { (name : Bytes) → kind ≡ kinds.Named → is_attribute name x.old ≡ true → Some other.new ≡ value_named name x.old }
 {
-    match argument {
-        Expr::Token(_) => {}
-        Expr::Form(form) => {
-            if form.kind == Kind::Named {
-                swap_third(other, &mut form.parts);
-            }
-        }
+    match x {
+        Expr::Form(form) if form.kind == kind => swap_third(other, &mut form.parts),
+        _ => {}
     }
 }
 
@@ -92,7 +88,7 @@ fn swap_in(name: &[u8], other: &mut Expr, arguments: &mut [Expr])
     ensures other { has_attribute name.now arguments.old ≡ true → Some other.new ≡ attribute name.now arguments.old }
 {
     if let Some(at) = place_of(name, arguments) {
-        swap_value(other, &mut arguments[at]);
+        swap_value(Kind::Named, other, &mut arguments[at]);
     }
 }
 

@@ -10,14 +10,15 @@ mod sets;
 
 pub use arguments::{
     add_attribute, has_attribute, has_kind, is_attribute, is_other_attribute, place_of, put,
-    remove_first, set_value, take_value,
+    remove_first, set_value, swap_value, take_value,
 };
 pub use making::{
-    append, append_to, argument_of, function_of, list_of, node, plus, rule_made, sequence,
-    set_text, string_of, string_text, token,
+    Slot, append, append_to, argument_of, function_of, list_of, new_token, node, plus, rule_made,
+    sequence, set_text, string_of, string_text, token,
 };
 pub use readings::{
-    body_of, first_text, has_lists, is_empty_list, is_item, is_no_list, items_of, parts_of,
+    body_of, first_text, has_lists, is_empty_list, is_item, is_no_list, items_of, operands_of,
+    parts_of,
 };
 pub use refusal::Refusal;
 pub use sets::{has_text, insert_text};

@@ -17,6 +17,28 @@ use bz_words::quoted;
 use std::alloc::{AllocError, Global};
 use std::mem;
 
+/// An attribute of the rules of a package, into which words are put.
+#[derive(Clone, Copy)]
+pub struct Slot<'a> {
+    pub alloc: Global,
+    /// The path of the package.
+    pub current: &'a [u8],
+    pub attribute: &'a [u8],
+}
+
+impl<'a> Slot<'a> {
+    pub fn new(alloc: Global, current: &'a [u8], attribute: &'a [u8]) -> Slot<'a>
+        ensures current { result.current.now ≡ current.entry.now }
+        ensures attribute { result.attribute.now ≡ attribute.entry.now }
+    {
+        Slot {
+            alloc,
+            current,
+            attribute,
+        }
+    }
+}
+
 /// A token of this class and text.
 pub fn token(class: Class, text: Text) -> Expr
     ensures { result ≡ token class text }
@@ -53,20 +75,12 @@ pub fn node(alloc: Global, kind: Kind, parts: Items<Expr>) -> Expr
     sequence(alloc, kind, parts, Items::new(alloc))
 }
 
-/// A name of this text.
-fn name(alloc: Global, text: &[u8]) -> Result<Expr, Memory>
-    ensures { IfOk result (λ x. x ≡ name text.now) }
+/// A token of this class and of an equal text.
+pub fn new_token(alloc: Global, class: Class, text: &[u8]) -> Result<Expr, Memory>
+    ensures { IfOk result (λ x. x ≡ token class text.now) }
 {
     let text = Text::from_slice(alloc, text)?;
-    Ok(token(Class::Name, text))
-}
-
-/// A mark of this text.
-fn mark(alloc: Global, text: &[u8]) -> Result<Expr, Memory>
-    ensures { IfOk result (λ x. x ≡ mark text.now) }
-{
-    let text = Text::from_slice(alloc, text)?;
-    Ok(token(Class::Mark, text))
+    Ok(token(class, text))
 }
 
 /// A list of this one.
@@ -97,28 +111,18 @@ fn shortened_in<'a>(current: &[u8], attribute: &[u8], word: &'a [u8]) -> &'a [u8
 }
 
 /// The string that a word becomes in an attribute.
-pub fn string_text(
-    alloc: Global,
-    current: &[u8],
-    attribute: &[u8],
-    word: &[u8],
-) -> Result<Text, Memory>
-    ensures { IfOk result (λ text. text ≡ string_text current.now attribute.now word.now) }
+pub fn string_text(slot: Slot<'_>, word: &[u8]) -> Result<Text, Memory>
+    ensures { IfOk result (λ text. text ≡ string_text slot.entry.current.now slot.entry.attribute.now word.now) }
 {
-    let text = quoted(alloc, shortened_in(current, attribute, word))?;
+    let text = quoted(slot.alloc, shortened_in(slot.current, slot.attribute, word))?;
     Ok(text)
 }
 
 /// The same, as an expression.
-pub fn string_of(
-    alloc: Global,
-    current: &[u8],
-    attribute: &[u8],
-    word: &[u8],
-) -> Result<Expr, Memory>
-    ensures { IfOk result (λ x. x ≡ string_of current.now attribute.now word.now) }
+pub fn string_of(slot: Slot<'_>, word: &[u8]) -> Result<Expr, Memory>
+    ensures { IfOk result (λ x. x ≡ string_of slot.entry.current.now slot.entry.attribute.now word.now) }
 {
-    let text = string_text(alloc, current, attribute, word)?;
+    let text = string_text(slot, word)?;
     Ok(token(Class::String, text))
 }
 
@@ -148,13 +152,8 @@ pub fn append_to(kind: Kind, more: &mut Vec<Expr>, x: &mut Expr) -> Result<(), M
     ensures { OnOk result (x.new ≡ on_items kind (λ items. items ++ more.old.items) x.old) }
 {
     match x {
-        Expr::Token(_) => Ok(()),
-        Expr::Form(form) => {
-            if form.kind == kind {
-                append(more, &mut form.seq.items)?;
-            }
-            Ok(())
-        }
+        Expr::Form(form) if form.kind == kind => append(more, &mut form.seq.items),
+        _ => Ok(()),
     }
 }
 
@@ -284,7 +283,7 @@ pub fn plus(alloc: Global, value: Expr, list: Expr) -> Result<Expr, Memory>
             if form.kind != Kind::Sum {
                 return sum_of(alloc, Expr::Form(form), list);
             }
-            let Ok(sign) = mark(alloc, b"+") else {
+            let Ok(sign) = new_token(alloc, Class::Mark, b"+") else {
                 drop(form);
                 drop(list);
                 return Err(AllocError);
@@ -336,7 +335,7 @@ pub fn function_of(alloc: Global, kind: &[u8]) -> Result<Expr, Memory>
     ensures { IfOk result (λ x. x ≡ function_of kind.now) }
 {
     let (first, mut rest) = cut(kind);
-    let mut function = name(alloc, first)?;
+    let mut function = new_token(alloc, Class::Name, first)?;
     while let Some(text) = rest {
         let (piece, behind) = cut(text);
         function = dotted(alloc, function, piece)?;

@@ -1,16 +1,17 @@
 //! Readings of values: whether they are lists, and the bodies of plain strings.
 ghost use Rattle.std.specs.Prelude.{◌≡◌};
-ghost use Rattle.std.specs.List.{list_any};
+ghost use Rattle.std.specs.List.{flat_map, list_any};
 ghost use Rattle.std.specs.Option.{option_copied};
 ghost use Rattle.bz_tree.specs.declared.kind.Kind.TheVariants as kinds;
 ghost use Rattle.bz_rule.specs.Values.{has_kind as is_of, has_class as is_in, first_text as first, parts_of as parts, items_of as items, text_of as text};
-ghost use Rattle.bz_attribute.specs.Lists.{has_lists as has_any, is_no_list as is_none, is_empty_list as is_empty, body_of as plain, are_one, is_item as item};
+ghost use Rattle.bz_attribute.specs.Lists.{has_lists as has_any, is_no_list as is_none, is_empty_list as is_empty, body_of as plain, are_one, is_item as item, items_in, listed};
 
 use crate::arguments::has_kind;
 use bz_label::bytes::{is_label_attribute, same};
 use bz_rule::{body, text_in};
 use bz_tree::{Class, Kind};
 use bz_value::Expr;
+use std::slice;
 
 /// Whether the expression is a token of this class.
 fn has_class(class: Class, x: &Expr) -> bool
@@ -60,6 +61,17 @@ pub fn items_of(x: &Expr) -> &[Expr]
         Expr::Token(_) => &[],
         Expr::Form(form) => form.seq.items.as_slice(),
     }
+}
+
+/// The expressions among which the lists of a value stand: the operands of a sum, or the value alone.
+#[tactic(auto, using(crate::proofs::ListsThere::in_sum, crate::proofs::ListsThere::in_value))]
+pub fn operands_of(value: &Expr) -> &[Expr]
+    ensures { flat_map listed result.now ≡ items_in value.now }
+{
+    if has_kind(Kind::Sum, value) {
+        return parts_of(value);
+    }
+    slice::from_ref(value)
 }
 
 /// Whether one of the operands of a sum is a list.

@@ -3,8 +3,8 @@ ghost use Rattle.std.specs.Prelude.{◌≡◌, ◌⊎◌, Ok, Err, OnOk, IfErr, 
 ghost use Rattle.std.specs.Option.{option_copied};
 ghost use Rattle.bz_change.specs.Changes.{attributes_changed};
 
-use crate::whole::{copy, copy_no_overwrite, remove, rename, set, set_if_absent};
-use bz_attribute::Refusal;
+use crate::whole::{copy, remove, rename, set};
+use bz_attribute::{Refusal, Slot, has_attribute};
 use bz_items::Items;
 use bz_value::Expr;
 use bz_words::AttributeOperation;
@@ -22,20 +22,17 @@ fn change_in_place(
     ensures err { IfErr result (λ refusal. (attributes_changed operation.now current.now (option_copied found.entry) arguments.old ≡ Err refusal) ⊎ (refusal ≡ Refusal.Memory)) }
 {
     match operation {
-        AttributeOperation::Set { attribute, values } => set(
-            alloc,
-            current,
-            attribute.as_slice(),
-            values.as_slice(),
-            arguments,
-        ),
-        AttributeOperation::SetIfAbsent { attribute, values } => set_if_absent(
-            alloc,
-            current,
-            attribute.as_slice(),
-            values.as_slice(),
-            arguments,
-        ),
+        AttributeOperation::Set { attribute, values } => {
+            let slot = Slot::new(alloc, current, attribute.as_slice());
+            set(slot, values.as_slice(), arguments)
+        }
+        AttributeOperation::SetIfAbsent { attribute, values } => {
+            let slot = Slot::new(alloc, current, attribute.as_slice());
+            if has_attribute(slot.attribute, arguments.as_slice()) {
+                return Ok(());
+            }
+            set(slot, values.as_slice(), arguments)
+        }
         AttributeOperation::Remove { attributes } => remove(attributes, arguments),
         AttributeOperation::Rename { from, to } => {
             rename(alloc, from.as_slice(), to.as_slice(), arguments)
@@ -44,7 +41,10 @@ fn change_in_place(
             copy(alloc, attribute.as_slice(), found, arguments)
         }
         AttributeOperation::CopyNoOverwrite { attribute, rule: _ } => {
-            copy_no_overwrite(alloc, attribute.as_slice(), found, arguments)
+            if has_attribute(attribute.as_slice(), arguments.as_slice()) {
+                return Ok(());
+            }
+            copy(alloc, attribute.as_slice(), found, arguments)
         }
     }
 }

@@ -8,7 +8,7 @@ ghost use Rattle.bz_rule.specs.Values.{has_kind, has_class, text_of, items_of};
 ghost use Rattle.bz_attribute.specs.Made.{token, string_text};
 ghost use Rattle.bz_change.specs.Changes.{is_constant, is_decimal, single_setting, setting, value_of, are_texts, is_set};
 
-use bz_attribute::{list_of, string_text, token};
+use bz_attribute::{Slot, list_of, string_text, token};
 use bz_items::{Items, Memory, Text};
 use bz_label::bytes::is_list_attribute;
 use bz_tree::{Class, Kind};
@@ -45,55 +45,40 @@ fn is_decimal(word: &[u8]) -> bool
 }
 
 /// What `set` makes of one word, in an attribute that takes no list.
-fn single_setting(
-    alloc: Global,
-    current: &[u8],
-    attribute: &[u8],
-    word: &[u8],
-) -> Result<Setting, Memory>
-    ensures { IfOk result (λ made. made ≡ single_setting current.now attribute.now word.now) }
+fn single_setting(slot: Slot<'_>, word: &[u8]) -> Result<Setting, Memory>
+    ensures { IfOk result (λ made. made ≡ single_setting slot.entry.current.now slot.entry.attribute.now word.now) }
 {
     if is_constant(word) {
-        return Ok(Setting::One(Class::Name, Text::from_slice(alloc, word)?));
+        return Ok(Setting::One(Class::Name, Text::from_slice(slot.alloc, word)?));
     }
     if is_decimal(word) {
-        return Ok(Setting::One(Class::Number, Text::from_slice(alloc, word)?));
+        return Ok(Setting::One(Class::Number, Text::from_slice(slot.alloc, word)?));
     }
-    let text = string_text(alloc, current, attribute, word)?;
+    let text = string_text(slot, word)?;
     Ok(Setting::One(Class::String, text))
 }
 
 /// The strings that these words become.
-fn string_texts(
-    alloc: Global,
-    current: &[u8],
-    attribute: &[u8],
-    words: &[Text],
-) -> Result<Items<Text>, Memory>
-    ensures { IfOk result (λ texts. texts ≡ map (string_text current.now attribute.now) words.now) }
+fn string_texts(slot: Slot<'_>, words: &[Text]) -> Result<Items<Text>, Memory>
+    ensures { IfOk result (λ texts. texts ≡ map (string_text slot.entry.current.now slot.entry.attribute.now) words.now) }
 {
-    let mut texts = Vec::with_capacity(alloc, words.len())?;
+    let mut texts = Vec::with_capacity(slot.alloc, words.len())?;
     for word in words {
-        texts.push(string_text(alloc, current, attribute, word.as_slice())?)?;
+        texts.push(string_text(slot, word.as_slice())?)?;
     }
     Ok(Items::from_vec(texts))
 }
 
 /// What `set` makes of these words in an attribute.
-pub(crate) fn setting_of(
-    alloc: Global,
-    current: &[u8],
-    attribute: &[u8],
-    words: &[Text],
-) -> Result<Setting, Memory>
-    ensures { IfOk result (λ made. made ≡ setting current.now attribute.now words.now) }
+pub(crate) fn setting_of(slot: Slot<'_>, words: &[Text]) -> Result<Setting, Memory>
+    ensures { IfOk result (λ made. made ≡ setting slot.entry.current.now slot.entry.attribute.now words.now) }
 {
     if let [word] = words
-        && !is_list_attribute(attribute)
+        && !is_list_attribute(slot.attribute)
     {
-        return single_setting(alloc, current, attribute, word.as_slice());
+        return single_setting(slot, word.as_slice());
     }
-    let texts = string_texts(alloc, current, attribute, words)?;
+    let texts = string_texts(slot, words)?;
     Ok(Setting::Many(texts))
 }
 

@@ -6,11 +6,11 @@ ghost use Rattle.bz_tree.specs.declared.kind.Kind.TheVariants as kinds;
 ghost use Rattle.bz_rule.specs.Rules.{attribute};
 ghost use Rattle.bz_rule.specs.Values.{on_first, on_row, with_text};
 ghost use Rattle.bz_attribute.specs.Attributes.{is_attribute, is_other_attribute, on_first_that};
-ghost use Rattle.bz_change.specs.Changes.{set, set_if_absent, is_set, remove, rename, copy, copy_no_overwrite};
+ghost use Rattle.bz_change.specs.Changes.{set, is_set, remove, rename, copy};
 
 use crate::settings::{Setting, is_set, setting_of, value_of};
 use bz_attribute::{
-    Refusal, has_attribute, is_other_attribute, place_of, put, remove_first, set_text,
+    Refusal, Slot, has_attribute, is_other_attribute, place_of, put, remove_first, set_text,
 };
 use bz_items::{Items, Memory, Text};
 use bz_rule::attribute;
@@ -33,38 +33,20 @@ fn has_setting(made: &Setting, name: &[u8], arguments: &[Expr]) -> bool
 /// The attribute's value becomes these words.
 #[tactic(auto, using(crate::proofs::WholeSettings::set_by_put))]
 pub(crate) fn set(
-    alloc: Global,
-    current: &[u8],
-    name: &[u8],
+    slot: Slot<'_>,
     words: &[Text],
     arguments: &mut Items<Expr>,
 ) -> Result<(), Refusal>
-    ensures ok { OnOk result (set current.now name.now words.now arguments.old ≡ Ok arguments.new) }
-    ensures err { IfErr result (λ refusal. (set current.now name.now words.now arguments.old ≡ Err refusal) ⊎ (refusal ≡ Refusal.Memory)) }
+    ensures ok { OnOk result (set slot.entry.current.now slot.entry.attribute.now words.now arguments.old ≡ Ok arguments.new) }
+    ensures err { IfErr result (λ refusal. (set slot.entry.current.now slot.entry.attribute.now words.now arguments.old ≡ Err refusal) ⊎ (refusal ≡ Refusal.Memory)) }
 {
-    let made = setting_of(alloc, current, name, words)?;
-    if has_setting(&made, name, arguments.as_slice()) {
+    let made = setting_of(slot, words)?;
+    if has_setting(&made, slot.attribute, arguments.as_slice()) {
         return Ok(());
     }
-    put(alloc, name, value_of(alloc, made)?, arguments)?;
+    let value = value_of(slot.alloc, made)?;
+    put(slot.alloc, slot.attribute, value, arguments)?;
     Ok(())
-}
-
-/// The same where there is no such attribute.
-pub(crate) fn set_if_absent(
-    alloc: Global,
-    current: &[u8],
-    name: &[u8],
-    words: &[Text],
-    arguments: &mut Items<Expr>,
-) -> Result<(), Refusal>
-    ensures ok { OnOk result (set_if_absent current.now name.now words.now arguments.old ≡ Ok arguments.new) }
-    ensures err { IfErr result (λ refusal. (set_if_absent current.now name.now words.now arguments.old ≡ Err refusal) ⊎ (refusal ≡ Refusal.Memory)) }
-{
-    if has_attribute(name, arguments.as_slice()) {
-        return Ok(());
-    }
-    set(alloc, current, name, words, arguments)
 }
 
 /// Keeps what is no attribute that `*` means.
@@ -114,13 +96,10 @@ fn set_name(alloc: Global, name: &[u8], argument: &mut Expr) -> Result<(), Memor
     ensures { OnOk result (argument.new ≡ on_row kinds.Named (on_first (with_text name.now)) argument.old) }
 {
     match argument {
-        Expr::Token(_) => Ok(()),
-        Expr::Form(form) => {
-            if form.kind == Kind::Named {
-                set_first_text(alloc, name, &mut form.parts)?;
-            }
-            Ok(())
+        Expr::Form(form) if form.kind == Kind::Named => {
+            set_first_text(alloc, name, &mut form.parts)
         }
+        _ => Ok(()),
     }
 }
 
@@ -175,20 +154,4 @@ pub(crate) fn copy(
     };
     put(alloc, name, value.copy()?, arguments)?;
     Ok(())
-}
-
-/// The same where there is no such attribute.
-pub(crate) fn copy_no_overwrite(
-    alloc: Global,
-    name: &[u8],
-    found: Option<&Expr>,
-    arguments: &mut Items<Expr>,
-) -> Result<(), Refusal>
-    ensures ok { OnOk result (copy_no_overwrite name.now (option_copied found.entry) arguments.old ≡ Ok arguments.new) }
-    ensures err { IfErr result (λ refusal. (copy_no_overwrite name.now (option_copied found.entry) arguments.old ≡ Err refusal) ⊎ (refusal ≡ Refusal.Memory)) }
-{
-    if has_attribute(name, arguments.as_slice()) {
-        return Ok(());
-    }
-    copy(alloc, name, found, arguments)
 }

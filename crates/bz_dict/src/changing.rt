@@ -6,31 +6,30 @@ ghost use Rattle.bz_attribute.specs.declared.refusal.Refusal.TheVariants.{NotADi
 ghost use Rattle.bz_dict.specs.Dicts as d;
 ghost use Rattle.bz_dict.specs.Keys.{AreIndexed, entry_put, entries_put};
 
-use crate::entries::{self, Change, dict_of, entry_made};
+use crate::entries::{Change, dict_of, entry_made};
 use crate::keys::{place_at, places_of, put_place};
-use bz_attribute::{Refusal, add_attribute, has_kind, set_value, string_of, take_value};
+use bz_attribute::{
+    Refusal, Slot, add_attribute, has_kind, set_value, string_of, swap_value, take_value,
+};
 use bz_items::{Items, Memory};
 use bz_tree::Kind;
 use bz_value::Expr;
 use bz_words::Entry;
-use std::alloc::Global;
 use std::collections::BTreeMap;
 
 /// A new entry goes last.
 fn push_entry(
-    alloc: Global,
-    current: &[u8],
-    name: &[u8],
+    slot: Slot<'_>,
     entry: &Entry,
     places: &mut BTreeMap<Vec<u8>, usize>,
     items: &mut Items<Expr>,
 ) -> Result<(), Memory>
     requires { AreIndexed places.old items.old }
-    ensures items { OnOk result (items.new ≡ items.old ++ d.entry_made current.now name.now entry.now ∷ []) }
+    ensures items { OnOk result (items.new ≡ items.old ++ d.entry_made slot.entry.current.now slot.entry.attribute.now entry.now ∷ []) }
     ensures places { OnOk result (AreIndexed places.new items.new) }
 {
-    let x = entry_made(alloc, current, name, entry)?;
-    if let Err(fault) = put_place(alloc, &x, items.len(), places) {
+    let x = entry_made(slot, entry)?;
+    if let Err(fault) = put_place(slot.alloc, &x, items.len(), places) {
         // By a call: let go of here, each form of it would be a path of this proof.
         drop(x);
         return Err(fault);
@@ -40,42 +39,34 @@ fn push_entry(
 }
 
 /// An entry gets the value of this one.
-fn set_entry(
-    alloc: Global,
-    current: &[u8],
-    name: &[u8],
-    entry: &Entry,
-    x: &mut Expr,
-) -> Result<(), Memory>
-    ensures { OnOk result (x.new ≡ d.with_entry_value current.now name.now entry.now x.old) }
+fn set_entry(slot: Slot<'_>, entry: &Entry, x: &mut Expr) -> Result<(), Memory>
+    ensures { OnOk result (x.new ≡ d.with_entry_value slot.entry.current.now slot.entry.attribute.now entry.now x.old) }
 {
-    let value = string_of(alloc, current, name, entry.value.as_slice())?;
-    entries::set_value(value, x);
+    let mut value = string_of(slot, entry.value.as_slice())?;
+    swap_value(Kind::Entry, &mut value, x);
     Ok(())
 }
 
 /// Puts an entry to those of a dict.
 fn put_entry(
-    alloc: Global,
+    slot: Slot<'_>,
     change: Change,
-    current: &[u8],
-    name: &[u8],
     entry: &Entry,
     places: &mut BTreeMap<Vec<u8>, usize>,
     items: &mut Items<Expr>,
 ) -> Result<(), Memory>
     requires { AreIndexed places.old items.old }
-    ensures items { OnOk result (items.new ≡ entry_put change current.now name.now entry.now items.old) }
+    ensures items { OnOk result (items.new ≡ entry_put change slot.entry.current.now slot.entry.attribute.now entry.now items.old) }
     ensures places { OnOk result (AreIndexed places.new items.new) }
 {
     let Some(at) = place_at(places, entry.key.as_slice()) else {
-        push_entry(alloc, current, name, entry, places, items)?;
+        push_entry(slot, entry, places, items)?;
         return Ok(());
     };
     match change {
         Change::Add => Ok(()),
         Change::Set => {
-            set_entry(alloc, current, name, entry, items.at_mut(at))?;
+            set_entry(slot, entry, items.at_mut(at))?;
             Ok(())
         }
     }
@@ -83,75 +74,60 @@ fn put_entry(
 
 /// Puts entries to those of a dict, one after the other.
 fn put_entries(
-    alloc: Global,
+    slot: Slot<'_>,
     change: Change,
-    current: &[u8],
-    name: &[u8],
     entries: &[Entry],
     items: &mut Items<Expr>,
 ) -> Result<(), Memory>
-    ensures { OnOk result (items.new ≡ entries_put change current.now name.now entries.now items.old) }
+    ensures { OnOk result (items.new ≡ entries_put change slot.entry.current.now slot.entry.attribute.now entries.now items.old) }
 {
-    let mut places = places_of(alloc, items.as_slice())?;
+    let mut places = places_of(slot.alloc, items.as_slice())?;
     for entry in entries {
-        put_entry(alloc, change, current, name, entry, &mut places, items)?;
+        put_entry(slot, change, entry, &mut places, items)?;
     }
     Ok(())
 }
 
 /// The same for a dict; any other expression stays.
 fn put_into_dict(
-    alloc: Global,
+    slot: Slot<'_>,
     change: Change,
-    current: &[u8],
-    name: &[u8],
     entries: &[Entry],
     x: &mut Expr,
 ) -> Result<(), Memory>
-    ensures { OnOk result (x.new ≡ on_items kinds.Dict (entries_put change current.now name.now entries.now) x.old) }
+    ensures { OnOk result (x.new ≡ on_items kinds.Dict (entries_put change slot.entry.current.now slot.entry.attribute.now entries.now) x.old) }
 {
     match x {
-        Expr::Token(_) => Ok(()),
-        Expr::Form(form) => {
-            if form.kind == Kind::Dict {
-                put_entries(alloc, change, current, name, entries, &mut form.seq.items)?;
-            }
-            Ok(())
+        Expr::Form(form) if form.kind == Kind::Dict => {
+            put_entries(slot, change, entries, &mut form.seq.items)
         }
+        _ => Ok(()),
     }
 }
 
 /// A dict of the entries where there are none.
-fn new_dict(
-    alloc: Global,
-    change: Change,
-    current: &[u8],
-    name: &[u8],
-    entries: &[Entry],
-) -> Result<Expr, Memory>
-    ensures { IfOk result (λ dict. dict ≡ d.dict_of (entries_put change current.now name.now entries.now [])) }
+fn new_dict(slot: Slot<'_>, change: Change, entries: &[Entry]) -> Result<Expr, Memory>
+    ensures { IfOk result (λ dict. dict ≡ d.dict_of (entries_put change slot.entry.current.now slot.entry.attribute.now entries.now [])) }
 {
-    let mut items = Items::new(alloc);
-    put_entries(alloc, change, current, name, entries, &mut items)?;
-    Ok(dict_of(alloc, items))
+    let mut items = Items::new(slot.alloc);
+    put_entries(slot, change, entries, &mut items)?;
+    Ok(dict_of(slot.alloc, items))
 }
 
 /// A value with the entries, where it is a dict.
 fn value_with(
-    alloc: Global,
+    slot: Slot<'_>,
     change: Change,
-    current: &[u8],
-    name: &[u8],
     entries: &[Entry],
     mut value: Expr,
 ) -> Result<Expr, Refusal>
-    ensures ok { IfOk result (λ new. (new ≡ on_items kinds.Dict (entries_put change current.now name.now entries.now) value) × (is_of kinds.Dict value ≡ true)) }
+    ensures ok { IfOk result (λ new. (new ≡ on_items kinds.Dict (entries_put change slot.entry.current.now slot.entry.attribute.now entries.now) value) × (is_of kinds.Dict value ≡ true)) }
     ensures err { IfErr result (λ refusal. ((refusal ≡ NotADict) × (is_of kinds.Dict value ≡ false)) ⊎ (refusal ≡ Refusal.Memory)) }
 {
     if !has_kind(Kind::Dict, &value) {
         return Err(Refusal::NotADict);
     }
-    put_into_dict(alloc, change, current, name, entries, &mut value)?;
+    put_into_dict(slot, change, entries, &mut value)?;
     Ok(value)
 }
 
@@ -160,22 +136,20 @@ fn value_with(
 /// key isn't there goes to the end. `current` is the path of the file's package. Errors: `NotADict`: the attribute's value is no
 /// dict; `Memory`: a growth was refused. Part of the arguments is then lost.
 pub(crate) fn change_dict(
-    alloc: Global,
+    slot: Slot<'_>,
     change: Change,
-    current: &[u8],
-    name: &[u8],
     entries: &[Entry],
     arguments: &mut Items<Expr>,
 ) -> Result<(), Refusal>
-    ensures ok { OnOk result (d.on_dict name.now (entries_put change current.now name.now entries.now) arguments.old ≡ Ok arguments.new) }
-    ensures err { IfErr result (λ refusal. (d.on_dict name.now (entries_put change current.now name.now entries.now) arguments.old ≡ Err refusal) ⊎ (refusal ≡ Refusal.Memory)) }
+    ensures ok { OnOk result (d.on_dict slot.entry.attribute.now (entries_put change slot.entry.current.now slot.entry.attribute.now entries.now) arguments.old ≡ Ok arguments.new) }
+    ensures err { IfErr result (λ refusal. (d.on_dict slot.entry.attribute.now (entries_put change slot.entry.current.now slot.entry.attribute.now entries.now) arguments.old ≡ Err refusal) ⊎ (refusal ≡ Refusal.Memory)) }
 {
-    let Some(value) = take_value(alloc, name, arguments) else {
-        let dict = new_dict(alloc, change, current, name, entries)?;
-        add_attribute(alloc, name, dict, arguments)?;
+    let Some(value) = take_value(slot.alloc, slot.attribute, arguments) else {
+        let dict = new_dict(slot, change, entries)?;
+        add_attribute(slot.alloc, slot.attribute, dict, arguments)?;
         return Ok(());
     };
-    let new = value_with(alloc, change, current, name, entries, value)?;
-    set_value(name, new, arguments);
+    let new = value_with(slot, change, entries, value)?;
+    set_value(slot.attribute, new, arguments);
     Ok(())
 }

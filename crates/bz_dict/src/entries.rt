@@ -1,17 +1,14 @@
 //! Entries of a dict: their keys, new entries, and entries with another value.
 ghost use Rattle.std.specs.Prelude.{◌≡◌, IfOk};
 ghost use Rattle.std.specs.Option.{option_copied};
-ghost use Rattle.bz_tree.specs.declared.kind.Kind.TheVariants as kinds;
-ghost use Rattle.bz_rule.specs.Values.{on_row, on_third};
 ghost use Rattle.bz_dict.specs.Dicts.{dict_of, entry_made, key_of};
 
-use bz_attribute::{body_of, has_kind, node, parts_of, sequence, string_of, token};
+use bz_attribute::{Slot, body_of, has_kind, node, parts_of, sequence, string_of, token};
 use bz_items::{Items, Memory, Text};
 use bz_tree::{Class, Kind};
 use bz_value::Expr;
 use bz_words::{Entry, quoted};
 use std::alloc::Global;
-use std::mem;
 
 /// What becomes of an entry whose key is there.
 #[derive(Clone, Copy)]
@@ -30,17 +27,13 @@ pub(crate) fn dict_of(alloc: Global, items: Items<Expr>) -> Expr
 }
 
 /// The entry that is put into the dict of an attribute.
-pub(crate) fn entry_made(
-    alloc: Global,
-    current: &[u8],
-    name: &[u8],
-    entry: &Entry,
-) -> Result<Expr, Memory>
-    ensures { IfOk result (λ x. x ≡ entry_made current.now name.now entry.now) }
+pub(crate) fn entry_made(slot: Slot<'_>, entry: &Entry) -> Result<Expr, Memory>
+    ensures { IfOk result (λ x. x ≡ entry_made slot.entry.current.now slot.entry.attribute.now entry.now) }
 {
+    let alloc = slot.alloc;
     let key = quoted(alloc, entry.key.as_slice())?;
     let colon = Text::from_slice(alloc, b":")?;
-    let value = string_of(alloc, current, name, entry.value.as_slice())?;
+    let value = string_of(slot, entry.value.as_slice())?;
     let key = token(Class::String, key);
     let parts = Vec::from_array(alloc, [key, token(Class::Mark, colon), value])?;
     Ok(node(alloc, Kind::Entry, Items::from_vec(parts)))
@@ -57,35 +50,4 @@ pub(crate) fn key_of(x: &Expr) -> Option<&[u8]>
         [] => None,
         [key, ..] => body_of(key),
     }
-}
-
-/// Exchanges an expression for the value behind the colon.
-fn swap_third(other: &mut Expr, parts: &mut Items<Expr>)
-    ensures { parts.new ≡ on_third (λ old. other.old) parts.old }
-{
-    if let [_, _, third, ..] = parts.as_mut_slice() {
-        mem::swap(third, other);
-    }
-}
-
-/// Exchanges an expression for the value of an entry.
-fn swap_value(other: &mut Expr, x: &mut Expr)
-    ensures { x.new ≡ on_row kinds.Entry (on_third (λ old. other.old)) x.old }
-{
-    match x {
-        Expr::Token(_) => {}
-        Expr::Form(form) => {
-            if form.kind == Kind::Entry {
-                swap_third(other, &mut form.parts);
-            }
-        }
-    }
-}
-
-/// The value of an entry becomes this one.
-pub(crate) fn set_value(value: Expr, x: &mut Expr)
-    ensures { x.new ≡ on_row kinds.Entry (on_third (λ old. value)) x.old }
-{
-    let mut old = value;
-    swap_value(&mut old, x);
 }

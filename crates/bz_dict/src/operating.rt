@@ -5,7 +5,7 @@ ghost use Rattle.bz_dict.specs.Dicts.{dicts_changed};
 use crate::changing::change_dict;
 use crate::entries::Change;
 use crate::removing::dict_remove;
-use bz_attribute::Refusal;
+use bz_attribute::{Refusal, Slot};
 use bz_items::Items;
 use bz_value::Expr;
 use bz_words::DictOperation;
@@ -23,12 +23,12 @@ fn change_in_place(
 {
     match operation {
         DictOperation::Add { attribute, entries } => {
-            let (name, entries) = (attribute.as_slice(), entries.as_slice());
-            change_dict(alloc, Change::Add, current, name, entries, arguments)
+            let slot = Slot::new(alloc, current, attribute.as_slice());
+            change_dict(slot, Change::Add, entries.as_slice(), arguments)
         }
         DictOperation::Set { attribute, entries } => {
-            let (name, entries) = (attribute.as_slice(), entries.as_slice());
-            change_dict(alloc, Change::Set, current, name, entries, arguments)
+            let slot = Slot::new(alloc, current, attribute.as_slice());
+            change_dict(slot, Change::Set, entries.as_slice(), arguments)
         }
         DictOperation::Remove { attribute, keys } => {
             dict_remove(alloc, attribute.as_slice(), keys.as_slice(), arguments)

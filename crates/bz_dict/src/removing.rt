@@ -48,12 +48,8 @@ fn remove_from(chosen: &BTreeSet<Vec<u8>>, x: &mut Expr)
     ensures { x.new ≡ on_items kinds.Dict (filter (λ x. not (has_chosen chosen.now x))) x.old }
 {
     match x {
-        Expr::Token(_) => {}
-        Expr::Form(form) => {
-            if form.kind == Kind::Dict {
-                remove_items(chosen, &mut form.seq.items);
-            }
-        }
+        Expr::Form(form) if form.kind == Kind::Dict => remove_items(chosen, &mut form.seq.items),
+        _ => {}
     }
 }
 

@@ -10,9 +10,7 @@ use Rattle.bz_value.specs.declared.value.Expr.{Expr}
 use Rattle.bz_items.specs.Characters.{Bytes}
 use Rattle.bz_words.specs.Quoted.{quoted_of}
 use Rattle.bz_rule.specs.Rules.{attribute}
-use Rattle.bz_tree.specs.declared.kind.Kind.TheVariants as k
-use Rattle.bz_rule.specs.Values.{has_kind, parts_of, with_text}
-use Rattle.bz_attribute.proofs.ListsThere.{items_there}
+use Rattle.bz_rule.specs.Values.{with_text}
 use Rattle.bz_attribute.proofs.KeySets.{or_group, or_none}
 use Rattle.bz_list.specs.declared.adding.Added.{Added}
 use Rattle.bz_list.specs.declared.adding.Added.TheVariants as a
@@ -121,19 +119,9 @@ any_more : (test : Expr → Bool) (xs ys : List Expr) → list_any test (xs ++ y
 any_more test [] ys = refl
 any_more test (x ∷ xs) ys = ap (λ z. test x || z) (any_more test xs ys) ∙ or_assoc (test x) (list_any test xs) (list_any test ys)
 
-any_listed : (test : Expr → Bool) (xs : List Expr) → list_any test (flat_map listed xs) ≡ list_any (λ x. list_any test (listed x)) xs
+pub any_listed : (test : Expr → Bool) (xs : List Expr) → list_any test (flat_map listed xs) ≡ list_any (λ x. list_any test (listed x)) xs
 any_listed test [] = refl
 any_listed test (x ∷ xs) = any_more test (listed x) (flat_map listed xs) ∙ ap (λ z. list_any test (listed x) || z) (any_listed test xs)
-
-any_by : (test : Expr → Bool) (b : Bool) (xs ys : List Expr)
-    → list_any test (if b then flat_map listed xs else ys) ≡ (if b then list_any (λ x. list_any test (listed x)) xs else list_any test ys)
-any_by test true xs ys = any_listed test xs
-any_by test false xs ys = refl
-
--- and of an item of a value
-pub in_value : (test : Expr → Bool) (value : Expr)
-    → list_any test (items_in value) ≡ (if has_kind k.Sum value then list_any (λ x. list_any test (listed x)) (parts_of value) else list_any test (listed value))
-in_value test value = ap (list_any test) (items_there value) ∙ any_by test (has_kind k.Sum value) (parts_of value) (listed value)
 
 -- it is added where it is no item that is there
 pub one_fresh : (current attribute : Bytes) (there : List Expr) (word : Bytes)

@@ -7,8 +7,6 @@ use Rattle.std.proofs.lemmas.Bool.{cases_Bool, and_from}
 use Rattle.std.proofs.lemmas.Slice.Eq.{bytes_eq-Decides}
 use Rattle.std.proofs.Math.Path.{fun_ext}
 use Rattle.std.proofs.lemmas.Cmp.{nat_list_eq_equiv}
-use Rattle.bz_tree.specs.declared.kind.Kind.TheVariants as k
-use Rattle.bz_rule.specs.Values.{has_kind, parts_of}
 use Rattle.bz_label.specs.declared.label.Label.{Label}
 use Rattle.bz_label.specs.Read.{label_in, is_equal, are_equal, is_same}
 use Rattle.bz_label.specs.Tables.{is_label_attribute}
@@ -18,7 +16,6 @@ use Rattle.bz_attribute.specs.Lists.{body_of, items_in, are_one, is_some_item, l
 use Rattle.bz_attribute.proofs.KeySets.{equal_texts, or_group, or_none}
 use Rattle.bz_list.specs.declared.known.Chosen.TheVariants as h
 use Rattle.bz_list.specs.Listing.{chooses, with_lists}
-use Rattle.bz_attribute.proofs.ListsThere.{items_there}
 use Rattle.bz_list.specs.KnownValues.{mean_the_same, label_meant, is_among, KnownValues, Membership, asked, none_known, with_word, with_words, is_known_item, with_item, with_known_items}
 
 -- ---- words mean one value both ways
@@ -138,17 +135,9 @@ more_items : (xs ys : List Expr) (known : Membership) → with_known_items (xs +
 more_items [] ys known = refl
 more_items (x ∷ xs) ys known = more_items xs ys (with_item x known)
 
-lists_known : (xs : List Expr) (known : Membership) → with_known_items (flat_map listed xs) known ≡ with_lists xs known
+pub lists_known : (xs : List Expr) (known : Membership) → with_known_items (flat_map listed xs) known ≡ with_lists xs known
 lists_known [] known = refl
 lists_known (x ∷ xs) known = more_items (listed x) (flat_map listed xs) known ∙ lists_known xs (with_known_items (listed x) known)
-
-known_by : (b : Bool) (xs ys : List Expr) (known : Membership) → with_known_items (if b then flat_map listed xs else ys) known ≡ (if b then with_lists xs known else with_known_items ys known)
-known_by true xs ys known = lists_known xs known
-known_by false xs ys known = refl
-
--- the items of a value
-pub value_known : (value : Expr) (known : Membership) → with_known_items (items_in value) known ≡ (if has_kind k.Sum value then with_lists (parts_of value) known else with_known_items (listed value) known)
-value_known value known = ap (λ xs. with_known_items xs known) (items_there value) ∙ known_by (has_kind k.Sum value) (parts_of value) (listed value) known
 
 -- ---- the words as they are asked
 

@@ -15,15 +15,14 @@ ghost use Rattle.bz_list.specs.Adding.{added_by, added_to, shorter, with_added};
 
 use crate::known::Known;
 use bz_attribute::{
-    Refusal, add_attribute, append, append_to, body_of, has_kind, has_lists, is_item, is_no_list,
-    items_of, list_of, parts_of, plus, set_text, set_value, string_of, take_value,
+    Refusal, Slot, add_attribute, append, append_to, body_of, has_kind, has_lists, is_item,
+    is_no_list, items_of, list_of, operands_of, plus, set_text, set_value, string_of, take_value,
 };
 use bz_items::{Items, Memory, Text};
 use bz_label::bytes::{is_label_attribute, shortened};
 use bz_tree::Kind;
 use bz_value::Expr;
 use bz_words::quoted;
-use std::alloc::Global;
 
 /// What is added to an attribute.
 #[derive(Drop)]
@@ -36,76 +35,56 @@ pub(crate) enum Added<'a> {
 
 /// Adds the string of a word that is not known yet.
 fn push_word(
-    alloc: Global,
-    current: &[u8],
-    name: &[u8],
+    slot: Slot<'_>,
     word: &[u8],
     known: &mut Known,
     items: &mut Vec<Expr>,
 ) -> Result<(), Memory>
-    ensures { (rest : List Bytes) → OnOk result (items.new.items ++ map (string_made current.now name.now) (new_words (asked known.new) rest)
-        ≡ items.old.items ++ map (string_made current.now name.now) (new_words (asked known.old) (word.now ∷ rest))) }
+    ensures { (rest : List Bytes) → OnOk result (items.new.items ++ map (string_made slot.entry.current.now slot.entry.attribute.now) (new_words (asked known.new) rest)
+        ≡ items.old.items ++ map (string_made slot.entry.current.now slot.entry.attribute.now) (new_words (asked known.old) (word.now ∷ rest))) }
 {
     if known.has(word)? {
         return Ok(());
     }
     known.insert(word)?;
-    items.push(string_of(alloc, current, name, word)?)?;
+    items.push(string_of(slot, word)?)?;
     Ok(())
 }
 
 /// The strings of the words that are not known yet, each once.
-fn new_strings(
-    alloc: Global,
-    current: &[u8],
-    name: &[u8],
-    words: &[Text],
-    mut known: Known,
-) -> Result<Vec<Expr>, Memory>
-    ensures { IfOk result (λ items. items.items ≡ map (string_made current.now name.now) (new_words (asked known) words.now)) }
+fn new_strings(slot: Slot<'_>, words: &[Text], mut known: Known) -> Result<Vec<Expr>, Memory>
+    ensures { IfOk result (λ items. items.items ≡ map (string_made slot.entry.current.now slot.entry.attribute.now) (new_words (asked known) words.now)) }
 {
-    let mut items = Vec::new(alloc);
+    let mut items = Vec::new(slot.alloc);
     for word in words {
-        push_word(
-            alloc,
-            current,
-            name,
-            word.as_slice(),
-            &mut known,
-            &mut items,
-        )?;
+        push_word(slot, word.as_slice(), &mut known, &mut items)?;
     }
     Ok(items)
 }
 
 /// The shorter text of an item that comes to a label attribute, where it has one.
-fn shorter_text(
-    alloc: Global,
-    current: &[u8],
-    name: &[u8],
-    x: &Expr,
-) -> Result<Option<Text>, Memory>
-    ensures { IfOk result (λ text. text ≡ shorter current.now name.now x.now) }
+fn shorter_text(slot: Slot<'_>, x: &Expr) -> Result<Option<Text>, Memory>
+    ensures { IfOk result (λ text. text ≡ shorter slot.entry.current.now slot.entry.attribute.now x.now) }
 {
     let Some(text) = body_of(x) else {
         return Ok(None);
     };
-    if !is_label_attribute(name) {
+    if !is_label_attribute(slot.attribute) {
         return Ok(None);
     }
-    let short = shortened(current, text);
+    let short = shortened(slot.current, text);
     if short == text {
         return Ok(None);
     }
-    Ok(Some(quoted(alloc, short)?))
+    Ok(Some(quoted(slot.alloc, short)?))
 }
 
 /// An item as it comes to another attribute.
 #[tactic(auto, using(crate::proofs::AddedItems::travelled_by))]
-fn travelled(alloc: Global, current: &[u8], name: &[u8], mut x: Expr) -> Result<Expr, Memory>
-    ensures { IfOk result (λ there. there ≡ as_travelled current.now name.now x) }
+fn travelled(slot: Slot<'_>, mut x: Expr) -> Result<Expr, Memory>
+    ensures { IfOk result (λ there. there ≡ as_travelled slot.entry.current.now slot.entry.attribute.now x) }
 {
-    match shorter_text(alloc, current, name, &x) {
+    match shorter_text(slot, &x) {
         Ok(Some(text)) => {
             set_text(text, &mut x);
             Ok(x)
@@ -120,15 +99,13 @@ fn travelled(alloc: Global, current: &[u8], name: &[u8], mut x: Expr) -> Result<
 
 /// Adds an item that is not known yet.
 fn push_item(
-    alloc: Global,
-    current: &[u8],
-    name: &[u8],
+    slot: Slot<'_>,
     x: Expr,
     known: &mut Known,
     items: &mut Vec<Expr>,
 ) -> Result<(), Memory>
-    ensures { (rest : List Value) → OnOk result (items.new.items ++ items_new current.now name.now (asked known.new) rest
-        ≡ items.old.items ++ items_new current.now name.now (asked known.old) (x ∷ rest)) }
+    ensures { (rest : List Value) → OnOk result (items.new.items ++ items_new slot.entry.current.now slot.entry.attribute.now (asked known.new) rest
+        ≡ items.old.items ++ items_new slot.entry.current.now slot.entry.attribute.now (asked known.old) (x ∷ rest)) }
 {
     match known.has_item(&x) {
         Ok(false) => {}
@@ -145,128 +122,94 @@ fn push_item(
         drop(x);
         return Err(fault);
     }
-    items.push(travelled(alloc, current, name, x)?)?;
+    items.push(travelled(slot, x)?)?;
     Ok(())
 }
 
 /// The items that are not known yet, each once.
-fn new_items(
-    alloc: Global,
-    current: &[u8],
-    name: &[u8],
-    moved: Items<Expr>,
-    mut known: Known,
-) -> Result<Vec<Expr>, Memory>
-    ensures { IfOk result (λ items. items.items ≡ items_new current.now name.now (asked known) moved) }
+fn new_items(slot: Slot<'_>, moved: Items<Expr>, mut known: Known) -> Result<Vec<Expr>, Memory>
+    ensures { IfOk result (λ items. items.items ≡ items_new slot.entry.current.now slot.entry.attribute.now (asked known) moved) }
 {
-    let mut items = Vec::new(alloc);
+    let mut items = Vec::new(slot.alloc);
     for x in moved.into_vec() {
-        push_item(alloc, current, name, x, &mut known, &mut items)?;
+        push_item(slot, x, &mut known, &mut items)?;
     }
     Ok(items)
 }
 
 /// The items that are added to those that are known.
-fn added_items(
-    alloc: Global,
-    current: &[u8],
-    name: &[u8],
-    added: Added<'_>,
-    known: Known,
-) -> Result<Vec<Expr>, Memory>
-    ensures { IfOk result (λ items. items.items ≡ added_to current.now name.now added.entry (asked known)) }
+fn added_items(slot: Slot<'_>, added: Added<'_>, known: Known) -> Result<Vec<Expr>, Memory>
+    ensures { IfOk result (λ items. items.items ≡ added_to slot.entry.current.now slot.entry.attribute.now added.entry (asked known)) }
 {
     match added {
-        Added::Words(words) => new_strings(alloc, current, name, words, known),
-        Added::Moved(moved) => new_items(alloc, current, name, moved, known),
+        Added::Words(words) => new_strings(slot, words, known),
+        Added::Moved(moved) => new_items(slot, moved, known),
     }
 }
 
 /// Whether a word means an item of a list.
-fn is_in_list(current: &[u8], name: &[u8], word: &[u8], x: &Expr) -> bool
-    ensures { result ≡ list_any (is_item_of current.now name.now word.now) (listed x.now) }
+fn is_in_list(slot: Slot<'_>, word: &[u8], x: &Expr) -> bool
+    ensures { result ≡ list_any (is_item_of slot.entry.current.now slot.entry.attribute.now word.now) (listed x.now) }
 {
     has_kind(Kind::List, x)
         && items_of(x)
             .iter()
-            .any(|item| is_item(current, name, word, item))
+            .any(|item| is_item(slot.current, slot.attribute, word, item))
 }
 
-/// Whether a word means an item of the lists among these operands.
-fn is_in_lists(current: &[u8], name: &[u8], word: &[u8], operands: &[Expr]) -> bool
-    ensures { result ≡ list_any (λ x. list_any (is_item_of current.now name.now word.now) (listed x)) operands.now }
+/// Whether a word means an item of the lists among these expressions.
+fn is_in_lists(slot: Slot<'_>, word: &[u8], operands: &[Expr]) -> bool
+    ensures { result ≡ list_any (λ x. list_any (is_item_of slot.entry.current.now slot.entry.attribute.now word.now) (listed x)) operands.now }
 {
-    operands.iter().any(|x| is_in_list(current, name, word, x))
+    operands.iter().any(|x| is_in_list(slot, word, x))
 }
 
 /// Whether a word means an item of the lists of a value.
-#[tactic(auto, using(crate::proofs::AddedItems::in_value))]
-fn is_in_value(current: &[u8], name: &[u8], word: &[u8], value: &Expr) -> bool
-    ensures { result ≡ list_any (is_item_of current.now name.now word.now) (items_in value.now) }
+fn is_in_value(slot: Slot<'_>, word: &[u8], value: &Expr) -> bool
+    ensures { result ≡ list_any (is_item_of slot.entry.current.now slot.entry.attribute.now word.now) (items_in value.now) }
 {
-    if has_kind(Kind::Sum, value) {
-        return is_in_lists(current, name, word, parts_of(value));
-    }
-    is_in_list(current, name, word, value)
+    is_in_lists(slot, word, operands_of(value))
 }
 
 /// The string of a word that is added alone to the items of a value: no set of these is made.
 #[tactic(auto, using(crate::proofs::AddedItems::one_fresh))]
-fn one_beside(
-    alloc: Global,
-    current: &[u8],
-    name: &[u8],
-    word: &[u8],
-    value: &Expr,
-) -> Result<Vec<Expr>, Memory>
-    ensures { IfOk result (λ items. items.items ≡ map (string_made current.now name.now) (fresh current.now name.now (items_in value.now) [] (word.now ∷ []))) }
+fn one_beside(slot: Slot<'_>, word: &[u8], value: &Expr) -> Result<Vec<Expr>, Memory>
+    ensures { IfOk result (λ items. items.items ≡ map (string_made slot.entry.current.now slot.entry.attribute.now) (fresh slot.entry.current.now slot.entry.attribute.now (items_in value.now) [] (word.now ∷ []))) }
 {
-    let mut items = Vec::new(alloc);
-    if !is_in_value(current, name, word, value) {
-        items.push(string_of(alloc, current, name, word)?)?;
+    let mut items = Vec::new(slot.alloc);
+    if !is_in_value(slot, word, value) {
+        items.push(string_of(slot, word)?)?;
     }
     Ok(items)
 }
 
 /// The items that are added to those of a value, of which a set is made.
-fn more_beside(
-    alloc: Global,
-    current: &[u8],
-    name: &[u8],
-    added: Added<'_>,
-    value: &Expr,
-) -> Result<Vec<Expr>, Memory>
-    ensures { IfOk result (λ items. items.items ≡ added_by current.now name.now added.entry (items_in value.now)) }
+fn more_beside(slot: Slot<'_>, added: Added<'_>, value: &Expr) -> Result<Vec<Expr>, Memory>
+    ensures { IfOk result (λ items. items.items ≡ added_by slot.entry.current.now slot.entry.attribute.now added.entry (items_in value.now)) }
 {
-    let mut known = Known::new(alloc, current, name)?;
+    let mut known = Known::new(slot)?;
     known.insert_value(value)?;
-    let items = added_items(alloc, current, name, added, known)?;
+    let items = added_items(slot, added, known)?;
     Ok(items)
 }
 
 /// The items that are added to those of a value.
-fn added_beside(
-    alloc: Global,
-    current: &[u8],
-    name: &[u8],
-    added: Added<'_>,
-    value: &Expr,
-) -> Result<Vec<Expr>, Memory>
-    ensures { IfOk result (λ items. items.items ≡ added_by current.now name.now added.entry (items_in value.now)) }
+fn added_beside(slot: Slot<'_>, added: Added<'_>, value: &Expr) -> Result<Vec<Expr>, Memory>
+    ensures { IfOk result (λ items. items.items ≡ added_by slot.entry.current.now slot.entry.attribute.now added.entry (items_in value.now)) }
 {
     if let Added::Words([word]) = &added {
-        return one_beside(alloc, current, name, word.as_slice(), value);
+        return one_beside(slot, word.as_slice(), value);
     }
-    more_beside(alloc, current, name, added, value)
+    more_beside(slot, added, value)
 }
 
 /// A list of the items that are added where there are none.
-fn added_alone(alloc: Global, current: &[u8], name: &[u8], added: Added<'_>) -> Result<Expr, Memory>
-    ensures { IfOk result (λ list. list ≡ list_made (added_by current.now name.now added.entry [])) }
+fn added_alone(slot: Slot<'_>, added: Added<'_>) -> Result<Expr, Memory>
+    ensures { IfOk result (λ list. list ≡ list_made (added_by slot.entry.current.now slot.entry.attribute.now added.entry [])) }
 {
-    let known = Known::new(alloc, current, name)?;
-    let items = added_items(alloc, current, name, added, known)?;
-    Ok(list_of(alloc, Items::from_vec(items)))
+    let known = Known::new(slot)?;
+    let items = added_items(slot, added, known)?;
+    Ok(list_of(slot.alloc, Items::from_vec(items)))
 }
 
 /// Where the first list among the operands of a sum stands.
@@ -305,16 +248,10 @@ fn append_to_value(more: &mut Vec<Expr>, value: &mut Expr) -> Result<(), Memory>
 }
 
 /// A value whose first list has the items that are added too.
-fn grown(
-    alloc: Global,
-    current: &[u8],
-    name: &[u8],
-    added: Added<'_>,
-    mut value: Expr,
-) -> Result<Expr, Memory>
-    ensures { IfOk result (λ new. new ≡ with_more (added_by current.now name.now added.entry (items_in value)) value) }
+fn grown(slot: Slot<'_>, added: Added<'_>, mut value: Expr) -> Result<Expr, Memory>
+    ensures { IfOk result (λ new. new ≡ with_more (added_by slot.entry.current.now slot.entry.attribute.now added.entry (items_in value)) value) }
 {
-    let mut more = match added_beside(alloc, current, name, added, &value) {
+    let mut more = match added_beside(slot, added, &value) {
         Ok(more) => more,
         Err(fault) => {
             drop(value);
@@ -329,17 +266,11 @@ fn grown(
 }
 
 /// A sum of a value and a list of the items that are added.
-fn joined(
-    alloc: Global,
-    current: &[u8],
-    name: &[u8],
-    added: Added<'_>,
-    value: Expr,
-) -> Result<Expr, Memory>
-    ensures { IfOk result (λ new. new ≡ sum_made value (list_made (added_by current.now name.now added.entry []))) }
+fn joined(slot: Slot<'_>, added: Added<'_>, value: Expr) -> Result<Expr, Memory>
+    ensures { IfOk result (λ new. new ≡ sum_made value (list_made (added_by slot.entry.current.now slot.entry.attribute.now added.entry []))) }
 {
-    match added_alone(alloc, current, name, added) {
-        Ok(list) => plus(alloc, value, list),
+    match added_alone(slot, added) {
+        Ok(list) => plus(slot.alloc, value, list),
         Err(fault) => {
             drop(value);
             Err(fault)
@@ -348,47 +279,39 @@ fn joined(
 }
 
 /// A value with the items that are added.
-fn value_with(
-    alloc: Global,
-    current: &[u8],
-    name: &[u8],
-    added: Added<'_>,
-    value: Expr,
-) -> Result<Expr, Refusal>
-    ensures ok { IfOk result (λ new. with_added (added_by current.now name.now added.entry) value ≡ Ok new) }
-    ensures err { IfErr result (λ refusal. (with_added (added_by current.now name.now added.entry) value ≡ Err refusal) ⊎ (refusal ≡ Refusal.Memory)) }
+fn value_with(slot: Slot<'_>, added: Added<'_>, value: Expr) -> Result<Expr, Refusal>
+    ensures ok { IfOk result (λ new. with_added (added_by slot.entry.current.now slot.entry.attribute.now added.entry) value ≡ Ok new) }
+    ensures err { IfErr result (λ refusal. (with_added (added_by slot.entry.current.now slot.entry.attribute.now added.entry) value ≡ Err refusal) ⊎ (refusal ≡ Refusal.Memory)) }
 {
     if has_lists(&value) {
-        let new = grown(alloc, current, name, added, value)?;
+        let new = grown(slot, added, value)?;
         return Ok(new);
     }
     if is_no_list(&value) {
         drop(value);
         return Err(Refusal::NotAList);
     }
-    let new = joined(alloc, current, name, added, value)?;
+    let new = joined(slot, added, value)?;
     Ok(new)
 }
 
 /// Adds items to the end of the first list of an attribute. A value that is no list becomes a sum with a new one.
 pub(crate) fn add_items(
-    alloc: Global,
-    current: &[u8],
-    name: &[u8],
+    slot: Slot<'_>,
     added: Added<'_>,
     arguments: &mut Items<Expr>,
 ) -> Result<(), Refusal>
-    ensures ok { OnOk result (with_items_added name.now (added_by current.now name.now added.entry) arguments.old ≡ Ok arguments.new) }
-    ensures err { IfErr result (λ refusal. (with_items_added name.now (added_by current.now name.now added.entry) arguments.old ≡ Err refusal) ⊎ (refusal ≡ Refusal.Memory)) }
+    ensures ok { OnOk result (with_items_added slot.entry.attribute.now (added_by slot.entry.current.now slot.entry.attribute.now added.entry) arguments.old ≡ Ok arguments.new) }
+    ensures err { IfErr result (λ refusal. (with_items_added slot.entry.attribute.now (added_by slot.entry.current.now slot.entry.attribute.now added.entry) arguments.old ≡ Err refusal) ⊎ (refusal ≡ Refusal.Memory)) }
 {
-    let Some(value) = take_value(alloc, name, arguments) else {
-        let list = added_alone(alloc, current, name, added)?;
-        add_attribute(alloc, name, list, arguments)?;
+    let Some(value) = take_value(slot.alloc, slot.attribute, arguments) else {
+        let list = added_alone(slot, added)?;
+        add_attribute(slot.alloc, slot.attribute, list, arguments)?;
         return Ok(());
     };
-    match value_with(alloc, current, name, added, value) {
+    match value_with(slot, added, value) {
         Ok(new) => {
-            set_value(name, new, arguments);
+            set_value(slot.attribute, new, arguments);
             Ok(())
         }
         Err(refusal) => Err(refusal),

@@ -2,9 +2,10 @@
 ghost use Rattle.std.specs.Prelude.{◌≡◌, ◌⊎◌, Ok, Err, OnOk, IfErr, IfOk};
 ghost use Rattle.bz_list.specs.Changes.{values_changed};
 
-use crate::listed::{add, move_values, remove_values};
-use crate::replacing::{replace, substitute};
-use bz_attribute::Refusal;
+use crate::adding::{Added, add_items};
+use crate::listed::{move_values, remove_values};
+use crate::replacing::Change;
+use bz_attribute::{Refusal, Slot};
 use bz_items::Items;
 use bz_value::Expr;
 use bz_words::ValueOperation;
@@ -21,52 +22,39 @@ fn change_in_place(
     ensures err { IfErr result (λ refusal. (values_changed operation.now current.now arguments.old ≡ Err refusal) ⊎ (refusal ≡ Refusal.Memory)) }
 {
     match operation {
-        ValueOperation::Add { attribute, values } => add(
-            alloc,
-            current,
-            attribute.as_slice(),
-            values.as_slice(),
-            arguments,
-        ),
-        ValueOperation::Remove { attribute, values } => remove_values(
-            alloc,
-            current,
-            attribute.as_slice(),
-            values.as_slice(),
-            arguments,
-        ),
+        ValueOperation::Add { attribute, values } => {
+            let slot = Slot::new(alloc, current, attribute.as_slice());
+            add_items(slot, Added::Words(values.as_slice()), arguments)
+        }
+        ValueOperation::Remove { attribute, values } => {
+            remove_values(
+                Slot::new(alloc, current, attribute.as_slice()),
+                values.as_slice(),
+                arguments,
+            )
+        }
         ValueOperation::Replace {
             attributes,
             old,
             new,
-        } => replace(
-            alloc,
-            current,
-            attributes,
-            old.as_slice(),
-            new.as_slice(),
-            arguments,
-        ),
+        } => {
+            let (old, new) = (old.as_slice(), new.as_slice());
+            let change = Change::Replace { old, new };
+            Ok(change.on_attributes(alloc, current, attributes, arguments)?)
+        }
         ValueOperation::Substitute {
             attributes,
             pattern,
             template,
-        } => substitute(
-            alloc,
-            current,
-            attributes,
-            pattern,
-            template.as_slice(),
-            arguments,
-        ),
-        ValueOperation::Move { from, to, values } => move_values(
-            alloc,
-            current,
-            from.as_slice(),
-            to.as_slice(),
-            values,
-            arguments,
-        ),
+        } => {
+            let template = template.as_slice();
+            let change = Change::Substitute { pattern, template };
+            Ok(change.on_attributes(alloc, current, attributes, arguments)?)
+        }
+        ValueOperation::Move { from, to, values } => {
+            let from = Slot::new(alloc, current, from.as_slice());
+            move_values(from, to.as_slice(), values, arguments)
+        }
     }
 }
 

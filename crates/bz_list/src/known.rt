@@ -15,7 +15,7 @@ ghost use Rattle.bz_list.specs.KnownKeys.{label_of_key, labels_of};
 ghost use Rattle.bz_list.specs.KnownValues.{label_meant, asked, none_known, with_word, with_words, is_known_item, with_item, with_known_items};
 ghost use Rattle.bz_list.specs.Listing.{chooses, with_lists};
 
-use bz_attribute::{body_of, has_kind, has_text, insert_text, items_of, parts_of};
+use bz_attribute::{Slot, body_of, has_kind, has_text, insert_text, items_of, operands_of};
 use bz_items::{Memory, Text};
 use bz_label::bytes::{Parts, is_label_attribute, label_parts};
 use bz_tree::Kind;
@@ -84,13 +84,14 @@ impl Model for Known {
 
 impl Known {
     /// No values of the attribute.
-    pub(crate) fn new(alloc: Global, current: &[u8], attribute: &[u8]) -> Result<Known, Memory>
-        ensures { IfOk result (λ known. asked known ≡ none_known current.now attribute.now) }
+    pub(crate) fn new(slot: Slot<'_>) -> Result<Known, Memory>
+        ensures { IfOk result (λ known. asked known ≡ none_known slot.entry.current.now slot.entry.attribute.now) }
     {
+        let alloc = slot.alloc;
         Ok(Known {
             alloc,
-            current: Text::from_slice(alloc, current)?,
-            is_label: is_label_attribute(attribute),
+            current: Text::from_slice(alloc, slot.current)?,
+            is_label: is_label_attribute(slot.attribute),
             labels: BTreeSet::new(alloc),
             texts: BTreeSet::new(alloc),
         })
@@ -170,7 +171,7 @@ impl Known {
         Ok(())
     }
 
-    /// The items of the lists among these operands.
+    /// The items of the lists among these expressions.
     fn insert_lists(&mut self, operands: &[Expr]) -> Result<(), Memory>
         ensures { OnOk result (asked self.new ≡ with_lists operands.now (asked self.old)) }
     {
@@ -181,14 +182,11 @@ impl Known {
     }
 
     /// The items of the lists of a value are some of them from now on.
-    #[tactic(auto, using(crate::proofs::KnownSteps::value_known))]
     pub(crate) fn insert_value(&mut self, value: &Expr) -> Result<(), Memory>
         ensures { OnOk result (asked self.new ≡ with_known_items (items_in value.now) (asked self.old)) }
     {
-        if has_kind(Kind::Sum, value) {
-            return self.insert_lists(parts_of(value));
-        }
-        self.insert_list(value)
+        self.insert_lists(operands_of(value))?;
+        Ok(())
     }
 
     fn insert_words(&mut self, words: &[Text]) -> Result<(), Memory>
@@ -210,31 +208,21 @@ pub(crate) enum Chosen {
 
 impl Chosen {
     /// The items that are one of these words.
-    pub(crate) fn of_words(
-        alloc: Global,
-        current: &[u8],
-        attribute: &[u8],
-        words: &[Text],
-    ) -> Result<Chosen, Memory>
-        ensures { IfOk result (λ chosen. chooses chosen ≡ is_some_item current.now attribute.now words.now) }
+    pub(crate) fn of_words(slot: Slot<'_>, words: &[Text]) -> Result<Chosen, Memory>
+        ensures { IfOk result (λ chosen. chooses chosen ≡ is_some_item slot.entry.current.now slot.entry.attribute.now words.now) }
     {
-        let mut known = Known::new(alloc, current, attribute)?;
+        let mut known = Known::new(slot)?;
         known.insert_words(words)?;
         Ok(Chosen::These(known))
     }
 
     /// The items that are moved.
-    pub(crate) fn of_values(
-        alloc: Global,
-        current: &[u8],
-        attribute: &[u8],
-        values: &Values,
-    ) -> Result<Chosen, Memory>
-        ensures { IfOk result (λ chosen. chooses chosen ≡ is_moved current.now attribute.now values.now) }
+    pub(crate) fn of_values(slot: Slot<'_>, values: &Values) -> Result<Chosen, Memory>
+        ensures { IfOk result (λ chosen. chooses chosen ≡ is_moved slot.entry.current.now slot.entry.attribute.now values.now) }
     {
         match values {
             Values::All => Ok(Chosen::All),
-            Values::These(words) => Chosen::of_words(alloc, current, attribute, words.as_slice()),
+            Values::These(words) => Chosen::of_words(slot, words.as_slice()),
         }
     }
 

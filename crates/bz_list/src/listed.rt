@@ -7,20 +7,19 @@ ghost use Rattle.bz_rule.specs.Rules.{attribute as value_there};
 ghost use Rattle.bz_rule.specs.Values.{on_items, on_lists};
 ghost use Rattle.bz_value.specs.Empty.{is_empty};
 ghost use Rattle.bz_attribute.specs.Lists.{items_in, listed};
-ghost use Rattle.bz_list.specs.Changes.{add, remove_values, is_moved, move};
+ghost use Rattle.bz_list.specs.Changes.{remove_values, is_moved, move};
 ghost use Rattle.bz_list.specs.Listing.{chooses, is_left, put_back, without_chosen, chosen_in};
 
 use crate::adding::{Added, add_items};
 use crate::known::Chosen;
 use bz_attribute::{
-    Refusal, has_lists, is_empty_list, is_no_list, remove_first, set_value, take_value,
+    Refusal, Slot, has_lists, is_empty_list, is_no_list, remove_first, set_value, take_value,
 };
 use bz_items::{Items, Memory, Text};
 use bz_rule::attribute;
 use bz_tree::Kind;
 use bz_value::Expr;
 use bz_words::Values;
-use std::alloc::Global;
 use std::mem;
 
 /// Puts an item to those that are taken, where the command is meant for it, else to those that are left.
@@ -130,96 +129,79 @@ fn put_back(name: &[u8], taken: &[Expr], value: Expr, arguments: &mut Items<Expr
 /// Takes the items that the command is meant for from the attribute's lists; the attribute goes where its whole value is
 /// then an empty list.
 fn take_items(
-    alloc: Global,
-    name: &[u8],
+    slot: Slot<'_>,
     chosen: &Chosen,
     arguments: &mut Items<Expr>,
 ) -> Result<Items<Expr>, Memory>
-    ensures left { OnOk result (arguments.new ≡ without_chosen name.now (chooses chosen.now) (value_there name.now arguments.old) arguments.old) }
-    ensures taken { IfOk result (λ taken. taken ≡ chosen_in (chooses chosen.now) (value_there name.now arguments.old)) }
+    ensures left { OnOk result (arguments.new ≡ without_chosen slot.entry.attribute.now (chooses chosen.now) (value_there slot.entry.attribute.now arguments.old) arguments.old) }
+    ensures taken { IfOk result (λ taken. taken ≡ chosen_in (chooses chosen.now) (value_there slot.entry.attribute.now arguments.old)) }
 {
-    let mut taken = Vec::new(alloc);
-    let Some(mut value) = take_value(alloc, name, arguments) else {
+    let mut taken = Vec::new(slot.alloc);
+    let Some(mut value) = take_value(slot.alloc, slot.attribute, arguments) else {
         return Ok(Items::from_vec(taken));
     };
     take_from_lists(chosen, &mut value, &mut taken)?;
-    put_back(name, taken.as_slice(), value, arguments);
+    put_back(slot.attribute, taken.as_slice(), value, arguments);
     Ok(Items::from_vec(taken))
-}
-
-/// Words that are no items of the attribute's lists become items at the end of the first one.
-pub(crate) fn add(
-    alloc: Global,
-    current: &[u8],
-    name: &[u8],
-    words: &[Text],
-    arguments: &mut Items<Expr>,
-) -> Result<(), Refusal>
-    ensures ok { OnOk result (add current.now name.now words.now arguments.old ≡ Ok arguments.new) }
-    ensures err { IfErr result (λ refusal. (add current.now name.now words.now arguments.old ≡ Err refusal) ⊎ (refusal ≡ Refusal.Memory)) }
-{
-    add_items(alloc, current, name, Added::Words(words), arguments)
 }
 
 /// Items that are one of the words go; the attribute goes where its whole value is then an empty list.
 pub(crate) fn remove_values(
-    alloc: Global,
-    current: &[u8],
-    name: &[u8],
+    slot: Slot<'_>,
     words: &[Text],
     arguments: &mut Items<Expr>,
 ) -> Result<(), Refusal>
-    ensures ok { OnOk result (remove_values current.now name.now words.now arguments.old ≡ Ok arguments.new) }
-    ensures err { IfErr result (λ refusal. (remove_values current.now name.now words.now arguments.old ≡ Err refusal) ⊎ (refusal ≡ Refusal.Memory)) }
+    ensures ok { OnOk result (remove_values slot.entry.current.now slot.entry.attribute.now words.now arguments.old ≡ Ok arguments.new) }
+    ensures err { IfErr result (λ refusal. (remove_values slot.entry.current.now slot.entry.attribute.now words.now arguments.old ≡ Err refusal) ⊎ (refusal ≡ Refusal.Memory)) }
 {
-    let Some(value) = attribute(name, arguments.as_slice()) else {
+    let Some(value) = attribute(slot.attribute, arguments.as_slice()) else {
         return Ok(());
     };
     if is_no_list(value) {
         return Err(Refusal::NotAList);
     }
-    let chosen = Chosen::of_words(alloc, current, name, words)?;
-    let _gone = take_items(alloc, name, &chosen, arguments)?;
+    let chosen = Chosen::of_words(slot, words)?;
+    let _gone = take_items(slot, &chosen, arguments)?;
     Ok(())
 }
 
 /// Takes the items that are moved from the attribute's lists.
 fn take_moved(
-    alloc: Global,
-    current: &[u8],
-    from: &[u8],
+    from: Slot<'_>,
     values: &Values,
     arguments: &mut Items<Expr>,
 ) -> Result<Items<Expr>, Memory>
-    ensures left { OnOk result (arguments.new ≡ without_chosen from.now (is_moved current.now from.now values.now) (value_there from.now arguments.old) arguments.old) }
-    ensures taken { IfOk result (λ taken. taken ≡ chosen_in (is_moved current.now from.now values.now) (value_there from.now arguments.old)) }
+    ensures left { OnOk result (arguments.new ≡ without_chosen from.entry.attribute.now (is_moved from.entry.current.now from.entry.attribute.now values.now) (value_there from.entry.attribute.now arguments.old) arguments.old) }
+    ensures taken { IfOk result (λ taken. taken ≡ chosen_in (is_moved from.entry.current.now from.entry.attribute.now values.now) (value_there from.entry.attribute.now arguments.old)) }
 {
-    let chosen = Chosen::of_values(alloc, current, from, values)?;
-    let taken = take_items(alloc, from, &chosen, arguments)?;
+    let chosen = Chosen::of_values(from, values)?;
+    let taken = take_items(from, &chosen, arguments)?;
     Ok(taken)
 }
 
 /// Items leave one attribute and are added to another.
 pub(crate) fn move_values(
-    alloc: Global,
-    current: &[u8],
-    from: &[u8],
+    from: Slot<'_>,
     to: &[u8],
     values: &Values,
     arguments: &mut Items<Expr>,
 ) -> Result<(), Refusal>
-    ensures ok { OnOk result (move current.now from.now to.now values.now arguments.old ≡ Ok arguments.new) }
-    ensures err { IfErr result (λ refusal. (move current.now from.now to.now values.now arguments.old ≡ Err refusal) ⊎ (refusal ≡ Refusal.Memory)) }
+    ensures ok { OnOk result (move from.entry.current.now from.entry.attribute.now to.now values.now arguments.old ≡ Ok arguments.new) }
+    ensures err { IfErr result (λ refusal. (move from.entry.current.now from.entry.attribute.now to.now values.now arguments.old ≡ Err refusal) ⊎ (refusal ≡ Refusal.Memory)) }
 {
-    let Some(value) = attribute(from, arguments.as_slice()) else {
+    let Some(value) = attribute(from.attribute, arguments.as_slice()) else {
         return Err(Refusal::NoAttribute);
     };
     if !has_lists(value) {
         return Err(Refusal::NotAList);
     }
-    let taken = take_moved(alloc, current, from, values, arguments)?;
+    let taken = take_moved(from, values, arguments)?;
     if taken.is_empty() {
         return Ok(());
     }
-    add_items(alloc, current, to, Added::Moved(taken), arguments)
+    let to = Slot {
+        attribute: to,
+        ..from
+    };
+    add_items(to, Added::Moved(taken), arguments)
 }

@@ -10,9 +10,9 @@ use Rattle.bz_value.specs.declared.value.Form.{Form}
 use Rattle.bz_attribute.proofs.ArgumentForms.{value_taken}
 use Rattle.bz_attribute.proofs.arguments.swap_value.Goals as goal
 
-pub returns-then-eq-clause-other : goal.returns-then-eq-clause-other
-returns-then-eq-clause-other c name some =
+pub returns-in-Form-clause-other : goal.returns-in-Form-clause-other
+returns-in-Form-clause-other c name named some =
     let f : Form = c.in-Form.form in
-    let same : f.kind ≡ k.Named = ap (λ (g : Form). g.kind) (sym c.in-Form.form-is) ∙ same_true the_type (search rules) _ _ (sym c.if-eq.ensures) in
+    let same : f.kind ≡ k.Named = ap (λ (g : Form). g.kind) (sym c.in-Form.form-is) ∙ same_true the_type (search rules) _ _ (sym c.if-eq.ensures) ∙ named in
     ap Some (c.swap_third.ensures.other ∙ ap (λ (g : Form). slice_index_or g.parts 2 c.args.other.now) c.in-Form.form-is)
-    ∙ value_taken name f c.args.argument.now c.args.other.now c.in-Form.is (ap (λ (kind : Kind). is_kind kind k.Named) same) some
+    ∙ value_taken name f c.args.x.now c.args.other.now c.in-Form.is (ap (λ (kind : Kind). is_kind kind k.Named) same) some

@@ -1,23 +1,17 @@
-use Rattle.std.proofs.Common.{sym, ap, ◌∙◌, slice_set}
+use Rattle.std.proofs.Common.{ap, ◌∙◌}
 use Rattle.std.specs.List.{position}
-use Rattle.std.proofs.lemmas.Option.{get_or_from_slice_get}
 use Rattle.bz_tree.specs.declared.kind.Kind.TheVariants as kinds
 use Rattle.bz_rule.specs.Values.{on_first, on_row, with_text}
 use Rattle.bz_attribute.specs.Attributes.{is_attribute}
-use Rattle.bz_attribute.proofs.ArgumentPlaces.{is_first, none_passes, changed_at, unchanged}
+use Rattle.bz_attribute.proofs.ArgumentPlaces.{changed_there, changed_nowhere}
 use Rattle.bz_change.proofs.whole.rename_in.Goals as goal
 
 pub returns-in_default : goal.returns-in_default
 returns-in_default c =
     let test = is_attribute c.args.from.now in
-    let xs = c.args.arguments.now in
-    sym (unchanged test (on_row kinds.Named (on_first (with_text c.args.to.now))) xs (none_passes test xs (c.in_default.ensures ∙ ap (position test) c.as_slice.ensures)))
+    changed_nowhere test (on_row kinds.Named (on_first (with_text c.args.to.now))) c.args.arguments.now (c.in_default.ensures ∙ ap (position test) c.as_slice.ensures)
 
 pub returns : goal.returns
 returns c =
     let test = is_attribute c.args.from.now in
-    let xs = c.args.arguments.now in
-    let x = c.at_mut.result.now in
-    let change = on_row kinds.Named (on_first (with_text c.args.to.now)) in
-    ap (slice_set xs c.in-Some.at) (c.in_ok-set_name.ensures ∙ ap change (sym (get_or_from_slice_get xs c.in-Some.at x x c.at_mut.ensures.value)))
-    ∙ sym (changed_at test change xs c.in-Some.at x (is_first test xs c.in-Some.at x (c.in-Some.ensures ∙ ap (position test) c.as_slice.ensures)))
+    changed_there test (on_row kinds.Named (on_first (with_text c.args.to.now))) c.args.arguments.now c.in-Some.at c.at_mut.result.now c.set_name.new.argument (c.in-Some.ensures ∙ ap (position test) c.as_slice.ensures) c.at_mut.ensures.value c.in_ok-set_name.ensures

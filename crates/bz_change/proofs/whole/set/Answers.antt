@@ -9,15 +9,15 @@ use Rattle.bz_change.proofs.whole.set.Goals as goal
 pub returns-clause-ok : goal.returns-clause-ok
 returns-clause-ok c =
     let made = c.in_ok-made.made in
-    set_put c.args.current.now c.args.name.now c.args.words.now c.args.arguments.now c.put.new.arguments made c.in_ok-value_of.field-0 c.in_ok-made.ensures
-    (ap (λ (xs : List Expr). option_map_or (is_set made) (attribute c.args.name.now xs) false) (sym c.as_slice.ensures) ∙ (sym c.has_setting.ensures ∙ c.if-has_setting.false))
-    c.in_ok-value_of.ensures c.in_ok-put.ensures
+    set_put c.args.slot.current.now c.args.slot.attribute.now c.args.words.now c.args.arguments.now c.put.new.arguments made c.in_ok-value.value c.in_ok-made.ensures
+    (ap (λ (xs : List Expr). option_map_or (is_set made) (attribute c.args.slot.attribute.now xs) false) (sym c.as_slice.ensures) ∙ (sym c.has_setting.ensures ∙ c.if-has_setting.false))
+    c.in_ok-value.ensures c.in_ok-put.ensures
 
 pub returns-then-has_setting : goal.returns-then-has_setting
 returns-then-has_setting c =
     let made = c.in_ok-made.made in
     record {
-      ok = set_there c.args.current.now c.args.name.now c.args.words.now c.args.arguments.now made c.in_ok-made.ensures
-          (ap (λ (xs : List Expr). option_map_or (is_set made) (attribute c.args.name.now xs) false) (sym c.as_slice.ensures) ∙ (sym c.has_setting.ensures ∙ c.if-has_setting.true));
+      ok = set_there c.args.slot.current.now c.args.slot.attribute.now c.args.words.now c.args.arguments.now made c.in_ok-made.ensures
+          (ap (λ (xs : List Expr). option_map_or (is_set made) (attribute c.args.slot.attribute.now xs) false) (sym c.as_slice.ensures) ∙ (sym c.has_setting.ensures ∙ c.if-has_setting.true));
       err = tt;
     }

@@ -7,5 +7,5 @@ use Rattle.bz_dict.proofs.changing.set_entry.Goals as goal
 
 pub returns : goal.returns
 returns c =
-    c.set_value.ensures
-    ∙ ap (λ (value : Expr). on_row k.Entry (on_third (λ old. value)) c.args.x.now) (c.in_ok-value.ensures ∙ ap (string_of c.args.current.now c.args.name.now) c.as_slice.ensures)
+    c.swap_value.ensures.there
+    ∙ ap (λ (value : Expr). on_row k.Entry (on_third (λ old. value)) c.args.x.now) (c.in_ok-value.ensures ∙ ap (string_of c.args.slot.current.now c.args.slot.attribute.now) c.as_slice.ensures)

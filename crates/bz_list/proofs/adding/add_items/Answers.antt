@@ -5,6 +5,6 @@ use Rattle.bz_list.proofs.adding.add_items.Goals as goal
 
 pub returns-in-Err-clause-err : goal.returns-in-Err-clause-err
 returns-in-Err-clause-err c = elim c.in-Err.ensures.err [
-  | inl h ↦ inl (added_refused c.args.name.now (added_by c.args.current.now c.args.name.now c.args.added) c.in-Some.value c.args.arguments.now c.in-Err.refusal (sym c.in-Some.is ∙ c.take_value.ensures.value) h)
+  | inl h ↦ inl (added_refused c.args.slot.attribute.now (added_by c.args.slot.current.now c.args.slot.attribute.now c.args.added) c.in-Some.value c.args.arguments.now c.in-Err.refusal (sym c.in-Some.is ∙ c.take_value.ensures.value) h)
   | inr memory ↦ inr memory
 ]

@@ -4,4 +4,4 @@ use Rattle.bz_list.specs.KnownValues.{asked, new_items}
 use Rattle.bz_list.proofs.adding.new_items.Given as goal
 
 abbrev pub invariant-loop-x : goal.invariant-loop-x
-invariant-loop-x l = l.items.items ++ new_items l.fn.current l.fn.name (asked l.known) (into_iter_items l.x-iterator) ≡ new_items l.fn.current l.fn.name (asked l.fn.known) l.fn.moved
+invariant-loop-x l = l.items.items ++ new_items l.fn.slot.current.now l.fn.slot.attribute.now (asked l.known) (into_iter_items l.x-iterator) ≡ new_items l.fn.slot.current.now l.fn.slot.attribute.now (asked l.fn.known) l.fn.moved

@@ -4,4 +4,4 @@ use Rattle.bz_list.specs.KnownValues.{asked, new_words}
 use Rattle.bz_list.proofs.adding.new_strings.Given as goal
 
 abbrev pub invariant-loop-word : goal.invariant-loop-word
-invariant-loop-word l = l.items.items ++ map (string_of l.fn.current l.fn.name) (new_words (asked l.known) (drop l.word-index l.words)) ≡ map (string_of l.fn.current l.fn.name) (new_words (asked l.fn.known) l.words)
+invariant-loop-word l = l.items.items ++ map (string_of l.fn.slot.current.now l.fn.slot.attribute.now) (new_words (asked l.known) (drop l.word-index l.words)) ≡ map (string_of l.fn.slot.current.now l.fn.slot.attribute.now) (new_words (asked l.fn.known) l.words)

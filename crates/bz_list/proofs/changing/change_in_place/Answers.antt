@@ -1,0 +1,35 @@
+use Rattle.std.proofs.Common.{◌≡◌, List, sym, ap, ◌∙◌, subst}
+use Rattle.std.specs.Prelude.{Ok, OnOk}
+use Rattle.bz_items.specs.Characters.{Bytes}
+use Rattle.bz_words.specs.declared.command.ValueOperation.{ValueOperation}
+use Rattle.bz_attribute.specs.Attributes.{Arguments}
+use Rattle.bz_list.specs.Changes.{add, in_attributes, in_value, replaced_item, substituted_item, values_changed}
+use Rattle.bz_list.proofs.changing.change_in_place.Goals as goal
+
+pub returns-in-Add-clause-ok : goal.returns-in-Add-clause-ok
+returns-in-Add-clause-ok c =
+    let xs = c.args.arguments.now in
+    let slot = c.new-slot.result in
+    subst (λ (made : Arguments). OnOk c.add_items.result (made ≡ Ok c.add_items.new.arguments))
+    (sym (ap (λ (operation : ValueOperation). values_changed operation c.args.current.now xs) c.in-Add.is
+    ∙ (ap (λ (current : Bytes). add current c.in-Add.attribute c.in-Add.values xs) (sym c.new-slot.ensures.current)
+    ∙ (ap (λ (name : Bytes). add slot.current.now name c.in-Add.values xs) (sym (c.new-slot.ensures.attribute ∙ c.as_slice.ensures))
+    ∙ ap (λ (words : List Bytes). add slot.current.now slot.attribute.now words xs) (sym c.as_slice-in-Add.ensures)))))
+    c.add_items.ensures.ok
+
+pub returns-in_ok-on_attributes-in-Replace-clause-ok : goal.returns-in_ok-on_attributes-in-Replace-clause-ok
+returns-in_ok-on_attributes-in-Replace-clause-ok c =
+    let current = c.args.current.now in
+    let xs = c.args.arguments.now in
+    ap (λ (operation : ValueOperation). values_changed operation current xs) c.in-Replace.is
+    ∙ ap Ok (sym (c.in_ok-on_attributes-in-Replace.ensures
+    ∙ (ap (λ (old : Bytes). in_attributes c.in-Replace.attributes (λ name. in_value (replaced_item current name old c.as_slice-new.result.now)) xs) c.as_slice-old.ensures
+    ∙ ap (λ (new : Bytes). in_attributes c.in-Replace.attributes (λ name. in_value (replaced_item current name c.in-Replace.old new)) xs) c.as_slice-new.ensures)))
+
+pub returns-in_ok-on_attributes-in-Substitute-clause-ok : goal.returns-in_ok-on_attributes-in-Substitute-clause-ok
+returns-in_ok-on_attributes-in-Substitute-clause-ok c =
+    let current = c.args.current.now in
+    let xs = c.args.arguments.now in
+    ap (λ (operation : ValueOperation). values_changed operation current xs) c.in-Substitute.is
+    ∙ ap Ok (sym (c.in_ok-on_attributes-in-Substitute.ensures
+    ∙ ap (λ (template : Bytes). in_attributes c.in-Substitute.attributes (λ name. in_value (substituted_item current name c.in-Substitute.pattern template)) xs) c.as_slice-template.ensures))

@@ -1,6 +1,0 @@
-use Rattle.std.proofs.Common.{◌≡◌, ◌++◌, map, take, drop}
-use Rattle.bz_list.specs.Replacing.{other_changed_by}
-use Rattle.bz_list.proofs.replacing.change_in_all.Given as goal
-
-abbrev pub invariant-loop-x : goal.invariant-loop-x
-invariant-loop-x l = take l.x-index l.x-items ++ map (other_changed_by l.fn.change) (drop l.x-index l.x-items) ≡ map (other_changed_by l.fn.change) l.fn.arguments
