@@ -266,6 +266,7 @@ VERSIONS = {
     b"zjournal 9\n": 71, b"\xff\n": 71, b"bzjournal 9": 71,
 }  # fmt: skip
 NAMES = {71: b"Damaged (71)", 72: b"Version (72)", 73: b"Stale (73)"}
+STALE_HINT = "buildozer: the file changed since the last run with --journal: restore it, or delete %s.journal to begin a new history\n"
 
 # Promises of much with nothing behind them, each in a journal of the root package over the text of a 2.
 FRONT = b"bzjournal 2\npackage 0 \ntext 6\n" + TWO + b"\nsteps 1 now 1 before 0\ndigest " + digest(ONE) + b"\ndigest " + digest(TWO) + b"\n"
@@ -336,8 +337,9 @@ def see_refused(w, cases, names):
     files = w.left()
     status, out, err = w.ended(["-k", "--journal", "-f", "lines"], b"")
     wanted = [f"{name}.journal: ".encode() + NAMES[case.number] for name, case in zip(names, cases)]
+    hints = [(STALE_HINT % name).encode().splitlines() if case.number == 73 else [] for name, case in zip(names, cases)]
     lines = err.splitlines()
-    if (status, out, lines) != (2, b"", wanted):
+    if (status, out, lines) != (2, b"", [line for first, rest in zip(wanted, hints) for line in [first, *rest]]):
         w.wrong += [f"status {status}, output {out[:200]}"] if (status, out) != (2, b"") else []
         others = [f"{case.name}: not {line}" for case, line in zip(cases, wanted) if line not in lines]
         w.wrong += others[:5] + [f"of {len(cases)} are told otherwise: {len(others)}", f"errors {err[:300]}"]
@@ -488,7 +490,7 @@ ADDED = {P: EVEN, KEPT: spelled(SAVED_ADD)}
 BACK = {P: ODD, KEPT: spelled(SAVED_BACK)}
 LISTED = {cursor: listing([ODD, EVEN], cursor, [ADD]) for cursor in (0, 1)}
 UNWRITTEN = b"p/BUILD: cannot write\n"
-DAMAGED, STALE = b"p/BUILD.journal: Damaged (71)\n", b"p/BUILD.journal: Stale (73)\n"
+DAMAGED, STALE = b"p/BUILD.journal: Damaged (71)\n", b"p/BUILD.journal: Stale (73)\n" + (STALE_HINT % P).encode()
 TOO_FAR = b"buildozer: p/BUILD: %s: TooFar (61)\n"
 # the journal of three texts, of which the present one is the last
 THREE = Journal(b"p", [b"x = 0\n", ONE, TWO], 2, 1, [Step([edit(*VALUE, digits(b"0"))], b"a"), Step([edit(*VALUE, digits(b"1"))], b"b")])

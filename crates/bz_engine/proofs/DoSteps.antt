@@ -7,9 +7,9 @@ use Rattle.std.proofs.lemmas.List.{append-nil}
 use Rattle.bz_items.specs.Characters.{Bytes}
 use Rattle.bz_files.specs.Folder.{Folder}
 use Rattle.bz_workspace.specs.Packages.{Opened, Used, file_at, with_opened}
-use Rattle.bz_workspace.specs.Sessions.{Action, Reply, Printed, listing}
-use Rattle.bz_engine.specs.Keeping.{AnswersBeside, DoesBeside, UsesBeside, file_behind}
-use Rattle.bz_engine.specs.Run.{Answers, Does, LeadsBy, Progress, Uses, World, answered}
+use Rattle.bz_workspace.specs.Sessions.{Action, Answer, History, Leads, Reply, Printed, listing}
+use Rattle.bz_engine.specs.Keeping.{AnswersBeside, DoesBeside, FolderBehind, UsesBeside, file_behind, state_behind}
+use Rattle.bz_engine.specs.Run.{Answers, Does, LeadsBy, Progress, Uses, World, answered, told_of}
 use Rattle.bz_engine.specs.Steps.{RunStep, action_of}
 
 same_place : (found : Option Opened) (at place : ℕ) → Some at ≡ option_map (λ _. place) found → at ≡ place
@@ -117,4 +117,18 @@ listed_beside step place found file folder before after there none is =
       refl,
       is ∙ ap (λ (f : Opened). record { used = with_opened place (Some f) before.used; printed = before.printed ++ listing file.history; failed = before.failed || false })
           (sym (file_still file reply)),
+    )
+
+pub acted_beside : (step : RunStep) (place : ℕ) (found : Option Opened) (file : Opened) (action : Action) (answer : Answer) (history : History) (folder folder' : Folder)
+    (before after : Progress) → found ≡ Some file → Some action ≡ action_of step.target step.asking.verb
+    → Leads action step.asking.text file.history answer history → FolderBehind answer file history folder folder' → after ≡ state_behind place file answer history before
+    → AnswersBeside step place found folder before (told_of file.name step.asking.text answer) folder' after
+acted_beside step place found file action answer history folder folder' before after there asked leads behind is =
+    subst (λ (f : Option Opened). AnswersBeside step place f folder before (told_of file.name step.asking.text answer) folder' after) (sym there) (
+      answer,
+      history,
+      subst (λ (a : Option Action). LeadsBy a step.asking.text file.history answer history) asked leads,
+      behind,
+      refl,
+      is,
     )

@@ -44,10 +44,10 @@ same_writes (file ∷ files) before before' after after' same (held, mid, done, 
 
 -- ---- steps that don't read standard input
 
-abbrev reads_input : RunStep → Bool
+abbrev pub reads_input : RunStep → Bool
 reads_input step = is_of_input step.target
 
-either_not : (a b : Bool) → a || b ≡ false → (a ≡ false) × (b ≡ false)
+pub either_not : (a b : Bool) → a || b ≡ false → (a ≡ false) × (b ≡ false)
 either_not true b is = absurd (cc is)
 either_not false b is = (refl, is)
 
@@ -136,5 +136,6 @@ same_performed one words bytes options steps world left other known performs per
       lines = same_as words world left.lines other.lines (performs.told ++ fixed_lines options.quiet files) (performs'.told ++ fixed_lines options.quiet files) performs.lines lines
           (same_append words world performs.told performs'.told (fixed_lines options.quiet files) (fixed_lines options.quiet files) same.0
           (same_lines words world (fixed_lines options.quiet files) (fixed_lines options.quiet files) refl));
-      folder = same_writes files world.folder world.folder left.folder other.folder (λ name aside. refl) performs.writes writes;
+      folder = λ name open_is. same_writes files world.folder world.folder left.folder other.folder (λ name aside. refl) performs.writes writes name
+          (λ aside. open_is (inl aside));
     }

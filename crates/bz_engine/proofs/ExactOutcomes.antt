@@ -1,29 +1,31 @@
 -- Words, standard input and a folder have at most one outcome.
 use Rattle.std.proofs.Common.{◌≡◌, ◌⊎◌, ◌&&◌, ℕ, List, [], ◌∷◌, length, bytes_eq, Option, Some, None, Result, Ok, Err, IfOk, Bool, true, false, true≢false, inl, inr, refl, sym, ap, subst, ◌∙◌, arith}
 use Rattle.std.specs.FinMap.{get}
+use Rattle.std.specs.List.{list_any}
 use Rattle.std.specs.Str.{IsUtf8, IsValidUpTo}
 use Rattle.std.proofs.Math.Seq.{take-length}
 use Rattle.std.proofs.lemmas.Bool.{cases_lt}
 use Rattle.bz_lex.specs.declared.fault.ReadFault.TheVariants.{NotUtf8}
 use Rattle.bz_tree.specs.Laws.{OneReading}
 use Rattle.bz_items.specs.Characters.{Bytes}
+use Rattle.bz_keep.specs.Pair.{journal_name}
 use Rattle.bz_line.specs.Asked.{Asked, Refused, Usage, of_operand, operand_group}
 use Rattle.bz_line.specs.Line.{Given, operands, script, LineUsage, of_clap, beside_script, beside_stdout, CommandLine, command_line_of}
 use Rattle.bz_line.specs.Refused.{IsFirstFault}
 use Rattle.bz_line.specs.Script.{lines_in, script_of}
 use Rattle.bz_line.specs.declared.line.Options.{Options}
 use Rattle.bz_ports.specs.Told.{fault_line}
-use Rattle.bz_engine.specs.Ending.{Left, Performs}
-use Rattle.bz_engine.specs.Exact.{SameLeft, TellsPattern, GivenTellsPattern, IsToldPattern, OutcomesAreExact}
+use Rattle.bz_engine.specs.Ending.{Left}
+use Rattle.bz_engine.specs.Exact.{IsLeftOpen, SameLeft, TellsPattern, GivenTellsPattern, IsToldPattern, OutcomesAreExact}
 use Rattle.bz_engine.specs.Outcome.{unused, LinesLeave, IsScript, told_name, OperandsOutcome, LinesOutcome, TextOutcome, GivenOutcome, LineOutcome}
 use Rattle.bz_engine.specs.Run.{World}
 use Rattle.bz_engine.specs.Steps.{all_steps, names_input, input_package}
 use Rattle.bz_engine.specs.Told.{IsUsageLine, IsLineUsageLine, operand_line}
-use Rattle.bz_engine.proofs.ExactEnding.{no_steps, performed_unread, same_performed}
+use Rattle.bz_engine.proofs.ExactBeside.{same_kept}
+use Rattle.bz_engine.proofs.ExactEnding.{no_steps, performed_unread, reads_input, same_performed}
 use Rattle.bz_engine.proofs.ExactFaults.{group_fault, script_fault, one_usage_line}
 use Rattle.bz_engine.proofs.ExactLines.{same_lines, same_as}
 use Rattle.bz_engine.proofs.ExactSteps.{one_input}
-use Rattle.bz_engine.proofs.Outcomes.{plain_leaves}
 
 -- ---- what is left where nothing is done
 
@@ -32,7 +34,7 @@ same_left words world left other is = record {
   output = ap (λ (l : Left). l.output) is;
   status = ap (λ (l : Left). l.status) is;
   lines = same_lines words world left.lines other.lines (ap (λ (l : Left). l.lines) is);
-  folder = λ name aside. ap (λ (l : Left). get l.folder name) (sym is);
+  folder = λ name open_is. ap (λ (l : Left). get l.folder name) (sym is);
 }
 
 -- one line is told
@@ -68,19 +70,19 @@ same_decided words file Done (Err usage) world left other one decided decided' =
 -- ---- operands
 
 abbrev OperandsDone : Options → Asked → World → Left → Type 0
-OperandsDone options asked world left = Performs options (all_steps (asked ∷ [])) world left
+OperandsDone options asked world left = LinesLeave options (asked ∷ []) world left
 
 abbrev OperandsExact : Options → List Bytes → World → Left → Type 0
 OperandsExact options texts world left = Decided [] (OperandsDone options) (operand_group texts) world left
 
-operands_exact : (options : Options) (texts : List Bytes) (world : World) (left : Left) → options.journal ≡ false → OperandsOutcome options texts world left
+operands_exact : (options : Options) (texts : List Bytes) (world : World) (left : Left) → OperandsOutcome options texts world left
     → GivenTellsPattern (operands texts) world left ⊎ OperandsExact options texts world left
-operands_exact options texts world left plain (inl (usage, line, fault, told, none)) = elim (group_fault texts usage fault) [
+operands_exact options texts world left (inl (usage, line, fault, told, none)) = elim (group_fault texts usage fault) [
   | inl is ↦ inr (subst (λ (it : Result Asked Usage). Decided [] (OperandsDone options) it world left) (sym is) (line, told, none))
   | inr tells ↦ inl (tells.0, tells.2, (tells.3, told_pattern [] usage tells.0 world left line tells.1 told none))
 ]
-operands_exact options texts world left plain (inr (asked, is, leave)) =
-    inr (subst (λ (it : Result Asked Usage). Decided [] (OperandsDone options) it world left) (sym is) (plain_leaves options (asked ∷ []) world left plain leave))
+operands_exact options texts world left (inr (asked, is, leave)) =
+    inr (subst (λ (it : Result Asked Usage). Decided [] (OperandsDone options) it world left) (sym is) leave)
 
 -- ---- lines
 
@@ -96,24 +98,61 @@ one_valid text n m a b = elim (cases_lt n m) [
 not_whole : (text : Bytes) (n : ℕ) → IsUtf8 text → IsValidUpTo text n → ⊥
 not_whole text n whole valid = valid.longest (length text) valid.short (subst IsUtf8 (sym (take-length text)) whole)
 
+-- where no step reads standard input, what is left of it is the same to them
+lines_unread : (options : Options) (lines : List Asked) (world : World) (known : Option Bytes) (left : Left) → list_any reads_input (all_steps lines) ≡ false
+    → LinesLeave options lines (record world { known = known }) left → LinesLeave options lines world left
+lines_unread options lines world known left none (inl named) = inl named
+lines_unread options lines world known left none (inr (neither, inl (plain, performs))) =
+    inr (neither, inl (plain, performed_unread options (all_steps lines) world known left none performs))
+lines_unread options lines world known left none (inr (neither, inr (kept, performs))) = inr (
+  neither,
+  inr (
+    kept,
+    record {
+      told = performs.told;
+      state = performs.state;
+      runs = performs.runs;
+      output = performs.output;
+      lines = performs.lines;
+      status = performs.status;
+    },
+  ),
+)
+
 done_at : (options : Options) (of_input : Bool) (lines : List Asked) (world : World) (known : Option Bytes) (left : Left) → of_input && names_input lines ≡ false
-    → (of_input ≡ false → known ≡ world.known) → options.journal ≡ false → LinesLeave options lines (record world { known = known }) left
-    → Performs options (all_steps lines) world left
-done_at options true lines world known left none same plain leave =
-    performed_unread options (all_steps lines) world known left (no_steps lines none) (plain_leaves options lines (record world { known = known }) left plain leave)
-done_at options false lines world known left none same plain leave =
-    subst (λ (k : Option Bytes). Performs options (all_steps lines) (record world { known = k }) left) (same refl)
-    (plain_leaves options lines (record world { known = known }) left plain leave)
+    → (of_input ≡ false → known ≡ world.known) → LinesLeave options lines (record world { known = known }) left → LinesLeave options lines world left
+done_at options true lines world known left none same leave = lines_unread options lines world known left (no_steps lines none) leave
+done_at options false lines world known left none same leave =
+    subst (λ (k : Option Bytes). LinesLeave options lines (record world { known = k }) left) (same refl) leave
+
+-- where the words ask for journals, what these hold is left open
+abbrev OpensJournals : List Bytes → Options → Type 0
+OpensJournals words options = options.journal ≡ true → (file : Bytes) → IsLeftOpen words (journal_name file)
+
+same_leaves : OneReading → (words : List Bytes) (bytes : Bytes) (options : Options) (lines : List Asked) (world : World) (left other : Left)
+    → world.known ≡ Some bytes → OpensJournals words options → LinesLeave options lines world left → LinesLeave options lines world other → SameLeft words world left other
+same_leaves one words bytes options lines world left other known opens (inl (named, is)) (inl (named', is')) = same_left words world left other (is ∙ sym is')
+same_leaves one words bytes options lines world left other known opens (inl (named, is)) (inr (none, done)) = absurd (true≢false (sym named ∙ none))
+same_leaves one words bytes options lines world left other known opens (inr (none, done)) (inl (named, is)) = absurd (true≢false (sym named ∙ none))
+same_leaves one words bytes options lines world left other known opens (inr (none, inl (plain, performs))) (inr (none', inl (plain', performs'))) =
+    same_performed one words bytes options (all_steps lines) world left other known performs performs'
+same_leaves one words bytes options lines world left other known opens (inr (none, inl (plain, performs))) (inr (none', inr (kept, performs'))) =
+    absurd (true≢false (sym kept ∙ plain))
+same_leaves one words bytes options lines world left other known opens (inr (none, inr (kept, performs))) (inr (none', inl (plain, performs'))) =
+    absurd (true≢false (sym kept ∙ plain))
+same_leaves one words bytes options lines world left other known opens (inr (none, inr (kept, performs))) (inr (none', inr (kept', performs'))) =
+    same_kept one words options (all_steps lines) world left other
+    (no_steps lines (sym (ap (λ (b : Bool). b && names_input lines) kept) ∙ none)) (opens kept) performs performs'
 
 same_lines_done : OneReading → (words : List Bytes) (bytes : Bytes) (options : Options) (of_input : Bool) (lines : List Asked) (world : World) (left other : Left)
-    → world.known ≡ Some bytes → options.journal ≡ false → LinesOutcome options of_input lines world left → LinesOutcome options of_input lines world other → SameLeft words world left other
+    → world.known ≡ Some bytes → OpensJournals words options → LinesOutcome options of_input lines world left → LinesOutcome options of_input lines world other → SameLeft words world left other
 same_lines_done one words bytes options of_input lines world left other known plain (inl (named, is)) (inl (named', is')) =
     same_left words world left other (is ∙ sym is')
 same_lines_done one words bytes options of_input lines world left other known plain (inl (named, is)) (inr (none, done)) = absurd (true≢false (sym named ∙ none))
 same_lines_done one words bytes options of_input lines world left other known plain (inr (none, done)) (inl (named, is)) = absurd (true≢false (sym named ∙ none))
 same_lines_done one words bytes options of_input lines world left other known plain (inr (none, (left_over, same, performs))) (inr (none', (left_over', same', performs'))) =
-    same_performed one words bytes options (all_steps lines) world left other known (done_at options of_input lines world left_over left none same plain performs)
-    (done_at options of_input lines world left_over' other none' same' plain performs')
+    same_leaves one words bytes options lines world left other known plain (done_at options of_input lines world left_over left none same performs)
+    (done_at options of_input lines world left_over' other none' same' performs')
 
 abbrev TextDecided : Options → Bytes → Bytes → World → Left → Type 0
 TextDecided options name text world left = Decided (told_name name) (LinesOutcome options (bytes_eq name input_package)) (script_of text) world left
@@ -142,7 +181,7 @@ text_exact options name text world left (inr (inr (whole, (lines, is, done)))) =
 ))
 
 same_text : OneReading → (words : List Bytes) (bytes : Bytes) (options : Options) (name text : Bytes) (world : World) (left other : Left)
-    → world.known ≡ Some bytes → options.journal ≡ false → TextExact options name text world left → TextExact options name text world other → SameLeft words world left other
+    → world.known ≡ Some bytes → OpensJournals words options → TextExact options name text world left → TextExact options name text world other → SameLeft words world left other
 same_text one words bytes options name text world left other known plain (inl (at, valid, is)) (inl (at', valid', is')) =
     same_left words world left other
     (is ∙ ap (λ (n : ℕ). unused world.folder (fault_line (told_name name) (NotUtf8 n))) (one_valid text at at' valid valid') ∙ sym is')
@@ -167,16 +206,16 @@ abbrev Exactly : List Bytes → Given → World → Left → Left → Type 0
 Exactly words given world left other = GivenTellsPattern given world left ⊎ GivenTellsPattern given world other ⊎ SameLeft words world left other
 
 exactly_operands : OneReading → (words : List Bytes) (bytes : Bytes) (options : Options) (texts : List Bytes) (world : World) (left other : Left)
-    → world.known ≡ Some bytes → GivenTellsPattern (operands texts) world left ⊎ OperandsExact options texts world left
+    → world.known ≡ Some bytes → OpensJournals words options → GivenTellsPattern (operands texts) world left ⊎ OperandsExact options texts world left
     → GivenTellsPattern (operands texts) world other ⊎ OperandsExact options texts world other → Exactly words (operands texts) world left other
-exactly_operands one words bytes options texts world left other known (inl tells) outcome = inl tells
-exactly_operands one words bytes options texts world left other known (inr exact) (inl tells) = inr (inl tells)
-exactly_operands one words bytes options texts world left other known (inr exact) (inr exact') =
+exactly_operands one words bytes options texts world left other known plain (inl tells) outcome = inl tells
+exactly_operands one words bytes options texts world left other known plain (inr exact) (inl tells) = inr (inl tells)
+exactly_operands one words bytes options texts world left other known plain (inr exact) (inr exact') =
     inr (inr (same_decided words [] (OperandsDone options) (operand_group texts) world left other
-    (λ asked l o done done'. same_performed one words bytes options (all_steps (asked ∷ [])) world l o known done done') exact exact'))
+    (λ asked l o done done'. same_leaves one words bytes options (asked ∷ []) world l o known plain done done') exact exact'))
 
 exactly_text : OneReading → (words : List Bytes) (bytes : Bytes) (options : Options) (name text : Bytes) (world : World) (left other : Left)
-    → world.known ≡ Some bytes → options.journal ≡ false → IsScript world name (Some text) → TextTells text world left ⊎ TextExact options name text world left
+    → world.known ≡ Some bytes → OpensJournals words options → IsScript world name (Some text) → TextTells text world left ⊎ TextExact options name text world left
     → TextTells text world other ⊎ TextExact options name text world other → Exactly words (script name) world left other
 exactly_text one words bytes options name text world left other known plain is (inl tells) outcome = inl (text, is, tells.0, tells.1, tells.2)
 exactly_text one words bytes options name text world left other known plain is (inr exact) (inl tells) = inr (inl (text, is, tells.0, tells.1, tells.2))
@@ -184,7 +223,7 @@ exactly_text one words bytes options name text world left other known plain is (
     inr (inr (same_text one words bytes options name text world left other known plain exact exact'))
 
 exactly_read : OneReading → (words : List Bytes) (bytes : Bytes) (options : Options) (name : Bytes) (text : Option Bytes) (world : World) (left other : Left)
-    → world.known ≡ Some bytes → options.journal ≡ false → IsScript world name text → TextOutcome options name text world left → TextOutcome options name text world other
+    → world.known ≡ Some bytes → OpensJournals words options → IsScript world name text → TextOutcome options name text world left → TextOutcome options name text world other
     → Exactly words (script name) world left other
 exactly_read one words bytes options name None world left other known plain is outcome outcome' =
     inr (inr (same_left words world left other (outcome ∙ sym outcome')))
@@ -193,10 +232,10 @@ exactly_read one words bytes options name (Some text) world left other known pla
     (text_exact options name text world other outcome')
 
 exactly_given : OneReading → (words : List Bytes) (bytes : Bytes) (options : Options) (given : Given) (world : World) (left other : Left)
-    → world.known ≡ Some bytes → options.journal ≡ false → GivenOutcome options given world left → GivenOutcome options given world other → Exactly words given world left other
+    → world.known ≡ Some bytes → OpensJournals words options → GivenOutcome options given world left → GivenOutcome options given world other → Exactly words given world left other
 exactly_given one words bytes options (operands texts) world left other known plain outcome outcome' =
-    exactly_operands one words bytes options texts world left other known (operands_exact options texts world left plain outcome)
-    (operands_exact options texts world other plain outcome')
+    exactly_operands one words bytes options texts world left other known plain (operands_exact options texts world left outcome)
+    (operands_exact options texts world other outcome')
 exactly_given one words bytes options (script name) world left other known plain (text, is, outcome) (text', is', outcome') =
     let here : TextOutcome options name text world other = subst (λ (it : Option Bytes). TextOutcome options name it world other)
     (sym (one_script world bytes name text text' known is is')) outcome' in
@@ -212,7 +251,7 @@ same_usage words of_clap world line line' left other claps told told' is is' = r
   output = ap (λ (l : Left). l.output) is ∙ sym (ap (λ (l : Left). l.output) is');
   status = ap (λ (l : Left). l.status) is ∙ sym (ap (λ (l : Left). l.status) is');
   lines = same_as words world left.lines other.lines (line ∷ []) (line' ∷ []) (ap (λ (l : Left). l.lines) is) (ap (λ (l : Left). l.lines) is') (inr (inr claps), tt);
-  folder = λ name aside. ap (λ (l : Left). get l.folder name) is' ∙ sym (ap (λ (l : Left). get l.folder name) is);
+  folder = λ name open_is. ap (λ (l : Left). get l.folder name) is' ∙ sym (ap (λ (l : Left). get l.folder name) is);
 }
 same_usage words beside_script world line line' left other claps told told' is is' =
     same_left words world left other (is ∙ ap (unused world.folder) (told ∙ sym told') ∙ sym is')
@@ -220,12 +259,12 @@ same_usage words beside_stdout world line line' left other claps told told' is i
     same_left words world left other (is ∙ ap (unused world.folder) (told ∙ sym told') ∙ sym is')
 
 exactly_line : OneReading → (words : List Bytes) (bytes : Bytes) (line : Result CommandLine LineUsage) (world : World) (left other : Left) → command_line_of words ≡ line
-    → IfOk line (λ whole. whole.options.journal ≡ false) → world.known ≡ Some bytes → LineOutcome line world left → LineOutcome line world other
+    → world.known ≡ Some bytes → LineOutcome line world left → LineOutcome line world other
     → TellsPattern words world left ⊎ TellsPattern words world other ⊎ SameLeft words world left other
-exactly_line one words bytes (Err usage) world left other says plain known (line, told, is) (line', told', is') =
+exactly_line one words bytes (Err usage) world left other says known (line, told, is) (line', told', is') =
     inr (inr (same_usage words usage world line line' left other says told told' is is'))
-exactly_line one words bytes (Ok line) world left other says plain known outcome outcome' =
-    elim (exactly_given one words bytes line.options line.given world left other known plain outcome outcome') [
+exactly_line one words bytes (Ok line) world left other says known outcome outcome' =
+    elim (exactly_given one words bytes line.options line.given world left other known (λ kept file. inr ((line, says, kept), (file, refl))) outcome outcome') [
       | inl tells ↦ inl (line, says, tells)
       | inr rest ↦ elim rest [
         | inl tells ↦ inr (inl (line, says, tells))
@@ -234,4 +273,4 @@ exactly_line one words bytes (Ok line) world left other says plain known outcome
     ]
 
 pub exact : OneReading → OutcomesAreExact
-exact one words world bytes left other plain known outcome outcome' = exactly_line one words bytes (command_line_of words) world left other refl plain known outcome outcome'
+exact one words world bytes left other known outcome outcome' = exactly_line one words bytes (command_line_of words) world left other refl known outcome outcome'

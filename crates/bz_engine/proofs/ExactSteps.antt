@@ -31,10 +31,10 @@ one_found world bytes current found found' known (inr (other, here)) (inl (is, i
 one_found world bytes current found found' known (inr (other, here)) (inr (other', here')) = here ∙ sym here'
 
 -- the same file, and the same lines
-abbrev TakesSame : List Bytes → World → Option Opened → Option Opened → List Bytes → List Bytes → Type 0
+abbrev pub TakesSame : List Bytes → World → Option Opened → Option Opened → List Bytes → List Bytes → Type 0
 TakesSame words world file file' lines lines' = (file ≡ file') × SameLines words world lines lines'
 
-same_taken : (words : List Bytes) (world : World) (current name text : Bytes) (file file' : Option Opened) (lines lines' : List Bytes)
+pub same_taken : (words : List Bytes) (world : World) (current name text : Bytes) (file file' : Option Opened) (lines lines' : List Bytes)
     → Finds world current (Some (name, text)) → Takes current name text file lines → Takes current name text file' lines'
     → TakesSame words world file file' lines lines'
 same_taken words world current name text file file' lines lines' found (inl (accepted, is, none)) (inl (accepted', is', none')) =
@@ -68,10 +68,10 @@ same_opened words world current None file file' lines lines' found opens opens' 
 same_opened words world current (Some there) file file' lines lines' found opens opens' =
     same_taken words world current there.0 there.1 file file' lines lines' found opens opens'
 
-one_place : (place place' : ℕ) (at : Option ℕ) → at ≡ Some place → at ≡ Some place' → place ≡ place'
+pub one_place : (place place' : ℕ) (at : Option ℕ) → at ≡ Some place → at ≡ Some place' → place ≡ place'
 one_place place place' at is is' = let same : ◌≡◌ {A = Option ℕ} (Some place) (Some place') = sym is ∙ is' in cc
 
-no_place : (place : ℕ) (at : Option ℕ) → at ≡ Some place → at ≡ None → ⊥
+pub no_place : (place : ℕ) (at : Option ℕ) → at ≡ Some place → at ≡ None → ⊥
 no_place place at is none = let same : ◌≡◌ {A = Option ℕ} (Some place) None = sym is ∙ none in absurd (cc)
 
 same_used : (words : List Bytes) (world : World) (bytes current : Bytes) (before : List Used) (place place' : ℕ) (lines lines' : List Bytes)

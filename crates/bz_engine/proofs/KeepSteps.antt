@@ -1,12 +1,13 @@
 -- What keeping a file and its journal does to the count of faults.
-use Rattle.std.proofs.Common.{◌≡◌, ◌⊎◌, ◌∙◌, ◌++◌, inl, inr, ℕ, List, Bool, true, Some, Ok, Err, sym, ap, subst}
+use Rattle.std.proofs.Common.{◌≡◌, ◌⊎◌, ◌∙◌, ◌++◌, inl, inr, ℕ, List, Bool, true, Some, Result, Ok, Err, sym, ap, subst}
 use Rattle.std.proofs.lemmas.Bool.Decides.{eqb_tells}
 use Rattle.bz_items.specs.Characters.{Bytes}
+use Rattle.bz_journal.specs.declared.keeping.KeepFault.{KeepFault}
 use Rattle.bz_journal.specs.declared.keeping.KeepFault.TheVariants.{Pair}
 use Rattle.bz_keep.specs.Resuming.{Holds}
-use Rattle.bz_workspace.specs.Keeps.{KeepsFile, after_keeping}
+use Rattle.bz_workspace.specs.Keeps.{KeepsAt, KeepsFile, after_keeping}
 use Rattle.bz_workspace.specs.Packages.{Opened, Used, with_opened}
-use Rattle.bz_workspace.specs.Sessions.{Reply, History, Answer, present}
+use Rattle.bz_workspace.specs.Sessions.{Action, Reply, History, Answer, present}
 use Rattle.bz_keep.specs.declared.fault.PairFault.{PairFault}
 use Rattle.bz_keep.specs.declared.fault.PairFault.TheVariants as f
 use Rattle.bz_ports.specs.declared.exit.Cut.{Cut}
@@ -81,3 +82,8 @@ works_more files cut later old mid new first then = record {
   counts = counts_more (files.faults old) (files.faults mid) (files.faults new) first.counts then.counts;
   honest = then.honest ∙ first.honest;
 }
+
+-- what is told behind it changes no package
+pub kept_by : {F : Type 0} (files : FilesOf F) (place : ℕ) (action : Action) (note : Bytes) (before : List Used) (answer : Result Reply KeepFault) (mid after : List Used)
+    (old new : F) → after ≡ mid → KeepsAt files place action note before answer mid old new → KeepsAt files place action note before answer after old new
+kept_by files place action note before answer mid after old new same = subst (λ (used : List Used). KeepsAt files place action note before answer used old new) (sym same)

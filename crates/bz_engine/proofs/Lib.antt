@@ -3,6 +3,7 @@ pub mod CutSteps
 pub mod DoSteps
 pub mod EndingSteps
 pub mod ExactActions
+pub mod ExactBeside
 pub mod ExactEnding
 pub mod ExactFaults
 pub mod ExactLines
@@ -10,11 +11,13 @@ pub mod ExactOutcomes
 pub mod ExactSteps
 pub mod InputSteps
 pub mod KeepSteps
+pub mod MomentSteps
 pub mod OpenSteps
 pub mod Outcomes
 pub mod Performing
 pub mod ReadSteps
 pub mod RunSteps
+pub mod SafeSteps
 pub mod StandSteps
 pub mod StepLists
 pub mod UnusedSteps

@@ -7,6 +7,8 @@ use Rattle.bz_tree.specs.Spell.{limit}
 use Rattle.bz_items.specs.Characters.{Bytes}
 use Rattle.bz_ports.specs.Told.{stdin}
 use Rattle.bz_workspace.specs.Found.{found_in}
+use Rattle.bz_files.specs.Folder.{Folder}
+use Rattle.bz_workspace.specs.Journals.{Adds, IsOpenedIn}
 use Rattle.bz_workspace.specs.Opens.{Opens, Takes}
 use Rattle.bz_workspace.specs.Packages.{Opened, Used, file_at, package_number, with_opened}
 use Rattle.bz_workspace.specs.declared.opening.Opening.{Opening}
@@ -140,3 +142,16 @@ pub uses_found : (world : World) (current : Bytes) (used new : List Used) (file 
     → new ≡ used ++ record { «package» = current; file = file } ∷ [] → Uses world current used (length used) lines new
 uses_found world current used new file lines other none opens added =
     inr (none, refl, (found_in world.folder current, file, inr (other, refl), opens, added))
+
+-- ---- what is opened, whatever comes
+
+file_more : (current : Bytes) (journals : Bool) (folder : Folder) (trusted : Bool) (file : Option Opened) → journals ≡ true → trusted ≡ true
+    → IfSome file (λ f. trusted ≡ true → IsOpenedIn journals folder current f) → IfSome file (IsOpenedIn true folder current)
+file_more current journals folder trusted None kept honest is = tt
+file_more current journals folder trusted (Some file) kept honest is = subst (λ (b : Bool). IsOpenedIn b folder current file) kept (is honest)
+
+pub adds_more : (current : Bytes) (journals : Bool) (folder : Folder) (number : Option ℕ) (before after : List Used) (trusted : Bool) → journals ≡ true → trusted ≡ true
+    → Adds current (λ f. trusted ≡ true → IsOpenedIn journals folder current f) number before after → Adds current (IsOpenedIn true folder current) number before after
+adds_more current journals folder number before after trusted kept honest (inl same) = inl same
+adds_more current journals folder number before after trusted kept honest (inr (file, is, at, opened)) =
+    inr (file, is, at, file_more current journals folder trusted file kept honest opened)

@@ -167,13 +167,6 @@ pub lines_premise : (honest journals : Bool) (lines : List Asked) → journals &
 lines_premise honest journals lines neither (inl is) = inl is
 lines_premise honest journals lines neither (inr named) = inr (not_both journals (names_input lines) neither named.1, named.0)
 
-pub plain_leaves : (options : Options) (lines : List Asked) (world : World) (left : Left) → options.journal ≡ false → LinesLeave options lines world left
-    → Performs options (all_steps lines) world left
-plain_leaves options lines world left plain (inl (named, is)) =
-    absurd (true≢false (sym named ∙ ap (λ (kept : Bool). kept && names_input lines) plain))
-plain_leaves options lines world left plain (inr (neither, inl (alone, performs))) = performs
-plain_leaves options lines world left plain (inr (neither, inr (kept, performs))) = absurd (true≢false (sym kept ∙ plain))
-
 -- ---- the text of a file of lines
 
 pub text_invalid : (options : Options) (name text told : Bytes) (world : World) (at at' : ℕ) (out : Option Bytes) (f g : ℕ) (old new : Option Bytes)

@@ -1,23 +1,26 @@
 -- What several parts of a run do, one after the other.
-use Rattle.std.proofs.Common.{◌≡◌, ◌⊎◌, ◌∙◌, ◌++◌, ◌∷◌, ◌+◌, ◌<◌, ◌≤◌, inl, inr, ℕ, List, [], length, get_or, drop, Option, Bool, true, false, refl, sym, ap, subst, arith, append_assoc}
+use Rattle.std.proofs.Common.{◌≡◌, ◌≢◌, ◌⊎◌, ◌∙◌, ◌++◌, ◌∷◌, ◌+◌, ◌<◌, ◌≤◌, inl, inr, ℕ, List, [], length, get_or, drop, Option, Bool, true, false, refl, sym, ap, subst, arith, append_assoc}
 use Rattle.std.specs.List.{All}
 use Rattle.std.proofs.lemmas.List.{append-nil, drop_all}
 use Rattle.std.proofs.lemmas.List.Elements.{All-get_or}
-use Rattle.bz_files.specs.Folder.{Folder}
+use Rattle.bz_files.specs.Folder.{Elapses, Folder}
+use Rattle.bz_files.proofs.Elapsing.{elapsed_on, stays}
 use Rattle.bz_ports.specs.Outputs.{Tells, Counts}
 use Rattle.bz_ports.specs.declared.exit.Cut.{Cut}
 use Rattle.bz_ports.specs.declared.exit.Cut.TheVariants as c
 use Rattle.bz_ports.proofs.Outputs.{counts_more, tells_more}
 use Rattle.bz_ports.proofs.Written.{left-cons}
-use Rattle.bz_engine.specs.Calls.{RunSpot, DoesBetween, ReadsNoInput, KeepsBetween, Proceeds}
+use Rattle.bz_engine.specs.Calls.{RunSpot, DoesBetween, ReadsNoInput, KeepsBetween, PassesSafely, Proceeds}
 use Rattle.bz_engine.specs.Cuts.{AreCutBy, IsLeft, ReadsOnce}
 use Rattle.bz_ports.specs.Exits.{first_cut}
 use Rattle.bz_engine.proofs.CutSteps.{cut_more, neither_read, whole_before, whole_behind}
 use Rattle.bz_engine.proofs.ReadSteps.{reads_none, reads_more}
 use Rattle.bz_engine.proofs.StandSteps.{runs_stand}
 use Rattle.bz_engine.specs.Keeping.{AllAreKept, DoesBeside, RunsBeside}
+use Rattle.bz_engine.specs.Moments.{AllAreSafe, IsMeanwhile, IsMomentOfSteps}
 use Rattle.bz_engine.specs.Run.{World, Progress, Does, RunsSteps, ends_run}
 use Rattle.bz_engine.specs.Steps.{RunStep}
+use Rattle.bz_workspace.specs.Packages.{Used}
 
 -- ---- steps
 
@@ -99,6 +102,25 @@ pub one_beside : (keep_going : Bool) (step : RunStep) (folder folder' : Folder) 
 one_beside keep_going step folder folder' state after lines on does =
     inr (on, (folder', after, lines, [], does, (refl, refl, refl), sym (append-nil lines)))
 
+-- ---- moments
+
+moment_here : (began : Folder) (steps : List RunStep) (used : List Used) (now : Folder) → IsMeanwhile began used used now → IsMomentOfSteps began steps used now
+moment_here began [] used now is = is
+moment_here began (step ∷ steps) used now is = (used, used, inl refl, inl refl, inl is)
+
+-- a moment of some steps is one of these and more
+moment_in_front : (began : Folder) (xs ys : List RunStep) (used : List Used) (now : Folder) → IsMomentOfSteps began xs used now
+    → IsMomentOfSteps began (xs ++ ys) used now
+moment_in_front began [] ys used now is = moment_here began ys used now is
+moment_in_front began (x ∷ xs) ys used now (mid, after, joins, moves, inl is) = (mid, after, joins, moves, inl is)
+moment_in_front began (x ∷ xs) ys used now (mid, after, joins, moves, inr is) = (mid, after, joins, moves, inr (moment_in_front began xs ys after now is))
+
+-- steps may do nothing
+moment_behind : (began : Folder) (xs ys : List RunStep) (used : List Used) (now : Folder) → IsMomentOfSteps began ys used now
+    → IsMomentOfSteps began (xs ++ ys) used now
+moment_behind began [] ys used now is = is
+moment_behind began (x ∷ xs) ys used now is = (used, used, inl refl, inl refl, inr (moment_behind began xs ys used now is))
+
 -- ---- parts of a run
 
 -- steps are run from one spot to another
@@ -120,12 +142,23 @@ Continues keep_going steps left old new = AllAreKept old.folder old.state.used �
     → RunsBeside keep_going steps old.folder old.state (lines ++ more) folder' after)
     × Tells old.faults new.faults old.told new.told lines
 
+-- Each open file is safe again, each folder is at a moment of the steps, and one at a moment of those that are left, and of further ones, is at
+-- one of all.
+abbrev pub SafeSoFar : List RunStep → List RunStep → RunSpot → RunSpot → Type 0
+SafeSoFar steps left old new = (began : Folder) → AllAreSafe old.folder old.state.used → IsMeanwhile began old.state.used old.state.used old.folder
+    → AllAreSafe new.folder new.state.used × IsMeanwhile began new.state.used new.state.used new.folder
+    × Elapses old.moment new.moment old.since new.since (IsMomentOfSteps began steps old.state.used)
+    × ((more : List RunStep) (now : Folder) → IsMomentOfSteps began (left ++ more) new.state.used now → IsMomentOfSteps began (steps ++ more) old.state.used now)
+
 -- What was done of steps, by whether journals are kept. (A premise besides honest files, and why they were cut.)
 pub record Part (journals : Bool) (Premise : Type 0) (keep_going : Bool) (steps left : List RunStep) (why : Cut) (old new : RunSpot) : Type 0 where
   pub runs : journals ≡ false → (old.honest ≡ true) ⊎ Premise → why ≡ c.Whole → Passes old.folder keep_going steps left old new
   pub folder : journals ≡ false → (old.honest ≡ true) ⊎ Premise → new.folder ≡ old.folder
   pub keeps : journals ≡ true → old.honest ≡ true → why ≡ c.Whole → Continues keep_going steps left old new
+  pub safely : journals ≡ true → old.honest ≡ true → SafeSoFar steps left old new
   pub unread : journals ≡ true → ReadsNoInput why old new
+  pub works : old.sound ≡ true → why ≢ c.Read
+  pub sound : new.sound ≡ old.sound
   pub cut : AreCutBy why old.reads new.reads old.files new.files
   pub reads : Counts old.reads new.reads
   pub counts : Counts old.files new.files
@@ -135,7 +168,7 @@ pub record Part (journals : Bool) (Premise : Type 0) (keep_going : Bool) (steps 
 -- steps are done
 abbrev pub Done : Bool → Type 0 → Bool → List RunStep → Cut → RunSpot → RunSpot → Type 0
 Done journals Premise keep_going steps why old new =
-    Proceeds journals Premise (λ world. RunsSteps world keep_going steps) (RunsBeside keep_going steps) why old new
+    Proceeds journals Premise steps (λ world. RunsSteps world keep_going steps) (RunsBeside keep_going steps) why old new
 
 counts_same : (count : ℕ) → Counts count count
 counts_same count = record { grows = omega arith; rises = inl refl }
@@ -146,7 +179,10 @@ part_none journals Premise keep_going steps spot = record {
   runs = λ plain honest whole known left. ([], (λ more after runs. runs), left, (refl, refl));
   folder = λ plain honest. refl;
   keeps = λ kept honest whole stand. ([], stand, (λ more folder' after runs. runs), (refl, refl));
+  safely = λ kept honest began all mean. (all, mean, stays spot.moment spot.since (IsMomentOfSteps began steps spot.state.used), (λ more now is. is));
   unread = λ kept. (refl, refl, (λ is. absurd (cc is)));
+  works = λ sound is. absurd (cc is);
+  sound = refl;
   cut = (refl, refl);
   reads = counts_same spot.reads;
   counts = counts_same spot.files;
@@ -183,6 +219,22 @@ continues_more keep_going steps left part rest old mid new split continues goes 
       tells_more old.faults mid.faults new.faults old.told mid.told new.told before.0 then.0 before.3 then.2,
     )
 
+safe_more : (steps left part rest : List RunStep) (old mid new : RunSpot) → left ≡ part ++ rest → SafeSoFar steps left old mid → PassesSafely part mid new
+    → SafeSoFar steps rest old new
+safe_more steps left part rest old mid new split before then began all mean =
+    let first = before began all mean in
+    let second = then began first.0 first.1 in (
+      second.0,
+      second.1,
+      elapsed_on old.moment mid.moment new.moment old.since mid.since new.since (IsMomentOfSteps began steps old.state.used)
+          (IsMomentOfSteps began part mid.state.used)
+          (λ now is. subst (λ (these : List RunStep). IsMomentOfSteps began these old.state.used now) (append-nil steps)
+          (first.3 [] now (subst (λ (these : List RunStep). IsMomentOfSteps began these mid.state.used now) (sym (append-nil left ∙ split))
+          (moment_in_front began part rest mid.state.used now is)))) first.2 second.2,
+      (λ more now is. first.3 more now (subst (λ (these : List RunStep). IsMomentOfSteps began (these ++ more) mid.state.used now) (sym split)
+          (subst (λ (these : List RunStep). IsMomentOfSteps began these mid.state.used now) (sym (append_assoc part rest more)) (second.3 (rest ++ more) now is)))),
+    )
+
 still : (Premise Now : Type 0) (honest honest' : Bool) → honest' ≡ honest → (Premise → Now) → (honest ≡ true) ⊎ Premise → (honest' ≡ true) ⊎ Now
 still Premise Now honest honest' same implies (inl is) = inl (same ∙ is)
 still Premise Now honest honest' same implies (inr holds) = inr (implies holds)
@@ -198,8 +250,11 @@ part_more journals Premise Now keep_going steps left part rest cut later old mid
   folder = λ plain honest. then.folder plain (still Premise Now old.honest mid.honest before.honest implies honest) ∙ before.folder plain honest;
   keeps = λ kept honest whole. continues_more keep_going steps left part rest old mid new split (before.keeps kept honest (whole_before cut later whole))
       (then.keeps kept (before.honest ∙ honest) (whole_behind cut later whole));
+  safely = λ kept honest. safe_more steps left part rest old mid new split (before.safely kept honest) (then.safely kept (before.honest ∙ honest));
   unread = λ kept. let first = before.unread kept in let more = then.unread kept in
       (more.0 ∙ first.0, more.1 ∙ first.1, neither_read cut later first.2 more.2);
+  works = λ sound. neither_read cut later (before.works sound) (then.works (before.sound ∙ sound));
+  sound = then.sound ∙ before.sound;
   cut = cut_more cut later old.reads mid.reads new.reads old.files mid.files new.files before.cut then.cut before.reads then.reads before.counts then.counts;
   reads = counts_more old.reads mid.reads new.reads before.reads then.reads;
   counts = counts_more old.files mid.files new.files before.counts then.counts;
@@ -229,6 +284,11 @@ continues_all keep_going steps left old new none continues stand =
       before.3,
     )
 
+safe_all : (steps left : List RunStep) (old new : RunSpot) → SafeSoFar steps left old new → PassesSafely steps old new
+safe_all steps left old new safe began all mean =
+    let done = safe began all mean in
+    (done.0, done.1, done.2, (λ rest now is. done.3 rest now (moment_behind began left rest new.state.used now is)))
+
 part_done : (journals : Bool) (Premise : Type 0) (keep_going : Bool) (steps left : List RunStep) (cut : Cut) (old new : RunSpot)
     → ((known : Option (List ℕ)) → RunsSteps (record { folder = old.folder; known = known }) keep_going left new.state [] new.state)
     → RunsBeside keep_going left new.folder new.state [] new.folder new.state
@@ -236,7 +296,10 @@ part_done : (journals : Bool) (Premise : Type 0) (keep_going : Bool) (steps left
 part_done journals Premise keep_going steps left cut old new none none' part = record {
   keeps = λ kept honest whole. continues_all keep_going steps left old new none' (part.keeps kept honest whole);
   does = λ plain honest whole. passes_all old.folder keep_going steps left old new none (part.runs plain honest whole);
+  safely = λ kept honest. safe_all steps left old new (part.safely kept honest);
   unread = part.unread;
+  works = part.works;
+  sound = part.sound;
   folder = part.folder;
   cut = part.cut;
   reads = part.reads;

@@ -20,11 +20,12 @@ use Rattle.bz_workspace.specs.Sessions.{Action, Do, Format, Undo, Redo, Reply, C
 use Rattle.bz_engine.specs.Keeping.{AllAreKept, AnswersBeside, DoesBeside, FolderBehind, IsApart, RunsBeside, IsKeptIn, UsesBeside, file_behind}
 use Rattle.bz_engine.specs.Run.{LeadsBy, Progress}
 use Rattle.bz_engine.specs.Steps.{RunStep, action_of}
+use Rattle.bz_workspace.proofs.HeldSteps.{stands_text}
 use Rattle.bz_workspace.proofs.NameSteps.{apart as packages_apart}
 
 -- ---- packages
 
-found_holds : (folder : Folder) (current name text : Bytes) → found_in folder current ≡ Some (name, text)
+pub found_holds : (folder : Folder) (current name text : Bytes) → found_in folder current ≡ Some (name, text)
     → IsNameOf current name × (get folder name ≡ Some text)
 found_holds folder current name text is = go (get folder (first_name current)) (get folder (second_name current)) refl refl is
   where
@@ -41,27 +42,27 @@ found_holds folder current name text is = go (get folder (first_name current)) (
         (inr (sym named), ap (get folder) (sym named) ∙ second ∙ ap Some holds)
     go None None first second is = absurd (cc is)
 
-not_here : (b : Bool) (found : Option ℕ) → (if b then Some 0 else option_map (λ place. place + 1) found) ≡ None → b ≡ true → ⊥
+pub not_here : (b : Bool) (found : Option ℕ) → (if b then Some 0 else option_map (λ place. place + 1) found) ≡ None → b ≡ true → ⊥
 not_here true found none is = let e = none in absurd (cc e)
 not_here false found none is = true≢false (sym is)
 
-not_behind : (b : Bool) (found : Option ℕ) → (if b then Some 0 else option_map (λ place. place + 1) found) ≡ None → found ≡ None
+pub not_behind : (b : Bool) (found : Option ℕ) → (if b then Some 0 else option_map (λ place. place + 1) found) ≡ None → found ≡ None
 not_behind true found none = let e = none in absurd (cc e)
 not_behind false None none = refl
 not_behind false (Some place) none = let e = none in absurd (cc e)
 
-apart_from : (current : Bytes) (used : List Used) → package_number current used ≡ None → IsApart current used
+pub apart_from : (current : Bytes) (used : List Used) → package_number current used ≡ None → IsApart current used
 apart_from current [] none = tt
 apart_from current (used ∷ more) none = (
   (λ is. not_here (bytes_eq used.«package» current) (package_number current more) none ((bytes_eq-Decides used.«package» current).1 is)),
   apart_from current more (not_behind (bytes_eq used.«package» current) (package_number current more) none),
 )
 
-apart_last : (current : Bytes) (used : List Used) (one : Used) → IsApart current used → one.«package» ≢ current → IsApart current (used ++ one ∷ [])
+pub apart_last : (current : Bytes) (used : List Used) (one : Used) → IsApart current used → one.«package» ≢ current → IsApart current (used ++ one ∷ [])
 apart_last current [] one apart other = (other, tt)
 apart_last current (used ∷ more) one apart other = (apart.0, apart_last current more one apart.1 other)
 
-apart_kept : (current : Bytes) (place : ℕ) (file : Option Opened) (used : List Used) → IsApart current used → IsApart current (with_opened place file used)
+pub apart_kept : (current : Bytes) (place : ℕ) (file : Option Opened) (used : List Used) → IsApart current used → IsApart current (with_opened place file used)
 apart_kept current place file [] apart = tt
 apart_kept current zero file (used ∷ more) apart = apart
 apart_kept current (suc place) file (used ∷ more) apart = (apart.0, apart_kept current place file more apart.1)
@@ -129,7 +130,7 @@ follows_by (Some action) note h after answer leads = follows action note h after
 -- ---- a file that holds its present text
 
 -- what tells the texts of a file stays where its journal does
-told_still : (old now : Folder) (name current text : Bytes) (texts : List Bytes) → get now (journal_name name) ≡ get old (journal_name name)
+pub told_still : (old now : Folder) (name current text : Bytes) (texts : List Bytes) → get now (journal_name name) ≡ get old (journal_name name)
     → IsToldBy old name current text texts → IsToldBy now name current text texts
 told_still old now name current text texts same (inl (none, alone)) = inl (same ∙ none, alone)
 told_still old now name current text texts same (inr (bytes, h, es, place, there, tells, of, is, at)) =
@@ -174,7 +175,7 @@ stands_behind (Err refusal) current file history folder folder' follows behind s
   holds = goes_on_behind (Err refusal) file history folder folder' follows behind stands.holds;
 }
 
-others_behind : (answer : Answer) (file : Opened) (history : History) (folder folder' : Folder) → FolderBehind answer file history folder folder'
+pub others_behind : (answer : Answer) (file : Opened) (history : History) (folder folder' : Folder) → FolderBehind answer file history folder folder'
     → OthersStay file.name folder folder'
 others_behind (Ok reply) file history folder folder' (inl (at, still)) = λ name a b c d. ap (λ (f : Folder). get f name) still
 others_behind (Ok reply) file history folder folder' (inr (moved, pair)) = pair.others
@@ -243,21 +244,6 @@ all_behind answer (suc place) (used ∷ more) file history folder folder' at fol
 
 -- ---- a package that is opened
 
-some_same : (one other : ℕ) → ◌≡◌ {A = Option ℕ} (Some one) (Some other) → one ≡ other
-some_same one other e = cc
-
--- where a history stands for a text it has that text
-stands_text : (h : History) (text : Bytes) (at : ℕ) → stands h text ≡ Some at → text_at h at ≡ text
-stands_text h text at is = go (bytes_eq text (text_at h h.cursor)) (bytes_eq text (text_at h h.before)) refl refl is
-  where
-    go : (one two : Bool) → bytes_eq text (text_at h h.cursor) ≡ one → bytes_eq text (text_at h h.before) ≡ two
-        → (if one then Some h.cursor else (if two then Some h.before else None)) ≡ Some at → text_at h at ≡ text
-    go true two here there is =
-        ap (text_at h) (sym (some_same h.cursor at is)) ∙ sym ((bytes_eq-Decides text (text_at h h.cursor)).0 here)
-    go false true here there is =
-        ap (text_at h) (sym (some_same h.before at is)) ∙ sym ((bytes_eq-Decides text (text_at h h.before)).0 there)
-    go false false here there is = absurd (let e = is in cc)
-
 given_stands : (folder : Folder) (current name text bytes : Bytes) (given : Result History ResumeFault) → IsNameOf current name → get folder name ≡ Some text
     → get folder (journal_name name) ≡ Some bytes → JournalGives current bytes text given → IfSome (file_of_journal name text given) (IsKeptIn folder current)
 given_stands folder current name text bytes (Err fault) named there beside comes = tt
@@ -272,7 +258,7 @@ given_stands folder current name text bytes (Ok history) named there beside (h, 
       holds = subst (GoesOn folder name) (sym is) goes;
     }
 
-takes_stand : (folder : Folder) (current name text : Bytes) (journal : Option Bytes) (file : Option Opened) (lines : List Bytes) → IsNameOf current name
+pub takes_stand : (folder : Folder) (current name text : Bytes) (journal : Option Bytes) (file : Option Opened) (lines : List Bytes) → IsNameOf current name
     → get folder name ≡ Some text → get folder (journal_name name) ≡ journal → TakesBeside journal current name text file lines
     → IfSome file (IsKeptIn folder current)
 takes_stand folder current name text None file lines named there beside (inl opens) =

@@ -1,6 +1,7 @@
 -- What a call does to the ports of a run. Each relation takes the ghost members of a port's bound, which a clause writes `R.Source`,
 -- `W.Sink`, `E.Sink` or `F.Files`, and the port before and after.
-use Rattle.std.specs.Prelude.{◌≡◌, ◌≢◌, ◌⊎◌, ℕ, List, Option, Bool, true, false}
+use Rattle.std.specs.Prelude.{◌≡◌, ◌≢◌, ◌⊎◌, ◌++◌, ℕ, List, Option, Some, None, Result, Bool, true, false}
+use Rattle.std.specs.Option.{option_map}
 use Rattle.std.specs.Io.KnownBytes.{Appends}
 use Rattle.bz_items.specs.Characters.{Bytes}
 use Rattle.bz_files.specs.Folder.{Folder, Elapses}
@@ -11,11 +12,18 @@ use Rattle.bz_ports.specs.declared.exit.Cut.{Cut}
 use Rattle.bz_ports.specs.declared.exit.Cut.TheVariants as c
 use Rattle.bz_ports.specs.declared.sink.Sink.{Ghosts as SinkOf}
 use Rattle.bz_ports.specs.declared.source.Source.{Ghosts as SourceOf}
+use Rattle.bz_journal.specs.declared.keeping.KeepFault.{KeepFault}
+use Rattle.bz_workspace.specs.Journals.{Adds, IsOpenedIn}
+use Rattle.bz_workspace.specs.Keeps.{KeepsAt}
+use Rattle.bz_workspace.specs.Packages.{Used, file_at, package_number}
+use Rattle.bz_workspace.specs.Sessions.{Action, Reply}
 use Rattle.bz_engine.specs.Cuts.{AreCutBy, IsEndedBy, IsLeft, CutsFiles, ReadsOnce}
 use Rattle.bz_engine.specs.Ending.{Left, LeftStands}
-use Rattle.bz_engine.specs.Keeping.{AllAreKept}
+use Rattle.bz_engine.specs.Keeping.{AllAreKept, is_left_at}
+use Rattle.bz_engine.specs.Moments.{AllAreSafe, IsMeanwhile, IsMomentOfSteps}
 use Rattle.bz_engine.specs.Run.{World, Progress}
 use Rattle.bz_engine.specs.Shown.{progress_in}
+use Rattle.bz_engine.specs.Steps.{RunStep, action_of}
 use Rattle.bz_engine.specs.declared.run.Run.{Run}
 
 -- ---- standard error
@@ -48,9 +56,9 @@ world_with files held known = record { folder = files.folder held; known = known
 abbrev pub world_of : {R F : Type 0} → SourceOf R → FilesOf F → R → F → World
 world_of source files input held = world_with files held (source.remaining input)
 
--- A folder of honest files was the same at each moment of the call.
-abbrev pub KeepsFolder : {F : Type 0} → FilesOf F → F → F → Type 0
-KeepsFolder files old new = Elapses (files.moment old) (files.moment new) (files.since old) (files.since new) (λ now. now ≡ files.folder old)
+-- Each folder since the beginning of the call, but those that stood there, has P.
+abbrev pub PassesBy : {F : Type 0} → FilesOf F → (Folder → Type 0) → F → F → Type 0
+PassesBy files P old new = Elapses (files.moment old) (files.moment new) (files.since old) (files.since new) P
 
 -- Nothing is read of standard input, and it has not failed.
 abbrev pub IsStill : {R : Type 0} → SourceOf R → R → R → Type 0
@@ -79,12 +87,31 @@ pub record WorksOn {F : Type 0} (files : FilesOf F) (why : Cut) (old new : F) : 
 
 -- ---- steps
 
+-- A package is opened where it is used first, whatever comes. (The folder, and the number of the package where its file is open.)
+abbrev pub UsesSome : Folder → Bytes → Option ℕ → List Used → List Used → Type 0
+UsesSome folder current number before after =
+    ((place : ℕ) × (package_number current before ≡ Some place) × (after ≡ before) × (number ≡ option_map (λ _. place) (file_at place before)))
+    ⊎ ((package_number current before ≡ None) × Adds current (IsOpenedIn true folder current) number before after)
+
+-- An action with a note is done in the open file of the package with this number, and kept there or not.
+abbrev pub KeepsSome : {F : Type 0} → FilesOf F → ℕ → Action → Bytes → List Used → List Used → F → F → Type 0
+KeepsSome files place action note before after old new = (answer : Result Reply KeepFault) × KeepsAt files place action note before answer after old new
+
+-- What a step does in an open file, whatever comes: nothing; or its action is done there, and kept or not.
+abbrev pub KeepsStep : {F : Type 0} → FilesOf F → RunStep → ℕ → List Used → List Used → F → F → Type 0
+KeepsStep files step place before after old new = ((after ≡ before) × (new ≡ old))
+    ⊎ ((is_left_at place before ≡ false) × ((action : Action) × (action_of step.target step.asking.verb ≡ Some action)
+    × KeepsSome files place action step.asking.text before after old new))
+
 -- Where a run stands: how far it has come, what is left of standard input, the files, and standard error. (Of each, the count of faults.)
-pub record RunSpot : Type 0 where
+pub record RunSpot : Type 1 where
   pub state : Progress
   pub left : Option Bytes
   pub reads : ℕ
+  pub sound : Bool
   pub folder : Folder
+  pub moment : ℕ
+  pub since : ℕ → Folder → Type 0
   pub honest : Bool
   pub files : ℕ
   pub told : Option Bytes
@@ -95,7 +122,10 @@ spot source files errors run input held err = record {
   state = progress_in run;
   left = source.remaining input;
   reads = source.faults input;
+  sound = source.sound input;
   folder = files.folder held;
+  moment = files.moment held;
+  since = files.since held;
   honest = files.honest held;
   files = files.faults held;
   told = errors.contents err;
@@ -120,15 +150,27 @@ KeepsBetween Keeps old new = AllAreKept old.folder old.state.used → (lines : L
     × Keeps old.folder old.state lines new.folder new.state
     × Tells old.faults new.faults old.told new.told lines
 
--- What a run does from one spot to another, without journals or with them, and why it is cut. Where files are not honest the premise is
+-- From one spot to another of a run that began with any folder: where each open file was safe each one is again, each folder is at a
+-- moment of these steps, and one that is at a moment of further steps behind them is at one of all.
+abbrev pub PassesSafely : List RunStep → RunSpot → RunSpot → Type 0
+PassesSafely steps old new = (began : Folder) → AllAreSafe old.folder old.state.used → IsMeanwhile began old.state.used old.state.used old.folder
+    → AllAreSafe new.folder new.state.used × IsMeanwhile began new.state.used new.state.used new.folder
+    × Elapses old.moment new.moment old.since new.since (IsMomentOfSteps began steps old.state.used)
+    × ((rest : List RunStep) (now : Folder) → IsMomentOfSteps began rest new.state.used now
+    → IsMomentOfSteps began (steps ++ rest) old.state.used now)
+
+-- What a run does from one spot to another by these steps, without journals or with them, and why it is cut. Where files are not honest the premise is
 -- that only standard input is used. With journals standard input isn't read.
-pub record Proceeds (journals : Bool) (Premise : Type 0) (Does : World → Progress → List Bytes → Progress → Type 0)
+pub record Proceeds (journals : Bool) (Premise : Type 0) (steps : List RunStep) (Does : World → Progress → List Bytes → Progress → Type 0)
     (Keeps : Folder → Progress → List Bytes → Folder → Progress → Type 0) (why : Cut) (old new : RunSpot) : Type 0 where
   pub does : journals ≡ false → (old.honest ≡ true) ⊎ Premise → why ≡ c.Whole → DoesBetween old.folder Does old new
   pub folder : journals ≡ false → (old.honest ≡ true) ⊎ Premise → new.folder ≡ old.folder
   pub input : journals ≡ false → Premise → ReadsOnce why old.state new.state
   pub keeps : journals ≡ true → old.honest ≡ true → why ≡ c.Whole → KeepsBetween Keeps old new
+  pub safely : journals ≡ true → old.honest ≡ true → PassesSafely steps old new
   pub unread : journals ≡ true → ReadsNoInput why old new
+  pub works : old.sound ≡ true → why ≢ c.Read
+  pub sound : new.sound ≡ old.sound
   pub cut : AreCutBy why old.reads new.reads old.files new.files
   pub reads : Counts old.reads new.reads
   pub counts : Counts old.files new.files

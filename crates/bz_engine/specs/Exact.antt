@@ -1,18 +1,19 @@
 -- Words, standard input and a folder have at most one outcome, but for what is left open: clap's text, which fault of a text that
--- can't be read is told, names that end in `.bznew`, and whether `regex` takes a pattern.
-use Rattle.std.specs.Prelude.{◌≡◌, ◌⊎◌, List, [], ◌∷◌, Some, Ok, Err}
+-- can't be read is told, names that end in `.bznew`, the bytes of journals, and whether `regex` takes a pattern.
+use Rattle.std.specs.Prelude.{◌≡◌, ◌⊎◌, true, List, [], ◌∷◌, Some, Ok, Err}
 use Rattle.bz_lex.specs.declared.fault.ReadFault.{ReadFault}
 use Rattle.bz_tree.specs.Legal.{Accepted}
 use Rattle.bz_items.specs.Characters.{Bytes}
-use Rattle.bz_files.specs.Folder.{SameFolders}
+use Rattle.bz_files.specs.Folder.{IsAside, SameBut}
 use Rattle.bz_tree.specs.Faults.{IsFaultOf}
+use Rattle.bz_keep.specs.Pair.{journal_name}
 use Rattle.bz_line.specs.Asked.{Refused, of_operand}
 use Rattle.bz_line.specs.Line.{Given, operands, script, CommandLine, of_clap, command_line_of}
 use Rattle.bz_line.specs.Refused.{IsPatternFault, IsFirstRefused, IsFirstFault}
 use Rattle.bz_line.specs.Script.{lines_in}
 use Rattle.bz_ports.specs.Told.{fault_line}
 use Rattle.bz_engine.specs.Ending.{Left}
-use Rattle.bz_engine.specs.Outcome.{KeepsNoJournal, WordsOutcome, IsScript, unused}
+use Rattle.bz_engine.specs.Outcome.{WordsOutcome, IsScript, unused}
 use Rattle.bz_engine.specs.Run.{World, Finds}
 use Rattle.bz_engine.specs.Told.{operand_line}
 
@@ -49,12 +50,17 @@ SameLines words world (line ∷ lines) (other ∷ others) = SameLine words world
 
 -- ---- outcomes
 
--- The same output, status and lines, and the same folder, names that end in `.bznew` set aside.
+-- What a file of this name holds is left open: the name is set aside, or is that of a journal and the words ask for journals.
+abbrev pub IsLeftOpen : List Bytes → Bytes → Type 0
+IsLeftOpen words name = IsAside name
+    ⊎ (((line : CommandLine) × (command_line_of words ≡ Ok line) × (line.options.journal ≡ true)) × ((file : Bytes) × (name ≡ journal_name file)))
+
+-- The same output, status and lines, and the same folder, but for names that are left open.
 pub record SameLeft (words : List Bytes) (world : World) (left other : Left) : Type 0 where
   pub output : left.output ≡ other.output
   pub status : left.status ≡ other.status
   pub lines : SameLines words world left.lines other.lines
-  pub folder : SameFolders left.folder other.folder
+  pub folder : SameBut (IsLeftOpen words) left.folder other.folder
 
 -- Nothing is done, and the pattern of this operand is told as one that `regex` refuses.
 abbrev pub IsToldPattern : Refused → World → Left → Type 0
@@ -69,7 +75,7 @@ GivenTellsPattern (script name) world left =
 abbrev pub TellsPattern : List Bytes → World → Left → Type 0
 TellsPattern words world left = (line : CommandLine) × (command_line_of words ≡ Ok line) × GivenTellsPattern line.given world left
 
--- Two outcomes of words that don't ask for journals are the same, unless one of them is that a pattern is refused.
+-- Two outcomes of words are the same, unless one of them is that a pattern is refused.
 abbrev pub OutcomesAreExact : Type 0
-OutcomesAreExact = (words : List Bytes) (world : World) (bytes : Bytes) (left other : Left) → KeepsNoJournal words → world.known ≡ Some bytes → WordsOutcome words world left
+OutcomesAreExact = (words : List Bytes) (world : World) (bytes : Bytes) (left other : Left) → world.known ≡ Some bytes → WordsOutcome words world left
     → WordsOutcome words world other → TellsPattern words world left ⊎ TellsPattern words world other ⊎ SameLeft words world left other

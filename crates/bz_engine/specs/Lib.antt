@@ -3,6 +3,7 @@ pub mod Cuts
 pub mod Ending
 pub mod Exact
 pub mod Keeping
+pub mod Moments
 pub mod Outcome
 pub mod Run
 pub mod Shown

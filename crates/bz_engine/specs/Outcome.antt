@@ -114,10 +114,6 @@ IsOfInput (script name) = ⊥
 abbrev pub NamesNoFile : List Bytes → Type 0
 NamesNoFile words = IfOk (command_line_of words) (λ line. IsOfInput line.given)
 
--- The words don't ask for journals.
-abbrev pub KeepsNoJournal : List Bytes → Type 0
-KeepsNoJournal words = IfOk (command_line_of words) (λ line. line.options.journal ≡ false)
-
 -- ---- words that ask for nothing
 
 -- operands that are refused, or lack a command or a target, or mean rules of standard input where journals are kept

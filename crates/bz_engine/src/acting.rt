@@ -7,7 +7,7 @@ ghost use Rattle.bz_line.specs.Paths.{HasPath};
 ghost use Rattle.bz_line.specs.Shown.{asking_in};
 ghost use Rattle.bz_workspace.specs.Packages.{Opened, file_at};
 ghost use Rattle.bz_workspace.specs.Shown.{used_in};
-ghost use Rattle.bz_engine.specs.Calls.{TellsLines, WorksOn, spot, Proceeds};
+ghost use Rattle.bz_engine.specs.Calls.{KeepsSome, KeepsStep, TellsLines, WorksOn, spot, Proceeds};
 ghost use Rattle.bz_engine.specs.Keeping.{AllAreKept, AnswersBeside, DoesBeside, FolderBehind, is_left_at, state_behind};
 ghost use Rattle.bz_engine.specs.Run.{Answers, Does, printed_in, answered, told_of};
 ghost use Rattle.bz_engine.specs.Shown.{progress_in};
@@ -126,6 +126,7 @@ fn list_at<E: Sink>(alloc: Global, run: &mut Run, place: usize, command: &str, e
     ensures whole { result ≡ Cut.Whole → (file : Opened) × (file_at place run.old.workspace ≡ Some file)
         × (progress_in run.new ≡ answered place file (Ok (Reply.Printed (listing file.history))) file.history (progress_in run.old))
         × TellsLines E.Sink err.old err.new [] }
+    ensures same { run.new.workspace ≡ run.old.workspace }
 {
     let Ok(text) = listing_at(alloc, &run.workspace, place) else {
         return refuse(run, place, command, Refusal::Memory, err);
@@ -161,7 +162,8 @@ fn is_left_at(journals: bool, workspace: &Workspace, place: usize) -> bool
 
 // The journal and the file of a package were not both replaced, which is told.
 fn leave<E: Sink>(run: &mut Run, place: usize, fault: PairFault, err: &mut E) -> Cut
-    ensures { ((result ≡ Cut.Whole) × (fault ≡ PairFault.Changed)) ⊎ ((result ≡ Cut.Memory) × (fault ≡ PairFault.Memory))
+    ensures state { progress_in run.new ≡ record (progress_in run.old) { failed = true } }
+    ensures cut { ((result ≡ Cut.Whole) × (fault ≡ PairFault.Changed)) ⊎ ((result ≡ Cut.Memory) × (fault ≡ PairFault.Memory))
         ⊎ ((result ≡ Cut.Files) × ((fault ≡ PairFault.Write) ⊎ (fault ≡ PairFault.Open))) }
 {
     run.failed = true;
@@ -198,6 +200,7 @@ fn keep_at<F: Files, E: Sink>(
         × FolderBehind answer file history (F.folder files.old) (F.folder files.new)
         × (progress_in run.new ≡ state_behind place file answer history (progress_in run.old))
         × TellsLines E.Sink err.old err.new (told_of file.name command.now answer) }
+    ensures keeps { KeepsSome F.Files place (action_in action.now) command.now run.old.workspace run.new.workspace files.old files.new }
     ensures works { WorksOn F.Files result files.old files.new }
 {
     match run.workspace.keep(place, action, command, files) {
@@ -232,6 +235,7 @@ fn act_on<F: Files, E: Sink>(
         → (lines : List (List ℕ)) × AnswersBeside (step_of target.now (asking_in asking.now)) place (file_at place run.old.workspace)
         (F.folder files.old) (progress_in run.old) lines (F.folder files.new) (progress_in run.new)
         × TellsLines E.Sink err.old err.new lines }
+    ensures keeps { journals ≡ true → KeepsStep F.Files (step_of target.now (asking_in asking.now)) place run.old.workspace run.new.workspace files.old files.new }
     ensures left { journals ≡ true → is_left_at place run.old.workspace ≡ true
         → (result ≡ Cut.Whole) × (files.new ≡ files.old) × (err.new ≡ err.old) × (progress_in run.new ≡ record (progress_in run.old) { failed = true }) }
     ensures works { WorksOn F.Files result files.old files.new }
@@ -265,7 +269,7 @@ pub(crate) fn do_step<R: Source, F: Files, E: Sink>(
     err: &mut E,
 ) -> Cut
     requires { HasPath target.now }
-    ensures { Proceeds journals (target.now.«package» ≡ input_package) (λ world. Does world (step_of target.now (asking_in asking.now)))
+    ensures { Proceeds journals (target.now.«package» ≡ input_package) (step_of target.now (asking_in asking.now) ∷ []) (λ world. Does world (step_of target.now (asking_in asking.now)))
         (DoesBeside (step_of target.now (asking_in asking.now))) result
         (spot R.Source F.Files E.Sink run.old input.old files.old err.old) (spot R.Source F.Files E.Sink run.new input.new files.new err.new) }
 {

@@ -1,13 +1,18 @@
 //! The program buildozer over any reader, writers and files.
-ghost use Rattle.std.specs.Prelude.{◌≡◌, ◌≢◌, ◌⊎◌, ◌&&◌, ◌∷◌, [], List, ℕ, Option, true, false, map, Some};
+ghost use Rattle.std.specs.Prelude.{◌≡◌, ◌≢◌, ◌⊎◌, ◌&&◌, ◌∷◌, [], List, ℕ, Option, true, false, map, Some, Ok, IfOk};
 ghost use Rattle.std.specs.List.{All};
+ghost use Rattle.bz_files.specs.Folder.{Folder};
 ghost use Rattle.bz_line.specs.Asked.{Usage};
+ghost use Rattle.bz_line.specs.Asked as a;
 ghost use Rattle.bz_line.specs.Line.{LineUsage, command_line_of};
 ghost use Rattle.bz_line.specs.Line.{operands as words_given, script};
 ghost use Rattle.bz_line.specs.Paths.{HasPath};
+ghost use Rattle.bz_line.specs.Script.{script_of};
 ghost use Rattle.bz_line.specs.Shown.{asked_in, usage_in, line_usage_in};
-ghost use Rattle.bz_engine.specs.Calls.{TellsLines, PrintsAll, PrintsSome, IsStill, ReadsNothing, world_with, world_of, KeepsFolder, IsEndedOver, LeavesBehind};
+ghost use Rattle.bz_workspace.specs.Keeps.{KeepsFolder};
+ghost use Rattle.bz_engine.specs.Calls.{TellsLines, PrintsAll, PrintsSome, IsStill, ReadsNothing, world_with, world_of, PassesBy, IsEndedOver, LeavesBehind};
 ghost use Rattle.bz_engine.specs.Ending.{Left};
+ghost use Rattle.bz_engine.specs.Moments.{IsMomentOfRun, IsMomentOfSteps};
 ghost use Rattle.bz_engine.specs.Outcome.{StepsLeave, LinesLeave, WordsOutcome, OperandsOutcome, LinesOutcome, TextOutcome, ScriptOutcome, AreOfInput, AreOfInputAndSome, IsOfInput, GivesNothing, KeepsJournals, LineGivesNothing, NamesNoFile, TakesNoFile, TakesNoInput, TakesScript};
 ghost use Rattle.bz_engine.specs.Steps.{all_steps, input_package, names_input};
 ghost use Rattle.bz_engine.specs.Told.{IsUsageLine, IsLineUsageLine, no_journal_line};
@@ -93,6 +98,9 @@ fn perform<R: Source, W: Sink, E: Sink, F: Files>(
         × PrintsSome W.Sink out.old out.new left.output × (F.folder files.new ≡ left.folder) }
     ensures reads_nothing { options.journal ≡ true → ReadsNothing R.Source result.cut input.old input.new }
     ensures read { AreOfInput (map asked_in lines.now) → result.cut ≡ Cut.Read → PrintsAll W.Sink out.old out.new [] }
+    ensures moments { options.journal ≡ true → F.honest files.old ≡ true
+        → PassesBy F.Files (IsMomentOfSteps (F.folder files.old) (all_steps (map asked_in lines.now)) []) files.old files.new }
+    ensures sound { R.sound input.old ≡ true → result.cut ≢ Cut.Read }
     ensures status { result.cut ≢ Cut.Whole → result.status ≡ 2 }
     ensures used { result.status ≢ 1 }
     ensures ended { IsEndedOver R.Source W.Sink F.Files result.cut input.old input.new out.old out.new files.old files.new }
@@ -144,6 +152,9 @@ fn perform_lines<R: Source, W: Sink, E: Sink, F: Files>(
     ensures usage { result.status ≡ 1 → (options.journal ≡ true) × (names_input (map asked_in lines.now) ≡ true)
         × TellsLines E.Sink err.old err.new (no_journal_line ∷ []) }
     ensures read { AreOfInput (map asked_in lines.now) → result.cut ≡ Cut.Read → PrintsAll W.Sink out.old out.new [] }
+    ensures moments { options.journal ≡ true → F.honest files.old ≡ true
+        → PassesBy F.Files (IsMomentOfSteps (F.folder files.old) (all_steps (map asked_in lines.now)) []) files.old files.new }
+    ensures sound { R.sound input.old ≡ true → result.cut ≢ Cut.Read }
     ensures status { result.cut ≢ Cut.Whole → result.status ≡ 2 }
     ensures ended { IsEndedOver R.Source W.Sink F.Files result.cut input.old input.new out.old out.new files.old files.new }
     ensures honest { F.honest files.new ≡ F.honest files.old }
@@ -179,6 +190,9 @@ fn run_operands<R: Source, W: Sink, E: Sink, F: Files>(
         × TellsLines E.Sink err.old err.new (line ∷ []) }
     ensures unread_kept { options.journal ≡ true → IsStill R.Source input.old input.new }
     ensures read { IsOfInput (words_given (map (λ s. s.now) operands.now)) → result.cut ≡ Cut.Read → PrintsAll W.Sink out.old out.new [] }
+    ensures moments { options.journal ≡ true → F.honest files.old ≡ true
+        → PassesBy F.Files (IsMomentOfRun (world_of R.Source F.Files input.old files.old) (words_given (map (λ s. s.now) operands.now))) files.old files.new }
+    ensures sound { R.sound input.old ≡ true → result.cut ≢ Cut.Read }
     ensures status { result.cut ≢ Cut.Whole → result.status ≡ 2 }
     ensures ended { IsEndedOver R.Source W.Sink F.Files result.cut input.old input.new out.old out.new files.old files.new }
     ensures honest { F.honest files.new ≡ F.honest files.old }
@@ -213,6 +227,9 @@ fn run_lines_of<R: Source, W: Sink, E: Sink, F: Files>(
     ensures usage { result.status ≡ 1 → (line : List ℕ) × LinesTell options of_input (map asked_in lines.now) line
         × TellsLines E.Sink err.old err.new (line ∷ []) }
     ensures unread_kept { options.journal ≡ true → IsStill R.Source input.old input.new }
+    ensures moments { options.journal ≡ true → F.honest files.old ≡ true
+        → PassesBy F.Files (IsMomentOfSteps (F.folder files.old) (all_steps (map asked_in lines.now)) []) files.old files.new }
+    ensures sound { R.sound input.old ≡ true → result.cut ≢ Cut.Read }
     ensures status { result.cut ≢ Cut.Whole → result.status ≡ 2 }
     ensures ended { IsEndedOver R.Source W.Sink F.Files result.cut input.old input.new out.old out.new files.old files.new }
     ensures honest { F.honest files.new ≡ F.honest files.old }
@@ -247,6 +264,9 @@ fn run_text<R: Source, W: Sink, E: Sink, F: Files>(
     ensures usage { result.status ≡ 1 → (line : List ℕ) × TextTells options name.now (Some bytes.now) line
         × TellsLines E.Sink err.old err.new (line ∷ []) }
     ensures unread_kept { options.journal ≡ true → IsStill R.Source input.old input.new }
+    ensures moments { options.journal ≡ true → F.honest files.old ≡ true → PassesBy F.Files (λ now. (lines : List a.Asked)
+        × (script_of bytes.now ≡ Ok lines) × IsMomentOfSteps (F.folder files.old) (all_steps lines) [] now) files.old files.new }
+    ensures sound { R.sound input.old ≡ true → result.cut ≢ Cut.Read }
     ensures status { result.cut ≢ Cut.Whole → result.status ≡ 2 }
     ensures ended { IsEndedOver R.Source W.Sink F.Files result.cut input.old input.new out.old out.new files.old files.new }
     ensures honest { F.honest files.new ≡ F.honest files.old }
@@ -298,6 +318,9 @@ fn run_script<R: Source, W: Sink, E: Sink, F: Files>(
         × GivenTells (F.honest files.old) (world_of R.Source F.Files input.old files.old) options (script name.now) line
         × TellsLines E.Sink err.old err.new (line ∷ []) }
     ensures unread_kept { options.journal ≡ true → name.now ≢ input_package → IsStill R.Source input.old input.new }
+    ensures moments { options.journal ≡ true → F.honest files.old ≡ true
+        → PassesBy F.Files (IsMomentOfRun (world_of R.Source F.Files input.old files.old) (script name.now)) files.old files.new }
+    ensures sound { R.sound input.old ≡ true → result.cut ≢ Cut.Read }
     ensures status { result.cut ≢ Cut.Whole → (result.status ≡ 2) ⊎ (result.status ≡ 1) }
     ensures ended { IsEndedOver R.Source W.Sink F.Files result.cut input.old input.new out.old out.new files.old files.new }
     ensures honest { F.honest files.new ≡ F.honest files.old }
@@ -358,6 +381,14 @@ pub fn buildozer<S: AsStr, R: Source, W: Sink, E: Sink, F: Files>(
 
     // A run with journals reads nothing of standard input, unless lines stand there.
     ensures unread_kept { KeepsJournals (map S.text words.now) → TakesNoInput (map S.text words.now) → IsStill R.Source input.old input.new }
+
+    // Whatever cuts or stops a run with journals, each folder since it began is one at a moment of its steps: each file that it has open
+    // goes on with the texts that its history has at that step or at the one before, and other names are as they were.
+    ensures moments { F.honest files.old ≡ true → IfOk (command_line_of (map S.text words.now)) (λ line. line.options.journal ≡ true
+        → (now : Folder) → F.since files.new (F.moment files.old) now → IsMomentOfRun (world_of R.Source F.Files input.old files.old) line.given now) }
+
+    // Where standard input never fails, it cuts no run.
+    ensures sound { R.sound input.old ≡ true → result.cut ≢ Cut.Read }
 
     // Without a file of lines each run that is cut has status 2.
     ensures status { result.cut ≢ Cut.Whole → (result.status ≡ 2) ⊎ ((result.status ≡ 1) × TakesScript (map S.text words.now)) }

@@ -18,8 +18,8 @@ pub fn worked_runs()
     ensures whole { WorkedWholeRuns }
 {}
 
-/// Words, the bytes of standard input and a folder have at most one outcome: the same output, the same status, the same folder,
-/// names that end in `.bznew` set aside, and the same lines, but for clap's text and for which fault of a text that can't be
+/// Words, the bytes of standard input and a folder have at most one outcome: the same output, the same status, the same folder, but for
+/// names that end in `.bznew` and what journals hold where they are kept, and the same lines, but for clap's text and for which fault of a text that can't be
 /// read is told. Where `regex` refuses a pattern, that it is told is an outcome too.
 pub fn outcomes_are_exact()
     ensures { OutcomesAreExact }

@@ -1,10 +1,11 @@
 //! The package of a step.
-ghost use Rattle.std.specs.Prelude.{◌≡◌, ◌⊎◌, ◌≤◌, ◌++◌, [], ◌∷◌, ℕ, List, Option, Some, None, true, false, length, option_map, IfSome, IsSome};
+ghost use Rattle.std.specs.Prelude.{◌≡◌, ◌≢◌, ◌⊎◌, ◌≤◌, ◌++◌, [], ◌∷◌, ℕ, List, Option, Some, None, true, false, length, option_map, IfSome, IsSome};
 ghost use Rattle.bz_ports.specs.Outputs.{Counts};
 ghost use Rattle.bz_ports.specs.Told.{stdin};
+ghost use Rattle.bz_workspace.specs.Keeps.{KeepsFolder};
 ghost use Rattle.bz_workspace.specs.Opens.{Opens};
 ghost use Rattle.bz_workspace.specs.Packages.{Opened, package_number, file_at};
-ghost use Rattle.bz_engine.specs.Calls.{TellsLines, ReadsNothing, world_with, AreCutOver};
+ghost use Rattle.bz_engine.specs.Calls.{TellsLines, ReadsNothing, UsesSome, world_with, AreCutOver};
 ghost use Rattle.bz_engine.specs.Cuts.{AreCutBy, IsLeft, OpensInput};
 ghost use Rattle.bz_engine.specs.Keeping.{UsesBeside};
 ghost use Rattle.bz_engine.specs.Run.{Uses};
@@ -41,6 +42,8 @@ fn open_input<R: Source, E: Sink>(
         × TellsLines E.Sink err.old err.new lines }
     ensures there { IfSome result.place (λ at. IsSome (file_at at workspace.new)) }
     ensures failed { result.cut ≡ Cut.Read → (result.place ≡ None) × (workspace.new ≡ workspace.old ++ record { «package» = input_package; file = None } ∷ []) }
+    ensures works { R.sound input.old ≡ true → result.cut ≢ Cut.Read }
+    ensures sound { R.sound input.new ≡ R.sound input.old }
     ensures cut { (files : ℕ) → AreCutBy result.cut (R.faults input.old) (R.faults input.new) files files }
     ensures reads { Counts (R.faults input.old) (R.faults input.new) }
 {
@@ -83,11 +86,15 @@ pub(crate) fn open_package<R: Source, F: Files, E: Sink>(
         × UsesBeside (F.folder files.old) «package».now workspace.old place lines workspace.new
         × (result.place ≡ option_map (λ _. place) (file_at place workspace.new))
         × TellsLines E.Sink err.old err.new lines }
+    ensures some { journals ≡ true → F.honest files.old ≡ true → UsesSome (F.folder files.old) «package».now result.place workspace.old workspace.new }
+    ensures time { journals ≡ true → F.honest files.old ≡ true → KeepsFolder F.Files files.old files.new }
     ensures kept { journals ≡ true → F.honest files.old ≡ true → F.folder files.new ≡ F.folder files.old }
     ensures there { IfSome result.place (λ at. IsSome (file_at at workspace.new)) }
     ensures folder { journals ≡ false → (F.honest files.old ≡ true) ⊎ («package».now ≡ input_package) → F.folder files.new ≡ F.folder files.old }
     ensures input { journals ≡ false → «package».now ≡ input_package → OpensInput result.cut result.place workspace.old workspace.new }
     ensures unread { journals ≡ true → ReadsNothing R.Source result.cut input.old input.new }
+    ensures works { R.sound input.old ≡ true → result.cut ≢ Cut.Read }
+    ensures sound { R.sound input.new ≡ R.sound input.old }
     ensures cut { AreCutOver R.Source F.Files result.cut input.old input.new files.old files.new }
     ensures reads { Counts (R.faults input.old) (R.faults input.new) }
     ensures counts { Counts (F.faults files.old) (F.faults files.new) }

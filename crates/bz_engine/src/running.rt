@@ -29,7 +29,7 @@ fn run_target<R: Source, F: Files, E: Sink>(
     err: &mut E,
 ) -> Cut
     requires { HasPath target.now }
-    ensures { Proceeds options.journal (target.now.«package» ≡ input_package)
+    ensures { Proceeds options.journal (target.now.«package» ≡ input_package) (map (step_of target.now) (map asking_in commands.now))
         (λ world. RunsSteps world options.keep_going (map (step_of target.now) (map asking_in commands.now)))
         (RunsBeside options.keep_going (map (step_of target.now) (map asking_in commands.now))) result
         (spot R.Source F.Files E.Sink run.old input.old files.old err.old) (spot R.Source F.Files E.Sink run.new input.new files.new err.new) }
@@ -65,7 +65,7 @@ pub(crate) fn run_line<R: Source, F: Files, E: Sink>(
     err: &mut E,
 ) -> Cut
     requires { All HasPath line.now.targets.items }
-    ensures { Proceeds options.journal (All (λ target. target.«package» ≡ input_package) line.now.targets.items)
+    ensures { Proceeds options.journal (All (λ target. target.«package» ≡ input_package) line.now.targets.items) (steps_asked (asked_in line.now))
         (λ world. RunsSteps world options.keep_going (steps_asked (asked_in line.now)))
         (RunsBeside options.keep_going (steps_asked (asked_in line.now))) result
         (spot R.Source F.Files E.Sink run.old input.old files.old err.old) (spot R.Source F.Files E.Sink run.new input.new files.new err.new) }
@@ -98,7 +98,7 @@ pub(crate) fn run_lines<R: Source, F: Files, E: Sink>(
     err: &mut E,
 ) -> Cut
     requires { All (λ asked. All HasPath asked.targets.items) lines.now }
-    ensures { Proceeds options.journal (AreOfInput (map asked_in lines.now))
+    ensures { Proceeds options.journal (AreOfInput (map asked_in lines.now)) (all_steps (map asked_in lines.now))
         (λ world. RunsSteps world options.keep_going (all_steps (map asked_in lines.now)))
         (RunsBeside options.keep_going (all_steps (map asked_in lines.now))) result
         (spot R.Source F.Files E.Sink run.old input.old files.old err.old) (spot R.Source F.Files E.Sink run.new input.new files.new err.new) }

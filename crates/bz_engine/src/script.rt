@@ -3,7 +3,8 @@ ghost use Rattle.std.specs.Prelude.{◌≡◌, ◌≢◌, ◌⊎◌, ℕ, [], �
 ghost use Rattle.std.specs.FinMap.{get};
 ghost use Rattle.bz_ports.specs.Outputs.{Counts};
 ghost use Rattle.bz_ports.specs.Told.{named_line};
-ghost use Rattle.bz_engine.specs.Calls.{TellsLines, world_of, KeepsFolder, AreCutOver};
+ghost use Rattle.bz_engine.specs.Calls.{TellsLines, world_of, AreCutOver};
+ghost use Rattle.bz_workspace.specs.Keeps.{KeepsFolder};
 ghost use Rattle.bz_engine.specs.Cuts.{AreCutBy};
 ghost use Rattle.bz_engine.specs.Outcome.{IsScript, told_name};
 ghost use Rattle.bz_ports.specs.Ports.{IsInput};
@@ -55,6 +56,8 @@ fn read_input<R: Source, E: Sink>(
 ) -> Result<Vec<u8>, Exit>
     ensures ok { IfOk result (λ bytes. IsInput (R.remaining input.old) bytes.items × (R.faults input.new ≡ R.faults input.old) × (err.new ≡ err.old)) }
     ensures err { IfErr result (λ exit. (exit.cut ≢ Cut.Whole) × (exit.cut ≢ Cut.Write) × ((exit.status ≡ 1) ⊎ (exit.status ≡ 2)) × ((files : ℕ) → AreCutBy exit.cut (R.faults input.old) (R.faults input.new) files files)) }
+    ensures works { R.sound input.old ≡ true → IfErr result (λ exit. exit.cut ≢ Cut.Read) }
+    ensures sound { R.sound input.new ≡ R.sound input.old }
 {
     match read_most(alloc, input, usize::MAX) {
         Ok(bytes) => Ok(bytes),
@@ -75,6 +78,7 @@ fn read_file<F: Files, E: Sink>(
     ensures err { IfErr result (λ exit. (exit.cut ≡ Cut.Whole → (exit.status ≡ 1) × (F.honest files.old ≡ true → get (F.folder files.old) name.now ≡ None)
         × TellsLines E.Sink err.old err.new (named_line name.now (codes "cannot open") ∷ []))
         × (exit.cut ≢ Cut.Write) × ((exit.status ≡ 1) ⊎ (exit.status ≡ 2)) × ((reads : ℕ) → AreCutBy exit.cut reads reads (F.faults files.old) (F.faults files.new))) }
+    ensures unread { IfErr result (λ exit. exit.cut ≢ Cut.Read) }
     ensures folder { F.honest files.old ≡ true → F.folder files.new ≡ F.folder files.old }
     ensures time { F.honest files.old ≡ true → KeepsFolder F.Files files.old files.new }
     ensures counts { Counts (F.faults files.old) (F.faults files.new) }
@@ -107,6 +111,8 @@ pub(crate) fn read_bytes<R: Source, F: Files, E: Sink>(
         × TellsLines E.Sink err.old err.new (named_line (told_name name.now) (codes "cannot open") ∷ []))
         × ((exit.status ≡ 1) ⊎ (exit.status ≡ 2)) × (exit.cut ≢ Cut.Write)
         × AreCutOver R.Source F.Files exit.cut input.old input.new files.old files.new) }
+    ensures works { R.sound input.old ≡ true → IfErr result (λ exit. exit.cut ≢ Cut.Read) }
+    ensures sound { R.sound input.new ≡ R.sound input.old }
     ensures input { name.now ≢ input_package → input.new ≡ input.old }
     ensures files { name.now ≡ input_package → files.new ≡ files.old }
     ensures folder { F.honest files.old ≡ true → F.folder files.new ≡ F.folder files.old }

@@ -2,8 +2,10 @@ pub mod FaultSteps
 pub mod FileSteps
 pub mod FoundSteps
 pub mod FrontSteps
+pub mod HeldSteps
 pub mod JournalSteps
 pub mod KeepSteps
 pub mod LeaveSteps
 pub mod NameSteps
+pub mod OpenedSteps
 pub mod PlaceSteps

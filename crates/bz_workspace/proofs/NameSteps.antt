@@ -57,19 +57,19 @@ sum_of_name : (current name : Bytes) → IsNameOf current name → (last_sum nam
 sum_of_name current name (inl is) = inl (ap last_sum is ∙ sum_of_first current)
 sum_of_name current name (inr is) = inr (ap last_sum is ∙ sum_of_second current)
 
-not_journal : (current name file : Bytes) → IsNameOf current name → name ≢ journal_name file
+pub not_journal : (current name file : Bytes) → IsNameOf current name → name ≢ journal_name file
 not_journal current name file named same = elim (sum_of_name current name named) [
   | inl is ↦ unlike name (journal_name file) 209 205 is (sum_of_journal file) (λ e. omega (arith, e)) same
   | inr is ↦ unlike name (journal_name file) 144 205 is (sum_of_journal file) (λ e. omega (arith, e)) same
 ]
 
-not_new : (current name file : Bytes) → IsNameOf current name → name ≢ new_name file
+pub not_new : (current name file : Bytes) → IsNameOf current name → name ≢ new_name file
 not_new current name file named same = elim (sum_of_name current name named) [
   | inl is ↦ unlike name (new_name file) 209 220 is (sum_of_new file) (λ e. omega (arith, e)) same
   | inr is ↦ unlike name (new_name file) 144 220 is (sum_of_new file) (λ e. omega (arith, e)) same
 ]
 
-journal_not_new : (name file : Bytes) → journal_name name ≢ new_name file
+pub journal_not_new : (name file : Bytes) → journal_name name ≢ new_name file
 journal_not_new name file = unlike (journal_name name) (new_name file) 205 220 (sum_of_journal name) (sum_of_new file) (λ e. omega (arith, e))
 
 -- ---- two packages

@@ -1,5 +1,6 @@
 -- How a file is opened that has a journal.
-use Rattle.std.specs.Prelude.{◌≡◌, ◌≢◌, ◌⊎◌, ℕ, Bool, List, [], ◌∷◌, codes, if◌then◌else◌, Option, Some, None, Result, Ok, Err}
+use Rattle.std.specs.Prelude.{◌≡◌, ◌≢◌, ◌⊎◌, ◌++◌, ℕ, Bool, true, List, [], ◌∷◌, codes, length, if◌then◌else◌, Option, Some, None, IfSome, Result, Ok, Err}
+use Rattle.std.specs.Option.{option_map}
 use Rattle.std.specs.FinMap.{get}
 use Rattle.bz_edit.specs.declared.edit.Edit.{Edit}
 use Rattle.bz_record.specs.Texts.{IsOtherVersion}
@@ -8,13 +9,15 @@ use Rattle.bz_resume.specs.declared.fault.ResumeFault.TheVariants as f
 use Rattle.bz_resume.specs.Journals.{Journal, NoJournal, stands}
 use Rattle.bz_resume.specs.Resumed.{IsStale}
 use Rattle.bz_items.specs.Characters.{Bytes}
+use Rattle.bz_tree.specs.Legal.{Accepted}
 use Rattle.bz_files.specs.Folder.{Folder}
 use Rattle.bz_keep.specs.Pair.{journal_name}
+use Rattle.bz_keep.specs.Resuming.{Holds}
 use Rattle.bz_ports.specs.Told.{named_line}
-use Rattle.bz_journal.specs.History.{History}
-use Rattle.bz_workspace.specs.Found.{PackagesFound}
+use Rattle.bz_journal.specs.History.{History, present}
+use Rattle.bz_workspace.specs.Found.{IsNameOf, PackagesFound}
 use Rattle.bz_workspace.specs.Opens.{Opens, Takes}
-use Rattle.bz_workspace.specs.Packages.{Opened, opened_with}
+use Rattle.bz_workspace.specs.Packages.{Opened, Used, opened_with, with_opened}
 
 -- the bytes are a journal of this history, which stands for the text at this number
 abbrev pub StandsAt : Bytes → Bytes → History → ℕ → Type 0
@@ -43,9 +46,19 @@ abbrev pub file_of_journal : Bytes → Bytes → Result History ResumeFault → 
 file_of_journal name text (Ok history) = Some (opened_with name text history)
 file_of_journal name text (Err fault) = None
 
+-- what may be done where a file holds no text that its journal stands for
+abbrev pub stale_hint : Bytes → Bytes
+stale_hint journal = codes "buildozer: the file changed since the last run with --journal: restore it, or delete " ++ journal ++ codes " to begin a new history\n"
+
+abbrev pub hints_of_journal : Bytes → ResumeFault → List Bytes
+hints_of_journal journal f.Memory = []
+hints_of_journal journal f.Damaged = []
+hints_of_journal journal f.Version = []
+hints_of_journal journal f.Stale = stale_hint journal ∷ []
+
 abbrev pub lines_of_journal : Bytes → Result History ResumeFault → List Bytes
 lines_of_journal name (Ok history) = []
-lines_of_journal name (Err fault) = named_line (journal_name name) (fault_word fault) ∷ []
+lines_of_journal name (Err fault) = named_line (journal_name name) (fault_word fault) ∷ hints_of_journal (journal_name name) fault
 
 -- A file without a journal is opened as its text says. One with a journal goes on with its history, or its fault is told by the
 -- journal's name.
@@ -63,9 +76,35 @@ abbrev pub OpensBeside : Bool → Folder → Bytes → Option PackagesFound → 
 OpensBeside journals folder current (Some found) file lines = TakesBeside (journal_beside journals folder found.0) current found.0 found.1 file lines
 OpensBeside journals folder current None file lines = Opens current None file lines
 
+-- ---- what an opening leaves, whatever comes
+
+-- an open file of this package: it has one of the two names and the text that the folder has there, and its history is what its
+-- journal says, where journals are kept and there is one, else it begins with that text
+pub record IsOpenedIn (journals : Bool) (folder : Folder) (current : Bytes) (file : Opened) : Type 0 where
+  pub named : IsNameOf current file.name
+  pub there : get folder file.name ≡ Some file.read
+  pub opens : TakesBeside (journal_beside journals folder file.name) current file.name file.read (Some file) []
+
+-- The package with this number has such a file from now on, or none. (Its number, where its file is open.)
+abbrev pub Puts : ℕ → (Opened → Type 0) → Option ℕ → List Used → List Used → Type 0
+Puts place Is number before after =
+    (file : Option Opened) × (after ≡ with_opened place file before) × (number ≡ option_map (λ _. place) file) × IfSome file Is
+
+-- A package is the last one from now on, with such a file or none; or memory was refused, and nothing changes.
+abbrev pub Adds : Bytes → (Opened → Type 0) → Option ℕ → List Used → List Used → Type 0
+Adds current Is number before after = ((after ≡ before) × (number ≡ None))
+    ⊎ ((file : Option Opened) × (after ≡ before ++ record { «package» = current; file = file } ∷ [])
+    × (number ≡ option_map (λ _. length before) file) × IfSome file Is)
+
 -- ---- laws
 
 -- One thing comes of a journal.
 abbrev pub JournalGivesOne : Type 0
 JournalGivesOne = (current bytes text : Bytes) (one other : Result History ResumeFault) → JournalGives current bytes text one
     → JournalGives current bytes text other → one ≡ other
+
+-- A file that goes on is opened, in its package and with its journal, at the text that it holds, and with all of its texts.
+abbrev pub HeldFilesGoOn : Type 0
+HeldFilesGoOn = (folder : Folder) (name current text : Bytes) (texts : List Bytes) (file : Option Opened) (lines : List Bytes)
+    → Holds folder name current text texts → Accepted text → TakesBeside (journal_beside true folder name) current name text file lines
+    → (opened : Opened) × (file ≡ Some opened) × (present opened.history ≡ text) × (opened.history.texts ≡ texts)

@@ -18,6 +18,10 @@ use Rattle.bz_journal.specs.History.{Acts, Answer, History, present}
 use Rattle.bz_journal.specs.Keeping.{IsRefused, IsWriteOrOpen, Keeps}
 use Rattle.bz_workspace.specs.Packages.{Opened, Used, file_at, with_opened}
 
+-- A folder of honest files was the same at each moment of the call.
+abbrev pub KeepsFolder : {F : Type 0} → FilesOf F → F → F → Type 0
+KeepsFolder files old new = Elapses (files.moment old) (files.moment new) (files.since old) (files.since new) (λ now. now ≡ files.folder old)
+
 -- What keeping an action does to files: to the file of this name and to its journal, by the history before and the one after it, and
 -- by what was answered. (The files before and after.)
 pub record KeepsFile {F : Type 0} (files : FilesOf F) (name : Bytes) (before after : History) (answer : Result Reply KeepFault) (old new : F) : Type 0 where

@@ -1,6 +1,6 @@
 //! Facts about the definitions, for readers: the functions do nothing.
 ghost use Rattle.bz_workspace.specs.Found.{PackagesAreApart};
-ghost use Rattle.bz_workspace.specs.Journals.{JournalGivesOne};
+ghost use Rattle.bz_workspace.specs.Journals.{HeldFilesGoOn, JournalGivesOne};
 ghost use Rattle.bz_workspace.specs.Keeps.{StillIsSame};
 ghost use Rattle.bz_workspace.specs.Opens.{FrontsAreToldAlike};
 
@@ -23,4 +23,10 @@ pub fn packages_are_apart()
 /// An action leaves the package of a history, and where it leaves the number of the present text it leaves the history.
 pub fn still_is_same()
     ensures { StillIsSame }
+{}
+
+/// A file that goes on is opened, in its package and with its journal, at the text that it holds, and with all of its texts. So what a stop
+/// leaves is gone on with.
+pub fn held_files_go_on()
+    ensures { HeldFilesGoOn }
 {}

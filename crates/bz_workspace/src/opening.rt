@@ -1,14 +1,16 @@
 //! What opening a file takes: its name, its bytes and its session.
-ghost use Rattle.std.specs.Prelude.{◌≡◌, ◌≢◌, ◌⊎◌, ◌≤◌, length, take, true, Some, None, Ok, Err, IfOk, IfErr, IsErrOf, string_bytes};
+ghost use Rattle.std.specs.Prelude.{◌≡◌, ◌≢◌, ◌⊎◌, ◌≤◌, ◌∷◌, length, take, true, Some, None, Ok, Err, IfOk, IfErr, IsErrOf, string_bytes};
 ghost use Rattle.std.specs.FinMap.{get};
 ghost use Rattle.bz_tree.specs.Legal.{Accepted};
 ghost use Rattle.bz_items.specs.Characters.{Bytes};
 ghost use Rattle.bz_tree.specs.Faults.{IsFaultOf};
 ghost use Rattle.bz_ports.specs.Faults.{Rises, AppendsUnlessFailed};
+ghost use Rattle.bz_ports.specs.Outputs.{Tells};
 ghost use Rattle.bz_ports.specs.Told.{named_line};
 ghost use Rattle.bz_journal.specs.History.{History};
 ghost use Rattle.bz_workspace.specs.Found.{in_package};
-ghost use Rattle.bz_workspace.specs.Journals.{JournalGives, fault_word};
+ghost use Rattle.bz_workspace.specs.Journals.{JournalGives, fault_word, hints_of_journal, stale_hint};
+ghost use Rattle.bz_workspace.specs.Keeps.{KeepsFolder};
 ghost use Rattle.bz_workspace.specs.Opens.{opened_fresh};
 ghost use Rattle.bz_workspace.specs.Packages.{opened_with};
 ghost use Rattle.bz_workspace.specs.Shown.{opened_in};
@@ -61,6 +63,7 @@ pub(crate) fn bytes_of<F: Files>(
         × (get (F.folder files.old) name.now ≡ Some bytes) × (text.items ≡ take most bytes)) }
     ensures absent { F.honest files.old ≡ true → IsErrOf result FileFault.Absent → get (F.folder files.old) name.now ≡ None }
     ensures folder { F.honest files.old ≡ true → F.folder files.new ≡ F.folder files.old }
+    ensures time { F.honest files.old ≡ true → KeepsFolder F.Files files.old files.new }
     ensures kinds { IfErr result (λ fault. fault ≢ FileFault.Write) }
     ensures cause { IsErrOf result FileFault.Open → Rises (F.faults files.old) (F.faults files.new) }
     ensures kept { (IsErrOf result FileFault.Open → ⊥) → F.faults files.new ≡ F.faults files.old }
@@ -120,7 +123,7 @@ pub(crate) fn resumed(
 }
 
 /// The name and the number of why a journal is refused, as they are told after its name.
-pub(crate) fn told_fault(fault: &ResumeFault) -> &'static str
+fn told_fault(fault: &ResumeFault) -> &'static str
     ensures { result.now ≡ fault_word fault.now }
 {
     match fault {
@@ -132,7 +135,7 @@ pub(crate) fn told_fault(fault: &ResumeFault) -> &'static str
 }
 
 /// Memory that was refused cuts a run, and no other fault of a journal.
-pub(crate) fn cut_of(fault: &ResumeFault) -> Cut
+fn cut_of(fault: &ResumeFault) -> Cut
     ensures whole { result ≡ Cut.Whole → fault.now ≢ ResumeFault.Memory }
     ensures kinds { (result ≡ Cut.Whole) ⊎ (result ≡ Cut.Memory) }
 {
@@ -153,6 +156,29 @@ pub(crate) fn is_memory(fault: &ReadFault) -> bool
     }
 }
 
+// Tells what may be done where a journal stands nowhere for the text of its file.
+fn tell_hint<E: Sink>(err: &mut E, journal: &str, fault: &ResumeFault)
+    ensures { Tells (E.faults err.old) (E.faults err.new) (E.contents err.old) (E.contents err.new) (hints_of_journal journal.now fault.now) }
+{
+    match fault {
+        ResumeFault::Stale => tell_stale(err, journal),
+        ResumeFault::Memory | ResumeFault::Damaged | ResumeFault::Version => {}
+    }
+}
+
+fn tell_stale<'a, E: Sink>(err: &mut E, journal: &'a str)
+    ensures { AppendsUnlessFailed (E.faults err.old) (E.faults err.new) (E.contents err.old) (E.contents err.new) (stale_hint journal.entry.now) }
+{
+    tell(
+        err,
+        &[
+            "buildozer: the file changed since the last run with --journal: restore it, or delete ",
+            journal,
+            " to begin a new history\n",
+        ],
+    );
+}
+
 /// Tells a word on a file, and no file is open.
 pub(crate) fn fail<E: Sink>(err: &mut E, name: &str, word: &str, cut: Cut) -> Opening
     ensures opening { result ≡ record { place = None; cut = cut } }
@@ -161,6 +187,19 @@ pub(crate) fn fail<E: Sink>(err: &mut E, name: &str, word: &str, cut: Cut) -> Op
 {
     tell_named(err, name, word);
     without_file(cut)
+}
+
+/// Tells why a journal is refused, and behind that what may be done; no file is open.
+pub(crate) fn unresumed<E: Sink>(err: &mut E, journal: &str, fault: &ResumeFault) -> Opening
+    ensures place { result.place ≡ None }
+    ensures whole { result.cut ≡ Cut.Whole → fault.now ≢ ResumeFault.Memory }
+    ensures cut { (result.cut ≡ Cut.Whole) ⊎ (result.cut ≡ Cut.Memory) }
+    ensures told { Tells (E.faults err.old) (E.faults err.new) (E.contents err.old) (E.contents err.new)
+        (named_line journal.now (fault_word fault.now) ∷ hints_of_journal journal.now fault.now) }
+{
+    let opening = fail(err, journal, told_fault(fault), cut_of(fault));
+    tell_hint(err, journal, fault);
+    opening
 }
 
 /// Tells that memory was refused before a file of the package had its name, and no file is open.

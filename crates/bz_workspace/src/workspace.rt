@@ -9,15 +9,15 @@ ghost use Rattle.bz_workspace.specs.Found.{found_in, found_at, second_name};
 ghost use Rattle.bz_workspace.specs.Kept.{texts_of_keys, packages_of};
 ghost use Rattle.bz_journal.specs.Actions.{action_in};
 ghost use Rattle.bz_journal.specs.Keeping.{IsWriteOrOpen};
-ghost use Rattle.bz_workspace.specs.Journals.{OpensBeside, TakesBeside, journal_beside};
-ghost use Rattle.bz_workspace.specs.Keeps.{KeepsAt};
+ghost use Rattle.bz_workspace.specs.Journals.{Adds, IsOpenedIn, OpensBeside, Puts, TakesBeside, journal_beside};
+ghost use Rattle.bz_workspace.specs.Keeps.{KeepsAt, KeepsFolder};
 ghost use Rattle.bz_workspace.specs.Opens.{ActsAt, Opens, Takes};
 ghost use Rattle.bz_workspace.specs.Packages as p;
 ghost use Rattle.bz_workspace.specs.Packages.{file_at, package_number, with_opened};
 ghost use Rattle.bz_workspace.specs.Shown.{opened_in, used_in};
 
 use crate::opening::{
-    bytes_of, cut_of, fail, is_memory, name_in, opened, resumed, told_fault, unnamed, without_file,
+    bytes_of, fail, is_memory, name_in, opened, resumed, unnamed, unresumed, without_file,
 };
 use crate::used::{act_at, keep_at, place_of_open, put_file};
 use crate::{Opened, Opening, Used};
@@ -192,9 +192,9 @@ impl Workspace {
             × (self.new ≡ with_opened place file self.old)
             × (result.place ≡ option_map (λ _. place) file)
             × Tells (E.faults err.old) (E.faults err.new) (E.contents err.old) (E.contents err.new) lines }
-        ensures there { IfSome result.place (λ at. IsSome (file_at at self.new)) }
-        ensures kept { take place self.new ≡ take place self.old }
+        ensures puts { Puts place (λ file. F.honest files.old ≡ true → TakesBeside (journal_beside true (F.folder files.old) name.now) «package».now name.now text.items (Some file) []) result.place self.old self.new }
         ensures folder { F.honest files.old ≡ true → F.folder files.new ≡ F.folder files.old }
+        ensures time { F.honest files.old ≡ true → KeepsFolder F.Files files.old files.new }
         ensures cut { (result.cut ≡ Cut.Whole) ⊎ (result.cut ≡ Cut.Memory) ⊎ ((result.cut ≡ Cut.Files) × Rises (F.faults files.old) (F.faults files.new)) }
         ensures steady { result.cut ≡ Cut.Whole → F.faults files.new ≡ F.faults files.old }
         ensures counts { Counts (F.faults files.old) (F.faults files.new) }
@@ -208,7 +208,7 @@ impl Workspace {
         match bytes_of(alloc, files, journal, usize::MAX) {
             Ok(bytes) => match resumed(alloc, package, name, bytes.as_slice(), text) {
                 Ok(file) => self.put(place, file),
-                Err(fault) => fail(err, journal, told_fault(&fault), cut_of(&fault)),
+                Err(fault) => unresumed(err, journal, &fault),
             },
             Err(FileFault::Absent) => self.open_text(place, package, name, text, err),
             Err(FileFault::Memory) => fail(err, journal, "Memory", Cut::Memory),
@@ -235,9 +235,9 @@ impl Workspace {
             × (self.new ≡ with_opened place file self.old)
             × (result.place ≡ option_map (λ _. place) file)
             × Tells (E.faults err.old) (E.faults err.new) (E.contents err.old) (E.contents err.new) lines }
-        ensures there { IfSome result.place (λ at. IsSome (file_at at self.new)) }
-        ensures kept { take place self.new ≡ take place self.old }
+        ensures puts { Puts place (λ file. F.honest files.old ≡ true → TakesBeside (journal_beside journals (F.folder files.old) name.now) «package».now name.now text.items (Some file) []) result.place self.old self.new }
         ensures folder { F.honest files.old ≡ true → F.folder files.new ≡ F.folder files.old }
+        ensures time { F.honest files.old ≡ true → KeepsFolder F.Files files.old files.new }
         ensures cut { (result.cut ≡ Cut.Whole) ⊎ (result.cut ≡ Cut.Memory) ⊎ ((result.cut ≡ Cut.Files) × Rises (F.faults files.old) (F.faults files.new)) }
         ensures steady { result.cut ≡ Cut.Whole → F.faults files.new ≡ F.faults files.old }
         ensures counts { Counts (F.faults files.old) (F.faults files.new) }
@@ -267,9 +267,9 @@ impl Workspace {
             × (self.new ≡ with_opened place file self.old)
             × (result.place ≡ option_map (λ _. place) file)
             × Tells (E.faults err.old) (E.faults err.new) (E.contents err.old) (E.contents err.new) lines }
-        ensures there { IfSome result.place (λ at. IsSome (file_at at self.new)) }
-        ensures kept { take place self.new ≡ take place self.old }
+        ensures puts { Puts place (λ file. F.honest files.old ≡ true → IsOpenedIn journals (F.folder files.old) «package».now file) result.place self.old self.new }
         ensures folder { F.honest files.old ≡ true → F.folder files.new ≡ F.folder files.old }
+        ensures time { F.honest files.old ≡ true → KeepsFolder F.Files files.old files.new }
         ensures cut { (result.cut ≡ Cut.Whole) ⊎ (result.cut ≡ Cut.Memory) ⊎ ((result.cut ≡ Cut.Files) × Rises (F.faults files.old) (F.faults files.new)) }
         ensures steady { result.cut ≡ Cut.Whole → F.faults files.new ≡ F.faults files.old }
         ensures counts { Counts (F.faults files.old) (F.faults files.new) }
@@ -305,9 +305,9 @@ impl Workspace {
             × (self.new ≡ with_opened place file self.old)
             × (result.place ≡ option_map (λ _. place) file)
             × Tells (E.faults err.old) (E.faults err.new) (E.contents err.old) (E.contents err.new) lines }
-        ensures there { IfSome result.place (λ at. IsSome (file_at at self.new)) }
-        ensures kept { take place self.new ≡ take place self.old }
+        ensures puts { Puts place (λ file. F.honest files.old ≡ true → IsOpenedIn journals (F.folder files.old) «package».now file) result.place self.old self.new }
         ensures folder { F.honest files.old ≡ true → F.folder files.new ≡ F.folder files.old }
+        ensures time { F.honest files.old ≡ true → KeepsFolder F.Files files.old files.new }
         ensures cut { (result.cut ≡ Cut.Whole) ⊎ (result.cut ≡ Cut.Memory) ⊎ ((result.cut ≡ Cut.Files) × Rises (F.faults files.old) (F.faults files.new)) }
         ensures steady { result.cut ≡ Cut.Whole → F.faults files.new ≡ F.faults files.old }
         ensures counts { Counts (F.faults files.old) (F.faults files.new) }
@@ -364,9 +364,13 @@ impl Workspace {
             × Tells (E.faults err.old) (E.faults err.new) (E.contents err.old) (E.contents err.new) lines }
         ensures there { IfSome result.place (λ at. IsSome (file_at at self.new)) }
 
-        // The packages that were used before stay as they were, whatever comes.
+        // Whatever comes, the packages that were used before stay as they were, and the new one is the last or not there; its file, where
+        // one is open, is one that the folder has.
         ensures kept { take (length self.old) self.new ≡ self.old }
+        ensures adds { package_number «package».now self.old ≡ None → Adds «package».now (λ file. F.honest files.old ≡ true
+            → IsOpenedIn journals (F.folder files.old) «package».now file) result.place self.old self.new }
         ensures folder { F.honest files.old ≡ true → F.folder files.new ≡ F.folder files.old }
+        ensures time { F.honest files.old ≡ true → KeepsFolder F.Files files.old files.new }
         ensures cut { (result.cut ≡ Cut.Whole) ⊎ (result.cut ≡ Cut.Memory) ⊎ ((result.cut ≡ Cut.Files) × Rises (F.faults files.old) (F.faults files.new)) }
         ensures steady { result.cut ≡ Cut.Whole → F.faults files.new ≡ F.faults files.old }
         ensures counts { Counts (F.faults files.old) (F.faults files.new) }

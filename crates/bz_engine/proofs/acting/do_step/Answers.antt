@@ -2,13 +2,16 @@ use Rattle.std.proofs.Common.{◌≡◌, ◌∙◌, ◌++◌, true, refl, ap, sy
 use Rattle.bz_line.specs.Shown.{asking_in}
 use Rattle.bz_ports.proofs.Outputs.{counts_more, tells_more}
 use Rattle.bz_files.specs.Folder.{Folder}
+use Rattle.bz_items.specs.Characters.{Bytes}
 use Rattle.bz_workspace.specs.Packages.{file_at}
+use Rattle.bz_engine.specs.Calls.{UsesSome}
 use Rattle.bz_engine.specs.Keeping.{AllAreKept}
 use Rattle.bz_engine.specs.Shown.{progress_in}
 use Rattle.bz_engine.specs.Steps.{input_package, step_of}
 use Rattle.bz_engine.proofs.CutSteps.{both_whole, by_name, cut_behind, neither_read, works_unread}
 use Rattle.bz_engine.proofs.DoSteps.{beside_there, beside_nowhere, done_there, done_nowhere}
 use Rattle.bz_engine.proofs.OpenSteps.{left_after}
+use Rattle.bz_engine.proofs.SafeSteps.{step_acted, step_still}
 use Rattle.bz_engine.proofs.StandSteps.{uses_stand}
 use Rattle.bz_engine.proofs.ReadSteps.{step_there, step_nowhere}
 use Rattle.bz_engine.proofs.acting.do_step.Goals as goal
@@ -26,6 +29,7 @@ returns-in-Some g c =
     let used = opening.new.workspace in
     let at = c.in-Some.place in
     let works = c.act_on.ensures.works in
+    let unread = works_unread c.act_on.result (g.F.Files.faults opening.new.files) (g.F.Files.faults c.act_on.new.files) works.cut in
     record {
       does = λ plain can whole known left.
           let both = both_whole opening.result.cut c.act_on.result c.first_cut.result c.first_cut.ensures whole in
@@ -56,14 +60,18 @@ returns-in-Some g c =
             tells_more (g.E.Sink.faults c.args.err.now) (g.E.Sink.faults opening.new.err) (g.E.Sink.faults c.act_on.new.err)
                 (g.E.Sink.contents c.args.err.now) (g.E.Sink.contents opening.new.err) (g.E.Sink.contents c.act_on.new.err) opened.1 done.0 opened.4 done.2,
           );
+      safely = λ kept honest began.
+          step_acted g.F.Files g.met.F.Files.counts_now began step at before.used used after.used opening.result.place c.args.files.now opening.new.files
+          c.act_on.new.files (subst (λ (n : Bytes). UsesSome (folder c.args.files.now) n opening.result.place before.used used) named (opening.ensures.some kept honest))
+          c.in-Some.is (opening.ensures.kept kept honest) (opening.ensures.time kept honest) (opening.ensures.honest ∙ honest) (c.act_on.ensures.keeps kept);
       unread = λ kept.
           let same = opening.ensures.unread kept in (
             same.0,
             same.1,
-            (λ is. neither_read opening.result.cut c.act_on.result same.2
-                (works_unread c.act_on.result (g.F.Files.faults opening.new.files) (g.F.Files.faults c.act_on.new.files) works.cut)
-                (sym c.first_cut.ensures ∙ is)),
+            (λ is. neither_read opening.result.cut c.act_on.result same.2 unread (sym c.first_cut.ensures ∙ is)),
           );
+      works = λ sound is. neither_read opening.result.cut c.act_on.result (opening.ensures.works sound) unread (sym c.first_cut.ensures ∙ is);
+      sound = opening.ensures.sound;
       cut = cut_behind opening.result.cut c.act_on.result c.first_cut.result (g.R.Source.faults c.args.input.now) (g.R.Source.faults opening.new.input)
           (g.F.Files.faults c.args.files.now) (g.F.Files.faults opening.new.files) (g.F.Files.faults c.act_on.new.files) c.first_cut.ensures works.cut
           opening.ensures.cut opening.ensures.reads opening.ensures.counts works.counts;
@@ -102,7 +110,14 @@ returns-in-None g c =
                 opening.result.place opened.0 name opened.1 named (opening.ensures.kept kept honest) opened.2 c.in-None.is opened.3,
             opened.4,
           );
+      safely = λ kept honest began.
+          step_still g.F.Files g.met.F.Files.counts_now began (step_of c.args.target.now (asking_in c.args.asking.now)) before.used used used opening.result.place
+          c.args.files.now opening.new.files
+          (subst (λ (n : Bytes). UsesSome (folder c.args.files.now) n opening.result.place before.used used) named (opening.ensures.some kept honest))
+          (opening.ensures.kept kept honest) (opening.ensures.time kept honest) refl;
       unread = opening.ensures.unread;
+      works = opening.ensures.works;
+      sound = opening.ensures.sound;
       cut = opening.ensures.cut;
       reads = opening.ensures.reads;
       counts = opening.ensures.counts;

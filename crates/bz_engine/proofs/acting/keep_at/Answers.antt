@@ -6,7 +6,8 @@ use Rattle.bz_workspace.specs.Packages.{Opened}
 use Rattle.bz_workspace.specs.Sessions.{action_in}
 use Rattle.bz_engine.specs.Shown.{progress_in}
 use Rattle.bz_engine.proofs.ActSteps.{file_put, led_on, led_to, was_refused}
-use Rattle.bz_engine.proofs.KeepSteps.{changed_of, kept_behind, not_changed, was_kept}
+use Rattle.bz_engine.specs.Run.{Progress}
+use Rattle.bz_engine.proofs.KeepSteps.{changed_of, kept_behind, kept_by, not_changed, was_kept}
 use Rattle.bz_engine.proofs.StandSteps.{follows, package_at}
 use Rattle.bz_engine.proofs.acting.keep_at.Goals as goal
 
@@ -62,4 +63,21 @@ returns-clause-whole g c = λ honest stand whole.
     subst (λ (it : KeepFault). KeepsAt F c.args.place (action_in c.args.action.now) c.args.command.now old (Err it) c.keep.new.self c.args.files.now c.keep.new.files)
     c.in-Err-Pair.field-0-is c.in-Err-Pair.ensures.keeps in
     let holds = (package_at (F.folder c.args.files.now) c.args.place old done.file done.there stand).1.holds in
-    absurd (not_changed F done.file done.history fault c.args.files.now c.keep.new.files honest holds done.pair (changed_of c.leave.result fault c.leave.ensures whole))
+    absurd (not_changed F done.file done.history fault c.args.files.now c.keep.new.files honest holds done.pair (changed_of c.leave.result fault c.leave.ensures.cut whole))
+
+pub returns-in-Ok-put_printed-clause-keeps : goal.returns-in-Ok-put_printed-clause-keeps
+returns-in-Ok-put_printed-clause-keeps g c = (Ok c.in-Ok.reply, c.in-Ok.ensures.keeps)
+
+pub returns-in-Err-Refused-clause-keeps : goal.returns-in-Err-Refused-clause-keeps
+returns-in-Err-Refused-clause-keeps g c = (
+  _,
+  kept_by g.F.Files c.args.place (action_in c.args.action.now) c.args.command.now c.args.run.now.workspace _ c.keep.new.self c.refuse-in-Err-Refused.new.run.workspace
+      c.args.files.now c.keep.new.files (ap (λ (p : Progress). p.used) c.refuse-in-Err-Refused.ensures.state) c.in-Err-Refused.ensures.keeps,
+)
+
+pub returns-clause-keeps : goal.returns-clause-keeps
+returns-clause-keeps g c = (
+  _,
+  kept_by g.F.Files c.args.place (action_in c.args.action.now) c.args.command.now c.args.run.now.workspace _ c.keep.new.self c.leave.new.run.workspace
+      c.args.files.now c.keep.new.files (ap (λ (p : Progress). p.used) c.leave.ensures.state) c.in-Err-Pair.ensures.keeps,
+)

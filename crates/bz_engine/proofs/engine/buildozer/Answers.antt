@@ -1,11 +1,12 @@
 use Rattle.std.proofs.Common.{◌≡◌, List, ℕ, map, refl, ap, sym, subst, ◌∙◌, Bor, Ok}
 use Rattle.bz_files.specs.Folder.{Folder}
-use Rattle.bz_line.specs.Line.{operands, script}
+use Rattle.bz_line.specs.Line.{operands, script, command_line_of}
 use Rattle.bz_line.specs.Shown.{given_in, line_in, line_usage_in}
 use Rattle.bz_ports.proofs.Outputs.{appends_nothing}
 use Rattle.bz_engine.specs.Outcome.{GivesNothing, LineGivesNothing}
 use Rattle.bz_engine.specs.Run.{World}
 use Rattle.bz_engine.proofs.Outcomes.{words_refused, words_done, words_kept, words_premise, words_of_input, script_premise}
+use Rattle.bz_engine.proofs.MomentSteps.{by_words, each_of, no_words}
 use Rattle.bz_engine.proofs.UnusedSteps.{no_time, lines_apart, lines_of_input}
 use Rattle.bz_engine.proofs.UsageSteps.{words_told, given_told}
 use Rattle.bz_engine.proofs.engine.buildozer.Goals as goal
@@ -150,3 +151,27 @@ returns-clause-unread_kept g c kept takes =
     let line = line_in c.in-Ok.line in
     c.run_script.ensures.unread_kept (words_kept (map g.S.AsStr.text c.args.words.now) line c.in-Ok.ensures.ok kept)
     (lines_apart (map g.S.AsStr.text c.args.words.now) line c.in-Script.name.now c.in-Ok.ensures.ok (ap given_in c.in-Script.is) takes)
+
+pub returns-in-Err-clause-moments : goal.returns-in-Err-clause-moments
+returns-in-Err-clause-moments g c honest = no_words g.F.Files c.args.files.now c.args.files.now (command_line_of (map g.S.AsStr.text c.args.words.now))
+    (g.R.Source.remaining c.args.input.now) refl (g.met.F.Files.only_now c.args.files.now)
+
+pub returns-in-Operands-clause-moments : goal.returns-in-Operands-clause-moments
+returns-in-Operands-clause-moments g c honest =
+    let texts = map (λ (s : Bor (List ℕ)). s.now) c.deref.result.now in
+    let same : (line_in c.in-Ok.line).given ≡ operands texts =
+    ap given_in c.in-Operands.is ∙ ap (λ (these : List (Bor (List ℕ))). operands (map (λ (s : Bor (List ℕ)). s.now) these)) (sym c.deref.ensures.value) in
+    let known = g.R.Source.remaining c.args.input.now in
+    let world : World = record { folder = g.F.Files.folder c.args.files.now; known = known } in
+    by_words g.F.Files c.args.files.now c.run_operands.new.files (map g.S.AsStr.text c.args.words.now) (line_in c.in-Ok.line) (operands texts) world
+    c.in-Ok.ensures.ok same (λ kept. each_of g.F.Files c.args.files.now c.run_operands.new.files known (operands texts)
+    (g.met.F.Files.only_now c.args.files.now) (c.run_operands.ensures.moments kept honest))
+
+pub returns-clause-moments : goal.returns-clause-moments
+returns-clause-moments g c honest =
+    let name = c.in-Script.name.now in
+    let known = g.R.Source.remaining c.args.input.now in
+    let world : World = record { folder = g.F.Files.folder c.args.files.now; known = known } in
+    by_words g.F.Files c.args.files.now c.run_script.new.files (map g.S.AsStr.text c.args.words.now) (line_in c.in-Ok.line) (script name) world
+    c.in-Ok.ensures.ok (ap given_in c.in-Script.is) (λ kept. each_of g.F.Files c.args.files.now c.run_script.new.files known (script name)
+    (g.met.F.Files.only_now c.args.files.now) (c.run_script.ensures.moments kept honest))

@@ -1,11 +1,15 @@
-use Rattle.std.proofs.Common.{inl, inr, refl, map, ap, subst, sym}
+use Rattle.std.proofs.Common.{[], inl, inr, refl, map, ap, subst, sym}
 use Rattle.bz_line.specs.Shown.{asked_in}
+use Rattle.bz_engine.specs.Calls.{PassesBy}
 use Rattle.bz_engine.specs.Keeping.{AllAreKept}
+use Rattle.bz_engine.specs.Moments.{AllAreSafe, IsMeanwhile, IsMomentOfSteps}
 use Rattle.bz_engine.specs.Outcome.{AreOfInput}
 use Rattle.bz_engine.specs.Run.{World, Progress}
 use Rattle.bz_engine.specs.Shown.{progress_in}
 use Rattle.bz_engine.specs.Steps.{all_steps}
 use Rattle.bz_engine.proofs.Performing.{performed, performed_beside, broken_off, broken_beside, honest_still, uncut, told_apart, plain_premise, kept_premise}
+use Rattle.bz_engine.proofs.MomentSteps.{unused_yet}
+use Rattle.bz_engine.proofs.UnusedSteps.{no_more_time}
 use Rattle.bz_engine.proofs.ReadSteps.{nothing_left, read_before}
 use Rattle.bz_engine.proofs.engine.perform.Goals as goal
 
@@ -88,3 +92,19 @@ returns-clause-read g c of_input is_read =
           before c.finish.ensures.output
       | inr kept ↦ absurd ((c.run_lines-cut.ensures.unread kept).2 before)
     ]
+
+pub returns-clause-moments : goal.returns-clause-moments
+returns-clause-moments g c kept honest =
+    let ran = c.run_lines-cut in
+    let files = g.F.Files in
+    let folder = files.folder c.args.files.now in
+    let steps = all_steps (map asked_in c.args.lines.now) in
+    let begun_is = c.begun-run.ensures in
+    let done = ran.ensures.safely kept honest folder (subst (λ (from : Progress). AllAreSafe folder from.used) (sym begun_is) tt)
+    (subst (λ (from : Progress). IsMeanwhile folder from.used from.used folder) (sym begun_is) (unused_yet folder)) in
+    no_more_time files.moment files.since c.args.files.now ran.new.files c.finish.new.files (IsMomentOfSteps folder steps []) (c.finish.ensures.kept kept)
+    (subst (λ (from : Progress). PassesBy files (IsMomentOfSteps folder steps from.used) c.args.files.now ran.new.files) begun_is done.2)
+
+pub returns-clause-sound : goal.returns-clause-sound
+returns-clause-sound g c sound is =
+    c.run_lines-cut.ensures.works sound (read_before c.finish.result.cut c.run_lines-cut.result _ c.finish.ensures.cause is)

@@ -1,7 +1,9 @@
-use Rattle.std.proofs.Common.{◌∙◌, true≢false, inl, inr, refl, map, sym}
+use Rattle.std.proofs.Common.{[], ◌∙◌, true≢false, inl, inr, refl, map, sym}
 use Rattle.bz_line.specs.Shown.{asked_in}
 use Rattle.bz_engine.specs.Outcome.{unused}
-use Rattle.bz_engine.specs.Steps.{names_input}
+use Rattle.bz_engine.specs.Moments.{IsMomentOfSteps}
+use Rattle.bz_engine.specs.Steps.{all_steps, names_input}
+use Rattle.bz_engine.proofs.UnusedSteps.{no_time}
 use Rattle.bz_engine.specs.Told.{no_journal_line}
 use Rattle.bz_engine.proofs.Outcomes.{both_true, lines_premise, stands_unused, told_once}
 use Rattle.bz_engine.proofs.engine.perform_lines.Goals as goal
@@ -42,3 +44,7 @@ pub returns-clause-unread : goal.returns-clause-unread
 returns-clause-unread g c kept named =
     let neither = sym c.lacks_journal.ensures ∙ c.if-lacks_journal.false in
     absurd (true≢false (sym (rw (kept, named) refl) ∙ neither))
+
+pub returns-then-lacks_journal-clause-moments : goal.returns-then-lacks_journal-clause-moments
+returns-then-lacks_journal-clause-moments g c kept honest = no_time g.F.Files.moment g.F.Files.since c.args.files.now c.args.files.now
+    (IsMomentOfSteps (g.F.Files.folder c.args.files.now) (all_steps (map asked_in c.args.lines.now)) []) refl

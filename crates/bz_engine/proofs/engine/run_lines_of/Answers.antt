@@ -1,7 +1,9 @@
-use Rattle.std.proofs.Common.{◌≡◌, ◌&&◌, Bool, false, map, refl, ap, sym, ◌∙◌, inl, inr}
+use Rattle.std.proofs.Common.{[], ◌≡◌, ◌&&◌, Bool, false, map, refl, ap, sym, ◌∙◌, inl, inr}
 use Rattle.bz_line.specs.Shown.{asked_in}
 use Rattle.bz_engine.specs.Run.{World}
-use Rattle.bz_engine.specs.Steps.{names_input}
+use Rattle.bz_engine.specs.Moments.{IsMomentOfSteps}
+use Rattle.bz_engine.specs.Steps.{all_steps, names_input}
+use Rattle.bz_engine.proofs.UnusedSteps.{no_time}
 use Rattle.bz_engine.specs.Told.{no_journal_line}
 use Rattle.bz_engine.proofs.Outcomes.{lines_refused, lines_done}
 use Rattle.bz_engine.proofs.UsageSteps.{lines_told}
@@ -57,3 +59,7 @@ returns-clause-usage g c is = let told = c.perform_lines.ensures.usage is in (no
 
 pub returns-clause-unread_kept : goal.returns-clause-unread_kept
 returns-clause-unread_kept g c kept = let still = c.perform_lines.ensures.reads_nothing kept in (still.0, still.1)
+
+pub returns-then-names_input-clause-moments : goal.returns-then-names_input-clause-moments
+returns-then-names_input-clause-moments g c kept honest = no_time g.F.Files.moment g.F.Files.since c.args.files.now c.args.files.now
+    (IsMomentOfSteps (g.F.Files.folder c.args.files.now) (all_steps (map asked_in c.args.lines.now)) []) refl

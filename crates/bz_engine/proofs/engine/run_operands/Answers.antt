@@ -1,4 +1,4 @@
-use Rattle.std.proofs.Common.{◌≡◌, ◌∷◌, [], List, ℕ, inl, inr, map, ap, sym, subst, arith, true≢false, Bor}
+use Rattle.std.proofs.Common.{refl, ◌≡◌, ◌∷◌, [], List, ℕ, inl, inr, map, ap, sym, subst, arith, true≢false, Bor}
 use Rattle.std.specs.Prelude.{IsErr}
 use Rattle.std.specs.List.{All}
 use Rattle.std.proofs.lemmas.List.Elements.{All-push}
@@ -6,7 +6,11 @@ use Rattle.bz_line.specs.Paths.{HasPath}
 use Rattle.bz_line.specs.Shown.{asked_in, usage_in}
 use Rattle.bz_line.specs.declared.asked.Asked.{Asked}
 use Rattle.bz_ports.proofs.Outputs.{appends_nothing}
+use Rattle.bz_line.specs.Line.{operands}
+use Rattle.bz_engine.specs.Moments.{IsMomentOfRun}
 use Rattle.bz_engine.specs.Run.{World}
+use Rattle.bz_engine.proofs.MomentSteps.{by_operands}
+use Rattle.bz_engine.proofs.UnusedSteps.{no_time}
 use Rattle.bz_engine.proofs.Outcomes.{names_given, operands_of_input, operands_refused, operands_done, operands_premise}
 use Rattle.bz_engine.proofs.UsageSteps.{operands_told, operands_named}
 use Rattle.bz_engine.proofs.engine.run_operands.Goals as goal
@@ -78,3 +82,14 @@ returns-in-Err-clause-read g c of_input read = appends_nothing (g.W.Sink.content
 
 pub returns-in-Ok-clause-unread_kept : goal.returns-in-Ok-clause-unread_kept
 returns-in-Ok-clause-unread_kept g c kept = let still = c.perform_lines.ensures.reads_nothing kept in (still.0, still.1)
+
+pub returns-in-Ok-clause-moments : goal.returns-in-Ok-clause-moments
+returns-in-Ok-clause-moments g c kept honest =
+    by_operands g.F.Files c.args.files.now c.perform_lines.new.files (g.R.Source.remaining c.args.input.now) (map (λ (s : Bor (List ℕ)). s.now) c.args.operands.now)
+    (asked_in c.in-Ok.asked) (map asked_in c.from_ref.result.now) c.in-Ok.ensures.ok (ap (map asked_in) c.from_ref.ensures.value)
+    (c.perform_lines.ensures.moments kept honest)
+
+pub returns-in-Err-clause-moments : goal.returns-in-Err-clause-moments
+returns-in-Err-clause-moments g c kept honest = no_time g.F.Files.moment g.F.Files.since c.args.files.now c.args.files.now
+    (IsMomentOfRun (record { folder = g.F.Files.folder c.args.files.now; known = g.R.Source.remaining c.args.input.now })
+    (operands (map (λ (s : Bor (List ℕ)). s.now) c.args.operands.now))) refl

@@ -6,6 +6,7 @@ use Rattle.bz_engine.specs.Outcome.{told_name}
 use Rattle.bz_engine.specs.Run.{World}
 use Rattle.bz_engine.specs.Usage.{GivenTells}
 use Rattle.bz_engine.proofs.Outcomes.{stands_from, script_unread, script_done}
+use Rattle.bz_engine.proofs.MomentSteps.{by_no_script, by_script}
 use Rattle.bz_engine.proofs.UnusedSteps.{no_more_time}
 use Rattle.bz_engine.proofs.UsageSteps.{read_told, told_from}
 use Rattle.bz_engine.proofs.engine.run_script.Goals as goal
@@ -75,3 +76,16 @@ returns-clause-unread_kept g c kept other =
     let same = c.read_bytes.ensures.input other in
     let still = c.run_text.ensures.unread_kept kept in
     (still.0 ∙ ap g.R.Source.remaining same, still.1 ∙ ap g.R.Source.faults same)
+
+pub returns-in-Err-clause-moments : goal.returns-in-Err-clause-moments
+returns-in-Err-clause-moments g c kept honest =
+    by_no_script g.F.Files c.args.files.now c.read_bytes.new.files (g.R.Source.remaining c.args.input.now) c.args.name.now (c.read_bytes.ensures.time honest)
+
+pub returns-clause-moments : goal.returns-clause-moments
+returns-clause-moments g c kept honest =
+    by_script g.F.Files c.args.files.now c.run_text.new.files (g.R.Source.remaining c.args.input.now) c.args.name.now c.in-Ok.bytes.items c.deref.result.now
+    c.read_bytes.new.files (c.read_bytes.ensures.folder honest) c.deref.ensures.value (c.in-Ok.ensures.ok.0 honest) (c.read_bytes.ensures.time honest)
+    (c.run_text.ensures.moments kept (c.read_bytes.ensures.honest ∙ honest))
+
+pub returns-clause-sound : goal.returns-clause-sound
+returns-clause-sound g c sound = c.run_text.ensures.sound (c.read_bytes.ensures.sound ∙ sound)

@@ -1,10 +1,12 @@
-use Rattle.std.proofs.Common.{List, map, ap, sym, subst, ◌∙◌}
+use Rattle.std.proofs.Common.{List, refl, map, ap, sym, subst, ◌∙◌}
 use Rattle.std.specs.List.{All}
 use Rattle.std.specs.Str.{valid_up_to}
 use Rattle.bz_line.specs.Paths.{HasPath}
 use Rattle.bz_line.specs.Shown.{asked_in, usage_in}
 use Rattle.bz_line.specs.declared.asked.Asked.{Asked}
 use Rattle.bz_engine.specs.Run.{World}
+use Rattle.bz_engine.proofs.MomentSteps.{IsMomentOfText, by_text}
+use Rattle.bz_engine.proofs.UnusedSteps.{no_time}
 use Rattle.bz_engine.proofs.Outcomes.{apart, text_invalid, text_refused, text_done}
 use Rattle.bz_engine.proofs.UsageSteps.{text_told, script_told, script_lines_told}
 use Rattle.bz_engine.proofs.engine.run_text.Goals as goal
@@ -71,3 +73,17 @@ returns-in-Err-read_script-clause-usage g c is =
     script_told c.args.options c.args.name.now c.args.bytes.now c.in-Ok.text.now c.told_name-in-Err-read_script.result.now (usage_in c.in-Err-read_script.fault)
     told.0 told.1 (g.E.Sink.faults c.args.err.now) (g.E.Sink.faults c.unasked.new.err) (g.E.Sink.contents c.args.err.now) (g.E.Sink.contents c.unasked.new.err)
     c.in-Ok.ensures.cases.0 c.in-Ok.ensures.cases.1 c.in-Err-read_script.ensures.err told.2 c.told_name-in-Err-read_script.ensures told.3 told.4
+
+pub returns-in-Err-clause-moments : goal.returns-in-Err-clause-moments
+returns-in-Err-clause-moments g c kept honest = no_time g.F.Files.moment g.F.Files.since c.args.files.now c.args.files.now
+    (IsMomentOfText (g.F.Files.folder c.args.files.now) c.args.bytes.now) refl
+
+pub returns-in-Ok-read_script-clause-moments : goal.returns-in-Ok-read_script-clause-moments
+returns-in-Ok-read_script-clause-moments g c kept honest =
+    by_text g.F.Files c.args.files.now c.run_lines_of.new.files c.args.bytes.now c.in-Ok.text.now (map asked_in c.in-Ok-read_script.lines.items)
+    (map asked_in c.deref.result.now) c.in-Ok.ensures.cases.0 c.in-Ok-read_script.ensures.ok (ap (map asked_in) c.deref.ensures.value)
+    (c.run_lines_of.ensures.moments kept honest)
+
+pub returns-in-Err-read_script-clause-moments : goal.returns-in-Err-read_script-clause-moments
+returns-in-Err-read_script-clause-moments g c kept honest = no_time g.F.Files.moment g.F.Files.since c.args.files.now c.args.files.now
+    (IsMomentOfText (g.F.Files.folder c.args.files.now) c.args.bytes.now) refl

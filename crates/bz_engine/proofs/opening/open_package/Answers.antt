@@ -8,7 +8,7 @@ use Rattle.bz_ports.specs.declared.exit.Cut.TheVariants as cut
 use Rattle.bz_engine.specs.Cuts.{IsLeft}
 use Rattle.bz_ports.specs.Ports.{IsInput}
 use Rattle.bz_engine.specs.Steps.{input_package}
-use Rattle.bz_engine.proofs.OpenSteps.{is_found, last_place, left_behind, left_behind_input, place_again, uses_found, uses_input}
+use Rattle.bz_engine.proofs.OpenSteps.{adds_more, is_found, last_place, left_behind, left_behind_input, place_again, uses_found, uses_input}
 use Rattle.bz_engine.proofs.ReadSteps.{opens_first, opens_again, uses_so}
 use Rattle.bz_engine.proofs.opening.open_package.Goals as goal
 
@@ -117,4 +117,23 @@ returns-clause-input g c = λ plain is.
           let done = c.open.ensures.again some.0 some.1 in
           opens_again some.0 old c.open.new.self c.open.result.place c.open.result.cut (ap (λ (o : Opening). o.place) done.0)
           (ap (λ (o : Opening). o.cut) done.0) done.1 (uses_so name old some.0 is some.1)
+    ]
+
+pub returns-then-wants_input-clause-some : goal.returns-then-wants_input-clause-some
+returns-then-wants_input-clause-some g c = λ kept honest. absurd (true≢false (sym kept ∙ (c.wants_input.ensures.yes c.if-wants_input.true).0))
+
+pub returns-then-wants_input-clause-time : goal.returns-then-wants_input-clause-time
+returns-then-wants_input-clause-time g c = λ kept honest. absurd (true≢false (sym kept ∙ (c.wants_input.ensures.yes c.if-wants_input.true).0))
+
+pub returns-clause-some : goal.returns-clause-some
+returns-clause-some g c = λ kept honest.
+    let old = c.args.workspace.now in
+    let new = c.open.new.self in
+    let name = c.args.package.now in
+    let folder = g.F.Files.folder c.args.files.now in
+    elim (is_found (package_number name old)) [
+      | inl none ↦ inr (none, adds_more name c.args.journals folder c.open.result.place old new (g.F.Files.honest c.args.files.now) kept honest (c.open.ensures.adds none))
+      | inr some ↦
+          let done = c.open.ensures.again some.0 some.1 in
+          inl (some.0, some.1, done.1, ap (λ (o : Opening). o.place) done.0)
     ]

@@ -3,7 +3,7 @@ use Rattle.std.specs.List.{All, flat_map}
 use Rattle.bz_label.specs.declared.target.Target.{Target}
 use Rattle.bz_line.specs.Shown.{asking_in, asked_in}
 use Rattle.bz_line.specs.declared.asked.Asking.{Asking}
-use Rattle.bz_engine.specs.Calls.{KeepsBetween, spot}
+use Rattle.bz_engine.specs.Calls.{KeepsBetween, PassesSafely, spot}
 use Rattle.bz_engine.specs.Keeping.{RunsBeside}
 use Rattle.bz_engine.specs.Steps.{RunStep, input_package, step_of, steps_asked}
 use Rattle.bz_engine.proofs.RunSteps.{Done, Goes, part_none, part_more, all_done, left_at, none_at, all_at}
@@ -44,7 +44,10 @@ loop-target-preserved g c =
       keeps = λ kept honest whole.
           subst (λ (all : List Asking). KeepsBetween (RunsBeside c.args.options.keep_going (on_target all target)) mid new) c.deref.ensures.value
           (e.ensures.keeps kept honest whole);
+      safely = λ kept honest. subst (λ (all : List Asking). PassesSafely (on_target all target) mid new) c.deref.ensures.value (e.ensures.safely kept honest);
       unread = e.ensures.unread;
+      works = e.ensures.works;
+      sound = e.ensures.sound;
     } in
     rw (c.first_cut-cut.ensures) (part_more c.args.options.journal (All IsOfInput targets) (IsOfInput target) c.args.options.keep_going (steps_asked (asked_in c.args.line.now))
     (flat_map (on_target commands) (drop at targets)) (on_target commands target) (flat_map (on_target commands) (drop (at + 1) targets))

@@ -50,7 +50,10 @@ loop-asking-preserved g c =
       keeps = λ kept honest whole stand.
           let does = e.ensures.keeps kept honest whole stand in
           (does.0, one_beside c.args.options.keep_going step mid.folder new.folder mid.state new.state does.0 on does.1, does.2);
+      safely = e.ensures.safely;
       unread = e.ensures.unread;
+      works = e.ensures.works;
+      sound = e.ensures.sound;
       cut = e.ensures.cut;
       reads = e.ensures.reads;
       counts = e.ensures.counts;

@@ -5,6 +5,7 @@ use Rattle.bz_workspace.specs.Found.{found_in}
 use Rattle.bz_workspace.specs.Packages as p
 use Rattle.bz_workspace.proofs.FileSteps.{before_added, closed_last, put_last}
 use Rattle.bz_workspace.proofs.FoundSteps.{plain_opens}
+use Rattle.bz_workspace.proofs.OpenedSteps.{added, last_within, puts_behind, puts_there}
 use Rattle.bz_workspace.proofs.workspace.Workspace.open.Goals as goal
 
 pub open_first-requires-clause-closed : goal.open_first-requires-clause-closed
@@ -45,4 +46,16 @@ returns-in-Ok-clause-first g c = λ plain honest cut none.
 pub returns-in-Ok-clause-kept : goal.returns-in-Ok-clause-kept
 returns-in-Ok-clause-kept g c =
     before_added c.in-Ok.place c.args.self.now c.add.new.self c.open_first.new.self (record { «package» = c.as_bytes-2.result.now; file = None })
-    c.in-Ok.ensures.place c.in-Ok.ensures.ok c.open_first.ensures.kept
+    c.in-Ok.ensures.place c.in-Ok.ensures.ok
+    (puts_behind c.in-Ok.place _ _ c.add.new.self c.open_first.new.self c.open_first.ensures.puts)
+
+pub returns-in-Ok-clause-adds : goal.returns-in-Ok-clause-adds
+returns-in-Ok-clause-adds g c = λ none.
+    let old = c.args.self.now in
+    let mid : c.add.new.self ≡ old ++ record { «package» = c.args.package.now; file = None } ∷ [] =
+    c.in-Ok.ensures.ok ∙ ap (λ (text : Bytes). old ++ record { «package» = text; file = None } ∷ []) c.as_bytes-2.ensures.value in
+    added c.in-Ok.place c.args.package.now _ _ old c.add.new.self c.open_first.new.self c.in-Ok.ensures.place mid c.open_first.ensures.puts
+
+pub returns-in-Ok-clause-there : goal.returns-in-Ok-clause-there
+returns-in-Ok-clause-there g c = puts_there c.in-Ok.place _ _ c.add.new.self c.open_first.new.self (last_within c.in-Ok.place c.args.self.now c.add.new.self
+    (record { «package» = c.as_bytes-2.result.now; file = None }) c.in-Ok.ensures.place c.in-Ok.ensures.ok) c.open_first.ensures.puts

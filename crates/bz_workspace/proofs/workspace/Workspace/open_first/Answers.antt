@@ -1,5 +1,9 @@
-use Rattle.std.proofs.Common.{◌∙◌, ap, Err}
+use Rattle.std.proofs.Common.{◌∙◌, ap, refl, Err, subst, Some, inl, []}
+use Rattle.bz_workspace.specs.declared.opening.Opening.{Opening}
 use Rattle.bz_workspace.proofs.FoundSteps.{first_opens, first_absent}
+use Rattle.bz_files.specs.Folder.{Folder}
+use Rattle.bz_workspace.specs.Journals.{IsOpenedIn, TakesBeside, journal_beside}
+use Rattle.bz_workspace.proofs.OpenedSteps.{is_opened, nothing_put, puts_more, still_on}
 use Rattle.bz_workspace.proofs.workspace.Workspace.open_first.Goals as goal
 
 pub returns-in-Ok-bytes_of-clause-first : goal.returns-in-Ok-bytes_of-clause-first
@@ -27,3 +31,37 @@ returns-in-Err-Absent-clause-first g c = λ honest cut.
       done.4,
       done.5,
     )
+
+pub returns-in-Ok-bytes_of-clause-puts : goal.returns-in-Ok-bytes_of-clause-puts
+returns-in-Ok-bytes_of-clause-puts g c =
+    let read = c.in-Ok-bytes_of.ensures in
+    let folder = g.F.Files.folder in
+    let name = c.as_str-name.result.now in
+    puts_more c.args.place _ _ _ c.args.self.now c.open_found.new.self (λ file is honest.
+    let held = read.found honest in
+    is_opened c.args.journals (folder c.args.files.now) c.args.package.now name c.in-Ok-bytes_of.text.items held.0 file (inl (c.as_str-name.ensures.value ∙ c.in-Ok.ensures))
+    held.1 held.2 (subst (λ (f : Folder). TakesBeside (journal_beside c.args.journals f name) c.args.package.now name c.in-Ok-bytes_of.text.items (Some file) [])
+    (read.folder honest) (is (read.honest ∙ honest)))) c.open_found.ensures.puts
+
+pub returns-in-Ok-bytes_of-clause-time : goal.returns-in-Ok-bytes_of-clause-time
+returns-in-Ok-bytes_of-clause-time g c honest =
+    let read = c.in-Ok-bytes_of.ensures in
+    still_on g.F.Files c.args.files.now c.bytes_of.new.files c.open_found.new.files (read.folder honest) (read.time honest) (c.open_found.ensures.time (read.honest ∙ honest))
+
+pub returns-in-Err-Absent-clause-puts : goal.returns-in-Err-Absent-clause-puts
+returns-in-Err-Absent-clause-puts g c =
+    let read = c.in-Err-Absent.ensures in
+    puts_more c.args.place _ _ _ c.args.self.now c.open_second.new.self (λ file is honest.
+    subst (λ (f : Folder). IsOpenedIn c.args.journals f c.args.package.now file) (read.folder honest) (is (read.honest ∙ honest))) c.open_second.ensures.puts
+
+pub returns-in-Err-Absent-clause-time : goal.returns-in-Err-Absent-clause-time
+returns-in-Err-Absent-clause-time g c honest =
+    let read = c.in-Err-Absent.ensures in
+    still_on g.F.Files c.args.files.now c.bytes_of.new.files c.open_second.new.files (read.folder honest) (read.time honest)
+    (c.open_second.ensures.time (read.honest ∙ honest))
+
+pub returns-in_default-clause-puts : goal.returns-in_default-clause-puts
+returns-in_default-clause-puts g c = nothing_put c.args.place _ _ c.args.self.now c.args.self.now c.requires.closed (ap (λ (o : Opening). o.place) c.unnamed.ensures) refl
+
+pub returns-in-Err-Memory-clause-puts : goal.returns-in-Err-Memory-clause-puts
+returns-in-Err-Memory-clause-puts g c = nothing_put c.args.place _ _ c.args.self.now c.args.self.now c.requires.closed (ap (λ (o : Opening). o.place) c.fail.ensures.opening) refl

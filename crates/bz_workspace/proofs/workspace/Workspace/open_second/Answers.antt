@@ -1,8 +1,11 @@
-use Rattle.std.proofs.Common.{◌∙◌, ap, sym, refl, Err, None, [], ◌∷◌, codes}
+use Rattle.std.proofs.Common.{◌∙◌, ap, sym, refl, Err, None, [], ◌∷◌, codes, subst, Some, inr}
 use Rattle.bz_ports.specs.Told.{named_line}
 use Rattle.bz_workspace.specs.declared.opening.Opening.{Opening}
 use Rattle.bz_workspace.proofs.FileSteps.{none_stays}
 use Rattle.bz_workspace.proofs.FoundSteps.{second_opens, neither_opens}
+use Rattle.bz_files.specs.Folder.{Folder}
+use Rattle.bz_workspace.specs.Journals.{IsOpenedIn, TakesBeside, journal_beside}
+use Rattle.bz_workspace.proofs.OpenedSteps.{is_opened, nothing_put, puts_more, still_on}
 use Rattle.bz_workspace.proofs.workspace.Workspace.open_second.Goals as goal
 
 pub returns-in-Ok-bytes_of-clause-second : goal.returns-in-Ok-bytes_of-clause-second
@@ -30,3 +33,31 @@ returns-in-Err-Absent-clause-second g c = λ honest cut.
       ap (λ (o : Opening). o.place) c.fail.ensures.opening,
       (g.E.Sink.faults c.fail.new.err, g.E.Sink.contents c.fail.new.err, c.fail.ensures.told, (refl, refl)),
     )
+
+pub returns-in-Ok-bytes_of-clause-puts : goal.returns-in-Ok-bytes_of-clause-puts
+returns-in-Ok-bytes_of-clause-puts g c =
+    let read = c.in-Ok-bytes_of.ensures in
+    let folder = g.F.Files.folder in
+    let name = c.as_str-name.result.now in
+    puts_more c.args.place _ _ _ c.args.self.now c.open_found.new.self (λ file is honest.
+    let held = read.found honest in
+    is_opened c.args.journals (folder c.args.files.now) c.args.package.now name c.in-Ok-bytes_of.text.items held.0 file (inr (c.as_str-name.ensures.value ∙ c.in-Ok.ensures))
+    held.1 held.2 (subst (λ (f : Folder). TakesBeside (journal_beside c.args.journals f name) c.args.package.now name c.in-Ok-bytes_of.text.items (Some file) [])
+    (read.folder honest) (is (read.honest ∙ honest)))) c.open_found.ensures.puts
+
+pub returns-in-Ok-bytes_of-clause-time : goal.returns-in-Ok-bytes_of-clause-time
+returns-in-Ok-bytes_of-clause-time g c honest =
+    let read = c.in-Ok-bytes_of.ensures in
+    still_on g.F.Files c.args.files.now c.bytes_of.new.files c.open_found.new.files (read.folder honest) (read.time honest) (c.open_found.ensures.time (read.honest ∙ honest))
+
+pub returns-in_default-clause-puts : goal.returns-in_default-clause-puts
+returns-in_default-clause-puts g c = nothing_put c.args.place _ _ c.args.self.now c.args.self.now c.requires.closed (ap (λ (o : Opening). o.place) c.unnamed.ensures) refl
+
+pub returns-in-Err-Absent-clause-puts : goal.returns-in-Err-Absent-clause-puts
+returns-in-Err-Absent-clause-puts g c = nothing_put c.args.place _ _ c.args.self.now c.args.self.now c.requires.closed (ap (λ (o : Opening). o.place) c.fail.ensures.opening) refl
+
+pub returns-in-Err-Memory-clause-puts : goal.returns-in-Err-Memory-clause-puts
+returns-in-Err-Memory-clause-puts g c = nothing_put c.args.place _ _ c.args.self.now c.args.self.now c.requires.closed (ap (λ (o : Opening). o.place) c.fail-in-Err-Memory.ensures.opening) refl
+
+pub returns-clause-puts : goal.returns-clause-puts
+returns-clause-puts g c = nothing_put c.args.place _ _ c.args.self.now c.args.self.now c.requires.closed (ap (λ (o : Opening). o.place) c.fail-in-Err.ensures.opening) refl

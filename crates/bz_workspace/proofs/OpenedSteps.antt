@@ -1,0 +1,118 @@
+-- The file that an opening leaves, whatever comes.
+use Rattle.std.proofs.Common.{arith, ◌≡◌, ◌∙◌, ◌+◌, ◌<◌, ◌++◌, inl, inr, ℕ, suc, Bool, List, [], ◌∷◌, length, take, Option, Some, None, Result, Ok, Err, refl, sym, ap, subst}
+use Rattle.std.specs.Prelude.{IfSome, IsSome, unwrap_or}
+use Rattle.std.specs.Option.{option_map}
+use Rattle.std.specs.FinMap.{get}
+use Rattle.bz_tree.specs.Spell.{limit}
+use Rattle.bz_items.specs.Characters.{Bytes}
+use Rattle.bz_files.specs.Folder.{Folder}
+use Rattle.bz_files.specs.declared.files.Files.{Ghosts as FilesOf}
+use Rattle.bz_files.proofs.Elapsing.{elapsed_on, stays}
+use Rattle.bz_journal.specs.History.{History}
+use Rattle.bz_resume.specs.declared.fault.ResumeFault.{ResumeFault}
+use Rattle.bz_workspace.specs.Found.{IsNameOf}
+use Rattle.bz_workspace.specs.Journals.{Adds, IsOpenedIn, Puts, TakesBeside, file_of_journal, journal_beside, lines_of_journal}
+use Rattle.bz_workspace.specs.Keeps.{KeepsFolder}
+use Rattle.bz_workspace.specs.Packages.{Opened, Used, file_at, opened_with, with_opened}
+use Rattle.bz_workspace.proofs.FileSteps.{before_stay, none_stays, opened_there, put_last}
+use Rattle.bz_workspace.proofs.JournalSteps.{front_beside}
+
+-- ---- what was taken
+
+same_file : (one other : Opened) → ◌≡◌ {A = Option Opened} (Some one) (Some other) → one ≡ other
+same_file one other is = ap (λ (found : Option Opened). unwrap_or found one) is
+
+given_some : (name text : Bytes) (given : Result History ResumeFault) (file : Opened) (lines : List Bytes) → Some file ≡ file_of_journal name text given
+    → lines ≡ lines_of_journal name given → (file.name ≡ name) × (file.read ≡ text) × (lines ≡ [])
+given_some name text (Ok history) file lines is told =
+    let same = same_file file (opened_with name text history) is in (ap (λ (f : Opened). f.name) same, ap (λ (f : Opened). f.read) same, told)
+given_some name text (Err fault) file lines is told = absurd (let e = is in cc)
+
+-- an open file has the name and the text that were read, and nothing is told
+takes_some : (journal : Option Bytes) (current name text : Bytes) (file : Opened) (lines : List Bytes) → TakesBeside journal current name text (Some file) lines
+    → (file.name ≡ name) × (file.read ≡ text) × (lines ≡ [])
+takes_some None current name text file lines (inl (accepted, is, told)) =
+    let same = same_file file _ is in (ap (λ (f : Opened). f.name) same, ap (λ (f : Opened). f.read) same, told)
+takes_some None current name text file lines (inr (refused, (fault, of, is, told))) = absurd (let e = is in cc)
+takes_some (Some bytes) current name text file lines (given, comes, is, told) = given_some name text given file lines is told
+
+pub taken : (journal : Option Bytes) (current name text : Bytes) (file : Option Opened) (lines : List Bytes) → TakesBeside journal current name text file lines
+    → IfSome file (λ f. TakesBeside journal current name text (Some f) [])
+taken journal current name text None lines takes = tt
+taken journal current name text (Some file) lines takes =
+    subst (λ (told : List Bytes). TakesBeside journal current name text (Some file) told) (takes_some journal current name text file lines takes).2 takes
+
+-- a file of which these first bytes were read
+pub is_opened : (journals : Bool) (folder : Folder) (current name front text : Bytes) (file : Opened) → IsNameOf current name → get folder name ≡ Some text
+    → front ≡ take (limit + 1) text → TakesBeside (journal_beside journals folder name) current name front (Some file) [] → IsOpenedIn journals folder current file
+is_opened journals folder current name front text file named held cut takes =
+    let journal = journal_beside journals folder name in
+    let whole = front_beside journal current name front text (Some file) [] cut takes in
+    let at = takes_some journal current name text file [] whole in record {
+      named = subst (IsNameOf current) (sym at.0) named;
+      there = ap (get folder) at.0 ∙ held ∙ ap Some (sym at.1);
+      opens = subst (λ (t : Bytes). TakesBeside (journal_beside journals folder file.name) current file.name t (Some file) []) (sym at.1)
+          (subst (λ (n : Bytes). TakesBeside (journal_beside journals folder n) current n text (Some file) []) (sym at.0) whole);
+    }
+
+-- ---- what is put at a place
+
+if_some : (Is Now : Opened → Type 0) (file : Option Opened) → ((f : Opened) → Is f → Now f) → IfSome file Is → IfSome file Now
+if_some Is Now None more is = tt
+if_some Is Now (Some file) more is = more file is
+
+pub puts_more : (place : ℕ) (Is Now : Opened → Type 0) (number : Option ℕ) (before after : List Used) → ((f : Opened) → Is f → Now f)
+    → Puts place Is number before after → Puts place Now number before after
+puts_more place Is Now number before after more (file, put, at, is) = (file, put, at, if_some Is Now file more is)
+
+pub nothing_put : (place : ℕ) (Is : Opened → Type 0) (number : Option ℕ) (before after : List Used) → file_at place before ≡ None → number ≡ None → after ≡ before
+    → Puts place Is number before after
+nothing_put place Is number before after closed is same = (None, same ∙ sym (none_stays place before closed), is, tt)
+
+-- what a text is opened as, with a journal or without, where the files are trusted
+pub taken_put : (Trusted : Type 0) (journal : Option Bytes) (current name text : Bytes) (place : ℕ) (number : Option ℕ) (before after : List Used) (file : Option Opened)
+    (lines : List Bytes) → (Trusted → TakesBeside journal current name text file lines) → after ≡ with_opened place file before
+    → number ≡ option_map (λ (_ : Opened). place) file → Puts place (λ f. Trusted → TakesBeside journal current name text (Some f) []) number before after
+taken_put Trusted journal current name text place number before after None lines takes put at = (None, put, at, tt)
+taken_put Trusted journal current name text place number before after (Some file) lines takes put at =
+    (Some file, put, at, λ trusted. taken journal current name text (Some file) lines (takes trusted))
+
+pub puts_there : (place : ℕ) (Is : Opened → Type 0) (number : Option ℕ) (before after : List Used) → place < length before → Puts place Is number before after
+    → IfSome number (λ at. IsSome (file_at at after))
+puts_there place Is number before after within (None, put, at, is) = subst (λ (found : Option ℕ). IfSome found (λ at. IsSome (file_at at after))) (sym at) tt
+puts_there place Is number before after within (Some file, put, at, is) =
+    subst (λ (found : Option ℕ). IfSome found (λ at. IsSome (file_at at after))) (sym at) (opened_there place file before before after refl within put)
+
+pub puts_behind : (place : ℕ) (Is : Opened → Type 0) (number : Option ℕ) (before after : List Used) → Puts place Is number before after → take place after ≡ take place before
+puts_behind place Is number before after (file, put, at, is) = before_stay place file before after put
+
+pub added : (place : ℕ) (current : Bytes) (Is : Opened → Type 0) (number : Option ℕ) (used mid new : List Used) → place ≡ length used
+    → mid ≡ used ++ record { «package» = current; file = None } ∷ [] → Puts place Is number mid new → Adds current Is number used new
+added place current Is number used mid new last is (file, put, at, kind) =
+    inr (
+      file,
+      put_last place used mid new (record { «package» = current; file = None }) file last is put,
+      at ∙ ap (λ (n : ℕ). option_map (λ (_ : Opened). n) file) last,
+      kind,
+    )
+
+length_last : (used : List Used) (one : Used) → length (used ++ one ∷ []) ≡ suc (length used)
+length_last [] one = refl
+length_last (first ∷ more) one = ap suc (length_last more one)
+
+-- the last package is one of them
+pub last_within : (place : ℕ) (used mid : List Used) (one : Used) → place ≡ length used → mid ≡ used ++ one ∷ [] → place < length mid
+last_within place used mid one at is = let long = ap length is ∙ length_last used one in omega (arith, at, long)
+
+-- ---- moments
+
+-- no time went by
+pub still_same : {F : Type 0} (files : FilesOf F) (old : F) → KeepsFolder files old old
+still_same files old = stays (files.moment old) (files.since old) (λ (now : Folder). now ≡ files.folder old)
+
+-- two calls, one after the other
+pub still_on : {F : Type 0} (files : FilesOf F) (old mid new : F) → files.folder mid ≡ files.folder old → KeepsFolder files old mid → KeepsFolder files mid new
+    → KeepsFolder files old new
+still_on files old mid new same first second =
+    elapsed_on (files.moment old) (files.moment mid) (files.moment new) (files.since old) (files.since mid) (files.since new)
+    (λ (now : Folder). now ≡ files.folder old) (λ (now : Folder). now ≡ files.folder mid) (λ now is. is ∙ same) first second
