@@ -22,3 +22,5 @@ pub mod AllLines
 pub mod Blanks
 pub mod Build
 pub mod Newer
+pub mod Extended
+pub mod Joining

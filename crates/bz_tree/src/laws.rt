@@ -1,4 +1,5 @@
 //! Laws of legal trees: the contract of each function is a law, and there is nothing to run.
+ghost use Rattle.bz_tree.specs.Joined.{BzlLinesJoin, LinesJoin};
 ghost use Rattle.bz_tree.specs.Laws.{GapsByNodes, KindOfNumber, LegalByLines, LegalByNodes, OneFile, OneReading, OneBzlReading, OneTree};
 ghost use Rattle.bz_tree.specs.Worked.{WorkedLines};
 
@@ -37,6 +38,12 @@ pub fn legal_by_nodes()
 /// line begins behind a space or a tab.
 pub fn legal_by_lines()
     ensures { LegalByLines }
+{}
+
+/// A text of whole lines and a text behind it read as the lines of both, in the grammar of BUILD files and in that of `.bzl` files.
+pub fn lines_join()
+    ensures build { LinesJoin }
+    ensures bzl { BzlLinesJoin }
 {}
 
 /// The lines of the statements of one small text.
