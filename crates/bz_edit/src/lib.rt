@@ -17,5 +17,5 @@ pub use across::advance_across;
 pub use advancing::{advance, advance_at};
 pub use edit::{Edit, EditFault};
 pub use exchanging::{all_even, exchange, exchange_node};
-pub use place::swap_each;
+pub use place::{all_places, swap_each};
 pub use step::{Step, weight};

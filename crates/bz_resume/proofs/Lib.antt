@@ -9,7 +9,4 @@ pub mod Slots
 pub mod Saves
 pub mod Stands
 pub mod Outlined
-pub mod Extended
-pub mod Joining
-pub mod Split
 pub mod Touched

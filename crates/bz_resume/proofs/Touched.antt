@@ -12,17 +12,17 @@ use Rattle.bz_tree.specs.declared.tree.Part.TheVariants as p
 use Rattle.bz_tree.specs.Spell.{leaves_part, spell_node, spell_part, limit}
 use Rattle.bz_tree.specs.Legal.{Legal, Reads, IsSort}
 use Rattle.bz_tree.specs.Shapes.{Several, line, end}
-use Rattle.bz_tree.specs.Suites.{file_of}
+use Rattle.bz_tree.specs.Joined.{AreWholeLines, file_with, last_token}
+use Rattle.bz_tree.specs.Split.{bare_end}
 use Rattle.bz_tree.proofs.Balance.{no_such}
 use Rattle.bz_tree.proofs.Spells.{leaves_Node}
+use Rattle.bz_tree.proofs.Joining.{lines_join}
+use Rattle.bz_tree.proofs.Split.{all_both, leaves_both, IsLast, lines_split}
 use Rattle.bz_edit.specs.declared.edit.Edit.{Edit}
 use Rattle.bz_edit.specs.Steps.{here, if_here, below, if_below, spliced, splice_all, swap_part, swap_list, swap_node}
 use Rattle.bz_edit.proofs.Swaps.{stays, swap_none}
 use Rattle.bz_trail.specs.Trails.{IsTree}
-use Rattle.bz_resume.specs.Joined.{AreWholeLines, last_token}
-use Rattle.bz_resume.specs.Alone.{bare_end, behind_alone, IsAlone, AreAlone, EndsLine, IsLineFeed, AreLined, IsAloneAt, IsWithin, IsTouchedAlone, IsHeldAlone, AreTouchedAlone}
-use Rattle.bz_resume.proofs.Split.{all_both, leaves_both, IsLast, split_file}
-use Rattle.bz_resume.proofs.Joining.{lines_join}
+use Rattle.bz_resume.specs.Alone.{behind_alone, IsAlone, AreAlone, EndsLine, IsLineFeed, AreLined, IsAloneAt, IsWithin, IsTouchedAlone, IsHeldAlone, AreTouchedAlone}
 
 -- ---- a legal file has parts that are legal by themselves
 
@@ -30,23 +30,23 @@ node_last : (kind : _) (size : _) (row : _) → Several (IsSort line) IsLast (No
 node_last kind size row (inl f) = no_such f.0
 node_last kind size row (inr f) = f.1
 
-end_alone : (x : Part) → Legal (file_of (x ∷ [])) → IsAlone x
+end_alone : (x : Part) → Legal (file_with (x ∷ [])) → IsAlone x
 end_alone (p.Leaf l) h = h
 end_alone (Node' kind size row) h = absurd (node_last kind size row h.file.shapes.0)
 
-line_alone : (x y : Part) (ys : List Part) → Several (IsSort line) IsLast (x ∷ y ∷ ys) → Legal (file_of (x ∷ bare_end ∷ [])) → IsAlone x
+line_alone : (x y : Part) (ys : List Part) → Several (IsSort line) IsLast (x ∷ y ∷ ys) → Legal (file_with (x ∷ bare_end ∷ [])) → IsAlone x
 line_alone x y ys (inl f) h = absurd f.1
 line_alone (p.Leaf l) y ys (inr f) h = no_such f.0
 line_alone (Node' kind size row) y ys (inr f) h = h
 
-parts_alone : (xs : List Part) → Legal (file_of xs) → AreAlone xs
+parts_alone : (xs : List Part) → Legal (file_with xs) → AreAlone xs
 parts_alone [] h = tt
 parts_alone (x ∷ []) h = (end_alone x h, tt)
 parts_alone (x ∷ y ∷ ys) h =
-    let w = split_file (x ∷ []) y ys h in
+    let w = lines_split (x ∷ []) y ys h in
     (line_alone x y ys h.file.shapes.0 w.0, parts_alone (y ∷ ys) w.1)
 
-as_file : (n : Node) → n.kind ≡ k.File → n ≡ file_of n.parts
+as_file : (n : Node) → n.kind ≡ k.File → n ≡ file_with n.parts
 as_file n e = ap (λ kind. (let m : Node = record { kind = kind; parts = n.parts } in m)) e
 
 pub legal_alone : (n : Node) → Legal n → AreAlone n.parts
@@ -54,30 +54,30 @@ legal_alone n h = parts_alone n.parts (subst Legal (as_file n h.file.root) h)
 
 -- ---- lines that are legal by themselves make a legal file
 
-text_alone : (x : Part) → spell_node (file_of (x ∷ bare_end ∷ [])) ≡ spell_part x
+text_alone : (x : Part) → spell_node (file_with (x ∷ bare_end ∷ [])) ≡ spell_part x
 text_alone x = append-nil (spell_part x)
 
-one_more : (x : Part) (ps : List Part) → AreWholeLines (x ∷ []) → Legal (file_of (x ∷ bare_end ∷ [])) → Legal (file_of ps) → length (spell_node (file_of (x ∷ ps))) ≤ limit → Legal (file_of (x ∷ ps))
+one_more : (x : Part) (ps : List Part) → AreWholeLines (x ∷ []) → Legal (file_with (x ∷ bare_end ∷ [])) → Legal (file_with ps) → length (spell_node (file_with (x ∷ ps))) ≤ limit → Legal (file_with (x ∷ ps))
 one_more x ps whole g h le =
-    let s = spell_node (file_of (x ∷ bare_end ∷ [])) in
-    let t = spell_node (file_of ps) in
-    let all : s ++ t ≡ spell_node (file_of (x ∷ ps)) = ap (λ z. z ++ t) (text_alone x) in
-    let size : length s + length t ≡ length (spell_node (file_of (x ∷ ps))) = sym (length-append s t) ∙ ap length all in
-    (lines_join s t (file_of (x ∷ bare_end ∷ [])) (file_of ps) (x ∷ []) _ refl whole refl (g, refl, omega (arith, size, le)) (h, refl, omega (arith, size, le)) (subst (λ z. length z ≤ limit) (sym all) le)).0
+    let s = spell_node (file_with (x ∷ bare_end ∷ [])) in
+    let t = spell_node (file_with ps) in
+    let all : s ++ t ≡ spell_node (file_with (x ∷ ps)) = ap (λ z. z ++ t) (text_alone x) in
+    let size : length s + length t ≡ length (spell_node (file_with (x ∷ ps))) = sym (length-append s t) ∙ ap length all in
+    (lines_join s t (file_with (x ∷ bare_end ∷ [])) (file_with ps) (x ∷ []) _ refl whole refl (g, refl, omega (arith, size, le)) (h, refl, omega (arith, size, le)) (subst (λ z. length z ≤ limit) (sym all) le)).0
 
-shorter : (x : Part) (ps : List Part) → length (spell_node (file_of (x ∷ ps))) ≤ limit → length (spell_node (file_of ps)) ≤ limit
-shorter x ps le = omega (arith, le, length-append (spell_part x) (spell_node (file_of ps)))
+shorter : (x : Part) (ps : List Part) → length (spell_node (file_with (x ∷ ps))) ≤ limit → length (spell_node (file_with ps)) ≤ limit
+shorter x ps le = omega (arith, le, length-append (spell_part x) (spell_node (file_with ps)))
 
-lines_legal : (xs : List Part) (l : Leaf) → AreAlone (xs ++ p.Leaf l ∷ []) → AllByRecursion EndsLine xs → length (spell_node (file_of (xs ++ p.Leaf l ∷ []))) ≤ limit → Legal (file_of (xs ++ p.Leaf l ∷ []))
+lines_legal : (xs : List Part) (l : Leaf) → AreAlone (xs ++ p.Leaf l ∷ []) → AllByRecursion EndsLine xs → length (spell_node (file_with (xs ++ p.Leaf l ∷ []))) ≤ limit → Legal (file_with (xs ++ p.Leaf l ∷ []))
 lines_legal [] l h g le = h.0
 lines_legal (p.Leaf m ∷ xs) l h g le = absurd g.0
 lines_legal (Node' kind size row ∷ xs) l h g le =
     let ps = xs ++ p.Leaf l ∷ [] in
     one_more (Node' kind size row) ps g.0 h.0 (lines_legal xs l h.1 g.1 (shorter (Node' kind size row) ps le)) le
 
-pub lined_legal : (ps : List Part) → AreAlone ps → AreLined ps → length (spell_node (file_of ps)) ≤ limit → Legal (file_of ps)
+pub lined_legal : (ps : List Part) → AreAlone ps → AreLined ps → length (spell_node (file_with ps)) ≤ limit → Legal (file_with ps)
 lined_legal ps h w le =
-    subst (λ qs. Legal (file_of qs)) (sym w.2) (lines_legal w.0 w.1 (subst AreAlone w.2 h) w.3 (subst (λ qs. length (spell_node (file_of qs)) ≤ limit) w.2 le))
+    subst (λ qs. Legal (file_with qs)) (sym w.2) (lines_legal w.0 w.1 (subst AreAlone w.2 h) w.3 (subst (λ qs. length (spell_node (file_with qs)) ≤ limit) w.2 le))
 
 -- ---- how the code tests it
 

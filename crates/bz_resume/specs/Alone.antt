@@ -2,18 +2,13 @@
 use Rattle.std.specs.Prelude.{◌≡◌, ◌⊎◌, ℕ, List, [], ◌∷◌, ◌++◌, Some, slice_get}
 use Rattle.std.specs.List.{AllByRecursion}
 use Rattle.bz_items.specs.Characters.{line_feed}
-use Rattle.bz_token.specs.declared.class.Class.TheVariants as c
 use Rattle.bz_lex.specs.declared.leaf.Leaf.{Leaf}
 use Rattle.bz_tree.specs.declared.tree.Part.{Part, Node'}
 use Rattle.bz_tree.specs.declared.tree.Part.TheVariants as p
 use Rattle.bz_tree.specs.Legal.{Legal}
-use Rattle.bz_tree.specs.Suites.{file_of}
+use Rattle.bz_tree.specs.Joined.{AreWholeLines, file_with}
+use Rattle.bz_tree.specs.Split.{bare_end}
 use Rattle.bz_edit.specs.declared.edit.Edit.{Edit}
-use Rattle.bz_resume.specs.Joined.{AreWholeLines}
-
--- the end of a text, with nothing before it
-abbrev pub bare_end : Part
-bare_end = p.Leaf (record { class = c.End; gap = []; token = [] })
 
 -- what stands behind a part in a file that has it alone
 abbrev pub behind_alone : Part → List Part
@@ -22,7 +17,7 @@ behind_alone (Node' k s r) = bare_end ∷ []
 
 -- the part makes a legal file by itself
 abbrev pub IsAlone : Part → Type 0
-IsAlone x = Legal (file_of (x ∷ behind_alone x))
+IsAlone x = Legal (file_with (x ∷ behind_alone x))
 
 abbrev pub AreAlone : List Part → Type 0
 AreAlone xs = AllByRecursion IsAlone xs

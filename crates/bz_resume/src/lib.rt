@@ -1,7 +1,6 @@
 //! Journals: a session's written, and a stranger's resumed, or refused.
 #![tactic(auto)]
 
-mod copying;
 mod fault;
 pub mod laws;
 mod opening;

@@ -3,7 +3,6 @@ ghost use Rattle.std.specs.Prelude.{◌≡◌, ◌++◌, IfOk, OnOk, OnErr, leng
 ghost use Rattle.bz_resume.specs.Journals.{entries_of, journal_text, record_of};
 ghost use Rattle.bz_resume.specs.Saved.{CanSave, IsSaved, saved_history};
 
-use crate::copying::copy_step;
 use bz_edit::Step;
 use bz_items::{Items, Memory, Text};
 use bz_record::{Entry, Record, Version, write_record};
@@ -39,7 +38,7 @@ fn entries(alloc: Global, notes: &[Text], steps: &[Step]) -> Result<Items<Entry>
     let mut entries = Items::new(alloc);
     for i in 0..steps.len() {
         let note = notes[i].copy()?;
-        let Step { edits } = copy_step(&steps[i])?;
+        let Step { edits } = steps[i].copy()?;
         entries.push(Entry { note, edits })?;
     }
     Ok(entries)

@@ -3,11 +3,11 @@ ghost use Rattle.std.specs.Prelude.{◌≡◌, ◌≤◌, [], ◌∷◌, IsTrue,
 ghost use Rattle.std.specs.List.{AllByRecursion};
 ghost use Rattle.bz_tree.specs.declared.tree.Node.{Node};
 ghost use Rattle.bz_tree.specs.Spell.{spell_node, limit};
+ghost use Rattle.bz_tree.specs.Joined.{AreWholeLines, file_with};
+ghost use Rattle.bz_tree.specs.Split.{bare_end};
 ghost use Rattle.bz_edit.specs.Steps.{swap_node};
 ghost use Rattle.bz_trail.specs.Trails.{IsTree};
-ghost use Rattle.bz_resume.specs.Alone.{AreAlone, AreLined, AreTouchedAlone, EndsLine, IsAlone, IsAloneAt, IsHeldAlone, IsLineFeed, IsTouchedAlone, IsWithin, bare_end};
-ghost use Rattle.bz_resume.specs.Joined.{AreWholeLines};
-ghost use Rattle.bz_tree.specs.Suites.{file_of};
+ghost use Rattle.bz_resume.specs.Alone.{AreAlone, AreLined, AreTouchedAlone, EndsLine, IsAlone, IsAloneAt, IsHeldAlone, IsLineFeed, IsTouchedAlone, IsWithin};
 
 use bz_edit::Edit;
 use bz_items::Memory;
@@ -29,7 +29,7 @@ fn is_bare_end(part: &Part) -> bool
 
 /// Whether a tree is that of a file which has this part alone.
 fn has_alone(tree: &Tree, part: &Part) -> bool
-    ensures { IsTrue result → tree.now ≡ file_of (part.now ∷ bare_end ∷ []) }
+    ensures { IsTrue result → tree.now ≡ file_with (part.now ∷ bare_end ∷ []) }
 {
     match tree.root.parts.as_slice() {
         [own, end] => own.equals(part) && is_bare_end(end),

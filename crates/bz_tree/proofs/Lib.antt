@@ -24,3 +24,4 @@ pub mod Build
 pub mod Newer
 pub mod Extended
 pub mod Joining
+pub mod Split

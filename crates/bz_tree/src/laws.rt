@@ -1,6 +1,7 @@
 //! Laws of legal trees: the contract of each function is a law, and there is nothing to run.
 ghost use Rattle.bz_tree.specs.Joined.{BzlLinesJoin, LinesJoin};
 ghost use Rattle.bz_tree.specs.Laws.{GapsByNodes, KindOfNumber, LegalByLines, LegalByNodes, OneFile, OneReading, OneBzlReading, OneTree};
+ghost use Rattle.bz_tree.specs.Split.{LinesSplit};
 ghost use Rattle.bz_tree.specs.Worked.{WorkedLines};
 
 use crate::tree::Tree;
@@ -44,6 +45,11 @@ pub fn legal_by_lines()
 pub fn lines_join()
     ensures build { LinesJoin }
     ensures bzl { BzlLinesJoin }
+{}
+
+/// The lines in front of a part of a legal file are a legal file, and so is what stands behind them.
+pub fn lines_split()
+    ensures { LinesSplit }
 {}
 
 /// The lines of the statements of one small text.

@@ -18,8 +18,8 @@ use Rattle.bz_tree.specs.Spell.{leaves_part, leaves_of, deepest}
 use Rattle.bz_tree.specs.Shapes.{Several, Fits, line, end, tok, done}
 use Rattle.bz_tree.specs.Spots.{Begins, AtParts, Stands, TokenStands, AreTokens, behind_part}
 use Rattle.bz_tree.specs.Legal.{IsSort, IsFile, Legal, LegalPart}
-use Rattle.bz_tree.specs.Suites.{file_of}
-use Rattle.bz_resume.specs.Alone.{bare_end}
+use Rattle.bz_tree.specs.Joined.{file_with}
+use Rattle.bz_tree.specs.Split.{bare_end, LinesSplit}
 use Rattle.bz_tree.proofs.Spells.{spell_leaves-append}
 use Rattle.bz_tree.proofs.Exact.{token_leaf}
 use Rattle.bz_tree.proofs.Numbers.{same_kind}
@@ -137,7 +137,7 @@ tokens_back (l ∷ leaves) behind h = tokens_back leaves behind h.1
 
 -- ---- files
 
-module _ (xs : List Part) (y : Part) (ys : List Part) (h : Legal (file_of (xs ++ y ∷ ys))) where
+module _ (xs : List Part) (y : Part) (ys : List Part) (h : Legal (file_with (xs ++ y ∷ ys))) where
   abbrev behind_leaves : List Leaf
   behind_leaves = flat_map leaves_part (y ∷ ys)
 
@@ -156,7 +156,7 @@ module _ (xs : List Part) (y : Part) (ys : List Part) (h : Legal (file_of (xs ++
   coded : AllByRecursion IsCodedLeaf (flat_map leaves_part xs ++ behind_leaves)
   coded = subst (AllByRecursion IsCodedLeaf) (leaves_both xs (y ∷ ys)) h.coded
 
-  in_front : Legal (file_of (xs ++ bare_end ∷ []))
+  in_front : Legal (file_with (xs ++ bare_end ∷ []))
   in_front = record {
     file = record { root = refl; shapes = (lines_whole xs (bare_end ∷ []) rows.0 (inl (refl, tt)), parts_front) };
     gaps = gaps_front xs (y ∷ ys) (bare_end ∷ []) rows.0 h.gaps gap_end;
@@ -165,7 +165,7 @@ module _ (xs : List Part) (y : Part) (ys : List Part) (h : Legal (file_of (xs ++
     depth = omega (arith, h.depth, deepest_both xs (y ∷ ys), deepest_both xs (bare_end ∷ []));
   }
 
-  behind : Legal (file_of (y ∷ ys))
+  behind : Legal (file_with (y ∷ ys))
   behind = record {
     file = record { root = refl; shapes = (rows.1, all_back LegalPart xs (y ∷ ys) h.file.shapes.1) };
     gaps = gaps_back xs (y ∷ ys) rows.0 h.gaps;
@@ -174,5 +174,5 @@ module _ (xs : List Part) (y : Part) (ys : List Part) (h : Legal (file_of (xs ++
     depth = omega (arith, h.depth, deepest_both xs (y ∷ ys));
   }
 
-pub split_file : (xs : List Part) (y : Part) (ys : List Part) → Legal (file_of (xs ++ y ∷ ys)) → Legal (file_of (xs ++ bare_end ∷ [])) × Legal (file_of (y ∷ ys))
-split_file xs y ys h = (in_front xs y ys h, behind xs y ys h)
+pub lines_split : LinesSplit
+lines_split xs y ys h = (in_front xs y ys h, behind xs y ys h)
