@@ -52,7 +52,7 @@ fn exchange_edits(node: &mut Node, edits: &mut Items<Edit>) -> Result<(), EditFa
     Ok(())
 }
 
-/// What is held and what stands at the places change sides. A step whose edits all hold as many parts as they cover takes
+/// What is held and what is at the places change sides. A step whose edits all hold as many parts as they cover takes
 /// no memory. The errors: a place is not in the node, or a growth was refused; node and step are then as before.
 pub fn exchange_node(node: &mut Node, step: &mut Step) -> Result<(), EditFault>
     requires { length (spell_node node.old) ≤ limit }

@@ -25,7 +25,7 @@ pub one_reading : {X : Type 0} {spell : X → List ℕ} {P : X → Type 0} {read
     → (x y : X) (a b : List ℕ) → P x → P y → spell x ++ a ≡ spell y ++ b → (x ≡ y) × (a ≡ b)
 one_reading {read = read} exact x y a b p q e = same_read x y a b (sym (exact.complete x a p) ∙ ap read e ∙ exact.complete y b q)
 
--- where nothing is read, nothing that fits stands there
+-- where nothing is read, nothing that fits is there
 pub none_there : {X : Type 0} {spell : X → List ℕ} {P : X → Type 0} {read : Reader X} → IsExact X spell P read
     → (s : List ℕ) → read s ≡ None → (x : X) (rest : List ℕ) → P x → s ≡ spell x ++ rest → ⊥
 none_there {read = read} exact s n x rest p e = let f : None ≡ read_so x rest = sym n ∙ ap read e ∙ exact.complete x rest p in cc

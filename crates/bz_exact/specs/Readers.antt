@@ -21,7 +21,7 @@ Reader X = List ℕ → Option (X × List ℕ)
 unfoldable pub after_mark : List ℕ → List ℕ → Option (List ℕ)
 after_mark mark s = if bytes_eq (take (length mark) s) mark then Some (drop (length mark) s) else None
 
--- so many bytes
+-- this many bytes
 unfoldable pub field_at : ℕ → Reader (List ℕ)
 field_at n s = if nat_lt (length s) n then None else Some (take n s, drop n s)
 
@@ -57,18 +57,18 @@ digest_at s = do
   rest ← after_mark (line_feed ∷ []) hex.1
   if bytes_eq (encode_lower digest) hex.0 then Some (digest, rest) else None
 
--- so many things one after the other
+-- this many things one after the other
 unfoldable pub repeated : {X : Type 0} → Reader X → ℕ → Reader (List X)
 repeated go zero s = Some ([], s)
 repeated go (suc n) s = go s >>= λ x. repeated go n x.1 >>= λ y. Some (x.0 ∷ y.0, y.1)
 
--- a number, and so many bytes
+-- a number, and this many bytes
 unfoldable pub counted_at : ℕ → Reader (List ℕ)
 counted_at stop s = do
   count ← number_at stop s
   field_at count.0 count.1
 
--- a number, and so many things
+-- a number, and this many things
 unfoldable pub listed_at : {X : Type 0} → ℕ → Reader X → Reader (List X)
 listed_at stop go s = do
   count ← number_at stop s

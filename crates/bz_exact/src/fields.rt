@@ -1,4 +1,4 @@
-//! Fields: each function takes one from the front of the bytes, and gives what stands after it. None of them allocates.
+//! Fields: each function takes one from the front of the bytes, and gives what is after it. None of them allocates.
 ghost use Rattle.std.specs.Prelude.{◌≡◌, ◌∷◌, ◌<◌, ◌≤◌, ◌^◌, [], ℕ, Bool, nat_eq, position, IfOk, MatchOption, Some, None};
 ghost use Rattle.bz_items.specs.Characters.{line_feed};
 ghost use Rattle.bz_exact.specs.Outcomes.{Gives};
@@ -8,7 +8,7 @@ use crate::pushing::hex_digits;
 use crate::unread::Unread;
 use hex::FromHex;
 
-/// What stands after a mark; `None` where other bytes stand in its place.
+/// What is after a mark; `None` where other bytes stand in its place.
 #[tactic(auto, unfolding(crate::specs::Readers::after_mark))]
 pub fn strip_mark<'a>(input: &'a [u8], mark: &[u8]) -> Option<&'a [u8]>
     ensures { MatchOption result (after_mark mark.now input.now ≡ None) (λ rest. after_mark mark.now input.now ≡ Some rest.now) }
@@ -16,7 +16,7 @@ pub fn strip_mark<'a>(input: &'a [u8], mark: &[u8]) -> Option<&'a [u8]>
     input.strip_prefix(mark)
 }
 
-/// What stands after a mark. The error is `Damaged`: other bytes stand in its place.
+/// What is after a mark. The error is `Damaged`: other bytes stand in its place.
 pub fn read_mark<'a>(input: &'a [u8], mark: &[u8]) -> Result<&'a [u8], Unread>
     ensures { Gives (λ rest. rest.now) result (after_mark mark.now input.now) }
 {
@@ -38,14 +38,14 @@ pub fn read_field(input: &[u8], count: u32) -> Result<(&[u8], &[u8]), Unread>
     Ok(input.split_at(count))
 }
 
-/// Where the first newline stands.
+/// Where the first newline is.
 fn line_end(text: &[u8]) -> Option<usize>
     ensures { result ≡ position (λ b. nat_eq b line_feed) text.now }
 {
     text.iter().position(|byte| *byte == b'\n')
 }
 
-/// The bytes before the first newline, and those after it; `None` where no newline stands there.
+/// The bytes before the first newline, and those after it; `None` where no newline is there.
 #[tactic(auto, using(crate::proofs::Lines::line_ends, crate::proofs::Lines::no_line_ends))]
 pub fn split_line(input: &[u8]) -> Option<(&[u8], &[u8])>
     ensures { MatchOption result (ended_line_at input.now ≡ None) (λ x. ended_line_at input.now ≡ Some (x.0.now, x.1.now)) }
@@ -59,7 +59,7 @@ pub fn split_line(input: &[u8]) -> Option<(&[u8], &[u8])>
 }
 
 /// A number below 2^32 in decimal digits without leading zeros, with the byte `stop` right after it; `numbers_exact` says
-/// what is read where that byte is no digit. The error is `Damaged`: no such number stands there.
+/// what is read where that byte is no digit. The error is `Damaged`: no such number is there.
 #[tactic(auto, unfolding(crate::specs::Readers::number_at, crate::specs::Readers::after_mark))]
 pub fn read_number(input: &[u8], stop: u8) -> Result<(u32, &[u8]), Unread>
     ensures { Gives (λ x. (x.0, x.1.now)) result (number_at stop input.now) }
@@ -103,7 +103,7 @@ fn read_digits(input: &[u8], begun: u32, stop: u8) -> Result<(u32, &[u8]), Unrea
     Err(Unread::Damaged)
 }
 
-/// A number as `read_number` reads it that is at most `limit`. The error is `Damaged`: none stands there.
+/// A number as `read_number` reads it that is at most `limit`. The error is `Damaged`: none is there.
 #[tactic(auto, unfolding(crate::specs::Readers::tested))]
 pub fn read_number_up_to(input: &[u8], limit: u32, stop: u8) -> Result<(u32, &[u8]), Unread>
     ensures value { Gives (λ x. (x.0, x.1.now)) result (up_to limit stop input.now) }
@@ -116,7 +116,7 @@ pub fn read_number_up_to(input: &[u8], limit: u32, stop: u8) -> Result<(u32, &[u
     Ok((number, rest))
 }
 
-/// Bytes with their number before them, and those after them. The error is `Damaged`: no number stands there, or fewer
+/// Bytes with their number before them, and those after them. The error is `Damaged`: no number is there, or fewer
 /// bytes than it says.
 #[tactic(auto, unfolding(crate::specs::Readers::counted_at))]
 pub fn read_counted(input: &[u8], stop: u8) -> Result<(&[u8], &[u8]), Unread>
@@ -126,8 +126,8 @@ pub fn read_counted(input: &[u8], stop: u8) -> Result<(&[u8], &[u8]), Unread>
     read_field(rest, count)
 }
 
-/// A digest of 32 bytes in 64 digits of lower case, and what stands after the newline that ends it. The error is
-/// `Damaged`: no such line stands there.
+/// A digest of 32 bytes in 64 digits of lower case, and what is after the newline that ends it. The error is
+/// `Damaged`: no such line is there.
 #[tactic(auto, unfolding(crate::specs::Readers::digest_at))]
 pub fn read_digest(input: &[u8]) -> Result<([u8; 32], &[u8]), Unread>
     ensures { Gives (λ x. (x.0, x.1.now)) result (digest_at input.now) }

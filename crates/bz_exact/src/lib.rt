@@ -1,4 +1,4 @@
-//! Readers of marks, decimal numbers and counted bytes, each of which reads just what stands in the definitions: what is
+//! Readers of marks, decimal numbers and counted bytes, each of which reads just what is in the definitions: what is
 //! written is read from its spelling, whatever follows it, and nothing else is read.
 //!
 //! A reader takes what it reads from the front of the bytes, and gives it with the bytes after it.

@@ -11,7 +11,7 @@ all_added most bytes start items is short =
     let len : length items ≡ length start + length (take most bytes) = ap length is ∙ length-append start (take most bytes) in
     is ∙ ap (λ (front : List ℕ). start ++ front) (all_taken most bytes (omega (arith, len, short)))
 
--- what was read behind nothing
+-- what was read after nothing
 pub front_read : (most : ℕ) (bytes start items read : List ℕ) → items ≡ start ++ take most bytes → start ≡ [] → read ≡ items → read ≡ take most bytes
 front_read most bytes start items read is empty same = same ∙ is ∙ ap (λ (s : List ℕ). s ++ take most bytes) empty
 

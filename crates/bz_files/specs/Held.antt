@@ -13,7 +13,7 @@ disk_faults files = files.faults
 abbrev pub folder_in : MemoryFiles → Folder
 folder_in files = folder_after files.log.items
 
--- how many folders there were before this one, and the folder after so many writes
+-- how many folders there were before this one, and the folder after this many writes
 abbrev pub moments_in : MemoryFiles → ℕ
 moments_in files = length files.log.items
 

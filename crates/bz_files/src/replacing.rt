@@ -126,7 +126,7 @@ fn put_behind<R: std::rt::Files<File = File>>(
 }
 
 /// Gives a journal and then its file their bytes, where the file still holds what it is to hold. The new files of both are held
-/// until the file stands, so that no other run comes in between.
+/// until the file is, so that no other run comes in between.
 pub(crate) fn replace_pair<R: std::rt::Files<File = File>>(
     alloc: Global,
     system: &R,

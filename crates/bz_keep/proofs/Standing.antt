@@ -1,4 +1,4 @@
--- Where a history stands.
+-- Where a history is.
 use Rattle.std.proofs.Common.{◌≡◌, ap, sym, refl, true≢false, ℕ, Bool, true, false, Some, None, if◌then◌else◌}
 use Rattle.std.specs.Str.{bytes_eq}
 use Rattle.std.proofs.lemmas.Slice.Eq.{bytes_eq-Decides}

@@ -131,7 +131,7 @@ fn replace_pair<F: Files>(
 /// the journal of the new history, and then the file its present text, `text`, where the file still holds the text `standing`,
 /// at which the action was begun. A stop at any moment leaves a file that goes on with the texts of the one history or of the
 /// other. Errors: `Changed`: the file holds another text or isn't there; `Open`: it could not be read; `Memory`: a growth was
-/// refused; at these nothing was replaced at any moment. `Write`: one of the two could not be replaced, or the file changed behind
+/// refused; at these nothing was replaced at any moment. `Write`: one of the two could not be replaced, or the file changed after
 /// the read.
 pub fn keep<F: Files>(
     alloc: Global,

@@ -230,7 +230,7 @@ the_same current one two answer e = same_truth answer (is_same current one two) 
 
 -- ---- the shorter form
 
--- where nothing stands before the first two slashes and a colon behind them, they are there
+-- where nothing is before the first two slashes and a colon after them, they are there
 slashes_first : (s : Bytes) → is_empty (before_slashes s) ≡ true → has_colon (behind_slashes s) ≡ true → has_slashes s ≡ true
 slashes_first [] e c = c
 slashes_first (a ∷ []) e c = e

@@ -19,7 +19,7 @@ onto_more : (x y : ℕ) (pieces : List Bytes) → list_all is_present (onto_firs
 onto_more x y [] = refl
 onto_more x y (piece ∷ pieces) = refl
 
--- both at once: of the pieces, and of the pieces where a byte stands before the first
+-- both at once: of the pieces, and of the pieces where a byte is before the first
 both_go : (x : ℕ) (text : Bytes) → (list_all is_present (pieces_of text) ≡ goes_on false text) × (list_all is_present (onto_first x (pieces_of text)) ≡ goes_on true text)
 both_go x [] = (refl, refl)
 both_go x (byte ∷ rest) = elim (cases_Bool (is_slash byte)) [

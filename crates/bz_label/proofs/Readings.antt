@@ -39,7 +39,7 @@ form_absolute : (text : Bytes) → begins_absolute text ≡ true → form_of tex
 form_absolute [] h = cc
 form_absolute (first ∷ rest) h = rw (not_colon first h, h) refl
 
--- what stands before // begins with @, if anything does
+-- what is before // begins with @, if anything does
 repository_begins : (front rest : Bytes) → is_repository front ≡ true → begins_absolute (front ++ codes "//" ++ rest) ≡ true
 repository_begins [] rest good = refl
 repository_begins (first ∷ name) rest good = ap (λ b. b || is_slash first) (and_parts _ _ good).0

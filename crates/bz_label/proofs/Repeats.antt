@@ -19,7 +19,7 @@ use Rattle.bz_label.proofs.Shorter.{whole_kept, unrepeated_once}
 pub both_same : {X Y Z : Type 0} (f : X → Y → Z) {h h' : X} {i i' : Y} → h ≡ h' → i ≡ i' → f h i ≡ f h' i'
 both_same f {h} {h'} {i} {i'} d e = ap (λ z. f z i) d ∙ ap (λ z. f h' z) e
 
--- ---- what stands around the first colon
+-- ---- what is around the first colon
 
 pub halves : (s : Bytes) → is_empty (behind_colon s) ≡ false → s ≡ before_colon s ++ 58 ∷ behind_colon s
 halves [] h = cc
@@ -40,7 +40,7 @@ pub rest_colon : (a b : Bytes) → has_colon a ≡ false → behind_colon (a ++ 
 rest_colon [] b h = refl
 rest_colon (c ∷ a) b h = let p : (is_colon c ≡ false) × (has_colon a ≡ false) = or_parts (is_colon c) (has_colon a) h in rw p.0 (rest_colon a b p.1)
 
--- ---- what stands around the first two slashes
+-- ---- what is around the first two slashes
 
 pub front_slashes : (a b : Bytes) → has_slash a ≡ false → before_slashes (a ++ codes "//" ++ b) ≡ a
 front_slashes [] b h = refl
@@ -112,7 +112,7 @@ is_unrepeated s = elim (cases_Bool (is_repeated (before_colon s) (behind_colon s
 pub the_unrepeated : (s short : Bytes) → IsUnrepeated s short → short ≡ unrepeated s
 the_unrepeated s short h = unrepeated_once s short (unrepeated s) h (is_unrepeated s)
 
--- ---- at a glance: a repeated name stands at the end of what is before the first colon
+-- ---- at a glance: a repeated name is at the end of what is before the first colon
 
 no_colon : (s : Bytes) → has_colon s ≡ false → behind_colon s ≡ []
 no_colon [] h = refl

@@ -70,7 +70,7 @@ repository_from (first ∷ name) good =
 pub slashes_once : (front rest before behind : Bytes) → has_slash front ≡ false → has_slash before ≡ false → front ++ 47 ∷ rest ≡ before ++ codes "//" ++ behind → (front ≡ before) × (rest ≡ 47 ∷ behind)
 slashes_once front rest before behind hf hb e = cut_once is_slash 47 47 front rest before (47 ∷ behind) refl refl hf hb (e ∙ append_assoc before (codes "//") behind)
 
--- what stands before and after two slashes, read off the text in two ways
+-- what is before and after two slashes, read off the text in two ways
 both_slashes : (front rest before behind : Bytes) → has_slash front ≡ false → has_slash before ≡ false → front ++ codes "//" ++ rest ≡ before ++ codes "//" ++ behind → (front ≡ before) × (rest ≡ behind)
 both_slashes front rest before behind hf hb e =
     let cut : (front ≡ before) × (47 ∷ rest ≡ 47 ∷ behind) = slashes_once front (47 ∷ rest) before behind hf hb (sym (append_assoc front (codes "//") rest) ∙ e) in
@@ -90,7 +90,7 @@ pub any_at : (p : ℕ → Bool) (xs : Bytes) (x : ℕ) (ys : Bytes) → p x ≡ 
 any_at p [] x ys h = ap (λ b. b || list_any p ys) h
 any_at p (a ∷ xs) x ys h = or_right _ _ (any_at p xs x ys h)
 
--- a text with no colon behind its slashes is no whole label
+-- a text with no colon after its slashes is no whole label
 pub whole_colon : (text front rest : Bytes) (label : Label) → has_slash front ≡ false → text ≡ front ++ codes "//" ++ rest → has_colon rest ≡ false → IsWhole text label → ⊥
 whole_colon text front rest label hf e none whole =
     let behind : rest ≡ label.package ++ 58 ∷ label.name = (whole_cut text front rest label hf e whole).1 in

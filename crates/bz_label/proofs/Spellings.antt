@@ -28,7 +28,7 @@ spelled_plain text path word none (inl e) = e
 spelled_plain text path word none (inr (inl e)) = absurd (none (path ++ codes ":" ++ word) e)
 spelled_plain text path word none (inr (inr e)) = absurd (none path e.0)
 
--- where slashes begin it, it is the package and the word behind them, or the package alone
+-- where slashes begin it, it is the package and the word after them, or the package alone
 pub spelled_behind : (text rest path word : Bytes) → text ≡ codes "//" ++ rest → is_package path ≡ true → IsSpelled text path word → (rest ≡ path ++ codes ":" ++ word) ⊎ ((rest ≡ path) × (word ≡ last_piece path))
 spelled_behind text rest path word s good (inl e) = absurd (package_unslashed path rest word good (sym s ∙ e))
 spelled_behind text rest path word s good (inr (inl e)) =

@@ -13,7 +13,7 @@ use Rattle.bz_label.specs.Shorter.{before_colon, behind_colon, before_slashes, b
 abbrev pub kept_if : Bool → Bytes → Bytes → Bytes → Option Label
 kept_if good repository path name = if good then Some (record { repository = repository; «package» = path; name = name }) else None
 
--- [REPOSITORY]//PACKAGE:NAME or [REPOSITORY]//PACKAGE, cut at the first two slashes and the first colon behind them
+-- [REPOSITORY]//PACKAGE:NAME or [REPOSITORY]//PACKAGE, cut at the first two slashes and the first colon after them
 abbrev pub absolute_label : Bytes → Bytes → Option Label
 absolute_label front rest =
     if has_colon rest then kept_if (are_whole front (before_colon rest) (behind_colon rest)) front (before_colon rest) (behind_colon rest)

@@ -4,7 +4,7 @@ use Rattle.bz_items.specs.Characters.{Bytes}
 use Rattle.bz_label.specs.Pieces.{is_slash, is_colon, last_piece}
 use Rattle.bz_label.specs.Forms.{are_whole}
 
--- what stands before the first colon, and behind it
+-- what is before the first colon, and after it
 abbrev pub before_colon : Bytes → Bytes
 before_colon [] = []
 before_colon (c ∷ s) = if is_colon c then [] else c ∷ before_colon s
@@ -13,7 +13,7 @@ abbrev pub behind_colon : Bytes → Bytes
 behind_colon [] = []
 behind_colon (c ∷ s) = if is_colon c then s else behind_colon s
 
--- what stands before the first two slashes, and behind them
+-- what is before the first two slashes, and after them
 abbrev mutual
   pub before_slashes : Bytes → Bytes
   before_slashes [] = []

@@ -14,7 +14,7 @@ target_if path word = if is_package path && nat_le (length path) 65536 && is_pre
 abbrev pub relative_target : Bytes → Option Target
 relative_target text = if has_colon text then target_if (before_colon text) (behind_colon text) else None
 
--- behind two slashes: PACKAGE:WHICH, or PACKAGE, of which the last piece is meant
+-- after two slashes: PACKAGE:WHICH, or PACKAGE, of which the last piece is meant
 abbrev pub absolute_target : Bytes → Option Target
 absolute_target text = if has_colon text then target_if (before_colon text) (behind_colon text) else target_if text (last_piece text)
 

@@ -48,7 +48,7 @@ pub fn same(current: &[u8], first: &[u8], second: &[u8]) -> bool
     equal_parts(one, other)
 }
 
-/// Whether what stands before the first colon ends with what stands behind it, as it does where a name is repeated.
+/// Whether what is before the first colon ends with what is after it, as it does where a name is repeated.
 #[tactic(auto, using(crate::proofs::Repeats::colonless_stays, crate::proofs::Repeats::other_end_stays))]
 fn may_repeat(text: &[u8]) -> bool
     ensures { result ≡ false → unrepeated text.now ≡ text.now }
@@ -127,7 +127,7 @@ fn byte_cmp(x: u8, y: u8) -> Ordering
 }
 
 /// How two keys of one group are ordered. Both are walked once: where a dot meets a colon the pieces stay alike, and what these
-/// two say counts where nothing behind them decides.
+/// two say counts where nothing after them decides.
 #[tactic(auto, using(crate::proofs::KeySteps::walked, crate::proofs::KeySteps::passes, crate::proofs::KeySteps::goes_on, crate::proofs::KeySteps::decides))]
 fn walk_cmp(first: &[u8], second: &[u8]) -> Ordering
     ensures { result ≡ ordering_then (slice_cmp bytes_order (key_pieces first.now) (key_pieces second.now)) (bytes_order first.now second.now) }
@@ -249,7 +249,7 @@ fn place_if_either(
     place_if(attribute, other, place_of_other)
 }
 
-/// Where an argument of this name stands in a rule: lower numbers come first, and equal ones go by name.
+/// Where an argument of this name is in a rule: lower numbers come first, and equal ones go by name.
 #[tactic(auto, using(crate::proofs::NamesByFirst::place_n, crate::proofs::NamesByFirst::place_size, crate::proofs::NamesByFirst::place_s, crate::proofs::NamesByFirst::place_t, crate::proofs::NamesByFirst::place_o, crate::proofs::NamesByFirst::place_h, crate::proofs::NamesByFirst::place_e, crate::proofs::NamesByFirst::place_r, crate::proofs::NamesByFirst::place_d, crate::proofs::NamesByFirst::place_a, crate::proofs::NamesByFirst::place_other))]
 pub fn priority(attribute: &[u8]) -> usize
     ensures { result ≡ priority_of attribute.now }

@@ -51,7 +51,7 @@ fn repository(text: &[u8]) -> bool
     }
 }
 
-/// What stands before and after `//`, where these are the first two slashes.
+/// What is before and after `//`, where these are the first two slashes.
 fn cut_slashes(text: &[u8]) -> Option<(&[u8], &[u8])>
     ensures { MatchOption result
         ((front rest : List ℕ) → has_slash front ≡ false → text.now ≡ front ++ codes "//" ++ rest → ⊥)

@@ -3,7 +3,7 @@ ghost use Rattle.std.specs.Prelude.{◌≡◌, ◌++◌, ◌∷◌, ◌==◌, fa
 ghost use Rattle.std.specs.List.{list_any};
 ghost use Rattle.bz_label.specs.Pieces.{is_joined, last_piece};
 
-/// Whether such a byte stands in the text.
+/// Whether such a byte is in the text.
 pub(crate) fn holds(text: &[u8], byte: u8) -> bool
     ensures { result ≡ list_any (λ each. each == byte) text.now }
 {
@@ -27,7 +27,7 @@ fn place(text: &[u8], byte: u8) -> Option<usize>
     text.iter().position(|each| *each == byte)
 }
 
-/// What stands before the first such byte, and what stands after it.
+/// What is before the first such byte, and what is after it.
 pub(crate) fn cut(text: &[u8], byte: u8) -> Option<(&[u8], &[u8])>
     ensures { MatchOption result (list_any (λ each. each == byte) text.now ≡ false)
         (λ parts. (text.now ≡ parts.0.now ++ byte ∷ parts.1.now) × (list_any (λ each. each == byte) parts.0.now ≡ false)) }
@@ -44,7 +44,7 @@ pub(crate) fn joined(text: &[u8]) -> bool
         .all(|piece| !piece.is_empty())
 }
 
-/// What stands after the last slash, or the whole text.
+/// What is after the last slash, or the whole text.
 pub(crate) fn last(text: &[u8]) -> &[u8]
     ensures { result.now ≡ last_piece text.now }
 {

@@ -1,4 +1,4 @@
--- A text of characters may be cut behind each gap and each token.
+-- A text of characters may be cut after each gap and each token.
 use Rattle.std.proofs.Common.{◌≡◌, ℕ, ◌+◌, ◌≤◌, ◌<◌, Bool, true, false, List, [], ◌∷◌, ◌++◌, ◌⊎◌, inl, inr, length, get_or, take, drop, refl, sym, ap, ◌∙◌, subst, arith, length-append, length-drop, append_assoc}
 use Rattle.std.proofs.Math.Seq.{get_or-append_seam}
 use Rattle.std.proofs.lemmas.Bool.{both_ways}
@@ -39,7 +39,7 @@ gap_sealed n s (unescaped r e i g) = inr (rw e (behind_byte 10 r (omega arith) (
 gap_sealed n s (comment w r e o i g) = inr (rw e (behind_text (35 ∷ w) (10 ∷ r) (behind_byte 10 r (omega arith) (gap_sealed n r g))))
 gap_sealed n s (last_comment w e o i) = absurd (both_ways false refl i)
 
--- a text whose front is sealed may be cut behind that front
+-- a text whose front is sealed may be cut after that front
 pub cut : (s a b : List ℕ) → IsUtf8 s → s ≡ a ++ b → IsSealed a → IsCharBoundary s (length a)
 cut s a b u e (inl i) = rw i (IsCharBoundary-start s u)
 cut s a b u e (inr (f, c, i, h)) =
@@ -48,7 +48,7 @@ cut s a b u e (inr (f, c, i, h)) =
     let l : get_or s (length f) 0 ≡ c = rw (e, i, append_assoc f (c ∷ []) b) (get_or-append_seam f c b 0) in
     subst (IsCharBoundary s) (sym n) (IsCharBoundary-after_ascii s (length f) u k (rw l h))
 
--- a text of characters may be cut behind the gap of a token, and behind the token
+-- a text of characters may be cut after the gap of a token, and after the token
 pub gap_cut : (s : List ℕ) (front : Front) → IsUtf8 s → IsLexemeFront front s → IsCharBoundary s front.gap
 gap_cut s front u f =
     subst (IsCharBoundary s) (length-take-le front.gap s (let w = f.within in omega arith))

@@ -17,11 +17,11 @@ use Rattle.bz_lex.proofs.Characters.{cut, gap_sealed}
 parts : (a b : List ℕ) → IsUtf8 (a ++ b) → IsCharBoundary (a ++ b) (length a) → IsUtf8 a × IsUtf8 b
 parts a b u c = (subst IsUtf8 (take_at a b (length a) refl) (IsUtf8-take (a ++ b) (length a) u c), subst IsUtf8 (drop_at a b (length a) refl) (IsUtf8-drop (a ++ b) (length a) u c))
 
--- texts of characters: a leaf's gap and token, and the text behind it
+-- texts of characters: a leaf's gap and token, and the text after it
 abbrev Parted : Leaf → List ℕ → Type 0
 Parted l s = IsCodedLeaf l × IsUtf8 s
 
--- behind a gap that ends between two pieces, a token
+-- after a gap that ends between two pieces, a token
 by_token : (n : Bool) (k : Class) (g t s : List ℕ) → IsGap n false g → IsToken k t s → IsUtf8 (g ++ (t ++ s)) → (IsUtf8 g × IsUtf8 t) × IsUtf8 s
 by_token n k g t s h i u =
     let x = parts g (t ++ s) u (cut (g ++ (t ++ s)) g (t ++ s) u refl (gap_sealed n g h)) in

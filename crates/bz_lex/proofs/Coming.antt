@@ -1,4 +1,4 @@
--- The leaves that a text has from a place on, up to where no leaf stands.
+-- The leaves that a text has from a place on, up to where no leaf is.
 use Rattle.std.proofs.Common.{◌≡◌, ◌≢◌, ℕ, zero, suc, ◌≤◌, ◌<◌, Bool, true, false, ◌||◌, List, [], ◌∷◌, ◌⊎◌, inl, inr, refl, sym, ap, subst, ◌∙◌, arith}
 use Rattle.std.proofs.lemmas.Bool.{both_ways}
 use Rattle.bz_token.specs.declared.class.Class.{Class}
@@ -21,7 +21,7 @@ abbrev coming : ℕ → Place → List ℕ → List Leaf
 coming zero p s = []
 coming (suc n) p s = coming_by p s (leaf_found p s) (λ q t. coming n q t)
 
--- the leaves, one after the other, as long as one stands there
+-- the leaves, one after the other, as long as one is there
 unfoldable pub to_come : Place → List ℕ → List Leaf
 to_come p s = coming (left p s) p s
 
@@ -49,7 +49,7 @@ by_left p s d e =
     by_same p s d (λ q t. coming (left p s) q t) to_come (λ q t lt. coming_same (left p s) (left q t) q t (omega arith) (omega arith))
 
 module _ (p : Place) (s : List ℕ) where
-  -- the leaf at hand, and those behind it
+  -- the leaf at hand, and those after it
   pub come_first : (f : Front) → IsFront p f s → to_come p s ≡ front_leaf f s ∷ to_come (next p (front_leaf f s)) (behind_front f s)
   come_first f w = by_found (leaf_found p s) refl
     where

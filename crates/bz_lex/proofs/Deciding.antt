@@ -1,4 +1,4 @@
--- Which leaf stands at the front of a text is decided.
+-- Which leaf is at the front of a text is decided.
 use Rattle.std.proofs.Common.{◌≡◌, ℕ, suc, ◌≤◌, Bool, true, false, eqb, List, [], ◌∷◌, ◌⊎◌, inl, inr, Option, Some, None, Ok, Err, length, take, drop, slice_get, refl, arith}
 use Rattle.std.proofs.lemmas.Bool.{cases_Bool, eqb-true, eqb-false}
 use Rattle.bz_token.specs.declared.class.Class.{Class}
@@ -58,7 +58,7 @@ Decided p s = ((f : Front) × IsFront p f s) ⊎ NoLeaf p s
 some_stop : Stop
 some_stop = record { reason = BadCharacter; at = 0 }
 
--- the gap may end, or no leaf stands there
+-- the gap may end, or no leaf is there
 by_gap : (p : Place) (s : List ℕ) → ((gap : GapFront) → IsGapFront (newlines_at p) gap s → Decided p s) → Decided p s
 by_gap p s f =
     let w = gap_found (newlines_at p) Open s in

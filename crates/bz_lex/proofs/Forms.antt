@@ -1,4 +1,4 @@
--- Which leaf stands at a place, by the state in which its gap ends.
+-- Which leaf is at a place, by the state in which its gap ends.
 use Rattle.std.proofs.Common.{◌≡◌, ℕ, Bool, true, false, List, [], ◌∷◌, ◌++◌, ◌⊎◌, inl, inr, Some, None, refl, ap, ◌∙◌}
 use Rattle.std.proofs.lemmas.Bool.{both_ways}
 use Rattle.bz_token.specs.declared.class.Class.{Class}
@@ -12,7 +12,7 @@ use Rattle.bz_lex.specs.Places.{Place, Fresh, Behind, Inside, Last, Over, newlin
 use Rattle.bz_lex.proofs.Gaps.{gap_after, gap_from}
 use Rattle.bz_lex.proofs.Tokens.{token_stops}
 
--- a token behind a gap that ends between two pieces
+-- a token after a gap that ends between two pieces
 pub record ByToken (q : GapState) (l : Leaf) (s : List ℕ) : Type 0 where
   pub closed : q ≡ Open
   pub token : IsToken l.class l.token s
@@ -36,7 +36,7 @@ Form (Inside n) q l s = ByToken q l s
 Form Last q l s = (l.gap ≡ []) × Empty End q l s
 Form Over q l s = ⊥
 
--- a gap that ends in this state, with which nothing of the text behind it goes on
+-- a gap that ends in this state, with which nothing of the text after it goes on
 pub record Ended (n : Bool) (q : GapState) (g b : List ℕ) : Type 0 where
   pub taken : gap_state_after n Open g ≡ Some q
   pub stops : Stops n q b
@@ -88,7 +88,7 @@ same_leaf l m a b c =
     let z : record { class = m.class; gap = m.gap; token = l.token } ≡ m = ap (λ (t : List ℕ). record { class = m.class; gap = m.gap; token = t }) c in
     x ∙ y ∙ z
 
--- the leaf of such a form stands there
+-- the leaf of such a form is there
 pub may : (p : Place) (q : GapState) (l : Leaf) (s : List ℕ) → gap_state_after (newlines_at p) Open l.gap ≡ Some q → Form p q l s → May IsToken p l s
 may Fresh q l s e (inl h) = first (gap_from true false q l.gap e (rw h.closed refl)) h.token
 may Fresh q l s e (inr h) =

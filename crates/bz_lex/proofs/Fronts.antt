@@ -65,7 +65,7 @@ form_ends (Inside n) q l t h = rw h.closed refl
 form_ends Last q l t h = h.1.ends
 form_ends Over q l t h = absurd h
 
--- no leaf behind a gap that breaks off
+-- no leaf after a gap that breaks off
 broken_gap : (p : Place) (q : GapState) (n : ℕ) (s : List ℕ) → gap_state_after (newlines_at p) Open (take n s) ≡ Some q → Stops (newlines_at p) q (drop n s) → is_end true q ≡ false → NoLeaf p s
 broken_gap p q n s e h b = no_leaf p q n s e h (λ l t f g i. both_ways (is_end true q) b (form_ends p q l t f))
 
@@ -88,7 +88,7 @@ no_token p gap s g only none = no_leaf p gap.state gap.length s g.taken g.stops 
 starts : (t : List ℕ) (s : List ℕ) (n c : ℕ) → drop n s ≡ c ∷ drop (suc n) s → t ≡ drop n s → t ≡ [] → ⊥
 starts t s n c e f g = let h : c ∷ drop (suc n) s ≡ [] = sym e ∙ sym f ∙ g in cc
 
--- what the token behind the gap tells, place by place
+-- what the token after the gap tells, place by place
 pub inside_token : (d : ℕ) (gap : GapFront) (s : List ℕ) (c : ℕ) (r : Result Front Stop) → IsGapFront true gap s → slice_get s gap.length ≡ Some c → TellsToken gap.length s r → TellsFront (Inside d) s r
 inside_token d gap s c (Ok front) g b t =
     leaf_of (Inside d) gap front s g t.0 (token_within gap.length front s g.within t.0 t.1)

@@ -19,7 +19,7 @@ one_line_end [] c h i = (i, tt)
 one_line_end (b ∷ w) c h i = (h.0, one_line_end w c h.1 i)
 
 module _ (n u : Bool) where
-  -- what stands behind a state that ends as a gap may
+  -- what is after a state that ends as a gap may
   abbrev Rest : GapState → List ℕ → Type 0
   Rest Open s = IsGap n u s
   Rest Escape s = IsGap n u (92 ∷ s)

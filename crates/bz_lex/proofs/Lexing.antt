@@ -20,7 +20,7 @@ use Rattle.bz_lex.proofs.Lists.{token_length}
 use Rattle.bz_lex.proofs.Forms.{closed_is}
 use Rattle.bz_lex.proofs.Fronts.{open_true, rest_some, token_within}
 
--- what stands behind the first gap of a text that has tokens: nothing, or a token
+-- what is after the first gap of a text that has tokens: nothing, or a token
 abbrev Begun : GapState → List ℕ → Type 0
 Begun q b = ((b ≡ []) × (is_end true q ≡ true)) ⊎ ((k : Class) × (u : List ℕ) × (r : List ℕ) × (vs : List (List ℕ)) × (b ≡ u ++ r) × (q ≡ Open) × IsToken k u r × AreLexemes vs r)
 
@@ -97,7 +97,7 @@ next_tokens front s us gap token k =
         let one = one_token k front.class u r (front_token front s) (behind_front front s) m token (sym i ∙ sym parts) in
         (vs, subst (AreLexemes vs) (append_cancel_left (front_token front s) r (behind_front front s) (subst (λ (x : List ℕ). x ++ r ≡ front_token front s ++ behind_front front s) one.1 (sym i ∙ sym parts))) l)
 
--- a token behind which neither a gap nor a token begins
+-- a token after which neither a gap nor a token begins
 pub no_rest : (front : Front) (s : List ℕ) → IsGap true false (take front.gap s) → IsToken front.class (front_token front s) (behind_front front s) → Stops true Open (behind_front front s) × (behind_front front s ≢ [])
     → NoToken (behind_front front s) → NoLexemes s
 no_rest front s gap token here none us k =
@@ -118,7 +118,7 @@ pub record IsLexedTo (text : List ℕ) (tokens : List (List ℕ)) (rest : List �
 pub begin : (text : List ℕ) → IsLexedTo text [] text
 begin text = record { sound = λ us h. h; complete = λ us h. (us, h); within = omega arith; stands = λ us end h. h }
 
--- a text by the gap, the token and what is behind it
+-- a text by the gap, the token and what is after it
 whole : (front : Front) (s : List ℕ) → s ≡ take front.gap s ++ (front_token front s ++ behind_front front s)
 whole front s = sym (ap (λ (t : List ℕ). take front.gap s ++ t) (take-append-drop front.token (drop front.gap s)) ∙ take-append-drop front.gap s)
 

@@ -31,7 +31,7 @@ rank_below (Inside n) = omega arith
 rank_below Last = omega arith
 rank_below Over = omega arith
 
--- what is left to read is less behind each leaf
+-- what is left to read is less after each leaf
 abbrev pub left : Place → List ℕ → ℕ
 left p s = 2 * length s + rank p
 
@@ -86,6 +86,6 @@ over_rest p l s (no_newline u g) e = refl
 over_rest p l s (end u g) e = refl
 over_rest p l s end_at_once e = refl
 
--- the leaf that was read, and what is behind it
+-- the leaf that was read, and what is after it
 pub front_text : (front : Front) (s : List ℕ) → front.gap + front.token ≤ length s → (front_leaf front s).gap ++ ((front_leaf front s).token ++ behind_front front s) ≡ s
 front_text front s w = rw (take-append-drop front.token (drop front.gap s)) (take-append-drop front.gap s)

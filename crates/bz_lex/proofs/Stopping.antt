@@ -209,7 +209,7 @@ return_stops s h = record { more = λ e. cc; no_token = no_backslash_token (13 �
 abbrev stop_at : Reason → ℕ → Stop
 stop_at reason at = record { reason = reason; at = at }
 
--- a stop behind a gap u, where the text is that and v
+-- a stop after a gap u, where the text is that and v
 stop_behind : (s u v : List ℕ) (at : ℕ) → s ≡ u ++ v → at ≡ length u → gap_state_after true Open u ≡ Some Open → NothingBegins v → (OpensString v → ⊥) → IsLexemeStop (stop_at r.BadCharacter at) s
 stop_behind s u v at e n g h k =
     let front : take at s ≡ u = rw (n, e) (take-append_seam u v) in
@@ -244,7 +244,7 @@ broken_stop gap s at w e h b i = by_state gap.state e h b i
         stop_behind s (x.0) (92 ∷ 13 ∷ drop gap.length s) at (sym whole ∙ ap (λ (t : List ℕ). t ++ drop gap.length s) x.1 ∙ append_assoc (x.0) (92 ∷ 13 ∷ []) (drop gap.length s))
         (omega (arith, i, n, taken)) x.2 (return_stops (drop gap.length s) h) (no_backslash_string (13 ∷ drop gap.length s))
 
--- ---- no token stands behind a gap
+-- ---- no token is after a gap
 
 -- the gap before a byte with which none goes on
 gap_of : (gap : GapFront) (s : List ℕ) (c : ℕ) → gap_state_after true Open (take gap.length s) ≡ Some gap.state → Stops true gap.state (drop gap.length s) → is_end true gap.state ≡ true → slice_get s gap.length ≡ Some c

@@ -1,4 +1,4 @@
--- What the laws of tokens say of the text behind a gap.
+-- What the laws of tokens say of the text after a gap.
 use Rattle.std.proofs.Common.{◌≡◌, ◌≢◌, ℕ, Bool, true, false, cond, eqb, List, [], ◌∷◌, ◌++◌, ◌||◌, None, refl, sym, subst}
 use Rattle.std.proofs.lemmas.Bool.{both_ways, or_parts, eqb-false, and_right}
 use Rattle.bz_token.specs.declared.class.Class.{Class}

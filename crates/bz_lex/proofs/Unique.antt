@@ -59,7 +59,7 @@ one_form (Inside n) q r l m s t g h i e = two_tokens q r l m s t g h i e
 one_form Last q r l m s t g h i e = two_empty End q r l m s t g h.1 i.1
 one_form Over q r l m s t g h i e = absurd h
 
--- one leaf stands at a place in a text
+-- one leaf is at a place in a text
 pub one_leaf : (p : Place) (l m : Leaf) (s t : List ℕ) → May IsToken p l s → May IsToken p m t → l.gap ++ (l.token ++ s) ≡ m.gap ++ (m.token ++ t) → (l ≡ m) × (s ≡ t)
 one_leaf p l m s t h k e =
     let x = form p l s h in

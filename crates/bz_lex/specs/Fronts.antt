@@ -20,7 +20,7 @@ pub record IsGapFront (newlines : Bool) (gap : GapFront) (text : List ℕ) : Typ
   pub stops : Stops newlines gap.state (drop gap.length text)
   pub ends : is_end true gap.state ≡ true
 
--- the leaf that a class and two lengths tell: its token, itself, and the text behind it
+-- the leaf that a class and two lengths tell: its token, itself, and the text after it
 abbrev pub front_token : Front → List ℕ → List ℕ
 front_token front text = take front.token (drop front.gap text)
 
@@ -30,7 +30,7 @@ front_leaf front text = record { class = front.class; gap = take front.gap text;
 abbrev pub behind_front : Front → List ℕ → List ℕ
 behind_front front text = drop front.token (drop front.gap text)
 
--- such a leaf stands there
+-- such a leaf is there
 pub record IsFront (place : Place) (front : Front) (text : List ℕ) : Type 0 where
   pub within : front.gap + front.token ≤ length text
   pub may : May IsToken place (front_leaf front text) (behind_front front text)
@@ -43,20 +43,20 @@ NoLeaf place text = (leaf : Leaf) (rest : List ℕ) → May IsToken place leaf r
 abbrev pub TellsFront : Place → List ℕ → Result Front Stop → Type 0
 TellsFront place text result = MatchResult result (λ front. IsFront place front text) (λ _. NoLeaf place text)
 
--- such a token stands there, behind a gap with newlines
+-- such a token is there, after a gap with newlines
 pub record IsLexemeFront (front : Front) (text : List ℕ) : Type 0 where
   pub within : front.gap + front.token ≤ length text
   pub gap : IsGap true false (take front.gap text)
   pub token : IsToken front.class (front_token front text) (behind_front front text)
   pub unopened : OpensString (drop front.gap text) → ⊥
 
--- why no token stands at the front of a text
+-- why no token is at the front of a text
 abbrev pub NoTokenFor : Reason → List ℕ → Type 0
 NoTokenFor r.OpenString text = OpensString text
 NoTokenFor r.BadCharacter text = OpensString text → ⊥
 NoTokenFor _ text = ⊥
 
--- the tokens stop there, behind a gap
+-- the tokens stop there, after a gap
 pub record IsLexemeStop (stop : Stop) (text : List ℕ) : Type 0 where
   pub within : stop.at ≤ length text
   pub gap : IsGap true false (take stop.at text)

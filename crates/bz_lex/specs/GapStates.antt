@@ -5,7 +5,7 @@ use Rattle.bz_lex.specs.declared.gap.GapState.TheVariants.{Open, Escape, EscapeR
 use Rattle.bz_items.specs.Characters.{backslash, carriage_return, line_feed, number_sign}
 use Rattle.bz_token.specs.Bytes.{is_blank}
 
--- the state behind one more byte; None where no gap goes on with it
+-- the state after one more byte; None where no gap goes on with it
 abbrev pub gap_move : Bool → GapState → ℕ → Option GapState
 gap_move newlines Open byte =
     if is_blank byte then Some Open
@@ -20,7 +20,7 @@ abbrev pub and_then : {A B : Type 0} → Option A → (A → Option B) → Optio
 and_then None f = None
 and_then (Some x) f = f x
 
--- the state behind a whole text
+-- the state after a whole text
 abbrev pub gap_state_after : Bool → GapState → List ℕ → Option GapState
 gap_state_after newlines state [] = Some state
 gap_state_after newlines state (byte ∷ rest) = and_then (gap_move newlines state byte) (λ state. gap_state_after newlines state rest)
@@ -36,7 +36,7 @@ is_end unclosed Open = true
 is_end unclosed Comment = unclosed
 is_end unclosed _ = false
 
--- how many bytes behind its last whole piece a gap breaks off
+-- how many bytes after its last whole piece a gap breaks off
 abbrev pub broken_off : GapState → ℕ
 broken_off Escape = 1
 broken_off EscapeReturn = 2

@@ -12,7 +12,7 @@ IsOneLine (byte ∷ rest) = (byte ≢ line_feed) × IsOneLine rest
 -- before a newline or before CR LF (an escaped newline), and comments. A comment runs from # to the next newline or the
 -- end of the text.
 -- newlines: whether unescaped newlines may stand in the gap, and with them comments that have their newline in the gap.
--- unclosed: whether the last piece may be a comment whose newline, if it has one, stands behind the gap.
+-- unclosed: whether the last piece may be a comment whose newline, if it has one, is after the gap.
 pub data IsGap (newlines unclosed : Bool) : List ℕ → Type 0 where
   nothing : {text : List ℕ} → text ≡ [] → IsGap newlines unclosed text
   blank : {text : List ℕ} (byte : ℕ) (rest : List ℕ) → text ≡ byte ∷ rest → is_blank byte ≡ true → IsGap newlines unclosed rest → IsGap newlines unclosed text

@@ -10,7 +10,7 @@ abbrev pub spell_leaves : List Leaf → List ℕ
 spell_leaves [] = []
 spell_leaves (leaf ∷ leaves) = leaf.gap ++ (leaf.token ++ spell_leaves leaves)
 
--- Each leaf stands as it may, by what may says of its place, itself and the text behind it, up to the end.
+-- Each leaf stands as it may, by what may says of its place, itself and the text after it, up to the end.
 abbrev pub Stand : (Place → Leaf → List ℕ → Type 0) → Place → List Leaf → Type 0
 Stand may place [] = place ≡ Over
 Stand may place (leaf ∷ leaves) = may place leaf (spell_leaves leaves) × Stand may (next place leaf) leaves

@@ -23,34 +23,34 @@ abbrev pub is_closing : List ℕ → Bool
 is_closing (byte ∷ []) = nat_eq byte 41 || (nat_eq byte 93 || nat_eq byte 125)
 is_closing _ = false
 
--- behind a token of a line that is no bracket
+-- after a token of a line that is no bracket
 abbrev pub same_depth : Place → Place
 same_depth (Inside depth) = Inside depth
 same_depth _ = Behind
 
--- behind an opening bracket
+-- after an opening bracket
 abbrev pub deeper : Place → Place
 deeper (Inside depth) = Inside (suc depth)
 deeper _ = Inside 0
 
--- behind a closing bracket; outside brackets none is legal, which the grammar says
+-- after a closing bracket; outside brackets none is legal, which the grammar says
 abbrev pub shallower : Place → Place
 shallower (Inside (suc depth)) = Inside depth
 shallower _ = Behind
 
--- behind a newline, or behind the one that is no byte
+-- after a newline, or after the one that is no byte
 abbrev pub behind_newline : List ℕ → Place
 behind_newline [] = Last
 behind_newline _ = Fresh
 
--- the place behind a token of this class
+-- the place after a token of this class
 abbrev pub after_token : Class → List ℕ → Place → Place
 after_token Mark token place = if is_opening token then deeper place else (if is_closing token then shallower place else same_depth place)
 after_token Newline token place = behind_newline token
 after_token End token place = Over
 after_token _ token place = same_depth place
 
--- the place behind a leaf
+-- the place after a leaf
 abbrev pub next : Place → Leaf → Place
 next place leaf = after_token leaf.class leaf.token place
 
@@ -59,11 +59,11 @@ abbrev pub newlines_at : Place → Bool
 newlines_at Behind = false
 newlines_at _ = true
 
--- Which leaf may stand at a place, before a text; IsToken says of a class, a token and the text behind it that the
+-- Which leaf may stand at a place, before a text; IsToken says of a class, a token and the text after it that the
 -- token, which is neither a newline nor the end, is the longest lexeme there.
--- An unescaped newline stands in a gap only inside brackets, before the first token of a line, or before the end; a
--- comment stands there too and in the gap of a newline, and its newline stands in the same gap, but for the last
--- comment in the gap of a newline or of the end. The newline that is no byte stands only last, and then the end's gap is
+-- An unescaped newline is in a gap only inside brackets, before the first token of a line, or before the end; a
+-- comment is there too and in the gap of a newline, and its newline is in the same gap, but for the last
+-- comment in the gap of a newline or of the end. The newline that is no byte is only last, and then the end's gap is
 -- empty. (Which indent a line may have is no matter of its leaf alone: trees say it.)
 pub data May (IsToken : Class → List ℕ → List ℕ → Type 0) : Place → Leaf → List ℕ → Type 0 where
   first : {leaf : Leaf} {rest : List ℕ} → IsGap true false leaf.gap → IsToken leaf.class leaf.token rest → May IsToken Fresh leaf rest

@@ -21,7 +21,7 @@ StopsFor r.OpenString text = OpensString text
 StopsFor r.BadCharacter text = NothingBegins text × (OpensString text → ⊥)
 StopsFor _ text = ⊥
 
--- Tokens behind their gaps, at none of which an open string begins, and one more gap stand in front of the rest of a text.
+-- Tokens after their gaps, at none of which an open string begins, and one more gap stand in front of the rest of a text.
 abbrev pub StandBefore : List ℕ → List (List ℕ) → List ℕ → Type 0
 StandBefore rest [] text = (gap : List ℕ) × (text ≡ gap ++ rest) × IsGap true false gap
 StandBefore rest (token ∷ tokens) text =

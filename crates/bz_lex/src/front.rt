@@ -50,7 +50,7 @@ impl Front {
         text.split_at(self.gap).1.split_at(self.token).0
     }
 
-    /// What stands behind the leaf.
+    /// What is after the leaf.
     pub fn rest_of(self, text: &[u8]) -> &[u8]
         requires { self.gap + self.token ≤ length text.now }
         ensures { result.now ≡ behind_front self text.now }
@@ -59,7 +59,7 @@ impl Front {
     }
 }
 
-/// Why no leaf stands at the front of a text, and how far behind its start.
+/// Why no leaf is at the front of a text, and how far after its start.
 #[derive(Clone, Copy)]
 pub struct Stop {
     pub reason: Reason,
@@ -115,7 +115,7 @@ fn fresh(text: &[u8], gap: GapFront) -> Result<Front, Stop>
     token_front(text, gap.length)
 }
 
-/// Behind a token of a line: a token, a newline, or the newline that is no byte.
+/// After a token of a line: a token, a newline, or the newline that is no byte.
 #[inline(always)]
 fn behind(text: &[u8], gap: GapFront) -> Result<Front, Stop>
     requires { IsGapFront false gap text.now }
@@ -142,7 +142,7 @@ fn inside(text: &[u8], gap: GapFront) -> Result<Front, Stop>
     token_front(text, gap.length)
 }
 
-/// Behind the newline that is no byte: the end.
+/// After the newline that is no byte: the end.
 fn last(text: &[u8]) -> Result<Front, Stop>
     ensures told { TellsFront Place.Last text.now result }
     ensures within { IfErr result (λ stop. stop.at ≤ length text.now) }
@@ -154,7 +154,7 @@ fn last(text: &[u8]) -> Result<Front, Stop>
     }
 }
 
-/// The token at the front of a text without lines, behind its gap; `None` where a gap is all that is left. A token at which a
+/// The token at the front of a text without lines, after its gap; `None` where a gap is all that is left. A token at which a
 /// string begins that is not closed is its prefix: the tokens stop there.
 pub fn lexeme_front(text: &[u8]) -> Result<Option<Front>, Stop>
     ensures told { MatchResult result (λ found. MatchOption found (IsGap true true text.now) (λ front. IsLexemeFront front text.now)) (λ _. NoLexemes text.now) }
@@ -180,7 +180,7 @@ pub fn lexeme_front(text: &[u8]) -> Result<Option<Front>, Stop>
     Ok(Some(front))
 }
 
-/// Whether a token is the prefix of a string that is not closed. Behind such a one stands a quotation mark.
+/// Whether a token is the prefix of a string that is not closed. After such a one is a quotation mark.
 fn is_open_prefix(text: &[u8], front: Front) -> bool
     requires within { front.gap ≤ length text.now }
     requires token { TokenAt front.class front.token (drop front.gap text.now) }
@@ -193,7 +193,7 @@ fn is_open_prefix(text: &[u8], front: Front) -> bool
     opens_string(from_token)
 }
 
-/// Whether a quotation mark stands there.
+/// Whether a quotation mark is there.
 fn is_quote_at(text: &[u8], index: usize) -> bool
     ensures { (result ≡ false) → (mark : ℕ) (back : List ℕ) → drop index text.now ≡ mark ∷ back → is_quote mark ≡ false }
 {
@@ -203,7 +203,7 @@ fn is_quote_at(text: &[u8], index: usize) -> bool
     }
 }
 
-/// The token behind a gap.
+/// The token after a gap.
 #[inline(always)]
 fn token_front(text: &[u8], gap: usize) -> Result<Front, Stop>
     requires { gap ≤ length text.now }

@@ -7,16 +7,16 @@ ghost use Rattle.bz_lex.specs.GapStates.{gap_move, gap_state_after, Stops, is_en
 pub enum GapState {
     /// Between two pieces.
     Open,
-    /// Behind a backslash.
+    /// After a backslash.
     Escape,
-    /// Behind a backslash and a carriage return.
+    /// After a backslash and a carriage return.
     EscapeReturn,
     /// In a comment.
     Comment,
 }
 
 impl GapState {
-    /// Whether the state behind one more byte is surely the same, as in a run of spaces and newlines or in a comment.
+    /// Whether the state after one more byte is surely the same, as in a run of spaces and newlines or in a comment.
     fn stays(self, newlines: bool, byte: u8) -> bool
         ensures { IsTrue result → gap_move newlines self byte ≡ Some self }
     {
@@ -27,7 +27,7 @@ impl GapState {
         }
     }
 
-    /// The state behind one more byte; `None` where no gap goes on with it.
+    /// The state after one more byte; `None` where no gap goes on with it.
     fn step(self, newlines: bool, byte: u8) -> Option<GapState>
         ensures { result ≡ gap_move newlines self byte }
     {

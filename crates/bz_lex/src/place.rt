@@ -3,18 +3,18 @@ ghost use Rattle.bz_lex.specs.Places.{after_token, is_closing, is_opening, deepe
 
 use bz_token::Class;
 
-/// Where a leaf stands in a file.
+/// Where a leaf is in a file.
 #[derive(Clone, Copy)]
 pub enum Place {
-    /// Before the first token of a line: at the start of the text or behind a newline.
+    /// Before the first token of a line: at the start of the text or after a newline.
     Fresh,
-    /// Behind a token of a line, outside brackets.
+    /// After a token of a line, outside brackets.
     Behind,
-    /// Inside brackets, with so many open brackets around them.
+    /// Inside brackets, with this many open brackets around them.
     Inside(usize),
-    /// Behind the newline that is no byte, at the end of the text.
+    /// After the newline that is no byte, at the end of the text.
     Last,
-    /// Behind the end.
+    /// After the end.
     Over,
 }
 
@@ -26,7 +26,7 @@ impl Place {
         matches!(self, Place::Over)
     }
 
-    /// The place behind a token of this class.
+    /// The place after a token of this class.
     #[inline(always)]
     pub fn after_token(self, class: Class, token: &[u8]) -> Place
         requires { open_brackets self < 2 ^ 64 }
@@ -61,7 +61,7 @@ impl Place {
         !matches!(self, Place::Behind)
     }
 
-    /// Behind a token of a line that is no bracket.
+    /// After a token of a line that is no bracket.
     fn same_depth(self) -> Place
         ensures { result ≡ same_depth self }
     {
@@ -71,7 +71,7 @@ impl Place {
         }
     }
 
-    /// Behind an opening bracket.
+    /// After an opening bracket.
     fn deeper(self) -> Place
         requires { open_brackets self < 2 ^ 64 }
         ensures { result ≡ deeper self }
@@ -82,7 +82,7 @@ impl Place {
         }
     }
 
-    /// Behind a closing bracket.
+    /// After a closing bracket.
     fn shallower(self) -> Place
         ensures { result ≡ shallower self }
     {

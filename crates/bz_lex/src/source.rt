@@ -43,7 +43,7 @@ fn token_at(text: &str, front: Front) -> &str
     &text[front.gap..front.gap + front.token]
 }
 
-/// What stands behind that token.
+/// What is after that token.
 fn behind(text: &str, front: Front) -> &str
     requires { IsLexemeFront front text.now }
     ensures { result.now ≡ behind_front front text.now }

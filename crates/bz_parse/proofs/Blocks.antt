@@ -177,9 +177,9 @@ pub suite_line : (d : ℕ) (i : List ℕ) (ts : List Leaf) → (d ≡ 0 → ⊥)
 unfolding suite_at part_at
 suite_line d i ts pos h = ap (λ (n : ℕ). suite_of n i ts) (one_less d pos) ∙ suite_or_line (d - 1) i ts h ∙ ap (λ (n : ℕ). reading n line ts) (sym (one_less d pos))
 
--- ---- a suite behind its newline
+-- ---- a suite after its newline
 
--- the statements of a suite at an indent, behind its newline
+-- the statements of a suite at an indent, after its newline
 abbrev block : ℕ → List ℕ → Part × List Leaf → Option (Part × List Leaf)
 block d i y = cond (is_deeper i (first_indent y.1) && begins_at (first_indent y.1) y.1) (wrap k.Suite (with_part_first y.0 (while_next (length y.1) (begins_at (first_indent y.1)) (statement d (first_indent y.1)) y.1))) None
 

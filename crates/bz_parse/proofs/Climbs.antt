@@ -210,7 +210,7 @@ module _ (d : ℕ) (ts : List Leaf) where
   unfolding atom_at token_at
   atom_leaf f g h = cond-false (starts_with open_round ts) _ _ f ∙ cond-false (starts_with open_square ts) _ _ g ∙ cond-false (starts_with open_curly ts) _ _ h
 
--- ---- what stands behind a primary
+-- ---- what is after a primary
 
 pub primary_is : (d : ℕ) (ts : List Leaf) → level_at d 0 ts ≡ (atom_at d ts >>= λ a. suffixes_at d a.0 a.1)
 unfolding level_at atom_at suffixes_at

@@ -105,7 +105,7 @@ fewer (one terminals p) token state state' h = absurd h
 fewer (piece q p) token state state' h = absurd h
 fewer (choose p p') token state state' h = (omega (arith, ap choices h.1), omega (arith, ap choices h.2))
 
--- ---- along the parser's loop: front, state and ts are where it stands
+-- ---- along the parser's loop: front, state and ts are where it is
 
 module _ (d : ℕ) (front : List Part) (state : NodeState) (ts : List Leaf) where
   by_move : (action : Move) → Asks (plan_at state) action → found_from d front state ts ≡ read_by_move d front action ts

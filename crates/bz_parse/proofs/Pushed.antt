@@ -1,4 +1,4 @@
--- Parts that the parser's functions put behind the others.
+-- Parts that the parser's functions put after the others.
 use Rattle.std.proofs.Common.{◌≡◌, ℕ, max, nat_le, ◌≤◌, ◌<◌, Bool, true, false, cond, List, [], ◌∷◌, ◌++◌, length, take, drop, slice_get, Option, Some, None, Result, Ok, Err, refl, sym, ap, ◌∙◌, arith, length-append}
 use Rattle.std.proofs.lemmas.Bool.{cond-true, cond-false, le-leb, lt-leb}
 use Rattle.std.proofs.lemmas.Option.{none-some}
@@ -109,7 +109,7 @@ fitted_some d deep a ps state ts y e f h = some_of (nat_le deep d) refl h
     some_of true g k = (ap (λ (n : ℕ). nat_le n d) (sym f) ∙ g, ap (λ (qs : List Part). found_from d qs state ts) (sym e) ∙ k)
     some_of false g k = absurd (none-some y k)
 
--- what is not read behind a primary
+-- what is not read after a primary
 pub suffix_fails : (d deep : ℕ) (a : Part) (ps : List Part) (ts : List Leaf) → ps ≡ a ∷ [] → deep ≡ depth_part a → starts_with (terminals_of t.Suffixes) ts ≡ true → fitted_at d deep ps (s.Suffix suffix_at.Begin) ts ≡ None → suffixes_at d a ts ≡ None
 unfolding fitted_at
 suffix_fails d deep a ps ts e f h n = none_of (nat_le deep d) refl n

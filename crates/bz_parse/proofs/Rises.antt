@@ -1,4 +1,4 @@
--- Operators behind an operand, rank by rank.
+-- Operators after an operand, rank by rank.
 use Rattle.std.proofs.Common.{◌≡◌, ℕ, zero, suc, ◌+◌, ◌-◌, ◌≤◌, ◌<◌, nat_le, ◌&&◌, Bool, true, false, List, Option, Some, None, refl, sym, ap, ◌∙◌, ◌⊎◌, inl, inr, arith}
 use Rattle.std.proofs.lemmas.Bool.{cond-false, cases_lt, and_parts, leb-true, le-leb}
 use Rattle.bz_lex.specs.declared.leaf.Leaf.{Leaf}
@@ -123,7 +123,7 @@ passed d k r n a ts h f =
     let e : r ≡ k + (r - k) = omega arith in
     ap (λ (i : ℕ). risen_at d i n a ts) e ∙ passes_more d k (r - k) n a ts (λ j b c. f j b (omega (arith, c, e)))
 
--- ---- leaves behind which an expression ends in which no comma binds
+-- ---- leaves after which an expression ends in which no comma binds
 
 apart : (token : TokenSet) (ts : List Leaf) → disjoint (terminals_of t.Ends) (terminals_of token) ≡ true → starts_with (terminals_of t.Ends) ts ≡ true → starts_with (terminals_of token) ts ≡ false
 apart token ts e h = disjoint_at (terminals_of t.Ends) (terminals_of token) ts e h
@@ -146,7 +146,7 @@ ends_pass (suc (suc (suc (suc (suc (suc (suc (suc (suc (suc (suc (suc (suc j))))
 
 -- ---- what begins an expression
 
--- no sign, no `not` and no `lambda` stands first, where one could begin a node of these ranks
+-- no sign, no `not` and no `lambda` is first, where one could begin a node of these ranks
 pub plain : (k n : ℕ) (ts : List Leaf) → (k ≤ 0 → 1 ≤ n → starts_with (terminals_of t.Signs) ts ≡ false) → (k ≤ 8 → 9 ≤ n → starts_with (terminals_of t.Not) ts ≡ false) → (k ≤ 12 → 13 ≤ n → starts_with (terminals_of t.Lambda) ts ≡ false) → Plain k n ts
 plain k n ts sign no_not no_lambda zero a b = sign (omega arith) (omega arith)
 plain k n ts sign no_not no_lambda (suc zero) a b = refl

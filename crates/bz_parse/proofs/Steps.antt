@@ -86,7 +86,7 @@ several_same next begin K takes (suc n) (suc m) ts a b =
     ap (λ o. cond (starts_with begin ts) o (K ts)) (bind_same (next ts) (λ x. with_part_first x.0 (several n next begin K x.1)) (λ x. with_part_first x.0 (several m next begin K x.1))
     (λ x e. ap (with_part_first x.0) (several_same next begin K takes n m x.1 (omega (arith, takes ts x e)) (omega (arith, takes ts x e)))))
 
--- parts behind each other without fuel
+-- parts one after the other without fuel
 pub each_step : (d : ℕ) (q : Sort) (r : Shape) (ts : List Leaf) →
     run (reading d) (each q r) ts ≡ cond (starts_with (starts q) ts) (reading d q ts >>= λ x. with_part_first x.0 (run (reading d) (each q r) x.1)) (run (reading d) r ts)
 each_step d q r ts =
@@ -140,7 +140,7 @@ pub fails : {X Y Y' : Type 0} (r : Result X ParseHalt) (o : Option Y) (all : Opt
 fails (Ok x) o all w f = tt
 fails (Err e) o all w f = halts e o all w f
 
--- ---- parts with separators: what comes behind one of them
+-- ---- parts with separators: what comes after one of them
 
 abbrev pub behind_at : ℕ → Sort → List Terminal → Bool → Shape → Read (List Part)
 behind_at d q sep last r ts = after_item (run (reading d) (list q sep last r)) sep last (first r) (run (reading d) r) ts

@@ -1,4 +1,4 @@
--- Expressions by their ranks, and what stands in them, as words that do not unfold by themselves: one for each function of the parser.
+-- Expressions by their ranks, and what is in them, as words that do not unfold by themselves: one for each function of the parser.
 use Rattle.std.specs.Prelude.{◌≡◌, ℕ, zero, suc, ◌-◌, nat_le, List, [], ◌∷◌, ◌++◌, length, Some, None, if◌then◌else◌}
 use Rattle.bz_lex.specs.declared.leaf.Leaf.{Leaf}
 use Rattle.bz_tree.specs.declared.kind.Kind.TheVariants as k
@@ -14,7 +14,7 @@ use Rattle.bz_states.specs.Tokens.{terminals_of}
 use Rattle.bz_states.specs.States.{rung_of}
 use Rattle.bz_parse.specs.Words.{found_from}
 
--- a part, or a node that it begins where this token stands behind it
+-- a part, or a node that it begins where this token is after it
 unfoldable pub begun_at : ℕ → TokenSet → NodeState → Part → Read Part
 begun_at d token state a ts = if starts_with (terminals_of token) ts then (if fits_in d a then found_from d (a ∷ []) state ts else None) else Some (a, ts)
 
@@ -39,7 +39,7 @@ bound d _ a ts = Some (a, ts)
 unfoldable pub bound_at : ℕ → ℕ → Part → Read Part
 bound_at d n a ts = bound d (rung_of n) a ts
 
--- what the operators of so many ranks, from one on, make of an operand
+-- what the operators of this many ranks, from one on, make of an operand
 abbrev pub rising : ℕ → ℕ → ℕ → Part → Read Part
 rising d n zero a ts = Some (a, ts)
 rising d n (suc more) a ts = bound d (rung_of n) a ts >>= λ x. rising d (suc n) more x.0 x.1
@@ -48,7 +48,7 @@ rising d n (suc more) a ts = bound d (rung_of n) a ts >>= λ x. rising d (suc n)
 unfoldable pub risen_at : ℕ → ℕ → ℕ → Part → Read Part
 risen_at d rank n a ts = rising d rank (n - rank) a ts
 
--- A part was read and put behind the others, and an expression of rank n goes on with it from a rank on.
+-- A part was read and put after the others, and an expression of rank n goes on with it from a rank on.
 abbrev pub RisesFrom : ℕ → ℕ → ℕ → List Leaf → List Leaf → List Part → List Part → ℕ → Type 0
 RisesFrom d rank n old new front all deep = (a : Part) × (risen_at d rank n a new ≡ level_at d n old) × (all ≡ front ++ (a ∷ [])) × (deep ≡ depth_part a)
 
@@ -56,7 +56,7 @@ RisesFrom d rank n old new front all deep = (a : Part) × (risen_at d rank n a n
 unfoldable pub suffixes_at : ℕ → Part → Read Part
 suffixes_at d a ts = suffixes (length ts) d (reading d) a ts
 
--- a name, a number, a string or what stands in brackets
+-- a name, a number, a string or what is in brackets
 unfoldable pub atom_at : ℕ → Read Part
 atom_at d ts = atom (reading d) ts
 

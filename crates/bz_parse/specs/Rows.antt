@@ -23,7 +23,7 @@ plan_of_header header = finish k.Suite (shape_of_header header)
 unfoldable pub header_at : ℕ → Header → Read (List Part)
 header_at d header ts = run (reading d) (shape_of_header header) ts
 
--- a header and its suite, where its statement stands at an indent
+-- a header and its suite, where its statement is at an indent
 unfoldable pub owner_at : ℕ → Header → List ℕ → Read (List Part)
 owner_at d header i ts = with_suite (run (reading d) (shape_of_header header)) (suite_of d i) ts
 
@@ -41,11 +41,11 @@ statements_at d i ts = while_next (length ts) (begins_at i) (statement d i) ts
 unfoldable pub branches_at : ℕ → List ℕ → Read (List Part)
 branches_at d i ts = branches_of (length ts) (run (reading d)) (suite_of d i) i ts
 
--- what stands in an IfStmt
+-- what is in an IfStmt
 unfoldable pub if_at : ℕ → List ℕ → Read (List Part)
 if_at d i ts = owner_at d h.If i ts >>= λ x. put_all x.0 (branches_at d i x.1)
 
--- What was read is put behind other parts.
+-- What was read is put after other parts.
 abbrev pub PutsAll : Option (List Part × List Leaf) → List Part → List Part → List Leaf → Type 0
 PutsAll read front all new = (xs : List Part) × (read ≡ Some (xs, new)) × (all ≡ front ++ xs)
 

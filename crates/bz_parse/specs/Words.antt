@@ -24,7 +24,7 @@ with_found front (Some x) = Some ((x.0.0, front ++ x.0.1), x.1)
 unfoldable pub found_by : ℕ → List Part → Plan → Read Part
 found_by d front plan ts = wrap_found (with_found front (follow (reading d) plan ts))
 
--- What was read is put behind other parts, and how deep it is.
+-- What was read is put after other parts, and how deep it is.
 abbrev pub Pushes : Option (Part × List Leaf) → List Part → List Part → List Leaf → ℕ → Type 0
 Pushes read front all new deep = (x : Part) × (read ≡ Some (x, new)) × (all ≡ front ++ (x ∷ [])) × (deep ≡ depth_part x)
 

@@ -71,7 +71,7 @@ fn follow(
     }
 }
 
-/// The items of a row that are left, from where one of them or the closing token stands, and that token.
+/// The items of a row that are left, from where one of them or the closing token is, and that token.
 #[cycle(parser)]
 fn items_of_row(
     from: usize,
@@ -163,7 +163,7 @@ fn begin(
     follow(from, 0, state, depth, stack, leaves)
 }
 
-/// A node that begins with the last part of the stack, which stands at `from` and is so deep.
+/// A node that begins with the last part of the stack, which is at `from` and is so deep.
 #[cycle(parser)]
 fn go_on(
     from: usize,
@@ -254,7 +254,7 @@ fn leaf_of(sort: PartSort, stack: &mut Stack, leaves: &mut Leaves) -> Result<u32
 }
 
 /// An expression of this rank or a lower one, of which the parts are at most so deep: what it begins with, and then the
-/// operators behind it, from those that bind tightest on.
+/// operators after it, from those that bind tightest on.
 #[cycle(parser)]
 fn expression(n: u8, depth: u32, stack: &mut Stack, leaves: &mut Leaves) -> Result<u32, ParseHalt>
     requires small { depth ≤ 2 * depth_limit }
@@ -313,7 +313,7 @@ fn operand(n: u8, depth: u32, stack: &mut Stack, leaves: &mut Leaves) -> Result<
     })
 }
 
-/// The last part of the stack, which stands at `from` and is so deep, or the node that the operator of this rank makes of it.
+/// The last part of the stack, which is at `from` and is so deep, or the node that the operator of this rank makes of it.
 #[cycle(parser)]
 fn raised(
     from: usize,
@@ -342,7 +342,7 @@ fn raised(
     }
 }
 
-/// A name, a number, a string or what stands in brackets, and what stands behind it.
+/// A name, a number, a string or what is in brackets, and what is after it.
 #[cycle(parser)]
 fn primary(depth: u32, stack: &mut Stack, leaves: &mut Leaves) -> Result<u32, ParseHalt>
     requires small { depth ≤ 2 * depth_limit }
@@ -364,7 +364,7 @@ fn primary(depth: u32, stack: &mut Stack, leaves: &mut Leaves) -> Result<u32, Pa
     Ok(deep)
 }
 
-/// A name, a number, a string or what stands in brackets.
+/// A name, a number, a string or what is in brackets.
 #[cycle(parser)]
 fn atom(depth: u32, stack: &mut Stack, leaves: &mut Leaves) -> Result<u32, ParseHalt>
     requires small { depth ≤ 2 * depth_limit }

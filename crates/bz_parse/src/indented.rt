@@ -57,7 +57,7 @@ pub fn read_so_far(alloc: Global, depth: u32, leaves: &mut Leaves) -> Result<Sta
     }
 }
 
-/// What stands before a suite, up to its colon.
+/// What is before a suite, up to its colon.
 #[derive(Clone, Copy)]
 pub(crate) enum Header {
     Def,
@@ -81,7 +81,7 @@ impl Header {
     }
 }
 
-/// What stands before a suite.
+/// What is before a suite.
 fn head(which: Header, depth: u32, stack: &mut Stack, leaves: &mut Leaves) -> Result<(), ParseHalt>
     requires small { depth ≤ 2 * depth_limit }
     ensures ok { OnOk result (PutsAll (header_at depth which leaves.old) stack.old stack.new leaves.new) }
@@ -144,7 +144,7 @@ fn owner(
     suite(indent, depth, stack, leaves)
 }
 
-/// What stands in an IfStmt at this indent.
+/// What is in an IfStmt at this indent.
 #[cycle(statements)]
 fn branches(
     indent: &[u8],

@@ -98,7 +98,7 @@ fn bzl_tree_of(alloc: Global, text: &[u8]) -> Result<BzlTree, ReadFault>
     }
 }
 
-/// What the file holds of a text of characters within the limit, newer kinds in a BUILD file too, or the fault that stands
+/// What the file holds of a text of characters within the limit, newer kinds in a BUILD file too, or the fault that is
 /// first in it.
 fn parts_of(alloc: Global, dialect: Dialect, text: &[u8]) -> Result<Stack, ReadFault>
     requires within { length text.now ≤ limit }
@@ -146,7 +146,7 @@ fn newer_fault(alloc: Global, text: &[u8]) -> ReadFault
     unexpected_at(text, first.unwrap_or(0))
 }
 
-/// The byte at which the first token begins that no BUILD file has, among those that begin in so many bytes of a text.
+/// The byte at which the first token begins that no BUILD file has, among those that begin in this many bytes of a text.
 fn first_newer(alloc: Global, text: &[u8], until: usize) -> Option<usize>
     requires { length text.now ≤ limit }
 {
@@ -154,7 +154,7 @@ fn first_newer(alloc: Global, text: &[u8], until: usize) -> Option<usize>
     leaves.newer_within(until)
 }
 
-/// The byte at which the first node begins that is too deep, by a reading with room for twice the depth: what stands behind a
+/// The byte at which the first node begins that is too deep, by a reading with room for twice the depth: what is after a
 /// node may put it deeper. Where the text is no file further on, the lines in front of that place tell. The error, `Memory`
 /// alone: a growth was refused.
 fn first_too_deep(alloc: Global, text: &[u8]) -> Result<Option<usize>, ParseHalt>

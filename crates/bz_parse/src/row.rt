@@ -118,7 +118,7 @@ impl Stack {
         ensures { OnOk result (self.new ≡ take from self.old ++ node_part kind (drop from self.old) ∷ []) }
     {
         let _whole = self.parts.len();
-        // The room comes first: a push that fails gives the node back, and the proof that it is let go is long.
+        // The room comes first: a push that fails gives the node back, and the proof that it is dropped is long.
         self.parts.reserve(1)?;
         let parts = Items::from_vec(self.parts.split_off(from)?);
         self.newer = self.newer || kind.is_newer();

@@ -1,4 +1,4 @@
--- What the outputs hold behind two parts of a run, one after the other.
+-- What the outputs hold after two parts of a run, one after the other.
 use Rattle.std.proofs.Common.{◌≡◌, ◌⊎◌, ◌≤◌, ◌∙◌, ◌++◌, ◌∷◌, ◌||◌, inl, inr, ℕ, List, [], Option, Some, None, Bool, true, false, refl, sym, subst, arith}
 use Rattle.std.specs.Io.KnownBytes.{Appends}
 use Rattle.std.proofs.lemmas.List.{append-nil}

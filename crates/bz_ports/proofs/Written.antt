@@ -95,6 +95,6 @@ all_written old now bytes so =
     let len : 0 ≡ length bytes - so.some.count = ap length so.rest_is ∙ length-drop so.some.count bytes in
     subst (Appends old now) (take_all so.some.count bytes (omega arith)) so.some.appends
 
--- what is left at a place is the item there and what is left behind it
+-- what is left at a place is the item there and what is left after it
 pub left-cons : {A : Type 0} (items : List A) (at : ℕ) (default : A) → at < length items → drop at items ≡ get_or items at default ∷ drop (at + 1) items
 left-cons items at default within = rw (add-one) (drop-cons items at default within)

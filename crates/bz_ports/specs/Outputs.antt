@@ -1,4 +1,4 @@
--- What the outputs hold behind a run, or a part of one.
+-- What the outputs hold after a run, or a part of one.
 use Rattle.std.specs.Prelude.{◌≡◌, ◌⊎◌, ◌≤◌, ℕ, List, [], ◌∷◌, Bool, true, false, Option}
 use Rattle.std.specs.Io.KnownBytes.{Appends}
 use Rattle.bz_ports.specs.Faults.{Rises, AppendsSome, AppendsUnlessFailed}

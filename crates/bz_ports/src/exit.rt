@@ -26,7 +26,7 @@ pub struct Exit {
     pub cut: Cut,
 }
 
-/// The first failure of two parts of a run, one behind the other.
+/// The first failure of two parts of a run, one after the other.
 pub fn first_cut(first: Cut, later: Cut) -> Cut
     ensures { result ≡ first_cut first later }
 {

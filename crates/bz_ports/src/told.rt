@@ -12,7 +12,7 @@ use std::alloc::{AllocError, Global};
 /// The name by which standard input is told.
 pub const STDIN: &str = "<stdin>";
 
-/// Writes these pieces to `err`, one behind the other, up to its first fault: a beginning of them then stands there, and
+/// Writes these pieces to `err`, one after the other, up to its first fault: a beginning of them then is there, and
 /// what is left is dropped. It takes no memory itself.
 pub fn tell<E: Sink>(err: &mut E, pieces: &[&str])
     ensures { AppendsUnlessFailed (E.faults err.old) (E.faults err.new) (E.contents err.old) (E.contents err.new)

@@ -13,7 +13,7 @@ use bz_exact::{Unread, read_mark, read_number};
 use bz_items::{Items, Text};
 use std::alloc::Global;
 
-/// So many numbers of parts, in a list of just their number.
+/// This many numbers of parts, in a list of just their number.
 fn read_path(alloc: Global, count: u32, input: &[u8]) -> Result<(Vec<u32>, &[u8]), Unread>
     ensures { Gives (λ x. (x.0.items, x.1.now)) result (repeated (number_at space) count input.now) }
 {
@@ -49,7 +49,7 @@ fn read_edit(alloc: Global, depth: u32, input: &[u8]) -> Result<(Edit, &[u8]), U
     Ok((edit, rest))
 }
 
-/// So many edits, in a list of just their number.
+/// This many edits, in a list of just their number.
 fn read_edits(
     alloc: Global,
     depth: u32,
@@ -88,7 +88,7 @@ fn read_entry(
     Ok((Entry { note, edits }, rest))
 }
 
-/// So many entries.
+/// This many entries.
 pub fn read_entries(
     alloc: Global,
     version: Version,
@@ -108,7 +108,7 @@ pub fn read_entries(
     Ok((entries, rest))
 }
 
-/// So many lines with a digest.
+/// This many lines with a digest.
 pub fn read_digests(
     alloc: Global,
     count: u32,

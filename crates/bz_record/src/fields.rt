@@ -1,4 +1,4 @@
-//! The fields that only records have. Each function takes its field from the front of the bytes, and gives what stands
+//! The fields that only records have. Each function takes its field from the front of the bytes, and gives what is
 //! after it.
 ghost use Rattle.std.specs.Prelude.{◌≡◌, ◌∷◌, ◌<◌, ◌≤◌, ◌^◌, [], ℕ};
 ghost use Rattle.bz_exact.specs.Outcomes.{Gives};

@@ -10,7 +10,7 @@ use bz_items::Items;
 use bz_tree::{Node, Part};
 use std::alloc::Global;
 
-/// A part of which at most so many nodes stand inside each other.
+/// A part of which at most this many nodes stand inside each other.
 #[cycle(held)]
 #[tactic(auto, unfolding(crate::specs::Reading::choice))]
 fn read_part(alloc: Global, depth: u32, input: &[u8]) -> Result<(Part, &[u8]), Unread>
@@ -50,7 +50,7 @@ fn read_node_of(alloc: Global, depth: u32, input: &[u8]) -> Result<(Node, &[u8])
     Ok((Node { kind, parts }, rest))
 }
 
-/// So many parts, in a list of just their number: a step of a long text has thousands of such lists, most of one part.
+/// This many parts, in a list of just their number: a step of a long text has thousands of such lists, most of one part.
 #[cycle(held)]
 pub fn read_parts(
     alloc: Global,

@@ -10,7 +10,7 @@ use Rattle.bz_tree.specs.Joined.{AreWholeLines, file_with}
 use Rattle.bz_tree.specs.Split.{bare_end}
 use Rattle.bz_edit.specs.declared.edit.Edit.{Edit}
 
--- what stands behind a part in a file that has it alone
+-- what is after a part in a file that has it alone
 abbrev pub behind_alone : Part → List Part
 behind_alone (p.Leaf l) = []
 behind_alone (Node' k s r) = bare_end ∷ []
@@ -27,11 +27,11 @@ abbrev pub EndsLine : Part → Type 0
 EndsLine (p.Leaf l) = ⊥
 EndsLine (Node' k s r) = AreWholeLines (Node' k s r ∷ [])
 
--- the part is a line feed, with what stands before it
+-- the part is a line feed, with what is before it
 abbrev pub IsLineFeed : Part → Type 0
 IsLineFeed x = (l : Leaf) × (x ≡ p.Leaf l) × (l.token ≡ line_feed ∷ [])
 
--- the parts are statements that each end with a newline of their own, and one leaf behind them
+-- the parts are statements that each end with a newline of their own, and one leaf after them
 abbrev pub AreLined : List Part → Type 0
 AreLined ps = (xs : List Part) × (l : Leaf) × (ps ≡ xs ++ p.Leaf l ∷ []) × AllByRecursion EndsLine xs
 

@@ -1,4 +1,4 @@
--- The outline of a node: bytes that say all of it. Two nodes with one outline are equal, so a node can be let go of, and another one
+-- The outline of a node: bytes that say all of it. Two nodes with one outline are equal, so a node can be dropped, and another one
 -- compared with it later.
 use Rattle.std.specs.Prelude.{ℕ, List, [], ◌∷◌, ◌++◌}
 use Rattle.std.specs.List.{flat_map}
@@ -9,11 +9,11 @@ use Rattle.bz_tree.specs.declared.tree.Part.{Part, Row_of-Part, end_of-Part, mor
 use Rattle.bz_tree.specs.declared.tree.Part as p
 use Rattle.bz_tree.specs.Kinds.{kind_number}
 
--- a byte behind a 1
+-- a byte after a 1
 abbrev pub marked_byte : ℕ → List ℕ
 marked_byte b = 1 ∷ b ∷ []
 
--- a text: a 1 before each byte, and a 0 behind the last
+-- a text: a 1 before each byte, and a 0 after the last
 abbrev pub marked : List ℕ → List ℕ
 marked s = flat_map marked_byte s ++ 0 ∷ []
 

@@ -4,7 +4,7 @@ ghost use Rattle.bz_edit.specs.declared.edit.Edit.{Edit};
 ghost use Rattle.bz_trail.specs.Shown.{Text};
 ghost use Rattle.bz_resume.specs.Journals.{History, Journal, stands, text_at};
 
-/// A history stands at its cursor for the text there.
+/// A history is at its cursor for the text there.
 pub fn reopened()
     ensures { (h : History) → stands h (text_at h h.cursor) ≡ Some h.cursor }
 {}

@@ -46,8 +46,8 @@ fn read_as(alloc: Global, text: &[u8], outline: &[u8]) -> Result<Option<Node>, M
     }
 }
 
-/// Whether a node is a legal tree within the limit, by its spelling. The node is let go of while its spelling is read, since two
-/// trees take most of the memory of a run; it is the same again behind that, where it is a tree. The error: a growth was refused.
+/// Whether a node is a legal tree within the limit, by its spelling. The node is dropped while its spelling is read, since two
+/// trees take most of the memory of a run; it is the same again after that, where it is a tree. The error: a growth was refused.
 fn is_tree(node: &mut Node, text: &[u8]) -> Result<bool, Memory>
     requires { text.now ≡ spell_node node.old }
     ensures fine { IfOk result (λ fine. IsTrue fine ↔ IsTree node.old) }

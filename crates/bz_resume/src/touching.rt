@@ -60,7 +60,7 @@ fn is_alone(part: &Part) -> Result<bool, Memory>
     }
 }
 
-/// Whether the part is a line feed, with what stands before it.
+/// Whether the part is a line feed, with what is before it.
 fn is_line_feed(part: &Part) -> bool
     ensures { IsTrue result → IsLineFeed part.now }
 {

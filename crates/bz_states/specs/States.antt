@@ -66,7 +66,7 @@ sort_of q.Param = param
 
 -- ---- what is left of the shapes of the table, further in
 
--- what is left behind the first of its tokens and parts, where a shape begins with one, and what an alternative begins with
+-- what is left after the first of its tokens and parts, where a shape begins with one, and what an alternative begins with
 abbrev pub after_first : Shape → Shape
 after_first (tok terminals r) = r
 after_first (sub q r) = r
@@ -83,11 +83,11 @@ right r = r
 abbrev pub names : Shape
 names = after_first (bzl_shape k.For)
 
--- behind the names of a `for`
+-- after the names of a `for`
 abbrev pub in_or : Shape
 in_or = tok (one_keyword (codes "in")) (sub or_level done)
 
--- behind the second place of a slice
+-- after the second place of a slice
 abbrev pub slice_stop : Shape
 slice_stop = left slice_end
 
@@ -112,7 +112,7 @@ index_item = choose (finish k.Slice (tok colon_mark slice_end)) (piece expr inde
 abbrev pub call_or_index : Plan
 call_or_index = choose (finish k.Call (tok open_round (items argument close_round))) (one open_square index_item)
 
--- behind what is no load, and behind what is no return
+-- after what is no load, and after what is no return
 abbrev pub no_load : Plan
 no_load = choose (finish k.Return (bzl_shape k.Return)) (choose (finish k.Flow (bzl_shape k.Flow)) (piece expr (choose (finish k.Assign (tok assigns (sub expr done))) (finish k.Bare done))))
 
@@ -188,7 +188,7 @@ left_of_names names_at.Name = names
 left_of_names names_at.Behind = alt (tok comma_mark names) in_or
 left_of_names names_at.Comma = tok comma_mark names
 
--- behind the keyword of a lambda
+-- after the keyword of a lambda
 abbrev pub lambda_tail : Shape
 lambda_tail = after_first (bzl_shape k.Lambda)
 
@@ -204,14 +204,14 @@ left_of_starred starred_at.Begin = starred
 left_of_starred starred_at.Star = left starred
 left_of_starred starred_at.Name = after_first (left starred)
 
--- behind the opening bracket of a definition, and what closes it
+-- after the opening bracket of a definition, and what closes it
 abbrev pub params : Shape
 params = after_first (after_first (after_first def_header))
 
 abbrev pub for_names : Shape
 for_names = after_first for_header
 
--- behind the names of a `for`
+-- after the names of a `for`
 abbrev pub in_expression : Shape
 in_expression = tok (one_keyword (codes "in")) (sub expr (tok colon_mark done))
 
@@ -311,7 +311,7 @@ plan_at s.BehindIf = finish k.Cond cond_tail
 
 -- ---- the move that a plan asks for
 
--- behind a part of a list
+-- after a part of a list
 abbrev pub again : Sort → List Terminal → Bool → Shape → Shape
 again q separators true r = alt (tok separators (alt r (list q separators true r))) r
 again q separators false r = alt (tok separators (list q separators false r)) r
@@ -364,7 +364,7 @@ choices (finish kind r) = choices_in r
 choices (choose plan plan') = suc (choices plan + choices plan')
 choices _ = 0
 
--- they are few behind a leaf
+-- they are few after a leaf
 abbrev pub Few : Move → Type 0
 Few (m.Take token state) = choices (plan_at state) ≤ 2
 Few (m.Read place state) = choices (plan_at state) ≤ 2

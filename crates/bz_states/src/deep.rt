@@ -5,7 +5,7 @@ use crate::state::{LAMBDA, NOT, PartSort, Rung, UNARY, rung_at};
 use crate::token::{Leaves, TokenSet};
 use bz_tree::{Part, first_of};
 
-/// Marks where the part, right before the next leaf, holds the first node inside more than so many levels.
+/// Marks where the part, right before the next leaf, holds the first node inside more than this many levels.
 pub fn mark_deep_part(part: &Part, depth: u32, leaves: &mut Leaves)
     ensures { leaves.new ≡ leaves.old }
 {
@@ -17,7 +17,7 @@ pub fn mark_deep_part(part: &Part, depth: u32, leaves: &mut Leaves)
     leaves.mark_too_deep(at);
 }
 
-/// The byte at which the first token of the first node begins that is inside more than so many nodes, itself and the file
+/// The byte at which the first token of the first node begins that is inside more than this many nodes, itself and the file
 /// counted, if there is one: in the statements with which a file begins, where it isn't read to its end.
 pub fn deeper_at(parts: &[Part], limit: u32) -> Option<usize> {
     let mut at = 0;
@@ -44,8 +44,8 @@ pub fn mark_next(sort: PartSort, leaves: &mut Leaves)
     }
 }
 
-/// Whether the part has a node inside more than so many levels; `at`, the byte at which the part begins, is then the byte at
-/// which that node's first token begins, else the byte behind the part.
+/// Whether the part has a node inside more than this many levels; `at`, the byte at which the part begins, is then the byte at
+/// which that node's first token begins, else the byte after the part.
 #[cycle(deep)]
 fn finds_deeper(part: &Part, levels: u64, at: &mut usize) -> bool {
     match part {
@@ -103,7 +103,7 @@ fn begins_level(n: u8, leaves: &Leaves) -> bool {
         || (n >= LAMBDA && leaves.next_is(TokenSet::Lambda))
 }
 
-/// Whether a node of this sort goes on with the next leaf behind a leaf of it.
+/// Whether a node of this sort goes on with the next leaf after a leaf of it.
 pub fn goes_on(sort: PartSort, leaves: &Leaves) -> bool {
     match sort {
         PartSort::Level(n) => level_goes_on(n, leaves),

@@ -61,10 +61,10 @@ pub const TEST: PartSort = PartSort::Level(LAMBDA);
 /// Any expression.
 pub(crate) const EXPRESSION: PartSort = PartSort::Level(ROW);
 
-/// Where the parser stands in a node: what is left to read of it.
+/// Where the parser is in a node: what is left to read of it.
 #[derive(Clone, Copy)]
 pub enum NodeState {
-    /// Tokens and parts, one behind the other, of a node of this kind.
+    /// Tokens and parts, one after the other, of a node of this kind.
     Rest(Kind, Tail),
     Items(ListedItems, ItemsAt),
     Operands(Operands, OperandsAt),
@@ -74,7 +74,7 @@ pub enum NodeState {
     Lambda(LambdaAt),
     /// A parameter with stars.
     Starred(StarredAt),
-    /// What stands before a suite.
+    /// What is before a suite.
     Header(HeaderAt),
     Slice(SliceAt),
     Round(RoundAt),
@@ -93,12 +93,12 @@ pub enum NodeState {
     /// A comparison from its operator on, and from its `not` on.
     Compare,
     NotIn,
-    /// A condition from its `if` on, and behind it.
+    /// A condition from its `if` on, and after it.
     Condition,
     BehindIf,
 }
 
-/// Tokens and parts, one behind the other.
+/// Tokens and parts, one after the other.
 #[derive(Clone, Copy)]
 pub enum Tail {
     Nothing,
@@ -108,7 +108,7 @@ pub enum Tail {
     Tokens(TokenSet, TokenSet),
 }
 
-/// Parts with a separator between two of them and perhaps behind the last, and a closing token.
+/// Parts with a separator between two of them and perhaps after the last, and a closing token.
 #[derive(Clone, Copy)]
 pub enum ListedItems {
     Statements,
@@ -128,17 +128,17 @@ pub struct ItemRow {
     pub close: TokenSet,
 }
 
-/// Where the parser stands in such a row.
+/// Where the parser is in such a row.
 #[derive(Clone, Copy)]
 pub enum ItemsAt {
     /// None or more parts.
     Begin,
     /// One at least.
     Part,
-    /// Behind a part: a separator or the closing token.
+    /// After a part: a separator or the closing token.
     Behind,
     Separator,
-    /// The same as behind a part, where the closing token is looked for first.
+    /// The same as after a part, where the closing token is looked for first.
     More,
 }
 
@@ -164,7 +164,7 @@ pub(crate) struct OperandRow {
     pub operator: TokenSet,
 }
 
-/// Where the parser stands in such a row.
+/// Where the parser is in such a row.
 #[derive(Clone, Copy)]
 pub enum OperandsAt {
     Part,
@@ -172,7 +172,7 @@ pub enum OperandsAt {
     Operator,
 }
 
-/// Where the parser stands in the clauses of a comprehension.
+/// Where the parser is in the clauses of a comprehension.
 #[derive(Clone, Copy)]
 pub enum ClausesAt {
     First,
@@ -180,7 +180,7 @@ pub enum ClausesAt {
     Clause,
 }
 
-/// The names of a `for`, and what comes behind them.
+/// The names of a `for`, and what comes after them.
 #[derive(Clone, Copy)]
 pub enum NamesAt {
     Name,
@@ -266,7 +266,7 @@ pub(crate) struct BracketRow {
     pub comprehension: Kind,
 }
 
-/// Where the parser stands in such brackets.
+/// Where the parser is in such brackets.
 #[derive(Clone, Copy)]
 pub enum BracketsAt {
     Begin,
@@ -274,7 +274,7 @@ pub enum BracketsAt {
     Behind,
 }
 
-/// What may stand behind a primary.
+/// What may stand after a primary.
 #[derive(Clone, Copy)]
 pub enum SuffixAt {
     Begin,
@@ -735,7 +735,7 @@ pub enum Rung {
     Same,
     /// This token in front; a node that begins so.
     Prefix(TokenSet, NodeState),
-    /// This token behind; a node that goes on so.
+    /// This token after; a node that goes on so.
     Infix(TokenSet, NodeState),
 }
 

@@ -82,7 +82,7 @@ pub enum TokenSet {
     Orders,
     /// What an order begins with, or `not`.
     Compares,
-    /// What stands behind a primary: `.`, `(` or `[`.
+    /// What is after a primary: `.`, `(` or `[`.
     Suffixes,
     /// `for` or `if`.
     Clauses,
@@ -229,7 +229,7 @@ impl Symbol {
     }
 }
 
-/// Where a node begins that is nested too deep, and the byte behind which the leaves can't go on for that reason.
+/// Where a node begins that is nested too deep, and the byte after which the leaves can't go on for that reason.
 #[derive(Clone, Copy, Drop)]
 struct TooDeep {
     at: usize,
@@ -237,11 +237,11 @@ struct TooDeep {
 }
 
 /// The leaves of a text that are not in the tree yet. Each is cut off the text when it is taken; of the next one alone is
-/// known what it is. A contract sees the list of leaves that come, up to where no leaf stands.
+/// known what it is. A contract sees the list of leaves that come, up to where no leaf is.
 #[derive(Drop)]
 pub struct Leaves<'a> {
     alloc: Global,
-    /// The text from the gap of the next leaf on, and where that stands in a file.
+    /// The text from the gap of the next leaf on, and where that is in a file.
     rest: &'a [u8],
     place: Place,
     next: Result<Front, Stop>,
@@ -274,7 +274,7 @@ impl<'a> Model for Leaves<'a> {
 }
 
 impl<'a> Leaves<'a> {
-    /// The leaves of a text, from its first byte on, up to where no leaf stands.
+    /// The leaves of a text, from its first byte on, up to where no leaf is.
     pub fn new(alloc: Global, text: &'a [u8]) -> Leaves<'a>
         requires { length text.now ≤ limit }
         ensures { result ≡ to_come Place.Fresh text.now }
@@ -364,7 +364,7 @@ impl<'a> Leaves<'a> {
         }
     }
 
-    /// Keeps whether the next leaf stands at this indent, at which a statement may begin. The leaves stay as they are.
+    /// Keeps whether the next leaf is at this indent, at which a statement may begin. The leaves stay as they are.
     pub fn mark_indent(&mut self, indent: &[u8])
         ensures { self.new ≡ self.old }
     {
@@ -394,7 +394,7 @@ impl<'a> Leaves<'a> {
         }
     }
 
-    /// Why the next leaf is no part of a file, and the byte of the whole text at which that shows: no leaf stands there, or
+    /// Why the next leaf is no part of a file, and the byte of the whole text at which that shows: no leaf is there, or
     /// it is a string that is not closed, from its prefix on, or it stands where no file goes on with it.
     pub fn stopped_at(&self, text: &[u8]) -> Stop {
         let (reason, at) = match self.next {
@@ -417,7 +417,7 @@ impl<'a> Leaves<'a> {
         Stop { reason, at }
     }
 
-    /// Why no file goes on with the next leaf: the first token of a line stands at a wrong indent where no statement may begin
+    /// Why no file goes on with the next leaf: the first token of a line is at a wrong indent where no statement may begin
     /// at that one. At a right indent, the token is the fault.
     fn reason(&self) -> Reason {
         let is_first = matches!(self.place, Place::Fresh) && !self.next_is(TokenSet::End);
@@ -429,7 +429,7 @@ impl<'a> Leaves<'a> {
         }
     }
 
-    /// The byte at which the first token begins that no BUILD file has, among those that begin in so many bytes of the text
+    /// The byte at which the first token begins that no BUILD file has, among those that begin in this many bytes of the text
     /// of these leaves.
     pub fn newer_within(&mut self, until: usize) -> Option<usize> {
         for _ in 0..until {
@@ -544,7 +544,7 @@ fn indent_of(gap: &[u8]) -> &[u8]
     gap
 }
 
-/// What stands from a byte of a text on.
+/// What is from a byte of a text on.
 fn from(text: &[u8], at: usize) -> &[u8] {
     text.split_at(at.min(text.len())).1
 }

@@ -145,7 +145,7 @@ behind_ascii f a t r b e n u l m =
     let k = lead_after_ascii s (length f) u (omega (arith, here, n)) (omega arith) (omega (arith, next, l)) in
     omega (arith, k, next, m)
 
--- no other byte of a character stands behind a token
+-- no other byte of a character is after a token
 not_inside : (c : Class) (t r : List ℕ) (b : ℕ) → IsToken c t (b ∷ r) → IsUtf8 (t ++ (b ∷ r)) → 128 ≤ b → b < 192 → ⊥
 not_inside c [] r b h u l m =
     let w = state_of c [] h.lexeme in

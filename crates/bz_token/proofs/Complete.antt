@@ -137,7 +137,7 @@ only_wholes : (d : List ℕ) → Each is_digit d → reads Whole d ≡ Some v.Nu
 only_wholes [] h = refl
 only_wholes (b ∷ d) h = rw h.0 (only_wholes d h.1)
 
--- behind a zero stands what stands behind another digit, and more
+-- after a zero is what is after another digit, and more
 zeros : (s : List ℕ) → reads Whole s ≡ Some v.Number → reads Zero s ≡ Some v.Number
 zeros [] h = refl
 zeros (b ∷ s) h =

@@ -18,7 +18,7 @@ from_none : (o : Option (State × ℕ)) → or_found None 0 o ≡ o
 from_none None = refl
 from_none (Some x) = let e : 0 + x.1 ≡ x.1 = omega arith in ap (λ (n : ℕ). Some (x.0, n)) e
 
--- behind the first byte
+-- after the first byte
 begun : (q : State) (s : List ℕ) → 0 < length s → move Start (get_or s 0 0) ≡ Some q → or_found None 1 (longest move may_end q (drop 1 s)) ≡ longest_front s
 unfolding longest_front
 begun q s lt e = sym (goes_on move may_end Start q 0 s None lt e) ∙ from_none (longest move may_end Start (drop 0 s))
@@ -40,7 +40,7 @@ pub word_token : (s : List ℕ) (j : ℕ) → 0 < length s → move Start (get_o
 word_token s j lt e above within stays stops =
     some_token s (Word, j) v.Name (sym (ended Word j s refl stops) ∙ ran move may_end Word 1 j s None above within stays ∙ begun Word s lt e) refl refl
 
--- a byte with which a string goes on behind its first mark too
+-- a byte with which a string goes on after its first mark too
 opened : (b : ℕ) → move (Short Double) b ≡ Some (Short Double) → move (Opened Double) b ≡ Some (Short Double)
 opened b e =
     elim (cases_Bool (eqb b 34)) [

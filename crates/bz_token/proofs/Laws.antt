@@ -16,7 +16,7 @@ use Rattle.bz_token.proofs.Fronts.{longer, same_front, some_next, after_append}
 use Rattle.bz_token.proofs.Tables.{every, one_of, is_none_at}
 use Rattle.bz_token.proofs.Complete.{complete}
 
--- the state behind a lexeme
+-- the state after a lexeme
 pub state_of : (c : Class) (s : List ℕ) → IsLexeme c s → (q : State) × (k : Class) × (after move Start s ≡ Some q) × (ends q ≡ Some k) × (keyword_or_name k s ≡ c)
 state_of c s h =
     let w = complete c s h in
@@ -28,7 +28,7 @@ abbrev pub Stops : State → List ℕ → Type 0
 Stops q [] = Unit {0}
 Stops q (b ∷ s) = move q b ≡ None
 
--- behind a state that does not go on with the rest, no longer front is a lexeme
+-- after a state that does not go on with the rest, no longer front is a lexeme
 pub longest_at : (t r : List ℕ) (q : State) → after move Start t ≡ Some q → Stops q r → (d : Class) (u s : List ℕ) → u ++ s ≡ t ++ r → IsLexeme d u → length u ≤ length t
 longest_at t r q e h d u s is l =
     elim (longer u s t r is) [
@@ -54,7 +54,7 @@ one_token c d t r u s h k e =
     let is : t ≡ u = same_front t r u s e (omega arith) in
     (one_class c d t h.lexeme (subst (λ (x : List ℕ). IsLexeme d x) (sym is) k.lexeme), is)
 
--- no state behind a lexeme goes on with a separator
+-- no state after a lexeme goes on with a separator
 fine_end : (q : State) → (is_none (ends q) || every (λ b. is_none (move q b)) separators) ≡ true
 fine_end Start = refl
 fine_end (Opened Single) = refl

@@ -28,7 +28,7 @@ module _ (S : Type 0) (step : S → ℕ → Option S) (final : S → Bool) where
   found_nil q true e = record { within = omega arith; taken = refl; ended = e; most = λ a b h t. rw (front_nil a b h) (omega arith) }
   found_nil q false e = λ a b h. rw (front_nil a b h) e
 
-  -- behind a byte that no state takes
+  -- after a byte that no state takes
   found_stuck : (q : S) (c : ℕ) (s : List ℕ) (b : Bool) → step q c ≡ None → final q ≡ b → Found S step final q (c ∷ s) (or_here b q None)
   found_stuck q c s true n e = record {
     within = omega arith;

@@ -161,7 +161,7 @@ inside (Empty m) = true
 inside Closed = true
 inside q = is_in_string q
 
--- behind a mark, a backslash, a newline and another byte of a string with single marks
+-- after a mark, a backslash, a newline and another byte of a string with single marks
 abbrev short_choice : Quote → ℕ → List (Bool × Option State)
 short_choice m b = (eqb b (quote_byte m), Some Closed) ∷ (eqb b 92, Some (ShortTaken m)) ∷ (eqb b 10, None) ∷ (true, Some (Short m)) ∷ []
 
@@ -210,11 +210,11 @@ closed_ends _ h k = absurd (both_ways false refl h)
 
 -- ---- a prefix and a mark stand in front
 
--- of what stands behind the letters r of a prefix
+-- of what is after the letters r of a prefix
 abbrev Marked : List ℕ → List ℕ → Type 0
 Marked r s = (p : List ℕ) × (m : ℕ) × (u : List ℕ) × (s ≡ p ++ (m ∷ u)) × (is_prefix (r ++ p) ≡ true) × (is_quote m ≡ true)
 
--- a state outside strings, and quiet ones behind it
+-- a state outside strings, and quiet ones after it
 out : (q : State) (o : Option State) (u : List ℕ) → is_in_string q ≡ false → goes_to quiet o ≡ true → is_in_string (or_stay q o (λ r. last_state r u)) ≡ false
 out q None u h k = h
 out q (Some r) u h k = quiet_out (last_state r u) (stays quiet quiet_more r u k)
@@ -331,7 +331,7 @@ string_at t u q e k stops = record {
   no_third = λ p m back y n a is. no_third_on q u (third_at q u p m t back e y n a is) stops;
 }
 
--- the state behind a prefix and a mark
+-- the state after a prefix and a mark
 behind_mark : (s p : List ℕ) (m : ℕ) (back : List ℕ) → s ≡ p ++ (m ∷ back) → is_prefix p ≡ true → (w : (q : Quote) × (m ≡ quote_byte q)) → last_state Start s ≡ last_state (Opened (w.0)) back
 behind_mark s p m back is y w =
     let front : s ≡ (p ++ (quote_byte (w.0) ∷ [])) ++ back = is ∙ ap (λ (x : ℕ). p ++ (x ∷ back)) w.1 ∙ sym (append_assoc p (quote_byte (w.0) ∷ []) back) in
@@ -373,7 +373,7 @@ no_shorter : (c : Class) (t r p : List ℕ) (m : ℕ) (back : List ℕ) → IsTo
 no_shorter c t r [] m back h is e = omega arith
 no_shorter c t r (b ∷ p) m back h is e = h.longest (keyword_or_name v.Name (b ∷ p)) (b ∷ p) (m ∷ back) (sym is) (sound v.Name (b ∷ p) (at_1 (reads Start (b ∷ p)) e))
 
--- no token has a mark behind a prefix: it would be a string
+-- no token has a mark after a prefix: it would be a string
 no_mark_in : (c : Class) (t r p : List ℕ) (m : ℕ) (u : List ℕ) → IsToken c t r → OpensString (t ++ r) → is_prefix p ≡ true → is_quote m ≡ true → t ≡ p ++ (m ∷ u) → ⊥
 no_mark_in c t r p m u h o y n is =
     let q = quote_of m n in
@@ -390,7 +390,7 @@ no_token_at m back n o d u w e k =
     let same : b ≡ m = let f : (b ∷ x) ++ w ≡ m ∷ back = subst (λ (z : List ℕ). z ++ w ≡ m ∷ back) is e in cc in
     no_mark_in d u w [] m x k (subst OpensString (sym e) o) refl n (is ∙ ap (λ (z : ℕ). z ∷ x) same)
 
--- the string opens behind its prefix too
+-- the string opens after its prefix too
 opens_at_mark : (s p : List ℕ) (m : ℕ) (back : List ℕ) → OpensString s → s ≡ p ++ (m ∷ back) → is_prefix p ≡ true → is_quote m ≡ true → OpensString (m ∷ back)
 opens_at_mark s p m back o is y n =
     let q = quote_of m n in

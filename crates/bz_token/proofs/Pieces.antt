@@ -77,14 +77,14 @@ short_to m cs q (short_taken {b = c} {s = ds} h) =
     rw (encode_ascii 92 (omega arith), x.0) (short_taken (each_short m (w.1) (encodes ds) q x.1 (short_to m ds q h)))
 short_to m cs q (short_line {s = ds} h) = rw (encode_ascii 92 (omega arith), encode_ascii 13 (omega arith), encode_ascii 10 (omega arith)) (short_line (short_to m ds q h))
 
--- a piece, or the pieces behind a backslash
+-- a piece, or the pieces after a backslash
 short_parts : (m b : ℕ) (s : List ℕ) → IsShort m (b ∷ s)
     → ((among b (m ∷ 10 ∷ 92 ∷ []) ≡ false) × IsShort m s) ⊎ (((b ≡ 92) × (a : ℕ) × (u : List ℕ) × (s ≡ a ∷ u) × IsShort m u) ⊎ ((b ≡ 92) × (u : List ℕ) × (s ≡ 13 ∷ 10 ∷ u) × IsShort m u))
 short_parts m b s (short_plain n h) = inl (n, h)
 short_parts m b s (short_taken {b = a} {s = u} h) = inr (inl (refl, a, u, refl, h))
 short_parts m b s (short_line {s = u} h) = inr (inr (refl, u, refl, h))
 
--- the text behind one more character
+-- the text after one more character
 behind : (a : ℕ) (u cs : List ℕ) → encodes cs ≡ a ∷ u → (c : ℕ) × (ds : List ℕ) × (t : List ℕ) × (cs ≡ c ∷ ds) × BytesOf c a t × (u ≡ t ++ encodes ds)
 behind a u [] e = absurd cc
 behind a u (c ∷ cs) e =
@@ -233,7 +233,7 @@ one_more c m cs ds es e = rw e refl
 joined : (b a : ℕ) (f t g r s : List ℕ) → f ≡ b ∷ t → g ≡ r → s ≡ t ++ r → b ≡ a → f ++ g ≡ a ∷ s
 joined b a f t g r s e i j k = rw (e, i, j, k) refl
 
--- where a mark stands in the bytes, it stands in the characters
+-- where a mark is in the bytes, it is in the characters
 mark_cut : (m : ℕ) (cs s u : List ℕ) → m < 128 → encodes cs ≡ s ++ (m ∷ u) → (ds : List ℕ) × (es : List ℕ) × (cs ≡ ds ++ (m ∷ es)) × (encodes ds ≡ s) × (encodes es ≡ u)
 mark_cut m [] [] u k e = absurd cc
 mark_cut m [] (a ∷ s) u k e = absurd cc

@@ -17,7 +17,7 @@ use Rattle.bz_token.proofs.Strings.{quote_is}
 use Rattle.bz_token.proofs.Tables.{one_of}
 use Rattle.bz_token.proofs.Taken.{ended_reads, operator_reads, star_reads, bang_reads, doubled_reads, IsFraction, BehindDigit, whole_reads, BehindZero, zero_reads, point_reads, EndsShort, short_reads, EndsLong, long_reads, high_reads, three_letters, word_reads}
 
--- the class of a text behind a state, if there is one
+-- the class of a text after a state, if there is one
 abbrev from : Option State → List ℕ → Option Class
 from o s = and_next (and_next o (λ r. after move r s)) ends
 
@@ -29,7 +29,7 @@ mark_of b s t e h = rw e h
 mark_from : (b c : ℕ) (s t : List ℕ) → b ≡ c → s ≡ t → is_mark (c ∷ t) ≡ true → is_mark (b ∷ s) ≡ true
 mark_from b c s t i e h = rw (i, e) h
 
--- behind a mark that may stand twice
+-- after a mark that may stand twice
 doubled_mark : (k : Class) (c : ℕ) (s : List ℕ) (x : State) → ends x ≡ Some v.Mark → ((b : ℕ) → move x b ≡ doubled_move c b)
     → (is_mark (c ∷ []) ≡ true) × (is_mark (c ∷ 61 ∷ []) ≡ true) × (is_mark (c ∷ c ∷ []) ≡ true) × (is_mark (c ∷ c ∷ 61 ∷ []) ≡ true)
     → reads x s ≡ Some k → (k ≡ v.Mark) × (is_mark (c ∷ s) ≡ true)
@@ -90,7 +90,7 @@ mark_sound k b s h =
 
 -- ---- numbers
 
--- a first digit and what stands behind it
+-- a first digit and what is after it
 from_digit : (b : ℕ) (s : List ℕ) → is_digit b ≡ true → BehindDigit s → IsNumber (b ∷ s)
 from_digit b s y (d, e, is, h, inl (inl z)) = rw (is, z, append-nil) (whole (b ∷ d) (y, h))
 from_digit b s y (d, e, is, h, inl (inr x)) = rw is (scaled (b ∷ d) e (y, h) x)
@@ -166,7 +166,7 @@ quoted_or_word k b s h =
       ]
     ]
 
--- what stands behind the letters r of a prefix: more of a name, or perhaps more letters of the prefix and a quoted text
+-- what is after the letters r of a prefix: more of a name, or perhaps more letters of the prefix and a quoted text
 abbrev Prefixed : List ℕ → Class → List ℕ → Type 0
 Prefixed r k s = ((k ≡ v.Name) × IsLetters s) ⊎ ((k ≡ v.String) × (p : List ℕ) × (t : List ℕ) × (s ≡ p ++ t) × (is_prefix (r ++ p) ≡ true) × IsQuoted t)
 

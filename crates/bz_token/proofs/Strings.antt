@@ -34,7 +34,7 @@ no_newline : (q : Quote) → eqb 10 (quote_byte q) ≡ false
 no_newline Single = refl
 no_newline Double = refl
 
--- what may stand behind a backslash and a carriage return, if no newline does
+-- what may stand after a backslash and a carriage return, if no newline does
 returned : (q : Quote) (t : List ℕ) → after move (Short q) t ≡ Some Closed → after move (ShortReturn q) t ≡ Some Closed
 returned q [] h = absurd cc
 returned q (b ∷ t) h =
@@ -59,7 +59,7 @@ shorts q s (short_plain {b = b} {s = u} n h) =
 shorts q s (short_taken {b = b} {s = u} h) = rw (no_backslash q) (behind_backslash q b (u ++ (quote_byte q ∷ [])) (shorts q u h))
 shorts q s (short_line {s = u} h) = rw (no_backslash q) (shorts q u h)
 
--- a string with pieces is read behind its first mark as further on
+-- a string with pieces is read after its first mark as further on
 opened_as : (q : Quote) (b : ℕ) (t : List ℕ) → eqb b (quote_byte q) ≡ false → after move (Short q) (b ∷ t) ≡ Some Closed → after move (Opened q) (b ∷ t) ≡ Some Closed
 opened_as q b t e h = rw e (rw e at h)
 
@@ -78,7 +78,7 @@ closes : (q : Quote) → after move (Long q) (three q) ≡ Some Closed
 closes Single = refl
 closes Double = refl
 
--- what is read alike behind none, one and two marks is read behind up to two marks
+-- what is read alike after none, one and two marks is read after up to two marks
 marked : (q : Quote) (k : ℕ) (t : List ℕ) → k < 3 → (after move (Long q) t ≡ Some Closed) × (after move (LongOne q) t ≡ Some Closed) × (after move (LongTwo q) t ≡ Some Closed)
     → after move (Long q) (replicate k (quote_byte q) ++ t) ≡ Some Closed
 marked q zero t l a = a.0
@@ -123,7 +123,7 @@ empty_state q p y = prefixed q p (quote_byte q ∷ []) y ∙ rw (itself q) refl
 two_marks : (p s u : List ℕ) (m b : ℕ) → s ≡ p ++ (m ∷ (u ++ (m ∷ []))) → u ≡ [] → m ≡ b → s ≡ p ++ (b ∷ b ∷ [])
 two_marks p s u m b is e i = rw (is, e, i) refl
 
--- the state behind a string tells whether it is empty, with single marks
+-- the state after a string tells whether it is empty, with single marks
 pub string_state : (s : List ℕ) → IsString s → (after move Start s ≡ Some Closed) ⊎ ((p : List ℕ) × (q : Quote) × (is_prefix p ≡ true) × (s ≡ p ++ (quote_byte q ∷ quote_byte q ∷ [])))
 string_state s (p, t, is, y, single m u n h) =
     let w = quote_of m n in

@@ -45,7 +45,7 @@ bang_reads k (b ∷ s) h =
       | inr e ↦ absurd (none-some k (rw e at h))
     ]
 
--- behind a first mark c
+-- after a first mark c
 pub doubled_reads : (k : Class) (c b : ℕ) (s : List ℕ) → and_next (and_next (doubled_move c b) (λ r. after move r s)) ends ≡ Some k
     → (k ≡ v.Mark) × ((b ∷ s ≡ 61 ∷ []) ⊎ ((b ∷ s ≡ c ∷ []) ⊎ (b ∷ s ≡ c ∷ 61 ∷ [])))
 doubled_reads k c b s h =
@@ -89,7 +89,7 @@ exponent_mark_reads k (b ∷ s) h =
       ]
     ]
 
--- what stands behind a point with a digit on one side: digits, and perhaps an exponent
+-- what is after a point with a digit on one side: digits, and perhaps an exponent
 abbrev pub IsFraction : List ℕ → Type 0
 IsFraction s = (d : List ℕ) × (e : List ℕ) × (s ≡ d ++ e) × Each is_digit d × MayBeExponent e
 
@@ -107,7 +107,7 @@ fraction_reads k (b ∷ s) h =
       ]
     ]
 
--- what stands behind the first digit: digits, and perhaps a point and what stands behind it, or an exponent
+-- what is after the first digit: digits, and perhaps a point and what is after it, or an exponent
 abbrev pub BehindDigit : List ℕ → Type 0
 BehindDigit s = (d : List ℕ) × (e : List ℕ) × (s ≡ d ++ e) × Each is_digit d × (MayBeExponent e ⊎ ((f : List ℕ) × (e ≡ 46 ∷ f) × IsFraction f))
 
@@ -160,7 +160,7 @@ oct_mark_reads k (b ∷ s) h =
       | inr d ↦ absurd (none-some k (rw d at h))
     ]
 
--- what stands behind a first 0: more than behind another digit
+-- what is after a first 0: more than after another digit
 abbrev pub BehindZero : List ℕ → Type 0
 BehindZero [] = Unit {0}
 BehindZero (b ∷ s) = BehindDigit (b ∷ s) ⊎ (((is_x b ≡ true) × SomeOf is_hexadecimal s) ⊎ ((is_o b ≡ true) × SomeOf is_octal s))
@@ -200,7 +200,7 @@ closed_reads : (k : Class) (s : List ℕ) → reads Closed s ≡ Some k → (k �
 closed_reads k [] h = (sym (same_Some v.String k h), refl)
 closed_reads k (b ∷ s) h = absurd (none-some k h)
 
--- behind a backslash: one byte, or CR LF
+-- after a backslash: one byte, or CR LF
 taken_reads : (q : Quote) (k : Class) (s : List ℕ) → reads (ShortTaken q) s ≡ Some k
     → (b : ℕ) × (t : List ℕ) × (s ≡ b ∷ t) × ((reads (Short q) t ≡ Some k) ⊎ ((u : List ℕ) × (s ≡ 13 ∷ 10 ∷ u) × (reads (Short q) u ≡ Some k)))
 taken_reads q k [] h = absurd (none-some k h)
@@ -218,7 +218,7 @@ taken_reads q k (b ∷ c ∷ s) h =
       | inr e ↦ (b, c ∷ s, refl, inl (rw e at h))
     ]
 
--- what stands behind a mark: pieces and the same mark
+-- what is after a mark: pieces and the same mark
 abbrev pub EndsShort : Quote → List ℕ → Type 0
 EndsShort q s = (x : List ℕ) × (s ≡ x ++ (quote_byte q ∷ [])) × IsShort (quote_byte q) x
 
@@ -270,7 +270,7 @@ short_reads (suc n) q k (b ∷ s) l h =
 abbrev pub three_of : Quote → List ℕ
 three_of q = quote_byte q ∷ quote_byte q ∷ quote_byte q ∷ []
 
--- what stands behind j marks in a row in a text of three
+-- what is after j marks in a row in a text of three
 abbrev pub EndsLong : Quote → ℕ → List ℕ → Type 0
 EndsLong q j s = (x : List ℕ) × (replicate j (quote_byte q) ++ s ≡ x ++ three_of q) × IsLong (quote_byte q) x
 
@@ -294,7 +294,7 @@ long_taken_reads : (q : Quote) (k : Class) (s : List ℕ) → reads (LongTaken q
 long_taken_reads q k [] h = absurd (none-some k h)
 long_taken_reads q k (c ∷ t) h = (c, t, refl, h)
 
--- behind another piece than a mark
+-- after another piece than a mark
 long_rest : (q : Quote) (j : ℕ) (r : State) (k : Class) (b : ℕ) (s : List ℕ) → j < 3 → eqb b (quote_byte q) ≡ false
     → ((t : List ℕ) → length t ≤ length s → reads (Long q) t ≡ Some k → (k ≡ v.String) × EndsLong q 0 t)
     → and_next (and_next (long_move r q b) (λ p. after move p s)) ends ≡ Some k → (k ≡ v.String) × EndsLong q j (b ∷ s)

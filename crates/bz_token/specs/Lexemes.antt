@@ -26,7 +26,7 @@ is_mark s = in_table s marks
 
 -- Letters, digits and `_`. Letters are A to Z, a to z and every character from U+0080 on but U+FEFF.
 -- In UTF-8 the bytes of those characters, and no others, are at least 128; U+FEFF is EF BB BF, and what begins with EF has three bytes.
--- So each byte from 128 on counts as a letter, but EF only with the two bytes behind it, where they are not BB BF.
+-- So each byte from 128 on counts as a letter, but EF only with the two bytes after it, where they are not BB BF.
 pub data IsLetters : List ℕ → Type 0 where
   none : IsLetters []
   one : {b : ℕ} {s : List ℕ} → (is_letter b || is_digit b) ≡ true → nat_eq b 239 ≡ false → IsLetters s → IsLetters (b ∷ s)

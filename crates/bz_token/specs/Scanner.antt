@@ -40,7 +40,7 @@ word_move b = if nat_eq b 239 then Some High else (if is_letter b || is_digit b 
 abbrev pub quote_or_word : ℕ → Option State
 quote_or_word b = if nat_eq b 34 then Some (Opened Double) else (if nat_eq b 39 then Some (Opened Single) else word_move b)
 
--- behind EF: BB is like U+FEFF so far
+-- after EF: BB is like U+FEFF so far
 abbrev pub high_move : ℕ → Option State
 high_move b = if nat_eq b 187 then Some HighMark else (if is_high b then Some HighOther else None)
 
@@ -56,14 +56,14 @@ fraction_move b = if is_digit b then Some Fraction else (if is_e b then Some Exp
 abbrev pub exponent_move : ℕ → Option State
 exponent_move b = if is_digit b then Some Exponent else (if is_sign b then Some ExponentSign else None)
 
--- behind a mark that may stand twice, or before `=`
+-- after a mark that may stand twice, or before `=`
 abbrev pub doubled_move : ℕ → ℕ → Option State
 doubled_move mark b = if nat_eq b mark then Some Operator else (if nat_eq b 61 then Some Ended else None)
 
 abbrev pub short_move : Quote → ℕ → Option State
 short_move m b = if nat_eq b (quote_byte m) then Some Closed else (if nat_eq b 92 then Some (ShortTaken m) else (if nat_eq b 10 then None else Some (Short m)))
 
--- the first argument: the state behind one more mark
+-- the first argument: the state after one more mark
 abbrev pub long_move : State → Quote → ℕ → Option State
 long_move r m b = if nat_eq b (quote_byte m) then Some r else (if nat_eq b 92 then Some (LongTaken m) else Some (Long m))
 
@@ -131,7 +131,7 @@ ends _ = None
 abbrev pub may_end : State → Bool
 may_end q = is_some (ends q)
 
--- behind the first mark of a string that is not closed so far
+-- after the first mark of a string that is not closed so far
 abbrev pub is_in_string : State → Bool
 is_in_string (Opened m) = true
 is_in_string (Short m) = true

@@ -5,7 +5,7 @@ use Rattle.bz_token.specs.declared.class.Class.TheVariants as v
 use Rattle.bz_token.specs.Bytes.{is_quote}
 use Rattle.bz_token.specs.Lexemes.{IsLexeme, is_prefix}
 
--- A token and the text behind it: it is the longest lexeme that begins at its place, and `""` or `''`, with or without a prefix, is no token right before a third such mark.
+-- A token and the text after it: it is the longest lexeme that begins at its place, and `""` or `''`, with or without a prefix, is no token right before a third such mark.
 pub record IsToken (class : Class) (token rest : List ℕ) : Type 0 where
   pub lexeme : IsLexeme class token
   pub longest : (other : Class) (front back : List ℕ) → front ++ back ≡ token ++ rest → IsLexeme other front → length front ≤ length token

@@ -30,7 +30,7 @@ pub enum State {
     PrefixR,
     PrefixB,
     PrefixBoth,
-    /// Behind EF, EF BB, and EF with another byte: U+FEFF, which is EF BB BF, is no letter.
+    /// After EF, EF BB, and EF with another byte: U+FEFF, which is EF BB BF, is no letter.
     High,
     HighMark,
     HighOther,
@@ -45,7 +45,7 @@ pub enum State {
     ExponentMark,
     ExponentSign,
     Exponent,
-    /// Behind one mark, and behind two: a third one opens a text of three.
+    /// After one mark, and after two: a third one opens a text of three.
     Opened(Quote),
     Empty(Quote),
     Short(Quote),
@@ -61,9 +61,9 @@ pub enum State {
     Less,
     Greater,
     Bang,
-    /// Behind a mark that may still be followed by `=`.
+    /// After a mark that may still be followed by `=`.
     Operator,
-    /// Behind a mark with which no longer one begins.
+    /// After a mark with which no longer one begins.
     Ended,
 }
 
@@ -116,7 +116,7 @@ impl State {
         )
     }
 
-    /// Whether the state behind one more byte is surely the same; of most states this is not known before the step.
+    /// Whether the state after one more byte is surely the same; of most states this is not known before the step.
     pub fn stays(self, byte: u8) -> bool
         ensures { IsTrue result → move self byte ≡ Some self }
     {
@@ -128,7 +128,7 @@ impl State {
         }
     }
 
-    /// The state behind one more byte; `None` where no lexeme goes on with it.
+    /// The state after one more byte; `None` where no lexeme goes on with it.
     pub fn step(self, byte: u8) -> Option<State>
         ensures { result ≡ move self byte }
     {
@@ -242,7 +242,7 @@ fn operator_mark(byte: u8) -> bool
     matches!(byte, b'+' | b'-' | b'%' | b'&' | b'|' | b'^' | b'=')
 }
 
-/// The state behind the first byte.
+/// The state after the first byte.
 #[inline(always)]
 pub fn start_step(byte: u8) -> Option<State>
     ensures { result ≡ move State.Start byte }
@@ -303,7 +303,7 @@ fn text_start(byte: u8) -> Option<State>
     }
 }
 
-/// The state behind one more byte in a word.
+/// The state after one more byte in a word.
 pub fn word_step(byte: u8) -> Option<State>
     ensures { result ≡ word_move byte }
 {
@@ -422,7 +422,7 @@ fn short_step(quote: Quote, byte: u8) -> Option<State>
     }
 }
 
-/// `more` is the state behind one more mark.
+/// `more` is the state after one more mark.
 fn long_step(more: State, quote: Quote, byte: u8) -> Option<State>
     ensures { result ≡ long_move more quote byte }
 {

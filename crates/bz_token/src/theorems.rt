@@ -51,7 +51,7 @@ pub fn class_of_number()
     ensures { ClassOfNumber }
 {}
 
-/// A token at which a string begins that is not closed is its prefix: behind it stands a quotation mark, and no token begins there.
+/// A token at which a string begins that is not closed is its prefix: after it is a quotation mark, and no token begins there.
 pub fn opens_behind_prefix()
     ensures { OpensBehindPrefix }
 {}

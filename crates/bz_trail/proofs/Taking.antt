@@ -23,7 +23,7 @@ new_leads x y h k fine other =
     let l = least_of x y h k in
     record { is_step = fine; there = l.there; tree = subst IsTree (sym l.leads) h; other = λ e. other (sym e ∙ ap spell_node l.leads) }
 
--- ---- the trail behind it
+-- ---- the trail after it
 
 abbrev pub taken_up : Trail → Node → Trail
 taken_up w next = record { tree = next; steps = take w.cursor w.steps ++ step w.tree next ∷ []; cursor = w.cursor + 1 }

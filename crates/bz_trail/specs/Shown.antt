@@ -12,7 +12,7 @@ use Rattle.bz_trail.specs.Trails.{HasLeast, IsSmall, IsTrail, IsTree, StepLeads,
 abbrev pub Text : Type 0
 Text = List ℕ
 
--- the trees behind a tree, the tree, and those ahead
+-- the trees after a tree, the tree, and those ahead
 abbrev pub trees_around : List (List Edit) → Node → List (List Edit) → List Node
 trees_around back n forward = reverse (trees n back) ++ n ∷ trees n forward
 
@@ -52,7 +52,7 @@ pub record TakesUp (old : Trail) (next : Node) (new : Trail) : Type 0 where
 abbrev pub LeadsTo : List Edit → Node → Node → Type 0
 LeadsTo e y x = StepLeads e y × (swap_node e y ≡ x)
 
--- Step i stands between trees i and i + 1: before the cursor it leads back, and from there on forward.
+-- Step i is between trees i and i + 1: before the cursor it leads back, and from there on forward.
 abbrev pub StepsLead : Trail → Type 0
 StepsLead t = (i : ℕ) (d : Node) → i < length t.steps →
     let e = slice_index_or t.steps i [] in

@@ -31,7 +31,7 @@ abbrev pub trees : Node → List (List Edit) → List Node
 trees n [] = []
 trees n (e ∷ es) = swap_node e n ∷ trees (swap_node e n) es
 
--- the tree behind the last of them
+-- the tree after the last of them
 abbrev pub reached : Node → List (List Edit) → Node
 reached n [] = n
 reached n (e ∷ es) = reached (swap_node e n) es

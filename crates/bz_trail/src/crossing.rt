@@ -31,7 +31,7 @@ fn copy_steps(alloc: Global, steps: &[Step]) -> Result<Items<Step>, Memory>
     Ok(copied)
 }
 
-/// Over even steps, the first one first: the tree becomes the one behind the last, and each step leads back.
+/// Over even steps, the first one first: the tree becomes the one after the last, and each step leads back.
 fn cross_even(tree: &mut Tree, steps: &mut [Step])
     requires lead { LeadOn tree.old steps.old }
     requires even { even_steps steps.old ≡ true }

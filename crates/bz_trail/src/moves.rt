@@ -11,7 +11,7 @@ use bz_edit::{Step, advance, advance_across, advance_at};
 use bz_items::{Items, Memory};
 use bz_tree::{Part, Tree};
 
-/// Puts a step behind the first n, in the place of those that follow.
+/// Puts a step after the first n, in the place of those that follow.
 fn put_after(steps: &mut Vec<Step>, n: usize, step: Step)
     requires room { vec_len steps.old < vec_capacity steps.old }
     ensures { steps.new.items ≡ take n steps.old.items ++ step ∷ [] }

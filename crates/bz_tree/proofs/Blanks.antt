@@ -13,7 +13,7 @@ blank_at [] n lt h = absurd (omega (arith, lt))
 blank_at (b ∷ s) zero lt h = (and_parts (is_indent b) (are_indents s) h).0
 blank_at (b ∷ s) (suc n) lt h = blank_at s n (omega (arith, lt)) (and_parts (is_indent b) (are_indents s) h).1
 
--- blanks behind what is none
+-- blanks after what is none
 blanks_behind : (s : List ℕ) (n : ℕ) → n < length s → is_indent (get_or s n 0) ≡ false → are_indents (drop (suc n) s) ≡ true → drop (suc n) s ≡ indent s
 blanks_behind [] n lt h g = absurd (omega (arith, lt))
 blanks_behind (b ∷ s) zero lt h g = all_blank s g ∙ sym (cond-false (are_indents (b ∷ s)) (b ∷ s) (indent s) (ap (λ (t : Bool). t && are_indents s) h))

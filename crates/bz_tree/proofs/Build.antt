@@ -1,4 +1,4 @@
--- A BUILD file has lines alone: their indents are none exactly where no line begins behind a space or a tab.
+-- A BUILD file has lines alone: their indents are none exactly where no line begins after a space or a tab.
 use Rattle.std.proofs.Common.{◌≡◌, ℕ, ◌<◌, zero, suc, Bool, true, false, cond, ◌&&◌, List, [], ◌∷◌, ◌++◌, inl, inr, refl, sym, ap, ◌∙◌, subst, ◌↔◌, arith, append_assoc}
 use Rattle.std.specs.List.{AllByRecursion, flat_map}
 use Rattle.std.proofs.lemmas.Bool.{and_parts, and_from, or_cases, or_left, cases_Bool, cond-true, cond-false}
@@ -248,7 +248,7 @@ flat_line p i (m ∷ ls) q l e rest =
     let w = flat_line (next p m) (next_inside p m.class m.token q.0) ls q.1 l e rest in
     ((λ h. w.0 h.1), (λ h. (inside_any p m i, w.1 h)))
 
--- a line, and what stands behind it
+-- a line, and what is after it
 record LineHere (p : Place) (ms rest : List Leaf) : Type 0 where
   place : Place
   begins_there : spot_of place ≡ Begins

@@ -1,4 +1,4 @@
--- A token of a text that ends in a newline is one where more stands behind that text, if no string is left open.
+-- A token of a text that ends in a newline is one where more is after that text, if no string is left open.
 use Rattle.std.proofs.Common.{◌≡◌, ℕ, Bool, true, false, List, [], ◌∷◌, ◌++◌, ◌⊎◌, inl, inr, Option, Some, None, refl, sym, ap, ◌∙◌, subst, append_assoc}
 use Rattle.std.proofs.lemmas.Bool.{false≢true}
 use Rattle.std.proofs.lemmas.Option.{same_Some}

@@ -41,7 +41,7 @@ last_byte l (m ∷ ls) e =
 no_line_token : (class : Class) (token s : List ℕ) → IsToken class token s → token ≡ 10 ∷ [] → ⊥
 no_line_token class token s t e = token_no_newline class token s s t (ap (λ (z : List ℕ). z ++ s) e)
 
--- a line feed stands before any text, and a line begins behind it
+-- a line feed is before any text, and a line begins after it
 last_line : (p : Place) (l : Leaf) (s more : List ℕ) → May IsToken p l s → l.token ≡ 10 ∷ [] → May IsToken p l more × (next p l ≡ Fresh)
 last_line p l s more (first g t) e = absurd (no_line_token l.class l.token s t e)
 last_line p l s more (later g t) e = absurd (no_line_token l.class l.token s t e)

@@ -57,7 +57,7 @@ full_expression k.File e = no e
 full_expression k.Bare e = refl
 full_expression _ e = refl
 
--- what stands in a node of a kind that a sort has begins as the sort does
+-- what is in a node of a kind that a sort has begins as the sort does
 sort_first : (q : Sort) (kind : Kind) (ts : List Leaf) → sort_has_kind q kind ≡ true → starts_with (first (bzl_shape kind)) ts ≡ true → starts_with (starts q) ts ≡ true
 sort_first (level n) kind ts e h =
     let w = and_parts (is_expression kind) (leb (rank kind) n) e in

@@ -57,6 +57,6 @@ build_drop zero ps h = h
 build_drop (suc n) [] h = tt
 build_drop (suc n) (p ∷ ps) h = build_drop n ps h.1
 
--- parts behind a place, closed into a node of a kind that BUILD files have
+-- parts after a place, closed into a node of a kind that BUILD files have
 pub closed_build : (ps : List Part) (n : ℕ) (kind : Kind) → kind_number kind < 35 → AllBuild ps → AllBuild (take n ps ++ v.Node (record { kind = kind; parts = drop n ps }) ∷ [])
 closed_build ps n kind lt h = build_both (take n ps) _ (build_take n ps h) (build_node (v.Node (record { kind = kind; parts = drop n ps })) (record { kind = kind; parts = drop n ps }) refl lt (build_drop n ps h), tt)

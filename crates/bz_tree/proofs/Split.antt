@@ -1,4 +1,4 @@
--- The lines in front of a part of a legal file are a legal file, and so is what stands behind them.
+-- The lines in front of a part of a legal file are a legal file, and so is what is after them.
 use Rattle.std.proofs.Common.{◌≡◌, ℕ, ◌≤◌, max, true, false, List, [], ◌∷◌, ◌++◌, inl, inr, refl, sym, ap, ◌∙◌, subst, arith, append_assoc}
 use Rattle.std.proofs.lemmas.Str.{IsUtf8-nil}
 use Rattle.std.proofs.lemmas.List.{append-nil}

@@ -52,7 +52,7 @@ is_deeper_at : (i : List ℕ) (c : ℕ) (more : List ℕ) → is_deeper i (i ++ 
 is_deeper_at [] c more = refl
 is_deeper_at (b ∷ i) c more = rw (eq-eqb b b refl) (is_deeper_at i c more)
 
--- ---- what may stand behind a suite and behind a statement
+-- ---- what may stand after a suite and after a statement
 
 -- no statement of a deeper suite follows, and no elif or else of one
 abbrev pub NoDeeper : List ℕ → List Leaf → Type 0
@@ -133,7 +133,7 @@ suite_parts i ps h = let n : Node = record { kind = k.Suite; parts = ps } in (h.
 parts_suite : (i : List ℕ) (ps : List Part) (c : ℕ) (more : List ℕ) → AreIndented (i ++ c ∷ more) ps → Owned i (node_part k.Suite ps)
 parts_suite i ps c more h = let n : Node = record { kind = k.Suite; parts = ps } in (c, more, indented_row (i ++ c ∷ more) _ (row_of n).1 (subst (AreIndented (i ++ c ∷ more)) (sym (items_of_row n)) h))
 
--- ---- what stands in lines and headers has no rule of indent
+-- ---- what is in lines and headers has no rule of indent
 
 no_suite : (q : Sort) → by_table q ≡ true → sort_has_kind q k.Suite ≡ false
 no_suite stmt h = no h
@@ -290,7 +290,7 @@ made_statement d i kind ps ts rest s n f o is e =
     let there : first_indent (all_leaves ps) ≡ i = sym (front_indent (all_leaves ps) rest (full_row d (bzl_shape kind) ps n f)) ∙ (sym (ap first_indent e) ∙ is) in
     ((made_node d stmt kind ps s f, parts_indented i (record { kind = kind; parts = ps }) there o), e ∙ ap (λ (u : List Leaf). u ++ rest) (sym (node_leaves kind ps)))
 
--- the first token of a header, and what stands behind it
+-- the first token of a header, and what is after it
 first_token : (d : ℕ) (s : List Terminal) (r : Shape) (hs : List Part) (i : List ℕ) (rest : List Leaf) → Fits (At d) (tok s r) hs → plain i d r ≡ true → first_indent (all_leaves hs ++ rest) ≡ i → AllOwned i hs
 first_token d s r [] i rest h p is = absurd h
 first_token d s r (a ∷ hs) i rest h p is =
@@ -382,7 +382,7 @@ module _ (d : ℕ) (i : List ℕ) (suite_read : Read Part)
         | inr e ↦ e
       ]
 
-  -- the first token of such a row stands at the indent
+  -- the first token of such a row is at the indent
   stands_first : (s : List Terminal) (r : Shape) (ps : List Part) (rest : List Leaf) → ((l : Leaf) → is_one_of s l ≡ true → is_one_of alternatives l ≡ true) → Fits (At d) (tok s r) ps → AllOwned i ps → (stands_at s i (all_leaves ps ++ rest) ≡ true) × (starts_with s (all_leaves ps ++ rest) ≡ true) × (first_indent (all_leaves ps ++ rest) ≡ i)
   stands_first s r [] rest up h w = absurd h
   stands_first s r (a ∷ ps) rest up h w =

@@ -1,4 +1,4 @@
--- Lines before lines: a text that ends with its last line, and a text behind it.
+-- Lines before lines: a text that ends with its last line, and a text after it.
 use Rattle.std.specs.Prelude.{◌≡◌, ◌≤◌, ℕ, List, [], ◌∷◌, ◌++◌, length}
 use Rattle.std.specs.List.{flat_map}
 use Rattle.bz_items.specs.Characters.{line_feed}
@@ -10,7 +10,7 @@ use Rattle.bz_tree.specs.declared.tree.Part as p
 use Rattle.bz_tree.specs.Spell.{leaves_part, limit}
 use Rattle.bz_tree.specs.Legal.{Reads, ReadsBzl}
 
--- the token of the last leaf; without leaves a line feed, since a line begins behind both
+-- the token of the last leaf; without leaves a line feed, since a line begins after both
 abbrev pub last_token : List Leaf → List ℕ
 last_token [] = line_feed ∷ []
 last_token (l ∷ []) = l.token

@@ -43,7 +43,7 @@ abbrev pub LegalByNodes : Type 0
 LegalByNodes = (n : Node) → LegalBzl n ↔ IsLegalByLeaves n
 
 -- The legal trees are those of .bzl files that have none of the kinds from Def on: of such a tree the indents say that no
--- line begins behind a space or a tab.
+-- line begins after a space or a tab.
 abbrev pub LegalByLines : Type 0
 LegalByLines = (n : Node) → Legal n ↔ (LegalBzl n × IsBuild n)
 

@@ -115,7 +115,7 @@ run inner (times group r) ts = None
 
 -- ---- kinds that begin alike
 
--- What stands in a node of one of several kinds that begin alike: the kind shows on the way.
+-- What is in a node of one of several kinds that begin alike: the kind shows on the way.
 pub data Plan : Type 0 where
   -- what is left has this shape, and the node is of this kind
   finish : Kind → Shape → Plan
@@ -155,11 +155,11 @@ follow inner (choose left right) ts = if starts_with (first_of left) ts then fol
 abbrev pub round : Plan
 round = one open_round (choose (finish k.Tuple (tok close_round done)) (piece test (choose (finish k.Paren (tok close_round done)) (finish k.Tuple (tok comma_mark (items test close_round))))))
 
--- behind the first item, in brackets
+-- after the first item, in brackets
 abbrev pub more_items : Sort → List Terminal → Shape
 more_items sort close = alt (tok close done) (tok comma_mark (items sort close))
 
--- behind the element of a comprehension
+-- after the element of a comprehension
 abbrev pub clauses : List Terminal → Shape
 clauses close = sub first_clause (each clause (tok close done))
 
@@ -174,7 +174,7 @@ square = bracketed open_square close_square test k.List k.ListComp
 abbrev pub curly : Plan
 curly = bracketed open_curly close_curly entry k.Dict k.DictComp
 
--- what may stand behind a primary
+-- what may stand after a primary
 abbrev pub suffix_plan : Plan
 suffix_plan =
     choose (finish k.Dot (tok dot (tok name done))) (choose (finish k.Call (tok open_round (items argument close_round)))
@@ -222,7 +222,7 @@ by_shape kind d (tok terminals r) inner next = prefix_at kind (tok terminals r) 
 by_shape kind d (sub q r) inner next = infix_at kind (fits_in d) r inner next
 by_shape kind d _ inner next = next
 
--- what binds tightest, without what may stand behind it
+-- what binds tightest, without what may stand after it
 abbrev pub atom : (Sort → Read Part) → Read Part
 atom inner ts =
     if starts_with (first_of round) ts then wrap_found (follow inner round ts)

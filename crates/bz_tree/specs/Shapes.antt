@@ -221,7 +221,7 @@ abbrev pub has_token : List Terminal → Part → Bool
 has_token terminals (p.Leaf leaf) = is_one_of terminals leaf
 has_token terminals (Node' kind size row) = false
 
--- ---- shapes: what stands in a node from left to right
+-- ---- shapes: what is in a node from left to right
 
 pub data Shape : Type 0 where
   -- nothing has this shape
@@ -234,7 +234,7 @@ pub data Shape : Type 0 where
   sub : Sort → Shape → Shape
   -- either
   alt : Shape → Shape → Shape
-  -- parts of this sort, at least one, a token of these between two of them (and where true is written, perhaps behind
+  -- parts of this sort, at least one, a token of these between two of them (and where true is written, perhaps after
   -- the last), and then
   list : Sort → List Terminal → Bool → Shape → Shape
   -- parts of this sort, none or more, and then
@@ -282,7 +282,7 @@ Fits P (times group then_) xs = Times (Fits P group) (Fits P then_) xs
 abbrev pub opt : Sort → Shape → Shape
 opt sort then_ = alt then_ (sub sort then_)
 
--- what stands in brackets, behind the opening one: [x {"," x} [","]] and the closing one, and then
+-- what is in brackets, after the opening one: [x {"," x} [","]] and the closing one, and then
 abbrev pub enclosed : Sort → List Terminal → Shape → Shape
 enclosed sort close then_ = alt (tok close then_) (list sort comma_mark true (tok close then_))
 
@@ -293,7 +293,7 @@ items sort close = enclosed sort close done
 abbrev pub flat : Sort → List Terminal → Shape
 flat sort operators = sub sort (tok operators (list sort operators false done))
 
--- behind the first colon of a slice: [test] [":" [test]] "]"
+-- after the first colon of a slice: [test] [":" [test]] "]"
 abbrev pub slice_end : Shape
 slice_end = opt test (alt (tok close_square done) (tok colon_mark (opt test (tok close_square done))))
 
@@ -301,7 +301,7 @@ slice_end = opt test (alt (tok close_square done) (tok colon_mark (opt test (tok
 abbrev pub starred : Shape
 starred = alt (tok (one_mark (codes "*")) (alt (tok name done) done)) (tok (one_mark (codes "**")) (tok name done))
 
--- behind a test: ":" suite
+-- after a test: ":" suite
 abbrev pub owned : Shape
 owned = tok colon_mark (sub suite done)
 

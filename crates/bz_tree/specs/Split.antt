@@ -10,6 +10,6 @@ use Rattle.bz_tree.specs.Joined.{file_with}
 abbrev pub bare_end : Part
 bare_end = p.Leaf (record { class = c.End; gap = []; token = [] })
 
--- the lines in front of a part of a legal file are a legal file, and so is what stands behind them
+-- the lines in front of a part of a legal file are a legal file, and so is what is after them
 abbrev pub LinesSplit : Type 0
 LinesSplit = (xs : List Part) (y : Part) (ys : List Part) → Legal (file_with (xs ++ y ∷ ys)) → Legal (file_with (xs ++ bare_end ∷ [])) × Legal (file_with (y ∷ ys))

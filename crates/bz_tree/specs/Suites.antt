@@ -9,7 +9,7 @@ use Rattle.bz_tree.specs.Shapes.{Terminal, is_one_of, line, stmt, param, primary
 use Rattle.bz_tree.specs.Indents.{first_indent}
 use Rattle.bz_tree.specs.Reading.{◌>>=◌, Read, starts_with, starts, with_part_first, run, wrap, reading}
 
--- ---- headers: what stands before a suite
+-- ---- headers: what is before a suite
 
 abbrev pub def_header : Shape
 def_header = tok (one_keyword (codes "def")) (tok name (tok open_round (enclosed param close_round (tok colon_mark done))))

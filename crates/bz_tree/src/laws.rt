@@ -36,18 +36,18 @@ pub fn legal_by_nodes()
 {}
 
 /// The legal trees of BUILD files are those of `.bzl` files that have none of the newer kinds: of them the indents say that no
-/// line begins behind a space or a tab.
+/// line begins after a space or a tab.
 pub fn legal_by_lines()
     ensures { LegalByLines }
 {}
 
-/// A text of whole lines and a text behind it read as the lines of both, in the grammar of BUILD files and in that of `.bzl` files.
+/// A text of whole lines and a text after it read as the lines of both, in the grammar of BUILD files and in that of `.bzl` files.
 pub fn lines_join()
     ensures build { LinesJoin }
     ensures bzl { BzlLinesJoin }
 {}
 
-/// The lines in front of a part of a legal file are a legal file, and so is what stands behind them.
+/// The lines in front of a part of a legal file are a legal file, and so is what is after them.
 pub fn lines_split()
     ensures { LinesSplit }
 {}

@@ -4,7 +4,7 @@ use Rattle.bz_tree.specs.Suites.{put_all}
 use Rattle.bz_parse.specs.Rows.{branches_at, if_at, statements_at}
 use Rattle.bz_parse.proofs.indented.+statements.Given as goal
 
--- what stands in a statement is less deep than it; the functions of one depth in the order in which they call each other
+-- what is in a statement is less deep than it; the functions of one depth in the order in which they call each other
 abbrev pub decreases-statement : goal.decreases-statement
 decreases-statement l = 10 * l.depth
 
