@@ -27,7 +27,7 @@ use Rattle.bz_attribute.proofs.GrownArguments.{row_total}
 use Rattle.bz_comment.specs.Hosts.{comment_made, with_comment, has_item, on_first_item, put_value, on_named_item, comment}
 use Rattle.bz_comment.proofs.HostForms.{made_by}
 use Rattle.bz_comment.proofs.LawBack.{any_if, any_listed}
-use Rattle.bz_comment.proofs.SoughtItems.{items_there}
+use Rattle.bz_attribute.proofs.ListsThere.{items_there}
 
 -- ---- tests
 

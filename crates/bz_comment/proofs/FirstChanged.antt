@@ -1,20 +1,10 @@
--- The first element that passes a test, changed, and changed back.
-use Rattle.std.proofs.Common.{◌≡◌, ℕ, Bool, true, false, List, [], ◌∷◌, Option, Some, None, inl, inr, refl, sym, ap, ◌∙◌, true≢false}
-use Rattle.std.specs.Prelude.{IfSome, cond, is_some, slice_get, slice_set}
-use Rattle.std.specs.List.{find, position}
+-- The first element that passes a test, changed back.
+use Rattle.std.proofs.Common.{◌≡◌, Bool, true, false, List, [], ◌∷◌, Option, Some, None, inl, inr, refl, sym, ap, ◌∙◌, true≢false}
+use Rattle.std.specs.Prelude.{IfSome, cond, is_some}
+use Rattle.std.specs.List.{find}
 use Rattle.std.specs.Option.{option_or}
 use Rattle.std.proofs.lemmas.Bool.{cases_Bool}
-use Rattle.std.proofs.lemmas.Option.{get_or_from_slice_get}
 use Rattle.bz_attribute.specs.Attributes.{on_first_that}
-use Rattle.bz_attribute.proofs.ArgumentPlaces.{is_first, none_passes, changed_at, unchanged}
-
--- changed in its place, and where none passes
-pub changed_there : {X : Type 0} (test : X → Bool) (f : X → X) (xs : List X) (i : ℕ) (x new : X) → Some i ≡ position test xs → slice_get xs i ≡ Some x → new ≡ f x → slice_set xs i new ≡ on_first_that test f xs
-changed_there test f xs i x new at there made =
-    ap (slice_set xs i) (made ∙ ap f (sym (get_or_from_slice_get xs i x x there))) ∙ sym (changed_at test f xs i x (is_first test xs i x at))
-
-pub changed_nowhere : {X : Type 0} (test : X → Bool) (f : X → X) (xs : List X) → None ≡ position test xs → xs ≡ on_first_that test f xs
-changed_nowhere test f xs none = sym (unchanged test f xs (none_passes test xs none))
 
 -- what is said of the first element that passes
 found_here : {X : Type 0} (P : X → Type 0) (b : Bool) (x : X) (rest : Option X) → IfSome (cond b (Some x) rest) P → b ≡ true → P x

@@ -1,22 +1,15 @@
 -- The items of a value's lists, one list after the other.
 use Rattle.std.proofs.Common.{◌≡◌, ℕ, ◌+◌, ◌<◌, Bool, List, ◌∷◌, length, drop, get_or, sym, ap, ◌∙◌}
-use Rattle.std.specs.Prelude.{if◌then◌else◌}
 use Rattle.std.specs.List.{find, flat_map}
 use Rattle.std.specs.Option.{option_or}
 use Rattle.std.proofs.lemmas.List.Folds.{find-append}
 use Rattle.std.proofs.lemmas.List.{at_drop_more}
-use Rattle.bz_tree.specs.declared.kind.Kind.TheVariants as k
 use Rattle.bz_value.specs.declared.value.Expr.{Expr}
-use Rattle.bz_rule.specs.Values.{has_kind, parts_of}
-use Rattle.bz_attribute.specs.Lists.{items_in, listed}
-use Rattle.bz_attribute.proofs.ListsThere as lists
+use Rattle.bz_attribute.specs.Lists.{listed}
 
 -- what is found in a list and the lists behind it
 found_step : (test : Expr → Bool) (x : Expr) (xs : List Expr) → find test (flat_map listed (x ∷ xs)) ≡ option_or (find test (listed x)) (find test (flat_map listed xs))
 found_step test x xs = find-append test (listed x) (flat_map listed xs)
-
-pub items_there : (value : Expr) → items_in value ≡ (if has_kind k.Sum value then flat_map listed (parts_of value) else listed value)
-items_there value = lists.items_there value
 
 -- the same at an index
 pub found_from : (test : Expr → Bool) (xs : List Expr) (i : ℕ) (x : Expr) → x ≡ get_or xs i x → i < length xs

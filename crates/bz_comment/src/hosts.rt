@@ -18,106 +18,72 @@ use bz_value::Expr;
 use bz_words::Host;
 use std::alloc::Global;
 
-/// Changes the comments of the first argument of this name.
-fn change_named(
-    alloc: Global,
-    name: &[u8],
-    change: Change<'_>,
-    arguments: &mut Items<Expr>,
-) -> Result<(), Memory>
-    ensures { OnOk result (arguments.new ≡ on_first_that (is_attribute name.now) (changed_by change.entry) arguments.old) }
-{
-    if let Some(at) = place_of(name, arguments.as_slice()) {
-        change_own(alloc, change, arguments.at_mut(at))?;
+impl Change<'_> {
+    /// Changes the comments of the first argument of this name.
+    fn on_named(self, name: &[u8], arguments: &mut Items<Expr>) -> Result<(), Memory>
+        ensures { OnOk result (arguments.new ≡ on_first_that (is_attribute name.now) (changed_by self.entry) arguments.old) }
+    {
+        if let Some(at) = place_of(name, arguments.as_slice()) {
+            let alloc = arguments.alloc();
+            change_own(alloc, self, arguments.at_mut(at))?;
+        }
+        Ok(())
     }
-    Ok(())
-}
 
-/// The same, where the attribute is there.
-fn change_attribute(
-    alloc: Global,
-    name: &[u8],
-    change: Change<'_>,
-    arguments: &mut Items<Expr>,
-) -> Result<(), Refusal>
-    ensures ok { OnOk result (changed_attribute name.now change.entry arguments.old ≡ Ok arguments.new) }
-    ensures err { IfErr result (λ refusal. (changed_attribute name.now change.entry arguments.old ≡ Err refusal) ⊎ (refusal ≡ Refusal.Memory)) }
-{
-    if !has_attribute(name, arguments.as_slice()) {
-        return Err(Refusal::NoAttribute);
+    /// The same, where the attribute is there.
+    fn on_attribute(self, name: &[u8], arguments: &mut Items<Expr>) -> Result<(), Refusal>
+        ensures ok { OnOk result (changed_attribute name.now self.entry arguments.old ≡ Ok arguments.new) }
+        ensures err { IfErr result (λ refusal. (changed_attribute name.now self.entry arguments.old ≡ Err refusal) ⊎ (refusal ≡ Refusal.Memory)) }
+    {
+        if !has_attribute(name, arguments.as_slice()) {
+            return Err(Refusal::NoAttribute);
+        }
+        self.on_named(name, arguments)?;
+        Ok(())
     }
-    change_named(alloc, name, change, arguments)?;
-    Ok(())
-}
 
-/// Changes the comments of the first item that is the value.
-fn change_first(
-    alloc: Global,
-    sought: Sought<'_>,
-    change: Change<'_>,
-    items: &mut Items<Expr>,
-) -> Result<(), Memory>
-    ensures { OnOk result (items.new ≡ on_first_that (is_sought sought.entry) (changed_by change.entry) items.old) }
-{
-    if let Some(at) = place_of_item(sought, items.as_slice()) {
-        change_own(alloc, change, items.at_mut(at))?;
+    /// Changes the comments of the first item that is the value.
+    fn on_first(self, sought: Sought<'_>, items: &mut Items<Expr>) -> Result<(), Memory>
+        ensures { OnOk result (items.new ≡ on_first_that (is_sought sought.entry) (changed_by self.entry) items.old) }
+    {
+        if let Some(at) = place_of_item(sought, items.as_slice()) {
+            let alloc = items.alloc();
+            change_own(alloc, self, items.at_mut(at))?;
+        }
+        Ok(())
     }
-    Ok(())
-}
 
-/// The same of the items of a list; any other expression stays.
-fn change_in_list(
-    alloc: Global,
-    sought: Sought<'_>,
-    change: Change<'_>,
-    x: &mut Expr,
-) -> Result<(), Memory>
-    ensures { OnOk result (x.new ≡ on_items kinds.List (on_first_that (is_sought sought.entry) (changed_by change.entry)) x.old) }
-{
-    match x {
-        Expr::Token(_) => Ok(()),
-        Expr::Form(form) => {
-            if form.kind == Kind::List {
-                change_first(alloc, sought, change, &mut form.seq.items)?;
+    /// The same of the items of a list; any other expression stays.
+    fn on_list(self, sought: Sought<'_>, x: &mut Expr) -> Result<(), Memory>
+        ensures { OnOk result (x.new ≡ on_items kinds.List (on_first_that (is_sought sought.entry) (changed_by self.entry)) x.old) }
+    {
+        match x {
+            Expr::Form(form) if form.kind == Kind::List => {
+                self.on_first(sought, &mut form.seq.items)
             }
-            Ok(())
+            _ => Ok(()),
         }
     }
-}
 
-/// The same of the first operand that is a list with the value.
-fn change_first_list(
-    alloc: Global,
-    sought: Sought<'_>,
-    change: Change<'_>,
-    operands: &mut Items<Expr>,
-) -> Result<(), Memory>
-    ensures { OnOk result (operands.new ≡ on_first_that (has_item (is_sought sought.entry)) (on_items kinds.List (on_first_that (is_sought sought.entry) (changed_by change.entry))) operands.old) }
-{
-    if let Some(at) = place_of_list(sought, operands.as_slice()) {
-        change_in_list(alloc, sought, change, operands.at_mut(at))?;
+    /// The same of the first operand that is a list with the value.
+    fn on_first_list(self, sought: Sought<'_>, operands: &mut Items<Expr>) -> Result<(), Memory>
+        ensures { OnOk result (operands.new ≡ on_first_that (has_item (is_sought sought.entry)) (on_items kinds.List (on_first_that (is_sought sought.entry) (changed_by self.entry))) operands.old) }
+    {
+        if let Some(at) = place_of_list(sought, operands.as_slice()) {
+            self.on_list(sought, operands.at_mut(at))?;
+        }
+        Ok(())
     }
-    Ok(())
-}
 
-/// Changes the comments of the first item of a value's lists that is the value sought.
-fn change_in_value(
-    alloc: Global,
-    sought: Sought<'_>,
-    change: Change<'_>,
-    value: &mut Expr,
-) -> Result<(), Memory>
-    ensures { OnOk result (value.new ≡ on_first_item (is_sought sought.entry) (changed_by change.entry) value.old) }
-{
-    match value {
-        Expr::Token(_) => Ok(()),
-        Expr::Form(form) => {
-            if form.kind == Kind::Sum {
-                change_first_list(alloc, sought, change, &mut form.parts)?;
-            } else if form.kind == Kind::List {
-                change_first(alloc, sought, change, &mut form.seq.items)?;
+    /// Changes the comments of the first item of a value's lists that is the value sought.
+    fn on_value(self, sought: Sought<'_>, value: &mut Expr) -> Result<(), Memory>
+        ensures { OnOk result (value.new ≡ on_first_item (is_sought sought.entry) (changed_by self.entry) value.old) }
+    {
+        match value {
+            Expr::Form(form) if form.kind == Kind::Sum => {
+                self.on_first_list(sought, &mut form.parts)
             }
-            Ok(())
+            _ => self.on_list(sought, value),
         }
     }
 }
@@ -154,7 +120,7 @@ fn change_item(
     let Some(mut value) = take_value(alloc, sought.attribute, arguments) else {
         return Err(Refusal::NoAttribute);
     };
-    change_in_value(alloc, sought, change, &mut value)?;
+    change.on_value(sought, &mut value)?;
     set_value(sought.attribute, value, arguments);
     Ok(())
 }
@@ -172,7 +138,7 @@ fn change_in_place(
 {
     match host {
         Host::Rule => Ok(()),
-        Host::Attribute(name) => change_attribute(alloc, name.as_slice(), change, arguments),
+        Host::Attribute(name) => change.on_attribute(name.as_slice(), arguments),
         Host::Item { attribute, value } => {
             let sought = Sought {
                 current,

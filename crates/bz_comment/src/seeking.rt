@@ -6,7 +6,7 @@ ghost use Rattle.bz_attribute.specs.Lists.{items_in, listed};
 ghost use Rattle.bz_comment.specs.Changes.{is_sought as sought_item};
 ghost use Rattle.bz_comment.specs.Hosts.{has_item};
 
-use bz_attribute::{has_kind, is_item, items_of, parts_of};
+use bz_attribute::{has_kind, is_item, items_of, operands_of};
 use bz_tree::Kind;
 use bz_value::Expr;
 
@@ -88,12 +88,8 @@ fn first_in_operands<'a>(sought: Sought<'_>, operands: &'a [Expr]) -> Option<&'a
 }
 
 /// The first item of a value's lists that is the value sought.
-#[tactic(auto, using(crate::proofs::SoughtItems::items_there))]
 pub(crate) fn first_sought<'a>(sought: Sought<'_>, value: &'a Expr) -> Option<&'a Expr>
     ensures { option_copied result ≡ find (sought_item sought.entry) (items_in value.now) }
 {
-    if has_kind(Kind::Sum, value) {
-        return first_in_operands(sought, parts_of(value));
-    }
-    first_in_list(sought, value)
+    first_in_operands(sought, operands_of(value))
 }

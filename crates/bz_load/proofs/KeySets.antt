@@ -1,8 +1,7 @@
 -- The sets of the code: what is found in them, and what they have after one key more.
-use Rattle.std.proofs.Common.{◌≡◌, ℕ, Bool, true, false, ◌||◌, List, [], ◌∷◌, ◌++◌, refl, sym, ap, ◌∙◌, map, true≢false}
-use Rattle.std.specs.Prelude.{Vec, bytes_eq, if◌then◌else◌, not}
+use Rattle.std.proofs.Common.{◌≡◌, Bool, true, false, ◌||◌, List, [], ◌∷◌, ◌++◌, refl, sym, ap, ◌∙◌, map, true≢false}
+use Rattle.std.specs.Prelude.{bytes_eq, if◌then◌else◌, not}
 use Rattle.std.specs.List.{list_any}
-use Rattle.std.specs.declared.alloc.Global.{Global}
 use Rattle.std.proofs.lemmas.Bool.{and_parts}
 use Rattle.std.proofs.Math.Path.{fun_ext}
 use Rattle.indexmap.specs.IndexSet.{insert_key}
@@ -12,8 +11,8 @@ use Rattle.bz_attribute.proofs.KeySets.{any_map, or_twice, or_turn, equal_texts}
 use Rattle.bz_load.specs.declared.readings.Loaded.{Loaded}
 use Rattle.bz_load.specs.contracts.readings.LoadedPartialEq.TheImpl as loaded_eq
 use Rattle.bz_load.specs.NewLoad.{is_symbol}
-use Rattle.bz_load.specs.Known.{knows, and_symbol, knows_name, and_name}
-use Rattle.bz_load.specs.KnownKeys.{symbol_of_key, symbols_of_keys, texts_of_keys}
+use Rattle.bz_load.specs.Known.{knows, and_symbol}
+use Rattle.bz_load.specs.KnownKeys.{symbol_of_key, symbols_of_keys}
 
 -- ---- one key more
 
@@ -62,23 +61,6 @@ symbol_inserted old new key e = fun_ext (λ other.
     ∙ (any_map (is_symbol other) symbol_of_key (insert_key eq old key)
     ∙ (any_inserted eq (λ k. is_symbol other (symbol_of_key k)) (λ x y h. ap (is_symbol other) (same_symbol (symbol_of_key x) (symbol_of_key y) h)) old key
     ∙ ap (λ z. is_symbol other (symbol_of_key key) || z) (sym (any_map (is_symbol other) symbol_of_key old)))))
-
--- ---- names
-
-abbrev text_eq : Vec ℕ Global → Vec ℕ Global → Bool
-text_eq one other = bytes_eq one.items other.items
-
-pub text_found : (keys : List (Vec ℕ Global)) (name : Bytes) → list_any (λ (key : Vec ℕ Global). bytes_eq name key.items) keys ≡ knows_name (texts_of_keys keys) name
-text_found keys name = sym (any_map (bytes_eq name) (λ (key : Vec ℕ Global). key.items) keys)
-
-pub text_inserted : (old new : List (Vec ℕ Global)) (key : Vec ℕ Global) (name : Bytes) → key.items ≡ name → new ≡ insert_key text_eq old key
-    → knows_name (texts_of_keys new) ≡ and_name name (knows_name (texts_of_keys old))
-text_inserted old new key name same e = fun_ext (λ text.
-    ap (λ keys. list_any (bytes_eq text) (map (λ (k : Vec ℕ Global). k.items) keys)) e
-    ∙ (any_map (bytes_eq text) (λ (k : Vec ℕ Global). k.items) (insert_key text_eq old key)
-    ∙ (any_inserted text_eq (λ (k : Vec ℕ Global). bytes_eq text k.items) (λ x y h. ap (bytes_eq text) (equal_texts x.items y.items h)) old key
-    ∙ (ap (λ z. bytes_eq text key.items || z) (sym (any_map (bytes_eq text) (λ (k : Vec ℕ Global). k.items) old))
-    ∙ ap (λ z. bytes_eq text z || list_any (bytes_eq text) (texts_of_keys old)) same))))
 
 -- a symbol that is known already
 pub known_again : (xs : List Symbol) (symbol : Symbol) → knows xs symbol ≡ true → and_symbol symbol (knows xs) ≡ knows xs

@@ -1,27 +1,22 @@
 //! Symbols that are loaded too.
-ghost use Rattle.std.specs.Prelude.{◌≡◌, ◌↔◌, ◌++◌, ◌∷◌, [], codes, map, IfOk, IsTrue, OnOk};
+ghost use Rattle.std.specs.Prelude.{◌≡◌, ◌↔◌, [], map, IfOk, IsTrue, OnOk};
 ghost use Rattle.std.specs.List.{list_any, position};
-ghost use Rattle.bz_token.specs.declared.class.Class.TheVariants as c;
-ghost use Rattle.bz_tree.specs.declared.kind.Kind.TheVariants as k;
-ghost use Rattle.bz_value.specs.declared.value.Item.TheVariants as i;
 ghost use Rattle.bz_value.specs.Exchanged.{IsSpliced};
-ghost use Rattle.bz_words.specs.Quoted.{quoted_of};
-ghost use Rattle.bz_rule.specs.Values.{on_items};
-ghost use Rattle.bz_attribute.specs.Made.{token, sequence};
 ghost use Rattle.bz_load.specs.Loads.{is_load_from as is_from};
 ghost use Rattle.bz_load.specs.NewLoad.{new_load, new_symbols, symbol_made};
 ghost use Rattle.bz_load.specs.Placed.{with_load, with_more_symbols};
 
-use crate::known::Known;
+use crate::known::{insert_loads, unknown};
 use crate::making::load_of;
 use crate::places::insert_behind_loads;
 use crate::readings::is_load_from;
+use bz_attribute::append_to;
 use bz_items::{Items, Memory};
 use bz_tree::Kind;
 use bz_value::{Expr, Item};
 use bz_words::Symbol;
+use indexmap::IndexSet;
 use std::alloc::Global;
-use std::mem;
 
 /// The items of a file with a load that has the new symbols.
 #[derive(Drop)]
@@ -45,8 +40,9 @@ fn new_symbols(
 ) -> Result<Vec<Expr>, Memory>
     ensures { IfOk result (λ made. made.items ≡ map symbol_made (new_symbols path.now items.now [] symbols.now)) }
 {
-    let mut known = Known::of_items(alloc, path, items)?;
-    let made = known.new_symbols(alloc, symbols)?;
+    let mut known = IndexSet::new(alloc);
+    insert_loads(path, items, &mut known)?;
+    let made = unknown(alloc, symbols, &mut known)?;
     Ok(made)
 }
 
@@ -57,38 +53,12 @@ fn place_of_load(path: &[u8], items: &[Item]) -> Option<usize>
     items.iter().position(|item| is_load_from(path, item))
 }
 
-/// Appends all of `more`.
-fn append(more: &mut Vec<Expr>, items: &mut Items<Expr>) -> Result<(), Memory>
-    ensures { OnOk result (items.new ≡ items.old ++ more.old.items) }
-{
-    let alloc = items.alloc();
-    let mut all = mem::replace(items, Items::new(alloc)).into_vec();
-    all.append(more)?;
-    *items = Items::from_vec(all);
-    Ok(())
-}
-
-/// Appends items to a load; any other expression stays.
-fn append_to_load(more: &mut Vec<Expr>, x: &mut Expr) -> Result<(), Memory>
-    ensures { OnOk result (x.new ≡ on_items k.Load (λ items. items ++ more.old.items) x.old) }
-{
-    match x {
-        Expr::Token(_) => Ok(()),
-        Expr::Form(form) => {
-            if form.kind == Kind::Load {
-                append(more, &mut form.seq.items)?;
-            }
-            Ok(())
-        }
-    }
-}
-
 fn append_to_item(more: &mut Vec<Expr>, item: &mut Item) -> Result<(), Memory>
     ensures { OnOk result (item.new ≡ with_more_symbols more.old.items item.old) }
 {
     match item {
         Item::Block(_) => Ok(()),
-        Item::Stmt(x) => append_to_load(more, x),
+        Item::Stmt(x) => append_to(Kind::Load, more, x),
     }
 }
 

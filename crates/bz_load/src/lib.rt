@@ -6,7 +6,6 @@ mod fixing;
 mod known;
 mod laws;
 mod making;
-mod names;
 mod package;
 mod places;
 mod readings;

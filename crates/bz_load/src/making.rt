@@ -7,29 +7,12 @@ ghost use Rattle.bz_attribute.specs.Made.{token, node, sequence, name, mark};
 ghost use Rattle.bz_value.specs.declared.value.Item.TheVariants as i;
 ghost use Rattle.bz_load.specs.NewLoad.{symbol_made};
 
-use bz_attribute::token;
+use bz_attribute::{new_token, node, sequence, token};
 use bz_items::{Items, Memory, Text};
 use bz_tree::{Class, Kind};
-use bz_value::{Comments, Expr, Form, Item, Seq};
+use bz_value::{Expr, Item};
 use bz_words::{Symbol, quoted};
 use std::alloc::Global;
-
-/// A node with a sequence behind these parts: no comments, not split.
-fn sequence(alloc: Global, kind: Kind, parts: Items<Expr>, items: Items<Expr>) -> Expr
-    ensures { result ≡ sequence kind parts items }
-{
-    Expr::Form(Form {
-        kind,
-        parts,
-        seq: Seq {
-            items,
-            end_: Items::new(alloc),
-            split: false,
-        },
-        open_: false,
-        comments: Comments::none(),
-    })
-}
 
 /// A word as a string.
 fn string(alloc: Global, word: &[u8]) -> Result<Expr, Memory>
@@ -37,14 +20,6 @@ fn string(alloc: Global, word: &[u8]) -> Result<Expr, Memory>
 {
     let text = quoted(alloc, word)?;
     Ok(token(Class::String, text))
-}
-
-/// A token of this class and text.
-fn token_of(alloc: Global, class: Class, text: &[u8]) -> Result<Expr, Memory>
-    ensures { IfOk result (λ x. x ≡ token class text.now) }
-{
-    let text = Text::from_slice(alloc, text)?;
-    Ok(token(class, text))
 }
 
 /// `to = "from"`.
@@ -57,12 +32,7 @@ fn alias(alloc: Global, to: &[u8], from: &[u8]) -> Result<Expr, Memory>
     let left = token(Class::Name, to);
     let right = token(Class::String, from);
     let parts = Vec::from_array(alloc, [left, token(Class::Mark, sign), right])?;
-    Ok(sequence(
-        alloc,
-        Kind::Alias,
-        Items::from_vec(parts),
-        Items::new(alloc),
-    ))
+    Ok(node(alloc, Kind::Alias, Items::from_vec(parts)))
 }
 
 /// The item of a load that loads the symbol: an alias, or where both names are one the string alone. The error: memory was
@@ -91,7 +61,7 @@ fn with_path(alloc: Global, path: Expr, symbols: &mut Vec<Expr>) -> Result<Items
 pub(crate) fn load_of(alloc: Global, path: &[u8], symbols: &mut Vec<Expr>) -> Result<Item, Memory>
     ensures { IfOk result (λ item. item ≡ i.Stmt (sequence k.Load (token c.Keyword (codes "load") ∷ []) (token c.String (quoted_of path.now) ∷ symbols.old.items))) }
 {
-    let word = token_of(alloc, Class::Keyword, b"load")?;
+    let word = new_token(alloc, Class::Keyword, b"load")?;
     let parts = Vec::from_array(alloc, [word])?;
     let items = with_path(alloc, string(alloc, path)?, symbols)?;
     let load = sequence(alloc, Kind::Load, Items::from_vec(parts), items);

@@ -4,13 +4,13 @@ ghost use Rattle.std.specs.List.{filter, list_any};
 ghost use Rattle.bz_tree.specs.declared.kind.Kind.TheVariants as k;
 ghost use Rattle.bz_rule.specs.Values.{behind_first, on_items};
 ghost use Rattle.bz_value.specs.Empty.{is_empty};
+ghost use Rattle.bz_attribute.specs.Sets.{texts_of};
 ghost use Rattle.bz_load.specs.Fixes.{end_of, is_commented as has_any, has_own_comments as has_own, is_emptied as empties, path_comments as path_has, symbol_stays as stays_by, unused_loads, used_alone as alone, with_used as used_in};
 ghost use Rattle.bz_load.specs.Known.{knows_name};
 
-use crate::names::UsedNames;
 use crate::readings::behind_path;
-use crate::uses::used_names;
-use bz_attribute::{has_kind, items_of};
+use crate::uses::{Names, used_names};
+use bz_attribute::{has_kind, has_text, items_of};
 use bz_items::{Items, Memory};
 use bz_rule::local_name;
 use bz_tree::Kind;
@@ -51,27 +51,27 @@ fn has_own_comments(x: &Expr) -> bool
 }
 
 /// Whether a symbol stays: it has a comment, or its local name is used.
-fn stays(names: &UsedNames, x: &Expr) -> bool
-    ensures { result ≡ stays_by (knows_name names.now) x.now }
+fn stays(names: &Names, x: &Expr) -> bool
+    ensures { result ≡ stays_by (knows_name (texts_of names.now)) x.now }
 {
-    has_comments(x.comments()) || names.has(local_name(x))
+    has_comments(x.comments()) || has_text(names, local_name(x))
 }
 
-fn any_stays(names: &UsedNames, symbols: &[Expr]) -> bool
-    ensures { result ≡ list_any (stays_by (knows_name names.now)) symbols.now }
+fn any_stays(names: &Names, symbols: &[Expr]) -> bool
+    ensures { result ≡ list_any (stays_by (knows_name (texts_of names.now))) symbols.now }
 {
     symbols.iter().any(|x| stays(names, x))
 }
 
-fn keep_used(names: &UsedNames, symbols: &mut Vec<Expr>)
-    ensures { symbols.new.items ≡ filter (stays_by (knows_name names.now)) symbols.old.items }
+fn keep_used(names: &Names, symbols: &mut Vec<Expr>)
+    ensures { symbols.new.items ≡ filter (stays_by (knows_name (texts_of names.now))) symbols.old.items }
 {
     symbols.retain(|x| stays(names, x));
 }
 
 /// Of the items of a load the path stays, and of its symbols those that are to stay.
-fn keep_path_and_used(names: &UsedNames, items: &mut Vec<Expr>) -> Result<(), Memory>
-    ensures { OnOk result (items.new.items ≡ behind_first (filter (stays_by (knows_name names.now))) items.old.items) }
+fn keep_path_and_used(names: &Names, items: &mut Vec<Expr>) -> Result<(), Memory>
+    ensures { OnOk result (items.new.items ≡ behind_first (filter (stays_by (knows_name (texts_of names.now)))) items.old.items) }
 {
     if items.is_empty() {
         return Ok(());
@@ -82,8 +82,8 @@ fn keep_path_and_used(names: &UsedNames, items: &mut Vec<Expr>) -> Result<(), Me
     Ok(())
 }
 
-fn keep_in_items(names: &UsedNames, items: &mut Items<Expr>) -> Result<(), Memory>
-    ensures { OnOk result (items.new ≡ behind_first (filter (stays_by (knows_name names.now))) items.old) }
+fn keep_in_items(names: &Names, items: &mut Items<Expr>) -> Result<(), Memory>
+    ensures { OnOk result (items.new ≡ behind_first (filter (stays_by (knows_name (texts_of names.now)))) items.old) }
 {
     let alloc = items.alloc();
     let mut all = mem::replace(items, Items::new(alloc)).into_vec();
@@ -92,23 +92,18 @@ fn keep_in_items(names: &UsedNames, items: &mut Items<Expr>) -> Result<(), Memor
     Ok(())
 }
 
-fn keep_in_load(names: &UsedNames, x: &mut Expr) -> Result<(), Memory>
-    ensures { OnOk result (x.new ≡ on_items k.Load (behind_first (filter (stays_by (knows_name names.now)))) x.old) }
+fn keep_in_load(names: &Names, x: &mut Expr) -> Result<(), Memory>
+    ensures { OnOk result (x.new ≡ on_items k.Load (behind_first (filter (stays_by (knows_name (texts_of names.now))))) x.old) }
 {
     match x {
-        Expr::Token(_) => Ok(()),
-        Expr::Form(form) => {
-            if form.kind == Kind::Load {
-                keep_in_items(names, &mut form.seq.items)?;
-            }
-            Ok(())
-        }
+        Expr::Form(form) if form.kind == Kind::Load => keep_in_items(names, &mut form.seq.items),
+        _ => Ok(()),
     }
 }
 
 /// A load without comments of its own keeps the symbols that are to stay.
-fn keep_in_expr(names: &UsedNames, x: &mut Expr) -> Result<(), Memory>
-    ensures { OnOk result (x.new ≡ used_in (knows_name names.now) x.old) }
+fn keep_in_expr(names: &Names, x: &mut Expr) -> Result<(), Memory>
+    ensures { OnOk result (x.new ≡ used_in (knows_name (texts_of names.now)) x.old) }
 {
     if has_own_comments(x) {
         return Ok(());
@@ -116,8 +111,8 @@ fn keep_in_expr(names: &UsedNames, x: &mut Expr) -> Result<(), Memory>
     keep_in_load(names, x)
 }
 
-fn keep_in_item(names: &UsedNames, item: &mut Item) -> Result<(), Memory>
-    ensures { OnOk result (item.new ≡ alone (knows_name names.now) item.old) }
+fn keep_in_item(names: &Names, item: &mut Item) -> Result<(), Memory>
+    ensures { OnOk result (item.new ≡ alone (knows_name (texts_of names.now)) item.old) }
 {
     match item {
         Item::Block(_) => Ok(()),
@@ -125,8 +120,8 @@ fn keep_in_item(names: &UsedNames, item: &mut Item) -> Result<(), Memory>
     }
 }
 
-fn keep_in_each(names: &UsedNames, items: &mut Vec<Item>) -> Result<(), Memory>
-    ensures { OnOk result (items.new.items ≡ map (alone (knows_name names.now)) items.old.items) }
+fn keep_in_each(names: &Names, items: &mut Vec<Item>) -> Result<(), Memory>
+    ensures { OnOk result (items.new.items ≡ map (alone (knows_name (texts_of names.now))) items.old.items) }
 {
     for item in items.iter_mut() {
         keep_in_item(names, item)?;
@@ -135,15 +130,15 @@ fn keep_in_each(names: &UsedNames, items: &mut Vec<Item>) -> Result<(), Memory>
 }
 
 /// Whether none of these symbols, of which there are some, stays.
-fn loses_all(names: &UsedNames, symbols: &[Expr]) -> bool
-    ensures { result ≡ (not (is_empty symbols.now) && not (list_any (stays_by (knows_name names.now)) symbols.now)) }
+fn loses_all(names: &Names, symbols: &[Expr]) -> bool
+    ensures { result ≡ (not (is_empty symbols.now) && not (list_any (stays_by (knows_name (texts_of names.now))) symbols.now)) }
 {
     !symbols.is_empty() && !any_stays(names, symbols)
 }
 
 /// Whether the item is a load that loses its last symbol.
-fn is_emptied(names: &UsedNames, item: &Item) -> bool
-    ensures { result ≡ empties (knows_name names.now) item.now }
+fn is_emptied(names: &Names, item: &Item) -> bool
+    ensures { result ≡ empties (knows_name (texts_of names.now)) item.now }
 {
     match item {
         Item::Block(_) => false,
@@ -155,8 +150,8 @@ fn is_emptied(names: &UsedNames, item: &Item) -> bool
     }
 }
 
-fn drop_emptied(names: &UsedNames, items: &mut Vec<Item>)
-    ensures { items.new.items ≡ filter (λ item. not (empties (knows_name names.now) item)) items.old.items }
+fn drop_emptied(names: &Names, items: &mut Vec<Item>)
+    ensures { items.new.items ≡ filter (λ item. not (empties (knows_name (texts_of names.now)) item)) items.old.items }
 {
     items.retain(|item| !is_emptied(names, item));
 }
