@@ -179,23 +179,6 @@ fn find_lines(
     Ok(())
 }
 
-/// Makes what a command looks up. The error: memory was refused.
-fn look_up(
-    alloc: Global,
-    command: &Command,
-    target: &Target,
-    lookups: &mut Lookups,
-    file: &File,
-    tree: &Tree,
-) -> Result<(), Memory>
-    requires value { file.now ≡ view_of tree.now }
-    requires lookups { AreLookupsOf lookups.old tree.now }
-    ensures { AreLookupsOf lookups.new tree.now }
-{
-    index_names(alloc, target, &mut lookups.names, file)?;
-    find_lines(alloc, command, target, &mut lookups.lines, tree)
-}
-
 /// What a command answers by the value of the present text, which is made where none is kept, and stays, as does what was looked up;
 /// none where the command would change the text.
 pub(crate) fn answer(
@@ -213,7 +196,11 @@ pub(crate) fn answer(
     let Ok(file) = value_of(alloc, beside.value.take(), here) else {
         return Some(Err(Refusal::Memory));
     };
-    if look_up(alloc, command, target, &mut beside.lookups, &file, here).is_err() {
+    let lookups = &mut beside.lookups;
+    if index_names(alloc, target, &mut lookups.names, &file).is_err() {
+        return Some(Err(Refusal::Memory));
+    }
+    if find_lines(alloc, command, target, &mut lookups.lines, here).is_err() {
         return Some(Err(Refusal::Memory));
     }
     let answer = answer_of(course, command, target, &beside.lookups, &file);

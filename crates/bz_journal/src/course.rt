@@ -135,14 +135,6 @@ impl Course {
         Ok(text)
     }
 
-    /// Appends the present text to `out`. The error: a growth was refused; `out` is then as before.
-    pub(crate) fn text_into(&self, out: &mut Vec<u8>) -> Result<(), Memory>
-        ensures ok { OnOk result (out.new.items ≡ out.old.items ++ present (session_history self.now)) }
-        ensures err { OnErr result (out.new.items ≡ out.old.items) }
-    {
-        self.present().spell_into(out)
-    }
-
     /// How many steps there are between the present text and the last.
     fn steps_ahead(&self) -> u32
         ensures steps { self.now.cursor + result ≡ length self.now.steps }

@@ -103,7 +103,7 @@ impl Editor {
         ensures ok { OnOk result (out.new.items ≡ out.old.items ++ present (session_history self.now)) }
         ensures err { OnErr result (out.new.items ≡ out.old.items) }
     {
-        self.course.text_into(out)
+        self.course.present().spell_into(out)
     }
 
     /// The texts, one line each, as `Session::listing` gives them. The error: a growth was refused.

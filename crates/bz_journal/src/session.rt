@@ -121,7 +121,7 @@ impl Session {
         ensures ok { OnOk result (out.new.items ≡ out.old.items ++ present (session_history self.now)) }
         ensures err { OnErr result (out.new.items ≡ out.old.items) }
     {
-        self.course.text_into(out)
+        self.course.present().spell_into(out)
     }
 
     /// The texts, one line each: `*` at the present one or a space, a space, its number from 0, a space, its SHA-256 in 64
