@@ -11,6 +11,7 @@ ghost use Rattle.bz_engine.specs.Shown.{progress_in};
 ghost use Rattle.bz_engine.specs.Told.{fixed_line};
 
 use crate::run::Run;
+use crate::script::INPUT;
 use crate::told::tell_fixed;
 use bz_files::Files;
 use bz_items::Memory;
@@ -32,7 +33,7 @@ const STDOUT: &str = "<stdout>";
 fn is_input(used: &Used) -> bool
     ensures { result ≡ is_input (used_in used.now) }
 {
-    used.package.as_slice() == b"-".as_slice()
+    used.package.as_slice() == INPUT.as_bytes()
 }
 
 // Whether a text goes to standard output.

@@ -12,13 +12,11 @@ ghost use Rattle.bz_engine.specs.Run.{Uses};
 ghost use Rattle.bz_ports.specs.Ports.{IsInput};
 ghost use Rattle.bz_engine.specs.Steps.{input_package};
 
+use crate::script::INPUT;
 use bz_files::Files;
 use bz_ports::{Cut, InputFault, MOST, STDIN, Sink, Source, read_most, tell_named};
 use bz_workspace::{Opening, Workspace};
 use std::alloc::Global;
-
-/// The package that stands for standard input.
-const INPUT: &str = "-";
 
 // Standard input was not read, which is told.
 fn unread<E: Sink>(err: &mut E, word: &str, cut: Cut) -> Opening

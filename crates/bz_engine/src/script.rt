@@ -15,7 +15,7 @@ use bz_files::{FileFault, Files};
 use bz_ports::{Cut, Exit, InputFault, STDIN, Sink, Source, read_most, tell_named};
 use std::alloc::Global;
 
-/// The name that stands for standard input.
+/// The name of the file of lines, and the path of the package, that stands for standard input.
 pub(crate) const INPUT: &str = "-";
 
 /// The status of words that ask for nothing.

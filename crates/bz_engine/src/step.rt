@@ -8,6 +8,7 @@ ghost use Rattle.bz_engine.specs.Steps as s;
 ghost use Rattle.bz_engine.specs.Shown.{names_in, shows_in, shown_in};
 ghost use Rattle.bz_engine.specs.Steps.{is_of_input, names_input, shows_input, all_steps};
 
+use crate::script::INPUT;
 use bz_label::Target;
 use bz_line::{Asked, Asking, Verb};
 use bz_workspace::Action;
@@ -36,7 +37,7 @@ pub(crate) fn package_of(target: &Target) -> &str
 pub(crate) fn is_of_input(target: &Target) -> bool
     ensures { result ≡ is_of_input target.now }
 {
-    target.package.as_slice() == b"-".as_slice()
+    target.package.as_slice() == INPUT.as_bytes()
 }
 
 // Whether a command doesn't print.
