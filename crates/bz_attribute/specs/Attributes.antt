@@ -5,7 +5,7 @@ use Rattle.bz_value.specs.declared.value.Expr.{Expr}
 use Rattle.bz_items.specs.Characters.{Bytes}
 use Rattle.bz_rule.specs.Rules.{value_named, attribute}
 use Rattle.bz_rule.specs.Values.{has_kind, on_row, on_third}
-use Rattle.bz_attribute.specs.declared.refusal.Refusal.{Refusal}
+use Rattle.bz_value.specs.declared.refusal.Refusal.{Refusal}
 use Rattle.bz_attribute.specs.Made.{argument_of}
 
 abbrev pub is_attribute : Bytes → Expr → Bool

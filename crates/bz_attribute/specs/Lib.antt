@@ -1,5 +1,4 @@
 pub mod Attributes
 pub mod Lists
 pub mod Made
-pub mod Refusals
 pub mod Sets

@@ -5,7 +5,6 @@
 mod arguments;
 mod making;
 mod readings;
-mod refusal;
 mod sets;
 
 pub use arguments::{
@@ -20,5 +19,4 @@ pub use readings::{
     body_of, first_text, has_lists, is_empty_list, is_item, is_no_list, items_of, operands_of,
     parts_of,
 };
-pub use refusal::Refusal;
 pub use sets::{has_text, insert_text};

@@ -15,7 +15,7 @@ use Rattle.bz_attribute.specs.Attributes.{is_attribute, has_attribute, on_first_
 use Rattle.bz_attribute.specs.Attributes.{Arguments}
 use Rattle.bz_attribute.proofs.FormsAgain.{if_true, if_false, some_if, own_parts, row_twice, attribute_parts, value_changed, attribute_first}
 use Rattle.bz_change.specs.Laws.{RenamedBack}
-use Rattle.bz_attribute.specs.declared.refusal.Refusal.TheVariants.{NoAttribute, AttributeExists}
+use Rattle.bz_value.specs.declared.refusal.Refusal.TheVariants.{NoAttribute, AttributeExists}
 
 -- ---- the name of an argument
 

@@ -16,7 +16,7 @@ use Rattle.bz_rule.proofs.ProperItems.{IsValue, all_kept}
 use Rattle.bz_rule.proofs.ProperSequences.{IsItem}
 use Rattle.bz_attribute.specs.Attributes.{is_attribute, has_attribute, is_other_attribute, on_first_that, with_value, with_new, put}
 use Rattle.bz_change.specs.Changes.{value_of, setting, is_set, set, set_if_absent, remove, rename, copy, copy_no_overwrite}
-use Rattle.bz_attribute.specs.declared.refusal.Refusal.TheVariants.{NoAttribute, AttributeExists, NoSource}
+use Rattle.bz_value.specs.declared.refusal.Refusal.TheVariants.{NoAttribute, AttributeExists, NoSource}
 use Rattle.bz_attribute.proofs.ProperAttributes.{AreArguments, Made, Keeps, of_value, of_attribute, first_that_kept, with_value_kept, without_kept, with_new_kept, put_kept}
 use Rattle.bz_change.proofs.ProperSettings.{setting_value}
 

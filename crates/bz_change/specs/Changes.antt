@@ -13,7 +13,7 @@ use Rattle.bz_words.specs.declared.command.Attributes.{Attributes}
 use Rattle.bz_words.specs.declared.command.Attributes.TheVariants as a
 use Rattle.bz_rule.specs.Rules.{attribute}
 use Rattle.bz_rule.specs.Values.{has_kind, has_class, text_of, items_of, with_text, on_row, on_first}
-use Rattle.bz_attribute.specs.declared.refusal.Refusal.TheVariants.{NoAttribute, AttributeExists, NoSource}
+use Rattle.bz_value.specs.declared.refusal.Refusal.TheVariants.{NoAttribute, AttributeExists, NoSource}
 use Rattle.bz_change.specs.declared.settings.Setting.{Setting}
 use Rattle.bz_change.specs.declared.settings.Setting.TheVariants.{One, Many}
 use Rattle.bz_attribute.specs.Made.{token, string_text, list_of}

@@ -4,9 +4,9 @@ ghost use Rattle.std.specs.Option.{option_copied};
 ghost use Rattle.bz_change.specs.Changes.{attributes_changed};
 
 use crate::whole::{copy, remove, rename, set};
-use bz_attribute::{Refusal, Slot, has_attribute};
+use bz_attribute::{Slot, has_attribute};
 use bz_items::Items;
-use bz_value::Expr;
+use bz_value::{Expr, Refusal};
 use bz_words::AttributeOperation;
 use std::alloc::Global;
 

@@ -10,12 +10,12 @@ ghost use Rattle.bz_change.specs.Changes.{set, is_set, remove, rename, copy};
 
 use crate::settings::{Setting, is_set, setting_of, value_of};
 use bz_attribute::{
-    Refusal, Slot, has_attribute, is_other_attribute, place_of, put, remove_first, set_text,
+    Slot, has_attribute, is_other_attribute, place_of, put, remove_first, set_text,
 };
 use bz_items::{Items, Memory, Text};
 use bz_rule::attribute;
 use bz_tree::Kind;
-use bz_value::Expr;
+use bz_value::{Expr, Refusal};
 use bz_words::Attributes;
 use std::alloc::Global;
 use std::mem;

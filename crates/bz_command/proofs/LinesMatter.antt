@@ -16,8 +16,8 @@ use Rattle.bz_words.specs.declared.command.Field.TheVariants as f
 use Rattle.bz_words.specs.Printing.{prints}
 use Rattle.bz_rule.specs.Rules.{Rule, rule_of}
 use Rattle.bz_print.specs.Prints.{printed_field, printed_fields, printed_rule, spaced}
-use Rattle.bz_attribute.specs.declared.refusal.Refusal.{Refusal}
-use Rattle.bz_attribute.specs.declared.refusal.Refusal.TheVariants.{NoTarget}
+use Rattle.bz_value.specs.declared.refusal.Refusal.{Refusal}
+use Rattle.bz_value.specs.declared.refusal.Refusal.TheVariants.{NoTarget}
 use Rattle.bz_command.specs.Effect.{kept, lacks_rules, on_rules}
 use Rattle.bz_command.specs.LinesMatter.{is_by_line, prints_line, prints_lines, LinesMatter}
 use Rattle.bz_command.specs.Printing.{before_rest, if_marked, item_line, lines_after_item, printed_one, printed_rules}

@@ -20,8 +20,8 @@ use Rattle.bz_words.specs.declared.command.Host.{Host}
 use Rattle.bz_words.specs.declared.command.Host.TheVariants.{Rule, Attribute, Item as ItemHost}
 use Rattle.bz_words.specs.Proper.{IsProperCommand}
 use Rattle.bz_rule.specs.Rules.{Rule as RuleRead, rule_of}
-use Rattle.bz_attribute.specs.declared.refusal.Refusal.{Refusal}
-use Rattle.bz_attribute.specs.declared.refusal.Refusal.TheVariants.{Memory}
+use Rattle.bz_value.specs.declared.refusal.Refusal.{Refusal}
+use Rattle.bz_value.specs.declared.refusal.Refusal.TheVariants.{Memory}
 use Rattle.bz_attribute.specs.Attributes.{Arguments}
 use Rattle.bz_comment.specs.Hosts.{comment_made, with_comment, comment}
 use Rattle.bz_comment.proofs.Coming.{copies, own_comes, Comes, IsAmong, comment_comes}

@@ -44,8 +44,8 @@ use Rattle.bz_comment.specs.Hosts.{with_comment, without_comments, comment, remo
 use Rattle.bz_comment.proofs.ProperComments.{comment_keeps, remove_comment_keeps, statement_keeps, remove_statement_keeps}
 use Rattle.bz_command.specs.Printing.{printed_rules}
 use Rattle.bz_command.specs.Effect.{kept, lacks_rules, on_statement as statement_with, NewItem, with_arguments, with_function, made_of, on_rule, on_arguments, with_item_first, on_meant, unmarked, before_first, after_rule, placed, has_rule_place, with_rule, on_rules, effect, value_in, source}
-use Rattle.bz_attribute.specs.declared.refusal.Refusal.{Refusal}
-use Rattle.bz_attribute.specs.declared.refusal.Refusal.TheVariants.{NoTarget, NameTaken}
+use Rattle.bz_value.specs.declared.refusal.Refusal.{Refusal}
+use Rattle.bz_value.specs.declared.refusal.Refusal.TheVariants.{NoTarget, NameTaken}
 use Rattle.bz_command.specs.Laws.{EffectsStayProper}
 use Rattle.bz_attribute.proofs.ProperAttributes.{Made, Keeps}
 use Rattle.bz_words.proofs.TextMatches.{substituted_utf8}

@@ -2,7 +2,7 @@
 use Rattle.std.proofs.Common.{◌≡◌, ◌≤◌, Bool, true, false, List, [], ◌∷◌, ◌++◌, length, refl, ap, arith}
 use Rattle.std.specs.Prelude.{Result, Ok, Err}
 use Rattle.bz_value.specs.declared.value.Item.{Item}
-use Rattle.bz_attribute.specs.declared.refusal.Refusal.{Refusal}
+use Rattle.bz_value.specs.declared.refusal.Refusal.{Refusal}
 use Rattle.bz_command.specs.Effect.{unmarked}
 
 -- ---- the meant rules

@@ -21,8 +21,8 @@ use Rattle.bz_words.specs.declared.command.RulePlace.{RulePlace}
 use Rattle.bz_words.specs.declared.command.RulePlace.TheVariants.{End, Before, After}
 use Rattle.bz_rule.specs.Rules.{Rule as RuleRead, rule_of, attribute, has_name}
 use Rattle.bz_rule.specs.Values.{with_items, with_parts, on_row, on_first}
-use Rattle.bz_attribute.specs.declared.refusal.Refusal.{Refusal}
-use Rattle.bz_attribute.specs.declared.refusal.Refusal.TheVariants.{NoTarget, NameTaken}
+use Rattle.bz_value.specs.declared.refusal.Refusal.{Refusal}
+use Rattle.bz_value.specs.declared.refusal.Refusal.TheVariants.{NoTarget, NameTaken}
 use Rattle.bz_command.specs.Targets.{meant, may_mean_none}
 use Rattle.bz_attribute.specs.Made.{function_of, rule_made}
 use Rattle.bz_attribute.specs.Attributes.{Arguments}

@@ -10,7 +10,7 @@ use Rattle.bz_words.specs.declared.command.Operation.TheVariants as w
 use Rattle.bz_words.specs.declared.command.CommentOperation.TheVariants as wc
 use Rattle.bz_words.specs.declared.command.Host.{Host}
 use Rattle.bz_rule.specs.Rules.{rule_of}
-use Rattle.bz_attribute.specs.declared.refusal.Refusal.{Refusal}
+use Rattle.bz_value.specs.declared.refusal.Refusal.{Refusal}
 use Rattle.bz_comment.specs.Hosts.{print_comment}
 use Rattle.bz_print.specs.Prints.{printed_item}
 

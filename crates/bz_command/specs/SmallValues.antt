@@ -15,7 +15,7 @@ use Rattle.bz_value.specs.Comments.{HostComments, no_comments}
 use Rattle.bz_items.specs.Characters.{Bytes}
 use Rattle.bz_words.specs.declared.command.Operation.{Operation}
 use Rattle.bz_words.specs.Commands.{ReadCommand, command_of}
-use Rattle.bz_attribute.specs.declared.refusal.Refusal.{Refusal}
+use Rattle.bz_value.specs.declared.refusal.Refusal.{Refusal}
 use Rattle.bz_attribute.specs.Made.{mark}
 use Rattle.bz_command.specs.Effect.{effect, printed}
 

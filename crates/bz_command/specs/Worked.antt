@@ -10,9 +10,9 @@ use Rattle.bz_label.specs.declared.target.Which.{Which}
 use Rattle.bz_label.specs.declared.target.Which.TheVariants.{All, Kind as OfKind, Line, Package, Name}
 use Rattle.bz_words.specs.declared.command.Operation.TheVariants as w
 use Rattle.bz_words.specs.declared.command.RuleOperation.TheVariants as wr
-use Rattle.bz_attribute.specs.declared.refusal.Refusal.TheVariants.{NoTarget}
+use Rattle.bz_value.specs.declared.refusal.Refusal.TheVariants.{NoTarget}
 use Rattle.bz_rule.specs.Rules.{rule_of}
-use Rattle.bz_attribute.specs.declared.refusal.Refusal.{Refusal}
+use Rattle.bz_value.specs.declared.refusal.Refusal.{Refusal}
 use Rattle.bz_command.specs.SmallValues.{comments_above, argument, block, call, commented_statement, dot_form, effect_on, form, literal, name, token}
 
 -- ---- values

@@ -5,7 +5,7 @@ use Rattle.bz_tree.specs.declared.kind.Kind.TheVariants as k
 use Rattle.bz_label.specs.declared.target.Which.TheVariants.{All, Name}
 use Rattle.bz_value.specs.declared.value.Expr.{Expr}
 use Rattle.bz_value.specs.declared.value.Item.{Item}
-use Rattle.bz_attribute.specs.declared.refusal.Refusal.TheVariants.{AttributeExists, NoAttribute, NoSource, NoTarget}
+use Rattle.bz_value.specs.declared.refusal.Refusal.TheVariants.{AttributeExists, NoAttribute, NoSource, NoTarget}
 use Rattle.bz_attribute.specs.Made.{mark}
 use Rattle.bz_command.specs.SmallValues.{comments_above, argument, between_marks, block, call, commented_token, done, form, gives, leaves, list, literal, made, name, number, refuses, rule, rule_of_kind, statement, string, strings}
 

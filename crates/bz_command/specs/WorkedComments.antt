@@ -6,7 +6,7 @@ use Rattle.bz_label.specs.declared.target.Which.TheVariants.{All, Name}
 use Rattle.bz_value.specs.declared.value.Expr.{Expr}
 use Rattle.bz_value.specs.declared.value.Item.{Item}
 use Rattle.bz_value.specs.Comments.{HostComments, no_comments}
-use Rattle.bz_attribute.specs.declared.refusal.Refusal.TheVariants.{NoAttribute, NotAList, NoTarget}
+use Rattle.bz_value.specs.declared.refusal.Refusal.TheVariants.{NoAttribute, NotAList, NoTarget}
 use Rattle.bz_attribute.specs.Made.{mark}
 use Rattle.bz_command.specs.SmallValues.{comments_above, argument, between_marks, block, call, commented_form, commented_statement, commented_token, done, gives, leaves, list, made, name, shows_text, refuses, rule, rule_of_kind, shown, string}
 

@@ -5,7 +5,7 @@ use Rattle.bz_label.specs.declared.target.Which.TheVariants.{All, Name}
 use Rattle.bz_value.specs.declared.value.Expr.{Expr}
 use Rattle.bz_value.specs.declared.value.Item.{Item}
 use Rattle.bz_items.specs.Characters.{Bytes}
-use Rattle.bz_attribute.specs.declared.refusal.Refusal.TheVariants.{NotADict, NoTarget}
+use Rattle.bz_value.specs.declared.refusal.Refusal.TheVariants.{NotADict, NoTarget}
 use Rattle.bz_attribute.specs.Made.{mark}
 use Rattle.bz_command.specs.SmallValues.{argument, dict, done, entry, form, gives, leaves, list, made, name, number, refuses, rule, rule_of_kind, string}
 

@@ -3,7 +3,7 @@ use Rattle.std.specs.Prelude.{◌≡◌, [], ◌∷◌, codes}
 use Rattle.bz_label.specs.declared.target.Which.TheVariants.{All, Kind, Line, Name, Package}
 use Rattle.bz_value.specs.declared.value.Expr.{Expr}
 use Rattle.bz_value.specs.declared.value.Item.{Item}
-use Rattle.bz_attribute.specs.declared.refusal.Refusal.TheVariants.{NoTarget}
+use Rattle.bz_value.specs.declared.refusal.Refusal.TheVariants.{NoTarget}
 use Rattle.bz_command.specs.SmallValues.{comments_above, argument, block, call, commented_statement, gives, literal, made, name, number, shows_text, refuses, rule, rule_of_kind, shown, statement, string, strings}
 
 -- f(name = "x"), g(name = "y") and package()

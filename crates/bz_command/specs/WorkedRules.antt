@@ -3,7 +3,7 @@ use Rattle.std.specs.Prelude.{◌≡◌, List, [], ◌∷◌, codes}
 use Rattle.bz_label.specs.declared.target.Which.TheVariants.{All, Kind, Name, Package}
 use Rattle.bz_value.specs.declared.value.Expr.{Expr}
 use Rattle.bz_value.specs.declared.value.Item.{Item}
-use Rattle.bz_attribute.specs.declared.refusal.Refusal.TheVariants.{NameTaken, NoTarget}
+use Rattle.bz_value.specs.declared.refusal.Refusal.TheVariants.{NameTaken, NoTarget}
 use Rattle.bz_command.specs.SmallValues.{comments_above, argument, block, call, commented_statement, done, dot_form, gives, made, name, refuses, rule, rule_of_kind, statement, string}
 
 abbrev y_named : List Expr

@@ -4,7 +4,7 @@ use Rattle.std.specs.Prelude.{◌≡◌, List, [], ◌∷◌, codes}
 use Rattle.bz_label.specs.declared.target.Which.TheVariants.{Name}
 use Rattle.bz_value.specs.declared.value.Expr.{Expr}
 use Rattle.bz_words.specs.Patterns.{substituted}
-use Rattle.bz_attribute.specs.declared.refusal.Refusal.TheVariants.{NoTarget}
+use Rattle.bz_value.specs.declared.refusal.Refusal.TheVariants.{NoTarget}
 use Rattle.bz_command.specs.SmallValues.{argument, call, done, leaves, list, literal, made, name, refuses, rule, string, strings}
 
 abbrev pub size : Expr → Expr

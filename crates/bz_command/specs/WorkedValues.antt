@@ -5,7 +5,7 @@ use Rattle.bz_tree.specs.declared.kind.Kind.TheVariants as k
 use Rattle.bz_label.specs.declared.target.Which.TheVariants.{Name, Package}
 use Rattle.bz_value.specs.declared.value.Expr.{Expr}
 use Rattle.bz_items.specs.Characters.{Bytes}
-use Rattle.bz_attribute.specs.declared.refusal.Refusal.TheVariants.{NoAttribute, NotAList, NoTarget}
+use Rattle.bz_value.specs.declared.refusal.Refusal.TheVariants.{NoAttribute, NotAList, NoTarget}
 use Rattle.bz_attribute.specs.Made.{mark}
 use Rattle.bz_command.specs.SmallValues.{comments_above, argument, between_marks, call, commented_token, dict, done, form, leaves, list, literal, made, name, number, refuses, rule, string, strings, sum, token}
 

@@ -5,12 +5,11 @@ ghost use Rattle.bz_rule.specs.Rules.{rule_of};
 ghost use Rattle.bz_command.specs.Printing.{before_rest, item_line, lines_after_item, printed_comments_of, printed_one, printed_rules};
 
 use crate::targets::is_rule;
-use bz_attribute::Refusal;
 use bz_comment::print_comments;
 use bz_items::Text;
 use bz_print::push_rule;
 use bz_rule::call_of;
-use bz_value::{Expr, Item};
+use bz_value::{Expr, Item, Refusal};
 use bz_words::{CommentOperation, Host, Operation};
 use std::alloc::Global;
 

@@ -14,11 +14,11 @@ ghost use Rattle.bz_command.specs.Looks.{one_made};
 use crate::deleting::delete;
 use crate::outcome::{Changed, Spliced};
 use crate::statements::{on_one, source};
-use bz_attribute::{Refusal, rule_made};
+use bz_attribute::rule_made;
 use bz_items::{Items, Memory};
 use bz_load::{WithLoad, fix, new_load};
 use bz_rule::has_name;
-use bz_value::{Expr, Item};
+use bz_value::{Expr, Item, Refusal};
 use bz_words::{
     AttributeOperation, Fixes, LoadOperation, Operation, RuleOperation, RulePlace, Symbol,
 };

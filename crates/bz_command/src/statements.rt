@@ -11,7 +11,7 @@ ghost use Rattle.bz_command.specs.ArgumentChanges.{arguments_of, comments_change
 ghost use Rattle.bz_command.specs.Effect.{on_arguments, on_host_of_item, on_one, on_statement, rule_changed, rule_commented, source, value_in, with_function};
 
 use crate::targets::is_rule;
-use bz_attribute::{Refusal, function_of};
+use bz_attribute::function_of;
 use bz_change::change_attributes;
 use bz_comment::{Change, change_comments, change_own};
 use bz_dict::change_dicts;
@@ -19,7 +19,7 @@ use bz_items::{Items, Memory};
 use bz_list::change_values;
 use bz_rule::{attribute, call_of, has_name};
 use bz_tree::Kind;
-use bz_value::{Expr, Item};
+use bz_value::{Expr, Item, Refusal};
 use bz_words::{CommentOperation, Host, Operation, RuleOperation};
 use std::alloc::Global;
 use std::mem;

@@ -18,7 +18,7 @@ use Rattle.bz_words.specs.declared.command.Host.TheVariants as h
 use Rattle.bz_rule.specs.Rules.{text_in, is_text, value_behind, value_named, attribute}
 use Rattle.bz_rule.specs.Values.{has_kind, parts_of, items_of, with_parts, with_items, on_row, on_items}
 use Rattle.bz_rule.proofs.ProperChanges.{by_case}
-use Rattle.bz_attribute.specs.declared.refusal.Refusal.TheVariants.{NoAttribute}
+use Rattle.bz_value.specs.declared.refusal.Refusal.TheVariants.{NoAttribute}
 use Rattle.bz_attribute.specs.Attributes.{Arguments, is_attribute, has_attribute, on_first_that, with_value}
 use Rattle.bz_attribute.specs.Lists.{has_lists, items_in, is_item, listed}
 use Rattle.bz_attribute.proofs.AttributesAgain.{attribute_changed}

@@ -3,8 +3,8 @@ use Rattle.std.proofs.Common.{◌≡◌, Bool, true, false, not, ◌||◌, List,
 use Rattle.std.specs.Prelude.{Option, Some, None, Ok, Err, Result, is_some, cond, if◌then◌else◌}
 use Rattle.std.specs.List.{find, list_any}
 use Rattle.bz_value.specs.declared.value.Expr.{Expr}
-use Rattle.bz_attribute.specs.declared.refusal.Refusal.{Refusal}
-use Rattle.bz_attribute.specs.declared.refusal.Refusal.TheVariants.{NoAttribute, NotAList}
+use Rattle.bz_value.specs.declared.refusal.Refusal.{Refusal}
+use Rattle.bz_value.specs.declared.refusal.Refusal.TheVariants.{NoAttribute, NotAList}
 use Rattle.bz_attribute.specs.Lists.{has_lists, items_in}
 use Rattle.bz_comment.specs.declared.seeking.Sought.{Sought}
 use Rattle.bz_comment.specs.Changes.{is_sought, item_refused, value_refused}

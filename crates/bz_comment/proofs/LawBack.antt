@@ -16,8 +16,8 @@ use Rattle.bz_words.specs.declared.command.Host.TheVariants as h
 use Rattle.bz_rule.specs.Rules.{attribute, value_named}
 use Rattle.bz_rule.specs.Values.{has_kind, parts_of, items_of, with_parts, with_items, on_row, on_items}
 use Rattle.bz_rule.proofs.ProperChanges.{by_test, by_case}
-use Rattle.bz_attribute.specs.declared.refusal.Refusal.{Refusal}
-use Rattle.bz_attribute.specs.declared.refusal.Refusal.TheVariants.{NoAttribute, NotAList}
+use Rattle.bz_value.specs.declared.refusal.Refusal.{Refusal}
+use Rattle.bz_value.specs.declared.refusal.Refusal.TheVariants.{NoAttribute, NotAList}
 use Rattle.bz_attribute.specs.Attributes.{is_attribute, has_attribute, on_first_that, with_value, Arguments}
 use Rattle.bz_attribute.specs.Lists.{has_lists, items_in, is_item, listed}
 use Rattle.bz_attribute.proofs.ArgumentForms.{any_same, with_value_twice}

@@ -12,7 +12,7 @@ use Rattle.bz_words.specs.declared.command.Host.TheVariants as h
 use Rattle.bz_rule.specs.Rules.{attribute}
 use Rattle.bz_rule.specs.Values.{has_kind, on_row, on_items}
 use Rattle.bz_rule.proofs.ProperChanges.{by_test}
-use Rattle.bz_attribute.specs.declared.refusal.Refusal.TheVariants.{NoAttribute}
+use Rattle.bz_value.specs.declared.refusal.Refusal.TheVariants.{NoAttribute}
 use Rattle.bz_attribute.specs.Attributes.{is_attribute, has_attribute, on_first_that, with_value}
 use Rattle.bz_attribute.specs.Lists.{has_lists, items_in, is_item}
 use Rattle.bz_attribute.proofs.Grown.{itself, both_at_most, Grows, first_that_grows}

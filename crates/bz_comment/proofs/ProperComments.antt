@@ -29,7 +29,7 @@ use Rattle.bz_rule.proofs.ProperChanges.{by_test, Stays, row_stays}
 use Rattle.bz_rule.proofs.ProperForms.{InPlace}
 use Rattle.bz_rule.proofs.ProperItems.{IsValue, value_in_place}
 use Rattle.bz_rule.proofs.ProperSequences.{IsItem, list_in_place}
-use Rattle.bz_attribute.specs.declared.refusal.Refusal.TheVariants.{NoAttribute}
+use Rattle.bz_value.specs.declared.refusal.Refusal.TheVariants.{NoAttribute}
 use Rattle.bz_attribute.specs.Attributes.{is_attribute, has_attribute, on_first_that}
 use Rattle.bz_attribute.specs.Lists.{has_lists, items_in, is_item}
 use Rattle.bz_attribute.proofs.ProperAttributes.{AreArguments, Made, Keeps, with_value_kept, first_that_stays}

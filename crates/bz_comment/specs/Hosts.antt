@@ -13,8 +13,8 @@ use Rattle.bz_words.specs.declared.command.Host.{Host}
 use Rattle.bz_words.specs.declared.command.Host.TheVariants as h
 use Rattle.bz_rule.specs.Rules.{attribute}
 use Rattle.bz_rule.specs.Values.{has_kind, items_of, on_row, on_items, above, with_above}
-use Rattle.bz_attribute.specs.declared.refusal.Refusal.{Refusal}
-use Rattle.bz_attribute.specs.declared.refusal.Refusal.TheVariants.{NoAttribute, NotAList}
+use Rattle.bz_value.specs.declared.refusal.Refusal.{Refusal}
+use Rattle.bz_value.specs.declared.refusal.Refusal.TheVariants.{NoAttribute, NotAList}
 use Rattle.bz_attribute.specs.Attributes.{is_attribute, has_attribute, on_first_that, with_value, Arguments}
 use Rattle.bz_attribute.specs.Lists.{has_lists, items_in, is_item}
 

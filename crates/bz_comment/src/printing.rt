@@ -6,10 +6,10 @@ ghost use Rattle.bz_attribute.specs.Attributes.{is_attribute as is_named};
 ghost use Rattle.bz_comment.specs.Hosts.{without_space as space_off, comment_text as text_of, comment_line, suffix_line, printed_comments, found_comments, print_comment};
 
 use crate::seeking::{Sought, first_sought};
-use bz_attribute::{Refusal, has_lists, is_attribute};
+use bz_attribute::{has_lists, is_attribute};
 use bz_items::{Items, Memory, Text};
 use bz_rule::attribute;
-use bz_value::{Comments, Expr};
+use bz_value::{Comments, Expr, Refusal};
 use bz_words::Host;
 use std::alloc::Global;
 

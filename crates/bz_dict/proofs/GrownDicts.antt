@@ -10,7 +10,7 @@ use Rattle.bz_words.specs.declared.command.Entry.{Entry}
 use Rattle.bz_rule.specs.Rules.{attribute}
 use Rattle.bz_rule.specs.Values.{has_kind, on_items}
 use Rattle.bz_rule.proofs.ProperChanges.{by_test}
-use Rattle.bz_attribute.specs.declared.refusal.Refusal.TheVariants.{NotADict}
+use Rattle.bz_value.specs.declared.refusal.Refusal.TheVariants.{NotADict}
 use Rattle.bz_attribute.specs.Attributes.{with_value, with_new}
 use Rattle.bz_attribute.specs.Made.{argument_of}
 use Rattle.bz_attribute.proofs.AttributesAgain.{of_found}

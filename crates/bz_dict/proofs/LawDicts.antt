@@ -15,7 +15,7 @@ use Rattle.bz_words.specs.Words.{is_nonempty}
 use Rattle.bz_rule.specs.Rules.{attribute, is_text}
 use Rattle.bz_rule.specs.Values.{has_kind, items_of, on_items}
 use Rattle.bz_rule.proofs.ProperChanges.{by_test, by_case}
-use Rattle.bz_attribute.specs.declared.refusal.Refusal.TheVariants.{NotADict}
+use Rattle.bz_value.specs.declared.refusal.Refusal.TheVariants.{NotADict}
 use Rattle.bz_attribute.specs.Attributes.{Arguments, has_attribute, on_first_that, with_value, with_new}
 use Rattle.bz_attribute.specs.Made.{token, mark, string_of}
 use Rattle.bz_dict.specs.Dicts.{key_in, key_of, has_key, has_some_key, entry_made, with_entry, with_entries, with_entry_value, with_entry_set, with_entries_set, without_entries, dict_of, on_dict, cleared_dict, without_keys, dict_remove}

@@ -28,7 +28,7 @@ use Rattle.bz_rule.proofs.ProperForms.{AsForm, InPlace, itself, form_in_place}
 use Rattle.bz_rule.proofs.ProperItems.{IsValue, KeepsRow, row_within, item_within, value_in_place, all_joined, all_kept}
 use Rattle.bz_rule.proofs.ProperSequences.{IsItem, AreOf, items_apart, each_item, items_again, where_true}
 use Rattle.bz_rule.proofs.ProperSequences as sequences
-use Rattle.bz_attribute.specs.declared.refusal.Refusal.TheVariants.{NotADict}
+use Rattle.bz_value.specs.declared.refusal.Refusal.TheVariants.{NotADict}
 use Rattle.bz_attribute.specs.Attributes.{on_first_that, with_value, with_new, without}
 use Rattle.bz_attribute.specs.Made.{token, mark, string_text, string_of}
 use Rattle.bz_attribute.proofs.ProperAttributes.{AreArguments, Made, Keeps, of_attribute, with_value_kept, without_kept, with_new_kept}

@@ -8,7 +8,7 @@ use Rattle.bz_items.specs.Characters.{Bytes}
 use Rattle.bz_value.specs.Empty.{is_empty}
 use Rattle.bz_rule.specs.Rules.{attribute}
 use Rattle.bz_rule.specs.Values.{has_kind, items_of, on_items}
-use Rattle.bz_attribute.specs.declared.refusal.Refusal.TheVariants.{NotADict}
+use Rattle.bz_value.specs.declared.refusal.Refusal.TheVariants.{NotADict}
 use Rattle.bz_attribute.specs.Attributes.{with_value, without, Arguments, by_value}
 use Rattle.bz_dict.specs.Dicts.{has_some_key, without_entries, cleared_dict, without_keys, dict_remove}
 use Rattle.bz_attribute.proofs.FormsAgain.{if_true, if_false}

@@ -12,7 +12,7 @@ use Rattle.bz_words.specs.declared.command.Entry.{Entry}
 use Rattle.bz_words.specs.Quoted.{quoted_of}
 use Rattle.bz_rule.specs.Rules.{attribute, is_text}
 use Rattle.bz_rule.specs.Values.{has_kind, parts_of, items_of, on_row, on_items, on_third}
-use Rattle.bz_attribute.specs.declared.refusal.Refusal.TheVariants.{NotADict}
+use Rattle.bz_value.specs.declared.refusal.Refusal.TheVariants.{NotADict}
 use Rattle.bz_attribute.specs.Made.{token, node, mark, sequence, string_of}
 use Rattle.bz_attribute.specs.Attributes.{on_first_that, with_value, with_new, without, Arguments, by_value}
 use Rattle.bz_attribute.specs.Lists.{body_of}

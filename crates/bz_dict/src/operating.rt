@@ -5,9 +5,9 @@ ghost use Rattle.bz_dict.specs.Dicts.{dicts_changed};
 use crate::changing::change_dict;
 use crate::entries::Change;
 use crate::removing::dict_remove;
-use bz_attribute::{Refusal, Slot};
+use bz_attribute::Slot;
 use bz_items::Items;
-use bz_value::Expr;
+use bz_value::{Expr, Refusal};
 use bz_words::DictOperation;
 use std::alloc::Global;
 

@@ -10,11 +10,11 @@ ghost use Rattle.bz_dict.specs.Dicts as d;
 ghost use Rattle.bz_dict.specs.Keys.{is_chosen as has_chosen};
 
 use crate::keys::{chosen_of, is_chosen};
-use bz_attribute::{Refusal, has_kind, items_of, remove_first, set_value, take_value};
+use bz_attribute::{has_kind, items_of, remove_first, set_value, take_value};
 use bz_items::{Items, Text};
 use bz_rule::attribute;
 use bz_tree::Kind;
-use bz_value::Expr;
+use bz_value::{Expr, Refusal};
 use std::alloc::Global;
 use std::collections::BTreeSet;
 use std::mem;

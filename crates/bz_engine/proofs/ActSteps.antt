@@ -4,8 +4,8 @@ use Rattle.std.specs.Prelude.{map, slice_get, IsSome}
 use Rattle.std.specs.Option.{option_map_or}
 use Rattle.std.proofs.lemmas.List.{append-nil}
 use Rattle.bz_items.specs.Characters.{Bytes}
-use Rattle.bz_attribute.specs.declared.refusal.Refusal.{Refusal}
-use Rattle.bz_attribute.specs.declared.refusal.Refusal.TheVariants.{Memory}
+use Rattle.bz_value.specs.declared.refusal.Refusal.{Refusal}
+use Rattle.bz_value.specs.declared.refusal.Refusal.TheVariants.{Memory}
 use Rattle.bz_workspace.specs.Sessions.{Action, Reply, History, Acts, Leads}
 use Rattle.bz_ports.specs.Faults.{AppendsUnlessFailed}
 use Rattle.bz_ports.specs.Outputs.{Tells}

@@ -4,7 +4,7 @@ use Rattle.std.specs.Prelude.{IfSome, if◌then◌else◌, ◌==◌, slice_index
 use Rattle.std.specs.FinMap.{get}
 use Rattle.std.specs.Option.{option_map}
 use Rattle.std.proofs.lemmas.Slice.Eq.{bytes_eq-Decides}
-use Rattle.bz_attribute.specs.declared.refusal.Refusal.TheVariants.{TooFar, Full, NoteTooLong}
+use Rattle.bz_value.specs.declared.refusal.Refusal.TheVariants.{TooFar, Full, NoteTooLong}
 use Rattle.bz_items.specs.Characters.{Bytes}
 use Rattle.bz_files.specs.Folder.{Folder}
 use Rattle.bz_journal.specs.History.{Makes, after_meaning, changed, most_steps, moved, unchanged}

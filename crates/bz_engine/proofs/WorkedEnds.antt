@@ -6,7 +6,7 @@ use Rattle.std.proofs.lemmas.Str.{IsUtf8-from_is_utf8}
 use Rattle.std.specs.FinMap.{get}
 use Rattle.std.specs.Fmt.{digits}
 use Rattle.clap.proofs.OnLiterals.{clap_on_literals}
-use Rattle.bz_attribute.specs.declared.refusal.Refusal.TheVariants.{TooFar}
+use Rattle.bz_value.specs.declared.refusal.Refusal.TheVariants.{TooFar}
 use Rattle.bz_files.specs.Folder.{Folder, with_file}
 use Rattle.bz_workspace.specs.Sessions.{History, Answer, changed, undone, opened, note_limit, gives, Changed, Moved}
 use Rattle.bz_label.specs.declared.target.Target.{Target}

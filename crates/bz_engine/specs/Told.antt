@@ -1,8 +1,8 @@
 -- The lines of buildozer on standard error that speak of commands, operands and usage.
 use Rattle.std.specs.Prelude.{◌≡◌, ℕ, ◌++◌, codes, decimal}
 use Rattle.bz_items.specs.Characters.{Bytes}
-use Rattle.bz_attribute.specs.Refusals.{refusal_name, refusal_number}
-use Rattle.bz_attribute.specs.declared.refusal.Refusal.{Refusal}
+use Rattle.bz_value.specs.Refusals.{refusal_name, refusal_number}
+use Rattle.bz_value.specs.declared.refusal.Refusal.{Refusal}
 use Rattle.bz_line.specs.Asked.{Refused, Usage, of_operand, no_command, no_target, no_line, nul}
 use Rattle.bz_line.specs.Hints.{hint_for}
 use Rattle.bz_line.specs.Line.{LineUsage, of_clap, beside_script, beside_stdout}

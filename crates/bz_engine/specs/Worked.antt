@@ -1,6 +1,6 @@
 -- Worked rows: how refusals and faults are told.
 use Rattle.std.specs.Prelude.{◌≡◌, codes}
-use Rattle.bz_attribute.specs.declared.refusal.Refusal.TheVariants.{TooFar}
+use Rattle.bz_value.specs.declared.refusal.Refusal.TheVariants.{TooFar}
 use Rattle.bz_lex.specs.declared.fault.ReadFault.TheVariants.{NotUtf8, Unexpected}
 use Rattle.bz_line.specs.declared.verb.OperandFault.TheVariants.{BadTarget}
 use Rattle.bz_ports.specs.Told.{stdin, fault_line}

@@ -1,7 +1,7 @@
 -- Worked rows: what each part of a run of buildozer gives. Above a row stands what is typed (in a shell), or what was done.
 use Rattle.std.specs.Prelude.{◌≡◌, ℕ, Bool, true, false, List, [], ◌∷◌, map, codes, Some, None, Result, Ok, Err}
 use Rattle.std.specs.FinMap.{get}
-use Rattle.bz_attribute.specs.declared.refusal.Refusal.TheVariants.{NotAList, TooFar}
+use Rattle.bz_value.specs.declared.refusal.Refusal.TheVariants.{NotAList, TooFar}
 use Rattle.bz_files.specs.Folder.{Folder}
 use Rattle.bz_workspace.specs.Sessions.{changed, undone, redone, Changed, Same, Printed, Moved}
 use Rattle.bz_line.specs.Asked.{Asked, Usage, operand_group}

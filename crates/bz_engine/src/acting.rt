@@ -17,13 +17,13 @@ use crate::opening::open_package;
 use crate::run::Run;
 use crate::step::{action_of, package_of};
 use crate::told::tell_refusal;
-use bz_attribute::Refusal;
 use bz_files::Files;
 use bz_items::{Text, at};
 use bz_keep::PairFault;
 use bz_label::Target;
 use bz_line::Asking;
 use bz_ports::{Cut, Sink, Source, first_cut, tell_named};
+use bz_value::Refusal;
 use bz_workspace::{Action, KeepFault, Reply, Used, Workspace};
 use std::alloc::{AllocError, Global};
 

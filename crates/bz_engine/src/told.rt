@@ -5,9 +5,9 @@ ghost use Rattle.bz_line.specs.Shown.{refused_in, usage_in, line_usage_in, hint_
 ghost use Rattle.bz_engine.specs.Calls.{TellsLine};
 ghost use Rattle.bz_engine.specs.Told.{numbered, refusal_line, operand_line, fixed_line, input_line, no_journal_line, nul_line, IsUsageLine, IsLineUsageLine};
 
-use bz_attribute::Refusal;
 use bz_line::{Hint, LineFault, Refused, UsageFault, hint_for};
 use bz_ports::{Sink, tell, tell_clap, tell_named};
+use bz_value::Refusal;
 use itoa::Buffer;
 use std::alloc::{AllocError, Global};
 

@@ -18,7 +18,7 @@ use Rattle.bz_tidy.specs.Passes.{tidied}
 use Rattle.bz_tidy.specs.Programs.{KeepsProgram, KeptProgramsKeepTokens, TidyingKeepsProgram}
 use Rattle.bz_tidy.specs.Syntax.{token_times}
 use Rattle.bz_write.specs.Written.{layout}
-use Rattle.bz_attribute.specs.declared.refusal.Refusal.TheVariants.{TooLarge, TooDeep}
+use Rattle.bz_value.specs.declared.refusal.Refusal.TheVariants.{TooLarge, TooDeep}
 use Rattle.bz_formatter.specs.Meaning.{Meaning, gives, refuses, written}
 use Rattle.bz_formatter.specs.Fixed.{FixedPoint}
 use Rattle.bz_formatter.specs.TreePrograms.{ViewsKeepPrograms}

@@ -10,7 +10,7 @@ use Rattle.bz_items.specs.Characters.{Bytes}
 use Rattle.bz_write.specs.Written.{layout}
 use Rattle.bz_write.specs.Drawn.{drawn}
 use Rattle.bz_tidy.specs.Passes.{tidied}
-use Rattle.bz_attribute.specs.declared.refusal.Refusal.TheVariants.{TooLarge, TooDeep}
+use Rattle.bz_value.specs.declared.refusal.Refusal.TheVariants.{TooLarge, TooDeep}
 use Rattle.bz_formatter.specs.Meaning.{Meaning, gives, refuses, written}
 
 abbrev limited : ℕ → Bytes → Option Bytes → Meaning

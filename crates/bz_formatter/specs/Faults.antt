@@ -3,7 +3,7 @@ use Rattle.std.specs.Prelude.{Result, Ok, Err, None}
 use Rattle.bz_tree.specs.Faults.{IsFaultOf}
 use Rattle.bz_tree.specs.Legal.{Accepted}
 use Rattle.bz_items.specs.Characters.{Bytes}
-use Rattle.bz_attribute.specs.declared.refusal.Refusal.TheVariants as r
+use Rattle.bz_value.specs.declared.refusal.Refusal.TheVariants as r
 use Rattle.bz_formatter.specs.Meaning.{gives, refuses, Formats}
 use Rattle.bz_formatter.specs.declared.formatter.FormatFault.{FormatFault}
 use Rattle.bz_formatter.specs.declared.formatter.FormatFault.TheVariants.{Unread, TooLarge, TooDeep, Memory}

@@ -8,7 +8,7 @@ use Rattle.bz_items.specs.Characters.{Bytes}
 use Rattle.bz_value.specs.Counted.{times}
 use Rattle.bz_value.specs.Proper.{IsProper}
 use Rattle.bz_view.specs.View.{view_of}
-use Rattle.bz_attribute.specs.declared.refusal.Refusal.TheVariants.{TooLarge}
+use Rattle.bz_value.specs.declared.refusal.Refusal.TheVariants.{TooLarge}
 use Rattle.bz_formatter.specs.Meaning.{refuses, written}
 
 -- A proper value in which a comment stands so often that its copies alone are past the limit isn't written.

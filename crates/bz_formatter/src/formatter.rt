@@ -5,10 +5,10 @@ ghost use Rattle.bz_formatter.specs.Fixed.{IsFormatted};
 
 use crate::laws::formatted_once;
 use crate::writing::{value_of, written_text};
-use bz_attribute::Refusal;
 use bz_items::Text;
 use bz_parse::parse;
 use bz_tree::ReadFault;
+use bz_value::Refusal;
 use std::alloc::Global;
 use thiserror::Error;
 

@@ -7,12 +7,11 @@ ghost use Rattle.bz_view.specs.View.{view_of};
 ghost use Rattle.bz_tidy.specs.Passes.{tidied};
 ghost use Rattle.bz_formatter.specs.Meaning.{gives, refuses, written, Formats};
 
-use bz_attribute::Refusal;
 use bz_items::{Memory, Text};
 use bz_rule::take_apart;
 use bz_tidy::tidy;
 use bz_tree::Tree;
-use bz_value::File;
+use bz_value::{File, Refusal};
 use bz_view::{into_view, view};
 use bz_write::{SetFault, set, set_from, text_of_file};
 use std::alloc::Global;

@@ -5,7 +5,7 @@ use Rattle.std.proofs.lemmas.Slice.Eq.{bytes_eq-Decides}
 use Rattle.std.proofs.Math.Seq.{get_or-append_seam}
 use Rattle.bz_items.specs.Characters.{Bytes}
 use Rattle.bz_view.specs.View.{view_of}
-use Rattle.bz_attribute.specs.declared.refusal.Refusal.TheVariants.{Full}
+use Rattle.bz_value.specs.declared.refusal.Refusal.TheVariants.{Full}
 use Rattle.bz_journal.specs.Actions.{Format}
 use Rattle.bz_journal.specs.declared.action.Reply.{Reply}
 use Rattle.bz_journal.specs.declared.action.Reply.TheVariants.{Changed}

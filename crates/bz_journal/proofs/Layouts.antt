@@ -20,8 +20,8 @@ use Rattle.bz_words.specs.declared.command.Operation.{Operation}
 use Rattle.bz_words.specs.Proper.{IsProperCommand}
 use Rattle.bz_command.specs.Effect.{effect, printed}
 use Rattle.bz_command.specs.Laws.{EffectsStayProper}
-use Rattle.bz_attribute.specs.declared.refusal.Refusal.{Refusal}
-use Rattle.bz_attribute.specs.declared.refusal.Refusal.TheVariants.{Full, NoteTooLong}
+use Rattle.bz_value.specs.declared.refusal.Refusal.{Refusal}
+use Rattle.bz_value.specs.declared.refusal.Refusal.TheVariants.{Full, NoteTooLong}
 use Rattle.bz_redraw.specs.Redrawn.{IsWritten}
 use Rattle.bz_journal.specs.Actions.{Action}
 use Rattle.bz_journal.specs.Actions.{Do, Format, Undo, Redo}

@@ -13,8 +13,8 @@ use Rattle.bz_words.specs.declared.command.Operation.{Operation}
 use Rattle.bz_command.specs.Effect.{effect, printed}
 use Rattle.bz_command.specs.Overfull.{Overfills}
 use Rattle.bz_formatter.specs.Filled.{CommentsFill, CommentsFit}
-use Rattle.bz_attribute.specs.declared.refusal.Refusal.{Refusal}
-use Rattle.bz_attribute.specs.declared.refusal.Refusal.TheVariants.{Memory, TooLarge}
+use Rattle.bz_value.specs.declared.refusal.Refusal.{Refusal}
+use Rattle.bz_value.specs.declared.refusal.Refusal.TheVariants.{Memory, TooLarge}
 use Rattle.bz_journal.specs.Actions.{Do}
 use Rattle.bz_journal.specs.History.{History, present, MakesOrWants}
 use Rattle.bz_journal.specs.Meaning.{refuses, told, Means, EffectMeans, OverfullIsRefused}

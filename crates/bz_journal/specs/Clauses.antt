@@ -1,5 +1,5 @@
 -- What the clauses of this crate speak of, from its own definitions and from those of the crates below.
-pub use Rattle.bz_attribute.specs.declared.refusal.Refusal.{Refusal}
+pub use Rattle.bz_value.specs.declared.refusal.Refusal.{Refusal}
 pub use Rattle.bz_command.specs.Effect.{effect, printed}
 pub use Rattle.bz_command.specs.Overfull.{Overfills}
 pub use Rattle.bz_edit.specs.declared.edit.Edit.{Edit}

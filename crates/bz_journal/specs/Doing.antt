@@ -1,6 +1,6 @@
 -- What is done to a session: what is answered, and the session after it.
 use Rattle.std.specs.Prelude.{◌≡◌, ◌⊎◌, Err, OnErr}
-use Rattle.bz_attribute.specs.declared.refusal.Refusal.TheVariants.{Memory}
+use Rattle.bz_value.specs.declared.refusal.Refusal.TheVariants.{Memory}
 use Rattle.bz_items.specs.Characters.{Bytes}
 use Rattle.bz_trail.specs.Trails.{IsSmall}
 use Rattle.bz_journal.specs.Actions.{Action}

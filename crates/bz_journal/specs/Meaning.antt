@@ -8,8 +8,8 @@ use Rattle.bz_value.specs.declared.value.Item.{Item}
 use Rattle.bz_items.specs.Characters.{Bytes}
 use Rattle.bz_view.specs.View.{view_of}
 use Rattle.bz_words.specs.declared.command.Operation.{Operation}
-use Rattle.bz_attribute.specs.declared.refusal.Refusal.{Refusal}
-use Rattle.bz_attribute.specs.declared.refusal.Refusal.TheVariants.{TooLarge}
+use Rattle.bz_value.specs.declared.refusal.Refusal.{Refusal}
+use Rattle.bz_value.specs.declared.refusal.Refusal.TheVariants.{TooLarge}
 use Rattle.bz_words.specs.Printing.{prints}
 use Rattle.bz_command.specs.Effect.{effect, printed}
 use Rattle.bz_command.specs.Overfull.{Overfills}

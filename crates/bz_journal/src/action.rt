@@ -1,9 +1,9 @@
 //! What a session is asked to do, and what it answers.
 ghost use Rattle.std.specs.Prelude.{◌≡◌, Ok, true};
 
-use bz_attribute::Refusal;
 use bz_items::Text;
 use bz_label::Target;
+use bz_value::Refusal;
 use bz_words::Command;
 
 /// What a session is asked to do. It borrows its command and target, so that one command serves all targets with no copy.

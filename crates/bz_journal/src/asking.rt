@@ -8,14 +8,13 @@ use crate::action::Reply;
 use crate::beside::Beside;
 use crate::course::{Course, unchanged};
 use crate::meaning::{lines_for, told, value_of};
-use bz_attribute::Refusal;
 use bz_command::{Outcome, looks_at_lines, run, run_named};
 use bz_formatter::reads_back;
 use bz_items::{Items, Memory};
 use bz_label::{Target, Which};
 use bz_names::Names;
 use bz_tree::Tree;
-use bz_value::File;
+use bz_value::{File, Refusal};
 use bz_words::Command;
 use std::alloc::Global;
 

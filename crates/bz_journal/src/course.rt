@@ -7,7 +7,6 @@ ghost use Rattle.bz_journal.specs.Actions as a;
 use crate::action::{Action, Reply};
 use crate::digests::put_after;
 use crate::lines::{Lines, stand_in, take_up_lines};
-use bz_attribute::Refusal;
 use bz_edit::Step;
 use bz_formatter::{formatted, formatted_once, reads_back};
 use bz_items::{Memory, Text};
@@ -16,6 +15,7 @@ use bz_trail::laws::{starts_small, texts_kept};
 use bz_trail::{go_back, go_forward, take_up};
 use bz_tree::laws::{one_reading, one_tree};
 use bz_tree::{ReadFault, Tree};
+use bz_value::Refusal;
 use std::alloc::Global;
 use std::marker::Model;
 

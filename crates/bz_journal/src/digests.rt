@@ -6,12 +6,12 @@ ghost use Rattle.bz_journal.specs.Clauses.{Acts, AreFirstDigests, Bytes, History
 use crate::action::{Reply, is_changed};
 use crate::course::Course;
 use crate::digest::digest_of;
-use bz_attribute::Refusal;
 use bz_edit::Step;
 use bz_items::{Items, Memory};
 use bz_trail::laws::texts_kept;
 use bz_trail::{go_back, go_forward};
 use bz_tree::Tree;
+use bz_value::Refusal;
 use sha2::{Digest, Sha256};
 use std::alloc::Global;
 

@@ -11,10 +11,10 @@ use crate::course::{Course, begin};
 use crate::digests::{cut_off, known};
 use crate::keeping::{KeepFault, learned_text, persist};
 use crate::session::Session;
-use bz_attribute::Refusal;
 use bz_files::Files;
 use bz_items::{Memory, Text};
 use bz_tree::ReadFault;
+use bz_value::Refusal;
 use std::alloc::Global;
 use std::marker::Model;
 

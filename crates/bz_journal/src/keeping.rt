@@ -6,10 +6,10 @@ ghost use Rattle.bz_journal.specs.Actions as a;
 use crate::action::Reply;
 use crate::course::Course;
 use crate::digests::{known, learn};
-use bz_attribute::Refusal;
 use bz_files::Files;
 use bz_items::Memory;
 use bz_keep::{PairFault, keep};
+use bz_value::Refusal;
 
 /// Why an action was not kept.
 #[derive(Clone, Copy, Debug)]

@@ -4,14 +4,13 @@ ghost use Rattle.bz_journal.specs.Clauses.{AreExchanged, Bytes, IsSpliced, Item,
 ghost use Rattle.std.specs.Option.{unwrap_or};
 
 use crate::laws::overfull_is_refused;
-use bz_attribute::Refusal;
 use bz_command::{Ran, lines_matter, looks_at_lines, overfills, run_in};
 use bz_formatter::{reads_back, written};
 use bz_items::{Memory, Text};
 use bz_label::Target;
 use bz_rule::take_apart;
 use bz_tree::Tree;
-use bz_value::File;
+use bz_value::{File, Refusal};
 use bz_view::view;
 use bz_words::Command;
 use std::alloc::Global;

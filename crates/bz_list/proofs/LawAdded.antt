@@ -24,7 +24,7 @@ use Rattle.bz_attribute.proofs.PlainWords.{IsPlain}
 use Rattle.bz_list.specs.Laws.{are_there, AddedIsThere}
 use Rattle.bz_attribute.specs.Lists.{lists_of, has_lists, items_in, is_no_list, with_more, is_item}
 use Rattle.bz_attribute.specs.Made.{mark, node, list_of, binds_looser, operand, plus}
-use Rattle.bz_attribute.specs.declared.refusal.Refusal.TheVariants.{NotAList}
+use Rattle.bz_value.specs.declared.refusal.Refusal.TheVariants.{NotAList}
 use Rattle.bz_list.proofs.LawAdding.{grown, strings_for}
 use Rattle.bz_list.proofs.LawItems.{list_items, items_list, each_plain, added_words}
 

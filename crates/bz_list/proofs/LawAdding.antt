@@ -17,7 +17,7 @@ use Rattle.bz_list.specs.Changes.{with_items_added}
 use Rattle.bz_list.specs.Laws.{AddedAgain}
 use Rattle.bz_attribute.specs.Lists.{has_lists, items_in, is_no_list, with_more, are_one, is_item, fresh}
 use Rattle.bz_attribute.specs.Made.{string_of, list_of, plus}
-use Rattle.bz_attribute.specs.declared.refusal.Refusal.TheVariants.{NotAList}
+use Rattle.bz_value.specs.declared.refusal.Refusal.TheVariants.{NotAList}
 
 -- what further items make of an attribute that is there
 abbrev pub grown : Bytes → (List Expr → List Expr) → List Expr → Expr → Arguments

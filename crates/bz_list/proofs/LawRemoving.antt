@@ -18,7 +18,7 @@ use Rattle.bz_list.specs.Changes.{cleared, without_items, remove_values}
 use Rattle.bz_list.specs.Laws.{RemovedAgain}
 use Rattle.bz_attribute.specs.Lists.{items_in, is_no_list, is_empty_list, is_item, is_some_item, fresh}
 use Rattle.bz_attribute.specs.Made.{string_of, list_of}
-use Rattle.bz_attribute.specs.declared.refusal.Refusal.TheVariants.{NotAList}
+use Rattle.bz_value.specs.declared.refusal.Refusal.TheVariants.{NotAList}
 use Rattle.bz_list.proofs.LawAdding.{added_absent, strings_for}
 use Rattle.bz_list.proofs.LawItems.{list_items, items_list, each_plain, fresh_all}
 use Rattle.bz_list.proofs.LawWords.{word_is_item}

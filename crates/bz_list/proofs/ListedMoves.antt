@@ -9,7 +9,7 @@ use Rattle.bz_rule.specs.Rules.{attribute}
 use Rattle.bz_rule.specs.Values.{on_lists}
 use Rattle.bz_value.specs.Empty.{is_empty}
 use Rattle.bz_list.specs.declared.adding.Added.TheVariants as a
-use Rattle.bz_attribute.specs.declared.refusal.Refusal.TheVariants.{NoAttribute, NotAList}
+use Rattle.bz_value.specs.declared.refusal.Refusal.TheVariants.{NoAttribute, NotAList}
 use Rattle.bz_attribute.specs.Lists.{has_lists, items_in}
 use Rattle.bz_attribute.specs.Attributes.{Arguments, by_value}
 use Rattle.bz_list.specs.Changes.{cleared, without_items, is_moved, items_moved, with_items_added, move}

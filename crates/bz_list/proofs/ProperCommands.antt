@@ -17,7 +17,7 @@ use Rattle.bz_attribute.specs.Made.{list_of, string_of, plus}
 use Rattle.bz_attribute.specs.Attributes.{is_attribute, is_other_attribute, on_value, with_value, with_new, without}
 use Rattle.bz_attribute.specs.Lists.{has_lists, items_in, is_no_list, is_empty_list, with_more, is_some_item, fresh, arriving}
 use Rattle.bz_list.specs.Changes.{with_items_added, add, cleared, without_items, remove_values, in_value, in_attributes, replaced_item, replace, substituted_item, substitute, is_moved, items_moved, move}
-use Rattle.bz_attribute.specs.declared.refusal.Refusal.TheVariants.{NoAttribute, NotAList}
+use Rattle.bz_value.specs.declared.refusal.Refusal.TheVariants.{NoAttribute, NotAList}
 use Rattle.bz_attribute.proofs.ProperAttributes.{AreArguments, Made, Keeps, of_attribute, first_that_kept, value_stays, with_value_kept, without_kept, with_new_kept}
 use Rattle.bz_list.proofs.ProperLists.{value_items, more_value, fewer_value, changed_value, KeepsText, replaced_item_stays, substituted_item_stays, fresh_utf8, arriving_items}
 use Rattle.bz_attribute.proofs.ProperMade.{list_value, plus_value, words_are_items}

@@ -8,8 +8,8 @@ use Rattle.bz_items.specs.Characters.{Bytes}
 use Rattle.bz_words.specs.Quoted.{quoted_of}
 use Rattle.bz_list.specs.declared.adding.Added.{Added}
 use Rattle.bz_list.specs.declared.adding.Added.TheVariants as a
-use Rattle.bz_attribute.specs.declared.refusal.Refusal.{Refusal}
-use Rattle.bz_attribute.specs.declared.refusal.Refusal.TheVariants.{NotAList}
+use Rattle.bz_value.specs.declared.refusal.Refusal.{Refusal}
+use Rattle.bz_value.specs.declared.refusal.Refusal.TheVariants.{NotAList}
 use Rattle.bz_attribute.specs.Lists.{body_of, fresh, arriving, has_lists, items_in, is_no_list, with_more}
 use Rattle.bz_attribute.specs.Made.{list_of, plus, string_of}
 use Rattle.bz_list.specs.KnownValues.{Membership, new_words, new_items}

@@ -13,7 +13,7 @@ use Rattle.bz_words.specs.declared.command.Values.{Values}
 use Rattle.bz_words.specs.declared.command.Values.TheVariants as v
 use Rattle.bz_rule.specs.Rules.{attribute}
 use Rattle.bz_rule.specs.Values.{parts_of, with_text, first_text, on_lists}
-use Rattle.bz_attribute.specs.declared.refusal.Refusal.TheVariants.{NoAttribute, NotAList}
+use Rattle.bz_value.specs.declared.refusal.Refusal.TheVariants.{NoAttribute, NotAList}
 use Rattle.bz_attribute.specs.Made.{string_text, string_of, list_of, plus}
 use Rattle.bz_attribute.specs.Attributes.{is_attribute, is_other_attribute, on_first_that, on_value, with_value, with_new, without, Arguments, by_value}
 use Rattle.bz_attribute.specs.Lists.{has_lists, items_in, is_no_list, is_empty_list, with_more, body_of, is_item, is_some_item, fresh, arriving}

@@ -15,13 +15,13 @@ ghost use Rattle.bz_list.specs.Adding.{added_by, added_to, shorter, with_added};
 
 use crate::known::Known;
 use bz_attribute::{
-    Refusal, Slot, add_attribute, append, append_to, body_of, has_kind, has_lists, is_item,
-    is_no_list, items_of, list_of, operands_of, plus, set_text, set_value, string_of, take_value,
+    Slot, add_attribute, append, append_to, body_of, has_kind, has_lists, is_item, is_no_list,
+    items_of, list_of, operands_of, plus, set_text, set_value, string_of, take_value,
 };
 use bz_items::{Items, Memory, Text};
 use bz_label::bytes::{is_label_attribute, shortened};
 use bz_tree::Kind;
-use bz_value::Expr;
+use bz_value::{Expr, Refusal};
 use bz_words::quoted;
 
 /// What is added to an attribute.

@@ -5,9 +5,9 @@ ghost use Rattle.bz_list.specs.Changes.{values_changed};
 use crate::adding::{Added, add_items};
 use crate::listed::{move_values, remove_values};
 use crate::replacing::Change;
-use bz_attribute::{Refusal, Slot};
+use bz_attribute::Slot;
 use bz_items::Items;
-use bz_value::Expr;
+use bz_value::{Expr, Refusal};
 use bz_words::ValueOperation;
 use std::alloc::Global;
 

@@ -13,12 +13,12 @@ ghost use Rattle.bz_list.specs.Listing.{chooses, is_left, put_back, without_chos
 use crate::adding::{Added, add_items};
 use crate::known::Chosen;
 use bz_attribute::{
-    Refusal, Slot, has_lists, is_empty_list, is_no_list, remove_first, set_value, take_value,
+    Slot, has_lists, is_empty_list, is_no_list, remove_first, set_value, take_value,
 };
 use bz_items::{Items, Memory, Text};
 use bz_rule::attribute;
 use bz_tree::Kind;
-use bz_value::Expr;
+use bz_value::{Expr, Refusal};
 use bz_words::Values;
 use std::mem;
 

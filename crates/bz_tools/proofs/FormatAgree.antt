@@ -13,7 +13,7 @@ use Rattle.bz_view.specs.View.{view_of}
 use Rattle.bz_formatter.specs.Meaning.{Meaning, gives, refuses, written, Formats}
 use Rattle.bz_formatter.specs.declared.formatter.FormatFault.{FormatFault}
 use Rattle.bz_formatter.specs.declared.formatter.FormatFault.TheVariants as f
-use Rattle.bz_attribute.specs.declared.refusal.Refusal.TheVariants as r
+use Rattle.bz_value.specs.declared.refusal.Refusal.TheVariants as r
 use Rattle.bz_format.specs.Formatted.{bzl_formatted, formatted_tree}
 use Rattle.bz_tree.specs.Legal.{ReadsBzl}
 use Rattle.bz_ports.specs.Exits.{first_cut}

@@ -8,5 +8,6 @@ pub mod Gaps
 pub mod Indented
 pub mod LineShapes
 pub mod Proper
+pub mod Refusals
 pub mod Roots
 pub mod Worked

@@ -6,6 +6,7 @@ mod copy;
 mod frame;
 mod gap;
 mod laws;
+mod refusal;
 mod same;
 mod texts;
 mod value;
@@ -17,4 +18,5 @@ pub use gap::{
     push_others, suffix_in,
 };
 pub use laws::worked_gaps;
+pub use refusal::Refusal;
 pub use value::{Expr, File, Form, Item, Seq, Token};

@@ -2,7 +2,7 @@
 use Rattle.std.proofs.Common.{◌≡◌, ◌≢◌, ◌⊎◌, ◌∙◌, ◌+◌, ◌-◌, arith, ℕ, Bool, true, false, true≢false, eq-eqb, refl, sym, ap, subst, inl, inr, Option, Result, Ok, Err, nat_lt, if◌then◌else◌}
 use Rattle.std.specs.Prelude.{◌==◌, bytes_eq, length}
 use Rattle.bz_items.specs.Characters.{Bytes}
-use Rattle.bz_attribute.specs.declared.refusal.Refusal.TheVariants.{TooFar, Full, NoteTooLong}
+use Rattle.bz_value.specs.declared.refusal.Refusal.TheVariants.{TooFar, Full, NoteTooLong}
 use Rattle.bz_files.specs.declared.files.Files.{Ghosts as FilesOf}
 use Rattle.bz_keep.specs.Resuming.{Resumes}
 use Rattle.bz_journal.specs.Actions.{Action}

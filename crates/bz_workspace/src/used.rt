@@ -11,10 +11,10 @@ ghost use Rattle.bz_workspace.specs.Opens.{ActsAt};
 ghost use Rattle.bz_workspace.specs.Packages.{file_at, opened_with, with_opened};
 ghost use Rattle.bz_workspace.specs.Shown.{opened_in, used_in};
 
-use bz_attribute::Refusal;
 use bz_files::Files;
 use bz_items::Text;
 use bz_journal::{Action, Editor, KeepFault, Reply};
+use bz_value::Refusal;
 
 /// A file that is open.
 #[derive(Drop)]

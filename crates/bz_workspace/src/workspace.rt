@@ -21,12 +21,12 @@ use crate::opening::{
 };
 use crate::used::{act_at, keep_at, place_of_open, put_file};
 use crate::{Opened, Opening, Used};
-use bz_attribute::Refusal;
 use bz_files::{FileFault, Files};
 use bz_items::{Memory, Text, at};
 use bz_journal::{Action, KeepFault, Reply};
 use bz_keep::journal_name;
 use bz_ports::{Cut, MOST, Sink, tell_fault, tell_named};
+use bz_value::Refusal;
 use indexmap::IndexSet;
 use std::alloc::Global;
 use std::marker::Model;

@@ -62,7 +62,7 @@ fn kept_line(
     session: &mut Session,
     line: &str,
     files: &mut MemoryFiles,
-) -> Result<Result<Reply, bz_attribute::Refusal>, CaseFault> {
+) -> Result<Result<Reply, bz_value::Refusal>, CaseFault> {
     let request = request_of(alloc, line)?;
     kept(session, &request.action(), line, files)
 }
@@ -81,7 +81,7 @@ fn kept(
     action: &Action<'_>,
     note: &str,
     files: &mut MemoryFiles,
-) -> Result<Result<Reply, bz_attribute::Refusal>, CaseFault> {
+) -> Result<Result<Reply, bz_value::Refusal>, CaseFault> {
     match session.keep_noted(action, note, FILE, files) {
         Ok(reply) => Ok(Ok(reply)),
         Err(KeepFault::Refused(refusal)) => Ok(Err(refusal)),

@@ -2,11 +2,11 @@
 ghost use Rattle.std.specs.Prelude.{◌≤◌, length};
 
 use crate::trees::{apart, told};
-use bz_attribute::Refusal;
 use bz_items::Memory;
 use bz_journal::{Action, Reply, Session};
 use bz_label::{Target, TargetFault};
 use bz_tree::ReadFault;
+use bz_value::Refusal;
 use bz_words::{Command, CommandFault};
 use sheets::{Case, CaseFault, Page};
 use std::alloc::Global;

@@ -1,7 +1,7 @@
 use Rattle.std.proofs.Common.{◌≡◌, ◌⊎◌, true, [], sym, subst, rules}
 use Rattle.std.specs.Prelude.{Some, Ok, Err, OnOk, IfErr}
 use Rattle.bz_rule.specs.Rules.{attribute}
-use Rattle.bz_attribute.specs.declared.refusal.Refusal.TheVariants.{Memory}
+use Rattle.bz_value.specs.declared.refusal.Refusal.TheVariants.{Memory}
 use Rattle.bz_attribute.specs.Attributes.{Arguments}
 use Rattle.bz_attribute.specs.Lists.{has_lists}
 use Rattle.bz_list.proofs.ListedMoves.{nothing_moved, something_moved}

@@ -1,5 +1,5 @@
 use Rattle.std.proofs.Common.{◌≡◌, ◌≤◌, ◌+◌, ◌-◌, ◌++◌, List, map, take, length, vec_len, vec_capacity, Result}
-use Rattle.bz_attribute.specs.declared.refusal.Refusal.{Refusal}
+use Rattle.bz_value.specs.declared.refusal.Refusal.{Refusal}
 use Rattle.bz_journal.specs.Actions.{action_in}
 use Rattle.bz_journal.specs.History.{Runs}
 use Rattle.bz_trail.specs.Trails.{IsSmall}

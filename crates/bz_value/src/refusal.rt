@@ -1,5 +1,5 @@
 ghost use Rattle.std.specs.Prelude.{◌≡◌};
-ghost use Rattle.bz_attribute.specs.Refusals.{refusal_name, refusal_number};
+ghost use Rattle.bz_value.specs.Refusals.{refusal_name, refusal_number};
 
 use std::alloc::AllocError;
 use std::error::Error;
@@ -95,7 +95,7 @@ impl Error for Refusal {}
 
 impl From<AllocError> for Refusal {
     ghost use Rattle.std.specs.Prelude.{◌≡◌};
-    ghost use Rattle.bz_attribute.specs.declared.refusal.Refusal.TheVariants as r;
+    ghost use Rattle.bz_value.specs.declared.refusal.Refusal.TheVariants as r;
 
     ghost from_gives = { λ _ refusal. refusal ≡ r.Memory };
 

@@ -1,8 +1,8 @@
 -- The names and the numbers of refusals.
 use Rattle.std.specs.Prelude.{ℕ, codes}
 use Rattle.bz_items.specs.Characters.{Bytes}
-use Rattle.bz_attribute.specs.declared.refusal.Refusal.{Refusal}
-use Rattle.bz_attribute.specs.declared.refusal.Refusal.TheVariants.{Memory, TooLarge, TooDeep, NoTarget, NoAttribute, AttributeExists, NotAList, NotADict, NoSource, NameTaken, TooFar, Full, NoteTooLong}
+use Rattle.bz_value.specs.declared.refusal.Refusal.{Refusal}
+use Rattle.bz_value.specs.declared.refusal.Refusal.TheVariants.{Memory, TooLarge, TooDeep, NoTarget, NoAttribute, AttributeExists, NotAList, NotADict, NoSource, NameTaken, TooFar, Full, NoteTooLong}
 
 -- the table of refusals: names
 abbrev pub refusal_name : Refusal → Bytes
