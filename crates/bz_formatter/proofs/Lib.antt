@@ -6,3 +6,4 @@ pub mod Filled
 pub mod SeenPrograms
 pub mod TreeTokens
 pub mod WrittenPrograms
+pub mod Chunking

@@ -3,6 +3,7 @@ ghost use Rattle.std.specs.Prelude.{◌≡◌, ◌≢◌, ◌⊎◌, IfOk};
 ghost use Rattle.bz_formatter.specs.Faults.{FormatsTo};
 ghost use Rattle.bz_formatter.specs.Fixed.{IsFormatted};
 
+use crate::chunks::chunks_formatted;
 use crate::laws::formatted_once;
 use crate::writing::{value_of, written_text};
 use bz_items::Text;
@@ -46,6 +47,10 @@ pub fn format(alloc: Global, text: &[u8]) -> Result<Text, FormatFault>
     ensures formats { FormatsTo text.now result }
     ensures fixed { IfOk result (λ formatted. IsFormatted text.now formatted) }
 {
+    formatted_once();
+    if let Some(formatted) = chunks_formatted(alloc, text) {
+        return Ok(formatted);
+    }
     let tree = match parse(alloc, text) {
         Ok(tree) => tree,
         Err(fault) => return Err(unread(fault)),
@@ -53,7 +58,6 @@ pub fn format(alloc: Global, text: &[u8]) -> Result<Text, FormatFault>
     let Ok(value) = value_of(alloc, tree) else {
         return Err(FormatFault::Memory);
     };
-    formatted_once();
     match written_text(alloc, value) {
         Ok(formatted) => Ok(formatted),
         Err(Refusal::TooLarge) => Err(FormatFault::TooLarge),

@@ -1,6 +1,8 @@
 //! The formatted text of a BUILD file: its value, tidied and laid out.
 #![tactic(auto)]
 
+mod chunks;
+mod cut;
 mod formatter;
 mod laws;
 mod writing;

@@ -72,7 +72,7 @@ cut_last : (xs rest : List Item) → ends_with_load xs ≡ false → tidied (xs 
 cut_last [] rest n = refl
 cut_last (x ∷ xs) rest n = cut_from [] x xs rest n
 
-cut_first : (xs rest : List Item) → begins_with_load rest ≡ false → tidied (xs ++ rest) ≡ tidied xs ++ tidied rest
+pub cut_first : (xs rest : List Item) → begins_with_load rest ≡ false → tidied (xs ++ rest) ≡ tidied xs ++ tidied rest
 cut_first xs [] n = ap tidied (append-nil xs) ∙ sym (append-nil (tidied xs))
 cut_first xs (bar ∷ rest) n = cut_at xs rest bar n ∙ ap (λ z. tidied xs ++ z) (sym (cut_at [] rest bar n))
 

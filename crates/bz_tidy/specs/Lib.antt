@@ -1,5 +1,6 @@
 pub mod Changes
 pub mod Exchanged
+pub mod Joined
 pub mod Laws
 pub mod Lists
 pub mod Marks

@@ -1,5 +1,6 @@
 //! Facts about the definitions, for readers: the functions do nothing.
 ghost use Rattle.bz_tidy.specs.Exchanged.{ExchangedTidied};
+ghost use Rattle.bz_tidy.specs.Joined.{TidiedApart};
 ghost use Rattle.bz_tidy.specs.Laws.{TidyingKeepsComments, FlagsSettle, SortingIsTheOne, TidySettles, TidyStays};
 ghost use Rattle.bz_tidy.specs.MovedMarks.{MarksMove};
 ghost use Rattle.bz_tidy.specs.Rows.{WorkedPasses, WorkedPrograms};
@@ -45,6 +46,11 @@ pub fn sorting_is_the_one()
 /// its old first item to the new one.
 pub fn marks_move()
     ensures { MarksMove }
+{}
+
+/// Items behind others are tidied apart, where the first of them is no load that is sorted with its neighbours.
+pub fn tidied_apart()
+    ensures { TidiedApart }
 {}
 
 /// Where marked items of a tidy file were exchanged for others, tidying it is tidying these one by one.

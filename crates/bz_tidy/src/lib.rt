@@ -24,9 +24,9 @@ mod walk;
 pub use exchanged::tidy_marked;
 pub use flags::settle;
 pub use laws::{
-    comments_stay, exchanged_tidied, flags_settle, marks_move, sorting_is_the_one, tidy_settles,
-    tidy_stays, worked_passes, worked_programs,
+    comments_stay, exchanged_tidied, flags_settle, marks_move, sorting_is_the_one, tidied_apart,
+    tidy_settles, tidy_stays, worked_passes, worked_programs,
 };
 pub use proper_laws::{program_stays, proper_stays, tokens_stay};
-pub use spliced::{Window, tidy_spliced};
+pub use spliced::{Window, begins_with_load, tidy_spliced};
 pub use tidying::tidy;

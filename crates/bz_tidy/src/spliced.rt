@@ -21,7 +21,7 @@ pub struct Window {
 }
 
 /// Whether the first item is a load that is sorted with its neighbours.
-fn begins_with_load(items: &[Item]) -> bool
+pub fn begins_with_load(items: &[Item]) -> bool
     ensures load { result ≡ begins_so items.now }
     ensures some { IsTrue result → 0 < length items.now }
 {

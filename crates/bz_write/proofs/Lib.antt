@@ -40,5 +40,6 @@ pub mod Viewed
 pub mod ViewedItems
 pub mod Waiting
 pub mod Writing
+pub mod Appending
 pub mod WindowLimits
 pub mod Windows

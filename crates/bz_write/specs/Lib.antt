@@ -14,3 +14,4 @@ pub mod Taken
 pub mod Exchanged
 pub mod Marks
 pub mod Windows
+pub mod Appended

@@ -1,3 +1,4 @@
+ghost use Rattle.bz_write.specs.Appended.{DepthsJoin, LayoutsJoin};
 ghost use Rattle.bz_write.specs.Laws.{FlagsKeepLayout, LayoutIsAccepted, LayoutReadsBack, RedrawnHasLength};
 ghost use Rattle.bz_write.specs.Rows.{WorkedRows};
 
@@ -15,6 +16,12 @@ pub fn layout_is_accepted()
 /// The tree of the layout of a proper file value has that value, with its flags settled, as its view.
 pub fn layout_reads_back()
     ensures { LayoutReadsBack }
+{}
+
+/// The layout of items behind others is their own, behind that of the others and the blank line between.
+pub fn layouts_join()
+    ensures text { LayoutsJoin }
+    ensures depth { DepthsJoin }
 {}
 
 /// How long the layout is for which lines were drawn anew, told by the length of the layout before and by those of the lines that

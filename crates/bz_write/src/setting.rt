@@ -1,14 +1,15 @@
-ghost use Rattle.std.specs.Prelude.{◌≡◌, ◌<◌, ◌≤◌, IfOk, IfSome, IsTrue, false, length};
+ghost use Rattle.std.specs.Prelude.{◌≡◌, ◌<◌, ◌≤◌, ◌++◌, IfOk, IfSome, IsTrue, OnOk, false, length};
 ghost use Rattle.bz_tree.specs.Spell.{spell_node, depth_of, limit, depth_limit};
 ghost use Rattle.bz_view.specs.View.{view_of};
+ghost use Rattle.bz_write.specs.Appended.{gap_below};
 ghost use Rattle.bz_write.specs.Drawn.{drawn};
 ghost use Rattle.bz_write.specs.Written.{layout};
 ghost use Rattle.bz_write.specs.Flags.{flags};
 
 use crate::limits::{are_items_within, is_layout_within};
-use crate::lines::draw_lines;
+use crate::lines::{draw_lines, push_between};
 use crate::texts::push_items;
-use bz_items::Text;
+use bz_items::{Memory, Text};
 use bz_tree::{DEPTH_LIMIT, Kind, LENGTH_LIMIT, Node, Tree};
 use bz_value::{File, Item};
 use std::alloc::{AllocError, Global};
@@ -86,21 +87,52 @@ pub fn set(alloc: Global, file: &File) -> Result<Tree, SetFault>
     })
 }
 
-/// The layout of the items as text, where it and its tree are within the limits; none where one is not, or a growth was refused.
-/// The depth is looked at first, since the walk that writes goes as deep as the items.
-fn text_within(alloc: Global, items: &[Item]) -> Option<Text>
-    ensures text { IfSome result (λ text. text ≡ layout items.now) }
-    ensures short { IfSome result (λ _. length (layout items.now) ≤ limit) }
+/// Appends the layout of the items, where what was written and the tree of the layout are within the limits; none where one is not, or
+/// a growth was refused. The depth is looked at first, since the walk that writes goes as deep as the items.
+fn append_within(out: &mut Vec<u8>, items: &[Item]) -> Option<()>
+    ensures text { IfSome result (λ _. out.new.items ≡ out.old.items ++ layout items.now) }
+    ensures short { IfSome result (λ _. length out.new.items ≤ limit) }
     ensures shallow { IfSome result (λ _. depth_of (drawn items.now) ≤ depth_limit) }
 {
     if !is_shallow(items) {
         return None;
     }
-    let mut out = Vec::new(alloc);
-    push_items(&mut out, items, LENGTH_LIMIT).ok()?;
+    push_items(out, items, LENGTH_LIMIT).ok()?;
     if out.len() > LENGTH_LIMIT {
         return None;
     }
+    Some(())
+}
+
+fn push_below(out: &mut Vec<u8>, above: &Option<Item>, items: &[Item]) -> Result<(), Memory>
+    ensures { OnOk result (out.new.items ≡ out.old.items ++ gap_below above.now items.now) }
+{
+    match above {
+        None => Ok(()),
+        Some(item) => push_between(out, item, items),
+    }
+}
+
+/// Appends the layout of the file value to a text, below an item where one is given. None: a growth was refused, or the text or the
+/// tree of the layout would be past a limit; what was appended by then is not told.
+pub fn append_file(out: &mut Vec<u8>, above: &Option<Item>, file: &File) -> Option<()>
+    ensures text { IfSome result (λ _. out.new.items ≡ out.old.items ++ (gap_below above.now file.now ++ layout file.now)) }
+    ensures short { IfSome result (λ _. length out.new.items ≤ limit) }
+    ensures shallow { IfSome result (λ _. depth_of (drawn file.now) ≤ depth_limit) }
+{
+    let items = file.items.as_slice();
+    push_below(out, above, items).ok()?;
+    append_within(out, items)
+}
+
+/// The layout of the items as text, where it and its tree are within the limits; none where one is not, or a growth was refused.
+fn text_within(alloc: Global, items: &[Item]) -> Option<Text>
+    ensures text { IfSome result (λ text. text ≡ layout items.now) }
+    ensures short { IfSome result (λ _. length (layout items.now) ≤ limit) }
+    ensures shallow { IfSome result (λ _. depth_of (drawn items.now) ≤ depth_limit) }
+{
+    let mut out = Vec::new(alloc);
+    append_within(&mut out, items)?;
     Some(Text::from_vec(out))
 }
 

@@ -17,3 +17,6 @@ returns-in-Ok-written_text-clause-fixed c = c.formatted_once.ensures c.args.text
   c.in-Ok.ensures.ok,
   sym (c.in-Ok-written_text.ensures.ok None) ∙ ap (λ (items : List Item). written items None) c.in-Ok-value_of.ensures,
 )
+
+pub returns-in-Some-clause-fixed : goal.returns-in-Some-clause-fixed
+returns-in-Some-clause-fixed c = c.formatted_once.ensures c.args.text.now c.in-Some.formatted c.in-Some.ensures
