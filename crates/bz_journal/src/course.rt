@@ -27,20 +27,20 @@ pub(crate) const MOST_NOTE: usize = 65_536;
 /// The texts of a BUILD file of a package, one after another, and the place in them: the tree of the present text, and
 /// between neighbours the step that leads from the one tree to the other. Contracts speak of its history.
 #[derive(Drop)]
-pub(crate) struct Course {
+pub struct Course {
     /// The tree of the present text.
-    pub(crate) tree: Tree,
+    pub tree: Tree,
     /// The steps between the texts, in the order in which these came: those before the present text lead back, the others
     /// forward.
-    pub(crate) steps: Vec<Step>,
+    pub steps: Vec<Step>,
     /// The note of each step.
-    pub(crate) notes: Vec<Text>,
+    pub notes: Vec<Text>,
     /// The path of the file's package.
-    pub(crate) package: String,
+    pub package: String,
     /// The number of the present text, from 0.
-    pub(crate) cursor: u32,
+    pub cursor: u32,
     /// The number of the one that was present before it.
-    pub(crate) before: u32,
+    pub before: u32,
 }
 
 impl Model for Course {

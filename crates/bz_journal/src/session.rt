@@ -23,9 +23,9 @@ use std::marker::Model;
 /// history.
 #[derive(Drop)]
 pub struct Session {
-    pub(crate) course: Course,
+    pub course: Course,
     /// The SHA-256 of each text.
-    pub(crate) digests: Vec<[u8; 32]>,
+    pub digests: Vec<[u8; 32]>,
 }
 
 impl Model for Session {
@@ -133,6 +133,18 @@ impl Session {
         self.course.listed(alloc, self.digests())
     }
 
+    /// Does an action with an empty note, as `act_noted` does.
+    pub fn act(&mut self, action: &Action<'_>) -> Result<Reply, Refusal>
+        ensures acts { Acts (action_in action.now) [] (session_history self.old) result (session_history self.new) }
+        ensures formatted { OnOk result (IsFormat (action_in action.now) → IsFormatted (present (session_history self.old)) (present (session_history self.new))) }
+        ensures err { OnErr result (session_history self.new ≡ session_history self.old) }
+        ensures unmoved { OnErr result (self.new ≡ self.old) }
+        ensures even { IsOverEven (action_in action.now) (session_trail self.old) → IsOk result }
+        ensures small { IsSmall (session_trail self.old) → IsSmall (session_trail self.new) }
+    {
+        self.act_noted(action, "")
+    }
+
     /// Does an action, with a note of at most 65,536 bytes for the step that it makes. At an error the history is as before.
     /// Errors: `NoteTooLong` before all others; those of the command; `TooLarge` and `TooDeep` where the new text would be past
     /// a limit; `TooFar` where there aren't so many steps; `Full` where a command or formatting would change the present text,
@@ -177,10 +189,22 @@ impl Session {
     {
         replies.reserve(actions.len())?;
         for action in actions {
-            let reply = self.act_noted(action, "");
+            let reply = self.act(action);
             replies.push(reply).unwrap();
         }
         Ok(())
+    }
+
+    /// Does an action with an empty note and keeps it, as `keep_noted` does.
+    pub fn keep<F: Files>(
+        &mut self,
+        action: &Action<'_>,
+        file: &str,
+        files: &mut F,
+    ) -> Result<Reply, KeepFault>
+        ensures { KeepsPair F.Files (action_in action.now) [] file.now self.old result self.new files.old files.new }
+    {
+        self.keep_noted(action, "", file, files)
     }
 
     /// Does an action with a note, and where the present text is another one then, replaces `FILE.journal` by the session's journal
