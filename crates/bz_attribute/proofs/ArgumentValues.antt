@@ -15,7 +15,7 @@ chosen_value : (b : Bool) (z v : Expr) → (if b then Some z else None) ≡ Some
 chosen_value true z v h = cc
 chosen_value false z v h = cc
 
--- a change of the third part is its new value, where the third part is what the name stands before
+-- a change of the third part is its new value, where the third part is what the name is before
 same_third : (name : Bytes) (change : Expr → Expr) (v : Expr) (ps : List Expr) → value_behind name ps ≡ Some v → on_third change ps ≡ on_third (λ _. change v) ps
 same_third name change v [] h = refl
 same_third name change v (x ∷ []) h = refl

@@ -81,11 +81,11 @@ none_found (Some x) h = absurd (true≢false h)
 none_first : (name : Bytes) (x : Expr) (xs : List Expr) → has_attribute name (x ∷ xs) ≡ false → (is_attribute name x ≡ false) × (has_attribute name xs ≡ false)
 none_first name x xs h = or_parts (is_attribute name x) (has_attribute name xs) (sym (attribute_first name x xs) ∙ h)
 
--- what stands first is found
+-- what is first is found
 found_first : (name : Bytes) (value x : Expr) (xs : List Expr) → value_named name x ≡ Some value → attribute name (x ∷ xs) ≡ Some value
 found_first name value x xs h = ap (λ (found : Option Expr). option_or found (attribute name xs)) h
 
--- what stands behind another argument is found
+-- what is after another argument is found
 found_behind : (name : Bytes) (value x : Expr) (xs : List Expr) → value_named name x ≡ None → attribute name xs ≡ Some value → attribute name (x ∷ xs) ≡ Some value
 found_behind name value x xs n h = ap (λ (found : Option Expr). option_or found (attribute name xs)) n ∙ h
 

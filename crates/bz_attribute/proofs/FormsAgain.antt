@@ -33,7 +33,7 @@ if_either false x y z h i = i
 pub both : {X Y Z : Type 0} (f : X → Y → Z) {h h' : X} {i i' : Y} → h ≡ h' → i ≡ i' → f h i ≡ f h' i'
 both f {h} {h'} {i} {i'} d e = ap (λ z. f z i) d ∙ ap (λ z. f h' z) e
 
--- what is found behind a test
+-- what is found after a test
 pub some_if : {X : Type 0} (b : Bool) (found : Option X) → is_some (if b then found else None) ≡ true → (b ≡ true) × (is_some found ≡ true)
 some_if true found h = (refl, h)
 some_if false found h = absurd (true≢false (sym h))

@@ -1,4 +1,4 @@
--- The rows behind a form are its lists.
+-- The rows after a form are its lists.
 use Rattle.std.proofs.Common.{◌≡◌, List}
 use mathlib.Core.Former.{Count}
 use Rattle.bz_value.specs.declared.value.Form.{Form}

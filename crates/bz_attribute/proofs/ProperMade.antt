@@ -227,7 +227,7 @@ operand_proper x n v =
     by_case IsOperand (binds_looser x) (node k.Paren (mark (codes "(") ∷ x ∷ mark (codes ")") ∷ [])) x
     (λ b. paren_operand x v) (λ b. ((v.0.0.0, v.1, v.0.0.2), tight x n b v.0.1))
 
--- `+` and a list behind an operand
+-- `+` and a list after an operand
 abbrev more_operands : List Expr → List Expr
 more_operands items = mark (codes "+") ∷ list_of items ∷ []
 

@@ -20,7 +20,7 @@ use Rattle.bz_rule.specs.Values.{has_kind, on_row}
 abbrev pub token : Class → Bytes → Expr
 token class text = e.Token (record { class = class; text = text; break_ = false; comments = no_comments })
 
--- a node of a row of parts, and one with a sequence behind these parts
+-- a node of a row of parts, and one with a sequence after these parts
 abbrev pub node : Kind → List Expr → Expr
 node kind parts = e.Form (record { kind = kind; parts = parts; seq = record { items = []; end_ = []; split = false }; open_ = false; comments = no_comments })
 
@@ -58,7 +58,7 @@ abbrev pub binds_looser : Expr → Bool
 binds_looser (e.Token t) = false
 binds_looser (Form' kind s parts s' items end_ split open_ comments) = nat_lt (rank k.Sum) (rank kind)
 
--- an operand of a sum stands in brackets where it binds looser
+-- an operand of a sum is in brackets where it binds looser
 abbrev pub operand : Expr → Expr
 operand x = if binds_looser x then node k.Paren (mark (codes "(") ∷ x ∷ mark (codes ")") ∷ []) else x
 

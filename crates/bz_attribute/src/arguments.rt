@@ -47,21 +47,21 @@ pub fn is_other_attribute(x: &Expr) -> bool
     has_kind(Kind::Named, x) && !is_attribute(b"name", x)
 }
 
-/// Where the first attribute of the name stands.
+/// Where the first attribute of the name is.
 pub fn place_of(name: &[u8], arguments: &[Expr]) -> Option<usize>
     ensures { result ≡ position (is_attribute name.now) arguments.now }
 {
     arguments.iter().position(|x| is_attribute(name, x))
 }
 
-/// Where the first starred argument stands.
+/// Where the first starred argument is.
 fn first_starred(arguments: &[Expr]) -> Option<usize>
     ensures { result ≡ position (has_kind kinds.Star) arguments.now }
 {
     arguments.iter().position(|x| has_kind(Kind::Star, x))
 }
 
-/// Exchanges an expression for the operand behind the sign.
+/// Exchanges an expression for the operand after the sign.
 fn swap_third(other: &mut Expr, parts: &mut Items<Expr>)
     ensures parts { parts.new ≡ on_third (λ _. other.old) parts.old }
     ensures other { other.new ≡ slice_index_or parts.old 2 other.old }
@@ -100,7 +100,7 @@ fn swap_first(name: &[u8], other: &mut Expr, arguments: &mut Items<Expr>)
     swap_in(name, other, arguments.as_mut_slice());
 }
 
-/// Takes the value of the attribute out. What stands in its place until `set_value` puts a value there, or `remove_first`
+/// Takes the value of the attribute out. What is in its place until `set_value` puts a value there, or `remove_first`
 /// takes the attribute away, is of no matter.
 pub fn take_value(alloc: Global, name: &[u8], arguments: &mut Items<Expr>) -> Option<Expr>
     ensures value { result ≡ attribute name.now arguments.old }

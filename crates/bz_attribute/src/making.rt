@@ -1,5 +1,5 @@
 //! New parts of a file value: no comments, no sequence split, no break. Where memory is refused, what a function was given is handed
-//! to `drop`: let go of by the end of its scope, each form of it would be a path of that function's proof.
+//! to `drop`: dropped by the end of its scope, each form of it would be a path of that function's proof.
 ghost use Rattle.std.specs.Prelude.{◌≡◌, IfOk, OnOk, [], ◌∷◌, ◌++◌, nat_eq, nat_lt, codes, position, length, ◌<◌, IfSome};
 ghost use Rattle.std.specs.List.{slice_split};
 ghost use Rattle.std.specs.Option.{option_map_or};
@@ -51,7 +51,7 @@ pub fn token(class: Class, text: Text) -> Expr
     })
 }
 
-/// A node with a sequence behind these parts.
+/// A node with a sequence after these parts.
 pub fn sequence(alloc: Global, kind: Kind, parts: Items<Expr>, items: Items<Expr>) -> Expr
     ensures { result ≡ sequence kind parts items }
 {
@@ -136,7 +136,7 @@ pub fn set_text(text: Text, x: &mut Expr)
     }
 }
 
-/// Puts all of `more` behind the items.
+/// Puts all of `more` after the items.
 pub fn append(more: &mut Vec<Expr>, items: &mut Items<Expr>) -> Result<(), Memory>
     ensures { OnOk result (items.new ≡ items.old ++ more.old.items) }
 {
@@ -147,7 +147,7 @@ pub fn append(more: &mut Vec<Expr>, items: &mut Items<Expr>) -> Result<(), Memor
     Ok(())
 }
 
-/// Puts all of `more` behind the items of a sequence of this kind; any other expression stays.
+/// Puts all of `more` after the items of a sequence of this kind; any other expression stays.
 pub fn append_to(kind: Kind, more: &mut Vec<Expr>, x: &mut Expr) -> Result<(), Memory>
     ensures { OnOk result (x.new ≡ on_items kind (λ items. items ++ more.old.items) x.old) }
 {
@@ -256,7 +256,7 @@ fn sum_of(alloc: Global, value: Expr, list: Expr) -> Result<Expr, Memory>
     }
 }
 
-/// A sum with a further operand behind a sign.
+/// A sum with a further operand after a sign.
 fn with_operand(mut sum: Form, sign: Expr, value: Expr) -> Result<Form, Memory>
     ensures { IfOk result (λ more. more ≡ record sum { parts = sum.parts ++ sign ∷ value ∷ [] }) }
 {
@@ -294,14 +294,14 @@ pub fn plus(alloc: Global, value: Expr, list: Expr) -> Result<Expr, Memory>
     }
 }
 
-/// Where the first dot stands.
+/// Where the first dot is.
 fn dot_place(text: &[u8]) -> Option<usize>
     ensures { result ≡ position (λ byte. nat_eq byte full_stop) text.now }
 {
     text.iter().position(|byte| *byte == b'.')
 }
 
-/// What stands before the first dot, and what stands behind it.
+/// What is before the first dot, and what is after it.
 fn cut(text: &[u8]) -> (&[u8], Option<&[u8]>)
     ensures pieces { slice_split (λ byte. nat_eq byte full_stop) text.now
         ≡ result.0.now ∷ option_map_or (λ rest. slice_split (λ byte. nat_eq byte full_stop) rest.now) result.1 [] }
@@ -313,7 +313,7 @@ fn cut(text: &[u8]) -> (&[u8], Option<&[u8]>)
     }
 }
 
-/// A name behind a dot.
+/// A name after a dot.
 fn dotted(alloc: Global, front: Expr, text: &[u8]) -> Result<Expr, Memory>
     ensures { IfOk result (λ x. x ≡ node k.Dot (front ∷ mark (codes ".") ∷ name text.now ∷ [])) }
 {

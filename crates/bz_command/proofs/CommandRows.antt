@@ -132,7 +132,7 @@ new_load_listed row h [] = tt
 new_load_listed row h (path ∷ words) =
     if_listed row (is_nonempty words) _ _ (made_listed row (λ symbols. w.Load (wl.New path symbols)) (c.each_of c.symbol_of words) (h path)) tt
 
--- a comment's words, by what stands before the last one and that one
+-- a comment's words, by what is before the last one and that one
 said_listed : (row : CommandRow) → ((host : Host) (text : Bytes) → IsAsListed row (w.Comment (wc.Add host text))) → (parts : Option (List Bytes × Bytes))
     → ReadsAsListed row (option_map_or (λ (both : List Bytes × Bytes). if c.is_one_line both.1 then ok_or (option_map (λ host. w.Comment (wc.Add host both.1)) (c.host_of both.0)) Arguments else Err Arguments)
     parts (Err Arguments))

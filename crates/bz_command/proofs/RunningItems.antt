@@ -10,7 +10,7 @@ use Rattle.bz_command.specs.Effect.{unmarked}
 abbrev NewItems : Type 0
 NewItems = Result (List Item) Refusal
 
--- what is made, behind what is made already
+-- what is made, after what is made already
 abbrev pub with_front : List Item → NewItems → NewItems
 with_front front (Err refusal) = Err refusal
 with_front front (Ok items) = Ok (front ++ items)

@@ -11,7 +11,7 @@ use Rattle.bz_command.specs.Effect.{unmarked}
 
 -- ---- an item moved to the front
 
--- Two items exchanged: up to the first place and behind the second one.
+-- Two items exchanged: up to the first place and after the second one.
 module _ (kept at : ℕ) (old : List Item) (d : Item) (order : kept ≤ at) (there : at < length old) where
   abbrev exchanged : List Item
   exchanged = set (set old kept (get_or old at d)) at (get_or old kept d)
@@ -43,7 +43,7 @@ module _ (kept at : ℕ) (old : List Item) (d : Item) (order : kept ≤ at) (the
       ∙ (append_assoc (take kept old) (get_or old at d ∷ []) (unmarked marks (drop (at + 1) old))
       ∙ ap (λ (xs : List Item). take kept old ++ unmarked (false ∷ marks) xs) (sym (drop_more old at d there)))))
 
--- an item without a mark goes behind those that are kept
+-- an item without a mark goes after those that are kept
 pub one_kept : (kept at : ℕ) (mark : Bool) (old new : List Item) → kept ≤ at → at < length old → mark ≡ false → new ≡ swap old kept at → (marks : List Bool)
     → take (kept + 1) new ++ unmarked marks (drop (at + 1) new) ≡ take kept old ++ unmarked (mark ∷ marks) (drop at old)
 one_kept kept at mark [] new order there unset is marks = absurd (omega (arith, there))

@@ -44,7 +44,7 @@ arguments_twice : (ys xs : List Expr) (item : Item) → with_list_in InBrackets 
 arguments_twice ys xs (i.Block lines) = refl
 arguments_twice ys xs (i.Stmt x) = ap i.Stmt (row_twice k.Bare (on_first (with_items xs)) (on_first (with_items ys)) (first_twice ys xs) x)
 
--- ---- what stands in the brackets of a rule are its arguments
+-- ---- what is in the brackets of a rule are its arguments
 
 -- a call's arguments are these, where it is a rule
 abbrev Holds : List Expr → Option Rule → Type 0

@@ -48,7 +48,7 @@ item_line lines (i.Block comments) = None
 item_line [] (i.Stmt x) = None
 item_line (line ∷ lines) (i.Stmt x) = Some line
 
--- the lines of the statements behind it
+-- the lines of the statements after it
 abbrev pub lines_after_item : List ℕ → Item → List ℕ
 lines_after_item lines (i.Block comments) = lines
 lines_after_item [] (i.Stmt x) = []

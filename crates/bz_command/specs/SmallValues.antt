@@ -40,7 +40,7 @@ name text = token c.Name text
 abbrev pub number : Bytes → Expr
 number text = token c.Number text
 
--- a string by its whole text, and one by what stands between its double quotation marks
+-- a string by its whole text, and one by what is between its double quotation marks
 abbrev pub literal : Bytes → Expr
 literal text = token c.String text
 

@@ -90,7 +90,7 @@ abbrev pub ReadsAsListed : CommandRow → ReadCommand → Type 0
 ReadsAsListed row (Ok operation) = IsAsListed row operation
 ReadsAsListed row (Err fault) = Unit {0}
 
--- Commands, each with what it reads in the words behind its name, have these rows, one by one.
+-- Commands, each with what it reads in the words after its name, have these rows, one by one.
 abbrev pub HaveRows : List (Bytes × (List Bytes → ReadCommand)) → List CommandRow → Type 0
 HaveRows [] [] = Unit {0}
 HaveRows [] (row ∷ rows) = ⊥

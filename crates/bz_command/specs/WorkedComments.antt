@@ -33,12 +33,12 @@ deps items = argument (codes "deps") (list items)
 abbrev Added : Type 0
 Added =
     let b : Expr = string (codes ":b") in
-    -- A comment stands above the rule, right above it where others stand there; the one at the end of the line stays.
+    -- A comment is above the rule, right above it where others stand there; the one at the end of the line stays.
     (made (codes "comment why\\ not") (Name (codes "x")) (x no_comments [] ∷ []) ≡ gives (x (comments_above (codes "# why not" ∷ [])) [] ∷ []))
     × (made (codes "comment d") (Name (codes "x")) (x both [] ∷ []) ≡ gives (x (record { before = codes "# c" ∷ codes "# d" ∷ []; suffix = Some (codes "#  s") }) [] ∷ []))
     -- Of spaces alone the bare sign is left.
     × (made (codes "comment \\ \\ ") (Name (codes "x")) (x no_comments [] ∷ []) ≡ gives (x (comments_above (codes "#" ∷ [])) [] ∷ []))
-    -- It stands above an attribute, or above the first item that means the value.
+    -- It is above an attribute, or above the first item that means the value.
     × (done (codes "comment size c") (size no_comments ∷ []) ≡ leaves (size c_above ∷ []))
     × (done (codes "comment deps :a c") (deps (b ∷ a no_comments ∷ a no_comments ∷ []) ∷ []) ≡ leaves (deps (b ∷ a c_above ∷ a no_comments ∷ []) ∷ []))
     × (done (codes "comment deps //p:a c") (deps (a no_comments ∷ []) ∷ []) ≡ leaves (deps (a c_above ∷ []) ∷ []))
@@ -65,7 +65,7 @@ Removed =
 abbrev Printed : Type 0
 Printed =
     let y : Item = rule_of_kind (codes "g") (codes "y") (size c_above ∷ []) in
-    -- One comment a line, without the sign and one space behind it.
+    -- One comment a line, without the sign and one space after it.
     (shown (codes "print_comment") (Name (codes "x")) (x both [] ∷ []) ≡ shows_text (codes "c\n s\n"))
     × (shown (codes "print_comment size") (Name (codes "x")) (x both (size c_above ∷ []) ∷ []) ≡ shows_text (codes "c\n"))
     × (shown (codes "print_comment deps :a") (Name (codes "x")) (x both (deps (a both ∷ []) ∷ []) ∷ []) ≡ shows_text (codes "c\n s\n"))

@@ -52,7 +52,7 @@ Set =
     × (done (codes "dict_set env A:1") (small ∷ []) ≡ leaves (small ∷ env (a (codes "1") ∷ []) ∷ []))
     -- Of two entries of one key the last one counts.
     × (done (codes "dict_set env A:1 A:2") [] ≡ leaves (env (a (codes "2") ∷ []) ∷ []))
-    -- Where a key stands twice in the file its first entry is meant; the value may be any.
+    -- Where a key occurs twice in the file its first entry is meant; the value may be any.
     × (done (codes "dict_set env A:3") (env (one ∷ a (codes "2") ∷ []) ∷ []) ≡ leaves (env (a (codes "3") ∷ a (codes "2") ∷ []) ∷ []))
     × (done (codes "dict_set env A:1") (argument (codes "env") (list []) ∷ []) ≡ refuses NotADict)
     × (made (codes "dict_set env A:1") (Name (codes "z")) (rule [] ∷ []) ≡ refuses NoTarget)

@@ -36,7 +36,7 @@ Added =
     -- A raw string is no value that is there.
     × (done (codes "add deps :a") (argument (codes "deps") (list (literal (codes "r\":a\"") ∷ [])) ∷ [])
     ≡ leaves (argument (codes "deps") (list (literal (codes "r\":a\"") ∷ string (codes ":a") ∷ [])) ∷ []))
-    -- A call becomes a sum, in which the list gets what is added next; a condition stands in brackets there.
+    -- A call becomes a sum, in which the list gets what is added next; a condition is in brackets there.
     × (done (codes "add deps :a") (argument (codes "deps") choice ∷ []) ≡ leaves (argument (codes "deps") (sum choice (strings (codes ":a" ∷ []))) ∷ []))
     × (done (codes "add deps :b") (argument (codes "deps") (sum choice (strings (codes ":a" ∷ []))) ∷ [])
     ≡ leaves (argument (codes "deps") (sum choice (strings (codes ":a" ∷ codes ":b" ∷ []))) ∷ []))

@@ -8,7 +8,7 @@ use crate::outcome::{Changed, Spliced};
 use bz_items::Items;
 use bz_value::Item;
 
-/// Moves an item behind the first `kept`, unless it is marked. How many are kept then.
+/// Moves an item after the first `kept`, unless it is marked. How many are kept then.
 fn keep(mark: bool, kept: usize, at: usize, items: &mut [Item]) -> usize
     requires there { (kept ≤ at) × (at < length items.old) }
     ensures within { result ≤ at + 1 }
@@ -71,7 +71,7 @@ fn count_to_last(marks: &[bool]) -> usize
     count
 }
 
-/// The items from the first marked one to the last: behind how many they stand, how many they are, and how many of them are left
+/// The items from the first marked one to the last: after how many they stand, how many they are, and how many of them are left
 /// once the marked ones are taken out, where `left` is how many are left of all. `None` where no mark is set.
 fn window(marks: &[bool], left: usize) -> Option<Spliced>
     ensures { IfSome result (λ s. (items : List Item) → length marks.now ≡ length items → left ≡ length (unmarked marks.now items) → IsSpliced s.from s.gone s.come items (unmarked marks.now items)) }

@@ -20,7 +20,7 @@ use bz_value::{File, Item, Refusal};
 use bz_words::{Command, CommentOperation, Host, Operation};
 use std::alloc::Global;
 
-/// Whether so many copies of a text of this length are past the limit.
+/// Whether this many copies of a text of this length are past the limit.
 fn are_past(count: usize, long: usize) -> bool
     ensures { IsTrue result → limit < count * long }
 {
@@ -41,7 +41,7 @@ fn marked_rules(marks: &[bool], items: &[Item]) -> usize
     count
 }
 
-/// Whether a comment on so many rules as a target means is past the limit by its copies. The error: memory was refused.
+/// Whether a comment on this many rules as a target means is past the limit by its copies. The error: memory was refused.
 fn are_copies_past(
     alloc: Global,
     text: &[u8],

@@ -11,7 +11,7 @@ pub struct Outcome {
 /// Where items of a file were taken out and others put in their place, counted in items. All others stand as before.
 #[derive(Clone, Copy)]
 pub struct Spliced {
-    /// Behind how many items.
+    /// After how many items.
     pub from: usize,
     /// How many were taken out.
     pub gone: usize,

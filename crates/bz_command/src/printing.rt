@@ -13,7 +13,7 @@ use bz_value::{Expr, Item, Refusal};
 use bz_words::{CommentOperation, Host, Operation};
 use std::alloc::Global;
 
-/// The line on which an item begins, where it is on one, and the lines of the statements behind it.
+/// The line on which an item begins, where it is on one, and the lines of the statements after it.
 fn line_at<'a>(lines: &'a [u32], item: &Item) -> (Option<u32>, &'a [u32])
     ensures line { result.0 ≡ item_line lines.entry.now item.now }
     ensures behind { result.1.now ≡ lines_after_item lines.entry.now item.now }

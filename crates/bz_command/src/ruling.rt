@@ -88,7 +88,7 @@ fn place_of_rule(name: &[u8], items: &[Item]) -> Option<usize>
     None
 }
 
-/// Where a new rule goes: behind how many items. `None`: the rule beside which it goes isn't there.
+/// Where a new rule goes: after how many items. `None`: the rule beside which it goes isn't there.
 fn place_of_new(place: &RulePlace, items: &[Item]) -> Option<usize>
     ensures { MatchOption result (has_rule_place place.now items.now ≡ false)
         (λ at. (at ≤ length items.now) × (has_rule_place place.now items.now ≡ true)
@@ -293,7 +293,7 @@ fn load_too(
     })
 }
 
-/// The items mended, which are let go.
+/// The items mended, which are dropped.
 fn mend(alloc: Global, fixes: Fixes, items: Items<Item>) -> Result<Changed, Memory>
     ensures items { IfOk result (λ changed. changed.items ≡ fix fixes items) }
     ensures same { IfOk result (λ changed. IsTrue changed.same ↔ (changed.items ≡ items)) }

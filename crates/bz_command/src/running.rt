@@ -234,7 +234,7 @@ pub fn run_in(
     }
 }
 
-/// A file that is another one now; the same one is let go.
+/// A file that is another one now; the same one is dropped.
 fn if_other(same: bool, file: File) -> Option<File>
     ensures { result ≡ if same then None else Some file }
 {

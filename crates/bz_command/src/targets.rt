@@ -51,7 +51,7 @@ fn all_named(alloc: Global, name: &[u8], items: &[Item]) -> Result<Vec<bool>, Me
     items.iter().map(|item| has_name(name, item)).collect(alloc)
 }
 
-/// The mark of an item by the lines of the statements from it on, and the lines of those behind it.
+/// The mark of an item by the lines of the statements from it on, and the lines of those after it.
 fn mark_by_line<'a>(line: u32, lines: &'a [u32], item: &Item) -> (bool, &'a [u32])
     ensures { (rest : List Item) → on_line line lines.entry.now (item.now ∷ rest) ≡ result.0 ∷ on_line line result.1.now rest }
 {

@@ -1,4 +1,4 @@
--- A comment that is put stands there then, unless that is refused.
+-- A comment that is put is there then, unless that is refused.
 use Rattle.std.proofs.Common.{◌≡◌, ◌≤◌, ℕ, ◌+◌, Bool, true, false, ◌||◌, List, [], ◌∷◌, ◌++◌, Option, Some, None, Ok, Err, refl, sym, ap, subst, ◌∙◌, arith, true≢false}
 use Rattle.std.specs.Prelude.{bytes_eq, IfOk}
 use Rattle.std.specs.List.{list_any, flat_map}
@@ -50,7 +50,7 @@ attribute_any name [] = refl
 attribute_any name (x ∷ xs) = attribute_first name x xs ∙ ap (λ there. is_attribute name x || there) (attribute_any name xs)
 
 module _ (text : Bytes) where
-  -- how often the comment stands in an expression
+  -- how often the comment occurs in an expression
   abbrev pub copies : Expr → ℕ
   copies = amount (one_if (comment_made text))
 
@@ -69,7 +69,7 @@ module _ (text : Bytes) where
   own_comes (Token t) = host_has t.comments
   own_comes (Form' kind s parts s' items end_ split open_ comments) = let here = host_has comments in omega arith
 
-  -- ---- what stands in an expression
+  -- ---- what is in an expression
 
   pub parts_within : (x : Expr) → total copies (parts_of x) ≤ copies x
   parts_within (Token t) = omega arith

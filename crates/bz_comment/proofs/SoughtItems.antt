@@ -7,7 +7,7 @@ use Rattle.std.proofs.lemmas.List.{at_drop_more}
 use Rattle.bz_value.specs.declared.value.Expr.{Expr}
 use Rattle.bz_attribute.specs.Lists.{listed}
 
--- what is found in a list and the lists behind it
+-- what is found in a list and the lists after it
 found_step : (test : Expr → Bool) (x : Expr) (xs : List Expr) → find test (flat_map listed (x ∷ xs)) ≡ option_or (find test (listed x)) (find test (flat_map listed xs))
 found_step test x xs = find-append test (listed x) (flat_map listed xs)
 

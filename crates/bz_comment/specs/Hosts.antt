@@ -31,7 +31,7 @@ with_comment text x = with_above (above x ++ comment_made text ∷ []) x
 abbrev pub without_comments : Expr → Expr
 without_comments x = with_comments x no_comments
 
--- without `#`, and without one space behind it
+-- without `#`, and without one space after it
 abbrev pub without_space : Bytes → Bytes
 without_space [] = []
 without_space (first ∷ rest) = if nat_eq first space then rest else first ∷ rest

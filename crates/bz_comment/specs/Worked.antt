@@ -8,7 +8,7 @@ WorkedComments =
     -- blanks at the end go
     × (comment_made (codes "a  ") ≡ codes "# a")
     × (comment_made (codes " ") ≡ codes "#")
-    -- one space behind the mark goes
+    -- one space after the mark goes
     × (comment_line (codes "#x") ≡ codes "x\n")
     × (comment_line (codes "# x") ≡ codes "x\n")
     × (comment_line (codes "#  x") ≡ codes " x\n")

@@ -23,7 +23,7 @@ fn without_space(text: &[u8]) -> &[u8]
     }
 }
 
-/// A comment without its mark, and without one space behind it.
+/// A comment without its mark, and without one space after it.
 fn comment_text(comment: &[u8]) -> &[u8]
     ensures { result.now ≡ text_of comment.now }
 {

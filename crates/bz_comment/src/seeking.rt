@@ -25,7 +25,7 @@ fn is_sought(sought: Sought<'_>, x: &Expr) -> bool
     is_item(sought.current, sought.attribute, sought.value, x)
 }
 
-/// Where the first item stands that is the value.
+/// Where the first item is that is the value.
 pub(crate) fn place_of_item(sought: Sought<'_>, items: &[Expr]) -> Option<usize>
     ensures { result ≡ position (sought_item sought.entry) items.now }
 {
@@ -46,7 +46,7 @@ fn has_item(sought: Sought<'_>, x: &Expr) -> bool
     has_kind(Kind::List, x) && is_any_sought(sought, items_of(x))
 }
 
-/// Where the first operand stands that is a list with the value.
+/// Where the first operand is that is a list with the value.
 pub(crate) fn place_of_list(sought: Sought<'_>, operands: &[Expr]) -> Option<usize>
     ensures { result ≡ position (has_item (sought_item sought.entry)) operands.now }
 {

@@ -189,7 +189,7 @@ put_next : (change : Change) (current name : Bytes) (entry : Entry) (entries : L
 put_next Add current name entry entries items = refl
 put_next Set current name entry entries items = refl
 
--- what is left to be put behind an entry gives what was to be given before it
+-- what is left to be put after an entry gives what was to be given before it
 pub put_turn : (change : Change) (current name : Bytes) (entries : List Entry) (at : ℕ) (entry : Entry) (before after all : List Expr)
     → at < length entries → entry ≡ get_or entries at entry
     → entries_put change current name (drop at entries) before ≡ all → after ≡ entry_put change current name entry before

@@ -22,7 +22,7 @@ use Rattle.bz_dict.specs.Dicts.{key_of, has_key, with_entry, with_entries, with_
 abbrev pub place_at : BTreeMap (Vec ℕ Global) ℕ → Bytes → Option ℕ
 place_at places key = tree.get_by (λ (text : Vec ℕ Global). slice_cmp nat_cmp key text.items) places
 
--- where the first entry of a key stands
+-- where the first entry of a key is
 abbrev pub first_place : List Expr → Bytes → Option ℕ
 first_place items key = position_from (has_key key) 0 items
 

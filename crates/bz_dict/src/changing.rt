@@ -28,7 +28,7 @@ fn push_entry(
 {
     let x = entry_made(slot, entry)?;
     if let Err(fault) = put_place(slot.alloc, &x, items.len(), places) {
-        // By a call: let go of here, each form of it would be a path of this proof.
+        // By a call: dropped here, each form of it would be a path of this proof.
         drop(x);
         return Err(fault);
     }

@@ -35,7 +35,7 @@ fn put_key(
     Ok(())
 }
 
-/// Puts the key of the entry behind these items to its place, where it is the first of its key.
+/// Puts the key of the entry after these items to its place, where it is the first of its key.
 pub(crate) fn put_place(
     alloc: Global,
     x: &Expr,

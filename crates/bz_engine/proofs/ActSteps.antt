@@ -54,7 +54,7 @@ put_again place [] file there = refl
 put_again zero (one ∷ more) file there = ap (λ (f : Option Opened). record one { file = f } ∷ more) (sym there)
 put_again (suc place) (one ∷ more) file there = ap (λ (rest : List Used). one ∷ rest) (put_again place more file there)
 
--- the state behind a refusal
+-- the state after a refusal
 abbrev state : List Used → Bytes → Bool → Progress
 state used printed failed = record { used = used; printed = printed; failed = failed }
 

@@ -137,7 +137,7 @@ same_opened words world current None file file' lines lines' found opens opens' 
 same_opened words world current (Some there) file file' lines lines' found opens opens' =
     same_beside words world current there.0 there.1 (get world.folder (journal_name there.0)) file file' lines lines' found opens opens'
 
--- what stands in a run: the open files and the others
+-- what is in a run: the open files and the others
 abbrev Stays : World → List Used → Folder → Type 0
 Stays world used folder = AllAreKept folder used × OthersAre world.folder used folder
 

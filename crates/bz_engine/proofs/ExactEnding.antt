@@ -1,4 +1,4 @@
--- What is left behind steps, and the folder behind the files that are written.
+-- What is left after steps, and the folder after the files that are written.
 use Rattle.std.proofs.Common.{◌≡◌, ℕ, List, [], ◌∷◌, ◌++◌, cond, Option, Some, Bool, true, false, ◌||◌, refl, sym, ap, subst, ◌∙◌, inl, inr, map}
 use Rattle.std.specs.FinMap.{get, get-insert}
 use Rattle.std.specs.List.{flat_map, list_any}

@@ -19,7 +19,7 @@ use Rattle.bz_engine.specs.Run.{World, Progress, nothing_done, RunsSteps}
 use Rattle.bz_engine.specs.Steps.{RunStep, all_steps, shows_input}
 use Rattle.bz_engine.proofs.InputSteps.{nothing_written}
 
--- what is left, by the state behind the steps, the lines that they told and the folder behind all
+-- what is left, by the state after the steps, the lines that they told and the folder after all
 abbrev pub left_by : Options → List RunStep → List Bytes → Progress → Folder → Left
 left_by options steps told state folder = record {
   output = state.printed ++ texts_out (shows_input steps) options.to_stdout state.used;

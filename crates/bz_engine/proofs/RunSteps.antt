@@ -127,7 +127,7 @@ moment_behind began (x ∷ xs) ys used now is = (used, used, inl refl, inl refl,
 abbrev pub Goes : Folder → Bool → List RunStep → RunSpot → RunSpot → Type 0
 Goes folder keep_going steps old new = DoesBetween folder (λ world. RunsSteps world keep_going steps) old new
 
--- behind a part of the steps, whatever those that are left do is what all do
+-- after a part of the steps, whatever those that are left do is what all do
 abbrev pub Passes : Folder → Bool → List RunStep → List RunStep → RunSpot → RunSpot → Type 0
 Passes folder keep_going steps left old new = (known : Option (List ℕ)) → IsLeft known old.state.used old.left → (lines : List (List ℕ))
     × ((more : List (List ℕ)) (after : Progress) → RunsSteps (record { folder = folder; known = known }) keep_going left new.state more after
@@ -135,7 +135,7 @@ Passes folder keep_going steps left old new = (known : Option (List ℕ)) → Is
     × IsLeft known new.state.used new.left
     × Tells old.faults new.faults old.told new.told lines
 
--- the same with journals, and each open file stands
+-- the same with journals, and each open file is
 abbrev pub Continues : Bool → List RunStep → List RunStep → RunSpot → RunSpot → Type 0
 Continues keep_going steps left old new = AllAreKept old.folder old.state.used → (lines : List (List ℕ)) × AllAreKept new.folder new.state.used
     × ((more : List (List ℕ)) (folder' : Folder) (after : Progress) → RunsBeside keep_going left new.folder new.state more folder' after

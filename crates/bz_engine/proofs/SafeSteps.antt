@@ -238,7 +238,7 @@ other_at (suc place) (suc at) file (one ∷ more) differ = other_at place at fil
 pub one_file : (found : Option Opened) (one other : Opened) → found ≡ Some one → found ≡ Some other → one ≡ other
 one_file found one other is also = ap (λ (it : Option Opened). unwrap_or it one) (sym is ∙ also)
 
--- a name that is unlike those behind a step is unlike those before it
+-- a name that is unlike those after a step is unlike those before it
 pub unlike_put : (place : ℕ) (before after : List Used) (file next : Opened) → file_at place before ≡ Some file → after ≡ with_opened place (Some next) before
     → next.name ≡ file.name → (name : Bytes) → IsUnlike after name → IsUnlike before name × ((name ≢ file.name) × (name ≢ journal_name file.name))
 unlike_put place before after file next there put named name unlike = (
@@ -288,7 +288,7 @@ module _ (began folder : Folder) (place : ℕ) (before after : List Used) (file 
       others = others_then;
     }
 
--- the name and the history behind what was kept
+-- the name and the history after what was kept
 name_kept : (answer : Result Reply KeepFault) (history : History) (file : Opened) → (after_keeping answer history file).name ≡ file.name
 name_kept (Ok reply) history file = refl
 name_kept (Err (Refused refusal)) history file = refl
@@ -374,7 +374,7 @@ module _ {F : Type 0} (files : FilesOf F) (counts : (held : F) (t : ℕ) → t �
 
   -- ---- one step
 
-  -- behind a step each open file is safe again, and at each of its moments
+  -- after a step each open file is safe again, and at each of its moments
   abbrev pub Steps : RunStep → List Used → List Used → F → F → Type 0
   Steps step before after old new = AllAreSafe (files.folder old) before → IsMeanwhile began before before (files.folder old)
       → AllAreSafe (files.folder new) after × IsMeanwhile began after after (files.folder new)

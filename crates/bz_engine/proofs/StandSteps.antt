@@ -148,7 +148,7 @@ goes_on_by folder folder' name h after still same at texts holds =
     (subst (λ (all : List Bytes). Holds folder name h.«package» (slice_index_or all after.cursor []) all) (sym texts)
     (subst (λ (k : ℕ). Holds folder name h.«package» (slice_index_or h.texts k []) h.texts) (sym at) holds)))
 
--- ---- the file behind an answer
+-- ---- the file after an answer
 
 goes_on_behind : (answer : Answer) (file : Opened) (history : History) (folder folder' : Folder) → Follows answer file.history history
     → FolderBehind answer file history folder folder' → GoesOn folder file.name file.history → GoesOn folder' file.name history

@@ -200,7 +200,7 @@ set_first world current name finds is =
     does world (step_at current set_size) nothing_done (after_set current name) 0 (file_with current name (opened current text_read) ∷ []) [] []
     (opens world current name [] refl finds is) (sets current name 0 (state_of (file_with current name (opened current text_read) ∷ []) false) is)
 
--- What `set size small` made is taken back by so many steps, or that is refused.
+-- What `set size small` made is taken back by this many steps, or that is refused.
 set_back : (world : World) (current name : Bytes) (count : ℕ) (text : Bytes) (answer : Answer) (history : History)
     → package_number current (after_set current name).used ≡ Some 0 → length text ≤ note_limit → (answer, history) ≡ undone count (set_history current)
     → Does world (step_at current (undo count text)) (after_set current name) (told_of name text answer)

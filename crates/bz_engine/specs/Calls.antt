@@ -103,7 +103,7 @@ KeepsStep files step place before after old new = ((after ≡ before) × (new �
     ⊎ ((is_left_at place before ≡ false) × ((action : Action) × (action_of step.target step.asking.verb ≡ Some action)
     × KeepsSome files place action step.asking.text before after old new))
 
--- Where a run stands: how far it has come, what is left of standard input, the files, and standard error. (Of each, the count of faults.)
+-- Where a run is: how far it has come, what is left of standard input, the files, and standard error. (Of each, the count of faults.)
 pub record RunSpot : Type 1 where
   pub state : Progress
   pub left : Option Bytes
@@ -144,14 +144,14 @@ DoesBetween folder Does old new = (known : Option Bytes) → IsLeft known old.st
 abbrev pub ReadsNoInput : Cut → RunSpot → RunSpot → Type 0
 ReadsNoInput why old new = (new.left ≡ old.left) × (new.reads ≡ old.reads) × (why ≢ c.Read)
 
--- This is done from one spot to another, and in the folder, where each open file stands; and its lines are told.
+-- This is done from one spot to another, and in the folder, where each open file is; and its lines are told.
 abbrev pub KeepsBetween : (Folder → Progress → List Bytes → Folder → Progress → Type 0) → RunSpot → RunSpot → Type 0
 KeepsBetween Keeps old new = AllAreKept old.folder old.state.used → (lines : List Bytes)
     × Keeps old.folder old.state lines new.folder new.state
     × Tells old.faults new.faults old.told new.told lines
 
 -- From one spot to another of a run that began with any folder: where each open file was safe each one is again, each folder is at a
--- moment of these steps, and one that is at a moment of further steps behind them is at one of all.
+-- moment of these steps, and one that is at a moment of further steps after them is at one of all.
 abbrev pub PassesSafely : List RunStep → RunSpot → RunSpot → Type 0
 PassesSafely steps old new = (began : Folder) → AllAreSafe old.folder old.state.used → IsMeanwhile began old.state.used old.state.used old.folder
     → AllAreSafe new.folder new.state.used × IsMeanwhile began new.state.used new.state.used new.folder

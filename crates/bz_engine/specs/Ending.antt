@@ -1,4 +1,4 @@
--- What a run leaves behind its steps: standard output, lines, files and the status.
+-- What a run leaves after its steps: standard output, lines, files and the status.
 use Rattle.std.specs.Prelude.{◌≡◌, ◌&&◌, not, Bool, false, ℕ, List, [], ◌∷◌, ◌++◌, map, bytes_eq, if◌then◌else◌, Option, Some, None}
 use Rattle.std.specs.FinMap.{get}
 use Rattle.std.specs.List.{flat_map, list_any}
@@ -81,7 +81,7 @@ kept_of used = file_kept used.file
 abbrev pub all_kept : List Used → List Writing
 all_kept used = flat_map kept_of used
 
--- the files that a run writes: with their journals behind each step, or at the end
+-- the files that a run writes: with their journals after each step, or at the end
 abbrev pub fixed_of : Bool → Bool → Used → List Writing
 fixed_of journals to_stdout used = if journals then kept_of used else writing_of to_stdout used
 
@@ -102,7 +102,7 @@ pub record Left : Type 0 where
   pub status : ℕ
   pub folder : Folder
 
--- Steps are run; then standard output is given what they printed and the texts behind it, and files are written.
+-- Steps are run; then standard output is given what they printed and the texts after it, and files are written.
 pub record Performs (options : Options) (steps : List RunStep) (world : World) (left : Left) : Type 0 where
   pub told : List Bytes
   pub state : Progress
@@ -112,7 +112,7 @@ pub record Performs (options : Options) (steps : List RunStep) (world : World) (
   pub lines : left.lines ≡ told ++ fixed_lines options.quiet (all_writings options.to_stdout state.used)
   pub status : left.status ≡ status_of state
 
--- What is left stands in the writers and in the folder. (Standard output before and after; the faults of standard error and what it
+-- What is left is in the writers and in the folder. (Standard output before and after; the faults of standard error and what it
 -- holds, each before and after.)
 pub record LeftStands (left : Left) (status : ℕ) (folder : Folder) (out out' : Option Bytes) (faults faults' : ℕ) (err err' : Option Bytes) : Type 0 where
   pub exit : status ≡ left.status

@@ -66,7 +66,7 @@ pub record SameLeft (words : List Bytes) (world : World) (left other : Left) : T
 abbrev pub IsToldPattern : Refused → World → Left → Type 0
 IsToldPattern refused world left = IsPatternFault refused.operand refused.fault × (left ≡ unused world.folder (operand_line refused))
 
--- The operand stands among the words, or in the file of lines.
+-- The operand is among the words, or in the file of lines.
 abbrev pub GivenTellsPattern : Given → World → Left → Type 0
 GivenTellsPattern (operands texts) world left = (refused : Refused) × IsFirstRefused texts refused × IsToldPattern refused world left
 GivenTellsPattern (script name) world left =

@@ -28,12 +28,12 @@ UsesBeside folder current before place lines after =
     × ((file : Option Opened) × OpensBeside true folder current (found_in folder current) file lines
     × (after ≡ before ++ record { «package» = current; file = file } ∷ [])))
 
--- the file behind an answer that left it this history: with its journal it was written where another text is the present one
+-- the file after an answer that left it this history: with its journal it was written where another text is the present one
 abbrev pub file_behind : Answer → History → Opened → Opened
 file_behind (Ok reply) history file = after_keeping (Ok reply) history file
 file_behind (Err refusal) history file = record file { history = history }
 
--- the state behind an answer of the open file with this number
+-- the state after an answer of the open file with this number
 abbrev pub state_behind : ℕ → Opened → Answer → History → Progress → Progress
 state_behind place file answer history state = record {
   used = with_opened place (Some (file_behind answer history file)) state.used;
@@ -49,7 +49,7 @@ pub record KeepsHistory (name : Bytes) (history : History) (before after : Folde
   pub holds : Holds after name history.«package» (present history) history.texts
   pub others : OthersStay name before after
 
--- The folder behind an answer: where another text is the present one its history is kept, else the folder stays.
+-- The folder after an answer: where another text is the present one its history is kept, else the folder stays.
 abbrev pub FolderBehind : Answer → Opened → History → Folder → Folder → Type 0
 FolderBehind (Ok reply) file history before after =
     ((history.cursor ≡ file.history.cursor) × (after ≡ before))
@@ -84,7 +84,7 @@ RunsBeside keep_going (step ∷ steps) folder before lines folder' after =
     ⊎ ((ends_run keep_going before ≡ false) × ((between : Folder) × (mid : Progress) × (first : List Bytes) × (rest : List Bytes)
     × DoesBeside step folder before first between mid × RunsBeside keep_going steps between mid rest folder' after × (lines ≡ first ++ rest)))
 
--- Steps are run, and files are written behind each; then standard output is given what was printed and the texts behind it, and the files
+-- Steps are run, and files are written after each; then standard output is given what was printed and the texts after it, and the files
 -- that were written are told.
 pub record PerformsBeside (options : Options) (steps : List RunStep) (world : World) (left : Left) : Type 0 where
   pub told : List Bytes
@@ -111,7 +111,7 @@ abbrev pub IsApart : Bytes → List Used → Type 0
 IsApart current [] = Unit {0}
 IsApart current (used ∷ more) = (used.«package» ≢ current) × IsApart current more
 
--- each open file stands, and all packages differ
+-- each open file is, and all packages differ
 abbrev pub AllAreKept : Folder → List Used → Type 0
 AllAreKept folder [] = Unit {0}
 AllAreKept folder (used ∷ more) = IfSome used.file (IsKeptIn folder used.«package») × IsApart used.«package» more × AllAreKept folder more

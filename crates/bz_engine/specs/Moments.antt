@@ -69,7 +69,7 @@ MayAct step before after = (after ≡ before)
     × (after ≡ with_opened place (Some (after_keeping answer history file)) before))
 
 -- a folder at a moment of a run of these steps, which has used these packages: the first step is under way, or is done and the moment is one
--- of those behind it
+-- of those after it
 abbrev pub IsMomentOfSteps : Folder → List RunStep → List Used → Folder → Type 0
 IsMomentOfSteps began [] used now = IsMeanwhile began used used now
 IsMomentOfSteps began (step ∷ steps) used now = (mid : List Used) × (after : List Used) × Joins began step.target.«package» used mid × MayAct step mid after

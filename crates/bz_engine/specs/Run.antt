@@ -59,7 +59,7 @@ abbrev pub told_of : Bytes → Bytes → Answer → List Bytes
 told_of name command (Ok reply) = []
 told_of name command (Err refusal) = refusal_line name command refusal ∷ []
 
--- the state behind an answer of the open file with this number
+-- the state after an answer of the open file with this number
 abbrev pub answered : ℕ → Opened → Answer → History → Progress → Progress
 answered place file answer history state = record {
   used = with_opened place (Some (record file { history = history })) state.used;

@@ -18,7 +18,7 @@ abbrev pub refusal_line : Bytes → Bytes → Refusal → Bytes
 refusal_line file command refusal =
     codes "buildozer: " ++ file ++ codes ": " ++ numbered command (refusal_name refusal) (refusal_number refusal)
 
--- an operand that is refused; behind its line stands the hint, if there is one
+-- an operand that is refused; after its line is the hint, if there is one
 abbrev pub operand_line : Refused → Bytes
 operand_line refused = codes "buildozer: " ++ numbered refused.operand (fault_name refused.fault) (fault_number refused.fault) ++ hint_for refused
 

@@ -1,4 +1,4 @@
--- Worked rows: what each part of a run of buildozer gives. Above a row stands what is typed (in a shell), or what was done.
+-- Worked rows: what each part of a run of buildozer gives. Above a row is what is typed (in a shell), or what was done.
 use Rattle.std.specs.Prelude.{◌≡◌, ℕ, Bool, true, false, List, [], ◌∷◌, map, codes, Some, None, Result, Ok, Err}
 use Rattle.std.specs.FinMap.{get}
 use Rattle.bz_value.specs.declared.refusal.Refusal.TheVariants.{NotAList, TooFar}

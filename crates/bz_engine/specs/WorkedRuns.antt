@@ -1,4 +1,4 @@
--- Worked rows: how whole runs of buildozer end. Above a row stands what is typed (in a shell).
+-- Worked rows: how whole runs of buildozer end. Above a row is what is typed (in a shell).
 use Rattle.std.specs.Prelude.{◌≡◌, ℕ, true, List, [], ◌∷◌, codes, Some, None}
 use Rattle.std.specs.FinMap.{get}
 use Rattle.bz_files.specs.Folder.{Folder, with_file}

@@ -214,7 +214,7 @@ fn keep_at<F: Files, E: Sink>(
 }
 
 // Does a command on a target in the open file of the package with this number, unless that is left alone; where journals are kept, its
-// journal and it are kept behind an action.
+// journal and it are kept after an action.
 fn act_on<F: Files, E: Sink>(
     alloc: Global,
     journals: bool,

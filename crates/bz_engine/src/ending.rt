@@ -1,4 +1,4 @@
-//! What a run leaves behind its steps.
+//! What a run leaves after its steps.
 ghost use Rattle.std.specs.Prelude.{◌≡◌, ◌≢◌, ◌⊎◌, ◌++◌, [], ◌∷◌, ℕ, List, Some, None, true, false, map, option_map, if◌then◌else◌, IfOk, IfErr};
 ghost use Rattle.std.specs.List.{list_any};
 ghost use Rattle.bz_workspace.specs.Sessions.{present};
@@ -97,7 +97,7 @@ fn put_texts(
     Ok(changed)
 }
 
-// Writes what was printed, and the texts behind it. Whether some text is another one than was read. The error, which is
+// Writes what was printed, and the texts after it. Whether some text is another one than was read. The error, which is
 // told: memory was refused, and nothing is written; or standard output failed.
 fn print_all<W: Sink, E: Sink>(
     packages: &[Used],
@@ -271,7 +271,7 @@ fn ended(failed: bool, changed: bool, cut: Cut) -> Exit
     Exit { status, cut }
 }
 
-// What packages leave at the end, behind what was printed, of a run that this failure cut, if one did.
+// What packages leave at the end, after what was printed, of a run that this failure cut, if one did.
 fn leave<W: Sink, F: Files, E: Sink>(
     alloc: Global,
     options: Options,
@@ -312,7 +312,7 @@ fn leave<W: Sink, F: Files, E: Sink>(
     }
 }
 
-/// Ends a run that this failure cut, if one did: standard output is given what was printed and the texts behind it, and
+/// Ends a run that this failure cut, if one did: standard output is given what was printed and the texts after it, and
 /// the files that changed are written, each where it still holds what was read of it; with their journals they were written before, which is
 /// told. A failure is told, and what is left is done all the same. Of two failures it is that of the files which cuts the run.
 pub(crate) fn finish<W: Sink, F: Files, E: Sink>(

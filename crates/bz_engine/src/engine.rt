@@ -333,7 +333,7 @@ fn run_script<R: Source, W: Sink, E: Sink, F: Files>(
 }
 
 /// Reads the words of a line, and does what they or a file of lines ask for, up to the first step that fails; with `-k`
-/// all steps. A package's file is read where it is used first. Behind the last step `out` is given what commands printed,
+/// all steps. A package's file is read where it is used first. After the last step `out` is given what commands printed,
 /// then the text of standard input, unless each command on it prints, and with `--stdout` the text of each file that
 /// changed; without it those files are written, each where it still holds what was read of it, and told by a line on `err`
 /// unless `--quiet` was given. With `--journal` each action that changes a text replaces FILE.journal and then the file, and what is
@@ -355,7 +355,7 @@ pub fn buildozer<S: AsStr, R: Source, W: Sink, E: Sink, F: Files>(
         × WordsOutcome (map S.text words.now) (world_of R.Source F.Files input.old files.old) left
         × LeavesBehind W.Sink E.Sink F.Files left result.status out.old out.new err.old err.new files.new }
 
-    // Where standard output fails, a beginning of what it is to be given stands there, and the files are as a whole run leaves them.
+    // Where standard output fails, a beginning of what it is to be given is there, and the files are as a whole run leaves them.
     ensures write { (F.honest files.old ≡ true) ⊎ NamesNoFile (map S.text words.now)
         → result.cut ≡ Cut.Write → (left : Left)
         × WordsOutcome (map S.text words.now) (world_of R.Source F.Files input.old files.old) left

@@ -11,7 +11,7 @@ use bz_value::Refusal;
 use itoa::Buffer;
 use std::alloc::{AllocError, Global};
 
-// Tells what is refused behind these two pieces and what stands between them and it.
+// Tells what is refused after these two pieces and what is between them and it.
 fn tell_numbered_in<'a, E: Sink>(
     err: &mut E,
     front: &'a str,
@@ -49,7 +49,7 @@ pub(crate) fn tell_refusal<E: Sink>(err: &mut E, file: &str, command: &str, refu
     );
 }
 
-// Tells what is refused behind this piece, and the three pieces of a hint behind its line.
+// Tells what is refused after this piece, and the three pieces of a hint after its line.
 fn tell_hinted<'a, E: Sink>(
     err: &mut E,
     front: &'a str,
@@ -73,7 +73,7 @@ fn tell_hinted<'a, E: Sink>(
     );
 }
 
-// Tells that an operand is refused, and the hint of it behind that.
+// Tells that an operand is refused, and the hint of it after that.
 fn tell_operand<E: Sink>(err: &mut E, refused: &Refused<'_>, hint: Hint)
     requires { hint_text hint ≡ hint_for (refused_in refused.now) }
     ensures { TellsLine E.Sink err.old err.new (operand_line (refused_in refused.now)) }

@@ -243,7 +243,7 @@ owned_cut (mark ∷ []) h = absurd h.1
 owned_cut (mark ∷ own ∷ []) h = here_cut Nothing [] mark own refl h.0 h.1.0
 owned_cut (mark ∷ own ∷ x ∷ xs) h = absurd h.1.1
 
--- behind for
+-- after for
 in_cut : (xs : List Part) → Fits IsSort (tok (s.one_keyword (codes "in")) (sub s.expr owned)) xs → Cut Any [] xs
 in_cut [] h = absurd h
 in_cut (x ∷ []) h = absurd h.1
@@ -262,7 +262,7 @@ mutual
   behind_name_cut (x ∷ xs) (inr (m, inl h)) = one_more Any Any [] x xs (token_plain s.comma_mark x refl m) (λ front w. tt) (names_cut xs h)
   behind_name_cut (x ∷ xs) (inr (m, inr h)) = no_such h.0
 
--- behind the bracket of def
+-- after the bracket of def
 close_cut : (xs : List Part) → Fits IsSort (tok s.close_round owned) xs → Cut (λ front. (y : Part) × (front ≡ y ∷ []) × IsSeparator y) [] xs
 close_cut [] h = absurd h
 close_cut (y ∷ xs) h =

@@ -27,7 +27,7 @@ use Rattle.bz_formatter.specs.TreePrograms.{before_marks}
 use Rattle.bz_formatter.proofs.SeenPrograms.{Says, EachSays, items_say, part_says, plain_says, row_says, statements_say, dropped_say, taken_say}
 use Rattle.bz_format.specs.TreePrograms.{BzlViewsKeepPrograms, bare_head, head_in, headers_in, node_statements, Parsed, parsed, parsed_row, parsed_parts, statements_in, suite_statements, suites_in}
 
--- whatever stands around it, a part that was read says this
+-- whatever is around it, a part that was read says this
 record Tells (x : Stated) (y : Parsed) : Type 0 where
   part : Says x.part y.part
   colon : x.is_colon ≡ y.is_colon

@@ -45,7 +45,7 @@ FormatsBzlTo text (Err TooDeep) = (tree : Node) × ReadsBzl text tree × (length
 FormatsBzlTo text (Err Memory) = Unit {0}
 
 -- The formatted text of a text: formatting gives it, formatting it gives it again, it says what the text says, levelled, each
--- comment stands in it as often as in the text, and the program is the same.
+-- comment is in it as often as in the text, and the program is the same.
 pub record IsFormattedBzl (text formatted : Bytes) : Type 0 where
   pub given : FormatsBzlTo text (Ok formatted)
   pub again : FormatsBzlTo formatted (Ok formatted)

@@ -39,7 +39,7 @@ statements_in (x ∷ xs) = x.statements ++ statements_in xs
 abbrev pub bare_head : Kind → List Expr → List Expr → Form
 bare_head kind parts items = record { kind = kind; parts = parts; seq = record { items = items; end_ = []; split = false }; open_ = false; comments = no_comments }
 
--- The parts of a header up to its colon. Of a Def: the word and the name, and the parameters behind the bracket.
+-- The parts of a header up to its colon. Of a Def: the word and the name, and the parameters after the bracket.
 abbrev pub head_in : Kind → List Expr → Form
 head_in kind xs = if is_kind kind k.Def then bare_head k.Def (take 2 xs) (before_marks (drop 3 xs)) else bare_head kind xs []
 
@@ -58,7 +58,7 @@ node_statements kind xs =
     if is_kind kind k.Line then line_statements xs
     else (if is_compound kind then s.Compound (headers_in kind [] xs) ∷ [] else [])
 
--- a line in the place of a suite, or the statements behind a suite's newline
+-- a line in the place of a suite, or the statements after a suite's newline
 abbrev pub suite_statements : Kind → List Parsed → List Statement
 suite_statements kind xs =
     if is_kind kind k.Line then line_statements xs

@@ -11,7 +11,7 @@ use Rattle.bz_items.specs.Characters.{Bytes}
 use Rattle.bz_formatter.specs.Tokens.{is_mark_between}
 use Rattle.bz_format.specs.Formatted.{FormatsBzlTo}
 
--- what stands between parts and around them, a colon too
+-- what is between parts and around them, a colon too
 abbrev pub is_bzl_separator : Class → Bytes → Bool
 is_bzl_separator class token = is_mark_between class token || is_one_of colon_mark (record { class = class; gap = []; token = token })
 

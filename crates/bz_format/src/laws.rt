@@ -12,7 +12,7 @@ pub fn bzl_views_keep_programs()
     ensures { BzlViewsKeepPrograms }
 {}
 
-/// A formatted text is formatted to itself, it says what the text says that it was made of, levelled, each comment stands in it
+/// A formatted text is formatted to itself, it says what the text says that it was made of, levelled, each comment is in it
 /// as often as in that text, and the program is the same.
 pub fn formatted_bzl_once()
     ensures { BzlFixedPoint }

@@ -27,7 +27,7 @@ nothing_begun (tree, reads, none, ends) = record {
   last = refl;
 }
 
--- What the layers below promise of what stands behind each other.
+-- What the layers below promise of what is one after the other.
 pub record LayersJoin : Type 0 where
   pub views : ViewsJoin
   pub tidy : TidiedApart

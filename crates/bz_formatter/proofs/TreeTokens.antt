@@ -1,4 +1,4 @@
--- Each token of a legal tree that is no separator stands in the program of the tree as often.
+-- Each token of a legal tree that is no separator is in the program of the tree as often.
 use Rattle.std.proofs.Common.{ℕ, zero, suc, ◌+◌, Bool, true, false, ◌&&◌, ◌||◌, List, [], ◌∷◌, ◌++◌, ◌≡◌, refl, sym, ap, ◌∙◌, map, take, drop, subst, inl, inr, arith, true≢false, nat_eq}
 use Rattle.std.specs.Prelude.{bytes_eq}
 use Rattle.std.specs.List.{flat_map, AllByRecursion}
@@ -93,7 +93,7 @@ close_curly = separating 9 _ refl
 
 -- ---- where they stand
 
--- every second part is one, and so is a last one behind pairs of a part and its separator
+-- every second part is one, and so is a last one after pairs of a part and its separator
 abbrev pub Paired : List Part → Type 0
 Paired [] = Unit {0}
 Paired (x ∷ []) = IsSeparator x
@@ -132,7 +132,7 @@ module _ (close : List Terminal) (c : Separates close) where
   one_paired q x (y ∷ z ∷ xs) (inl h) = absurd h.1
   one_paired q x (y ∷ xs) (inr h) = (comma y h.0, items_paired q xs h.1)
 
--- the opening bracket, and what stands behind it
+-- the opening bracket, and what is after it
 pub record Bracketed (kind : Kind) (xs : List Part) : Type 0 where
   pub opener : SeparatorAt (lead kind) xs
   pub body : Paired (drop (suc (lead kind)) xs)
@@ -232,7 +232,7 @@ module _ (number : Class → Bytes → ℕ) (quiet : (l : Leaf) → is_one_of ma
       let more = front_sum xs t.1 h.1.1 in
       omega arith
 
-  -- what stands before an opening bracket, and the items behind it
+  -- what is before an opening bracket, and the items after it
   sequence_sum : (n : ℕ) (xs : List Part) → SeparatorAt n xs → Paired (drop (suc n) xs) → AllByRecursion Kept xs
       → total whole (take n (map part_syntax xs)) + total whole (before_marks (drop (suc n) (map part_syntax xs))) ≡ total part_sum xs
   sequence_sum zero [] a t h = refl

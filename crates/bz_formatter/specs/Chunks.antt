@@ -31,7 +31,7 @@ pub record IsBegun (text out : Bytes) (above : Option Item) (ends : Bool) : Type
   pub shallow : depth_of (drawn (tidied items)) ≤ depth_limit
   pub last : IsLast above items
 
--- Behind what was formatted stands the layout of further items, tidied; none of them is sorted with those above.
+-- After what was formatted is the layout of further items, tidied; none of them is sorted with those above.
 pub record IsAppended (before : Bytes) (above : Option Item) (items : List Item) (out : Bytes) (below : Option Item) : Type 0 where
   pub apart : (above ≡ None) ⊎ (begins_with_load items ≡ false)
   pub formatted : out ≡ before ++ (gap_below above (tidied items) ++ layout (tidied items))

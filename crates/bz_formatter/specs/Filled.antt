@@ -1,4 +1,4 @@
--- Comments are never dropped or shortened: so many of one can be in a value that what is written of it is past the limit.
+-- Comments are never dropped or shortened: this many of one can be in a value that what is written of it is past the limit.
 use Rattle.std.specs.Prelude.{◌≡◌, ◌<◌, ◌≤◌, ◌*◌, List, Option, length}
 use Rattle.bz_tree.specs.declared.tree.Node.{Node}
 use Rattle.bz_tree.specs.Spell.{limit}
@@ -11,7 +11,7 @@ use Rattle.bz_view.specs.View.{view_of}
 use Rattle.bz_value.specs.declared.refusal.Refusal.TheVariants.{TooLarge}
 use Rattle.bz_formatter.specs.Meaning.{refuses, written}
 
--- A proper value in which a comment stands so often that its copies alone are past the limit isn't written.
+-- A proper value in which a comment occurs so often that its copies alone are past the limit isn't written.
 abbrev pub CommentsFill : Type 0
 CommentsFill =
     (items : List Item) (comment : Bytes) (printed : Option Bytes)

@@ -15,7 +15,7 @@ use Rattle.bz_formatter.specs.Meaning.{gives, Formats}
 use Rattle.bz_formatter.specs.TreePrograms.{tree_program}
 
 -- The formatted text of a text: formatting gives it, formatting it gives it again, its value is that of the text, tidied,
--- each comment stands in it as often as in the text, and the program is kept; so each token of that which is no string stands in it
+-- each comment is in it as often as in the text, and the program is kept; so each token of that which is no string is in it
 -- as often.
 pub record IsFormatted (text formatted : Bytes) : Type 0 where
   pub given : Formats text (gives formatted None)

@@ -1,4 +1,4 @@
--- How often a token stands in a text, and that formatting keeps that.
+-- How often a token is in a text, and that formatting keeps that.
 use Rattle.std.specs.Prelude.{◌≡◌, ℕ, Bool, false, [], ◌++◌, List, None}
 use Rattle.bz_token.specs.declared.class.Class.{Class}
 use Rattle.bz_token.specs.declared.class.Class.TheVariants as c
@@ -12,22 +12,22 @@ use Rattle.bz_tidy.specs.Syntax.{one_if_token, token_times}
 use Rattle.bz_formatter.specs.Meaning.{gives, Formats}
 use Rattle.bz_formatter.specs.TreePrograms.{tree_program}
 
--- what stands between parts and around them: commas, semicolons, brackets, newlines and the end of a file
+-- what is between parts and around them: commas, semicolons, brackets, newlines and the end of a file
 abbrev pub marks_between : List Terminal
 marks_between = comma_mark ++ (semicolon ++ (newline ++ (end ++ (open_round ++ (close_round ++ (open_square ++ (close_square ++ (open_curly ++ close_curly))))))))
 
 abbrev pub is_mark_between : Class → Bytes → Bool
 is_mark_between class token = is_one_of marks_between (record { class = class; gap = []; token = token })
 
--- how often a token of this class and text stands among the tokens of a tree
+-- how often a token of this class and text is among the tokens of a tree
 abbrev pub leaf_times : Class → Bytes → Node → ℕ
 leaf_times class token tree = total (λ leaf. one_if_token class token leaf.class leaf.token) (leaves_of tree)
 
--- Every other token of a legal tree stands in its program as often.
+-- Every other token of a legal tree is in its program as often.
 abbrev pub TreeProgramsKeepTokens : Type 0
 TreeProgramsKeepTokens = (tree : Node) → Legal tree → (class : Class) (token : Bytes) → is_mark_between class token ≡ false → token_times class token (tree_program tree) ≡ leaf_times class token tree
 
--- Of every text, each token that is neither a string nor such a mark stands in the formatted text as often.
+-- Of every text, each token that is neither a string nor such a mark is in the formatted text as often.
 abbrev pub FormattingKeepsTokens : Type 0
 FormattingKeepsTokens =
     (text formatted : Bytes) → Formats text (gives formatted None) → (tree new : Node) → Reads text tree → Reads formatted new

@@ -21,7 +21,7 @@ before_marks (x ∷ mark ∷ xs) = x ∷ before_marks xs
 abbrev pub bare_form : Kind → List Expr → List Expr → Expr
 bare_form kind parts items = e.Form (record { kind = kind; parts = parts; seq = record { items = items; end_ = []; split = false }; open_ = false; comments = no_comments })
 
--- a row of parts; or what stands before the opening bracket, and the items behind it
+-- a row of parts; or what is before the opening bracket, and the items after it
 abbrev pub node_syntax : Frame → Kind → List Expr → Expr
 node_syntax row kind xs = bare_form kind xs []
 node_syntax (sequence opener closer) kind xs = bare_form kind (take (lead kind) xs) (before_marks (drop (suc (lead kind)) xs))

@@ -14,7 +14,7 @@ use bz_view::{ends_with_line, views_join};
 use bz_write::{append_file, layouts_join};
 use std::alloc::Global;
 
-/// So many bytes a chunk has at least. Its tree and value take some 34 bytes a byte.
+/// This many bytes a chunk has at least. Its tree and value take some 34 bytes a byte.
 const CHUNK: usize = 32_768;
 
 /// How often a chunk that ends within a statement is tried again, at twice the length.
@@ -26,7 +26,7 @@ struct Chunk {
     file: File,
     /// Its length.
     len: usize,
-    /// It ends with a line, so that another one may stand behind it.
+    /// It ends with a line, so that another one may stand after it.
     ends: bool,
 }
 
@@ -38,7 +38,7 @@ enum Unseen {
     Never,
 }
 
-/// Whether a text that is not read may be read with more behind it: a string is open, or the end is not expected.
+/// Whether a text that is not read may be read with more after it: a string is open, or the end is not expected.
 fn is_short(fault: &ReadFault, text: &[u8]) -> bool {
     match fault {
         ReadFault::OpenString { .. } => true,

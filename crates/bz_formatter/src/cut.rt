@@ -10,14 +10,14 @@ fn begins_statement(text: &[u8]) -> bool {
     }
 }
 
-/// A place behind which a chunk may begin that has `from` bytes before it at least: right behind a line that is neither blank nor a
+/// A place after which a chunk may begin that has `from` bytes before it at least: right after a line that is neither blank nor a
 /// comment, where the next such line begins as a statement does; or else the end of the text. It is a guess: brackets and strings that are open
 /// there are not looked for.
 pub fn chunk_end(text: &[u8], from: usize) -> usize
     ensures bound { result ≤ length text.now }
     ensures some { 0 < length text.now → 0 < result }
 {
-    // Behind the last line of code; and the first byte of this line that is no blank, of which nothing is known where the walk begins.
+    // After the last line of code; and the first byte of this line that is no blank, of which nothing is known where the walk begins.
     let mut end = 0;
     let mut first = b'#';
     for at in from..text.len() {

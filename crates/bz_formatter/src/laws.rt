@@ -10,7 +10,7 @@ use bz_tree::laws::one_reading;
 use bz_view::{comments_kept, views_are_proper};
 use bz_write::{layout_is_accepted, layout_reads_back};
 
-/// A formatted text is formatted to itself, its value is that of the text it was made of, tidied, each comment stands in it
+/// A formatted text is formatted to itself, its value is that of the text it was made of, tidied, each comment is in it
 /// as often as in that text, and the program of that text is kept, with each token of it that is no string as often.
 pub fn formatted_once()
     ensures { FixedPoint }
@@ -34,7 +34,7 @@ pub fn views_keep_programs()
     ensures { ViewsKeepPrograms }
 {}
 
-/// Each token of a text stands in its program as often, and in the formatted text as often as in the text, but for strings, commas,
+/// Each token of a text is in its program as often, and in the formatted text as often as in the text, but for strings, commas,
 /// semicolons, brackets and newlines.
 pub fn tokens_kept()
     ensures program { TreeProgramsKeepTokens }
@@ -55,7 +55,7 @@ pub fn writing_keeps_program()
     program_stays();
 }
 
-/// Where a comment stands so often in a proper value that its copies alone are past the limit of a text, so is what is written of
+/// Where a comment occurs so often in a proper value that its copies alone are past the limit of a text, so is what is written of
 /// the value; in the value of a text none does.
 pub fn comments_fill()
     ensures fill { CommentsFill }

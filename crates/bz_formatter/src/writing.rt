@@ -23,7 +23,7 @@ pub fn reads_back(tree: &Tree)
     let _root = &tree.root;
 }
 
-/// The value of a tree that is let go.
+/// The value of a tree that is dropped.
 pub(crate) fn value_of(alloc: Global, tree: Tree) -> Result<File, Memory>
     ensures { IfOk result (λ file. file ≡ view_of tree) }
 {

@@ -1,4 +1,4 @@
--- Items with separators between them and a closing token behind them: their hosts.
+-- Items with separators between them and a closing token after them: their hosts.
 use Rattle.std.proofs.Common.{◌≡◌, ℕ, suc, ◌+◌, ◌<◌, Bool, true, false, List, [], ◌∷◌, ◌++◌, refl, sym, ap, ◌∙◌, subst, map, arith}
 use Rattle.std.specs.List.{AllByRecursion}
 use Rattle.bz_lex.specs.declared.leaf.Leaf.{Leaf}

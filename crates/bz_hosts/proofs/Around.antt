@@ -1,4 +1,4 @@
--- Which regions of a text a gap sees: those that end before it or begin behind it change nothing.
+-- Which regions of a text a gap sees: those that end before it or begin after it change nothing.
 use Rattle.std.proofs.Common.{◌≡◌, ◌≢◌, ℕ, suc, ◌<◌, ◌≤◌, Bool, false, ◌&&◌, List, [], ◌∷◌, ◌++◌, inl, inr, Option, Some, None, refl, ap, ◌∙◌, nat_eq, nat_lt, nat_le, if◌then◌else◌, arith}
 use Rattle.std.specs.List.{AllByRecursion}
 use Rattle.std.proofs.lemmas.Bool.{cases_Bool, eq-eqb, ne_eqb, lt-ltb, le-ltb}
@@ -22,7 +22,7 @@ pub all_wider : (lo up lo' up' : ℕ) → lo' ≤ lo → up ≤ up' → (rs : Li
 all_wider lo up lo' up' l u [] h = tt
 all_wider lo up lo' up' l u (r ∷ rs) h = (wider lo up lo' up' l u r h.0, all_wider lo up lo' up' l u rs h.1)
 
--- ---- a gap that stands apart from a region
+-- ---- a gap that is apart from a region
 
 abbrev Silent : ℕ → Region → Type 0
 Silent m (host first behind next) = (holds_gap m (host first behind next) ≡ false) × (nat_eq next m ≡ false)
@@ -109,7 +109,7 @@ beginning_ahead m b hi l (between open_ behind ∷ rs) rs' h = beginning_ahead m
 
 -- ---- what a gap sees of all regions
 
--- Of all regions a gap sees no more than these, where found is the innermost before them and no place behind hi is asked for.
+-- Of all regions a gap sees no more than these, where found is the innermost before them and no place after hi is asked for.
 pub record Sees (all : List Region) (m : ℕ) (found : Option Region) (hi : ℕ) (rs : List Region) : Type 0 where
   pub inner : innermost m None all ≡ innermost m found rs
   pub ends : ending_at m all ≡ ending_at m rs

@@ -1,4 +1,4 @@
--- In each part of a legal tree that stands in a host, the comments are those of the view.
+-- In each part of a legal tree that is in a host, the comments are those of the view.
 use Rattle.std.proofs.Common.{◌≡◌, ℕ, suc, ◌+◌, ◌≤◌, false, ◌&&◌, List, [], ◌∷◌, ◌++◌, Some, refl, sym, ap, ◌∙◌, subst, map, take, drop}
 use Rattle.std.specs.List.{AllByRecursion, flat_map}
 use Rattle.std.proofs.lemmas.List.{take-map, drop-map}
@@ -26,7 +26,7 @@ use Rattle.bz_hosts.proofs.Texts.{Texts, InHost, first_texts}
 use Rattle.bz_hosts.proofs.Cuts.{Cut, sequence_cut}
 use Rattle.bz_hosts.proofs.Nodes.{cut_regions, head_of, body_of, cut_size, node_cut, parted, row_regions, row_solid, leaf_texts, same_texts, sequence_hosts, cut_texts}
 
--- ---- what stands in a node
+-- ---- what is in a node
 
 row_hosts : (kind : Kind) → frame kind ≡ row → (xs : List Part) → inside_expr (plain (seen_node row kind (map seen xs))) ≡ insides xs
 row_hosts kind e xs =

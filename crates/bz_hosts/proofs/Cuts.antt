@@ -1,4 +1,4 @@
--- A node with a sequence is cut at its opening bracket; behind it items and commas alternate.
+-- A node with a sequence is cut at its opening bracket; after it items and commas alternate.
 use Rattle.std.proofs.Common.{◌≡◌, ℕ, suc, Bool, true, false, not, ◌&&◌, List, [], ◌∷◌, ◌++◌, inl, inr, refl, ap, ◌∙◌, subst, take, drop}
 use Rattle.std.proofs.lemmas.Bool.{and_parts, or_cases, not-true}
 use Rattle.bz_token.specs.declared.class.Class.{Class}
@@ -102,7 +102,7 @@ module _ (close : List Terminal) (none' : no_words close ≡ true) (apart : disj
   one_alternating q x (y ∷ []) i (inr (m, inr h)) = absurd h
   one_alternating q x (y ∷ z ∷ xs) i (inr h) = (i, separator_mark s.comma_mark close refl none' apart y h.0, items_alternating q (z ∷ xs) h.1)
 
--- the parts of a node before its opening bracket, and those behind it
+-- the parts of a node before its opening bracket, and those after it
 pub record Cut (kind : Kind) (xs : List Part) : Type 0 where
   pub opener : Leaf
   pub parts : xs ≡ take (lead kind) xs ++ p.Leaf opener ∷ drop (suc (lead kind)) xs

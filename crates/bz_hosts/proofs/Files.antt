@@ -85,7 +85,7 @@ first_gap_of ls l ms gap e g = rw (e, g) refl
 abbrev LinesOf : List Part → Type 0
 LinesOf xs = Several (IsSort s.line) (Fits IsSort (tok s.end done)) xs
 
--- a gap in no statement, and behind none
+-- a gap in no statement, and after none
 gap_outside : (all : List Region) (m hi : ℕ) → Sees all m None hi [] → GapPlaces all m outside outside
 gap_outside all m hi h = record { on_line = λ t. rw (h.ends, h.inner) refl; below = λ t. rw h.inner refl }
 
@@ -157,7 +157,7 @@ abbrev seen_parts : Part → List Seen
 seen_parts (p.Leaf l) = []
 seen_parts (Node' kind m r) = seen_row r
 
--- a line, and the lines behind it
+-- a line, and the lines after it
 line_step : (all : List Region) (n up : ℕ) (x : Part) (xs : List Part) → IsSort s.line x → 0 < size x → n + size x ≤ up → GapPlaces all n outside outside →
     LineTexts all n (n + size x) (inner n x) (in_line n x) (statements_in [] (seen_parts x)) → FileTexts all (n + size x) up xs →
     gap_of (leaves_part x) ≡ first_seen_gap (seen_parts x) → last_gap (leaves_part x) ≡ v.last_gap (seen_parts x) →

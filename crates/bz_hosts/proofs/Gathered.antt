@@ -7,7 +7,7 @@ use Rattle.bz_hosts.specs.Hosts.{Region, Comment, comments_at, CommentPlace, suf
 
 -- ---- places
 
--- Places of an item come before those of the items behind it, and the end of a sequence before what stands in it.
+-- Places of an item come before those of the items after it, and the end of a sequence before what is in it.
 abbrev pub key : CommentPlace → ℕ
 key (suffix_of n) = suc (n + n)
 key (above n) = suc (n + n)

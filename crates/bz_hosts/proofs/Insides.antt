@@ -15,7 +15,7 @@ use Rattle.bz_value.specs.Proper.{comments_of, is_operator}
 use Rattle.bz_view.specs.View.{Seen, seen, seen_row, plain, seen_node, first_seen_gap, begins_seen_operator, row_exprs}
 use Rattle.bz_hosts.specs.Hosts.{Hosted, ended, hosted_by, by_frame, inside_expr, inside_row, inside_items}
 
--- the items of a sequence, each with what stands in it
+-- the items of a sequence, each with what is in it
 abbrev pub inside_list : List Expr → List Hosted
 inside_list [] = []
 inside_list (x ∷ xs) = hosted_by (comments_of x) ∷ (inside_expr x ++ inside_list xs)

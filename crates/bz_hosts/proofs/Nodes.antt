@@ -65,7 +65,7 @@ insides_cut (x ∷ xs) l = ap (λ (z : List Hosted). inside_expr (plain (seen x)
 leaf_regions : (l : Leaf) → Regions (p.Leaf l)
 leaf_regions l = record { some = omega arith; within = λ n. tt }
 
--- a sequence behind its head, at its opening bracket
+-- a sequence after its head, at its opening bracket
 abbrev pub cut_regions : ℕ → List Part → List Part → List Region
 cut_regions n head body =
     let open_ : ℕ = n + sizes (map measured head) in
@@ -136,7 +136,7 @@ pub same_texts : (all : List Region) (h n up : ℕ) (m m' : List Comment) (l l' 
 same_texts all h n up m m' l l' r r' t t' a b c d x =
     subst (λ (z : List Comment). Texts all h n up z l' r' t') a (subst (λ (z : List Bytes). Texts all h n up m z r' t') b (subst (λ (z : List Region). Texts all h n up m l z t') c (subst (λ (z : List Hosted). Texts all h n up m l r z) d x)))
 
--- what stands in a sequence, its end first
+-- what is in a sequence, its end first
 abbrev pub sequence_hosts : List Bytes → List Seen → List Hosted
 sequence_hosts before body = ended (items_in before body).1 ∷ inside_list (items_in before body).0
 

@@ -51,7 +51,7 @@ more c t = (has c && t.0, (if t.0 then as_list c else []) ++ t.1)
 told_behind : (x : GapLine) (ls : List GapLine) (n : ℕ) → told (x ∷ ls) (suc n) ≡ more x.comment (told ls n)
 told_behind x ls n = ap (λ (b : Bool). let t : Told = (b, right_above (x ∷ ls) (suc n)) in t) (reaches_behind x ls n) ∙ ap (λ (z : List Bytes). let t : Told = (has x.comment && reaches ls n, z) in t) (above_behind x ls n)
 
--- the line behind each group
+-- the line after each group
 abbrev stops : List GapLine → List ℕ
 stops ls = bare_lines 0 ls ++ length ls ∷ []
 

@@ -74,7 +74,7 @@ mutual
   first_solid m end_of-Part h = tt
   first_solid m (more_of-Part x rest) h = part_solid x h.0
 
--- ---- the comments behind the first leaf's gap
+-- ---- the comments after the first leaf's gap
 
 abbrev pub comments_behind : ℕ → List Leaf → List Comment
 comments_behind n [] = []
@@ -84,7 +84,7 @@ comments_behind n (l ∷ ls) = comments_from (suc n) ls
 abbrev pub inner : ℕ → Part → List Comment
 inner n x = comments_behind n (leaves_part x)
 
--- those in parts, and those behind the gap of the first of them
+-- those in parts, and those after the gap of the first of them
 abbrev pub in_parts : ℕ → List Part → List Comment
 in_parts n [] = []
 in_parts n (x ∷ xs) = comments_at n (seen x).gap ++ (inner n x ++ in_parts (n + size x) xs)

@@ -1,4 +1,4 @@
--- The texts behind the opening bracket of a sequence: those above each item, its suffix, and those at the end.
+-- The texts after the opening bracket of a sequence: those above each item, its suffix, and those at the end.
 use Rattle.std.proofs.Common.{◌≡◌, ◌≢◌, ℕ, suc, ◌+◌, ◌<◌, ◌≤◌, true, false, ◌&&◌, List, [], ◌∷◌, ◌++◌, ◌⊎◌, inl, inr, Option, Some, refl, sym, ap, ◌∙◌, subst, map, append-nil, nat_lt, nat_le, arith}
 use Rattle.std.specs.List.{AllByRecursion}
 use Rattle.std.proofs.lemmas.Bool.{lt-ltb}
@@ -34,7 +34,7 @@ From n up q = (suc (n + n) ≤ key q) × (key q < up + up)
 abbrev pub Mine : ℕ → ℕ → ℕ → CommentPlace → Type 0
 Mine o n up q = From n up q ⊎ (key q ≡ suc (suc (o + o)))
 
--- what stands before the first of these parts stands above an item, or at the end
+-- what is before the first of these parts is above an item, or at the end
 abbrev pub first_place : ℕ → ℕ → List Part → CommentPlace
 first_place o n [] = end_of o
 first_place o n (z ∷ []) = end_of o
@@ -96,14 +96,14 @@ host_with all n b e x c cs rs hs before suffix inside rest =
     ∙ (ap (λ (z : List Hosted). z ++ map (hosted_at all cs) rs) (inside ∙ sym (inside_made x c false)) ∙ ap (λ (z : List Hosted). inside_expr made ++ z) rest) in
     ap (λ (z : Hosted). z ∷ map (hosted_at all cs) ((measured x).inside n ++ rs)) first ∙ ap (λ (z : List Hosted). hosted_by (comments_of made) ∷ z) then_
 
--- ---- the texts of a sequence behind the gap before the first of these parts
+-- ---- the texts of a sequence after the gap before the first of these parts
 
 pub record BodyTexts (all : List Region) (o hi n : ℕ) (xs : List Part) : Type 0 where
   pub outer : (q : CommentPlace) → (Mine o n hi q → ⊥) → texts_at all q (behind_parts n xs) ≡ []
   pub found : (cs : List Comment) (before : List Bytes) → ((q : CommentPlace) → Mine o n hi q → texts_at all q cs ≡ pick (first_place o n xs) q before ++ texts_at all q (behind_parts n xs)) →
       (map (hosted_at all cs) (hosts_from s.comma_mark n (map measured xs)) ≡ inside_list (items_in before (map seen xs)).0) × (texts_at all (end_of o) cs ≡ (items_in before (map seen xs)).1)
 
--- the last item, with the closing bracket behind it
+-- the last item, with the closing bracket after it
 module _ (all : List Region) (o hi n : ℕ) (x : Part) (l : Leaf) (opened : o < n) (up : hi ≡ suc (n + size x)) (item : is_item_part x ≡ true) (mark : IsMark s.comma_mark false (p.Leaf l)) (r : Regions x) (i : InHost all x)
     (s' : SeesAt all (Some (between o hi)) (suc n) hi (hosts_from s.comma_mark n (map measured (x ∷ p.Leaf l ∷ [])))) where
   last_texts : BodyTexts all o hi n (x ∷ p.Leaf l ∷ [])
@@ -143,7 +143,7 @@ module _ (all : List Region) (o hi n : ℕ) (x : Part) (l : Leaf) (opened : o < 
             );
       }
 
--- an item, its comma, and those behind it
+-- an item, its comma, and those after it
 module _ (all : List Region) (o hi n : ℕ) (x : Part) (l : Leaf) (z : Part) (xs : List Part) (opened : o < n) (up : hi ≡ suc (n + size x) + sizes (map measured (z ∷ xs))) (item : is_item_part x ≡ true)
     (mark : IsMark s.comma_mark true (p.Leaf l)) (a : Alternating s.comma_mark (z ∷ xs)) (r : Regions x) (r' : AllByRecursion Regions (z ∷ xs)) (i : InHost all x)
     (s' : SeesAt all (Some (between o hi)) (suc n) hi (hosts_from s.comma_mark n (map measured (x ∷ p.Leaf l ∷ z ∷ xs)))) where

@@ -1,4 +1,4 @@
--- The texts of a line, behind the gap of its first leaf.
+-- The texts of a line, after the gap of its first leaf.
 use Rattle.std.proofs.Common.{◌≡◌, ℕ, suc, ◌+◌, ◌<◌, ◌≤◌, true, false, List, [], ◌∷◌, ◌++◌, Option, Some, None, refl, sym, ap, ◌∙◌, subst, map, append-nil, arith}
 use Rattle.std.specs.List.{AllByRecursion, flat_map}
 use Rattle.bz_lex.specs.declared.leaf.Leaf.{Leaf}
@@ -84,7 +84,7 @@ module _ (all : List Region) (n n' hi next : ℕ) (x : Part) (suffix : Option By
 -- ---- the line
 
 module _ (all : List Region) (n hi : ℕ) (x : Part) (l : Leaf) (r : Regions x) (i : InHost all x) where
-  -- no semicolon behind the last statement
+  -- no semicolon after the last statement
   bare_end : hi ≡ suc (n + size x) → is_item_part x ≡ true → IsMark s.semicolon false (p.Leaf l) → SeesAt all None (suc n) hi (hosts_from s.semicolon n (map measured (x ∷ p.Leaf l ∷ []))) →
       LineTexts all n hi (behind_parts n (x ∷ p.Leaf l ∷ [])) (hosts_from s.semicolon n (map measured (x ∷ p.Leaf l ∷ []))) (statements_in [] (map seen (x ∷ p.Leaf l ∷ [])))
   bare_end up item mark s' =
@@ -125,7 +125,7 @@ module _ (all : List Region) (n hi : ℕ) (x : Part) (l : Leaf) (r : Regions x) 
         i n b behind_it n (omega arith) (λ q v w. sees_before all q (Some (host n b behind_it)) hi behind_it (behind_it + sizes (map measured (z ∷ xs))) b ((measured x).inside n) later later_inside (omega arith)
         (omega arith) (omega arith) (sees_in_host all q None hi n b behind_it ((measured x).inside n ++ later) (omega arith) w (omega arith) (sees_whole q v (omega arith))))
 
-    -- the comments behind the statement are those behind its semicolon
+    -- the comments after the statement are those after its semicolon
     split : behind_parts n (x ∷ p.Leaf l ∷ z ∷ xs) ≡ inner n x ++ in_parts behind_it (z ∷ xs)
     split =
         let one : n + size x + 1 ≡ behind_it = omega arith in

@@ -1,4 +1,4 @@
--- The texts of parts inside a host: what stands in no region of the parts goes to the host.
+-- The texts of parts inside a host: what is in no region of the parts goes to the host.
 use Rattle.std.proofs.Common.{◌≡◌, ℕ, suc, ◌+◌, ◌<◌, ◌≤◌, List, [], ◌∷◌, ◌++◌, Some, refl, sym, ap, ◌∙◌, subst, map, append_assoc, append-nil, arith}
 use Rattle.std.specs.List.{AllByRecursion}
 use Rattle.std.proofs.lemmas.List.{map-append}
@@ -63,7 +63,7 @@ module _ (all : List Region) (h n up m : ℕ) (gap : Bytes) (mine : List Comment
         f q i ∙ (texts_joined all q (comments_at m gap) mine ∙ ap (λ (z : List Bytes). z ++ texts_at all q mine) (gap_all all q (above h) m gap g ∙ pick_other (above h) q (all_in gap) (λ e. omega (arith, i.0)))));
   }
 
--- a gap in a host and in nothing that stands in it
+-- a gap in a host and in nothing that is in it
 pub gap_in_host : (all : List Region) (m hi first behind next : ℕ) → Sees all m (Some (host first behind next)) hi [] → GapPlaces all m (above first) (above first)
 gap_in_host all m hi first behind next h = record { on_line = λ t. rw (h.ends, h.inner) refl; below = λ t. rw h.inner refl }
 
@@ -116,7 +116,7 @@ module _ (all : List Region) (h b e : ℕ) where
       (pair_texts n up x xs l u r i (λ q v w. s q (omega arith) w)
       (row_texts m up xs (omega arith) (omega arith) r.1 i.1 (λ q v w. sees_behind all q (Some (host h b e)) up n m ((measured x).inside n) (in_row m (map measured xs)) (r.0.within n) v (s q (omega arith) w)))))
 
-  -- behind the gap before the first of them
+  -- after the gap before the first of them
   pub first_texts : (n up : ℕ) (xs : List Part) → h ≤ n → up ≡ n + sizes (map measured xs) → AllByRecursion Regions xs → AllByRecursion (InHost all) xs → SeesAt all (Some (host h b e)) (suc n) up (in_row n (map measured xs)) →
       Texts all h n up (behind_parts n xs) (loose_in (map seen xs)) (in_row n (map measured xs)) (insides xs)
   first_texts n up [] l u r i s = nothing_texts n up

@@ -21,7 +21,7 @@ last_gap [] = []
 last_gap (l ∷ []) = l.gap
 last_gap (l ∷ m ∷ ls) = last_gap (m ∷ ls)
 
--- left: the lines in the gap of the Newline before, behind its first
+-- left: the lines in the gap of the Newline before, after its first
 abbrev pub walked : List Region → List Comment → List GapLine → ℕ → List Part → List Hosted
 walked rs cs left n [] = []
 walked rs cs left n (p.Leaf l ∷ xs) = hosts_alone (groups_of (left ++ lines_of l.gap)) ++ walked rs cs [] (suc n) xs
@@ -47,7 +47,7 @@ left_behind : (front : List Leaf) (m : Leaf) (ms : List Leaf) → left_by (front
 left_behind [] m ms = refl
 left_behind (l ∷ ls) m ms = ap (λ (z : Bytes). after_first_comment (lines_of z)) (last_behind (l ∷ ls) m ms)
 
--- the lines before a leaf, by what stands in front of it
+-- the lines before a leaf, by what is in front of it
 before_told : (front : List Leaf) (m : Leaf) (ms : List Leaf) → lines_before (front ++ m ∷ ms) (length front) ≡ left_by front ++ lines_of m.gap
 before_told [] m ms = refl
 before_told (l ∷ []) m ms = refl

@@ -1,5 +1,5 @@
 -- Hosts of comments by their places in the whole text. The leaves of a tree are numbered from 0, in the order of the text.
--- A host is a statement or an item of a sequence; a sequence is what stands between the brackets of a Call, List, Dict,
+-- A host is a statement or an item of a sequence; a sequence is what is between the brackets of a Call, List, Dict,
 -- Tuple or Load. Both are told by the numbers of their leaves alone.
 use Rattle.std.specs.Prelude.{ℕ, zero, suc, ◌+◌, Bool, true, false, ◌&&◌, List, [], ◌∷◌, ◌++◌, Option, Some, None, length, map, take, drop, nat_eq, nat_lt, nat_le, if◌then◌else◌}
 use Rattle.bz_token.specs.declared.class.Class.{Class}
@@ -41,13 +41,13 @@ comments_from n (leaf ∷ leaves) = comments_at n leaf.gap ++ comments_from (suc
 
 -- ---- hosts and sequences
 
--- A host: the numbers of its first leaf, of the leaf behind its last one, and of the leaf behind its end, which is its own
--- comma or semicolon where it has one. A sequence: the number of its opening bracket, and of the leaf behind the closing one.
+-- A host: the numbers of its first leaf, of the leaf after its last one, and of the leaf after its end, which is its own
+-- comma or semicolon where it has one. A sequence: the number of its opening bracket, and of the leaf after the closing one.
 pub data Region : Type 0 where
   host : ℕ → ℕ → ℕ → Region
   between : ℕ → ℕ → Region
 
--- A part: how many leaves it has, and what stands in it where its first leaf has a number.
+-- A part: how many leaves it has, and what is in it where its first leaf has a number.
 pub record Measured : Type 0 where
   pub part : Part
   pub size : ℕ
@@ -72,19 +72,19 @@ abbrev pub begins_with_token : List Terminal → List Measured → Bool
 begins_with_token terminals [] = false
 begins_with_token terminals (x ∷ xs) = has_token terminals x.part
 
--- what stands in the parts of a row
+-- what is in the parts of a row
 abbrev pub in_row : ℕ → List Measured → List Region
 in_row n [] = []
 in_row n (x ∷ xs) = x.inside n ++ in_row (n + x.size) xs
 
--- parts with separators: each item is a host, whose end is the separator behind it where there is one
+-- parts with separators: each item is a host, whose end is the separator after it where there is one
 abbrev pub hosts_from : List Terminal → ℕ → List Measured → List Region
 hosts_from separators n [] = []
 hosts_from separators n (x ∷ xs) =
     let behind : ℕ = n + x.size in
     (if is_item_part x.part then host n behind (if begins_with_token separators xs then suc behind else behind) ∷ x.inside n else []) ++ hosts_from separators behind xs
 
--- a node by its frame; of a sequence what stands before its bracket, the sequence itself and its items
+-- a node by its frame; of a sequence what is before its bracket, the sequence itself and its items
 abbrev pub in_node : Frame → Kind → ℕ → List Measured → List Region
 in_node row kind n xs = in_row n xs
 in_node (sequence opener closer) kind n xs =
@@ -113,13 +113,13 @@ regions_from n (x ∷ xs) = in_line n x ++ regions_from (n + (measured x).size) 
 
 -- ---- places
 
--- A comment is the suffix of the host, stands above the host, or at the end of the sequence, that begins with this leaf; or
--- it stands in none of them.
+-- A comment is the suffix of the host, is above the host, or at the end of the sequence, that begins with this leaf; or
+-- it is in none of them.
 pub data CommentPlace : Type 0 where
   suffix_of above end_of : ℕ → CommentPlace
   outside : CommentPlace
 
--- the host at whose end the comment stands
+-- the host at whose end the comment is
 abbrev pub ending_at : ℕ → List Region → Option ℕ
 ending_at leaf [] = None
 ending_at leaf (host first behind next ∷ rs) = if nat_eq next leaf then Some first else ending_at leaf rs
@@ -131,7 +131,7 @@ beginning_in leaf behind [] = None
 beginning_in leaf behind (host first b next ∷ rs) = if nat_le leaf first && nat_lt first behind then Some first else beginning_in leaf behind rs
 beginning_in leaf behind (between open_ b ∷ rs) = beginning_in leaf behind rs
 
--- the gap of the leaf stands in the region
+-- the gap of the leaf is in the region
 abbrev pub holds_gap : ℕ → Region → Bool
 holds_gap leaf (host first behind next) = nat_lt first leaf && nat_lt leaf behind
 holds_gap leaf (between open_ behind) = nat_lt open_ leaf && nat_lt leaf behind
@@ -157,7 +157,7 @@ place_unless (Some first) place = suffix_of first
 place_unless None place = place
 
 -- A comment that follows a host's end with only blanks between is its suffix. Any other belongs to the innermost host or
--- sequence that it stands in.
+-- sequence that it is in.
 abbrev pub comment_place : List Region → Comment → CommentPlace
 comment_place rs c = place_unless (if c.on_line then ending_at c.leaf rs else None) (place_in c.leaf rs (innermost c.leaf None rs))
 
@@ -191,7 +191,7 @@ hosts_alone [] = []
 hosts_alone ([] ∷ groups) = hosts_alone groups
 hosts_alone ((text ∷ group) ∷ groups) = block (text ∷ group) ∷ hosts_alone groups
 
--- the group right above a line stands above its first statement
+-- the group right above a line is above its first statement
 abbrev pub with_group : List Bytes → List Hosted → List Hosted
 with_group group (hosted before suffix ∷ hs) = hosted (group ++ before) suffix ∷ hs
 with_group group hs = hs
@@ -235,7 +235,7 @@ bare_lines n [] = []
 bare_lines n (line ∷ lines) = unless_comment line.comment n ++ bare_lines (suc n) lines
 
 -- Comment lines that follow each other form a group. A group whose last line is followed by a line without token and
--- comment, or by no token at all, stands by itself; otherwise it stands above the next statement.
+-- comment, or by no token at all, stands by itself; otherwise it is above the next statement.
 abbrev pub hosted_from : List Region → List Comment → List Leaf → ℕ → List Part → List Hosted
 hosted_from rs cs leaves n [] = []
 hosted_from rs cs leaves n (p.Leaf l ∷ xs) =

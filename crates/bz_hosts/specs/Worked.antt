@@ -34,7 +34,7 @@ text tree spelled hosts = (spell_node tree ≡ spelled) × (hosted_in tree ≡ h
 
 -- ---- rows
 
--- A Block, and what stands above a statement; above an item, its suffix behind its comma; the ends of two sequences; the
+-- A Block, and what is above a statement; above an item, its suffix after its comma; the ends of two sequences; the
 -- suffix of the statement; and a Block at the end.
 abbrev called : Node
 called =
@@ -81,7 +81,7 @@ in_paren = file (node k.Assign (name [] (codes "a") ∷ mark [] (codes "=") ∷ 
 abbrev pub Paren : Type 0
 Paren = text in_paren (codes "a=( # m\nb # n\n)\n") (hosted (codes "# m" ∷ codes "# n" ∷ []) [] ∷ [])
 
--- Of two statements on a line the last has the suffix; behind an escaped newline a comment is none, but a line of the file.
+-- Of two statements on a line the last has the suffix; after an escaped newline a comment is none, but a line of the file.
 abbrev two_statements : Bytes → Node
 two_statements gap = file (node k.Bare (name [] (codes "x") ∷ []) ∷ mark [] (codes ";") ∷ node k.Bare (name [] (codes "y") ∷ []) ∷ []) gap []
 
@@ -90,7 +90,7 @@ Statements =
     text (two_statements (codes " # k")) (codes "x;y # k\n") (hosted [] [] ∷ hosted [] (codes "# k" ∷ []) ∷ [])
     × text (two_statements (codes " \\\n# k")) (codes "x;y \\\n# k\n") (hosted [] [] ∷ hosted [] [] ∷ block (codes "# k" ∷ []) ∷ [])
 
--- Comment lines that follow each other form a group, wherever the newline that ends the line before them stands: right above
+-- Comment lines that follow each other form a group, wherever the newline that ends the line before them is: right above
 -- a statement they stand above it, and above a line without comment they are a Block.
 abbrev two_lines : Bytes → Bytes → Node
 two_lines gap next = record {

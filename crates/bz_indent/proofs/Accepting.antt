@@ -12,7 +12,7 @@ use Rattle.bz_indent.proofs.Spelled.{bzl_spelled}
 use Rattle.bz_indent.proofs.StatementGaps.{bzl_gaps, bzl_coded}
 use Rattle.bz_indent.proofs.StatementTokens.{bzl_tokens}
 
--- what is drawn of a proper value is legal, where it is not too deep
+-- what is laid out of a proper value is legal, where it is not too deep
 pub bzl_legal : (items : List BzlItem) → IsProperBzl items → depth_of (bzl_drawn items) ≤ depth_limit → LegalBzl (bzl_drawn items)
 bzl_legal items h d = record {
   file = bzl_file items h;

@@ -1,4 +1,4 @@
--- No part of a header before its colon is a colon, as a value and as it is drawn.
+-- No part of a header before its colon is a colon, as a value and as it is laid out.
 use Rattle.std.proofs.Common.{◌≡◌, ℕ, Bool, true, false, ◌&&◌, ◌||◌, inl, inr, List, [], ◌∷◌, ◌++◌, ◌+◌, if◌then◌else◌, refl, sym, ap, ◌∙◌, map, length, append_assoc, append-nil, true≢false}
 use Rattle.std.specs.Prelude.{Option}
 use Rattle.std.specs.List.{AllByRecursion}
@@ -54,11 +54,11 @@ plain_front (s.each sort then_) = false
 plain_front (s.times group then_) = false
 
 module _ (last_part : Part) where
-  -- what stands before the last part holds no colon
+  -- what is before the last part holds no colon
   abbrev Front : (List Part → Type 0) → Type 0
   Front K = (xs : List Part) → K (xs ++ last_part ∷ []) → AllByRecursion NoColon xs
 
-  -- where nothing more stands in the shape there is no part
+  -- where nothing more is in the shape there is no part
   nothing_fits : (r : Shape) → is_done r ≡ true → (xs : List Part) → Fits IsSort r (xs ++ last_part ∷ []) → ⊥
   nothing_fits s.done e [] h = h
   nothing_fits s.done e (x ∷ xs) h = h
@@ -96,22 +96,22 @@ module _ (last_part : Part) where
   front_plain (s.each sort then_) b (x ∷ xs) h = absurd (true≢false (sym b))
   front_plain (s.times group then_) b (x ∷ xs) h = absurd (true≢false (sym b))
 
--- ---- a function has its bracket behind two parts
+-- ---- a function has its bracket after two parts
 
--- behind the bracket of a function
+-- after the bracket of a function
 abbrev parameters_end : Shape
 parameters_end = s.enclosed s.param s.close_round (s.tok s.colon_mark s.done)
 
--- the bracket stands behind two parts, since the rest of the shape has no other
+-- the bracket is after two parts, since the rest of the shape has no other
 pub two_before : (ps : List Expr) (ys : List Part) → Fits IsSort def_header (map root ps ++ (mark_leaf 40 ∷ ys)) → length ps ≡ 2
 two_before [] ys h = absurd (true≢false (sym h.0))
 two_before (x ∷ []) ys h = absurd (true≢false (sym h.1.0))
 two_before (x ∷ y ∷ []) ys h = refl
 two_before (x ∷ y ∷ z ∷ zs) ys h = absurd (fits_free 40 ys parameters_end refl (map root zs) h.1.1.1)
 
--- ---- as it is drawn
+-- ---- as it is laid out
 
--- what is drawn of an expression is a colon where its root is one
+-- what is laid out of an expression is a colon where its root is one
 plain_part : (x : Expr) (gap : Bytes) (m : ℕ) → NoColon (root x) → NoColon (part_of x gap m)
 plain_part (Token t) gap m h = h
 plain_part (Form' kind s parts s' items end_ split open_ comments) gap m h = refl

@@ -1,4 +1,4 @@
--- End comments among the lines behind a suite: all at its margin, none of those that are indented less.
+-- End comments among the lines after a suite: all at its margin, none of those that are indented less.
 use Rattle.std.proofs.Common.{◌≡◌, ◌≤◌, ◌<◌, ℕ, List, [], ◌∷◌, ◌++◌, if◌then◌else◌, refl, sym, ap, ◌∙◌, arith}
 use Rattle.std.specs.Prelude.{Option, None, Some}
 use Rattle.std.proofs.lemmas.Bool.{le-leb, lt-leb}
@@ -69,7 +69,7 @@ from_once (line ∷ lines) = once_step line.line.comment line lines refl (from_o
 
 -- ---- lines whose first comment is indented no more than to a margin
 
--- what is said of a line with a comment, and of those behind a line without one
+-- what is said of a line with a comment, and of those after a line without one
 abbrev pub bounded_line : Option Bytes → Type 0 → Type 0 → Type 0
 bounded_line None here more = more
 bounded_line (Some text) here more = here
@@ -101,7 +101,7 @@ own_taken m [] lines = refl
 own_taken m (text ∷ texts) lines =
     ap (λ z. if z then text ∷ end_comments m (told_at m texts ++ lines) else []) (le-leb m m (omega arith)) ∙ ap (λ z. text ∷ z) (own_taken m texts lines)
 
--- and leaves what is behind them
+-- and leaves what is after them
 pub own_left : (m : ℕ) (texts : List Bytes) (lines : Lines) → behind_end m (told_at m texts ++ lines) ≡ behind_end m lines
 own_left m [] lines = refl
 own_left m (text ∷ texts) lines =

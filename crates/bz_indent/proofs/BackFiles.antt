@@ -92,7 +92,7 @@ plain_append a c = map-append (λ l. l.line) a c
 
 -- ---- between items
 
--- what stands between two items: nothing or an empty line
+-- what is between two items: nothing or an empty line
 record IsBetween (gap : Bytes) : Type 0 where
   lines : Lines
   are : AreIndented gap lines
@@ -147,7 +147,7 @@ file_before (b.Block texts ∷ items) h gap lines k =
     ∙ (append_assoc (lines ++ told_at 0 texts) next.lines (file_lines items) ∙ append_assoc lines (told_at 0 texts) (next.lines ++ file_lines items))
 file_before (b.Statement x ∷ items) h gap lines k = ap indented (statement_first 0 gap x h.0) ∙ gap_lines 0 gap lines (above_of x) k (comments_above x h.0)
 
--- items, the first behind lines that say these Blocks
+-- items, the first after lines that say these Blocks
 items_back : (items : List BzlItem) → AllByRecursion IsProperBzlItem items → (gap : Bytes) (now waiting : Lines) (bs : List Item) → Waits (plain_lines waiting) bs → from_comment now ≡ from_comment (waiting ++ file_lines items) →
     bzl_items now (bzl_lines gap items) ≡ map bzl_item bs ++ level items
 items_back [] h gap now waiting bs waits e =

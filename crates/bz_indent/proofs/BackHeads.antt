@@ -1,4 +1,4 @@
--- A header that is drawn reads back as the header, levelled.
+-- A header that is laid out reads back as the header, levelled.
 use Rattle.std.proofs.Common.{◌≡◌, ℕ, Bool, true, false, ◌&&◌, List, [], ◌∷◌, ◌++◌, if◌then◌else◌, refl, sym, ap, ◌∙◌, subst, map, length, append_assoc, append-nil, true≢false, arith}
 use Rattle.std.specs.Prelude.{Option, None, nat_eq}
 use Rattle.std.specs.List.{AllByRecursion}
@@ -47,7 +47,7 @@ pub record IsRead (f : Form) : Type 0 where
   pub before : AllByRecursion IsComment f.comments.before
   pub suffix : MaybeComment f.comments.suffix
 
--- ---- what stands before the colon
+-- ---- what is before the colon
 
 -- of a function the parameters in their brackets
 abbrev pub in_brackets : Bool → ℕ → Form → List Part
@@ -170,6 +170,6 @@ by_def true m gap f h function none =
     ∙ two (λ z w. made z (map with_flags f.parts) (map with_flags f.seq.items) f.seq.end_ (is_broken f.kind f.seq.split f.seq.items f.seq.end_) w f.comments.before f.comments.suffix) (sym (function refl).0) (sym h.not_open)
 by_def false m gap f h function none = row_read m gap f h (none refl)
 
--- what is read of a header that is drawn is the header, levelled
+-- what is read of a header that is laid out is the header, levelled
 pub head_read : (m : ℕ) (gap : Bytes) (f : Form) → IsRead f → head f.kind (map seen (before_colon (is_def f) m gap f)) f.comments.before f.comments.suffix ≡ level_head f
 head_read m gap f h = by_def (is_def f) m gap f h h.function h.no_parameters

@@ -1,4 +1,4 @@
--- The lines that statements leave behind, and the gap before a statement.
+-- The lines that statements leave, and the gap before a statement.
 use Rattle.std.proofs.Common.{◌≡◌, ℕ, List, [], ◌++◌, ◌+◌, refl, ap, ◌∙◌, map}
 use Rattle.std.specs.List.{AllByRecursion}
 use Rattle.std.proofs.lemmas.List.Elements.{recursion_from_All}
@@ -25,7 +25,7 @@ use Rattle.bz_indent.proofs.BackLines.{Lines, AreIndented, told_at, no_lines, li
 use Rattle.bz_indent.proofs.BackHeads.{header_first}
 use Rattle.bz_indent.proofs.BackProper.{headers_read}
 
--- ---- the lines that are left behind a statement
+-- ---- the lines that are left after a statement
 
 abbrev mutual
   -- as the gap that is left, line by line
@@ -70,7 +70,7 @@ abbrev pub above_of : Statement → List Bytes
 above_of (Simple x) = (comments_of x).before
 above_of (Compound' size own) = above_first own
 
--- the lines before what follows: the comments above the next one, or what stands behind all
+-- the lines before what follows: the comments above the next one, or what is after all
 abbrev pub coming : ℕ → {n : _} → Row_of-Statement n → Lines → Lines
 coming m end_of-Statement rest = rest
 coming m (more_of-Statement x more) rest = told_at m (above_of x)
@@ -107,7 +107,7 @@ statement_first m lines (Simple x) h =
 statement_first m lines (Compound' size own) h =
     ap (λ z. z.gap) (stated_part (statement_part m lines (Compound' size own))) ∙ (node_first _ (branch_parts m lines own) ∙ branches_first m lines _ own h.0)
 
--- the lines before the next statement, those that are left behind the one before it first
+-- the lines before the next statement, those that are left after the one before it first
 pub statements_before : (m : ℕ) (n : _) (r : Row_of-Statement n) → AreProperStatements r → (gap : Bytes) (lines rest : Lines) → AreIndented gap lines →
     indented_lines_before (map stated (statement_parts m gap r)) (statement_lines m lines r ++ rest) ≡ lines ++ coming m r rest
 statements_before m n end_of-Statement h gap lines rest k = refl

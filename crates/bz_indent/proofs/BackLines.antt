@@ -34,7 +34,7 @@ pub plain_told : (m : ℕ) (texts : List Bytes) → plain_lines (told_at m texts
 plain_told m [] = refl
 plain_told m (text ∷ texts) = ap (λ z. ended_line (Some text) ∷ z) (plain_told m texts)
 
--- ---- a comment behind its margin
+-- ---- a comment after its margin
 
 -- each space before a comment counts
 spaces_counted : (n m : ℕ) (gap : Bytes) → indented_from n (replicate m space ++ gap) ≡ indented_from (n + m) gap
@@ -44,7 +44,7 @@ spaces_counted n (suc m) gap = let up : suc n + m ≡ n + suc m = omega arith in
 margin_counted : (m : ℕ) (gap : Bytes) → indented (replicate m space ++ gap) ≡ indented_from m gap
 margin_counted m gap = let all : 0 + m ≡ m = omega arith in spaces_counted 0 m gap ∙ ap (λ k. indented_from k gap) all
 
--- what is read behind the newline of a comment
+-- what is read after the newline of a comment
 behind_words : (words rest : Bytes) → OneLine words → indented_behind (words ++ (line_feed ∷ rest)) ≡ indented rest
 behind_words [] rest h = refl
 behind_words (c ∷ words) rest h = rw (ne_eqb c line_feed h.0) (behind_words words rest h.1)
@@ -54,7 +54,7 @@ abbrev first_line : List GapLine → GapLine
 first_line [] = ended_line None
 first_line (line ∷ lines) = line
 
--- a comment behind its margin
+-- a comment after its margin
 comment_read : (m : ℕ) (text rest : Bytes) → IsComment text → indented_from m (text ++ (line_feed ∷ rest)) ≡ line_with m (ended_line (Some text)) ∷ indented rest
 comment_read m text rest h =
     ap (λ z. indented_from m (z ++ (line_feed ∷ rest))) h.begins.1
@@ -72,7 +72,7 @@ no_lines rest = refl
 pub a_blank_line : AreIndented (line_feed ∷ []) (line_with 0 (ended_line None) ∷ [])
 a_blank_line rest = refl
 
--- two gaps, one behind the other
+-- two gaps, one after the other
 pub lines_appended : (a b : Bytes) (ls ms : Lines) → AreIndented a ls → AreIndented b ms → AreIndented (a ++ b) (ls ++ ms)
 lines_appended a b ls ms h k rest = ap indented (append_assoc a b rest) ∙ (h (b ++ rest) ∙ (ap (λ z. ls ++ z) (k rest) ∙ sym (append_assoc ls ms (indented rest))))
 
@@ -95,7 +95,7 @@ whole_gap gap ls h = ap indented (sym (append-nil gap)) ∙ (h [] ∙ append-nil
 spaces_are_none : (m : ℕ) → indented (replicate m space) ≡ []
 spaces_are_none m = ap indented (sym (append-nil (replicate m space))) ∙ margin_counted m []
 
--- the gap before the first token of what stands at a margin
+-- the gap before the first token of what is at a margin
 pub gap_lines : (m : ℕ) (lines : Bytes) (ls : Lines) (texts : List Bytes) → AreIndented lines ls → AllByRecursion IsComment texts → indented (gap_to_margin m lines texts) ≡ ls ++ told_at m texts
 gap_lines m lines ls texts h k =
     h (indented_lines m texts ++ replicate m space)
@@ -108,7 +108,7 @@ not_all_indents : (a b : Bytes) → are_indents (a ++ (line_feed ∷ b)) ≡ fal
 not_all_indents [] b = refl
 not_all_indents (c ∷ a) b = ap (λ z. is_indent c && z) (not_all_indents a b) ∙ and-false (is_indent c)
 
--- the indent stands behind the last newline
+-- the indent is after the last newline
 behind_newline : (a b : Bytes) → indent (a ++ (line_feed ∷ b)) ≡ indent b
 behind_newline [] b = refl
 behind_newline (c ∷ a) b = ap (λ t. if t then c ∷ (a ++ (line_feed ∷ b)) else indent (a ++ (line_feed ∷ b))) (not_all_indents (c ∷ a) b) ∙ behind_newline a b
@@ -131,6 +131,6 @@ behind_lines m (text ∷ texts) =
     ∙ (append_assoc (replicate m space) (text ++ line_feed ∷ []) rest ∙ (ap (λ z. replicate m space ++ z) (append_assoc text (line_feed ∷ []) rest) ∙ sym (append_assoc (replicate m space) text (line_feed ∷ rest)))))
     ∙ (behind_newline (replicate m space ++ text) rest ∙ behind_lines m texts)
 
--- what stands behind the lines of comments at a margin is indented to that margin
+-- what is after the lines of comments at a margin is indented to that margin
 pub gap_margin : (m : ℕ) (texts : List Bytes) → length (indent (gap_to_margin m [] texts)) ≡ m
 gap_margin m texts = ap length (behind_lines m texts ∙ own_indent m) ∙ length-replicate m space

@@ -25,7 +25,7 @@ use Rattle.bz_indent.specs.Layout.{is_def}
 use Rattle.bz_indent.proofs.BackColons.{both_parts, plain_front, front_plain, two_before}
 use Rattle.bz_indent.proofs.BackHeads.{IsRead}
 
--- ---- what stands behind the parts of a header
+-- ---- what is after the parts of a header
 
 -- of a function its parameters in brackets, and the colon
 abbrev end_by : Bool → List Expr → List Part

@@ -1,4 +1,4 @@
--- Statements that are drawn read back as the statements, levelled.
+-- Statements that are laid out read back as the statements, levelled.
 use Rattle.std.proofs.Common.{◌≡◌, ◌≤◌, ℕ, true, false, List, [], ◌∷◌, ◌++◌, ◌+◌, refl, sym, ap, ◌∙◌, subst, map, length, append_assoc, true≢false, arith}
 use Rattle.std.specs.Prelude.{Option}
 use Rattle.std.proofs.lemmas.List.Elements.{recursion_from_All}
@@ -48,7 +48,7 @@ some_behind : (ps : List Part) (x : Part) (qs : List Part) → is_empty (ps ++ (
 some_behind [] x qs = refl
 some_behind (y ∷ ps) x qs = refl
 
--- the lines before the next header: those that are left behind the suite before, and the comments above the header
+-- the lines before the next header: those that are left after the suite before, and the comments above the header
 headers_before : (m : ℕ) (kind : Kind) (n : _) (r : Row_of-Branch n) → AreRead kind (heads r) → (gap : Bytes) (lines rest : Lines) → AreIndented gap lines →
     indented_lines_before (map stated (branch_parts m gap r)) (branch_lines m lines r ++ rest) ≡ lines ++ coming_header m r rest
 headers_before m kind n end_of-Branch h gap lines rest k = refl
@@ -98,7 +98,7 @@ own_start n (more_of-Branch head size statements end_ more) left rest h = refl
 -- ---- statements
 
 mutual
-  -- A statement takes the lines that it leaves behind, and leaves what follows them.
+  -- A statement takes the lines that it leaves, and leaves what follows them.
   pub statement_back : (m : ℕ) (lines : Bytes) (x : Statement) → IsProperStatement x → (rest : Lines) → AreBounded m rest →
       IsReadAs ((stated (statement_part m lines x)).statement (above_of x) (left_lines m x ++ rest)) (level_statement x ∷ []) rest
   statement_back m lines (Simple x) h rest bounded =

@@ -46,7 +46,7 @@ only_suffix : (suffix : Option Bytes) → only_comment (comments_in (suffix_line
 only_suffix None = refl
 only_suffix (Some text) = refl
 
--- no line stands behind a suffix
+-- no line is after a suffix
 none_behind : (suffix : Option Bytes) (lines : Lines) → plain_lines lines ≡ suffix_line suffix → after_first_line lines ≡ []
 none_behind suffix [] e = refl
 none_behind suffix (line ∷ []) e = refl
@@ -123,7 +123,7 @@ Starts (more_of-Branch head size statements end_ more) above left rest = above �
 pub comments_told_at : (m : ℕ) (texts : List Bytes) → comments_in_lines (told_at m texts) ≡ texts
 comments_told_at m texts = ap comments_in (plain_told m texts) ∙ comments_told texts
 
--- so it is behind each suite
+-- so it is after each suite
 pub starts_from : (m : ℕ) (n : _) (r : Row_of-Branch n) (rest : Lines) → Starts r (comments_in_lines (from_comment (coming_header m r rest))) (from_comment (coming_header m r rest)) rest
 starts_from m n end_of-Branch rest = from_once rest
 starts_from m n (more_of-Branch head size statements end_ more) rest = same_comments (told_at m head.comments.before) ∙ comments_told_at m head.comments.before
@@ -144,7 +144,7 @@ statement_bounded m n (more_of-Statement x more) rest h = subst (AreBounded m) (
 abbrev pub suite_node : Option Bytes → List Part → Part
 suite_node suffix ps = p.Node (record { kind = k.Suite; parts = newline_part suffix ∷ ps })
 
--- the suffix of a header stands before the newline of its suite
+-- the suffix of a header is before the newline of its suite
 pub suite_suffix : (suffix : Option Bytes) (ps : List Part) → MaybeComment suffix → (stated (suite_node suffix ps)).suffix ≡ suffix
 suite_suffix suffix ps h =
     let node : Node = record { kind = k.Suite; parts = newline_part suffix ∷ ps } in

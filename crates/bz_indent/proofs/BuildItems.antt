@@ -38,7 +38,7 @@ text_same : (item : Item) → bzl_item_text (bzl_item item) ≡ item_text item
 text_same (i.Block texts) = flush_lines texts
 text_same (i.Stmt x) = simple_same x
 
--- what stands between two items
+-- what is between two items
 between_same : (item next : Item) → between_items (bzl_item item) (bzl_item next) ≡ gap_between item next
 between_same (i.Block texts) next = refl
 between_same (i.Stmt x) (i.Block texts) = refl
@@ -51,7 +51,7 @@ others_same item (next ∷ items) = between_same item next
 
 -- ---- the text
 
--- what follows an item is what stands before it, and the layout of the rest
+-- what follows an item is what is before it, and the layout of the rest
 behind_is : (item : Item) (items : List Item) → before_next item items ++ layout items ≡ behind_item item items
 behind_is item [] = refl
 behind_is item (next ∷ items) = refl
@@ -68,7 +68,7 @@ files_laid_out_the_same says tree legal = ap bzl_layout (says tree legal) ∙ la
 
 -- ---- the tree
 
--- the line of a simple statement, behind these lines
+-- the line of a simple statement, after these lines
 line_same : (lines : Bytes) (x : Expr) → simple_part 0 lines x ≡ line_part lines x
 line_same lines x =
     let line : Bytes → Part = λ above. p.Node (record { kind = k.Line; parts = part_of x (lines ++ above) 0 ∷ newline_part (comments_of x).suffix ∷ [] }) in

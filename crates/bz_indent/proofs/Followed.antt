@@ -1,4 +1,4 @@
--- One shape behind another.
+-- One shape after another.
 use Rattle.std.proofs.Common.{Bool, List, [], ◌∷◌, ◌++◌, inl, inr, ap, ◌∙◌, append_assoc}
 use Rattle.bz_tree.specs.declared.tree.Part.{Part}
 use Rattle.bz_tree.specs.Shapes as s
@@ -45,7 +45,7 @@ times_goes : (F K K' : List Part → Type 0) (ys : List Part) → ((xs : List Pa
 times_goes F K K' ys goes xs (no_more h) = no_more (goes xs h)
 times_goes F K K' ys goes xs (once_more front back is h t) = once_more front (back ++ ys) (ap (λ z. z ++ ys) is ∙ append_assoc front back ys) h (times_goes F K K' ys goes back t)
 
--- parts of one shape, and behind them those of another
+-- parts of one shape, and after them those of another
 pub fits_followed : (shape r : Shape) (xs ys : List Part) → Fits IsSort shape xs → Fits IsSort r ys → Fits IsSort (followed shape r) (xs ++ ys)
 fits_followed s.none r xs ys h i = absurd h
 fits_followed s.done r [] ys h i = i

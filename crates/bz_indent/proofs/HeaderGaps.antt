@@ -88,7 +88,7 @@ behind_brackets true m f d =
     ∙ ap (λ z. spot_behind Begins z (mark_leaf 58 ∷ [])) (behind_body broken one m f.seq.end_ Begins (drawings f.seq.items) (d refl))
 behind_brackets false m f d = refl
 
--- tokens at the start of a line, behind which it goes on
+-- tokens at the start of a line, after which it goes on
 pub record Leads (xs : List Part) : Type 0 where
   pub there : AtParts Placed Begins Begins xs
   pub behind : spot_behind Begins Begins xs ≡ Along

@@ -1,4 +1,4 @@
--- What stands behind the parts of a header stands along its line, and what stands behind its parameters too.
+-- What is after the parts of a header is along its line, and what is after its parameters too.
 use Rattle.std.proofs.Common.{◌≡◌, ℕ, Bool, true, false, not, ◌&&◌, ◌+◌, List, [], ◌∷◌, ◌++◌, if◌then◌else◌, map, refl, ap, ◌∙◌, subst}
 use Rattle.std.specs.Prelude.{Option, None, codes}
 use Rattle.bz_tree.specs.declared.kind.Kind.{Kind}
@@ -21,7 +21,7 @@ use Rattle.bz_write.proofs.Fitted.{Child, Pieces, rooted}
 use Rattle.bz_write.proofs.PlainRows.{plain_first, plain_row}
 use Rattle.bz_write.proofs.Standing.{RowDraws, ItemsDraw, behind_row}
 
--- ---- the spot behind parts
+-- ---- the spot after parts
 
 pub behind_both : (outer here : Spot) (xs ys : List Part) → spot_behind outer here (xs ++ ys) ≡ spot_behind outer (spot_behind outer here xs) ys
 behind_both outer here [] ys = refl
@@ -51,7 +51,7 @@ pub header_onward : (brackets : Bool) (r : Shape) (outer here : Spot) (xs : List
 header_onward true r outer here xs rest e t h d n = plain_row name_header refl outer here xs (mark_leaf 40) [] (name_fits (rooted xs) rest (subst (λ z. Fits IsSort z (rooted xs ++ mark_leaf 40 ∷ rest)) (e refl) h)) d n
 header_onward false r outer here xs rest e t h d n = plain_row r (t refl) outer here xs (mark_leaf 58) [] h d n
 
--- ---- behind the closing bracket of parameters
+-- ---- after the closing bracket of parameters
 
 behind_comma : (b : Bool) (outer : Spot) (ps : Pieces) → spot_behind outer Within (map piece_part ((if b then [] else (mark_piece [] (comma ∷ []) ∷ [])) ++ ps)) ≡ spot_behind outer Within (map piece_part ps)
 behind_comma true outer ps = refl

@@ -1,4 +1,4 @@
--- What the layout draws of statements stands at their margins.
+-- What the layout draws of statements is at their margins.
 use Rattle.std.proofs.Common.{◌≡◌, ℕ, zero, suc, Bool, true, false, List, [], ◌∷◌, ◌++◌, ◌+◌, ◌&&◌, if◌then◌else◌, map, refl, sym, ap, ◌∙◌, subst, append_assoc, true≢false, arith}
 use Rattle.std.specs.Prelude.{replicate}
 use Rattle.std.specs.List.{AllByRecursion, flat_map}
@@ -41,7 +41,7 @@ use Rattle.bz_indent.proofs.Shaped.{header_fits, header_legal}
 
 -- ---- lines
 
--- whole lines: the indent of what stands behind them begins there
+-- whole lines: the indent of what is after them begins there
 abbrev Whole : Bytes → Type 0
 Whole lines = (rest : Bytes) → indent (lines ++ rest) ≡ indent rest
 
@@ -84,7 +84,7 @@ whole_others : (x : BzlItem) (xs : List BzlItem) → Whole (before_others x xs)
 whole_others x [] rest = refl
 whole_others x (y ∷ xs) rest = whole_between x y rest
 
--- ---- what is left behind statements
+-- ---- what is left after statements
 
 mutual
   whole_left : (x : Statement) (m : ℕ) → Whole (left_behind m x)
@@ -111,7 +111,7 @@ margin_indent : (m : ℕ) → indent (replicate m space) ≡ replicate m space
 margin_indent zero = refl
 margin_indent (suc m) = rw (spaces_indent (suc m)) refl
 
--- a statement behind whole lines stands at its margin
+-- a statement after whole lines is at its margin
 gap_indent : (m : ℕ) (lines : Bytes) (texts : List Bytes) → Whole lines → indent (gap_to_margin m lines texts) ≡ replicate m space
 gap_indent m lines texts h = h (indented_lines m texts ++ replicate m space) ∙ (whole_lines m texts (replicate m space) ∙ margin_indent m)
 
@@ -120,7 +120,7 @@ deeper_margin m = sym (replicate-append-replicate m 4 space)
 
 -- ---- the first token
 
--- a token behind this gap comes first
+-- a token after this gap comes first
 abbrev FirstAt : Bytes → List Part → Type 0
 FirstAt gap [] = ⊥
 FirstAt gap (x ∷ xs) = (l : Leaf) × (x ≡ p.Leaf l) × (l.gap ≡ gap)

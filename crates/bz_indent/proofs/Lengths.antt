@@ -35,7 +35,7 @@ lines_next m ts k d h = ap (λ z. length (indented_lines m z)) (drop_more ts k d
 
 -- ---- headers and simple statements
 
--- what stands behind the parts of a header
+-- what is after the parts of a header
 params : Bool → Bytes → Bytes
 params b body = if b then codes "(" ++ body else []
 

@@ -99,7 +99,7 @@ module _ (flags : FlagsSettle) where
   same_item (b.Block texts) = refl
   same_item (b.Statement x) = same_statement 0 x
 
-  -- what stands between two items
+  -- what is between two items
   same_items_between : (x y : BzlItem) → between_items (level_item x) (level_item y) ≡ between_items x y
   same_items_between (b.Block texts) y = refl
   same_items_between (b.Statement (Compound' size own)) y = refl

@@ -48,7 +48,7 @@ flagged_parameters (x ∷ xs) h = (expr_flags line_shape Within x h.0, subst Are
 none_level : (f : Form) → is_kind f.kind k.Def ≡ false → HasNone f → HasNone (level_head f)
 none_level f e h = (ap (map with_flags) h.0, h.1, ap (λ z. if z then is_broken f.kind f.seq.split f.seq.items f.seq.end_ else f.seq.split) e ∙ h.2)
 
--- what stands behind the parts of a header
+-- what is after the parts of a header
 abbrev end_of : Bool → List Part → List Part
 end_of def items = if def then mark_leaf 40 ∷ (each_with_comma items ++ mark_leaf 41 ∷ mark_leaf 58 ∷ []) else mark_leaf 58 ∷ []
 

@@ -1,4 +1,4 @@
--- What is left of a room behind the first of several parts, and that the room is too small: `whole + left ≡ room + rest`, where `rest` is what the other parts take.
+-- What is left of a room after the first of several parts, and that the room is too small: `whole + left ≡ room + rest`, where `rest` is what the other parts take.
 use Rattle.std.proofs.Common.{ℕ, ◌≡◌, ◌<◌, ◌+◌, ◌-◌, List, length, get_or, take, drop, Result, Err, IfOk, sym, ap, ◌∙◌, arith, length-append, length-drop, take_all}
 use Rattle.std.specs.Prelude.{Option, IsErrAnd, codes, if◌then◌else◌, [], ◌++◌}
 use Rattle.std.proofs.lemmas.Result.{IfOk-weaker, err_from_is_err_and}

@@ -47,7 +47,7 @@ mark_same n = record { sort = λ a. refl; token = λ ts. refl }
 row_same : (kind : Kind) (open_ : Bool) (m : ℕ) (gap : Bytes) (xs : List Expr) → AllSame (map root xs) (map piece_part (rowed kind open_ m gap m (drawings xs)))
 row_same kind open_ m gap xs = subst (λ z. AllSame z (map piece_part (rowed kind open_ m gap m (drawings xs)))) (roots_of_list xs) (rowed_same kind open_ m gap m (drawings xs) (list_rooted xs))
 
--- what stands in the brackets of parameters, on lines of their own or on one, and the closing bracket
+-- what is in the brackets of parameters, on lines of their own or on one, and the closing bracket
 abbrev inside : Bool → List Part → List Part
 inside true xs = each_with_comma xs ++ mark_leaf 41 ∷ []
 inside false xs = without_last false (mark_leaf 41) xs
@@ -60,7 +60,7 @@ inside_same false one m end_ xs e =
 
 -- ---- headers
 
--- the header of a function fits without the comma behind its last parameter
+-- the header of a function fits without the comma after its last parameter
 last_dropped : (ps xs : List Part) → Fits IsSort def_header (ps ++ mark_leaf 40 ∷ (each_with_comma xs ++ mark_leaf 41 ∷ mark_leaf 58 ∷ [])) → Fits IsSort def_header (ps ++ mark_leaf 40 ∷ (without_last false (mark_leaf 41) xs ++ mark_leaf 58 ∷ []))
 last_dropped [] xs h = no_such h.0
 last_dropped (x ∷ []) xs h = no_such h.1.0
@@ -97,7 +97,7 @@ by_brackets true shape m gap f e h =
 by_brackets false shape m gap f e h =
     same_fits shape _ _ (same_append (map root f.parts) _ (mark_leaf 58 ∷ []) _ (row_same f.kind f.open_ m gap f.parts) (mark_same 58, tt)) h
 
--- what is drawn of a header has its shape
+-- what is laid out of a header has its shape
 pub header_fits : (m : ℕ) (gap : Bytes) (f : Form) (h : Heading f) → Fits IsSort (s.tok (one_keyword h.word) h.rest) (header_parts m gap f)
 header_fits m gap f h = by_brackets (is_def f) (s.tok (one_keyword h.word) h.rest) m gap f (λ e. (h.function e, no_tuple f.kind e)) h.proper.fits
 
@@ -183,7 +183,7 @@ is_small (Form' kind z parts z' items end_ split open_ comments) h gap m = simpl
 expr_legal : (here : Spot) (x : Expr) → ProperBy line_shape here x → (gap : Bytes) (m : ℕ) → LegalBzlPart (part_of x gap m)
 expr_legal here x h gap m = as_bzl (part_of x gap m) ((drawn_good here x h).legal gap m)
 
--- what holds of marks and of all that is drawn of an expression holds of each part of a header
+-- what holds of marks and of all that is laid out of an expression holds of each part of a header
 module _ (P : Part → Type 0) (marks : (gap : Bytes) (n : ℕ) → P (p.Leaf (record { class = c.Mark; gap = gap; token = n ∷ [] }))) (drawn : (here : Spot) (x : Expr) → ProperBy line_shape here x → (gap : Bytes) (m : ℕ) → P (part_of x gap m)) where
   parts_each : (here : Spot) (xs : List Expr) → AreHeaderParts here xs → Each P marks (drawings xs)
   parts_each here [] h = tt

@@ -38,7 +38,7 @@ some_writings : (xs : List Expr) → is_empty xs ≡ false → is_empty (writing
 some_writings [] h = h
 some_writings (x ∷ xs) h = refl
 
--- the gap before a row stands before its text
+-- the gap before a row is before its text
 row_spelled : (kind : Kind) (open_ : Bool) (m : ℕ) (gap : Bytes) (xs : List Expr) → is_empty xs ≡ false → AllByRecursion Readable xs →
     flat_map spell_part (map piece_part (rowed kind open_ m gap m (drawings xs))) ≡ gap ++ row_text kind open_ m m xs
 row_spelled kind open_ m gap xs s h = same_rowed kind open_ m gap m (drawings xs) (writings xs) (agree_all xs h) ∙ row_gap kind open_ gap m m (writings xs) (some_writings xs s)
@@ -91,7 +91,7 @@ next_joined : (first left rest rest_left lines text rest_text : Bytes) → first
 next_joined first left rest rest_left lines text rest_text e f =
     append_assoc first rest rest_left ∙ (ap (λ z. first ++ z) f ∙ (sym (append_assoc first left rest_text) ∙ (ap (λ z. z ++ rest_text) e ∙ append_assoc lines text rest_text)))
 
--- what is left behind the branches of a statement doesn't hang on what stands before it
+-- what is left after the branches of a statement doesn't hang on what is before it
 left_anew : (n : _) (r : Row_of-Branch n) (m : ℕ) (lines : Bytes) → AreHeaders (heads r) → left_branches m [] r ≡ left_branches m lines r
 left_anew n end_of-Branch m lines h = absurd h
 left_anew n (more_of-Branch head size statements end_ rest) m lines h = refl
@@ -113,7 +113,7 @@ parameters_readable [] h = tt
 parameters_readable (x ∷ xs) h = (readable Within x h.0, parameters_readable xs h.3)
 
 mutual
-  -- what a statement spells, and what it leaves behind
+  -- what a statement spells, and what it leaves
   statement_spelled : (x : Statement) → IsProperStatement x → (m : ℕ) (lines : Bytes) → spell_part (statement_part m lines x) ++ left_behind m x ≡ lines ++ statement_text m x
   statement_spelled (Simple x) h m lines =
       ap (λ z. z ++ []) (spell_Node (record { kind = k.Line; parts = part_of x (gap_to_margin m lines (comments_of x).before) m ∷ newline_part (comments_of x).suffix ∷ [] }) ∙ ap (λ z. z ++ ((suffix_text (comments_of x).suffix ++ line_feed ∷ []) ++ [])) (spell_expr x (readable Begins x h.1) (gap_to_margin m lines (comments_of x).before) m))

@@ -45,7 +45,7 @@ is_put here l h = record { stands = h.stands; coded = h.coded }
 node_put : (here : Spot) (n : Node) → AtParts IsPut here here n.parts → AtLeaves IsPut here (p.Node n)
 node_put here n h = row_of_parts IsPut here here _ (row_of n).1 (subst (AtParts IsPut here here) (sym (items_of_row n)) h)
 
--- the newline behind a suffix
+-- the newline after a suffix
 newline_put : (suffix : Option Bytes) → MaybeComment suffix → AtLeaves IsPut Along (newline_part suffix)
 newline_put suffix h = let w = newline_gap suffix h in record { stands = (true, w.0); coded = (w.1, coded_byte line_feed (omega arith)) }
 
@@ -76,7 +76,7 @@ pub others_fit : (x : BzlItem) (xs : List BzlItem) → FitsAt Begins (before_oth
 others_fit x [] = inner_nothing
 others_fit x (y ∷ xs) = between_fits x y
 
--- what is left behind statements
+-- what is left after statements
 mutual
   pub left_fits : (x : Statement) → IsProperStatement x → (m : ℕ) → FitsAt Begins (left_behind m x)
   left_fits (Simple x) h m = inner_nothing
@@ -92,11 +92,11 @@ mutual
   statements_leave n end_of-Statement h m lines g = g
   statements_leave n (more_of-Statement x rest) h m lines g = statements_leave _ rest h.1 m (left_behind m x) (left_fits x h.0 m)
 
--- behind a suite, and its end comments
+-- after a suite, and its end comments
 pub suite_leaves : (n : _) (r : Row_of-Statement n) → AreProperStatements r → (m : ℕ) (end_ : List Bytes) → AllByRecursion IsComment end_ → FitsAt Begins (left_statements m [] r ++ indented_lines m end_)
 suite_leaves n r h m end_ e = inner_append (left_statements m [] r) (indented_lines m end_) (statements_leave n r h m [] inner_nothing) (lines_inner m end_ e)
 
--- ---- what stands behind statements
+-- ---- what is after statements
 
 simple_goes : (kind : Kind) → is_simple kind ≡ true → behind_node kind Begins ≡ Along
 simple_goes k.Bare h = refl
@@ -116,7 +116,7 @@ first_begins n (more_of-Branch head size statements end_ rest) (inl h) = ap (λ 
 first_begins n (more_of-Branch head size statements end_ rest) (inr (inl h)) = ap (λ z. behind_node z Begins) h.0.kinds
 first_begins n (more_of-Branch head size statements end_ rest) (inr (inr h)) = ap (λ z. behind_node z Begins) h.0.kinds
 
--- behind a statement the next line begins
+-- after a statement the next line begins
 line_begins : (x : Statement) → IsProperStatement x → (outer : Spot) (m : ℕ) (lines : Bytes) → behind_part outer Begins (statement_part m lines x) ≡ Begins
 line_begins (Simple x) h outer m lines = refl
 line_begins (Compound' size own) h outer m lines = first_begins _ own h.0

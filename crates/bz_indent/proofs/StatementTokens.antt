@@ -37,7 +37,7 @@ use Rattle.bz_indent.proofs.StatementGaps.{lines_inner, gap_fits, left_fits, sui
 abbrev newline_leaf : Option Bytes → Leaf
 newline_leaf suffix = record { class = c.Newline; gap = suffix_text suffix; token = line_feed ∷ [] }
 
--- a header, its suite and others, and leaves behind them
+-- a header, its suite and others, and leaves after them
 branch_leaves : (header newline statements suite others rest : List Leaf) → suite ≡ newline ++ statements → (header ++ (suite ++ others)) ++ rest ≡ header ++ (newline ++ (statements ++ (others ++ rest)))
 branch_leaves header newline statements suite others rest e = ap (λ z. (header ++ (z ++ others)) ++ rest) e ∙ simp append_assoc
 

@@ -13,7 +13,7 @@ abbrev pub depth_header : Form → ℕ
 depth_header f = max (deepest_of f.parts) (if is_def f then deepest_of f.seq.items else 0)
 
 abbrev mutual
-  -- a line is one deeper than what stands in it
+  -- a line is one deeper than what is in it
   pub depth_statement : Statement → ℕ
   depth_statement (Simple x) = suc (depth_expr x)
   depth_statement (Compound' size own) = suc (depth_branches own)

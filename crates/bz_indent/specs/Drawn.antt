@@ -20,22 +20,22 @@ use Rattle.bz_indent.specs.Layout.{indented_lines, is_def, before_others}
 
 -- ---- gaps
 
--- the gap before the first token of what stands at a margin: lines, its comments, and its margin
+-- the gap before the first token of what is at a margin: lines, its comments, and its margin
 abbrev pub gap_to_margin : ℕ → Bytes → List Bytes → Bytes
 gap_to_margin m lines texts = lines ++ (indented_lines m texts ++ replicate m space)
 
--- the newline behind a suffix
+-- the newline after a suffix
 abbrev pub newline_part : Option Bytes → Part
 newline_part suffix = p.Leaf (record { class = c.Newline; gap = suffix_text suffix; token = line_feed ∷ [] })
 
 -- ---- headers
 
--- the parts of a header up to its colon, and that, behind a gap: of a Def its parameters stand in brackets
+-- the parts of a header up to its colon, and that, after a gap: of a Def its parameters stand in brackets
 abbrev pub header_parts : ℕ → Bytes → Form → List Part
 header_parts m gap f =
     map piece_part (rowed f.kind f.open_ m gap m (drawings f.parts)) ++ ((if is_def f then mark_leaf 40 ∷ map piece_part (drawn_body f m 41) else []) ++ mark_leaf 58 ∷ [])
 
--- ---- the lines that are left behind a statement: the end comments of its last suites, which stand in the gap of what follows
+-- ---- the lines that are left after a statement: the end comments of its last suites, which stand in the gap of what follows
 
 abbrev mutual
   pub left_behind : ℕ → Statement → Bytes
@@ -50,9 +50,9 @@ abbrev mutual
   left_statements m lines end_of-Statement = lines
   left_statements m lines (more_of-Statement x rest) = left_statements m (left_behind m x) rest
 
--- ---- statements, behind these lines
+-- ---- statements, after these lines
 
--- a simple statement on a line of its own: its suffix stands in the gap of the Newline
+-- a simple statement on a line of its own: its suffix is in the gap of the Newline
 abbrev pub simple_part : ℕ → Bytes → Expr → Part
 simple_part m lines x = p.Node (record { kind = k.Line; parts = part_of x (gap_to_margin m lines (comments_of x).before) m ∷ newline_part (comments_of x).suffix ∷ [] })
 
@@ -80,7 +80,7 @@ abbrev mutual
 
 -- ---- the file
 
--- the items, the first behind these lines: a Block's lines stand in the gap of what follows
+-- the items, the first after these lines: a Block's lines stand in the gap of what follows
 abbrev pub bzl_lines : Bytes → List BzlItem → List Part
 bzl_lines lines [] = p.Leaf (record { class = c.End; gap = lines; token = [] }) ∷ []
 bzl_lines lines (b.Block texts ∷ items) = bzl_lines ((lines ++ indented_lines 0 texts) ++ before_others (b.Block texts) items) items

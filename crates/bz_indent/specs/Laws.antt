@@ -21,7 +21,7 @@ use Rattle.bz_indent.specs.Level.{level}
 abbrev pub LevelStays : Type 0
 LevelStays = (items : List BzlItem) → level (level items) ≡ level items
 
--- Each comment stands in what is level as often as before.
+-- Each comment is in what is level as often as before.
 abbrev pub LevelKeepsComments : Type 0
 LevelKeepsComments = (text : Bytes) (items : List BzlItem) → bzl_times text (level items) ≡ bzl_times text items
 

@@ -82,7 +82,7 @@ abbrev pub between_items : BzlItem → BzlItem → Bytes
 between_items (b.Statement (Simple x)) (b.Statement (Simple y)) = gap_between (i.Stmt x) (i.Stmt y)
 between_items _ _ = line_feed ∷ []
 
--- what stands between an item and those that follow
+-- what is between an item and those that follow
 abbrev pub before_others : BzlItem → List BzlItem → Bytes
 before_others item [] = []
 before_others item (next ∷ items) = between_items item next

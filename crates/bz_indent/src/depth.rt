@@ -7,7 +7,7 @@ use bz_suite::{Branch, BzlItem, Statement};
 use bz_value::Form;
 use bz_write::{are_within, is_within};
 
-/// Whether what is drawn of a header has at most this depth.
+/// Whether what is laid out of a header has at most this depth.
 fn is_header_within(head: &Form, depth: usize) -> bool
     ensures { IsTrue result ↔ (depths.depth_header head.now ≤ depth) }
 {
@@ -17,7 +17,7 @@ fn is_header_within(head: &Form, depth: usize) -> bool
     !is_def(head) || are_within(head.seq.items.as_slice(), depth)
 }
 
-/// Whether what is drawn of a statement has at most this depth.
+/// Whether what is laid out of a statement has at most this depth.
 #[cycle(depth)]
 #[tactic(auto, using(crate::proofs::Depths::depth_Compound))]
 fn is_statement_within(statement: &Statement, depth: usize) -> bool
@@ -31,7 +31,7 @@ fn is_statement_within(statement: &Statement, depth: usize) -> bool
     }
 }
 
-/// Whether what is drawn of headers with their suites has at most this depth.
+/// Whether what is laid out of headers with their suites has at most this depth.
 #[cycle(depth)]
 #[tactic(auto, using(crate::proofs::Depths::branch_next))]
 fn are_branches_within(branches: &[Branch], depth: usize) -> bool
@@ -45,7 +45,7 @@ fn are_branches_within(branches: &[Branch], depth: usize) -> bool
     true
 }
 
-/// Whether what is drawn of a header and its suite has at most this depth.
+/// Whether what is laid out of a header and its suite has at most this depth.
 #[cycle(depth)]
 fn is_branch_within(branch: &Branch, depth: usize) -> bool
     ensures { IsTrue result ↔ (depths.depth_branch branch.now ≤ depth) }
@@ -56,7 +56,7 @@ fn is_branch_within(branch: &Branch, depth: usize) -> bool
     are_statements_within(branch.statements.as_slice(), depth - 1)
 }
 
-/// Whether what is drawn of the statements of a suite has at most this depth.
+/// Whether what is laid out of the statements of a suite has at most this depth.
 #[cycle(depth)]
 #[tactic(auto, using(crate::proofs::Depths::statement_next))]
 fn are_statements_within(statements: &[Statement], depth: usize) -> bool
@@ -79,7 +79,7 @@ fn is_item_within(item: &BzlItem, depth: usize) -> bool
     }
 }
 
-/// Whether what is drawn of the items of a .bzl file has at most this depth.
+/// Whether what is laid out of the items of a .bzl file has at most this depth.
 #[tactic(auto, using(crate::proofs::Depths::item_next))]
 pub fn are_bzl_items_within(items: &[BzlItem], depth: usize) -> bool
     ensures { IsTrue result ↔ (depths.depth_bzl_items items.now ≤ depth) }

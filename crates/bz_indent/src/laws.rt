@@ -13,7 +13,7 @@ pub fn level_stays()
     flags_settle();
 }
 
-/// Each comment stands in what is level as often as before.
+/// Each comment is in what is level as often as before.
 pub fn level_keeps_comments()
     ensures { LevelKeepsComments }
 {

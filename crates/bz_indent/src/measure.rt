@@ -13,7 +13,7 @@ use bz_write::{
 };
 use std::alloc::{AllocError, Global};
 
-/// What is left of the room behind comment lines at a margin.
+/// What is left of the room after comment lines at a margin.
 #[tactic(auto, using(crate::proofs::Lengths::lines_next))]
 fn less_lines(room: usize, texts: &[Text], margin: usize) -> Result<usize, NoRoom>
     ensures ok { IfOk result (λ left. length (layout.indented_lines margin texts.now) + left ≡ room) }
@@ -28,7 +28,7 @@ fn less_lines(room: usize, texts: &[Text], margin: usize) -> Result<usize, NoRoo
     Ok(left)
 }
 
-/// What is left of the room behind a header up to its colon.
+/// What is left of the room after a header up to its colon.
 #[tactic(auto, using(crate::proofs::Lengths::def_length, crate::proofs::Lengths::row_length))]
 fn less_head(alloc: Global, head: &Form, margin: usize, room: usize) -> Result<usize, NoRoom>
     ensures ok { IfOk result (λ left. length (layout.text_of_head margin head.now) + left ≡ room) }
@@ -43,7 +43,7 @@ fn less_head(alloc: Global, head: &Form, margin: usize, room: usize) -> Result<u
     Ok(left)
 }
 
-/// What is left of the room behind a header with its comments.
+/// What is left of the room after a header with its comments.
 #[tactic(auto, using(crate::proofs::Lengths::header_length))]
 fn less_header(alloc: Global, head: &Form, margin: usize, room: usize) -> Result<usize, NoRoom>
     ensures ok { IfOk result (λ left. length (layout.header_text margin head.now) + left ≡ room) }
@@ -57,7 +57,7 @@ fn less_header(alloc: Global, head: &Form, margin: usize, room: usize) -> Result
     less(left, 1)
 }
 
-/// What is left of the room behind a simple statement with its comments.
+/// What is left of the room after a simple statement with its comments.
 #[tactic(auto, using(crate::proofs::Lengths::simple_length))]
 fn less_simple(alloc: Global, x: &Expr, margin: usize, room: usize) -> Result<usize, NoRoom>
     ensures ok { IfOk result (λ left. length (layout.simple_text margin x.now) + left ≡ room) }
@@ -71,7 +71,7 @@ fn less_simple(alloc: Global, x: &Expr, margin: usize, room: usize) -> Result<us
     less(left, 1)
 }
 
-/// What is left of the room behind a statement.
+/// What is left of the room after a statement.
 #[cycle(measure)]
 #[tactic(auto, using(crate::proofs::Rows::text_Compound))]
 fn less_statement(
@@ -89,7 +89,7 @@ fn less_statement(
     }
 }
 
-/// What is left of the room behind headers with their suites.
+/// What is left of the room after headers with their suites.
 #[cycle(measure)]
 #[tactic(auto, using(crate::proofs::Lengths::branches_next))]
 fn less_branches(
@@ -108,7 +108,7 @@ fn less_branches(
     Ok(left)
 }
 
-/// What is left of the room behind a header, its suite, and the comments below that.
+/// What is left of the room after a header, its suite, and the comments below that.
 #[cycle(measure)]
 #[tactic(auto, using(crate::proofs::Lengths::branch_length))]
 fn less_branch(alloc: Global, branch: &Branch, margin: usize, room: usize) -> Result<usize, NoRoom>
@@ -121,7 +121,7 @@ fn less_branch(alloc: Global, branch: &Branch, margin: usize, room: usize) -> Re
     less_lines(left, branch.end_.as_slice(), inner)
 }
 
-/// What is left of the room behind the statements of a suite.
+/// What is left of the room after the statements of a suite.
 #[cycle(measure)]
 #[tactic(auto, using(crate::proofs::Lengths::statements_next))]
 fn less_statements(
@@ -140,7 +140,7 @@ fn less_statements(
     Ok(left)
 }
 
-/// What is left of the room behind an item.
+/// What is left of the room after an item.
 fn less_item(alloc: Global, item: &BzlItem, room: usize) -> Result<usize, NoRoom>
     ensures ok { IfOk result (λ left. length (layout.bzl_item_text item.now) + left ≡ room) }
     ensures longer { result ≡ Err NoRoom.Longer → room < length (layout.bzl_item_text item.now) }
@@ -151,7 +151,7 @@ fn less_item(alloc: Global, item: &BzlItem, room: usize) -> Result<usize, NoRoom
     }
 }
 
-/// Whether a blank line stands between two items.
+/// Whether a blank line is between two items.
 fn is_apart(above: &BzlItem, below: &BzlItem) -> bool
     ensures { (if result then (line_feed ∷ []) else []) ≡ layout.between_items above.now below.now }
 {
@@ -164,7 +164,7 @@ fn is_apart(above: &BzlItem, below: &BzlItem) -> bool
     }
 }
 
-/// Whether a blank line stands between an item and those that follow.
+/// Whether a blank line is between an item and those that follow.
 pub fn is_apart_from(item: &BzlItem, others: &[BzlItem]) -> bool
     ensures { (if result then (line_feed ∷ []) else []) ≡ layout.before_others item.now others.now }
 {
@@ -174,7 +174,7 @@ pub fn is_apart_from(item: &BzlItem, others: &[BzlItem]) -> bool
     }
 }
 
-/// What is left of the room behind what stands between an item and those that follow.
+/// What is left of the room after what is between an item and those that follow.
 fn less_between(item: &BzlItem, others: &[BzlItem], room: usize) -> Result<usize, NoRoom>
     ensures ok { IfOk result (λ left. length (layout.before_others item.now others.now) + left ≡ room) }
     ensures longer { result ≡ Err NoRoom.Longer → room < length (layout.before_others item.now others.now) }
@@ -182,7 +182,7 @@ fn less_between(item: &BzlItem, others: &[BzlItem], room: usize) -> Result<usize
     less(room, usize::from(is_apart_from(item, others)))
 }
 
-/// What is left of the room behind the items.
+/// What is left of the room after the items.
 #[tactic(auto, using(crate::proofs::Lengths::layout_next))]
 fn less_items(alloc: Global, items: &[BzlItem], room: usize) -> Result<usize, NoRoom>
     ensures ok { IfOk result (λ left. length (bzl_layout items.now) + left ≡ room) }
@@ -196,7 +196,7 @@ fn less_items(alloc: Global, items: &[BzlItem], room: usize) -> Result<usize, No
     Ok(left)
 }
 
-/// Whether the layout of what a .bzl file says has at most so many bytes; it is not made for it. The error: a growth was refused.
+/// Whether the layout of what a .bzl file says has at most this many bytes; it is not made for it. The error: a growth was refused.
 pub fn is_layout_within(alloc: Global, file: &BzlFile, limit: usize) -> Result<bool, Memory>
     ensures { IfOk result (λ within. IsTrue within ↔ (length (bzl_layout file.now.items) ≤ limit)) }
 {

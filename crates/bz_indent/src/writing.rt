@@ -132,7 +132,7 @@ fn push_item(out: &mut Vec<u8>, item: &BzlItem) -> Result<(), Memory>
     }
 }
 
-/// Appends what stands between an item and those that follow.
+/// Appends what is between an item and those that follow.
 fn push_between(out: &mut Vec<u8>, item: &BzlItem, others: &[BzlItem]) -> Result<(), Memory>
     ensures { OnOk result (out.new.items ≡ out.old.items ++ layout.before_others item.now others.now) }
 {

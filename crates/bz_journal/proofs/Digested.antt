@@ -61,7 +61,7 @@ learn_next number first made texts text digest known here within there is put =
     subst (λ k. made ≡ map sha256 (take k texts)) (sym grown)
     (hash_next number first made texts text digest (subst (λ k. first ≡ map sha256 (take k texts)) here known) within there is put)
 
--- ---- the digests behind an action
+-- ---- the digests after an action
 
 -- of all texts: that of a new one was put
 pub digest_put : (answer : Answer) (h after : History) (n : ℕ) (digests made : List Bytes) (text digest : Bytes) → Goes answer h after → answer ≡ Ok Changed → n ≡ after.cursor

@@ -75,7 +75,7 @@ has_moved a b x y apart to from same = apart (to ∙ same ∙ sym from)
 
 -- ---- the texts
 
--- What an action leaves of the texts: behind the answer Changed a new one stands after the present one, and is present; else they stay.
+-- What an action leaves of the texts: after the answer Changed a new one is after the present one, and is present; else they stay.
 pub record Goes (answer : Answer) (h after : History) : Type 0 where
   pub new : answer ≡ Ok Changed → (after.cursor ≡ h.cursor + 1) × (after.texts ≡ take (h.cursor + 1) h.texts ++ present after ∷ [])
   pub old : (answer ≡ Ok Changed → ⊥) → after.texts ≡ h.texts

@@ -20,7 +20,7 @@ use Rattle.bz_journal.specs.declared.lines.Lines.{Lines}
 use Rattle.bz_journal.specs.declared.lines.Lines.TheVariants as l
 use Rattle.bz_journal.specs.Lines.{AreLinesOf, tree_with}
 
--- what stands before all places stays
+-- what is before all places stays
 later_stay : (from end : ℕ) (places : List ℕ) (lines parts : List Part) (at : ℕ) (d : Part) → Ascend from end places → at < from → get_or (put_all places lines parts) at d ≡ get_or parts at d
 later_stay from end [] lines parts at d h before = refl
 later_stay from end (place ∷ places) [] parts at d h before = refl
@@ -28,7 +28,7 @@ later_stay from end (place ∷ places) (line ∷ lines) parts at d h before =
     later_stay (suc place) end places lines (slice_set parts place line) at d h.2 (omega (arith, h.0, before))
     ∙ get_or-set_other parts place at line d (λ same. omega (arith, h.0, before, same))
 
--- line k stands in place k
+-- line k is in place k
 line_put : (from end : ℕ) (places : List ℕ) (lines parts : List Part) (k none : ℕ) (d e : Part) → Ascend from end places → end ≡ length parts → length places ≡ length lines → k < length places
     → get_or (put_all places lines parts) (get_or places k none) d ≡ get_or lines k e
 line_put from end [] lines parts k none d e h all count within = absurd (omega arith)
@@ -52,7 +52,7 @@ passed zero (place ∷ places) (line ∷ lines) parts none d e within count same
     ap (λ (xs : List Part). put_all places lines xs) (ap (slice_set parts place) (sym same) ∙ set-get_or parts place d)
 passed (suc k) (place ∷ places) (line ∷ lines) parts none d e within count same = passed k places lines parts none d e (omega (arith, within)) (omega (arith, count)) same
 
--- a line that stands in its place already may be passed
+-- a line that is in its place already may be passed
 pub line_passed : (k : ℕ) (places : List ℕ) (lines parts : List Part) (none : ℕ) (d e : Part) → k < length places → length places ≡ length lines → get_or parts (get_or places k none) d ≡ get_or lines k e
     → put_all (drop k places) (drop k lines) parts ≡ put_all (drop (k + 1) places) (drop (k + 1) lines) parts
 line_passed k places lines parts none d e within count same =

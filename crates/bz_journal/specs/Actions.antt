@@ -5,7 +5,7 @@ use Rattle.bz_words.specs.declared.command.Operation.{Operation}
 use Rattle.bz_journal.specs.declared.action.Action as d
 use Rattle.bz_journal.specs.declared.action.Action.TheVariants as v
 
--- a command on the rules that a target means, formatting, so many steps back, and so many forward
+-- a command on the rules that a target means, formatting, this many steps back, and this many forward
 pub data Action : Type 0 where
   Do : Operation → Target → Action
   Format : Action

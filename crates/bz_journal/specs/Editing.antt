@@ -24,7 +24,7 @@ use Rattle.bz_journal.specs.Meaning.{written}
 use Rattle.bz_journal.specs.History.{History, Answer, Acts, after_meaning, present}
 
 -- The value that is kept is the view of the tree, and what was looked up is that of the tree; a tree that counts as written is the
--- layout of its view, which is tidy, and its text has at most so many bytes.
+-- layout of its view, which is tidy, and its text has at most this many bytes.
 pub record IsBeside (tree : Node) (beside : Beside) : Type 0 where
   pub seen : IfSome beside.value (λ items. items ≡ view_of tree)
   pub looked : AreLookupsOf beside.lookups tree

@@ -29,11 +29,11 @@ WorkedHistories =
     × (undone 1 second ≡ (Ok Moved, back))
     × (redone 1 back ≡ (Ok Moved, second))
     × (undone 0 second ≡ (Ok Moved, second))
-    -- not so many steps
+    -- not this many steps
     × (undone 2 second ≡ (Err TooFar, second))
     × (redone 1 second ≡ (Err TooFar, second))
     -- a new text cuts those after the present one with their notes, so there is no way forward
     × (after_meaning n back (gives c None) ≡ (Ok Changed, cut))
     × (redone 1 cut ≡ (Err TooFar, cut))
-    -- behind the most steps there is no further one
+    -- after the most steps there is no further one
     × (after_meaning m full (gives a None) ≡ (Err Full, full))

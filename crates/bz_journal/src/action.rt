@@ -13,9 +13,9 @@ pub enum Action<'a> {
     Do(&'a Command, &'a Target),
     /// The whole file is tidied and laid out.
     Format,
-    /// Back by so many steps.
+    /// Back by this many steps.
     Undo(u32),
-    /// Forward by so many steps.
+    /// Forward by this many steps.
     Redo(u32),
 }
 

@@ -116,8 +116,8 @@ impl Editor {
         }
     }
 
-    /// Does an action with a note, as `Session::act_noted` does. Behind a command that changed the text the next ones cost what
-    /// they change: the value is kept, and only the lines of the statements that were exchanged are drawn. The errors are those of
+    /// Does an action with a note, as `Session::act_noted` does. After a command that changed the text the next ones cost what
+    /// they change: the value is kept, and only the lines of the statements that were exchanged are laid out. The errors are those of
     /// `Session::act_noted`.
     pub fn act_noted(&mut self, action: &Action<'_>, note: &str) -> Result<Reply, Refusal>
         ensures acts { Acts (action_in action.now) note.now (session_history self.old) result (session_history self.new) }
@@ -133,7 +133,7 @@ impl Editor {
         answer
     }
 
-    /// Lets go of the value of a short text, and of what was looked up in it, unless commands came often.
+    /// Drops the value of a short text, and of what was looked up in it, unless commands came often.
     fn let_go(&mut self)
         ensures { self.new ≡ self.old }
     {

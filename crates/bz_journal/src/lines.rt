@@ -8,7 +8,7 @@ use bz_redraw::{Redrawn, Respliced};
 use bz_trail::{take_up_across, take_up_at};
 use bz_tree::{Part, Tree};
 
-/// Lines that are drawn anew, and where they stand in a tree.
+/// Lines that are laid out anew, and where they stand in a tree.
 #[derive(Drop)]
 pub(crate) enum Lines {
     /// Each in the place of one.
@@ -47,7 +47,7 @@ fn are_same(a: &[Part], b: &[Part]) -> bool
     true
 }
 
-/// Whether these lines are the so many parts that stand from a place on.
+/// Whether these lines are the this many parts that stand from a place on.
 fn stand_across(at: usize, gone: usize, lines: &[Part], parts: &[Part]) -> bool
     requires { at + gone ≤ length parts.now }
     ensures { IsTrue result ↔ (take at parts.now ++ lines.now ++ drop (at + gone) parts.now ≡ parts.now) }

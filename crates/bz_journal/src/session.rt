@@ -147,7 +147,7 @@ impl Session {
 
     /// Does an action, with a note of at most 65,536 bytes for the step that it makes. At an error the history is as before.
     /// Errors: `NoteTooLong` before all others; those of the command; `TooLarge` and `TooDeep` where the new text would be past
-    /// a limit; `TooFar` where there aren't so many steps; `Full` where a command or formatting would change the present text,
+    /// a limit; `TooFar` where there aren't this many steps; `Full` where a command or formatting would change the present text,
     /// which is 100,000 steps from the first; `Memory`: a growth was refused, never at undo and redo by no step or by steps whose
     /// edits hold as many parts as they cover. After formatting the present text is formatted: to format it once more leaves it
     /// as it is.

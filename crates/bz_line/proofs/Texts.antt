@@ -1,4 +1,4 @@
--- Texts behind references, cut at a place.
+-- Texts after references, cut at a place.
 use Rattle.std.proofs.Common.{◌≡◌, ◌<◌, ◌+◌, ◌++◌, ◌∷◌, [], ℕ, Bool, not, cond, nat_lt, List, Bor, map, position, take, drop, get_or, length, Some, None, IsUtf8, add-one, arith, zero, suc, refl, ap, sym, ◌∙◌}
 use Rattle.std.proofs.Math.Seq.{take-suc, drop-cons}
 use Rattle.std.specs.List.{position_or_len}
@@ -14,7 +14,7 @@ pub texts_more : (items : List (Bor (List ℕ))) (at : ℕ) (none : Bor (List �
     → texts_in (take (at + 1) items) ≡ texts_in (take at items) ++ (get_or items at none).now ∷ []
 texts_more items at none within = rw (add-one, take-suc items at none within) (map-append (λ s. s.now) (take at items) (get_or items at none ∷ []))
 
--- what stands before a place, the text there, and what stands behind it
+-- what is before a place, the text there, and what is after it
 pub texts_split : (items : List (Bor (List ℕ))) (at : ℕ) (none : Bor (List ℕ)) → at < length items
     → texts_in items ≡ texts_in (take at items) ++ (get_or items at none).now ∷ texts_in (drop (at + 1) items)
 texts_split items at none within =

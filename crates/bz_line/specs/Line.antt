@@ -32,7 +32,7 @@ options_of rows = record {
   journal = is_flag_set (codes "journal") rows;
 }
 
--- what stands behind `-f`, where it is given, and the operands
+-- what is after `-f`, where it is given, and the operands
 abbrev pub given_by : Option Text → List Text → Result Given LineUsage
 given_by None texts = Ok (operands texts)
 given_by (Some file) [] = Ok (script file)

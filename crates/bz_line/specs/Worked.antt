@@ -24,7 +24,7 @@ plain = record { keep_going = false; to_stdout = false; quiet = false; journal =
 abbrev with_plain : Given → CommandLine
 with_plain given = record { options = plain; given = given }
 
--- no word; each option; what stands behind two dashes is an operand; options between operands
+-- no word; each option; what is after two dashes is an operand; options between operands
 abbrev Words : Type 0
 Words = (command_line_of [] ≡ Ok (with_plain (operands [])))
     × (command_line_of (codes "-k" ∷ []) ≡ Ok (record { options = record plain { keep_going = true }; given = operands [] }))
@@ -45,7 +45,7 @@ Scripts = (command_line_of (codes "-f" ∷ codes "lines" ∷ []) ≡ Ok (with_pl
     × (command_line_of (codes "-k" ∷ codes "-k" ∷ []) ≡ Err of_clap) × (command_line_of (codes "-f" ∷ []) ≡ Err of_clap)
     × (command_line_of (codes "delete" ∷ codes "-:x" ∷ []) ≡ Err of_clap)
 
--- a journal beside the other options and behind an operand; beside standard output, in both orders; beside operands and a file, which
+-- a journal beside the other options and after an operand; beside standard output, in both orders; beside operands and a file, which
 -- are told first; a repeated one
 abbrev Journals : Type 0
 Journals = (command_line_of (codes "-k" ∷ codes "--quiet" ∷ codes "--journal" ∷ codes "-f" ∷ codes "lines" ∷ [])

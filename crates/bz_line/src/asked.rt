@@ -56,7 +56,7 @@ fn add_command<'a>(
         ⊎ (fault ≡ OperandFault.Memory)) }
     ensures paths { All HasPath asked.old.targets.items → OnOk result (All HasPath asked.new.targets.items) }
 {
-    // The room comes first: a push that fails gives the command back, and the proof that it is let go is long.
+    // The room comes first: a push that fails gives the command back, and the proof that it is dropped is long.
     if asked.commands.reserve(1).is_err() {
         return Err(OperandFault::Memory);
     }

@@ -44,11 +44,11 @@ pub struct CommandLine<'a> {
 /// Why words are no line of the program's.
 #[derive(Debug, Drop)]
 pub enum LineFault {
-    /// They don't fit the program's options, or one stands there twice; clap's text says why.
+    /// They don't fit the program's options, or one is there twice; clap's text says why.
     Clap(clap::Error),
     /// There are operands beside `-f`.
     BesideScript,
-    /// `--journal` stands beside `--stdout`.
+    /// `--journal` is beside `--stdout`.
     BesideStdout,
     /// A growth was refused.
     Memory,
@@ -202,8 +202,8 @@ fn given_of<'a>(alloc: Global, matches: &ArgMatches<'a>) -> Result<Given<'a>, Li
     }
 }
 
-/// What the words behind the program's name say. Errors: `Clap` where clap finds a fault in them, repeated options among
-/// these; `BesideScript` where operands stand beside `-f`, else `BesideStdout` where `--journal` stands beside `--stdout`;
+/// What the words after the program's name say. Errors: `Clap` where clap finds a fault in them, repeated options among
+/// these; `BesideScript` where operands stand beside `-f`, else `BesideStdout` where `--journal` is beside `--stdout`;
 /// `Memory`: a growth was refused.
 pub fn read_line<'a, S: AsStr>(alloc: Global, words: &'a [S]) -> Result<CommandLine<'a>, LineFault>
     ensures ok { IfOk result (λ line. command_line_of (map S.text words.entry.now) ≡ Ok (line_in line)) }

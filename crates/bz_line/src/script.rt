@@ -35,7 +35,7 @@ fn lines_read<'a>(alloc: Global, all: &[&'a str]) -> Result<Vec<&'a str>, AllocE
     Ok(lines)
 }
 
-// What stands behind a byte order mark.
+// What is after a byte order mark.
 fn without_mark(script: &str) -> &str
     ensures { result.now ≡ without_mark script.now }
 {

@@ -16,9 +16,9 @@ use std::alloc::Global;
 pub enum Verb {
     /// The command, on the rules that the target means.
     Do(Command),
-    /// Back by so many steps.
+    /// Back by this many steps.
     Undo(u32),
-    /// Forward by so many steps.
+    /// Forward by this many steps.
     Redo(u32),
     /// The texts of the file are listed.
     Journal,

@@ -143,7 +143,7 @@ any_more test more value l =
       ]
     ]
 
--- ---- a list behind a value that has none
+-- ---- a list after a value that has none
 
 no_list : (value : Expr) → has_lists value ≡ false → has_kind k.List value ≡ false
 no_list value h = elim (cases_Bool (has_kind k.List value)) [

@@ -109,7 +109,7 @@ replaced_item_stays current name old new u x =
     where_true (is_item current name old x) x (with_text (string_text current name new) x)
     (λ is. string_in_place (string_text current name new) x (item_is_string current name old x is) (λ _. string_strung current name new u))
 
--- what stands in the value itself and in the items of its lists
+-- what is in the value itself and in the items of its lists
 pub changed_value : (change : Expr → Expr) → Stays change → (x : Expr) → IsValue x → IsValue (in_value change x)
 changed_value change stays x v =
     value_in_place (change x) (on_lists (map change) (change x)) (lists_stay (map change) (items_stay k.List (map change) (each_mapped change stays)) (change x))

@@ -1,5 +1,5 @@
 //! Items that are added to the lists of an attribute: words, or items that come from another attribute. An expression that is not
-//! needed is handed to `drop`: let go of by the end of its scope, each form of it would be a path of that function's proof.
+//! needed is handed to `drop`: dropped by the end of its scope, each form of it would be a path of that function's proof.
 ghost use Rattle.std.specs.Prelude.{◌≡◌, ◌⊎◌, ◌++◌, ◌∷◌, [], List, ℕ, Ok, Err, IfOk, OnOk, IfErr, map};
 ghost use Rattle.std.specs.List.{list_any, position};
 ghost use Rattle.bz_tree.specs.declared.kind.Kind.TheVariants as kinds;
@@ -212,14 +212,14 @@ fn added_alone(slot: Slot<'_>, added: Added<'_>) -> Result<Expr, Memory>
     Ok(list_of(slot.alloc, Items::from_vec(items)))
 }
 
-/// Where the first list among the operands of a sum stands.
+/// Where the first list among the operands of a sum is.
 fn first_list(operands: &[Expr]) -> Option<usize>
     ensures { result ≡ position (is_of kinds.List) operands.now }
 {
     operands.iter().position(|x| has_kind(Kind::List, x))
 }
 
-/// Puts all of `more` behind the items of the first list among the operands of a sum.
+/// Puts all of `more` after the items of the first list among the operands of a sum.
 fn append_to_first(more: &mut Vec<Expr>, operands: &mut Items<Expr>) -> Result<(), Memory>
     ensures { OnOk result (operands.new ≡ on_first_that (is_of kinds.List) (on_items kinds.List (λ items. items ++ more.old.items)) operands.old) }
 {

@@ -36,7 +36,7 @@ fn put_apart(
         Ok(true) => taken.push(x)?,
         Ok(false) => left.push(x)?,
         Err(fault) => {
-            // By a call: let go of here, each form of it would be a path of this proof.
+            // By a call: dropped here, each form of it would be a path of this proof.
             drop(x);
             return Err(fault);
         }

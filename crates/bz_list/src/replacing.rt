@@ -135,7 +135,7 @@ impl Change<'_> {
         Ok(())
     }
 
-    /// Changes the value behind a name and a sign.
+    /// Changes the value after a name and a sign.
     fn on_third(self, slot: Slot<'_>, parts: &mut Items<Expr>) -> Result<(), Memory>
         ensures { OnOk result (parts.new ≡ on_third (value_changed_by self.entry slot.entry.current.now slot.entry.attribute.now) parts.old) }
     {

@@ -115,7 +115,7 @@ none_new : (path : Bytes) (items : List Item) (symbols : List Symbol) → AllByR
 none_new path items [] h = refl
 none_new path items (first ∷ rest) h = if_true (is_loaded path items first) _ _ h.0 ∙ none_new path items rest h.1
 
--- ---- nothing is put behind
+-- ---- nothing is put after
 
 same_with_none : (item : Item) → with_symbols [] item ≡ item
 same_with_none (i.Block lines) = refl
@@ -191,7 +191,7 @@ module _ (path : Bytes) (symbols : List Symbol) where
   behind_kept [] h = absurd (true≢false (sym h))
   behind_kept (x ∷ xs) h = refl
 
-  -- a load from the path stays one, and has these symbols behind its own
+  -- a load from the path stays one, and has these symbols after its own
   more_behind : (item : Item) → is_load_from path item ≡ true → (is_load_from path (with_symbols symbols item) ≡ true) × (symbols_of (with_symbols symbols item) ≡ symbols_of item ++ more)
   more_behind (i.Block lines) h = absurd (true≢false (sym h))
   more_behind (i.Stmt x) h =

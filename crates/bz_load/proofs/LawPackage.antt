@@ -14,7 +14,7 @@ use Rattle.bz_load.specs.Fixes.{is_package_call, first_that, package_behind_bloc
 use Rattle.bz_load.specs.Laws.{has_second_package, MovedAgain}
 use Rattle.bz_load.proofs.PlaceSteps.{package_no_load, block_no_package, loads_left}
 
--- ---- an item put behind the last one that passes
+-- ---- an item put after the last one that passes
 
 pub any_placed : (test other : Item → Bool) (new : Item) (xs : List Item) → list_any other (behind_last test new xs) ≡ (other new || list_any other xs)
 any_placed test other new [] = refl
@@ -46,7 +46,7 @@ left_placed test other new (x ∷ xs) is none =
     by true rest = rest
     by false rest = if_true (other new) _ _ is
 
--- ---- an item put behind the leading blocks
+-- ---- an item put after the leading blocks
 
 found_top : (new : Item) (xs : List Item) → is_package_call new ≡ true → first_that is_package_call (package_behind_blocks new xs) ≡ Some new
 found_top new [] is = if_true (is_package_call new) _ _ is

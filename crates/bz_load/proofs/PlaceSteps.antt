@@ -15,9 +15,9 @@ use Rattle.bz_load.specs.Places.{behind_last, is_block}
 use Rattle.bz_load.specs.Fixes.{is_package_call, first_that, package_behind_blocks, package_moved, move_package_to_top}
 use Rattle.bz_attribute.proofs.FormsAgain.{if_true, if_false}
 
--- ---- behind the last one that passes
+-- ---- after the last one that passes
 
--- so many items end in one that passes, or are none
+-- this many items end in one that passes, or are none
 abbrev pub Ends : (Item → Bool) → List Item → ℕ → Type 0
 Ends test items zero = Unit {0}
 Ends test items (suc n) = (d : Item) × (test (get_or items n d) ≡ true)

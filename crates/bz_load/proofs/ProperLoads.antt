@@ -110,7 +110,7 @@ load_proper path symbols u h =
 
 -- ---- further symbols of a load
 
--- where a path stands first, what is put behind all items is put behind it
+-- where a path is first, what is put after all items is put after it
 behind_the_path : (path : Bytes) (more xs : List Expr) → is_text path (path_in xs) ≡ true → behind_first (λ ys. ys ++ more) xs ≡ xs ++ more
 behind_the_path path more [] h = absurd (true≢false (sym h))
 behind_the_path path more (x ∷ xs) h = refl

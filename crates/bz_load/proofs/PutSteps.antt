@@ -67,6 +67,6 @@ same_by path more items at x new same h is e added =
 pub other_by : (at : ℕ) (new : Item) (items made : List Item) → at ≤ length items → made ≡ insert items at new → IsTrue false ↔ (made ≡ items)
 other_by at new items made there is = (λ told. absurd (true≢false (sym told)), λ equal. absurd (another at new items made there is equal))
 
--- a load that gets more symbols stands in the place of the one that it was
+-- a load that gets more symbols is in the place of the one that it was
 pub over_by : (path : Bytes) (items : List Item) (at : ℕ) (x new : Item) → Some at ≡ position (is_load_from path) items → IsSpliced at 1 1 items (set items at new)
 over_by path items at x new h = put_over at new items (set items at new) (is_first (is_load_from path) items at x h).within refl

@@ -6,7 +6,7 @@ use Rattle.std.proofs.lemmas.List.Edits.{length-insert}
 use Rattle.bz_value.specs.declared.value.Item.{Item}
 use Rattle.bz_value.specs.Exchanged.{IsSpliced}
 
--- what stands in front of the first place, what came, and what stands from the last place on
+-- what is in front of the first place, what came, and what is from the last place on
 pub spliced : (from gone come last : ℕ) (before middle after : List Item) → from + gone ≡ last → last ≤ length before → length middle ≡ come
     → after ≡ take from before ++ (middle ++ drop last before) → IsSpliced from gone come before after
 spliced from gone come last before middle after place there count is =

@@ -1,4 +1,4 @@
--- Symbols that nothing uses are loaded no more, and the package goes behind the loads. (Own profile of buildozer's fixes
+-- Symbols that nothing uses are loaded no more, and the package goes after the loads. (Own profile of buildozer's fixes
 -- `unusedLoads` and `movePackageToTop`.)
 use Rattle.std.specs.Prelude.{Bool, false, not, ◌&&◌, ◌||◌, List, [], ◌∷◌, Option, Some, None, codes, map, if◌then◌else◌}
 use Rattle.std.specs.List.{list_any, filter}
@@ -34,7 +34,7 @@ abbrev pub end_of : Expr → List Bytes
 end_of (e.Token t) = []
 end_of (Form' kind s parts s' items end_ split open_ comments) = end_
 
--- comments that are no symbol's: above the load, behind it, at its end, and the path's
+-- comments that are no symbol's: above the load, after it, at its end, and the path's
 abbrev pub has_own_comments : Expr → Bool
 has_own_comments x = is_commented (comments_of x) || (not (is_empty (end_of x)) || path_comments (items_of x))
 

@@ -48,7 +48,7 @@ MovedAgain = (items : List Item) → has_second_package items ≡ false → move
 abbrev pub loses_load : List Item → Bool
 loses_load items = list_any (is_emptied (is_used items)) items
 
--- Where a load goes, the package may go behind another one the next time.
+-- Where a load goes, the package may go after another one the next time.
 abbrev pub FixedAgain : Type 0
 FixedAgain =
     (fixes : Fixes) (items : List Item) → IsProper items → has_second_package items ≡ false → loses_load (move_package_to_top items) ≡ false
@@ -56,7 +56,7 @@ FixedAgain =
 
 -- ---- comments
 
--- Each comment stands there as often as before.
+-- Each comment is there as often as before.
 abbrev pub LoadsKeepComments : Type 0
 LoadsKeepComments =
     ((path : Bytes) (symbols : List Symbol) (items : List Item) (text : Bytes) → times text (new_load path symbols items) ≡ times text items)

@@ -34,7 +34,7 @@ abbrev pub loads_symbol : Symbol → Expr → Bool
 loads_symbol symbol x =
     if has_kind k.Alias x then is_alias_of symbol (parts_of x) else is_text symbol.to (body_of x) && bytes_eq symbol.to symbol.from
 
--- the items behind the path
+-- the items after the path
 abbrev pub behind_path : List Expr → List Expr
 behind_path [] = []
 behind_path (x ∷ xs) = xs

@@ -5,7 +5,7 @@ use Rattle.bz_value.specs.declared.value.Item.{Item}
 use Rattle.bz_value.specs.declared.value.Item.TheVariants as i
 use Rattle.bz_load.specs.Loads.{is_load_item}
 
--- right behind the last item that passes a test; before all where none does
+-- right after the last item that passes a test; before all where none does
 abbrev pub behind_last : (Item → Bool) → Item → List Item → List Item
 behind_last test new [] = new ∷ []
 behind_last test new (item ∷ items) = if list_any test (item ∷ items) then item ∷ behind_last test new items else new ∷ item ∷ items
@@ -14,7 +14,7 @@ abbrev pub is_block : Item → Bool
 is_block (i.Block lines) = true
 is_block (i.Stmt x) = false
 
--- right behind the comment blocks that a list begins with
+-- right after the comment blocks that a list begins with
 abbrev pub behind_blocks : Item → List Item → List Item
 behind_blocks new [] = new ∷ []
 behind_blocks new (item ∷ items) = if is_block item then item ∷ behind_blocks new items else new ∷ item ∷ items

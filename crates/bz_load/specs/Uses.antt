@@ -21,7 +21,7 @@ abbrev pub first_item : {X : Type 0} → List X → List X
 first_item [] = []
 first_item (x ∷ xs) = x ∷ []
 
--- The parts of a node that hold operands: not the name of an argument or of an alias, and none behind a dot.
+-- The parts of a node that hold operands: not the name of an argument or of an alias, and none after a dot.
 abbrev pub with_operands : {X : Type 0} → Kind → List X → List X
 with_operands kind xs = if is_kind kind k.Named || is_kind kind k.Alias then behind_head xs else (if is_kind kind k.Dot then first_item xs else xs)
 

@@ -30,7 +30,7 @@ bare x = i.Stmt (node k.Bare (x ∷ []))
 abbrev call : Bytes → List Expr → Item
 call kind arguments = bare (sequence k.Call (name kind ∷ []) arguments)
 
--- a string with a comment behind it
+-- a string with a comment after it
 abbrev noted : Bytes → Expr
 noted text = e.Token (record { class = c.String; text = text; break_ = false; comments = record { before = []; suffix = Some (codes "# c") } })
 
@@ -60,7 +60,7 @@ NewLoads =
     × (new_load path (x ∷ yz ∷ x ∷ []) [] ≡ made ∷ [])
     -- a further symbol goes to the end of the first load from the path
     × (new_load path (x ∷ yz ∷ []) (rule ∷ one ∷ one ∷ []) ≡ rule ∷ made ∷ one ∷ [])
-    -- a new load goes behind the last load, else behind the leading comment blocks
+    -- a new load goes after the last load, else after the leading comment blocks
     × (new_load path (x ∷ []) (block ∷ other ∷ rule ∷ other ∷ rule ∷ []) ≡ block ∷ other ∷ rule ∷ other ∷ one ∷ rule ∷ [])
     × (new_load path (x ∷ []) (block ∷ rule ∷ block ∷ []) ≡ block ∷ one ∷ rule ∷ block ∷ [])
 
@@ -74,7 +74,7 @@ Unused =
     let behind_dot : Item = bare (node k.Dot (name (codes "a") ∷ mark (codes ".") ∷ name (codes "b") ∷ [])) in
     let as_name : Item = call (codes "a") (argument_of (codes "b") (name (codes "c")) ∷ []) in
     (unused_loads (load (path ∷ a ∷ b ∷ []) ∷ call (codes "a") [] ∷ []) ≡ load (path ∷ a ∷ []) ∷ call (codes "a") [] ∷ [])
-    -- a name behind a dot is no use, and the name of an argument is none
+    -- a name after a dot is no use, and the name of an argument is none
     × (unused_loads (load (path ∷ a ∷ b ∷ []) ∷ behind_dot ∷ []) ≡ load (path ∷ a ∷ []) ∷ behind_dot ∷ [])
     × (unused_loads (load (path ∷ a ∷ b ∷ []) ∷ as_name ∷ []) ≡ load (path ∷ a ∷ []) ∷ as_name ∷ [])
     -- an alias is used by its own name
@@ -102,7 +102,7 @@ Packages =
     -- of two packages the second comes first then, so the next time it is moved
     × (move_package_to_top (settings ∷ other ∷ first ∷ []) ≡ other ∷ first ∷ settings ∷ [])
     × (move_package_to_top (other ∷ first ∷ settings ∷ []) ≡ first ∷ other ∷ settings ∷ [])
-    -- The package goes behind the last load, which goes; the next time it goes behind the load that is the last one then.
+    -- The package goes after the last load, which goes; the next time it goes after the load that is the last one then.
     × (fix both (first ∷ rule ∷ last ∷ settings ∷ []) ≡ first ∷ rule ∷ settings ∷ [])
     × (fix both (first ∷ rule ∷ settings ∷ []) ≡ first ∷ settings ∷ rule ∷ [])
     × (fix both (fix both (first ∷ rule ∷ last ∷ settings ∷ [])) ≢ fix both (first ∷ rule ∷ last ∷ settings ∷ []))

@@ -24,9 +24,9 @@ pub struct WithLoad {
     pub items: Items<Item>,
     /// Whether they are the items that there were: no symbol was new to a load that stood there.
     pub same: bool,
-    /// Behind how many items the load stands.
+    /// After how many items the load is.
     pub at: usize,
-    /// In the place of how many items it stands: of one where there was such a load before, of none where it is put in.
+    /// In the place of how many items it is: of one where there was such a load before, of none where it is put in.
     pub gone: usize,
 }
 
@@ -46,7 +46,7 @@ fn new_symbols(
     Ok(made)
 }
 
-/// Where the first load from the path stands.
+/// Where the first load from the path is.
 fn place_of_load(path: &[u8], items: &[Item]) -> Option<usize>
     ensures { result ≡ position (is_from path.now) items.now }
 {
@@ -106,7 +106,7 @@ fn put(
 }
 
 /// The items, in which the symbols are loaded from the path then: those that aren't loaded so yet, each once, go to the end of
-/// its first load; without such a load a new one goes behind the last load, or behind the leading comment blocks. All other
+/// its first load; without such a load a new one goes after the last load, or after the leading comment blocks. All other
 /// items stay and are moved. The error: memory was refused; the items are then lost.
 pub fn new_load(
     alloc: Global,

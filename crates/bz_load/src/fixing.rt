@@ -38,7 +38,7 @@ fn fix_loads(alloc: Global, wanted: bool, items: &mut Vec<Item>) -> Result<(), M
     drop_unused(alloc, items)
 }
 
-/// A copy of the items that is mended: first the package goes behind the loads, then symbols that nothing uses go. The error:
+/// A copy of the items that is mended: first the package goes after the loads, then symbols that nothing uses go. The error:
 /// memory was refused.
 pub fn fix(alloc: Global, fixes: Fixes, items: &[Item]) -> Result<Items<Item>, Memory>
     ensures { IfOk result (λ new. new ≡ fix fixes items.now) }

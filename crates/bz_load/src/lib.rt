@@ -1,4 +1,4 @@
-//! The loads of a file: symbols that are loaded too, symbols that nothing uses, and the package behind the loads.
+//! The loads of a file: symbols that are loaded too, symbols that nothing uses, and the package after the loads.
 #![tactic(auto)]
 
 mod adding;

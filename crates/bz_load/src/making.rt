@@ -48,7 +48,7 @@ pub(crate) fn symbol_made(alloc: Global, symbol: &Symbol) -> Result<Expr, Memory
     alias(alloc, to, from)
 }
 
-/// The path, and the symbols behind it.
+/// The path, and the symbols after it.
 fn with_path(alloc: Global, path: Expr, symbols: &mut Vec<Expr>) -> Result<Items<Expr>, Memory>
     ensures { IfOk result (λ items. items ≡ path ∷ symbols.old.items) }
 {

@@ -1,4 +1,4 @@
-//! The package behind the loads.
+//! The package after the loads.
 ghost use Rattle.std.specs.Prelude.{◌≡◌, OnOk, codes};
 ghost use Rattle.std.specs.List.{position};
 ghost use Rattle.bz_load.specs.Fixes.{is_package_call as is_any_package, move_package_to_top};
@@ -20,7 +20,7 @@ fn place_of_package(items: &[Item]) -> Option<usize>
     items.iter().position(is_package)
 }
 
-/// The first rule of kind `package` goes right behind the last load; without a load behind the comment blocks that the items
+/// The first rule of kind `package` goes right after the last load; without a load after the comment blocks that the items
 /// begin with. The error: memory was refused; the items are then lost.
 pub(crate) fn move_package(items: &mut Vec<Item>) -> Result<(), Memory>
     ensures { OnOk result (items.new.items ≡ move_package_to_top items.old.items) }

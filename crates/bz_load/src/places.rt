@@ -48,8 +48,8 @@ pub(crate) fn count_of_blocks(items: &[Item]) -> usize
     items.len()
 }
 
-/// Puts an item behind the last load; without a load behind the comment blocks that the items begin with. Behind how many items
-/// it stands then. The error: memory was refused; the item is then lost.
+/// Puts an item after the last load; without a load after the comment blocks that the items begin with. After how many items
+/// it is then. The error: memory was refused; the item is then lost.
 pub(crate) fn insert_behind_loads(new: Item, items: &mut Vec<Item>) -> Result<usize, Memory>
     ensures items { OnOk result (items.new.items ≡ behind_loads new items.old.items) }
     ensures place { IfOk result (λ at. (at ≤ length items.old.items) × (items.new.items ≡ insert items.old.items at new)) }

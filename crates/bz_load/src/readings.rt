@@ -47,7 +47,7 @@ pub(crate) fn is_load_from(path: &[u8], item: &Item) -> bool
     }
 }
 
-/// The items of a load behind its path.
+/// The items of a load after its path.
 pub(crate) fn behind_path(items: &[Expr]) -> &[Expr]
     ensures { result.now ≡ behind items.now }
 {
@@ -57,7 +57,7 @@ pub(crate) fn behind_path(items: &[Expr]) -> &[Expr]
     }
 }
 
-/// What a load has behind its path.
+/// What a load has after its path.
 pub(crate) fn symbols_of(item: &Item) -> &[Expr]
     ensures { result.now ≡ symbols item.now }
 {

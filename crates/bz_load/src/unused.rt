@@ -43,7 +43,7 @@ fn path_has_comments(items: &[Expr]) -> bool
     }
 }
 
-/// Whether a load has comments that are no symbol's: above it, behind it, at its end, or the path's.
+/// Whether a load has comments that are no symbol's: above it, after it, at its end, or the path's.
 fn has_own_comments(x: &Expr) -> bool
     ensures { result ≡ has_own x.now }
 {

@@ -43,7 +43,7 @@ fn insert_operands(alloc: Global, x: &Expr, names: &mut Names) -> Result<(), Mem
     }
 }
 
-/// The names among the parts of a node: not the name of an argument or of an alias, and none behind a dot.
+/// The names among the parts of a node: not the name of an argument or of an alias, and none after a dot.
 #[cycle(uses)]
 fn insert_parts(alloc: Global, kind: Kind, parts: &[Expr], names: &mut Names) -> Result<(), Memory>
     ensures { OnOk result (knows_name (texts_of names.new) ≡ and_operands (with_operands kind parts.now) (knows_name (texts_of names.old))) }

@@ -6,7 +6,7 @@ use Rattle.bz_value.specs.declared.value.Item.{Item}
 use Rattle.bz_items.specs.Characters.{Bytes}
 use Rattle.bz_rule.specs.Rules.{has_name}
 
--- the places of the rules of this name, in their order, where the first item stands at `at`
+-- the places of the rules of this name, in their order, where the first item is at `at`
 abbrev pub places_from : ℕ → Bytes → List Item → List ℕ
 places_from at name [] = []
 places_from at name (item ∷ items) = if has_name name item then at ∷ places_from (at + 1) name items else places_from (at + 1) name items

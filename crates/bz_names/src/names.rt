@@ -28,7 +28,7 @@ fn mark_places(marks: &mut [bool], places: &[usize])
     }
 }
 
-/// So many marks, of which those at the places are set.
+/// This many marks, of which those at the places are set.
 fn marks_at(alloc: Global, count: usize, places: &[usize]) -> Result<Vec<bool>, Memory>
     ensures { IfOk result (λ marks. marks.items ≡ marked_at places.now (replicate count false)) }
 {

@@ -25,7 +25,7 @@ fn push_name(out: &mut Vec<u8>, expr: &Expr) -> Result<bool, Memory>
     }
 }
 
-/// Appends a dot and the last name behind it.
+/// Appends a dot and the last name after it.
 fn push_last(out: &mut Vec<u8>, name: &[u8]) -> Result<(), Memory>
     ensures { OnOk result (out.new.items ≡ out.old.items ++ full_stop ∷ name.now) }
 {

@@ -1,4 +1,4 @@
--- What is tidied one by one stays proper, and what makes lines drawn anew those of the whole.
+-- What is tidied one by one stays proper, and what makes lines laid out anew those of the whole.
 use Rattle.std.proofs.Common.{◌≡◌, ◌+◌, ℕ, ◌≤◌, ◌∙◌, Bool, true, false, List, [], ◌∷◌, length, suc, refl, ap, sym, subst, arith, flat_map}
 use Rattle.std.specs.List.{AllByRecursion}
 use Rattle.std.proofs.lemmas.List.Elements.{All-from_recursion, recursion_from_All}
@@ -41,7 +41,7 @@ where_length [] items = refl
 where_length (mark ∷ marks) [] = refl
 where_length (mark ∷ marks) (item ∷ items) = ap suc (where_length marks items)
 
--- ---- lines that are drawn anew
+-- ---- lines that are laid out anew
 
 -- Lines that make the drawing of the items of that of others make it of the tree that was written, if there is room for them.
 pub renewed : (law : RedrawnHasLength) (redrawn : Redrawn) (most : ℕ) (tree : Node) (before items : List Item) → IsWritten before tree → IsProper items

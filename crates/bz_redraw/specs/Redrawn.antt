@@ -1,4 +1,4 @@
--- A tree that was written, and lines of it that are drawn anew.
+-- A tree that was written, and lines of it that are laid out anew.
 use Rattle.std.specs.Prelude.{◌≡◌, ◌≤◌, ◌+◌, ◌++◌, List, length, take, drop}
 use Rattle.bz_tree.specs.declared.tree.Node.{Node}
 use Rattle.bz_tree.specs.Places.{Ascend, put_all}

@@ -16,7 +16,7 @@ use bz_write::{Redrawn, are_marked_shallow, are_marked_short, redraw, redrawn_ha
 use std::alloc::Global;
 use std::mem;
 
-/// Lines that are drawn anew, and how many bytes the text has at most with them.
+/// Lines that are laid out anew, and how many bytes the text has at most with them.
 #[derive(Drop)]
 pub struct Renewed {
     pub redrawn: Redrawn,
@@ -77,7 +77,7 @@ fn drawn_anew(
 
 /// Renews a file where marked statements of it were exchanged since its tree was written: tidies these, so that the file is tidy
 /// again, and gives their lines and places in the tree, which has at most `long` bytes. None where a limit may be passed so: the file
-/// is tidy then too, and its tree is to be drawn whole. The error: memory was refused; the file has no items then, or those that are tidy.
+/// is tidy then too, and its tree is to be laid out whole. The error: memory was refused; the file has no items then, or those that are tidy.
 pub fn renew(
     alloc: Global,
     marks: &[bool],

@@ -7,7 +7,7 @@ use bz_items::Items;
 use bz_lex::Leaf;
 use bz_tree::{LENGTH_LIMIT, Part, Tree};
 
-/// What is left of the room behind the gap and the token of a leaf; none where they are longer.
+/// What is left of the room after the gap and the token of a leaf; none where they are longer.
 fn left_behind_leaf(leaf: &Leaf, room: usize) -> Option<usize>
     ensures { IfSome result (λ left. length (spell_leaf leaf.now) + left ≡ room) }
 {
@@ -15,7 +15,7 @@ fn left_behind_leaf(leaf: &Leaf, room: usize) -> Option<usize>
     left.checked_sub(leaf.token.len())
 }
 
-/// What is left of the room behind a part; none where it is longer.
+/// What is left of the room after a part; none where it is longer.
 #[cycle(left)]
 #[tactic(auto, using(crate::proofs::Rooms::node_spelled))]
 fn left_behind_part(part: &Part, room: usize) -> Option<usize>
@@ -27,7 +27,7 @@ fn left_behind_part(part: &Part, room: usize) -> Option<usize>
     }
 }
 
-/// What is left of so many bytes of room behind parts; none where they are longer.
+/// What is left of this many bytes of room after parts; none where they are longer.
 #[cycle(left)]
 #[tactic(auto)]
 fn left_behind(parts: &[Part], room: usize) -> Option<usize>
@@ -40,7 +40,7 @@ fn left_behind(parts: &[Part], room: usize) -> Option<usize>
     Some(left)
 }
 
-/// So many bytes and those of parts; none where they are past the limit of a text.
+/// This many bytes and those of parts; none where they are past the limit of a text.
 fn most_with(parts: &[Part], long: usize) -> Option<usize>
     ensures { IfSome result (λ most. (most ≡ long + length (flat_map spell_part parts.now)) × (most ≤ limit)) }
 {

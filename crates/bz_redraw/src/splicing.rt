@@ -15,7 +15,7 @@ use bz_value::File;
 use bz_write::{Respliced, is_window_shallow, is_window_short, redraw_spliced};
 use std::alloc::Global;
 
-/// Lines that are drawn anew in the place of others, and how many bytes the text has at most with them.
+/// Lines that are laid out anew in the place of others, and how many bytes the text has at most with them.
 #[derive(Drop)]
 pub struct RenewedWindow {
     pub respliced: Respliced,
@@ -23,7 +23,7 @@ pub struct RenewedWindow {
     pub most: usize,
 }
 
-/// The lines of so many of the items, behind the first `from` ones, and their place in the tree; none where they may be past a limit
+/// The lines of this many of the items, after the first `from` ones, and their place in the tree; none where they may be past a limit
 /// there.
 fn window_drawn(
     alloc: Global,
@@ -50,9 +50,9 @@ fn window_drawn(
     }
 }
 
-/// Renews a file where so many of its items, behind the first `from` ones, came in the place of others since its tree was written:
+/// Renews a file where this many of its items, after the first `from` ones, came in the place of others since its tree was written:
 /// tidies them, with the loads that they stand among, so that the file is tidy again, and gives their lines and their place in the
-/// tree, which has at most `long` bytes. None where a limit may be passed so: the file is tidy then too, and its tree is to be drawn
+/// tree, which has at most `long` bytes. None where a limit may be passed so: the file is tidy then too, and its tree is to be laid out
 /// whole. The error: memory was refused; the file has no items then, or those that are tidy.
 pub fn renew_spliced(
     alloc: Global,

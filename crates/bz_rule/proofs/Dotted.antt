@@ -30,7 +30,7 @@ text_apart : (text last : Bytes) (front : Option Bytes) → ((f : Bytes) → tex
 text_apart text last None apart = refl
 text_apart text last (Some front) apart = not_true (bytes_eq (joined_by front last) text) (λ e. apart front (sym ((bytes_eq-Decides (joined_by front last) text).0 e)))
 
--- ---- what stands before a dot and a name
+-- ---- what is before a dot and a name
 
 abbrev Before : Bytes → Bytes → Option (Bor Bytes) → Type 0
 Before text end result = MatchOption result ((front : Bytes) → text ≢ front ++ end) (λ front. text ≡ front.now ++ end)

@@ -27,7 +27,7 @@ use Rattle.bz_rule.proofs.ProperForms.{AsForm, opened}
 use Rattle.bz_rule.proofs.ProperItems.{IsValue, KeepsRow, row_within, item_within}
 use Rattle.bz_rule.proofs.ProperSequences.{IsItem, AreOf}
 
--- ---- where the value of a named argument stands
+-- ---- where the value of a named argument is
 
 or_none : (b : Bool) → (b || false) ≡ true → b ≡ true
 or_none true h = refl

@@ -76,8 +76,8 @@ with_lists ps xs (Form' kind s parts s' items end_ split open_ comments) = e.For
 
 -- ---- in an expression's place
 
--- What may stand wherever an expression stands: it is proper where that is, the table of shapes sees no difference, and
--- its comments, its break and what comes behind it are the same.
+-- What may stand wherever an expression is: it is proper where that is, the table of shapes sees no difference, and
+-- its comments, its break and what comes after it are the same.
 pub record InPlace (x y : Expr) : Type 0 where
   pub proper : (here : Spot) → ProperExpr here x → ProperExpr here y
   pub roots : AlikeRoots (root x) (root y)

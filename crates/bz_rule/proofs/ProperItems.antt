@@ -19,7 +19,7 @@ use Rattle.bz_rule.proofs.ProperSequences.{IsItem}
 
 -- ---- within brackets
 
--- What may stand wherever an expression stands within brackets: as `InPlace`, at that spot alone.
+-- What may stand wherever an expression is within brackets: as `InPlace`, at that spot alone.
 pub record WithinPlace (x y : Expr) : Type 0 where
   pub proper : ProperExpr Within x → ProperExpr Within y
   pub sort : (q : Sort) → has_sort q (root x) ≡ has_sort q (root y)

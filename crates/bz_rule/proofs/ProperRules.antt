@@ -23,7 +23,7 @@ use Rattle.bz_rule.proofs.ProperSequences.{AreOf, call_apart, call_in_place}
 abbrev pub IsFunction : Expr → Type 0
 IsFunction f = ((here : Spot) → ProperExpr here f) × IsBare f × IsSort s.primary (root f)
 
--- how a rule stands in an expression: its arguments are arguments, and others may take their place, as may another function
+-- how a rule is in an expression: its arguments are arguments, and others may take their place, as may another function
 record Calls (x : Expr) (with_arguments with_function : List Expr → Expr) (rule : Rule) : Type 0 where
   arguments : AreOf s.argument rule.arguments
   others : (new : List Expr) → AreOf s.argument new → InPlace x (with_arguments new)

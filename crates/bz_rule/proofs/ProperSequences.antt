@@ -25,7 +25,7 @@ IsItem sort x = (ProperExpr Within x × AreComments (comments_of x) × (has_brea
 abbrev pub AreOf : Sort → List Expr → Type 0
 AreOf sort xs = AllByRecursion (IsItem sort) xs
 
--- ---- items, each with a comma behind it
+-- ---- items, each with a comma after it
 
 module _ (sort : Sort) (close : List Terminal) (closer : Part) where
   behind_apart : (xs : List Expr) → AreItems xs → Behind (IsSort sort) s.comma_mark true (Fits IsSort (s.tok close s.done)) (mark_leaf comma ∷ (each_with_comma (map root xs) ++ closer ∷ [])) → AreOf sort xs
@@ -94,7 +94,7 @@ load_items change keeps here end_ split open_ (p ∷ q ∷ ps) xs h = let n = le
 
 -- ---- in place of the sequence
 
--- what stands in place of an expression if a test holds
+-- what is in place of an expression if a test holds
 pub where_true : (b : Bool) (x y : Expr) → (b ≡ true → InPlace x y) → InPlace x (if b then y else x)
 where_true true x y h = h refl
 where_true false x y h = itself x

@@ -1,4 +1,4 @@
--- The quote marks of strings, and what stands between them.
+-- The quote marks of strings, and what is between them.
 use Rattle.std.specs.Prelude.{ℕ, Bool, false, ◌&&◌, ◌||◌, ◌-◌, ◌*◌, [], ◌∷◌, if◌then◌else◌, take, drop, length, nat_eq, nat_le}
 use Rattle.bz_tree.specs.declared.kind.Kind.TheVariants as k
 use Rattle.bz_value.specs.declared.value.Expr.{Expr}
@@ -8,7 +8,7 @@ use Rattle.bz_rule.specs.Values.{has_kind, text_of, first_text, parts_of}
 abbrev pub is_quote_mark : ℕ → Bool
 is_quote_mark character = nat_eq character quotation_mark || nat_eq character apostrophe
 
--- the text behind a prefix
+-- the text after a prefix
 abbrev pub unprefixed : Bytes → Bytes
 unprefixed [] = []
 unprefixed (c ∷ s) = if is_quote_mark c then c ∷ s else unprefixed s
@@ -21,7 +21,7 @@ begins_thrice _ = false
 abbrev pub marks_of : Bytes → ℕ
 marks_of text = if begins_thrice text && nat_le 6 (length text) then 3 else 1
 
--- what stands between the n characters at each end
+-- what is between the n characters at each end
 abbrev pub inside : ℕ → Bytes → Bytes
 inside n text = take (length text - 2 * n) (drop n text)
 

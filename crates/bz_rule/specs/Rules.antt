@@ -103,7 +103,7 @@ abbrev pub attribute : Bytes → List Expr → Option Expr
 attribute name [] = None
 attribute name (x ∷ xs) = option_or (value_named name x) (attribute name xs)
 
--- A plain string has no prefix, one quote mark at each end and no backslash; its body is what stands between.
+-- A plain string has no prefix, one quote mark at each end and no backslash; its body is what is between.
 abbrev pub inner : Bytes → Bytes
 inner text = take (length text - 2) (drop 1 text)
 

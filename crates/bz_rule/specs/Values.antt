@@ -23,7 +23,7 @@ abbrev pub text_of : Expr → Bytes
 text_of (Token t) = t.text
 text_of (Form' own s parts s' items end_ split open_ comments) = []
 
--- the row of a node, or what stands before the bracket of a sequence
+-- the row of a node, or what is before the bracket of a sequence
 abbrev pub parts_of : Expr → List Expr
 parts_of (Token t) = []
 parts_of (Form' own s parts s' items end_ split open_ comments) = items-the_row-Expr _ parts
@@ -66,7 +66,7 @@ abbrev pub on_first : {X : Type 0} → (X → X) → List X → List X
 on_first change [] = []
 on_first change (x ∷ xs) = change x ∷ xs
 
--- the operand behind a sign
+-- the operand after a sign
 abbrev pub on_third : {X : Type 0} → (X → X) → List X → List X
 on_third change (x ∷ y ∷ z ∷ rest) = x ∷ y ∷ change z ∷ rest
 on_third change xs = xs

@@ -5,14 +5,14 @@ ghost use Rattle.bz_rule.specs.Named.{fronts, fronts_in};
 
 use bz_value::{Expr, File, Item};
 
-/// The first of some parts; the others are let go.
+/// The first of some parts; the others are dropped.
 fn first_of(parts: Vec<Expr>) -> Option<Expr>
     ensures { IfSome result (λ part. fronts part ≡ fronts_in parts.items) }
 {
     parts.into_iter().next()
 }
 
-/// The first part of a form; what else stands in it is let go.
+/// The first part of a form; what else is in it is dropped.
 #[tactic(auto, using(crate::proofs::Forms::fronts_Form))]
 fn first_part(x: Expr) -> Option<Expr>
     ensures { IfSome result (λ part. fronts part < fronts x) }
@@ -23,7 +23,7 @@ fn first_part(x: Expr) -> Option<Expr>
     }
 }
 
-/// Lets go of a statement from the outside to the inside of its first parts, so that none of them is let go in another.
+/// Drops a statement from the outside to the inside of its first parts, so that none of them is dropped in another.
 fn take_statement_apart(x: Expr) {
     let mut at = x;
     while let Some(part) = first_part(at) {
@@ -31,7 +31,7 @@ fn take_statement_apart(x: Expr) {
     }
 }
 
-/// Lets go of a file value whose statements may begin with any number of forms, each in the next.
+/// Drops a file value whose statements may begin with any number of forms, each in the next.
 pub fn take_apart(file: File) {
     let File { items } = file;
     for item in items.into_vec() {

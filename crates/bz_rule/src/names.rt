@@ -9,14 +9,14 @@ use crate::parts::{is_text, text_in};
 use bz_tree::{Class, Kind};
 use bz_value::Expr;
 
-// What stands before this end of a text.
+// What is before this end of a text.
 fn before<'a>(text: &'a [u8], end: &[u8]) -> Option<&'a [u8]>
     ensures { MatchOption result ((front : Bytes) → text.entry.now ≢ front ++ end.now) (λ front. text.entry.now ≡ front.now ++ end.now) }
 {
     text.strip_suffix(end)
 }
 
-// What stands before a dot at the end of a text.
+// What is before a dot at the end of a text.
 fn before_dot(text: &[u8]) -> Option<&[u8]>
     ensures { MatchOption result ((front : Bytes) → text.now ≢ front ++ full_stop ∷ []) (λ front. text.now ≡ front.now ++ full_stop ∷ []) }
 {
@@ -26,7 +26,7 @@ fn before_dot(text: &[u8]) -> Option<&[u8]>
     }
 }
 
-// What stands before a dot and the last name in a text that ends in them: it is the text that is left to names before them.
+// What is before a dot and the last name in a text that ends in them: it is the text that is left to names before them.
 fn before_name<'a>(text: &'a [u8], name: &[u8]) -> Option<&'a [u8]>
     ensures { MatchOption result ((front : Option Bytes) → is_text text.entry.now (dotted front (Some name.now)) ≡ false)
         (λ left. (front : Option Bytes) → is_text text.entry.now (dotted front (Some name.now)) ≡ is_text left.now front) }
@@ -44,7 +44,7 @@ struct Joined<'a> {
     last: &'a [u8],
 }
 
-// The parts of names joined by dots: what stands before the last dot may still be no name.
+// The parts of names joined by dots: what is before the last dot may still be no name.
 fn cut_row(parts: &[Expr]) -> Option<Joined<'_>>
     ensures name { MatchOption result (joined (each_named parts.now) ≡ None)
         (λ names. joined (each_named parts.now) ≡ dotted (dotted_name names.front.now) (Some names.last.now)) }

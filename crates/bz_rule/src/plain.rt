@@ -37,7 +37,7 @@ fn is_plain_in(quote: u8, text: &[u8]) -> bool
     is_quoted(quote, text) && !has_mark(quote, inner(text))
 }
 
-/// The body of a plain string: what stands between its quote marks. A string with a prefix, with three quote marks at
+/// The body of a plain string: what is between its quote marks. A string with a prefix, with three quote marks at
 /// each end or with a backslash is none.
 pub fn body(text: &[u8]) -> Option<&[u8]>
     ensures { option_copied result ≡ body text.now }

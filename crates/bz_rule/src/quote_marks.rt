@@ -1,4 +1,4 @@
-//! The quote marks of strings, what stands between them, and the names of symbols.
+//! The quote marks of strings, what is between them, and the names of symbols.
 ghost use Rattle.std.specs.Prelude.{◌≡◌, ◌≤◌};
 ghost use Rattle.bz_rule.specs.QuoteMarks.{begins_thrice, marks_of, inside, between, unprefixed, local_name};
 ghost use Rattle.bz_rule.specs.Values.{first_text, text_of};
@@ -27,7 +27,7 @@ pub fn marks_of(text: &[u8]) -> usize
     }
 }
 
-/// What stands between so many characters at each end.
+/// What is between this many characters at each end.
 pub fn inside(count: usize, text: &[u8]) -> &[u8]
     requires { count ≤ 3 }
     ensures { result.now ≡ inside count text.now }
@@ -38,7 +38,7 @@ pub fn inside(count: usize, text: &[u8]) -> &[u8]
     &text[count..text.len() - count]
 }
 
-/// A string behind its prefix.
+/// A string after its prefix.
 fn unprefixed(text: &[u8]) -> &[u8]
     ensures { result.now ≡ unprefixed text.now }
 {

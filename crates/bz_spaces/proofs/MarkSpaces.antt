@@ -1,4 +1,4 @@
--- The space behind a mark, as the code tells it: a comma and a spaced colon have one, and of the others those that are not tight.
+-- The space after a mark, as the code tells it: a comma and a spaced colon have one, and of the others those that are not tight.
 use Rattle.std.proofs.Common.{◌≡◌, Bool, true, false, not, ◌&&◌, ◌||◌, refl, sym, ap, ◌∙◌}
 use Rattle.std.specs.Prelude.{codes, bytes_eq}
 use Rattle.bz_items.specs.Characters.{Bytes}
@@ -10,7 +10,7 @@ use Rattle.bz_tree.specs.declared.tree.Part.TheVariants as p
 use Rattle.bz_tree.specs.Shapes as s
 use Rattle.bz_spaces.specs.Spaces.{lone, is_dot_terminal, is_prefix_mark, is_colon_spaced, space_behind, is_spaced_after}
 
--- a comma, or a colon with a space behind it
+-- a comma, or a colon with a space after it
 abbrev pub is_separator : Kind → Bytes → Bool
 is_separator kind text = bytes_eq text (codes ",") || (bytes_eq text (codes ":") && is_colon_spaced kind)
 

@@ -1,4 +1,4 @@
--- The single spaces of the layout, told by a part and the one behind it: their kinds, or their tokens.
+-- The single spaces of the layout, told by a part and the one after it: their kinds, or their tokens.
 use Rattle.std.specs.Prelude.{ℕ, Bool, true, false, not, ◌&&◌, ◌||◌, List, [], ◌∷◌, codes, bytes_eq}
 use Rattle.bz_token.specs.declared.class.Class.{Class}
 use Rattle.bz_token.specs.declared.class.Class.TheVariants as c
@@ -33,13 +33,13 @@ is_prefix_mark k.Star t = true
 is_prefix_mark k.Param t = in_table t (codes "*" ∷ codes "**" ∷ [])
 is_prefix_mark _ t = false
 
--- the kinds whose colon has a space behind it
+-- the kinds whose colon has a space after it
 abbrev pub is_colon_spaced : Kind → Bool
 is_colon_spaced k.Entry = true
 is_colon_spaced k.Lambda = true
 is_colon_spaced _ = false
 
--- One space stands around operators, `=`, augmented forms and keywords, behind a comma, and behind the colon of an Entry and of a Lambda.
+-- One space is around operators, `=`, augmented forms and keywords, after a comma, and after the colon of an Entry and of a Lambda.
 abbrev pub space_behind : Kind → Terminal → Bool
 space_behind kind (s.this c.Mark t) = bytes_eq t (codes ",") || ((bytes_eq t (codes ":") && is_colon_spaced kind) || not (lone (s.this c.Mark t) || (is_dot_terminal (s.this c.Mark t) || is_prefix_mark kind t)))
 space_behind kind (s.this c.Keyword t) = not (bytes_eq t (codes "load"))
@@ -83,12 +83,12 @@ abbrev pub is_number_leaf : Part → Bool
 is_number_leaf (p.Leaf l) = is_number l.class
 is_number_leaf (Node' kind z r) = false
 
--- One space stands between two neighbours in a node of a kind: behind a token that has one behind it, but not before a
+-- One space is between two neighbours in a node of a kind: after a token that has one after it, but not before a
 -- bracket, a comma or a colon; before a token that has one before it; and between two parts that are no tokens of their row.
 abbrev pub apart : Kind → Part → Part → Bool
 apart kind x y = (is_spaced_after kind x && not (is_lone y)) || (is_spaced_before kind y || (is_value x && is_value y))
 
--- a number right before a dot has a space behind it, since `1.` is a number
+-- a number right before a dot has a space after it, since `1.` is a number
 abbrev pub number_dot : Part → Part → Bool
 number_dot x y = is_number_leaf x && has_token s.dot y
 

@@ -20,7 +20,7 @@ fn is_dot_mark(mark: &[u8]) -> bool
     matches!(mark, b".")
 }
 
-/// Whether the mark in a row of the kind stands right before its operand.
+/// Whether the mark in a row of the kind is right before its operand.
 fn is_prefix(kind: Kind, mark: &[u8]) -> bool
     ensures { result ≡ spaces.is_prefix_mark kind mark.now }
 {
@@ -31,7 +31,7 @@ fn is_prefix(kind: Kind, mark: &[u8]) -> bool
     }
 }
 
-/// Whether the colon in a row of the kind has a space behind it.
+/// Whether the colon in a row of the kind has a space after it.
 fn is_colon_spaced(kind: Kind) -> bool
     ensures { result ≡ spaces.is_colon_spaced kind }
 {
@@ -52,7 +52,7 @@ fn is_tight(kind: Kind, mark: &[u8]) -> bool
     is_any(is_lone_mark(mark), is_dot_mark(mark), is_prefix(kind, mark))
 }
 
-/// Whether a space stands behind the expression.
+/// Whether a space is after the expression.
 fn has_space_behind(kind: Kind, expr: &Expr) -> bool
     ensures { result ≡ spaces.is_spaced_after kind (root expr.now) }
 {
@@ -71,7 +71,7 @@ fn has_space_behind(kind: Kind, expr: &Expr) -> bool
     }
 }
 
-/// Whether a space stands before the expression.
+/// Whether a space is before the expression.
 fn has_space_before(kind: Kind, expr: &Expr) -> bool
     ensures { result ≡ spaces.is_spaced_before kind (root expr.now) }
 {
@@ -125,7 +125,7 @@ fn is_dot(expr: &Expr) -> bool
     }
 }
 
-/// Whether one space stands between two neighbours in a row of the kind.
+/// Whether one space is between two neighbours in a row of the kind.
 pub fn is_spaced(kind: Kind, left: &Expr, right: &Expr) -> bool
     ensures { result ≡ spaces.is_spaced kind (root left.now) (root right.now) }
 {

@@ -35,7 +35,7 @@ behind_first : (lines : Lines) → plain_lines (after_first_line lines) ≡ afte
 behind_first [] = refl
 behind_first (line ∷ lines) = refl
 
--- what stands in a gap behind its first line, and then before the first of these parts
+-- what is in a gap after its first line, and then before the first of these parts
 behind_line : (gap : Bytes) (xs : List Part) → plain_lines (after_first_line (indented gap) ++ indented_lines_before (map stated xs) []) ≡ after_first_comment (lines_of gap) ++ first_lines xs
 behind_line gap xs =
     map-append (λ l. l.line) (after_first_line (indented gap)) (indented_lines_before (map stated xs) [])

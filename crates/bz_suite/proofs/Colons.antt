@@ -8,7 +8,7 @@ use Rattle.bz_view.specs.View.{Seen, seen}
 use Rattle.bz_suite.specs.View.{Stated, stated, branches, with_suite}
 use Rattle.bz_suite.proofs.Parts.{part_of}
 
--- the part with an index, and those behind it
+-- the part with an index, and those after it
 pub part_here : (ps : List Part) (at : ℕ) (y : Part) → at < length ps → y ≡ get_or ps at y → drop at ps ≡ y ∷ drop (at + 1) ps
 part_here [] at y l e = absurd (omega arith)
 part_here (x ∷ ps) zero y l e = ap (λ z. z ∷ ps) (sym e)

@@ -18,7 +18,7 @@ use Rattle.bz_view.proofs.Pairs.{Paired, token}
 use Rattle.bz_view.proofs.SequenceParts.{Alternate}
 use Rattle.bz_suite.proofs.KeptGaps.{NoColon, no_colons, token_plain, sort_plain}
 
--- ---- behind a suite and behind a statement a line begins
+-- ---- after a suite and after a statement a line begins
 
 suite_ends : (kind : Kind) (here : Spot) → sort_has_kind s.suite kind ≡ true → behind_node kind here ≡ Begins
 suite_ends k.Line here h = refl
@@ -132,7 +132,7 @@ owned_headed (mark ∷ own ∷ x ∷ xs) h at_ = absurd h.1.1
 
 -- ---- with its colon a header has this shape
 
--- a colon behind these parts
+-- a colon after these parts
 abbrev pub with_colon : List Part → List Part
 with_colon front = front ++ r.mark_leaf 58 ∷ []
 
@@ -142,7 +142,7 @@ FitsHeader shape front = Fits IsSort shape (with_colon front)
 pub colon_alone : (front : List Part) → None_before front → FitsHeader (tok s.colon_mark done) front
 colon_alone front e = subst (λ zs. FitsHeader (tok s.colon_mark done) zs) (sym e) (refl, tt)
 
--- behind if or elif
+-- after if or elif
 pub test_headed : (x mark own : Part) (back : List Part) → IsSort s.test x → has_token s.colon_mark mark ≡ true → IsSort s.suite own → AtParts BzlStands Begins Along (x ∷ mark ∷ own ∷ back) → Headed (FitsHeader (sub s.test (tok s.colon_mark done))) back (x ∷ mark ∷ own ∷ back)
 test_headed x mark own back h i j at_ =
     cons None_before (FitsHeader (sub s.test (tok s.colon_mark done))) back x (mark ∷ own ∷ back) (sort_in s.test x refl h) (λ front e. (h, colon_alone front e))
@@ -192,7 +192,7 @@ no_names : (front : List Part) → FitsHeader in_shape front → BehindName fron
 no_names [] h = inl h
 no_names (x ∷ front) h = inl h
 
--- behind for
+-- after for
 pub for_headed : (xs : List Part) → Fits IsSort (s.list s.primary s.comma_mark false (tok (s.one_keyword (codes "in")) (sub s.expr owned))) xs → AtParts BzlStands Begins Along xs → Headed (FitsHeader (s.list s.primary s.comma_mark false in_shape)) [] xs
 for_headed xs h at_ =
     listed_headed s.primary refl Along refl false (Fits IsSort (tok (s.one_keyword (codes "in")) (sub s.expr owned))) (FitsHeader (s.list s.primary s.comma_mark false in_shape)) BehindName (FitsHeader in_shape)
@@ -200,7 +200,7 @@ for_headed xs h at_ =
 
 -- ---- def
 
--- the items among these parts, each with a comma behind it, then the closing bracket and a colon
+-- the items among these parts, each with a comma after it, then the closing bracket and a colon
 abbrev pub closed_row : List Part → List Part
 closed_row front = each_with_comma (places front) ++ r.mark_leaf 41 ∷ r.mark_leaf 58 ∷ []
 
@@ -216,7 +216,7 @@ pub record AreParameterParts (shape : Shape) (front : List Part) : Type 0 where
 abbrev Parameters : List Part → Type 0
 Parameters front = AreParameterParts (s.list s.param s.comma_mark true close_shape) front
 
--- behind a parameter
+-- after a parameter
 abbrev Closing : List Part → Type 0
 Closing front = (x : Part) → IsSort s.param x → Parameters (x ∷ front)
 
@@ -284,7 +284,7 @@ pub record Named (front : List Part) : Type 0 where
   pub opens : has_token s.open_round opener ≡ true
   pub parameters : AreParameterParts (enclosed s.param s.close_round (tok s.colon_mark done)) behind
 
--- behind def
+-- after def
 pub def_headed : (xs : List Part) → Fits IsSort (tok s.name (tok s.open_round (enclosed s.param s.close_round owned))) xs → AtParts BzlStands Begins Along xs → Headed Named [] xs
 def_headed [] h at_ = absurd h
 def_headed (x ∷ []) h at_ = absurd h.1

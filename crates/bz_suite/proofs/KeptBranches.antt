@@ -102,19 +102,19 @@ module _ (number : Bytes → ℕ) where
 
   -- ---- headers with their suites
 
-  -- the lines of the gap before the first of these parts; where there is none, those behind all
+  -- the lines of the gap before the first of these parts; where there is none, those after all
   abbrev pub before_amount : List Part → Lines → ℕ
   before_amount xs after = lines_amount number (indented_lines_before (map stated xs) after)
 
   -- Of a part that is a suite: its suffix, its statements, its end comments and the lines left are what its leaves and the
-  -- lines behind it have.
+  -- lines after it have.
   abbrev pub SuiteKept : Part → Type 0
   SuiteKept x = (after : Lines) → suffix_amount number (stated x).suffix + (stated_amount number ((stated x).suite after).0.0 + (total number ((stated x).suite after).0.1 + lines_amount number ((stated x).suite after).1)) ≡ part_amount number x + lines_amount number after
 
   abbrev pub AsSuite : Part → Type 0
   AsSuite x = IsSort s.suite x → AtLeaves BzlStands Along x → SuiteKept x
 
-  -- of further headers of a statement, where these lines are left of what stands before them
+  -- of further headers of a statement, where these lines are left of what is before them
   abbrev BranchesKept : Kind → List Part → Type 0
   BranchesKept kind xs = (left after : Lines) → before_amount xs after + (total (branch_amount number) (branches kind [] (indented_comments left) left (map stated xs) after).0 + lines_amount number (branches kind [] (indented_comments left) left (map stated xs) after).1)
       ≡ lines_amount number left + (total (part_amount number) xs + lines_amount number after)

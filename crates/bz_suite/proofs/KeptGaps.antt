@@ -93,7 +93,7 @@ newline_comment (Node' kind n r) i h = no_such i
 newline_role : (class : Class) (token : Bytes) (outer here : Spot) → class ≡ c.Newline → behind_token (role class token) outer here ≡ Begins
 newline_role class token outer here e = ap (λ z. behind_token (role z token) outer here) e
 
--- behind it a line begins
+-- after it a line begins
 pub newline_ends : (x : Part) (outer here : Spot) → has_token s.newline x ≡ true → behind_part outer here x ≡ Begins
 newline_ends (p.Leaf l) outer here i = newline_role l.class l.token outer here (newline_class l i)
 newline_ends (Node' kind n r) outer here i = no_such i

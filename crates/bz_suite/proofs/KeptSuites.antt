@@ -35,8 +35,8 @@ use Rattle.bz_suite.proofs.KeptValues.{stated_amount, compound_amount, simple_am
 use Rattle.bz_suite.proofs.Parts.{part_of, parts_seen, stated_rows}
 
 module _ (number : Bytes → ℕ) where
-  -- What is read of a part, or of the parts in it, as a statement: what stands in it and in the lines left is what stands above
-  -- it, in the gaps of its leaves, the first one aside, and in the lines behind it.
+  -- What is read of a part, or of the parts in it, as a statement: what is in it and in the lines left is what is above
+  -- it, in the gaps of its leaves, the first one aside, and in the lines after it.
   abbrev Reads : Bytes → (List Bytes → Lines → Read (List Statement)) → ℕ → Type 0
   Reads gap read own = (above : List Bytes) (after : Lines) → gap_amount number gap + (stated_amount number (read above after).0 + lines_amount number (read above after).1) ≡ total number above + (own + lines_amount number after)
 
@@ -59,7 +59,7 @@ module _ (number : Bytes → ℕ) where
       let both = lines_append number (after_first_line (indented (last_gap (map seen (x ∷ y ∷ xs))))) after in
       omega arith
 
-  -- in the place of a suite nothing stands before it
+  -- in the place of a suite nothing is before it
   first_silent : (xs : List Part) → Statements xs → AllByRecursion (Silent BzlStands) xs → AtParts BzlStands Along Along xs → gap_amount number (first_seen_gap (map seen xs)) ≡ 0
   first_silent [] h g at_ = absurd h
   first_silent (x ∷ xs) h g at_ = ap (total number) (g.0 (sort_inner s.small x refl h.0) at_.0)
@@ -91,7 +91,7 @@ module _ (number : Bytes → ℕ) where
       omega arith
   ends_step false m x xs h = omega arith
 
-  -- the end comments of a suite, and what is left behind them
+  -- the end comments of a suite, and what is left after them
   ends_kept : (m : ℕ) (xs : Lines) → total number (end_comments m xs) + lines_amount number (behind_end m xs) ≡ lines_amount number xs
   ends_kept m [] = refl
   ends_kept m (x ∷ xs) = ends_step (is_taken_line m x.indent x.line.comment) m x xs (ends_kept m xs)

@@ -93,6 +93,6 @@ module _ (number : Bytes → ℕ) where
   first_gone [] = refl
   first_gone (line ∷ lines) = refl
 
-  -- and those behind the first line of one
+  -- and those after the first line of one
   pub behind_amount : (gap : Bytes) → lines_amount (after_first_line (indented gap)) ≡ left_amount number gap
   behind_amount gap = ap (λ ls. total number (comments_in ls)) (first_gone (indented gap) ∙ ap behind_first_line (lines_are gap))

@@ -67,7 +67,7 @@ all_fit : (xs : List Part) → AllKnown xs → AllByRecursion InHeader xs → Al
 all_fit [] g n = tt
 all_fit (x ∷ xs) g n = (g.0.fit n.0.1, all_fit xs g.1 n.1)
 
--- the lines before the first of these parts, or behind all
+-- the lines before the first of these parts, or after all
 pub before_lines : (xs : List Part) (after : Lines) → AllKnown xs → AreFineLines after → AreFineLines (indented_lines_before (map stated xs) after)
 before_lines [] after g f = f
 before_lines (x ∷ xs) after g f = subst (λ y. AreFineLines (indented y.gap)) (sym (part_of x)) (gap_lines (seen x).gap g.0.told.coded)
@@ -82,7 +82,7 @@ Branched P read = P (map (λ x. x.head) read.0) × (AllByRecursion HasSuite read
 abbrev pub Branches : (List Form → Type 0) → Kind → List Part → Type 0
 Branches P kind xs = (above : List Bytes) (left after : Lines) → Group above → AreFineLines left → AreFineLines after → Branched P (branches kind [] above left (map stated xs) after)
 
--- a header, and behind it what P says
+-- a header, and after it what P says
 abbrev pub HeadThen : Kind → Shape → (List Form → Type 0) → List Form → Type 0
 HeadThen kind shape P [] = ⊥
 HeadThen kind shape P (f ∷ fs) = IsHeader kind shape f × P fs

@@ -39,7 +39,7 @@ ends_step : (b : Bool) (m : ℕ) (x : IndentedGapLine) (lines : Lines) → AreFi
 ends_step true m x lines h w = (all_joined IsComment (indented_comments (x ∷ [])) (end_comments m lines) (comments_fine (x ∷ []) (h.0, tt)) w.0, w.1)
 ends_step false m x lines h w = (tt, h)
 
--- the end comments of a suite, and what is left behind them
+-- the end comments of a suite, and what is left after them
 pub ends_fine : (m : ℕ) (lines : Lines) → AreFineLines lines → Group (end_comments m lines) × AreFineLines (behind_end m lines)
 ends_fine m [] h = (tt, tt)
 ends_fine m (x ∷ lines) h = ends_step (is_taken_line m x.indent x.line.comment) m x lines h (ends_fine m lines h.1)

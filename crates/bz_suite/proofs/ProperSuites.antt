@@ -71,7 +71,7 @@ simple_proper here x above suffix e h g at_ a m =
       subst AreComments (sym (comments_made x cs false)) (All-from_recursion IsComment (above ++ (seen x).loose) (all_joined IsComment above (seen x).loose a g.told.loose), m),
     )
 
--- the statements of a line, from one on that stands here
+-- the statements of a line, from one on that is here
 simple_some : (outer here : Spot) (above : List Bytes) (xs : List Part) → onward here ≡ onward Begins → Statements xs → AllKnown xs → AtParts BzlStands outer here xs → Group above → AreSome (simple_statements (statements_in above (map seen xs)))
 simple_some outer here above [] e h g at_ a = absurd h
 simple_some outer here above (x ∷ []) e h g at_ a = absurd h.1

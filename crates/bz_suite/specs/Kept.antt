@@ -33,10 +33,10 @@ abbrev pub bzl_item_amount : (Bytes → ℕ) → BzlItem → ℕ
 bzl_item_amount number (b.Block texts) = total number texts
 bzl_item_amount number (b.Statement x) = statement_amount number x
 
--- how often a comment of this text stands in what a .bzl file says
+-- how often a comment of this text is in what a .bzl file says
 abbrev pub bzl_times : Bytes → List BzlItem → ℕ
 bzl_times text items = total (bzl_item_amount (one_if text)) items
 
--- Each comment of a legal tree stands in what the file says as often as in the tree's gaps.
+-- Each comment of a legal tree is in what the file says as often as in the tree's gaps.
 abbrev pub BzlCommentsKept : Type 0
 BzlCommentsKept = (tree : Node) → LegalBzl tree → (text : Bytes) → bzl_times text (bzl_view_of tree) ≡ occurrences text tree

@@ -32,7 +32,7 @@ has_simple_kind (Form' kind s parts s' items end_ split open_ comments) = is_sim
 
 -- ---- headers
 
--- the parts of a header, from one on that stands here
+-- the parts of a header, from one on that is here
 abbrev pub AreHeaderParts : Spot → List Expr → Type 0
 AreHeaderParts here [] = Unit {0}
 AreHeaderParts here (x ∷ xs) = ProperBy line_shape here x × IsBare x × AreHeaderParts (behind_expr Begins here x) xs
@@ -41,7 +41,7 @@ abbrev pub AreParameters : List Expr → Type 0
 AreParameters [] = Unit {0}
 AreParameters (x ∷ xs) = ProperBy line_shape Within x × AreComments (comments_of x) × (has_break x ≡ false) × AreParameters xs
 
--- what stands behind the parts of a header: of a function its parameters in brackets, and then the colon
+-- what is after the parts of a header: of a function its parameters in brackets, and then the colon
 abbrev pub header_end : Form → List Part
 header_end f = if is_kind f.kind k.Def then mark_leaf 40 ∷ (each_with_comma (map root f.seq.items) ++ mark_leaf 41 ∷ mark_leaf 58 ∷ []) else mark_leaf 58 ∷ []
 

@@ -26,12 +26,12 @@ use Rattle.bz_suite.specs.declared.value.BzlItem.TheVariants as b
 abbrev pub indented_comments : List IndentedGapLine → List Bytes
 indented_comments lines = comments_in (map (λ l. l.line) lines)
 
--- the lines behind the first one of a gap
+-- the lines after the first one of a gap
 abbrev pub after_first_line : List IndentedGapLine → List IndentedGapLine
 after_first_line [] = []
 after_first_line (line ∷ lines) = lines
 
--- Of the comment lines behind the last statement of a suite with an indent of this length: its end comments are those up to the
+-- Of the comment lines after the last statement of a suite with an indent of this length: its end comments are those up to the
 -- first one that is indented less.
 abbrev pub is_taken_line : ℕ → ℕ → Option Bytes → Bool
 is_taken_line margin indent None = true
@@ -41,14 +41,14 @@ abbrev pub end_comments : ℕ → List IndentedGapLine → List Bytes
 end_comments margin [] = []
 end_comments margin (l ∷ lines) = if is_taken_line margin l.indent l.line.comment then indented_comments (l ∷ []) ++ end_comments margin lines else []
 
--- what is left of the lines behind them
+-- what is left of the lines after them
 abbrev pub behind_end : ℕ → List IndentedGapLine → List IndentedGapLine
 behind_end margin [] = []
 behind_end margin (l ∷ lines) = if is_taken_line margin l.indent l.line.comment then behind_end margin lines else l ∷ lines
 
 -- ---- parts
 
--- What statements were read, and the lines that are left of those behind them.
+-- What statements were read, and the lines that are left of those after them.
 abbrev pub Read : Type 0 → Type 0
 Read X = X × List IndentedGapLine
 
@@ -57,7 +57,7 @@ abbrev pub SuiteRead : Type 0
 SuiteRead = Read (List Statement × List Bytes)
 
 -- A part that was read: as a part of a row; whether it is a colon; as a suite its header's suffix; as a statement, by the
--- comments above it and the lines behind it; as a suite, by the lines behind it.
+-- comments above it and the lines after it; as a suite, by the lines after it.
 pub record Stated : Type 0 where
   pub part : Seen
   pub is_colon : Bool
@@ -65,7 +65,7 @@ pub record Stated : Type 0 where
   pub statement : List Bytes → List IndentedGapLine → Read (List Statement)
   pub suite : List IndentedGapLine → SuiteRead
 
--- the lines right before the first of these parts; where there is none, those that stand behind all
+-- the lines right before the first of these parts; where there is none, those that stand after all
 abbrev pub indented_lines_before : List Stated → List IndentedGapLine → List IndentedGapLine
 indented_lines_before [] after = after
 indented_lines_before (x ∷ xs) after = indented x.part.gap
@@ -77,13 +77,13 @@ simple_statements [] = []
 simple_statements (i.Block texts ∷ items) = simple_statements items
 simple_statements (i.Stmt x ∷ items) = s.Simple x ∷ simple_statements items
 
--- What stands in the gap of a Newline behind its first line stands before what follows.
+-- What is in the gap of a Newline after its first line is before what follows.
 abbrev pub line_read : List Seen → List Bytes → List IndentedGapLine → Read (List Statement)
 line_read ss above after = (simple_statements (statements_in above ss), after_first_line (indented (last_gap ss)) ++ after)
 
 -- ---- statements one after the other
 
--- above: the lines before the first of them; after: those behind the last
+-- above: the lines before the first of them; after: those after the last
 abbrev pub walked : List IndentedGapLine → List Stated → List IndentedGapLine → Read (List Statement)
 walked above [] after = ([], above)
 walked above (x ∷ xs) after =
@@ -97,7 +97,7 @@ walked above (x ∷ xs) after =
 abbrev pub margin_of : List Stated → ℕ
 margin_of xs = length (indent (first_seen_gap (map (λ x. x.part) xs)))
 
--- the statements behind a suite's newline
+-- the statements after a suite's newline
 abbrev pub suite_read : List Stated → List IndentedGapLine → SuiteRead
 suite_read xs after =
     let all : Read (List Statement) = walked (indented_lines_before xs []) xs after in
@@ -204,7 +204,7 @@ abbrev pub block_items : List (List Bytes) → List BzlItem
 block_items groups = map bzl_item (blocks groups)
 
 -- Comment lines that follow each other form a group. A group whose last line is followed by a line without token and
--- comment, or by no token at all, is a Block of its own; otherwise it stands above the next statement.
+-- comment, or by no token at all, is a Block of its own; otherwise it is above the next statement.
 -- lines: those before the first of these parts
 abbrev pub bzl_items : List IndentedGapLine → List Part → List BzlItem
 bzl_items lines [] = []

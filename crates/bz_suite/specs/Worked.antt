@@ -81,7 +81,7 @@ documented =
     ∷ bare_row k.ListComp (marked (codes "[") ∷ sequence k.Call (named (codes "f") ∷ []) false (named (codes "i") ∷ []) []
     ∷ bare_row k.For (worded (codes "for") ∷ named (codes "i") ∷ worded (codes "in") ∷ named (codes "c") ∷ []) ∷ marked (codes "]") ∷ []) ∷ []))) ∷ []
 
--- if, elif and else with comments below a suite, above a header, behind it, and above the first statement of a suite
+-- if, elif and else with comments below a suite, above a header, after it, and above the first statement of a suite
 abbrev pub alternatives : List BzlItem
 alternatives =
     b.Statement (s.Compound (
@@ -129,7 +129,7 @@ defined =
 abbrev Row : Bytes → Node → List BzlItem → Type 0
 Row text tree items = (spell_node tree ≡ text) × (bzl_view_of tree ≡ items)
 
--- A comment of its own line below an if that is one line stands above what follows; the last one of a function's suite, indented as
+-- A comment of its own line below an if that is one line is above what follows; the last one of a function's suite, indented as
 -- that is, is an end comment.
 abbrev pub Documented : Type 0
 Documented =
@@ -148,7 +148,7 @@ Documented =
     ∷ node k.For (word (codes " ") (codes "for") ∷ name (codes " ") (codes "i") ∷ word (codes " ") (codes "in") ∷ name (codes " ") (codes "c") ∷ []) ∷ mark [] (codes "]") ∷ []) ∷ []) ∷ []) [] ∷ []) [])
     documented
 
--- Before elif and else: what is indented as the suite before is its end comment, what is indented less stands above the header.
+-- Before elif and else: what is indented as the suite before is its end comment, what is indented less is above the header.
 abbrev pub Alternatives : Type 0
 Alternatives =
     Row
@@ -171,7 +171,7 @@ Ends =
     ∷ named_line (codes "    # 4\n   # 3\n  # 2\n # 1\n# 0\n\n") (codes "x") ∷ []) [])
     ends
 
--- A suite that ended at a comment takes none behind that, however far it is indented.
+-- A suite that ended at a comment takes none after that, however far it is indented.
 abbrev pub EndedSuites : Type 0
 EndedSuites =
     Row
@@ -208,7 +208,7 @@ Tabbed =
     ∷ line (node k.Flow (word (codes "\t# one\n\t") (codes "continue") ∷ []) ∷ []) [] ∷ []) ∷ []) ∷ []) (codes " # two\n\t\t # three\n"))
     tabbed
 
--- parameters are a sequence: comments above them, behind them and below the last one; a newline splits them
+-- parameters are a sequence: comments above them, after them and below the last one; a newline splits them
 abbrev pub Parameters : Type 0
 Parameters =
     Row

@@ -1,4 +1,4 @@
-//! Headers: what stands before a suite, up to the colon.
+//! Headers: what is before a suite, up to the colon.
 ghost use Rattle.std.specs.Prelude.{◌≡◌, ◌≤◌, ◌<◌, ◌-◌, ◌+◌, [], List, map, take, drop, length, MatchOption, IfOk};
 ghost use Rattle.bz_tree.specs.Shapes.{is_kind, is_one_of, colon_mark};
 ghost use Rattle.bz_items.specs.Characters.{Bytes};
@@ -69,7 +69,7 @@ fn only_comment(alloc: Global, gap: &[u8]) -> Result<Option<Text>, Memory>
     Ok(None)
 }
 
-/// The comment on the line of a header, which stands in the gap of its suite's newline. The error: memory was refused.
+/// The comment on the line of a header, which is in the gap of its suite's newline. The error: memory was refused.
 pub fn suffix_before(alloc: Global, suite: &Part) -> Result<Option<Text>, Memory>
     ensures { IfOk result (λ suffix. suffix ≡ (stated suite.now).suffix) }
 {
@@ -90,7 +90,7 @@ fn suffix_of(alloc: Global, suite: &Node) -> Result<Option<Text>, Memory>
     Ok(comment)
 }
 
-/// The parts behind the first.
+/// The parts after the first.
 pub fn behind_first(parts: &[Part]) -> &[Part]
     ensures { result.now ≡ drop 1 parts.now }
 {

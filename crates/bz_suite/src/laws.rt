@@ -4,7 +4,7 @@ ghost use Rattle.bz_suite.specs.Kept.{BzlCommentsKept};
 ghost use Rattle.bz_suite.specs.Laws.{BuildFilesSayTheSame, BuildItemsAreProper, BuildItemsHaveTheSameComments, BzlViewIsProper};
 ghost use Rattle.bz_suite.specs.Worked.{WorkedBzlViews};
 
-/// Each comment of the legal tree of a .bzl file stands in what the file says as often as in the tree's gaps: none is lost or doubled.
+/// Each comment of the legal tree of a .bzl file is in what the file says as often as in the tree's gaps: none is lost or doubled.
 pub fn bzl_comments_kept()
     ensures { BzlCommentsKept }
 {}

@@ -7,7 +7,7 @@ use bz_items::{Items, Memory, Text};
 use bz_value::{first_indented_line, push_all};
 use std::alloc::Global;
 
-/// The lines of two gaps: what the gap of a Newline says behind its first line, and the gap of the leaf behind it.
+/// The lines of two gaps: what the gap of a Newline says after its first line, and the gap of the leaf after it.
 #[derive(Clone, Copy)]
 pub struct Rest<'a> {
     pub left: &'a [u8],
@@ -31,7 +31,7 @@ pub fn comments(alloc: Global, rest: Rest<'_>) -> Result<Items<Text>, Memory>
     Ok(texts)
 }
 
-/// The gap behind its first line.
+/// The gap after its first line.
 pub fn behind_first_line(gap: &[u8]) -> &[u8]
     ensures { indented result.now ≡ after_first_line (indented gap.now) }
 {
@@ -48,7 +48,7 @@ fn says_nothing(gap: &[u8]) -> bool
     first_indented_line(gap).is_none()
 }
 
-/// Appends the end comments of a suite with an indent of this length among the lines of a gap; gives what is behind them.
+/// Appends the end comments of a suite with an indent of this length among the lines of a gap; gives what is after them.
 fn take_end_of<'a>(
     alloc: Global,
     margin: usize,
@@ -71,7 +71,7 @@ fn take_end_of<'a>(
     Ok(rest)
 }
 
-/// Appends the end comments of a suite with an indent of this length among the lines; gives the lines behind them. The error:
+/// Appends the end comments of a suite with an indent of this length among the lines; gives the lines after them. The error:
 /// memory was refused.
 pub fn take_end<'a>(
     alloc: Global,

@@ -38,7 +38,7 @@ fn margin_of(parts: &[Part]) -> usize
     indent_len(gap_at(parts, 0))
 }
 
-/// The gap of the part with this index; past the last part the one behind all of them.
+/// The gap of the part with this index; past the last part the one after all of them.
 fn gap_behind<'a>(parts: &'a [Part], at: usize, after: &'a [u8]) -> &'a [u8]
     ensures { indented result.now ≡ indented_lines_before (map stated (drop at parts.now)) (indented after.now) }
 {
@@ -80,7 +80,7 @@ fn push_line<'a>(
     })
 }
 
-/// Appends a statement with these comments above it; gives the lines that are left of those behind it.
+/// Appends a statement with these comments above it; gives the lines that are left of those after it.
 #[cycle(stated)]
 fn push_statement<'a>(
     alloc: Global,
@@ -182,7 +182,7 @@ fn push_branches<'a>(
 }
 
 /// Appends the statements of a suite, or of a line in its place, and its end comments; gives the lines that are left of those
-/// behind it.
+/// after it.
 #[cycle(stated)]
 fn push_suite<'a>(
     alloc: Global,
@@ -231,7 +231,7 @@ fn push_suite_of<'a>(
     Ok(rest)
 }
 
-/// Appends the statements of a suite; gives the lines that are left of those behind it.
+/// Appends the statements of a suite; gives the lines that are left of those after it.
 #[cycle(stated)]
 fn push_all_statements<'a>(
     alloc: Global,
@@ -344,7 +344,7 @@ fn items_of(alloc: Global, parts: &[Part]) -> Result<Items<BzlItem>, Memory>
 }
 
 /// Appends the items of a statement of a file, or those of its end, where these lines stand before it; gives the lines that are
-/// left of the gap behind it.
+/// left of the gap after it.
 fn push_part<'a>(
     alloc: Global,
     rest: Rest<'_>,

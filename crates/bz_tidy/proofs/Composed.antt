@@ -18,7 +18,7 @@ use Rattle.bz_tidy.proofs.Levels.{above_within}
 abbrev pub SameAbove : (Expr → Expr) → Type 0
 SameAbove change = (x : Expr) → above (change x) ≡ above x
 
--- ---- what stands above
+-- ---- what is above
 
 pub quoted_above : SameAbove quoted
 quoted_above = above_quoted

@@ -67,14 +67,14 @@ module _ {X : Type 0} (p : X → Bool) (lt : X → X → Bool) where
   pub none_yet : (items : List X) (at : ℕ) → AllByRecursion (λ y. p y ≡ true) (slice_range items at at)
   none_yet items at = let none : 0 ≡ at - at = omega arith in subst (λ n. AllByRecursion (λ y. p y ≡ true) (take n (drop at items))) none tt
 
-  -- the item behind a run goes on with it
+  -- the item after a run goes on with it
   pub run_longer : (items : List X) (from at : ℕ) (x : X) → from ≤ at → at < length items → x ≡ get_or items at x → p x ≡ true
       → AllByRecursion (λ y. p y ≡ true) (slice_range items from at) → AllByRecursion (λ y. p y ≡ true) (slice_range items from (at + 1))
   run_longer items from at x a b is t h =
       subst (AllByRecursion (λ y. p y ≡ true)) (sym (between_more items from at x a b ∙ ap (λ z. slice_range items from at ++ z ∷ []) (sym is)))
       (all_more (λ y. p y ≡ true) (slice_range items from at) x h t)
 
-  -- the item behind a run ends it, and the run was sorted
+  -- the item after a run ends it, and the run was sorted
   pub run_out : (items new whole : List X) (from at : ℕ) (x : X) → from ≤ at → at < length items → x ≡ get_or items at x → p x ≡ false
       → new ≡ take from items ++ sort_by compared (slice_range items from at) ++ drop at items
       → take from items ++ sort_by compared (drop from items) ≡ whole → take (at + 1) new ++ sort_by compared (drop (at + 1) new) ≡ whole

@@ -16,7 +16,7 @@ use Rattle.bz_rule.specs.Named.{fronts, fronts_in}
 use Rattle.bz_rule.proofs.Forms.{fronts_Form}
 use Rattle.bz_tidy.specs.Passes.{quoted, each_quoted}
 
--- ---- the rows behind a form are its lists
+-- ---- the rows after a form are its lists
 
 abbrev Row : Type 0
 Row = (n : Count) × Row_of-Expr n

@@ -225,7 +225,7 @@ list_settles outside b xs = elim (cases_Bool (is_taken outside b xs)) [
   | inr f ↦ rw (f, f) refl
 ]
 
--- ---- what holds of each item whatever stands above it
+-- ---- what holds of each item whatever is above it
 
 module _ (P : Expr → Type 0) (anyway : (a : List Bytes) (x : Expr) → P x → P (with_above a x)) where
   in_order_all : (xs : List Expr) → AllByRecursion P xs → AllByRecursion P (in_order xs)

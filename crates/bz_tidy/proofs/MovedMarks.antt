@@ -1,4 +1,4 @@
--- The old first item of a sorted list stands behind what comes before it, with its `keep sorted` comments or without.
+-- The old first item of a sorted list is after what comes before it, with its `keep sorted` comments or without.
 use Rattle.std.proofs.Common.{Bool, true, false, ◌||◌, List, [], ◌∷◌, ◌++◌, ◌≡◌, refl, sym, ap, ◌∙◌, inl, inr}
 use Rattle.std.specs.Prelude.{bytes_eq}
 use Rattle.std.specs.List.{list_any, list_all}
@@ -122,7 +122,7 @@ first_stays x xs f =
     let none : After x (sort_by precedes xs) = sort_all precedes (λ z. precedes z x ≡ false) xs (none_before x xs f) in
     ap (without_repeats []) (insert_starts precedes x (sort_by precedes xs) (starts x (sort_by precedes xs) none)) ∙ kept x (text_of x) [] (sort_by precedes xs) refl refl
 
--- behind one that precedes it
+-- after one that precedes it
 passed : (z y : Expr) (ys : List Expr) → precedes y z ≡ true → insert_by precedes z (y ∷ ys) ≡ y ∷ insert_by precedes z ys
 passed z y ys t = rw t refl
 

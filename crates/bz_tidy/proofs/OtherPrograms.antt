@@ -16,7 +16,7 @@ use Rattle.bz_tidy.specs.Programs.{IsSameString, itself, turned, turned_thrice, 
 use Rattle.bz_tidy.specs.Syntax.{program}
 use Rattle.bz_tidy.proofs.TheOne.{sorting_is_the_one}
 
--- What each pass behind the quotes leaves as it is stays the same program.
+-- What each pass after the quotes leaves as it is stays the same program.
 pub unmoved : (before after : List Item) (h : KeepsProgram before after) → h.quoted ≡ before
     → ((g : Bytes → Bytes) → on_taken (on_labels g) before ≡ before)
     → ((g : List Bytes → Bool → List Expr → List Expr) → on_taken (on_list_values g) before ≡ before)

@@ -138,7 +138,7 @@ quoted_parts xs (Form' own s parts s' items end_ split open_ comments) =
     quoted_Form (made own xs (items-the_row-Expr _ items) end_ split open_ comments)
     ∙ ap (λ i. e.Form (made own (map quoted xs) i end_ split open_ comments)) (sym (quoted_row _ items) ∙ sym (items_hidden-the_row-Expr-0 (each_quoted items)))
 
--- the row of a node, or what stands before the bracket of a sequence
+-- the row of a node, or what is before the bracket of a sequence
 abbrev pub the_parts : Place
 the_parts = record {
   get = parts_of;
@@ -199,7 +199,7 @@ the_items = record {
   quotes_put = quoted_items;
 }
 
--- other items stand behind the same parts
+-- other items stand after the same parts
 pub parts_with_items : (xs : List Expr) (x : Expr) → parts_of (with_items xs x) ≡ parts_of x
 parts_with_items xs (Token t) = refl
 parts_with_items xs (Form' own s parts s' items end_ split open_ comments) = items_hidden-the_row-Expr-0 (items-the_row-Expr _ parts)

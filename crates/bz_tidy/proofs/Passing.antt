@@ -1,4 +1,4 @@
--- The passes over a statement, one behind the other.
+-- The passes over a statement, one after the other.
 use Rattle.std.proofs.Common.{◌≡◌, ◌∙◌, ap, subst}
 use Rattle.std.specs.Prelude.{Result, OnOk}
 use Rattle.bz_value.specs.declared.value.Expr.{Expr}

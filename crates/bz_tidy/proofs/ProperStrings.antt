@@ -40,7 +40,7 @@ ascii_at c h (suc i) = omega arith
 ascii_text : (c : ℕ) → c < 128 → IsUtf8 (c ∷ [])
 ascii_text c l = IsUtf8-from_ascii (c ∷ []) (ascii_at c l)
 
--- what stands between ASCII bytes
+-- what is between ASCII bytes
 core_once : (m : ℕ) (s : Bytes) → m < 128 → IsUtf8 (m ∷ (s ++ m ∷ [])) → IsUtf8 s
 core_once m s l u = cut_before s m [] l (behind_first m (s ++ m ∷ []) l u)
 
@@ -75,7 +75,7 @@ short_free (c ∷ s) f (short_plain a h) =
 short_free (c ∷ d ∷ s) f (short_taken h) = absurd (true≢false f.slash)
 short_free (c ∷ d ∷ e ∷ s) f (short_line h) = absurd (true≢false f.slash)
 
--- what stands between the marks
+-- what is between the marks
 pub inside_of : (n : ℕ) (m : ℕ) (s : Bytes) → drop n (replicate n m ++ (s ++ replicate n m)) ≡ s ++ replicate n m → length (replicate n m) ≡ n → inside n (replicate n m ++ (s ++ replicate n m)) ≡ s
 inside_of n m s d l =
     let size : length (replicate n m ++ (s ++ replicate n m)) ≡ n + (length s + n) = length-append (replicate n m) (s ++ replicate n m) ∙ (ap (λ z. z + length (s ++ replicate n m)) l ∙ ap (λ z. n + z) (length-append s (replicate n m) ∙ ap (λ z. length s + z) l)) in

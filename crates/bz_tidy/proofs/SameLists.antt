@@ -41,7 +41,7 @@ found t (s ∷ ss) h = elim (cases_Bool (bytes_eq t s)) [
 
 -- ---- dropping repeats
 
--- ys is xs but for texts that are gone, each of which is an earlier one or stands in ys
+-- ys is xs but for texts that are gone, each of which is an earlier one or is in ys
 record Leaves (earlier : List Bytes) (xs ys : List Expr) : Type 0 where
   gone : List Bytes
   same : IsPermutation (texts xs) (texts ys ++ gone)

@@ -240,7 +240,7 @@ flags_loads = map_keeps_sort load_precedes item_with_flags unseen_load
 
 -- ---- all in turn
 
--- the passes behind a pass keep what it leaves
+-- the passes after a pass keep what it leaves
 to_arguments : (p : Expr → Expr) → Keeps symbols_in p → Keeps with_flags p → (items : List Item) → on_taken p items ≡ items → on_taken p (flags (loads (symbols items))) ≡ flags (loads (symbols items))
 to_arguments p s f items h = flags_taken p f (loads (symbols items)) (loads_taken p (symbols items) (taken_keeps symbols_in p symbols_above s items h))
 

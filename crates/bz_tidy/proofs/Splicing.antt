@@ -102,7 +102,7 @@ module _ {X : Type 0} where
   same_back : (a b new rest : List X) → length new ≡ length a → new ++ rest ≡ a ++ b → rest ≡ b
   same_back a b new rest l e = sym (drop_at new rest (length a) l) ∙ (ap (drop (length a)) e ∙ drop_at a b (length a) refl)
 
-  -- a list with as many others as `come` says in the place of those behind the first `from`
+  -- a list with as many others as `come` says in the place of those after the first `from`
   module _ (from come : ℕ) (xs new : List X) (within : from + come ≤ length xs) (many : length new ≡ come) where
     front_length : length (take from xs) ≡ from
     front_length = length-take-le from xs (omega (arith, within))

@@ -27,7 +27,7 @@ plain_body text t = rw t refl
 no_body : (text : Bytes) → (is_plain_in quotation_mark text || is_plain_in apostrophe text) ≡ false → body text ≡ None
 no_body text f = rw f refl
 
--- where what stands inside repeats no name the text stays, whether it is a plain string or not
+-- where what is inside repeats no name the text stays, whether it is a plain string or not
 same_inside : (text short : Bytes) → short ≡ unrepeated (inner text) → short ≡ inner text → shorter_string text ≡ text
 same_inside text short u s = elim (cases_Bool (is_plain_in quotation_mark text || is_plain_in apostrophe text)) [
   | inl t ↦ same_string text (inner text) short (plain_body text t) u s

@@ -93,7 +93,7 @@ module _ {X : Type 0} (p : X → Bool) (lt : X → X → Bool) (o : IsStrictWeak
   join_nothing [] a = tt
   join_nothing (x ∷ xs) a = (a.0, join_nothing xs a.1)
 
-  -- behind a run that has begun
+  -- after a run that has begun
   runs_from : (run rest : List X) → TakePart run → IsSortingByRuns p lt (run ++ rest) (sort_by (compared p lt) (run ++ rest))
   runs_from run [] a = one_run (join_nothing run a) (run_sorts (run ++ []) (join_nothing run a))
   runs_from run (x ∷ rest) a = elim (cases_Bool (p x)) [

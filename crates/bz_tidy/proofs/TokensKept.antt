@@ -1,4 +1,4 @@
--- Where a program is kept, each token that is no string stands as often.
+-- Where a program is kept, each token that is no string occurs as often.
 use Rattle.std.proofs.Common.{ℕ, ◌+◌, Bool, true, false, ◌&&◌, List, [], ◌∷◌, ◌≡◌, refl, sym, ap, ◌∙◌, map, if◌then◌else◌, inl, inr, Option, Some, None, arith, true≢false}
 use Rattle.std.specs.Prelude.{bytes_eq, sum_by}
 use Rattle.std.specs.List.{list_all, AllByRecursion}

@@ -30,7 +30,7 @@ pub record FlagsSettle : Type 0 where
   pub broken : (kind : Kind) (split : Bool) (xs : List Expr) (end_ : List Bytes) → is_broken kind (is_broken kind split xs end_) (map with_flags xs) end_ ≡ is_broken kind split xs end_
   pub comments : (number : Bytes → ℕ) (x : Expr) → amount number (with_flags x) ≡ amount number x
 
--- Each comment stands in the tidy file as often as before.
+-- Each comment is in the tidy file as often as before.
 abbrev pub TidyingKeepsComments : Type 0
 TidyingKeepsComments = (text : Bytes) (items : List Item) → times text (tidied items) ≡ times text items
 
@@ -41,7 +41,7 @@ ProperStays = (items : List Item) → IsProper items → IsProper (tidied items)
 -- What is sorted is the one list in order, those that tie as they stood: the items of a list by the texts between their quote
 -- marks, and the symbols of a load by their local names. Of the arguments of a rule each longest run of named ones is, by
 -- priority and then name, and of the items of a file each longest run of loads without comments above, by path; all that
--- stands between the runs stays.
+-- is between the runs stays.
 abbrev pub SortingIsTheOne : Type 0
 SortingIsTheOne =
     GivesTheOne (IsSorting precedes) (sort_by precedes)

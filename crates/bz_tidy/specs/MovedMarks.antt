@@ -7,13 +7,13 @@ use Rattle.bz_rule.specs.Values.{above, with_above}
 use Rattle.bz_tidy.specs.Marks.{keep_marks}
 use Rattle.bz_tidy.specs.Lists.{precedes, in_order, without_marks, sorted}
 
--- The old first item behind a front. With no front it stays as it is; else the first of the front takes its `keep sorted`
+-- The old first item after a front. With no front it stays as it is; else the first of the front takes its `keep sorted`
 -- comments, ahead of its own.
 abbrev pub with_marks_moved : List Expr → Expr → List Expr → List Expr
 with_marks_moved [] x rest = x ∷ rest
 with_marks_moved (y ∷ front) x rest = with_above (keep_marks (above x) ++ above y) y ∷ (front ++ without_marks x ∷ rest)
 
--- Sorted and without repeats, a list has its old first item behind a front of items that come before it: it is never dropped
+-- Sorted and without repeats, a list has its old first item after a front of items that come before it: it is never dropped
 -- as a repeat. `sorted` is that list, its comments moved.
 pub record MovesMarks (x : Expr) (xs : List Expr) : Type 0 where
   pub front : List Expr

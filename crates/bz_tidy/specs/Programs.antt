@@ -21,7 +21,7 @@ use Rattle.bz_tidy.specs.Sorting.{IsSorting, IsSortingByRuns}
 use Rattle.bz_tidy.specs.Strings.{has_character}
 use Rattle.bz_tidy.specs.Syntax.{program, token_times}
 
--- y is x, but that what stands at some places was changed as it may be. All else is as it was, comments and flags too.
+-- y is x, but that what is at some places was changed as it may be. All else is as it was, comments and flags too.
 pub record IsChangedAt {X Y : Type 0} (places : (Y → Y) → X → X) (MayBecome : Y → Y → Type 0) (x y : X) : Type 0 where
   pub change : Y → Y
   pub each : (old : Y) → MayBecome old (change old)
@@ -44,7 +44,7 @@ abbrev mutual
 abbrev pub IsUnescaped : Bytes → Type 0
 IsUnescaped body = (has_character quotation_mark body ≡ false) × (has_character backslash body ≡ false)
 
--- The same string: it stays, or its body, which holds neither " nor a backslash, stands between " in place of ', or between """ in
+-- The same string: it stays, or its body, which holds neither " nor a backslash, is between " in place of ', or between """ in
 -- place of '''.
 pub data IsSameString (text new : Bytes) : Type 0 where
   itself : new ≡ text → IsSameString text new
@@ -65,7 +65,7 @@ on_string change x = if has_class c.String x then with_text (change (text_of x))
 abbrev pub on_labels : (Bytes → Bytes) → Expr → Expr
 on_labels change = on_rule_arguments (λ kind. map (on_attribute (λ name outside x. if is_label_attribute name then on_lists (map (on_string change)) x else x)))
 
--- The same label: the string stays, or it is a plain one, and between its quote marks stands a text that means the same label in
+-- The same label: the string stays, or it is a plain one, and between its quote marks is a text that means the same label in
 -- every package.
 pub data IsSameLabel (text new : Bytes) : Type 0 where
   unchanged : new ≡ text → IsSameLabel text new
@@ -83,7 +83,7 @@ on_list_values change x =
     if has_kind k.Assign x then on_row k.Assign (on_third (on_lists (change (above x) false))) x
     else on_rule_arguments (λ kind. map (on_attribute (λ name outside. on_lists (change outside (is_sorted kind name))))) x
 
--- The new list holds the strings of the old one, each as often, but that some are gone, each of which stands in the new list.
+-- The new list holds the strings of the old one, each as often, but that some are gone, each of which is in the new list.
 pub record HoldsTheStrings (old new : List Expr) : Type 0 where
   pub strings : All (λ x. has_class c.String x ≡ true) new
   pub gone : List Bytes
@@ -106,7 +106,7 @@ pub record HaveOtherLists (items new : List Item) : Type 0 where
 abbrev pub HaveOtherArguments : List Item → List Item → Type 0
 HaveOtherArguments = IsChangedAt (λ change. on_taken (on_rule_arguments (λ kind. change))) (IsSortingByRuns (has_kind k.Named) name_precedes)
 
--- The symbols of a load are sorted, behind its path.
+-- The symbols of a load are sorted, after its path.
 abbrev pub HaveOtherSymbols : List Item → List Item → Type 0
 HaveOtherSymbols = IsChangedAt (λ change. on_taken (on_items k.Load (behind_first change))) (IsSorting symbol_precedes)
 
@@ -132,7 +132,7 @@ pub record KeepsProgram (before after : List Item) : Type 0 where
 abbrev pub TidyingKeepsProgram : Type 0
 TidyingKeepsProgram = (items : List Item) → KeepsProgram items (tidied items)
 
--- Where a program is kept, each token that is no string stands as often: no name, number, keyword or mark is lost or comes.
+-- Where a program is kept, each token that is no string occurs as often: no name, number, keyword or mark is lost or comes.
 abbrev pub KeptProgramsKeepTokens : Type 0
 KeptProgramsKeepTokens =
     (before after : List Item) → KeepsProgram before after → (class : Class) (text : Bytes) → is_class c.String class ≡ false

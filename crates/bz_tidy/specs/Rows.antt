@@ -119,7 +119,7 @@ abbrev pub WorkedPrograms : Type 0
 WorkedPrograms =
     -- comments and how a list is laid out are no program
     (program (i.Block (codes "# a" ∷ []) ∷ named_with true (codes "# b" ∷ []) (with_suffix (codes "\"//a\"") (codes "# c") ∷ []) ∷ []) ≡ program (named_with false [] (string (codes "\"//a\"") ∷ []) ∷ []))
-    -- a name stands in it as often as it is written
+    -- a name is in it as often as it is written
     × (token_times c.Name (codes "name") (program (named_with true [] [] ∷ named_with true [] [] ∷ [])) ≡ 2)
     × IsSameString (codes "'a'") (codes "\"a\"") × IsSameLabel (codes "\"//a:a\"") (codes "\"//a\"")
     -- where an argument is dropped, a statement comes, arguments without names change places, or a string outside labels gets another

@@ -17,7 +17,7 @@ module _ {X : Type 0} where
   -- The same where only some items take part in the sorting: each longest run of them is sorted in its place, and the items
   -- between the runs stay.
   -- one_run: every item takes part.
-  -- next_run: behind a run, which may be empty, an item takes no part; it stands behind the sorted run.
+  -- next_run: after a run, which may be empty, an item takes no part; it is after the sorted run.
   pub data IsSortingByRuns (takes_part : X → Bool) (precedes : X → X → Bool) : List X → List X → Type 0 where
     one_run : {xs ys : List X} → AllByRecursion (λ x. takes_part x ≡ true) xs → IsSorting precedes xs ys → IsSortingByRuns takes_part precedes xs ys
     next_run : {xs ys : List X} (run ordered : List X) (bar : X) (rest others : List X) → xs ≡ run ++ bar ∷ rest → ys ≡ ordered ++ bar ∷ others

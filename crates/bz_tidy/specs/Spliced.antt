@@ -14,8 +14,8 @@ ends_with_load [] = false
 ends_with_load (item ∷ []) = is_run_load item
 ends_with_load (item ∷ next ∷ items) = ends_with_load (next ∷ items)
 
--- Behind the first `from` items so many as `come` says, which no load is sorted into or out of: neither the item before them
--- nor the one behind them is sorted with its neighbours.
+-- After the first `from` items this many as `come` says, which no load is sorted into or out of: neither the item before them
+-- nor the one after them is sorted with its neighbours.
 pub record StandsApart (from come : ℕ) (items : List Item) : Type 0 where
   pub before : ends_with_load (take from items) ≡ false
   pub behind : begins_with_load (drop (from + come) items) ≡ false

@@ -39,6 +39,6 @@ abbrev mutual
 abbrev pub one_if_token : Class → Bytes → Class → Bytes → ℕ
 one_if_token class text other found = if is_class other class && bytes_eq found text then 1 else 0
 
--- how often a token of this class and text stands in a program
+-- how often a token of this class and text is in a program
 abbrev pub token_times : Class → Bytes → List Expr → ℕ
 token_times class text statements = total (token_sum (one_if_token class text)) statements

@@ -31,7 +31,7 @@ pub fn flags_settle()
     ensures { FlagsSettle }
 {}
 
-/// Each comment stands in the tidy file value as often as before.
+/// Each comment is in the tidy file value as often as before.
 pub fn comments_stay()
     ensures { TidyingKeepsComments }
 {}
@@ -48,7 +48,7 @@ pub fn marks_move()
     ensures { MarksMove }
 {}
 
-/// Items behind others are tidied apart, where the first of them is no load that is sorted with its neighbours.
+/// Items after others are tidied apart, where the first of them is no load that is sorted with its neighbours.
 pub fn tidied_apart()
     ensures { TidiedApart }
 {}

@@ -47,7 +47,7 @@ fn comments_above(items: &[Expr]) -> &[Text]
     }
 }
 
-/// Whether the mark stands above the list or above its first item.
+/// Whether the mark is above the list or above its first item.
 fn has_mark(mark: &[u8], outside: &[Text], items: &[Expr]) -> bool
     ensures { result ≡ marked_in_any mark.now (outside.now ++ above_first items.now) }
 {
@@ -83,7 +83,7 @@ struct Split {
     others: Items<Text>,
 }
 
-/// Puts a comment behind those of its kind.
+/// Puts a comment after those of its kind.
 fn push_split(comment: &Text, split: &mut Split) -> Result<(), Memory>
     ensures marks { (rest : List (List ℕ)) → OnOk result (split.new.marks ++ keep_marks rest ≡ split.old.marks ++ keep_marks (comment.now ∷ rest)) }
     ensures others { (rest : List (List ℕ)) → OnOk result (split.new.others ++ other_comments rest ≡ split.old.others ++ other_comments (comment.now ∷ rest)) }

@@ -22,7 +22,7 @@ fn begins(mark: &[u8], text: &[u8]) -> bool
     true
 }
 
-/// Whether the mark stands in the comment, capital letters of ASCII being as good as small ones.
+/// Whether the mark is in the comment, capital letters of ASCII being as good as small ones.
 pub(crate) fn is_marked(mark: &[u8], comment: &[u8]) -> bool
     ensures { result ≡ marked mark.now comment.now }
 {
@@ -36,7 +36,7 @@ pub(crate) fn is_marked(mark: &[u8], comment: &[u8]) -> bool
     false
 }
 
-/// Whether the mark stands in one of the comments. It is sought ignoring the case of ASCII letters, and has small ones.
+/// Whether the mark is in one of the comments. It is sought ignoring the case of ASCII letters, and has small ones.
 pub(crate) fn any_marked(mark: &[u8], comments: &[Text]) -> bool
     ensures { result ≡ marked_in_any mark.now comments.now }
 {

@@ -31,7 +31,7 @@ fn front_in(parts: &[Expr]) -> Option<&Expr>
     }
 }
 
-/// What stands before the last dot of names joined by dots, where the rest stays.
+/// What is before the last dot of names joined by dots, where the rest stays.
 #[tactic(auto, using(crate::proofs::FormSteps::quoted_stays, crate::proofs::FormSteps::flags_stay, crate::proofs::FormSteps::fronts_of_Form))]
 fn front_of(x: &Expr) -> Option<&Expr>
     ensures quotes { IfSome result (λ front. quoted front.now ≡ front.now → quoted x.now ≡ x.now) }

@@ -13,7 +13,7 @@ pub fn program_stays()
     ensures { TidyingKeepsProgram }
 {}
 
-/// Where a program is kept, each token that is no string stands as often: no name, number, keyword or mark is lost, and none comes.
+/// Where a program is kept, each token that is no string occurs as often: no name, number, keyword or mark is lost, and none comes.
 pub fn tokens_stay()
     ensures { KeptProgramsKeepTokens }
 {}

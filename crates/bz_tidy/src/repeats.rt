@@ -36,7 +36,7 @@ fn has_text_at(kept: &[Expr], text: &[u8], place: usize) -> bool
     }
 }
 
-/// Whether the token stands at one of these places.
+/// Whether the token is at one of these places.
 fn stands(kept: &[Expr], places: &[usize], text: &[u8]) -> bool
     ensures { result ≡ repeats_at kept.now places.now text.now }
 {
@@ -64,7 +64,7 @@ fn keep(kept: &mut Vec<Expr>, places: &mut Vec<usize>, x: Expr) -> Result<(), Me
         return Ok(());
     }
     if has_no_comment(&x) {
-        // By a call: let go of here, each form of it would be a path of this proof.
+        // By a call: dropped here, each form of it would be a path of this proof.
         drop(x);
         return Ok(());
     }
@@ -72,7 +72,7 @@ fn keep(kept: &mut Vec<Expr>, places: &mut Vec<usize>, x: Expr) -> Result<(), Me
     Ok(())
 }
 
-/// The items of a list in order, without each one that has no comment and whose token stands at an earlier one. The error:
+/// The items of a list in order, without each one that has no comment and whose token is at an earlier one. The error:
 /// a growth was refused.
 pub(crate) fn drop_repeats(alloc: Global, items: Vec<Expr>) -> Result<Vec<Expr>, Memory>
     requires { Rises precedes items.items }

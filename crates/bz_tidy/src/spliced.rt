@@ -11,7 +11,7 @@ use bz_value::{File, Item};
 use std::alloc::Global;
 use std::mem;
 
-/// Items of a file that stand behind one another.
+/// Items of a file that stand after one another.
 #[derive(Clone, Copy)]
 pub struct Window {
     /// How many items stand before them.
@@ -111,8 +111,8 @@ fn tidy_window(alloc: Global, file: &mut File, from: usize, come: usize) -> Resu
     Ok(())
 }
 
-/// Tidies a file in which, behind the first `from` items of a tidy one, `come` others were put in the place of some: these alone,
-/// and with them the loads that are sorted together and reach up to them or begin behind them. What stands elsewhere is not touched,
+/// Tidies a file in which, after the first `from` items of a tidy one, `come` others were put in the place of some: these alone,
+/// and with them the loads that are sorted together and reach up to them or begin after them. What is elsewhere is not touched,
 /// since it is tidy and stays where it is. The result is the window that was tidied: as many items stand in it as before, and all
 /// others are those of the tidy file. The error: memory was refused; the file has no items then.
 pub fn tidy_spliced(

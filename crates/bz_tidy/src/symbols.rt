@@ -34,7 +34,7 @@ fn sort_rest(alloc: Global, items: &mut [Expr]) -> Result<(), Memory>
     }
 }
 
-/// Sorts the items of a load behind its path by local name; equal ones stay in their old order. The error: a growth was
+/// Sorts the items of a load after its path by local name; equal ones stay in their old order. The error: a growth was
 /// refused; the items are then as before.
 pub(crate) fn sort_symbols(items: &mut Items<Expr>) -> Result<(), Memory>
     ensures { OnOk result (items.new ≡ behind_first (sort_by symbol_precedes) items.old) }

@@ -105,7 +105,7 @@ fn change_lists(alloc: Global, change: ListChange<'_>, x: &mut Expr) -> Result<(
     }
 }
 
-/// Changes the lists of what stands behind a name or a target and its sign.
+/// Changes the lists of what is after a name or a target and its sign.
 fn change_third(
     alloc: Global,
     change: ListChange<'_>,

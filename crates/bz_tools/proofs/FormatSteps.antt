@@ -88,7 +88,7 @@ err_of_front bzl (Some all) front fault read formats = go (cut_at_limit all)
     go (inl whole) = (all, refl, subst (λ (text : List ℕ). FormatsAs bzl text (Err fault)) whole of_all)
     go (inr long) = (all, refl, longer bzl all long fault of_all)
 
--- ---- so does the front of a file, which is read behind nothing
+-- ---- so does the front of a file, which is read after nothing
 
 front_read : (bytes start items : List ℕ) → items ≡ start ++ take (limit + 1) bytes → start ≡ [] → items ≡ take (limit + 1) bytes
 front_read bytes start items is empty = is ∙ ap (λ s. s ++ take (limit + 1) bytes) empty

@@ -173,7 +173,7 @@ abbrev pub meant_word : Bytes → Option Bytes → Bytes
 meant_word option None = []
 meant_word option (Some word) = codes "buildifier: did you mean '--" ++ (option ++ (codes "=" ++ (word ++ codes "'?\n")))
 
--- a text that is none of an option's words; behind its line stands one of the word that is near, if one is
+-- a text that is none of an option's words; after its line is one of the word that is near, if one is
 abbrev pub no_word_line : Bytes → Bytes → Option Bytes → Bytes
 no_word_line option name near = codes "buildifier: no " ++ (option ++ (codes ": " ++ (name ++ (codes "\n" ++ meant_word option near))))
 

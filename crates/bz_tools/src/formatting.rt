@@ -271,7 +271,7 @@ fn unusable<E: Sink>(alloc: Global, fault: &FormatUsage<'_>, err: &mut E) -> Exi
 /// not be opened, read or written, memory was refused, or a formatted text would be past a limit or would not last; else 1 where a text is
 /// not accepted; else 4 where `check` found a difference; else 0. Each fault is told by one line on `err`, whose faults are
 /// passed over, and that of an unknown mode or type by one more where one is near; where memory is refused to the words, or to that
-/// search, the line is `buildifier: Memory`. Behind a fault of `out` nothing more is written there; files still are.
+/// search, the line is `buildifier: Memory`. After a fault of `out` nothing more is written there; files still are.
 pub fn buildifier<S: AsStr, R: Source, W: Sink, E: Sink, F: Files>(
     alloc: Global,
     words: &[S],

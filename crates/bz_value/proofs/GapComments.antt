@@ -74,7 +74,7 @@ comment_of s h u = record {
 abbrev pub AreFine : List GapLine → Type 0
 AreFine ls = AllByRecursion (λ line. MaybeComment line.comment) ls
 
--- of a gap, or of what is left of one behind some bytes
+-- of a gap, or of what is left of one after some bytes
 record FineGap (front g : Bytes) : Type 0 where
   lines : AreFine (lines_of g)
   behind : AreFine (in_comment g).lines

@@ -100,15 +100,15 @@ pub row_same : (f : Frame) (xs ys us vs : List Part) → Same xs ys → Same us 
 row_same row xs ys us vs h i = h
 row_same (sequence opener closer) xs ys us vs h i = behind_same_parts xs ys _ _ h (more (mark_leaf opener) (mark_leaf opener) _ _ (itself (mark_leaf opener)) (commas_same us vs (mark_leaf closer ∷ []) i))
 
--- ---- a sequence fits with a comma behind each item
+-- ---- a sequence fits with a comma after each item
 
--- the items of a sequence, behind its opening bracket: item, comma, item, .., closing bracket
+-- the items of a sequence, after its opening bracket: item, comma, item, .., closing bracket
 abbrev pub places : {X : Type 0} → List X → List X
 places [] = []
 places (x ∷ []) = []
 places (x ∷ y ∷ xs) = x ∷ places xs
 
--- with a comma behind each, and this bracket behind all
+-- with a comma after each, and this bracket after all
 abbrev closed : Part → List Part → List Part
 closed closer xs = each_with_comma (places xs) ++ closer ∷ []
 

@@ -29,7 +29,7 @@ module _ (number : Bytes → ℕ) where
   items_in (Form' kind s parts s' items end_ split open_ comments) = (_, items)
   items_in (Token t) = (_, end_of-Expr)
 
-  -- what stands in a form
+  -- what is in a form
   abbrev pub inner_amount : Form → ℕ
   inner_amount f = total (amount number) f.parts + (total (amount number) f.seq.items + total number f.seq.end_)
 

@@ -1,4 +1,4 @@
--- How often a comment stands in a file value.
+-- How often a comment is in a file value.
 use Rattle.std.specs.Prelude.{ℕ, ◌+◌, List, [], ◌∷◌, Option, Some, None, bytes_eq, if◌then◌else◌}
 use Rattle.bz_value.specs.declared.value.Expr.{Expr, Token, Form', Row_of-Expr, end_of-Expr, more_of-Expr}
 use Rattle.bz_value.specs.declared.value.Item.{Item}
@@ -18,7 +18,7 @@ suffix_amount number (Some text) = number text
 abbrev pub host_amount : (Bytes → ℕ) → HostComments → ℕ
 host_amount number comments = total number comments.before + suffix_amount number comments.suffix
 
--- the sum of a number of each comment of an expression and of what stands in it
+-- the sum of a number of each comment of an expression and of what is in it
 abbrev mutual
   pub amount : (Bytes → ℕ) → Expr → ℕ
   amount number (Token t) = host_amount number t.comments
@@ -36,6 +36,6 @@ item_amount number (i.Stmt x) = amount number x
 abbrev pub one_if : Bytes → Bytes → ℕ
 one_if text comment = if bytes_eq comment text then 1 else 0
 
--- how often a comment of this text stands in the file value
+-- how often a comment of this text is in the file value
 abbrev pub times : Bytes → List Item → ℕ
 times text items = total (item_amount (one_if text)) items

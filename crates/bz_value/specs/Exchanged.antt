@@ -28,7 +28,7 @@ AreExchanged _ _ _ = ⊥
 
 -- ---- items taken out, and others put in their place
 
--- Behind the first `from` items, so many as `gone` says stand no more, and in their place so many others as `come` says; all
+-- After the first `from` items, this many as `gone` says stand no more, and in their place this many others as `come` says; all
 -- others stand as before.
 pub record IsSpliced (from gone come : ℕ) (before after : List Item) : Type 0 where
   pub front : take from after ≡ take from before

@@ -8,7 +8,7 @@ pub data Frame : Type 0 where
   row : Frame
   sequence : ℕ → ℕ → Frame
 
--- A sequence is what stands between the brackets of a Call, List, Dict, Tuple or Load.
+-- A sequence is what is between the brackets of a Call, List, Dict, Tuple or Load.
 abbrev pub frame : Kind → Frame
 frame k.Call = sequence 40 41
 frame k.Load = sequence 40 41

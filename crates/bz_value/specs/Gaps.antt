@@ -19,7 +19,7 @@ pub record GapLine : Type 0 where
   pub newline : Bool
 
 -- A gap is blanks, newlines, backslashes right before a newline (or before a carriage return and a newline), and comments
--- up to a newline. Behind a `#`: the rest of the comment, whether a newline ends it, and the lines after it. A last line
+-- up to a newline. After a `#`: the rest of the comment, whether a newline ends it, and the lines after it. A last line
 -- without newline counts only with a comment.
 pub record CommentRest : Type 0 where
   pub words : Bytes
@@ -40,7 +40,7 @@ abbrev mutual
       if nat_eq c line_feed then record { words = []; newline = true; lines = lines_of g }
       else record { words = c ∷ (in_comment g).words; newline = (in_comment g).newline; lines = (in_comment g).lines }
 
-  -- behind the newline that a backslash escapes
+  -- after the newline that a backslash escapes
   pub behind_backslash : Bytes → List GapLine
   behind_backslash [] = []
   behind_backslash (c ∷ g) = if nat_eq c line_feed then lines_of g else behind_backslash g
@@ -59,18 +59,18 @@ abbrev pub first_comment : List GapLine → Option Bytes
 first_comment [] = None
 first_comment (line ∷ lines) = line.comment
 
--- the lines behind the first
+-- the lines after the first
 abbrev pub after_first_comment : List GapLine → List GapLine
 after_first_comment [] = []
 after_first_comment (line ∷ lines) = lines
 
--- an unescaped newline stands in the gap
+-- an unescaped newline is in the gap
 abbrev pub some_newline : List GapLine → Bool
 some_newline [] = false
 some_newline (line ∷ lines) = line.newline || some_newline lines
 
 -- What a gap says to the parts around it: the comment on the line that it begins on, its other comments, and whether an
--- unescaped newline stands in it.
+-- unescaped newline is in it.
 abbrev pub suffix_in : Bytes → Option Bytes
 suffix_in gap = first_comment (lines_of gap)
 
@@ -84,7 +84,7 @@ abbrev pub has_newline : Bytes → Bool
 has_newline gap = some_newline (lines_of gap)
 
 -- Comment lines that follow each other form a group: the lines cut at each one without a comment. The last group is what
--- stands right above what follows the lines.
+-- is right above what follows the lines.
 abbrev pub put_on_first : Bytes → List (List Bytes) → List (List Bytes)
 put_on_first text [] = (text ∷ []) ∷ []
 put_on_first text (group ∷ groups) = (text ∷ group) ∷ groups

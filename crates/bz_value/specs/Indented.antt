@@ -18,7 +18,7 @@ abbrev mutual
       else (if nat_eq c backslash then record { indent = 0; line = record { comment = None; newline = false } } ∷ indented_behind g
       else indented_from (if nat_eq c space || nat_eq c tab then suc indent else 0) g))
 
-  -- those behind the next newline
+  -- those after the next newline
   pub indented_behind : Bytes → List IndentedGapLine
   indented_behind [] = []
   indented_behind (c ∷ g) = if nat_eq c line_feed then indented_from 0 g else indented_behind g

@@ -1,4 +1,4 @@
--- The grammar of what stands in the lines of a .bzl file.
+-- The grammar of what is in the lines of a .bzl file.
 use Rattle.bz_tree.specs.declared.kind.Kind.{Kind}
 use Rattle.bz_tree.specs.declared.kind.Kind.TheVariants as k
 use Rattle.bz_tree.specs.Shapes.{Shape, none, bzl_shape}

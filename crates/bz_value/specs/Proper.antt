@@ -60,7 +60,7 @@ abbrev pub begins_operator : {m : _} → Row_of-Expr m → Bool
 begins_operator end_of-Expr = false
 begins_operator (more_of-Expr x rest) = is_operator x
 
--- where what follows an expression stands
+-- where what follows an expression is
 abbrev pub behind_expr : Spot → Spot → Expr → Spot
 behind_expr outer here (Token t) = behind_token (role t.class t.text) outer here
 behind_expr outer here (Form' kind s parts s' items end_ split open_ comments) = behind_node kind here
@@ -87,7 +87,7 @@ in_frame (sequence opener closer) as_row as_sequence = as_sequence
 module _ (grammar : Kind → Shape) where
   -- An expression is proper at a spot where each node has the shape that the grammar gives its kind, with its brackets and
   -- commas put back; each token is a lexeme of its class; only statements and the items of sequences have comments; a break
-  -- stands only behind an operator and inside brackets; only a comprehension is open.
+  -- is only after an operator and inside brackets; only a comprehension is open.
   abbrev mutual
     pub ProperBy : Spot → Expr → Type 0
     ProperBy here (Token t) = IsLexeme t.class t.text × IsUtf8 t.text
@@ -97,7 +97,7 @@ module _ (grammar : Kind → Shape) where
         (ProperRowBy (is_binary kind) here here parts × IsEmptyRow items × (end_ ≡ []) × (split ≡ false) × (open_ ≡ true → is_comprehension kind ≡ true))
         (ProperHeadBy here parts × ProperItemsBy items × All IsComment end_ × (open_ ≡ false))
 
-    -- the parts of a row, from one on that stands here
+    -- the parts of a row, from one on that is here
     pub ProperRowBy : Bool → Spot → Spot → {m : _} → Row_of-Expr m → Type 0
     ProperRowBy binary outer here end_of-Expr = Unit {0}
     ProperRowBy binary outer here (more_of-Expr x rest) =
@@ -105,7 +105,7 @@ module _ (grammar : Kind → Shape) where
         × (has_break x ≡ true → ((binary && (is_operator x && not (begins_operator rest))) ≡ true) × (behind_expr outer here x ≡ Within))
         × ProperRowBy binary outer (behind_expr outer here x) rest
 
-    -- what stands before the opening bracket
+    -- what is before the opening bracket
     pub ProperHeadBy : Spot → {m : _} → Row_of-Expr m → Type 0
     ProperHeadBy here end_of-Expr = Unit {0}
     ProperHeadBy here (more_of-Expr x rest) = ProperBy here x × IsBare x × ProperHeadBy here rest

@@ -15,13 +15,13 @@ root (Form' kind s parts s' items end_ split open_ comments) = p.Node (record { 
 abbrev pub mark_leaf : ℕ → Part
 mark_leaf character = p.Leaf (record { class = c.Mark; gap = []; token = character ∷ [] })
 
--- each item with a comma behind it
+-- each item with a comma after it
 abbrev pub each_with_comma : List Part → List Part
 each_with_comma [] = []
 each_with_comma (x ∷ xs) = x ∷ mark_leaf comma ∷ each_with_comma xs
 
--- The row of parts that a form stands for, by their roots: brackets and commas are put back. (A comma may stand behind
--- the last item of every sequence, and stands behind that of a tuple of one.)
+-- The row of parts that a form stands for, by their roots: brackets and commas are put back. (A comma may stand after
+-- the last item of every sequence, and is after that of a tuple of one.)
 abbrev pub row_in : Frame → List Part → List Part → List Part
 row_in row parts items = parts
 row_in (sequence opener closer) parts items = parts ++ mark_leaf opener ∷ (each_with_comma items ++ mark_leaf closer ∷ [])

@@ -13,11 +13,11 @@ bare newline = record { comment = None; newline = newline }
 abbrev says : Bytes → Option Bytes → List Bytes → Bool → Type 0
 says gap suffix others newline = (suffix_in gap ≡ suffix) × (others_in gap ≡ others) × (has_newline gap ≡ newline)
 
--- a comment right behind a token; its text ends before the blanks and the carriage return at its end
+-- a comment right after a token; its text ends before the blanks and the carriage return at its end
 abbrev pub Behind : Type 0
 Behind = (lines_of (codes "  # a \t\r\n \n") ≡ commented (codes "# a") true ∷ bare true ∷ []) × says (codes "  # a \t\r\n \n") (Some (codes "# a")) [] true
 
--- an escaped newline ends a line and is no newline, with a carriage return before it too; the comment behind it is no suffix
+-- an escaped newline ends a line and is no newline, with a carriage return before it too; the comment after it is no suffix
 abbrev pub Escaped : Type 0
 Escaped =
     (lines_of (codes " \\\n # b\n") ≡ bare false ∷ commented (codes "# b") true ∷ []) × says (codes " \\\n # b\n") None (codes "# b" ∷ []) true

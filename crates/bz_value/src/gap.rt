@@ -10,7 +10,7 @@ use bz_items::{Items, Memory, Text};
 use std::alloc::Global;
 
 /// A line of a gap: its comment, kept from its `#` on without blanks at its end; whether an unescaped newline ends it; and
-/// the gap behind it.
+/// the gap after it.
 #[derive(Clone, Copy)]
 pub struct Line<'a> {
     pub comment: Option<&'a [u8]>,
@@ -25,7 +25,7 @@ pub struct IndentedLine<'a> {
     pub line: Line<'a>,
 }
 
-/// How many spaces and tabs stand behind a byte with which no line of a gap begins or ends, where this many stood before it.
+/// How many spaces and tabs stand after a byte with which no line of a gap begins or ends, where this many stood before it.
 fn indent_behind(indent: usize, byte: u8) -> usize
     requires { indent < 2 ^ 64 - 1 }
     ensures value { result ≡ (if nat_eq byte space || nat_eq byte tab then suc indent else 0) }
@@ -55,7 +55,7 @@ fn line_len(text: &[u8]) -> usize
     text.len()
 }
 
-/// What stands behind the newline that ends the first line, which has this many bytes.
+/// What is after the newline that ends the first line, which has this many bytes.
 fn behind_line(text: &[u8], len: usize) -> &[u8]
     requires { len ≤ length text.now }
     ensures { result.now ≡ drop (len + 1) text.now }
@@ -107,7 +107,7 @@ pub fn first_line(gap: &[u8]) -> Option<Line<'_>>
                     rest: tail,
                 });
             }
-            // a backslash stands in a gap only before the newline that it escapes
+            // a backslash is in a gap only before the newline that it escapes
             b'\\' => {
                 return Some(Line {
                     comment: None,
@@ -170,7 +170,7 @@ pub fn first_indented_line(gap: &[u8]) -> Option<IndentedLine<'_>>
     None
 }
 
-/// The gap behind its first line.
+/// The gap after its first line.
 pub fn behind_first_line(gap: &[u8]) -> &[u8]
     ensures { lines_of result.now ≡ after_first_comment (lines_of gap.now) }
 {
@@ -180,7 +180,7 @@ pub fn behind_first_line(gap: &[u8]) -> &[u8]
     }
 }
 
-/// Whether an unescaped newline stands in the gap.
+/// Whether an unescaped newline is in the gap.
 pub fn has_newline(gap: &[u8]) -> bool
     ensures { result ≡ has_newline gap.now }
 {

@@ -30,7 +30,7 @@ pub enum Refusal {
     NameTaken,
     /// Undo or redo by more steps than there are.
     TooFar,
-    /// A command would change the text behind which there are 100,000 steps.
+    /// A command would change the text after which there are 100,000 steps.
     Full,
     /// The note of an action is longer than 65,536 bytes.
     NoteTooLong,

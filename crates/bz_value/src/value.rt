@@ -54,7 +54,7 @@ impl Expr {
     }
 }
 
-/// What stands between the brackets of a call, list, dict, tuple or load, without brackets and commas: the items, the
+/// What is between the brackets of a call, list, dict, tuple or load, without brackets and commas: the items, the
 /// comments below the last one, and whether a newline stood before an item, a comma or the closing bracket.
 #[cycle(expr)]
 #[derive(Drop)]
@@ -64,9 +64,9 @@ pub struct Seq {
     pub split: bool,
 }
 
-/// A node without gaps. With a sequence: `parts` is what stands before its opening bracket (the function of a call, the
+/// A node without gaps. With a sequence: `parts` is what is before its opening bracket (the function of a call, the
 /// word of a load). Without one: `parts` is the whole row of the node, marks too, and `seq` is empty. `open_`: of a
-/// comprehension, that a newline stood right behind its bracket.
+/// comprehension, that a newline stood right after its bracket.
 #[cycle(expr)]
 #[derive(Drop)]
 pub struct Form {

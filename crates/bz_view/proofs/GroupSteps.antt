@@ -34,7 +34,7 @@ block_first (t ∷ ts) gs = ap (λ l. i.Block l ∷ blocks gs) (append-nil (t �
 abbrev group_at : List Bytes → List (List Bytes) → Type 0
 group_at group gs = (blocks (all_but_last ((group ++ []) ∷ gs)) ≡ blocks (group ∷ []) ++ blocks (all_but_last (prepend [] gs))) × (last_group ((group ++ []) ∷ gs) ≡ last_group (prepend [] gs))
 
--- behind a line without comment the group so far is a Block, and another one begins
+-- after a line without comment the group so far is a Block, and another one begins
 group_ends : (group : List Bytes) (ls : List GapLine) → group_at group (groups_of ls)
 group_ends group ls = let w = some_group ls in subst (group_at group) (sym w.2) (block_first group (all_but_last (w.0 ∷ w.1)), refl)
 

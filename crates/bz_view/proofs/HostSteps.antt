@@ -14,7 +14,7 @@ use Rattle.bz_view.proofs.UnsignedGaps.{quiet_behind, nothing_behind}
 abbrev host_comments : List Bytes → Option Bytes → HostComments
 host_comments before suffix = record { before = before; suffix = suffix }
 
--- what is in the items behind a host is what was in them before it
+-- what is in the items after a host is what was in them before it
 abbrev Pushed : List Part → ℕ → List Bytes → List Bytes → List Expr → List Expr → Type 0
 Pushed ps at above next es new =
     (new ++ (items_in next (map seen (drop (at + 2) ps))).0 ≡ es ++ (items_in above (map seen (drop at ps))).0)

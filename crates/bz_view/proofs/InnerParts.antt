@@ -159,7 +159,7 @@ turn_is ends ends h = refl
 turn_is plain plain h = refl
 turn_is _ _ h = no_such h
 
--- whether each leaf that is this terminal is that to those behind it
+-- whether each leaf that is this terminal is that to those after it
 abbrev turns : Role → Terminal → Bool
 turns t (s.any c.Mark) = false
 turns t (s.any class) = is_turn (role class []) t
@@ -193,12 +193,12 @@ plain_tokens ts = all_turn plain ts
 tokens_plain : (xs : List Terminal) (l : Leaf) → plain_tokens xs ≡ true → is_one_of xs l ≡ true → role l.class l.token ≡ plain
 tokens_plain xs l h i = of_terminals plain xs l h i
 
--- behind an opening bracket
+-- after an opening bracket
 pub token_opens : (ts : List Terminal) (x : Part) (outer here : Spot) → all_turn opens ts ≡ true → has_token ts x ≡ true → behind_part outer here x ≡ Within
 token_opens ts (p.Leaf l) outer here h i = ap (λ t. behind_token t outer here) (of_terminals opens ts l h i)
 token_opens ts (Node' kind z r) outer here h i = no_such i
 
--- behind a closing one
+-- after a closing one
 pub token_closes : (ts : List Terminal) (x : Part) (outer here : Spot) → all_turn closes ts ≡ true → has_token ts x ≡ true → behind_part outer here x ≡ onward outer
 token_closes ts (p.Leaf l) outer here h i = ap (λ t. behind_token t outer here) (of_terminals closes ts l h i)
 token_closes ts (Node' kind z r) outer here h i = no_such i

@@ -1,4 +1,4 @@
--- Views of lines behind lines.
+-- Views of lines after lines.
 use Rattle.std.proofs.Common.{◌≡◌, false, List, [], ◌∷◌, ◌++◌, inl, refl, sym, ap, ◌∙◌, subst, append_assoc, append-nil, map, arith}
 use Rattle.std.specs.List.{flat_map}
 use Rattle.std.proofs.lemmas.Str.{IsUtf8-nil}

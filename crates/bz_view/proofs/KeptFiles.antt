@@ -24,11 +24,11 @@ use Rattle.bz_view.proofs.Sums.{gap_amount, gap_parts, lines_joined, all_blocks,
 use Rattle.bz_value.proofs.Totals.{append_total}
 
 module _ (number : Bytes → ℕ) where
-  -- the comments behind the first line of a gap
+  -- the comments after the first line of a gap
   abbrev pub left_amount : Bytes → ℕ
   left_amount gap = total number (comments_in (after_first_comment (lines_of gap)))
 
-  -- Statements of a line: the gap before the first is among the comments above it, and what stands in the newline's gap behind
+  -- Statements of a line: the gap before the first is among the comments above it, and what is in the newline's gap after
   -- its first line belongs to the lines below.
   pub statements_kept : (above : List Bytes) (x y : Part) (xs : List Part) → AllKept number (x ∷ y ∷ xs) → Paired (x ∷ y ∷ xs) → Quiet (x ∷ y ∷ xs) →
       gap_amount number (seen x).gap + (total (item_amount number) (statements_in above (map seen (x ∷ y ∷ xs))) + left_amount (last_gap (map seen (x ∷ y ∷ xs)))) ≡ total number above + total (part_amount number) (x ∷ y ∷ xs)

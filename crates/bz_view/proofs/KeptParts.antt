@@ -1,4 +1,4 @@
--- No comment of a part of a legal tree is lost or doubled: each stands in the gap before the part, is loose in it, or stands
+-- No comment of a part of a legal tree is lost or doubled: each is in the gap before the part, is loose in it, or is
 -- in what is made of it.
 use Rattle.std.proofs.Common.{◌≡◌, ℕ, zero, suc, ◌+◌, Bool, true, false, List, [], ◌∷◌, ◌++◌, Option, refl, ap, sym, ◌∙◌, map, take, drop, if◌then◌else◌, ◌&&◌, ◌||◌, not, arith}
 use Rattle.std.specs.List.{AllByRecursion}
@@ -22,7 +22,7 @@ use Rattle.bz_view.proofs.Sums.{gap_amount, gap_parts, node_amount, made_amount,
 use Rattle.bz_value.proofs.Totals.{append_total, inner_amount}
 
 module _ (number : Bytes → ℕ) where
-  -- what is loose in a part, and what stands in the expression made of it
+  -- what is loose in a part, and what is in the expression made of it
   abbrev pub held : Seen → ℕ
   held s = total number s.loose + amount number (plain s)
 
@@ -61,7 +61,7 @@ module _ (number : Bytes → ℕ) where
       let loose = loose_more (seen x) (map seen xs) in
       omega arith
 
-  -- of a row, the gap before it stands outside
+  -- of a row, the gap before it is outside
   pub row_kept : (binary inside newline : Bool) (xs : List Part) → AllKept xs →
       gap_amount number (first_seen_gap (map seen xs)) + (total number (loose_in (map seen xs)) + total (amount number) (row_exprs binary inside newline (map seen xs))) ≡ total (part_amount number) xs
   row_kept binary inside newline [] h = refl
@@ -73,12 +73,12 @@ module _ (number : Bytes → ℕ) where
 
   -- ---- sequences
 
-  -- a token has nothing loose, and nothing stands in it
+  -- a token has nothing loose, and nothing is in it
   token_holds : (x : Part) → is_token x ≡ true → held (seen x) ≡ 0
   token_holds (p.Leaf l) h = refl
   token_holds (Node' kind n r) h = cc
 
-  -- behind the first part, up to the bracket
+  -- after the first part, up to the bracket
   head_behind : (n : ℕ) (xs : List Part) → AllKept xs → TokenAt n xs →
       total number (loose_behind (take (suc n) (map seen xs))) + total (amount number) (map plain (take n (map seen xs))) ≡ total (part_amount number) (take (suc n) xs)
   head_behind zero [] h t = refl
@@ -104,7 +104,7 @@ module _ (number : Bytes → ℕ) where
       let both = append_total number (seen x).loose (loose_behind (take n (map seen xs))) in
       omega arith
 
-  -- a host, with the comments above it and the one behind it
+  -- a host, with the comments above it and the one after it
   pub host_kept : (x : Part) (above : List Bytes) (suffix : Option Bytes) →
       amount number ((seen x).make (record { before = above ++ (seen x).loose; suffix = suffix }) false) ≡ total number above + (held (seen x) + suffix_amount number suffix)
   host_kept x above suffix =
@@ -144,7 +144,7 @@ module _ (number : Bytes → ℕ) where
   cut_total zero (x ∷ xs) = omega arith
   cut_total (suc n) (x ∷ xs) = let h = cut_total n xs in omega arith
 
-  -- what is found behind the opening bracket
+  -- what is found after the opening bracket
   pub found_kept : (xs : List Part) → AllKept xs → Paired xs →
       total (amount number) (items_in (all_in (first_seen_gap (map seen xs))) (map seen xs)).0 + total number (items_in (all_in (first_seen_gap (map seen xs))) (map seen xs)).1 ≡ total (part_amount number) xs
   found_kept xs h t = let all = items_kept (all_in (first_seen_gap (map seen xs))) xs h t in omega arith

@@ -46,7 +46,7 @@ no_statement above [] l = refl
 no_statement above (s ∷ []) l = refl
 no_statement above (s ∷ t ∷ ss) l = absurd (omega arith)
 
--- a statement and the mark behind it
+-- a statement and the mark after it
 pub statement_more : (ps : List Part) (at : ℕ) (y : Part) (before above next : List Bytes) (suffix : Option Bytes) (cs : HostComments) (x commented : Expr) (items new all : List Item) → at + 1 < length ps → y ≡ get_or ps at y →
     before ≡ above ++ (seen y).loose → suffix ≡ line_suffix (map seen (drop (at + 1) ps)) → next ≡ [] → x ≡ (seen y).make no_comments false → cs ≡ record { before = before; suffix = suffix } → commented ≡ with_comments x cs →
     items ++ statements_in above (map seen (drop at ps)) ≡ all → new ≡ items ++ i.Stmt commented ∷ [] → new ++ statements_in next (map seen (drop (at + 2) ps)) ≡ all

@@ -100,7 +100,7 @@ sequence_made (sequence opener closer) kind ps qs n es q cs h j i e g k =
 pub seen_from : (ps : List Part) (at : ℕ) (y : Part) → at < length ps → y ≡ get_or ps at y → map seen (drop at ps) ≡ seen y ∷ map seen (drop (suc at) ps)
 seen_from ps at y l i = ap (map seen) (drop-cons ps at y l) ∙ ap (λ z. seen z ∷ map seen (drop (suc at) ps)) (sym i)
 
--- right behind the first part
+-- right after the first part
 pub opened : (ps : List Part) → has_newline (first_seen_gap (map seen (drop 1 ps))) ≡ is_open (map seen ps)
 opened [] = refl
 opened (x ∷ ps) = refl

@@ -1,4 +1,4 @@
--- Where single tokens stand in a legal tree: the opening bracket of a sequence, the commas behind its items and its closing
+-- Where single tokens stand in a legal tree: the opening bracket of a sequence, the commas after its items and its closing
 -- bracket, the semicolons of a line and its newline.
 use Rattle.std.proofs.Common.{◌≡◌, ℕ, zero, suc, Bool, true, false, List, [], ◌∷◌, inl, inr, refl, drop}
 use Rattle.bz_tree.specs.declared.kind.Kind.{Kind}
@@ -20,7 +20,7 @@ pub token : (ts : List Terminal) (x : Part) → has_token ts x ≡ true → is_t
 token ts (p.Leaf l) h = refl
 token ts (Node' kind n r) h = no_such h
 
--- every second part is a token, and so is a last one behind pairs of a part and its token
+-- every second part is a token, and so is a last one after pairs of a part and its token
 abbrev pub Paired : List Part → Type 0
 Paired [] = Unit {0}
 Paired (x ∷ []) = is_token x ≡ true
@@ -56,7 +56,7 @@ module _ (close : List Terminal) where
   items_paired q (x ∷ xs) (inl h) = ends_paired s.comma_mark close x xs h
   items_paired q (x ∷ xs) (inr h) = listed_paired s.comma_mark close q (x ∷ xs) h
 
-  -- behind an item a comma and then items, or no more items
+  -- after an item a comma and then items, or no more items
   one_paired : (q : Sort) (x : Part) (xs : List Part) → Fits IsSort (s.alt (tok close done) (tok s.comma_mark (items q close))) xs → Paired (x ∷ xs)
   one_paired q x [] (inl h) = absurd h
   one_paired q x [] (inr h) = absurd h
@@ -64,7 +64,7 @@ module _ (close : List Terminal) where
   one_paired q x (y ∷ z ∷ xs) (inl h) = absurd h.1
   one_paired q x (y ∷ xs) (inr h) = (token s.comma_mark y h.0, items_paired q xs h.1)
 
--- the opening bracket, and what stands behind it
+-- the opening bracket, and what is after it
 pub record Bracketed (kind : Kind) (xs : List Part) : Type 0 where
   pub opener : TokenAt (lead kind) xs
   pub body : Paired (drop (suc (lead kind)) xs)

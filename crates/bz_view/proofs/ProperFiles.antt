@@ -73,7 +73,7 @@ statement_proper here x above suffix e h legal g t at_ a m =
 abbrev EndsLine : List Part → Type 0
 EndsLine xs = Fits IsSort (tok s.newline done) xs
 
--- the statements of a line, from one on that stands here
+-- the statements of a line, from one on that is here
 statements_proper : (outer here : Spot) (above : List Bytes) (xs : List Part) → onward here ≡ onward Begins → Listed (IsSort s.small) s.semicolon true EndsLine xs → AllByRecursion LegalPart xs → AllByRecursion (Ready shape) xs → AllTold (map seen xs) → AtParts BzlStands outer here xs → Group above →
     AreProper (statements_in above (map seen xs))
 statements_proper outer here above [] e h legal g t at_ a = tt

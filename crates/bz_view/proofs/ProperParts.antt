@@ -1,4 +1,4 @@
--- What is seen of a part of a legal tree is proper where the part stands.
+-- What is seen of a part of a legal tree is proper where the part is.
 use Rattle.std.proofs.Common.{◌≡◌, ℕ, zero, suc, Bool, true, false, not, ◌&&◌, List, [], ◌∷◌, refl, sym, subst, map, take, drop, if◌then◌else◌}
 use Rattle.std.specs.List.{AllByRecursion}
 use Rattle.std.proofs.lemmas.Bool.{and_parts}
@@ -57,7 +57,7 @@ IsLexed l = not (ends_line l.class) ≡ true → IsLexeme l.class l.token
 -- ---- by a grammar, of which that of lines is the widest
 
 module _ (grammar : Kind → Shape) where
-  -- what is found behind the opening bracket
+  -- what is found after the opening bracket
   pub record FoundProper (xs : List Part) (body : List Seen) : Type 0 where
     pub roots : Same (places xs) (map root (items_in (all_in (first_seen_gap body)) body).0)
     pub items : ItemsProper grammar (items_in (all_in (first_seen_gap body)) body)
@@ -135,7 +135,7 @@ inner_shape k.Suite xs i h = no_such i
 inner_shape _ xs i h = h
 
 mutual
-  -- an inner part of a .bzl file holds none of what stands in no line
+  -- an inner part of a .bzl file holds none of what is in no line
   pub inner_legal : (x : Part) → is_inner x ≡ true → LegalBzlPart x → LegalBy line_shape x
   inner_legal (p.Leaf l) i h = tt
   inner_legal (Node' kind n r) i h =

@@ -69,7 +69,7 @@ Quiet (x ∷ y ∷ z ∷ u ∷ xs) = (all_in (seen y).gap ≡ []) × (all_in (se
 abbrev pub Statements : List Part → Type 0
 Statements xs = Listed (IsSort s.small) s.semicolon true (Fits IsSort (tok s.newline done)) xs
 
--- where comments stand as S says, none stands before the part if it stands along a line
+-- where comments stand as S says, none is before the part if it is along a line
 module _ (S : Spot → Leaf → Type 0) where
   abbrev pub Silent : Part → Type 0
   Silent x = is_inner x ≡ true → AtLeaves S Along x → all_in (seen x).gap ≡ []

@@ -1,4 +1,4 @@
--- The rows of nodes without a sequence: each part is proper where it stands, and a break stands inside brackets.
+-- The rows of nodes without a sequence: each part is proper where it is, and a break is inside brackets.
 use Rattle.std.proofs.Common.{◌≡◌, Bool, true, false, not, ◌&&◌, ◌||◌, List, [], ◌∷◌, inl, inr, refl, sym, ap, ◌∙◌, subst, map, if◌then◌else◌}
 use Rattle.std.specs.List.{AllByRecursion}
 use Rattle.std.proofs.lemmas.Bool.{and_parts, or_cases}
@@ -26,7 +26,7 @@ pub on_twice : (here : Spot) → onward (onward here) ≡ onward here
 on_twice Within = refl
 on_twice _ = refl
 
--- behind the first part of a line, what isn't along it is inside brackets
+-- after the first part of a line, what isn't along it is inside brackets
 within_by : (here : Spot) (b : Bool) → onward here ≡ here → (here ≡ Along → b ≡ false) → b ≡ true → here ≡ Within
 within_by Begins b e f h = cc
 within_by Within b e f h = refl
@@ -55,7 +55,7 @@ part_unsigned a (Node' kind n r) h = node_operator kind (seen_row r) no_comments
 -- ---- rows by a grammar, of which that of lines is the widest
 
 module _ (grammar : Kind → Shape) where
-  -- the part is proper where it stands, for any comments and break
+  -- the part is proper where it is, for any comments and break
   abbrev pub Fit : Part → Type 0
   Fit x = (here : Spot) → AtLeaves BzlStands here x → (cs : HostComments) (b : Bool) → ProperBy grammar here ((seen x).make cs b)
 

@@ -41,7 +41,7 @@ gap_of_last (x ∷ []) (suc k) y l i = absurd (omega arith)
 gap_of_last (x ∷ z ∷ ps) zero y l i = absurd (omega arith)
 gap_of_last (x ∷ z ∷ ps) (suc k) y l i = gap_of_last (z ∷ ps) k y (omega arith) i
 
--- ---- behind an item
+-- ---- after an item
 
 pub suffix_later : (ps : List Part) (at : ℕ) (g : Bytes) → at + 1 < length ps → g ≡ first_seen_gap (map seen (drop (at + 1) ps)) → suffix_in g ≡ suffix_behind (map seen (drop at ps))
 suffix_later ps at g l e =
@@ -71,7 +71,7 @@ pub loose_more : (at : ℕ) (s : Seen) (ss here : List Seen) (old mid new all : 
 loose_more at s ss here old mid new all h gap e j =
     ap (λ k. new ++ loose_from k ss) (add-one at) ∙ (ap (λ t. t ++ loose_behind ss) e ∙ (gap ss ∙ (ap (λ t. old ++ loose_from at t) (sym h) ∙ j)))
 
--- the part behind the gap
+-- the part after the gap
 pub gap_pushed : (at : ℕ) (s : Seen) (old new : List Bytes) (rest : List Seen) → (at ≡ zero → ⊥) → new ≡ old ++ all_in s.gap → (new ++ s.loose) ++ loose_behind rest ≡ old ++ loose_from at (s ∷ rest)
 gap_pushed zero s old new rest n e = absurd (n refl)
 gap_pushed (suc at) s old new rest n e =
@@ -86,7 +86,7 @@ gap_outside (suc at) s old rest n = absurd (omega arith)
 pub part_here : (ps : List Part) (at : ℕ) (y : Part) → at < length ps → y ≡ get_or ps at y → map seen (drop at ps) ≡ seen y ∷ map seen (drop (at + 1) ps)
 part_here ps at y l i = ap (λ qs. map seen qs) (drop_more ps at y l ∙ ap (λ z. z ∷ drop (at + 1) ps) (sym i))
 
--- the parts from an operator's token on, or from an operand on: `before`, whether a newline stands before the operator, is not asked for at an operand
+-- the parts from an operator's token on, or from an operand on: `before`, whether a newline is before the operator, is not asked for at an operand
 quiet_before : (binary operator before : Bool) (s : Seen) (ss : List Seen) →
     s.make no_comments ((operator && not (begins_seen_operator ss)) && (before || has_newline (first_seen_gap ss))) ∷ row_exprs binary operator before ss
     ≡ s.make no_comments ((operator && not (begins_seen_operator ss)) && ((operator && before) || has_newline (first_seen_gap ss))) ∷ row_exprs binary operator (operator && before) ss
@@ -162,7 +162,7 @@ no_loose (suc at) = refl
 pub no_bracket : (ps : List Part) (at lead : ℕ) (old all : List Bytes) → length ps ≤ at → old ++ loose_from at (drop at (take (suc lead) (map seen ps))) ≡ all → old ≡ all
 no_bracket ps at lead old all l j = sym (append-nil old) ∙ (ap (λ t. old ++ t) (sym (ap (loose_from at) (head_over ps at (suc lead) l) ∙ no_loose at)) ∙ j)
 
--- the bracket behind them
+-- the bracket after them
 pub bracket_more : (ps : List Part) (at lead : ℕ) (y : Part) (old mid new all : List Bytes) → at ≡ lead → lead < length ps → y ≡ get_or ps lead y → ((rest : List Seen) → (mid ++ (seen y).loose) ++ loose_behind rest ≡ old ++ loose_from lead (seen y ∷ rest)) →
     new ≡ mid ++ (seen y).loose → old ++ loose_from at (drop at (take (suc lead) (map seen ps))) ≡ all → new ≡ all
 bracket_more ps at lead y old mid new all a l i gap e j =
@@ -172,7 +172,7 @@ bracket_more ps at lead y old mid new all a l i gap e j =
     let more : new ++ loose_from (lead + 1) past ≡ all = loose_more lead (seen y) past _ old mid new all (head_here ps lead (suc lead) y l (omega arith) i) gap e here in
     sym (append-nil new) ∙ (ap (λ t. new ++ t) (sym (ap (loose_from (lead + 1)) none ∙ no_loose (lead + 1))) ∙ more)
 
--- ---- behind the last part of a row
+-- ---- after the last part of a row
 
 none_left : (ps : List Part) (at : ℕ) → length ps ≤ at → drop at ps ≡ []
 none_left [] zero l = refl
@@ -203,7 +203,7 @@ no_item above [] l = refl
 no_item above (s ∷ []) l = refl
 no_item above (s ∷ t ∷ ss) l = absurd (omega arith)
 
--- an item and the mark behind it
+-- an item and the mark after it
 pub item_more : (ps : List Part) (at : ℕ) (y : Part) (before above next : List Bytes) (suffix : Option Bytes) (cs : HostComments) (x commented : Expr) (es new all : List Expr) → at + 1 < length ps → y ≡ get_or ps at y →
     before ≡ above ++ (seen y).loose → suffix ≡ suffix_behind (map seen (drop (at + 1) ps)) → next ≡ above_behind (map seen (drop (at + 1) ps)) → x ≡ (seen y).make no_comments false →
     cs ≡ record { before = before; suffix = suffix } → commented ≡ with_comments x cs → es ++ (items_in above (map seen (drop at ps))).0 ≡ all → new ≡ es ++ commented ∷ [] →

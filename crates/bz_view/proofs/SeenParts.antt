@@ -1,4 +1,4 @@
--- What is seen of a part, whatever its kind: its root, where what follows it stands, its comments and its gap.
+-- What is seen of a part, whatever its kind: its root, where what follows it is, its comments and its gap.
 use Rattle.std.proofs.Common.{◌≡◌, ℕ, zero, suc, Bool, true, false, List, [], ◌∷◌, ◌++◌, refl, sym, ap, ◌∙◌, map, take}
 use Rattle.std.specs.List.{AllByRecursion}
 use Rattle.std.specs.Str.{IsUtf8}
@@ -83,7 +83,7 @@ pub behind_made : (outer here : Spot) (x : Part) (cs : HostComments) (b : Bool) 
 behind_made outer here (p.Leaf l) cs b = refl
 behind_made outer here (Node' kind n r) cs b = node_behind kind (seen_row r) cs b (frame kind) outer here
 
--- ---- no unescaped newline stands before a part along a line
+-- ---- no unescaped newline is before a part along a line
 
 gap_along : (class : Class) (gap : Bytes) → BzlGapStands class Along gap → has_newline gap ≡ false
 gap_along c.Newline gap h = along_quiet h.0 gap h.1

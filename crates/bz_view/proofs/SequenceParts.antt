@@ -1,4 +1,4 @@
--- Sequences: what stands before the bracket is proper where the node stands, each item inside the brackets.
+-- Sequences: what is before the bracket is proper where the node is, each item inside the brackets.
 use Rattle.std.proofs.Common.{◌≡◌, ℕ, zero, suc, true, false, List, [], ◌∷◌, ◌++◌, inl, inr, refl, sym, ap, ◌∙◌, subst, map, take, drop}
 use Rattle.std.specs.List.{AllByRecursion}
 use Rattle.std.proofs.lemmas.List.Elements.{All-from_recursion}
@@ -53,7 +53,7 @@ module _ (close : List Terminal) where
   items_alternate q o (x ∷ xs) (inl h) = ends_alternate x xs h
   items_alternate q o (x ∷ xs) (inr h) = listed_alternate q o (x ∷ xs) h
 
--- of the parts of a node that stands here: what is before the bracket, and what is behind it
+-- of the parts of a node that is here: what is before the bracket, and what is after it
 pub record SequenceStands (here : Spot) (kind : Kind) (xs : List Part) : Type 0 where
   pub head : AllByRecursion (AtLeaves BzlStands here) (take (lead kind) xs)
   pub body : AtParts BzlStands here Within (drop (suc (lead kind)) xs)
@@ -130,7 +130,7 @@ kind_stands _ here xs h at_ = tt
 pub sequence_stands : (kind : Kind) (opener closer : ℕ) (here : Spot) (xs : List Part) → frame kind ≡ sequence opener closer → Fits IsSort (line_shape kind) xs → AtParts BzlStands here here xs → SequenceStands here kind xs
 sequence_stands kind opener closer here xs e h at_ = subst (λ f. SequenceIn f here kind xs) e (kind_stands kind here xs h at_)
 
--- ---- what stands before the bracket
+-- ---- what is before the bracket
 
 pub head_roots : (n : ℕ) (xs : List Part) → Same (take n xs) (map root (map plain (take n (map seen xs))))
 head_roots zero [] = over

@@ -88,7 +88,7 @@ module _ (number : Bytes → ℕ) where
 
   -- ---- expressions
 
-  -- what is made of a node has its own comments, and what stands in it
+  -- what is made of a node has its own comments, and what is in it
   pub node_amount : (f : Frame) (kind : Kind) (ss : List Seen) (cs : HostComments) (b : Bool) → amount number ((seen_node f kind ss).make cs b) ≡ host_amount number cs + inner_amount number (form_in f kind ss no_comments)
   node_amount row kind ss cs b = form_amount number (form_in row kind ss cs)
   node_amount (sequence opener closer) kind ss cs b = form_amount number (form_in (sequence opener closer) kind ss cs)

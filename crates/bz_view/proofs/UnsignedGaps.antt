@@ -62,7 +62,7 @@ others_quiet g h = comments_bare (after_first_comment (lines_of g)) (rest_bare (
 suffix_quiet : (g : Bytes) → is_unsigned g ≡ true → suffix_in g ≡ None
 suffix_quiet g h = first_bare (lines_of g) (lines_bare g h)
 
--- ---- behind an item, from its mark on
+-- ---- after an item, from its mark on
 
 above_at : (ss : List Seen) → is_unsigned (first_seen_gap ss) ≡ true → is_unsigned (first_seen_gap (drop 1 ss)) ≡ true → above_behind ss ≡ []
 above_at [] h k = refl

@@ -1,4 +1,4 @@
--- The view of a text behind another one.
+-- The view of a text after another one.
 use Rattle.std.specs.Prelude.{◌≡◌, ◌≤◌, List, [], ◌∷◌, ◌++◌, length}
 use Rattle.bz_items.specs.Characters.{Bytes, line_feed}
 use Rattle.bz_lex.specs.declared.leaf.Leaf.{Leaf}
@@ -11,7 +11,7 @@ use Rattle.bz_tree.specs.Joined.{AreWholeLines}
 use Rattle.bz_value.specs.Gaps.{GapLine, lines_of, after_first_comment}
 use Rattle.bz_view.specs.View.{last_gap, seen_row, view_of}
 
--- What the last of these lines leaves to what follows: the lines in the gap of its Newline behind an escaped newline.
+-- What the last of these lines leaves to what follows: the lines in the gap of its Newline after an escaped newline.
 -- left: those of the Newline before.
 abbrev pub lines_left : List GapLine → List Part → List GapLine
 lines_left left [] = left
@@ -27,7 +27,7 @@ pub record EndsWithLine (n : Node) : Type 0 where
   pub nothing : end.gap ≡ []
   pub left : lines_left [] lines ≡ []
 
--- A text behind one that ends with a line: both joined read as a file whose view is that of the one and then that of the other,
+-- A text after one that ends with a line: both joined read as a file whose view is that of the one and then that of the other,
 -- and which ends with a line where the other one does.
 abbrev pub ViewsJoin : Type 0
 ViewsJoin = (s t : Bytes) (n m : Node) → EndsWithLine n → Reads s n → Reads t m → length (s ++ t) ≤ limit

@@ -13,10 +13,10 @@ use Rattle.bz_view.specs.View.{view_of}
 abbrev pub comments_of_tree : Node → List Bytes
 comments_of_tree tree = flat_map (λ leaf. all_in leaf.gap) (leaves_of tree)
 
--- how often a comment of this text stands in a tree
+-- how often a comment of this text is in a tree
 abbrev pub occurrences : Bytes → Node → ℕ
 occurrences text tree = total (one_if text) (comments_of_tree tree)
 
--- Each comment of a legal tree stands in its file value as often as in its gaps.
+-- Each comment of a legal tree is in its file value as often as in its gaps.
 abbrev pub CommentsKept : Type 0
 CommentsKept = (tree : Node) → Legal tree → (text : Bytes) → times text (view_of tree) ≡ occurrences text tree

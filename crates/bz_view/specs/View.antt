@@ -15,7 +15,7 @@ use Rattle.bz_items.specs.Characters.{Bytes}
 use Rattle.bz_value.specs.Gaps.{GapLine, lines_of, after_first_comment, groups_of, all_but_last, last_group, suffix_in, others_in, all_in, has_newline}
 use Rattle.bz_value.specs.Proper.{is_operator}
 
--- A part that was read: the expression that it is for given comments and break, which only what stands around it knows;
+-- A part that was read: the expression that it is for given comments and break, which only what is around it knows;
 -- the gap before its first token; and the comments inside it that stand in no host or sequence inside it.
 pub record Seen : Type 0 where
   pub make : HostComments → Bool → Expr
@@ -36,21 +36,21 @@ begins_seen_operator (s ∷ ss) = is_operator (plain s)
 
 -- ---- comments of what is no host: they go up to the innermost host or sequence around it
 
--- behind the first part, the gaps between parts and what is loose in the parts
+-- after the first part, the gaps between parts and what is loose in the parts
 abbrev pub loose_behind : List Seen → List Bytes
 loose_behind [] = []
 loose_behind (s ∷ ss) = all_in s.gap ++ s.loose ++ loose_behind ss
 
--- the gap before the first part stands outside
+-- the gap before the first part is outside
 abbrev pub loose_in : List Seen → List Bytes
 loose_in [] = []
 loose_in (s ∷ ss) = s.loose ++ loose_behind ss
 
 -- ---- rows
 
--- The parts of a row. A binary operator breaks where an unescaped newline stands before it or before the operand after
--- it; the flag is set at its last token (`not in` has two). inside: behind a token of an operator; newline: whether one
--- stands before that operator.
+-- The parts of a row. A binary operator breaks where an unescaped newline is before it or before the operand after
+-- it; the flag is set at its last token (`not in` has two). inside: after a token of an operator; newline: whether one
+-- is before that operator.
 abbrev pub row_exprs : Bool → Bool → Bool → List Seen → List Expr
 row_exprs binary inside newline [] = []
 row_exprs binary inside newline (s ∷ ss) =
@@ -60,7 +60,7 @@ row_exprs binary inside newline (s ∷ ss) =
 
 -- ---- sequences
 
--- The items of a sequence and its end comments, behind the opening bracket: item, comma, item, .., closing bracket.
+-- The items of a sequence and its end comments, after the opening bracket: item, comma, item, .., closing bracket.
 -- above: the comments so far that stand above the next item.
 abbrev mutual
   pub items_in : List Bytes → List Seen → List Expr × List Bytes
@@ -71,7 +71,7 @@ abbrev mutual
   item_in above s [] = ([], above)
   item_in above s (mark ∷ ss) = item_before above s mark ss
 
-  -- An item before a mark: before its comma, whose suffix stands in the gap behind the comma; or before the closing
+  -- An item before a mark: before its comma, whose suffix is in the gap after the comma; or before the closing
   -- bracket. A comment between an item and its comma belongs to what follows.
   pub item_before : List Bytes → Seen → Seen → List Seen → List Expr × List Bytes
   item_before above s mark [] = (s.make (record { before = above ++ s.loose; suffix = suffix_in mark.gap }) false ∷ [], others_in mark.gap)
@@ -79,14 +79,14 @@ abbrev mutual
       let more : List Expr × List Bytes = item_in (all_in mark.gap ++ others_in t.gap) t ss in
       (s.make (record { before = above ++ s.loose; suffix = suffix_in t.gap }) false ∷ more.0, more.1)
 
--- A sequence is split where an unescaped newline stands before an item, a comma of it or its closing bracket.
+-- A sequence is split where an unescaped newline is before an item, a comma of it or its closing bracket.
 abbrev pub is_split : List Seen → Bool
 is_split [] = false
 is_split (s ∷ ss) = has_newline s.gap || is_split ss
 
 -- ---- nodes
 
--- right behind the bracket of a comprehension, its first part, stands an unescaped newline
+-- right after the bracket of a comprehension, its first part, is an unescaped newline
 abbrev pub is_open : List Seen → Bool
 is_open [] = false
 is_open (s ∷ ss) = has_newline (first_seen_gap ss)
@@ -111,7 +111,7 @@ sequence_form kind head body comments =
       comments = comments;
     })
 
--- A node without gaps. Of a sequence stay what stands before the bracket and the items; brackets and commas are gone.
+-- A node without gaps. Of a sequence stay what is before the bracket and the items; brackets and commas are gone.
 -- Every other node keeps the row of its parts.
 abbrev pub seen_node : Frame → Kind → List Seen → Seen
 seen_node row kind ss = record { make = λ comments break. row_form kind ss comments; gap = first_seen_gap ss; loose = loose_in ss }
@@ -144,8 +144,8 @@ blocks ((text ∷ group) ∷ groups) = i.Block (text ∷ group) ∷ blocks group
 abbrev pub statement : List Bytes → Option Bytes → Seen → Item
 statement above suffix s = i.Stmt (s.make (record { before = above ++ s.loose; suffix = suffix }) false)
 
--- The statements of a line: statement, semicolon, statement, .., perhaps a semicolon, Newline. The comment behind the
--- last one, or behind its semicolon, is its suffix. above: the comments right above the line.
+-- The statements of a line: statement, semicolon, statement, .., perhaps a semicolon, Newline. The comment after the
+-- last one, or after its semicolon, is its suffix. above: the comments right above the line.
 abbrev mutual
   pub statements_in : List Bytes → List Seen → List Item
   statements_in above [] = []
@@ -167,12 +167,12 @@ last_gap (s ∷ []) = s.gap
 last_gap (s ∷ t ∷ ss) = last_gap (t ∷ ss)
 
 -- Comment lines that follow each other form a group. A group whose last line is followed by a line without token and
--- comment, or by no token at all, is a Block of its own; otherwise it stands above the next statement.
+-- comment, or by no token at all, is a Block of its own; otherwise it is above the next statement.
 -- lines: those of the gap before the line
 abbrev pub line_items : List GapLine → List Seen → List Item
 line_items lines ss = blocks (all_but_last (groups_of lines)) ++ statements_in (last_group (groups_of lines)) ss
 
--- The lines of a file and its end. What stands in the gap of a Newline behind its first line, which an escaped newline
+-- The lines of a file and its end. What is in the gap of a Newline after its first line, which an escaped newline
 -- ends, are lines of the file. left: those of the Newline before.
 abbrev pub file_items : List GapLine → List Part → List Item
 file_items left [] = []

@@ -10,7 +10,7 @@ use Rattle.bz_items.specs.Characters.{Bytes, number_sign}
 use Rattle.bz_value.specs.Gaps.{suffix_in, others_in, all_in}
 use Rattle.bz_view.specs.View.{Seen, plain, first_seen_gap, loose_in, loose_behind, row_exprs, items_in, is_split, is_open}
 
--- a sequence, from behind its opening bracket on
+-- a sequence, from the end its opening bracket on
 abbrev pub seq_in : List Seen → Seq
 seq_in body = record { items = (items_in (all_in (first_seen_gap body)) body).0; end_ = (items_in (all_in (first_seen_gap body)) body).1; split = is_split body }
 
@@ -41,7 +41,7 @@ abbrev pub loose_from : ℕ → List Seen → List Bytes
 loose_from zero ss = loose_in ss
 loose_from (suc at) ss = loose_behind ss
 
--- Behind an item, from its mark on: its suffix, and what stands above the next item.
+-- After an item, from its mark on: its suffix, and what is above the next item.
 abbrev pub suffix_behind : List Seen → Option Bytes
 suffix_behind [] = None
 suffix_behind (mark ∷ []) = suffix_in mark.gap
@@ -52,11 +52,11 @@ above_behind [] = []
 above_behind (mark ∷ []) = others_in mark.gap
 above_behind (mark ∷ t ∷ ss) = all_in mark.gap ++ others_in t.gap
 
--- no number sign stands in the gap
+-- no number sign is in the gap
 abbrev pub is_unsigned : Bytes → Bool
 is_unsigned gap = list_all (λ byte. not (nat_eq byte number_sign)) gap
 
--- Behind a statement of a line, from its mark on: its suffix.
+-- After a statement of a line, from its mark on: its suffix.
 abbrev pub line_suffix : List Seen → Option Bytes
 line_suffix [] = None
 line_suffix (mark ∷ []) = suffix_in mark.gap

@@ -35,7 +35,7 @@ word gap token = leaf c.Keyword gap token
 abbrev pub node : Kind → List Part → Part
 node kind parts = p.Node (record { kind = kind; parts = parts })
 
--- statements and semicolons, and the gap of the Newline behind them
+-- statements and semicolons, and the gap of the Newline after them
 abbrev pub line : List Part → Bytes → Part
 line parts gap = node k.Line (parts ++ leaf c.Newline gap (codes "\n") ∷ [])
 
@@ -56,7 +56,7 @@ token comments class text = e.Token (record { class = class; text = text; break_
 abbrev pub plain : Class → Bytes → Expr
 plain class text = token no_comments class text
 
--- the last token of an operator behind which a new line begins
+-- the last token of an operator after which a new line begins
 abbrev breaking : Class → Bytes → Expr
 breaking class text = e.Token (record { class = class; text = text; break_ = true; comments = no_comments })
 
@@ -115,7 +115,7 @@ AtEnd =
     (file (bare (name [] (codes "f")) ∷ []) (codes "# a\n\n\n# b\n# c "))
     (statement [] None (plain c.Name (codes "f")) ∷ i.Block (codes "# a" ∷ []) ∷ i.Block (codes "# b" ∷ codes "# c" ∷ []) ∷ [])
 
--- the comment behind the last statement of a line, or behind its semicolon, is that statement's suffix
+-- the comment after the last statement of a line, or after its semicolon, is that statement's suffix
 abbrev pub Semicolons : Type 0
 Semicolons =
     Row
@@ -126,7 +126,7 @@ Semicolons =
     ∷ mark [] (codes ";") ∷ []) (codes " # c") ∷ []) [])
     (assigning [] None (codes "a") (plain c.Number (codes "1")) ∷ assigning [] (Some (codes "# c")) (codes "b") (plain c.Number (codes "2")) ∷ [])
 
--- a comment behind an escaped newline at the end of a line is a comment line
+-- a comment after an escaped newline at the end of a line is a comment line
 abbrev pub BehindEscape : Type 0
 BehindEscape =
     Row
@@ -139,7 +139,7 @@ BehindEscape =
 
 -- ---- brackets
 
--- a newline before an item, before a comma or before the closing bracket splits a sequence; a comma behind the last item is gone
+-- a newline before an item, before a comma or before the closing bracket splits a sequence; a comma after the last item is gone
 abbrev pub Split : Type 0
 Split =
     Row
@@ -162,8 +162,8 @@ EscapedNewlines =
     ∷ []) [])
     (calling [] (codes "f") true (plain c.Name (codes "a") ∷ []) ∷ calling [] (codes "g") false [] ∷ [])
 
--- Inside an item a comment goes above it; behind an opening bracket it goes above the item that begins next; behind the
--- last item it stands at the end.
+-- Inside an item a comment goes above it; after an opening bracket it goes above the item that begins next; after the
+-- last item it is at the end.
 abbrev pub Inside : Type 0
 Inside =
     Row
@@ -178,7 +178,7 @@ Inside =
     argument (with (codes "# n" ∷ []) None) (codes "name") (plain c.String (codes "\"a\""))
     ∷ argument no_comments (codes "deps") (sequence k.List [] true (token (with (codes "# why" ∷ []) None) c.String (codes "\":b\"") ∷ []) (codes "# end" ∷ [])) ∷ []) ∷ [])
 
--- a comment behind an item's comma is its suffix; before the comma it belongs to what follows
+-- a comment after an item's comma is its suffix; before the comma it belongs to what follows
 abbrev pub Commas : Type 0
 Commas =
     Row
@@ -188,7 +188,7 @@ Commas =
 
 -- ---- operators and comprehensions
 
--- an operator breaks where a newline stands before the operand behind it; the comment there goes above the statement
+-- an operator breaks where a newline is before the operand after it; the comment there goes above the statement
 abbrev pub Operand : Type 0
 Operand =
     Row
@@ -199,7 +199,7 @@ Operand =
     (assigning (codes "# why" ∷ []) None (codes "x")
     (row no_comments k.Paren false (plain c.Mark (codes "(") ∷ row no_comments k.Sum false (plain c.Name (codes "a") ∷ breaking c.Mark (codes "+") ∷ plain c.Name (codes "b") ∷ []) ∷ plain c.Mark (codes ")") ∷ [])) ∷ [])
 
--- or before the operator; the flag stands at its last token
+-- or before the operator; the flag is at its last token
 abbrev pub Words : Type 0
 Words =
     Row
@@ -208,7 +208,7 @@ Words =
     (statement [] None (row no_comments k.Paren false (
     plain c.Mark (codes "(") ∷ row no_comments k.Compare false (plain c.Name (codes "a") ∷ plain c.Keyword (codes "not") ∷ breaking c.Keyword (codes "in") ∷ plain c.Name (codes "b") ∷ []) ∷ plain c.Mark (codes ")") ∷ [])) ∷ [])
 
--- a comprehension is open where a newline stands right behind its bracket
+-- a comprehension is open where a newline is right after its bracket
 abbrev pub OpenedForms : Type 0
 OpenedForms =
     Row
@@ -222,7 +222,7 @@ OpenedForms =
 
 -- ---- counts
 
--- a comment in a group by itself, above a statement, before a comma, behind it, at the end of a sequence, behind the statement
+-- a comment in a group by itself, above a statement, before a comma, after it, at the end of a sequence, after the statement
 -- and at the end of the file
 abbrev everywhere : Node
 everywhere =
@@ -230,7 +230,7 @@ everywhere =
     node k.Bare (node k.Call (name (codes "# a\n\n# a\n") (codes "f") ∷ mark [] (codes "(") ∷ name [] (codes "x") ∷ mark (codes " # b\n") (codes ",") ∷ mark (codes " # a\n# a\n") (codes ")") ∷ []) ∷ [])
     ∷ []) (codes " # a") ∷ []) (codes "# a\n")
 
--- each stands in the file value as often as in the text
+-- each is in the file value as often as in the text
 abbrev pub CommentCounts : Type 0
 CommentCounts =
     (spell_node everywhere ≡ codes "# a\n\n# a\nf(x # b\n, # a\n# a\n) # a\n# a\n")

@@ -1,4 +1,4 @@
-//! What stands before a part of a tree.
+//! What is before a part of a tree.
 ghost use Rattle.std.specs.Prelude.{◌≡◌, ◌&&◌, map, drop};
 ghost use Rattle.bz_value.specs.Gaps.{has_newline};
 ghost use Rattle.bz_value.specs.Proper.{is_operator};
@@ -40,14 +40,14 @@ pub fn gap_of_last(parts: &[Part]) -> &[u8]
     }
 }
 
-/// Whether an unescaped newline stands before the part with this index.
+/// Whether an unescaped newline is before the part with this index.
 pub fn breaks_before(parts: &[Part], at: usize) -> bool
     ensures { result ≡ has_newline (first_seen_gap (map seen (drop at parts.now))) }
 {
     has_newline(gap_at(parts, at))
 }
 
-/// Whether an unescaped newline stands before a part from this index on.
+/// Whether an unescaped newline is before a part from this index on.
 pub fn breaks_from(parts: &[Part], from: usize) -> bool
     ensures { result ≡ is_split (map seen (drop from parts.now)) }
 {
@@ -69,7 +69,7 @@ fn is_operator(part: &Part) -> bool
     }
 }
 
-/// Whether the part is a token of an operator, where the row that it stands in is one of operands and operators.
+/// Whether the part is a token of an operator, where the row that it is in is one of operands and operators.
 pub fn is_operator_in(binary: bool, part: &Part) -> bool
     ensures { result ≡ (binary && is_operator (plain (seen part.now))) }
 {

@@ -13,7 +13,7 @@ use bz_value::{Comments, Expr, suffix_in};
 use std::alloc::{AllocError, Global};
 use std::mem;
 
-/// The expression with these comments above it, and the suffix that a gap behind it tells. The error: memory was refused.
+/// The expression with these comments above it, and the suffix that a gap after it tells. The error: memory was refused.
 pub(crate) fn commented(
     alloc: Global,
     expr: Expr,
@@ -22,7 +22,7 @@ pub(crate) fn commented(
 ) -> Result<Expr, Memory>
     ensures { IfOk result (λ host. host ≡ with_comments expr (record { before = above; suffix = suffix_told gap.now })) }
 {
-    // The expression is let go of by calls: by the end of its scope, each form of it would be a path of this proof.
+    // The expression is dropped by calls: by the end of its scope, each form of it would be a path of this proof.
     let suffix = match suffix_in(alloc, gap) {
         Ok(suffix) => suffix,
         Err(fault) => {
@@ -39,8 +39,8 @@ pub(crate) fn commented(
     }
 }
 
-/// Makes the last item a host: with these comments above it, and the suffix behind it, where this index is that of its comma or of
-/// the closing bracket. What stands above the next item, or at the end, is left `above` then. The error: memory was refused.
+/// Makes the last item a host: with these comments above it, and the suffix after it, where this index is that of its comma or of
+/// the closing bracket. What is above the next item, or at the end, is left `above` then. The error: memory was refused.
 pub(crate) fn comment_last(
     alloc: Global,
     parts: &[Part],

@@ -126,14 +126,14 @@ pub fn row_of(
     ensures loose { OnOk result (loose.new ≡ loose.old ++ loose_in (map seen parts.now)) }
 {
     let mut exprs = Vec::with_capacity(alloc, parts.len())?;
-    // the part before is a token of an operator, and a newline stands before that operator
+    // the part before is a token of an operator, and a newline is before that operator
     let mut operator = false;
     let mut newline = false;
     for (at, part) in parts.iter().enumerate() {
         push_gap(alloc, part, at, loose)?;
         let inside = operator;
         operator = is_operator_in(binary, part);
-        // what stands before an operand is not looked for: it can be deep in there
+        // what is before an operand is not looked for: it can be deep in there
         newline = operator && before_operator(parts, at, inside, newline);
         let break_ = breaks_behind(operator, newline, parts, at + 1);
         push_expr(alloc, part, break_, loose, &mut exprs)?;
@@ -181,8 +181,8 @@ fn push_loose(alloc: Global, part: &Part, loose: &mut Items<Text>) -> Result<(),
     }
 }
 
-/// Appends the item of a sequence with this index, behind which its comma or the closing bracket stands: a host with the comments
-/// that are left `above` it, with what is loose in it, and with its suffix. What stands above the next item, or at the end, is left
+/// Appends the item of a sequence with this index, after which its comma or the closing bracket is: a host with the comments
+/// that are left `above` it, with what is loose in it, and with its suffix. What is above the next item, or at the end, is left
 /// `above` then.
 #[cycle(seen)]
 fn push_host(
@@ -204,7 +204,7 @@ fn push_host(
     Ok(())
 }
 
-/// The sequence whose items stand from this index on, behind the opening bracket.
+/// The sequence whose items stand from this index on, after the opening bracket.
 #[cycle(seen)]
 pub fn seq_of(alloc: Global, parts: &[Part], from: usize) -> Result<Seq, Memory>
     requires { from ≤ 2 }

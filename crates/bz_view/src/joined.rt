@@ -1,4 +1,4 @@
-//! Where a text may be cut: behind a line, so that what follows is read and viewed by itself.
+//! Where a text may be cut: after a line, so that what follows is read and viewed by itself.
 ghost use Rattle.std.specs.Prelude.{◌≡◌, ◌∷◌, [], IsTrue};
 ghost use Rattle.bz_items.specs.Characters.{line_feed};
 ghost use Rattle.bz_lex.specs.declared.leaf.Leaf.{Leaf as Token};
@@ -45,7 +45,7 @@ fn is_bare_end(part: &Part) -> bool
     }
 }
 
-/// Whether the text of the tree ends with the newline of its last line, and leaves nothing to what follows: a text behind it is read
+/// Whether the text of the tree ends with the newline of its last line, and leaves nothing to what follows: a text after it is read
 /// and viewed by itself.
 pub fn ends_with_line(tree: &Tree) -> bool
     ensures { IsTrue result → EndsWithLine tree.now }

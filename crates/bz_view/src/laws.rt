@@ -7,7 +7,7 @@ ghost use Rattle.bz_view.specs.Worked.{WorkedViews};
 
 use bz_tree::laws::lines_join;
 
-/// Each comment of a legal tree stands in its file value as often as in the tree's gaps: none is lost or doubled.
+/// Each comment of a legal tree is in its file value as often as in the tree's gaps: none is lost or doubled.
 pub fn comments_kept()
     ensures { CommentsKept }
 {}
@@ -17,7 +17,7 @@ pub fn views_are_proper()
     ensures { ViewsAreProper }
 {}
 
-/// The view of a text behind one that ends with a line is its own, behind that of the other one; and that of no text is nothing.
+/// The view of a text after one that ends with a line is its own, after that of the other one; and that of no text is nothing.
 pub fn views_join()
     ensures joined { ViewsJoin }
     ensures empty { EmptyReads }
@@ -25,7 +25,7 @@ pub fn views_join()
     lines_join();
 }
 
-/// Worked rows of the view: for each a text, its tree, and the file value, or how often its comments stand in it.
+/// Worked rows of the view: for each a text, its tree, and the file value, or how often its comments occur in it.
 pub fn worked_views()
     ensures { WorkedViews }
 {}

@@ -18,7 +18,7 @@ fn is_quiet(gap: &[u8]) -> bool
     gap.iter().all(|byte| *byte != b'#')
 }
 
-/// Appends the comments of the gap before the part of a row with this index. What stands before its first part stands
+/// Appends the comments of the gap before the part of a row with this index. What is before its first part is
 /// outside.
 #[tactic(auto, using(crate::proofs::RowSteps::gap_pushed, crate::proofs::RowSteps::gap_outside, crate::proofs::UnsignedGaps::gap_quiet))]
 pub fn push_gap(
@@ -39,7 +39,7 @@ pub fn push_gap(
     push_all(alloc, gap, loose)
 }
 
-/// Whether an unescaped newline stands before the operator that the part with this index is: `newline`, where the part
+/// Whether an unescaped newline is before the operator that the part with this index is: `newline`, where the part
 /// before is a token of the same operator.
 pub fn before_operator(parts: &[Part], at: usize, inside: bool, newline: bool) -> bool
     ensures { result ≡ (if inside then newline else has_newline (first_seen_gap (map seen (drop at parts.now)))) }
@@ -51,23 +51,23 @@ pub fn before_operator(parts: &[Part], at: usize, inside: bool, newline: bool) -
     }
 }
 
-/// Whether a token of an operator breaks behind which the part with this index stands: it is the operator's last token,
-/// and a newline stands before the operator or before this part.
+/// Whether a token of an operator breaks after which the part with this index is: it is the operator's last token,
+/// and a newline is before the operator or before this part.
 pub fn breaks_behind(operator: bool, newline: bool, parts: &[Part], at: usize) -> bool
     ensures { result ≡ ((operator && not (begins_seen_operator (map seen (drop at parts.now)))) && (newline || has_newline (first_seen_gap (map seen (drop at parts.now))))) }
 {
     operator && !is_operator_at(parts, at) && (newline || breaks_before(parts, at))
 }
 
-/// Whether a comprehension of these parts is open: an unescaped newline stands right behind its bracket.
+/// Whether a comprehension of these parts is open: an unescaped newline is right after its bracket.
 pub fn opens(kind: Kind, parts: &[Part]) -> bool
     ensures { result ≡ (is_comprehension kind && is_open (map seen parts.now)) }
 {
     is_comprehension(kind) && breaks_before(parts, 1)
 }
 
-/// Behind an item of a sequence, where this index is that of its comma or of the closing bracket: the gap that its suffix
-/// stands in, behind its comma if it has one.
+/// After an item of a sequence, where this index is that of its comma or of the closing bracket: the gap that its suffix
+/// is in, after its comma if it has one.
 pub fn gap_behind(parts: &[Part], at: usize) -> &[u8]
     requires { at < length parts.now }
     ensures { suffix_in result.now ≡ suffix_behind (map seen (drop at parts.now)) }
@@ -79,7 +79,7 @@ pub fn gap_behind(parts: &[Part], at: usize) -> &[u8]
     gap_at(parts, at)
 }
 
-/// Behind an item of a sequence, where this index is that of its comma or of the closing bracket: the comments above the
+/// After an item of a sequence, where this index is that of its comma or of the closing bracket: the comments above the
 /// next item, or at the end. The error: memory was refused.
 pub fn above_next(alloc: Global, parts: &[Part], at: usize) -> Result<Items<Text>, Memory>
     requires { at < length parts.now }
@@ -96,8 +96,8 @@ pub fn above_next(alloc: Global, parts: &[Part], at: usize) -> Result<Items<Text
     Ok(above)
 }
 
-/// Behind an item of a sequence, where this index is that of its comma or of the closing bracket: whether it is seen at a glance that
-/// no comment stands before that and before what follows it.
+/// After an item of a sequence, where this index is that of its comma or of the closing bracket: whether it is seen at a glance that
+/// no comment is before that and before what follows it.
 pub fn is_quiet_behind(parts: &[Part], at: usize) -> bool
     requires { at < length parts.now }
     ensures { result ≡ (is_unsigned (first_seen_gap (map seen (drop at parts.now))) && is_unsigned (first_seen_gap (map seen (drop (at + 1) parts.now)))) }

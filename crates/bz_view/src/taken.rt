@@ -13,7 +13,7 @@ use bz_tree::{Part, Tree};
 use bz_value::{File, Item};
 use std::alloc::Global;
 
-/// The file value that `view` makes, of a tree that is given up: each line of it is let go as soon as its items are made, so
+/// The file value that `view` makes, of a tree that is given up: each line of it is dropped as soon as its items are made, so
 /// that the whole tree does not stand beside the whole value. The error: memory was refused.
 pub fn into_view(alloc: Global, tree: Tree) -> Result<File, Memory>
     ensures value { IfOk result (λ file. file ≡ view_of tree) }
@@ -25,7 +25,7 @@ pub fn into_view(alloc: Global, tree: Tree) -> Result<File, Memory>
     })
 }
 
-/// The items of the lines of a file and of its end, each of which is let go before the next one is looked at.
+/// The items of the lines of a file and of its end, each of which is dropped before the next one is looked at.
 fn into_items(alloc: Global, lines: Items<Part>) -> Result<Items<Item>, Memory>
     ensures { IfOk result (λ items. items ≡ file_items [] lines) }
 {
@@ -37,7 +37,7 @@ fn into_items(alloc: Global, lines: Items<Part>) -> Result<Items<Item>, Memory>
     Ok(items)
 }
 
-/// Appends the items of a line, or of the end, which is let go then, with the comment lines `left` before it. Returned: the gap
+/// Appends the items of a line, or of the end, which is dropped then, with the comment lines `left` before it. Returned: the gap
 /// whose lines stand before the next one. The error: memory was refused.
 fn push_last(
     alloc: Global,

@@ -40,7 +40,7 @@ fn items_of(alloc: Global, lines: &[Part]) -> Result<Items<Item>, Memory>
     Ok(items)
 }
 
-/// Appends the items of a line, or those of the end, where `left` is what the gap of the Newline before says behind its
+/// Appends the items of a line, or those of the end, where `left` is what the gap of the Newline before says after its
 /// first line. Returns the same of the line's own Newline.
 pub fn push_line<'a>(
     alloc: Global,
@@ -86,7 +86,7 @@ pub fn push_statements(
     Ok(())
 }
 
-/// Behind a statement, where this index is that of its semicolon or of the Newline: the gap that its suffix stands in, which
+/// After a statement, where this index is that of its semicolon or of the Newline: the gap that its suffix is in, which
 /// is that of the Newline. The suffix of another statement of the line is none, and so is what an empty gap says.
 fn suffix_gap(parts: &[Part], at: usize) -> &[u8]
     requires { at < length parts.now }

@@ -13,7 +13,7 @@ last_split [] last = refl
 last_split (word ∷ []) last = refl
 last_split (word ∷ next ∷ front) last = ap (option_map (λ parts. (word ∷ parts.0, parts.1))) (last_split (next ∷ front) last)
 
--- what the words of a comment say, by what stands before the last one and by the last one
+-- what the words of a comment say, by what is before the last one and by the last one
 abbrev pub said : List Bytes → Bytes → ReadCommand
 said front text = if is_one_line text then ok_or (option_map (λ host. w.Comment (wc.Add host text)) (host_of front)) Arguments else Err Arguments
 

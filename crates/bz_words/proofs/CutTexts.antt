@@ -7,7 +7,7 @@ use Rattle.std.proofs.lemmas.List.Sums.{fails_before_first}
 use Rattle.bz_items.specs.Characters.{Bytes}
 use Rattle.bz_words.specs.Commands.{cut_at}
 
--- the byte stands there, and at no place before it
+-- the byte is there, and at no place before it
 record StandsFirst (byte : ℕ) (text : Bytes) (at : ℕ) : Type 0 where
   pub within : at < length text
   pub here : (get_or text at 0 == byte) ≡ true

@@ -5,7 +5,7 @@ use Rattle.std.proofs.lemmas.List.{append-nil, drop_all}
 use Rattle.bz_items.specs.Characters.{Bytes}
 use Rattle.bz_words.specs.Commands.{each_of}
 
--- behind what is there already
+-- after what is there already
 abbrev pub with_front : {X : Type 0} → List X → Option (List X) → Option (List X)
 with_front front None = None
 with_front front (Some xs) = Some (front ++ xs)

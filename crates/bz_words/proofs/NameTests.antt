@@ -26,7 +26,7 @@ either false x y h = inr (refl, h)
 otherwise : (t x y : Bool) → t ≡ false → y ≡ true → (if t then x else y) ≡ true
 otherwise t x y e h = rw e h
 
--- EF and the two bytes behind it
+-- EF and the two bytes after it
 abbrev is_high_character : ℕ → ℕ → Bool
 is_high_character b c = is_high b && is_high c && not (b == 187 && c == 191)
 

@@ -11,12 +11,12 @@ use Rattle.bz_words.specs.Words.{pieces, begins_with_space, unescaped, is_nonemp
 abbrev pub unescaped_pieces : Bool → Bytes → List Bytes
 unescaped_pieces behind text = map unescaped (pieces behind text)
 
--- the first piece goes behind what is there of it
+-- the first piece goes after what is there of it
 abbrev pub joined : Bytes → List Bytes → List Bytes
 joined word [] = word ∷ []
 joined word (piece ∷ more) = (word ++ piece) ∷ more
 
--- the words of a text, whose first goes behind what is there of it
+-- the words of a text, whose first goes after what is there of it
 abbrev pub words_after : Bytes → Bool → Bytes → List Bytes
 words_after word behind text = filter is_nonempty (joined word (unescaped_pieces behind text))
 
@@ -41,7 +41,7 @@ map-filter (piece ∷ all) = rw (is_nonempty-unescaped piece) (elim (is_nonempty
     ≡ (if b then unescaped piece ∷ filter is_nonempty (map unescaped all) else filter is_nonempty (map unescaped all)))
     [ true ↦ ap (λ rest. unescaped piece ∷ rest) (map-filter all) | false ↦ map-filter all ])
 
--- there is a piece, so it goes behind nothing as it is
+-- there is a piece, so it goes after nothing as it is
 pub joined-onto_first : (word : Bytes) (byte : ℕ) (all : List Bytes) → joined word (onto_first byte all) ≡ joined (word ++ byte ∷ []) all
 joined-onto_first word byte [] = refl
 joined-onto_first word byte (piece ∷ more) = ap (λ first. first ∷ more) (sym (append_assoc word (byte ∷ []) piece))
@@ -57,7 +57,7 @@ joined-none behind (byte ∷ rest) = elim (byte == space && not behind)
     some [] = refl
     some (piece ∷ more) = refl
 
--- right behind a backslash no piece ends: the first one begins as the text does
+-- right after a backslash no piece ends: the first one begins as the text does
 first-behind : (text : Bytes) → begins_with_space (first_of (pieces true text)) ≡ begins_with_space text
 first-behind [] = refl
 first-behind (byte ∷ rest) = elim (byte == space)
@@ -125,7 +125,7 @@ words_at_byte word behind byte rest e h =
 pub words_end : (word : Bytes) (behind : Bool) → words_after word behind [] ≡ filter is_nonempty (word ∷ [])
 words_end word behind = ap (λ w. filter is_nonempty (w ∷ [])) (append-nil word)
 
--- ---- one turn of the loop over the bytes: what stands so far, and what is left
+-- ---- one turn of the loop over the bytes: what is so far, and what is left
 
 pub onward : (word left split_text : Bytes) (behind : Bool) (full later words : List Bytes)
     → words ++ words_after word behind left ≡ full → left ≡ split_text → words_after word behind split_text ≡ later → words ++ later ≡ full

@@ -67,7 +67,7 @@ two_words_proper operation make (attribute ∷ first ∷ second ∷ []) u =
     made_proper AreAttributes (λ attributes. operation attributes first second) (c.attributes_of attribute) (attributes_proper attribute u.0) (λ attributes a. make attributes first second a u.1.0 u.1.1.0)
 two_words_proper operation make (attribute ∷ first ∷ second ∷ more ∷ words) u = tt
 
--- the word behind the attributes
+-- the word after the attributes
 pub first_utf8 : (words : List Bytes) (attributes : Attributes) (first second : Bytes) → AreUtf8 words
     → ((operation : Attributes → Bytes → Bytes → Operation) → c.attributes_words_of operation words ≡ Ok (operation attributes first second)) → IsUtf8 first
 first_utf8 words attributes first second u told =

@@ -48,7 +48,7 @@ quoted_plain word h = rw (plain_text word h) refl
 
 -- ---- the loop that writes a word between quotation marks
 
--- one byte more, which is read at any `d` behind the word
+-- one byte more, which is read at any `d` after the word
 pub quoted_turn : (word : Bytes) (at d : ℕ) (before after : Bytes) → at < length word → before ≡ quotation_mark ∷ flat_map escaped (take at word) → after ≡ before ++ escaped (get_or word at d)
     → after ≡ quotation_mark ∷ flat_map escaped (take (at + 1) word)
 quoted_turn word at d before after within so_far more =
@@ -58,7 +58,7 @@ quoted_turn word at d before after within so_far more =
     ap (flat_map escaped) (take_more word at d within) ∙ (flat_map-append escaped (take at word) (byte ∷ []) ∙ ap (λ (t : Bytes). front ++ t) (append-nil (escaped byte))) in
     more ∙ (ap (λ (t : Bytes). t ++ escaped byte) so_far ∙ ap (λ (t : Bytes). quotation_mark ∷ t) (sym next))
 
--- the mark behind the whole word
+-- the mark after the whole word
 pub quoted_end : (word : Bytes) (at : ℕ) (before after : Bytes) → length word ≤ at → before ≡ quotation_mark ∷ flat_map escaped (take at word) → after ≡ before ++ quotation_mark ∷ [] → after ≡ quoted_of word
 quoted_end word at before after behind so_far more =
     more ∙ ap (λ (t : Bytes). t ++ quotation_mark ∷ []) (so_far ∙ ap (λ (t : Bytes). quotation_mark ∷ flat_map escaped t) (take_all at word behind))

@@ -85,7 +85,7 @@ behind_cut separator (c ∷ t) h = either _ (found (dropped (length separator) (
     moved None k = never
     moved (Some p) k = found k.holds
 
--- ---- facts of what is read, and of the characters behind it
+-- ---- facts of what is read, and of the characters after it
 
 by_test : {A : Type 0} {P : A → Type 0} (b : Bool) {x y : Option A} → (b ≡ true → Always P x) → Always P y → Always P (if b then x else y)
 by_test true h i = h refl
@@ -126,7 +126,7 @@ after_char o = after
 low_char : (c : ℕ) → is_ascii c ≡ true → IsChar c
 low_char c h = record { scalar = grind (arith, nat_tests) }
 
--- a count, and the number behind it
+-- a count, and the number after it
 abbrev BehindIsChars : ℕ × Option ℕ × Text → Type 0
 BehindIsChars p = AreChars p.2
 

@@ -28,7 +28,7 @@ beside_ascii front byte rest h u =
       subst IsUtf8 past (IsUtf8-drop all (length front + 1) u (IsCharBoundary-after_ascii all (length front) u (omega arith) (omega arith))),
     )
 
--- two texts, the first of which goes behind a front
+-- two texts, the first of which goes after a front
 abbrev pub AreBehind : Bytes → Bytes × Bytes → Type 0
 AreBehind front parts = IsUtf8 (front ++ parts.0) × IsUtf8 parts.1
 

@@ -77,7 +77,7 @@ abbrev pub attributes_words_of : (Attributes → Bytes → Bytes → Operation) 
 attributes_words_of operation (attribute ∷ first ∷ second ∷ []) = ok_or (option_map (λ attributes. operation attributes first second) (attributes_of attribute)) Arguments
 attributes_words_of operation _ = Err Arguments
 
--- ---- what each command reads in the words behind its name
+-- ---- what each command reads in the words after its name
 
 -- new KIND NAME [before|after RULE]
 abbrev pub new_of : List Bytes → ReadCommand
@@ -144,7 +144,7 @@ copy_of words = attribute_word_of (λ attribute rule. w.Attribute (wa.Copy attri
 abbrev pub copy_no_overwrite_of : List Bytes → ReadCommand
 copy_no_overwrite_of words = attribute_word_of (λ attribute rule. w.Attribute (wa.CopyNoOverwrite attribute rule)) words
 
--- what stands before the first such byte, and what stands behind it
+-- what is before the first such byte, and what is after it
 abbrev pub cut_at : ℕ → Bytes → Option (Bytes × Bytes)
 cut_at byte [] = None
 cut_at byte (first ∷ rest) = if first == byte then Some ([], rest) else option_map (λ parts. (first ∷ parts.0, parts.1)) (cut_at byte rest)
@@ -196,7 +196,7 @@ host_of (attribute ∷ []) = if is_identifier attribute then Some (h.Attribute a
 host_of (attribute ∷ value ∷ []) = if is_identifier attribute then Some (h.Item attribute value) else None
 host_of _ = None
 
--- what stands before the last word, and the last word
+-- what is before the last word, and the last word
 abbrev pub split_last : List Bytes → Option (List Bytes × Bytes)
 split_last [] = None
 split_last (word ∷ []) = Some ([], word)

@@ -1,10 +1,10 @@
--- The words of a text: runs of spaces separate them; a space right behind a backslash belongs to the word and the backslash
+-- The words of a text: runs of spaces separate them; a space right after a backslash belongs to the word and the backslash
 -- goes; other backslashes stay.
 use Rattle.std.specs.Prelude.{◌==◌, List, [], ◌∷◌, map, filter, Bool, true, false, if◌then◌else◌, ◌&&◌, not}
 use Rattle.std.specs.List.{onto_first}
 use Rattle.bz_items.specs.Characters.{Bytes, backslash, space}
 
--- The pieces between the spaces that have no backslash right before them. The flag: a backslash stands right before the text.
+-- The pieces between the spaces that have no backslash right before them. The flag: a backslash is right before the text.
 abbrev pub pieces : Bool → Bytes → List Bytes
 pieces behind_backslash [] = [] ∷ []
 pieces behind_backslash (byte ∷ rest) =
@@ -19,11 +19,11 @@ abbrev pub unescaped : Bytes → Bytes
 unescaped [] = []
 unescaped (byte ∷ rest) = if byte == backslash && begins_with_space rest then unescaped rest else byte ∷ unescaped rest
 
--- whether something stands there
+-- whether something is there
 abbrev pub is_nonempty : {A : Type 0} → List A → Bool
 is_nonempty [] = false
 is_nonempty (_ ∷ _) = true
 
--- between two spaces of a run, and at an end of the text, stands no word
+-- between two spaces of a run, and at an end of the text, is no word
 abbrev pub words_of : Bytes → List Bytes
 words_of text = map unescaped (filter is_nonempty (pieces false text))

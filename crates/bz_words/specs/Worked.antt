@@ -24,9 +24,9 @@ use Rattle.bz_words.specs.declared.fault.CommandFault.TheVariants.{Unknown, Argu
 
 abbrev pub WorkedWords : Type 0
 WorkedWords =
-    -- a run of spaces; a space right behind a backslash; another backslash; a space at the end
+    -- a run of spaces; a space right after a backslash; another backslash; a space at the end
     (words_of (codes "a\\ b  c\\d ") ≡ codes "a b" ∷ codes "c\\d" ∷ [])
-    -- the second space stands behind a space
+    -- the second space is after a space
     × (words_of (codes "a\\  b") ≡ codes "a " ∷ codes "b" ∷ [])
     -- the second backslash goes
     × (words_of (codes "a\\\\ b") ≡ codes "a\\ b" ∷ [])
@@ -36,7 +36,7 @@ abbrev pub WorkedIdentifiers : Type 0
 WorkedIdentifiers =
     (is_identifier (codes "_a1") ≡ true) × (is_identifier (codes "1a") ≡ false) × (is_identifier (codes "a-b") ≡ false)
     × (is_identifier (codes "in") ≡ false) × (is_identifier [] ≡ false)
-    -- U+00E9, U+FF21, and U+FEFF behind a letter
+    -- U+00E9, U+FF21, and U+FEFF after a letter
     × (is_identifier (195 ∷ 169 ∷ []) ≡ true) × (is_identifier (239 ∷ 188 ∷ 161 ∷ []) ≡ true)
     × (is_identifier (97 ∷ 239 ∷ 187 ∷ 191 ∷ []) ≡ false)
     × (is_rule_kind (codes "a.b.c") ≡ true) × (is_rule_kind (codes "a") ≡ true) × (is_rule_kind (codes "a..b") ≡ false)

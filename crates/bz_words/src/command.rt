@@ -37,7 +37,7 @@ impl Command {
 }
 
 /// What is done to the rules that a target means, in groups by what the commands work on. Attributes, kinds and values are
-/// as they are written: no value is shortened yet, and none stands in quotation marks.
+/// as they are written: no value is shortened yet, and none is in quotation marks.
 #[derive(Debug, Drop)]
 pub enum Operation {
     /// On rules as a whole.
@@ -187,7 +187,7 @@ pub enum RulePlace {
     End,
     /// Right before the first rule of this name.
     Before(Text),
-    /// Right behind the first rule of this name.
+    /// Right after the first rule of this name.
     After(Text),
 }
 
@@ -237,7 +237,7 @@ pub enum Host {
 /// What `fix` mends.
 #[derive(Clone, Copy, Debug)]
 pub struct Fixes {
-    /// The first rule of kind `package` goes behind the loads.
+    /// The first rule of kind `package` goes after the loads.
     pub move_package_to_top: bool,
     /// Symbols that nothing uses are loaded no more.
     pub unused_loads: bool,

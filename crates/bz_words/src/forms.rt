@@ -34,7 +34,7 @@ pub(crate) fn given(holds: bool, operation: Operation) -> Read
     if holds {
         return Ok(operation);
     }
-    // By a call: let go of here, each form of it would be a path of this function's proof.
+    // By a call: dropped here, each form of it would be a path of this function's proof.
     drop(operation);
     Err(CommandFault::Arguments)
 }
@@ -92,7 +92,7 @@ pub(crate) fn has_values(words: &[Text]) -> bool
     !words.is_empty()
 }
 
-/// The attribute and the word behind it. The error: `Arguments`: the words have another form.
+/// The attribute and the word after it. The error: `Arguments`: the words have another form.
 pub(crate) fn attribute_and_word(mut words: Vec<Text>) -> Result<(Text, Text), CommandFault>
     ensures ok { IfOk result (λ parts. (operation : Bytes → Bytes → OperationIn) → c.attribute_word_of operation words.items ≡ Ok (operation parts.0 parts.1)) }
     ensures err { IfErr result (λ fault. (operation : Bytes → Bytes → OperationIn) → c.attribute_word_of operation words.items ≡ Err fault) }
@@ -121,7 +121,7 @@ pub(crate) fn attribute_and_values(
     }
 }
 
-/// The attributes and the two words behind them. The error: `Arguments`: the words have another form.
+/// The attributes and the two words after them. The error: `Arguments`: the words have another form.
 pub(crate) fn attributes_and_words(
     mut words: Vec<Text>,
 ) -> Result<(Attributes, Text, Text), CommandFault>
@@ -171,14 +171,14 @@ pub(crate) fn each<X: FromWord + Drop>(
     Ok(Items::from_vec(all))
 }
 
-/// Where the first such byte stands.
+/// Where the first such byte is.
 fn place(word: &[u8], byte: u8) -> Option<usize>
     ensures { result ≡ position (λ each. each == byte) word.now }
 {
     word.iter().position(|each| *each == byte)
 }
 
-/// What stands before the first such byte, and what stands behind it.
+/// What is before the first such byte, and what is after it.
 pub(crate) fn cut(word: &[u8], byte: u8) -> Option<(&[u8], &[u8])>
     ensures { MatchOption result (c.cut_at byte word.now ≡ None) (λ parts. c.cut_at byte word.now ≡ Some (parts.0.now, parts.1.now)) }
 {

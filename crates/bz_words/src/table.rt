@@ -1,4 +1,4 @@
-//! The table of commands, and what each reads in the words behind its name.
+//! The table of commands, and what each reads in the words after its name.
 ghost use Rattle.std.specs.Prelude.{◌≡◌, ◌⊎◌, ◌∷◌, true, false, bytes_eq, Ok, Err, IfOk, IfErr, map, option_map};
 ghost use Rattle.std.specs.List.{list_any};
 ghost use Rattle.bz_words.specs.Commands as c;
@@ -22,7 +22,7 @@ use crate::words::read_words;
 use bz_items::Text;
 use std::alloc::Global;
 
-// Hands the table to another macro: the name of each command, what reads the words behind it, and the forms that these have.
+// Hands the table to another macro: the name of each command, what reads the words after it, and the forms that these have.
 macro_rules! commands {
     ($with:ident $($argument:ident)*) => {
         $with!(
@@ -109,7 +109,7 @@ fn is_command(name: &str) -> bool
     is_among(name, COMMAND_NAMES)
 }
 
-// What the command of this name reads in the words behind it.
+// What the command of this name reads in the words after it.
 #[tactic(auto, using(crate::proofs::Named::by_name))]
 fn read_named(name: &str, words: Vec<Text>) -> Read
     requires { AreUtf8 words.items }
@@ -158,7 +158,7 @@ impl Command {
         Ok(Command { operation })
     }
 
-    /// The command of a text: its words are separated by runs of spaces, where a space right behind a backslash belongs
+    /// The command of a text: its words are separated by runs of spaces, where a space right after a backslash belongs
     /// to the word and the backslash goes. The errors, in this order: `Unknown`: the first word is no command's name, or
     /// there is none; `Arguments`: the text is longer than 65,536 bytes, or the further words don't have the command's form;
     /// `BadPattern`: `regex` refuses the pattern of `substitute`; at any time `Memory`: a growth was refused.

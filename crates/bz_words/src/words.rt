@@ -8,7 +8,7 @@ use bz_items::{Memory, Text};
 use std::alloc::Global;
 use std::mem;
 
-// A word goes behind the others, where it is not empty.
+// A word goes after the others, where it is not empty.
 fn close(words: &mut Vec<Text>, word: Vec<u8>) -> Result<(), Memory>
     ensures { OnOk result (words.new.items ≡ words.old.items ++ filter is_nonempty (word.items ∷ [])) }
 {
@@ -18,7 +18,7 @@ fn close(words: &mut Vec<Text>, word: Vec<u8>) -> Result<(), Memory>
     Ok(())
 }
 
-// A space separates, unless a backslash stands right before it.
+// A space separates, unless a backslash is right before it.
 fn is_separating(byte: u8, behind_backslash: bool) -> bool
     ensures { result ≡ (byte == space && not behind_backslash) }
 {
@@ -32,7 +32,7 @@ fn is_dropped(byte: u8, rest: &[u8]) -> bool
     byte == b'\\' && rest.first() == Some(&b' ')
 }
 
-/// The words of a text: runs of spaces separate them; a space right behind a backslash belongs to the word and the
+/// The words of a text: runs of spaces separate them; a space right after a backslash belongs to the word and the
 /// backslash goes; other backslashes stay. The error: a growth was refused.
 pub fn read_words(alloc: Global, text: &[u8]) -> Result<Vec<Text>, Memory>
     ensures words { IfOk result (λ words. words.items ≡ words_of text.now) }

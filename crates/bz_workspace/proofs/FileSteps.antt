@@ -40,7 +40,7 @@ file_in [] place there default same is = absurd (true≢false (sym is))
 file_in (one ∷ more) zero there default same is = ap (λ (x : Used). option_map opened_in x.file) (sym same)
 file_in (one ∷ more) (suc place) there default same is = file_in more place there default same is
 
--- the file of a package, by what stands in the list
+-- the file of a package, by what is in the list
 abbrev file_of : Option Used → Option p.Opened
 file_of None = None
 file_of (Some one) = option_map opened_in one.file

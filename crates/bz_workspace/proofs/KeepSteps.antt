@@ -1,4 +1,4 @@
--- A file behind an action that was kept, or not.
+-- A file after an action that was kept, or not.
 use Rattle.std.proofs.Common.{◌≡◌, ◌∙◌, ◌||◌, ℕ, Bool, not, true, Result, Ok, Err, ap}
 use Rattle.std.specs.Prelude.{◌==◌, IfErr}
 use Rattle.bz_journal.specs.declared.action.Reply.{Reply}

@@ -6,7 +6,7 @@ use Rattle.bz_files.specs.Folder.{new_name}
 use Rattle.bz_keep.specs.Pair.{journal_name}
 use Rattle.bz_workspace.specs.Found.{in_package, first_name, second_name, IsNameOf, PackagesAreApart}
 
--- what stands before the name in the folder of a package
+-- what is before the name in the folder of a package
 abbrev front : Bytes → Bytes
 front [] = []
 front (first ∷ rest) = (first ∷ rest) ++ codes "/"

@@ -23,7 +23,7 @@ use Rattle.bz_workspace.specs.Packages.{Opened, Used, opened_with, with_opened}
 abbrev pub StandsAt : Bytes → Bytes → History → ℕ → Type 0
 StandsAt bytes text h at = ((es : List (List Edit)) × Journal bytes h es) × (stands h text ≡ Some at)
 
--- What comes of a journal for a file of this package that holds this text: the history that goes on at the number where it stands
+-- What comes of a journal for a file of this package that holds this text: the history that goes on at the number where it is
 -- for the text; or why none does: the journal names another version, it stands nowhere for the text, or it is the journal of another
 -- package, or none at all.
 abbrev pub JournalGives : Bytes → Bytes → Bytes → Result History ResumeFault → Type 0

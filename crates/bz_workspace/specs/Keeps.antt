@@ -52,7 +52,7 @@ pub record KeepsFile {F : Type 0} (files : FilesOf F) (name : Bytes) (before aft
   pub count : files.faults old ≤ files.faults new
   pub honest : files.honest new ≡ files.honest old
 
--- the file behind an answer that left it this history: its pair was written where the present text is another one, and it is left
+-- the file after an answer that left it this history: its pair was written where the present text is another one, and it is left
 -- alone from then on where the pair could not be written
 abbrev pub after_keeping : Result Reply KeepFault → History → Opened → Opened
 after_keeping (Ok reply) after file = record file { history = after; written = file.written || not (after.cursor == file.history.cursor) }

@@ -189,7 +189,7 @@ pub(crate) fn fail<E: Sink>(err: &mut E, name: &str, word: &str, cut: Cut) -> Op
     without_file(cut)
 }
 
-/// Tells why a journal is refused, and behind that what may be done; no file is open.
+/// Tells why a journal is refused, and after that what may be done; no file is open.
 pub(crate) fn unresumed<E: Sink>(err: &mut E, journal: &str, fault: &ResumeFault) -> Opening
     ensures place { result.place ≡ None }
     ensures whole { result.cut ≡ Cut.Whole → fault.now ≢ ResumeFault.Memory }

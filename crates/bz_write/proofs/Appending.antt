@@ -1,4 +1,4 @@
--- Items behind others.
+-- Items after others.
 use Rattle.std.proofs.Common.{ℕ, zero, suc, max, ◌≤◌, ◌≡◌, List, [], ◌∷◌, ◌++◌, refl, sym, ap, ◌∙◌, subst, append_assoc, append-nil, arith}
 use Rattle.bz_items.specs.Characters.{Bytes}
 use Rattle.bz_tree.specs.Spell.{depth_of}

@@ -1,4 +1,4 @@
--- What is drawn of a value is as deep as the value says.
+-- What is laid out of a value is as deep as the value says.
 use Rattle.std.proofs.Common.{ℕ, suc, max, Bool, true, false, not, ◌&&◌, ◌≡◌, ◌<◌, List, [], ◌∷◌, ◌++◌, ◌+◌, if◌then◌else◌, length, get_or, drop, map, refl, ap, ◌∙◌, arith}
 use Rattle.std.specs.Prelude.{Option, None, nat_eq}
 use Rattle.std.proofs.lemmas.List.{drop_more}
@@ -25,7 +25,7 @@ use Rattle.bz_write.proofs.Made.{parts_row, items_row, parts_of_row, items_of_ro
 abbrev pub Drawing : Type 0
 Drawing = Expr × (Bytes → ℕ → Part)
 
--- what is drawn of each expression is as deep as it says
+-- what is laid out of each expression is as deep as it says
 abbrev pub AsDeep : List Drawing → Type 0
 AsDeep [] = Unit {0}
 AsDeep (x ∷ xs) = ((gap : Bytes) (m : ℕ) → depth_part (x.1 gap m) ≡ depth_expr x.0) × AsDeep xs

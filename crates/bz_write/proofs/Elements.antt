@@ -1,5 +1,5 @@
--- What a part of a node is, told by its neighbours in the shape: the items of sequences, what stands before a bracket, and
--- what stands in a comprehension.
+-- What a part of a node is, told by its neighbours in the shape: the items of sequences, what is before a bracket, and
+-- what is in a comprehension.
 use Rattle.std.proofs.Common.{◌≡◌, ℕ, Bool, true, false, not, ◌||◌, List, [], ◌∷◌, ◌++◌, inl, inr, Some, None, refl, sym, subst, codes}
 use Rattle.std.specs.List.{AllByRecursion}
 use Rattle.std.proofs.lemmas.Bool.{and_parts, or_cases, both_ways, not-true}
@@ -80,7 +80,7 @@ behind_head : (x : Part) (ps : List Part) (m : Part) (rest : List Part) → Link
 behind_head x [] m rest h = h.1
 behind_head x (y ∷ ps) m rest h = behind_head y ps m rest h.1
 
--- the items between brackets in a row, with what stands behind the last comma
+-- the items between brackets in a row, with what is after the last comma
 pub enclosed_values : (r : Shape) → passes before_comma any_last None r ≡ true → (o : ℕ) (parts items rest : List Part) → Fits IsSort r (parts ++ (mark_leaf o ∷ (each_with_comma items ++ rest))) → AreValues items
 enclosed_values r t o [] items rest h = item_values (mark_leaf o) items rest (links before_comma any_last r None (mark_leaf o) tt t (mark_leaf o ∷ (each_with_comma items ++ rest)) h)
 enclosed_values r t o (x ∷ parts) items rest h =

@@ -17,7 +17,7 @@ use Rattle.bz_write.specs.Written.{is_load, is_load_kind, is_assign, is_assign_k
 use Rattle.bz_write.specs.Drawn.{line_part, before_next, lines_from}
 use Rattle.bz_write.specs.Marks.{marked_places, marked_lines}
 
--- ---- what stands between items stays
+-- ---- what is between items stays
 
 apart_above : (a b c d e : Bool) → a ≡ false → c ≡ false → (if ((a && b) || (c && d)) && e then [] else (line_feed ∷ [])) ≡ line_feed ∷ []
 apart_above a b c d e f g = rw (f, g) refl
@@ -68,7 +68,7 @@ same_next m _ x y _ _ g h = absurd h
 
 -- ---- the lines
 
--- the line of a statement put in the place of another, behind so many parts
+-- the line of a statement put in the place of another, after this many parts
 one_put : (front : List Part) (old new : Part) (rest : List Part) (place : ℕ) → length front ≡ place → set (front ++ old ∷ rest) place new ≡ (front ++ new ∷ []) ++ rest
 one_put front old new rest place e = set_at front old rest new place e ∙ sym (append_assoc front (new ∷ []) rest)
 

@@ -1,4 +1,4 @@
--- Of what is drawn of an expression only the first leaf may begin a line: where its gap is flush, all leaves stand as they
+-- Of what is laid out of an expression only the first leaf may begin a line: where its gap is flush, all leaves stand as they
 -- stand in a BUILD file.
 use Rattle.std.proofs.Common.{◌≡◌, true, false, List, [], ◌∷◌, ◌++◌, refl, sym, ◌∙◌}
 use Rattle.bz_token.specs.declared.class.Class.{Class}
@@ -30,7 +30,7 @@ placed_stands here l f h = build_gap l.class here l.gap (lexeme_in_line l.class 
 no_begin : (here : Spot) (l : Leaf) → is_begins here ≡ false → is_begins here ≡ true → is_flush l.gap ≡ true
 no_begin here l n e = no_such (sym n ∙ e)
 
--- no line begins behind a part
+-- no line begins after a part
 part_goes_on : (outer here : Spot) (x : Part) → Airy x → AtLeaves Placed here x → is_begins (behind_part outer here x) ≡ false
 part_goes_on outer here (p.Leaf l) a h = token_goes_on l.class l.token outer here (lexeme_in_line l.class l.token h.lexeme)
 part_goes_on outer here (Node' kind z r) a h = node_goes_on kind here a.0

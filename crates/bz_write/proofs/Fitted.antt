@@ -101,7 +101,7 @@ sees_no_gap (t ∷ ts) class gap gap' text =
 leaf_same : (class : Class) (gap gap' text : Bytes) → Same (p.Leaf (record { class = class; gap = gap; token = text })) (p.Leaf (record { class = class; gap = gap'; token = text }))
 leaf_same class gap gap' text = record { sort = λ a. sees_no_gap (leaves_at a) class gap gap' text; token = λ ts. sees_no_gap ts class gap gap' text }
 
--- what is drawn of an expression is its root
+-- what is laid out of an expression is its root
 pub root_same : (x : Expr) (gap : Bytes) (m : ℕ) → Same (root x) (part_of x gap m)
 root_same (Token t) gap m = leaf_same t.class [] gap t.text
 root_same (Form' kind z parts z' items end_ split open_ comments) gap m = record { sort = λ a. refl; token = λ ts. refl }
@@ -122,7 +122,7 @@ abbrev pub rooted : List Child → List Part
 rooted [] = []
 rooted (x ∷ xs) = root x.0 ∷ rooted xs
 
--- it is drawn as its root
+-- it is laid out as its root
 abbrev pub IsRooted : Child → Type 0
 IsRooted x = (gap : Bytes) (m : ℕ) → Same (root x.0) (x.1 gap m)
 

@@ -167,7 +167,7 @@ mutual
   texts_flags n end_of-Expr = refl
   texts_flags n (more_of-Expr x rest) = two (λ t ts. (with_flags x, t) ∷ ts) (text_flags x) (texts_flags _ rest)
 
--- ---- what is drawn of an expression
+-- ---- what is laid out of an expression
 
 parts_values : (m : _) (r : Row_of-Expr m) → items-the_row-Expr m r ≡ firsts (parts_of r)
 parts_values m end_of-Expr = refl

@@ -27,7 +27,7 @@ comments_told (text ∷ texts) = ap (λ z. text ∷ z) (comments_told texts)
 abbrev pub OneLine : Bytes → Type 0
 OneLine w = AllByRecursion (λ c. c ≢ line_feed) w
 
--- behind its sign a comment has no newline
+-- after its sign a comment has no newline
 pub words_of : (text : Bytes) (h : IsComment text) → OneLine h.begins.0
 words_of text h = let own : OneLine (number_sign ∷ h.begins.0) = subst (λ z. OneLine z) h.begins.1 (recursion_from_All (λ (c : ℕ). c ≢ line_feed) text h.one_line) in own.1
 
@@ -70,7 +70,7 @@ lines_above m [] h = refl
 lines_above m (text ∷ texts) h =
     comment_line text (replicate m space ++ margin_lines m texts) h.0 ∙ ap (λ z. ended_line (Some text) ∷ z) (spaces_skipped m (margin_lines m texts) ∙ lines_above m texts h.1)
 
--- a gap that goes on with a new line, behind a suffix
+-- a gap that goes on with a new line, after a suffix
 suffix_first : (suffix : Option Bytes) (rest : Bytes) → MaybeComment suffix → lines_of (suffix_text suffix ++ (line_feed ∷ rest)) ≡ ended_line suffix ∷ lines_of rest
 suffix_first None rest h = refl
 suffix_first (Some text) rest h = comment_line text rest h

@@ -1,5 +1,5 @@
--- A sequence that fits with a comma behind each item fits without the last comma, but for a tuple of one; and at most one
--- part stands before its bracket.
+-- A sequence that fits with a comma after each item fits without the last comma, but for a tuple of one; and at most one
+-- part is before its bracket.
 use Rattle.std.proofs.Common.{◌≡◌, Bool, true, false, not, ◌&&◌, List, [], ◌∷◌, ◌++◌, inl, inr, if◌then◌else◌, length, refl, sym, subst, append-nil}
 use Rattle.std.specs.Prelude.{nat_eq}
 use Rattle.std.proofs.lemmas.Bool.{both_ways}
@@ -20,12 +20,12 @@ use Rattle.bz_value.specs.Empty.{is_empty}
 use Rattle.bz_write.proofs.Neighbours.{T}
 use Rattle.bz_write.proofs.Elements.{none_is}
 
--- the items with commas between them, one behind the last where `one`, and then the closing bracket
+-- the items with commas between them, one after the last where `one`, and then the closing bracket
 abbrev pub without_last : Bool → Part → List Part → List Part
 without_last one e [] = e ∷ []
 without_last one e (x ∷ xs) = x ∷ ((if is_empty xs && not one then [] else (mark_leaf comma ∷ [])) ++ without_last false e xs)
 
--- What may be enclosed and has the shape r behind it, which no comma begins. (e: the closing bracket; rest: what stands behind it)
+-- What may be enclosed and has the shape r after it, which no comma begins. (e: the closing bracket; rest: what is after it)
 module _ (a : Sort) (close : List Terminal) (r : Shape) (e : Part) (rest : List Part)
     (no_comma : has_token close (mark_leaf comma) ≡ false) (no_item : has_sort a e ≡ false) (no_more : (xs : List Part) → Fits IsSort r (mark_leaf comma ∷ xs) → ⊥) where
   abbrev Closed : List Part → Type 0
@@ -53,7 +53,7 @@ abbrev pub row_joined : Frame → Bool → List Part → List Part → List Part
 row_joined row one parts xs = parts
 row_joined (sequence opener closer) one parts xs = parts ++ (mark_leaf opener ∷ without_last one (mark_leaf closer) xs)
 
--- what stands behind the bracket of a load, and of a tuple
+-- what is after the bracket of a load, and of a tuple
 abbrev loads : Shape
 loads = s.tok s.string (s.alt (s.tok s.close_round s.done) (s.tok s.comma_mark (items s.loaded s.close_round)))
 
@@ -136,7 +136,7 @@ build_sequences k.List h = refl
 build_sequences k.Dict h = refl
 build_sequences _ h = no_such h
 
--- ---- what stands before the bracket
+-- ---- what is before the bracket
 
 abbrev pub AtMostOne : {X : Type 0} → List X → Type 0
 AtMostOne [] = Unit {0}

@@ -198,7 +198,7 @@ lines_stand (i.Stmt x ∷ xs) h gap g =
       coded = all_joined IsCodedLeaf (leaves_part (line_part gap x)) rest here.coded more.coded;
     }
 
--- what is drawn of a proper file value is legal, where it is not too deep
+-- what is laid out of a proper file value is legal, where it is not too deep
 pub drawn_legal : (items : List Item) → IsProper items → depth_of (drawn items) ≤ depth_limit → Legal (drawn items)
 drawn_legal items h d =
     let lines : AreLines (lines_from [] items) = lines_stand items (recursion_from_All IsProperItem items h) [] first_nothing in

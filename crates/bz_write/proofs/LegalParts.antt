@@ -1,4 +1,4 @@
--- What the layout draws of a proper expression has legal shapes, stands apart where it must, and begins with the gap that it
+-- What the layout draws of a proper expression has legal shapes, is apart where it must, and begins with the gap that it
 -- is given.
 use Rattle.std.proofs.Common.{◌≡◌, ℕ, Bool, true, false, not, ◌&&◌, ◌+◌, List, [], ◌∷◌, ◌++◌, Option, None, if◌then◌else◌, length, refl, sym, ap, subst, map}
 use Rattle.std.specs.Prelude.{nat_eq}
@@ -107,7 +107,7 @@ some_parts (sequence opener closer) kind parts items h = tt
 
 -- ---- a form of good parts
 
--- what is drawn of a child has shapes of a grammar and stands apart, behind its gap, and is its root
+-- what is laid out of a child has shapes of a grammar and is apart, after its gap, and is its root
 pub record IsGood (grammar : Kind → Shape) (x : Child) : Type 0 where
   pub stands : IsBehind x
   pub legal : (gap : Bytes) (m : ℕ) → LegalBy grammar (x.1 gap m)

@@ -52,7 +52,7 @@ form_unbroken (Form' kind s parts s' items end_ split open_ comments) h = refl
 
 -- ---- items
 
--- what stands behind a statement
+-- what is after a statement
 record Between (gap : Bytes) : Type 0 where
   ls : List GapLine
   lines : AreLines gap ls
@@ -67,7 +67,7 @@ behind_statement x [] = if_blank true
 behind_statement x (i.Block texts ∷ ys) = if_blank false
 behind_statement x (i.Stmt y ∷ ys) = if_blank _
 
--- the statement of a line, the Blocks before it, and what stands behind the line
+-- the statement of a line, the Blocks before it, and what is after the line
 statement_line : (x : Expr) → IsProperItem (i.Stmt x) → (gap : Bytes) (ls : List GapLine) (bs : List Item) (xs : List Part) → AreLines gap ls → Waits ls bs → file_items [] (line_part gap x ∷ xs) ≡ (bs ++ (i.Stmt (with_flags x) ∷ [])) ++ file_items [] xs
 statement_line x h gap ls bs xs lines waits =
     let own : HostComments = comments_of x in

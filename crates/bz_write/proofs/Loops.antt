@@ -20,7 +20,7 @@ use Rattle.bz_value.specs.Empty.{is_empty}
 use Rattle.bz_write.specs.Drawn.{piece_part, part_of, parts_in, drawings, drawn_body, comma_behind, own_lines, left_gap, before_next, lines_from}
 
 module _ {X : Type 0} where
-  -- a broken sequence, where what is to stand behind the item before it is written already
+  -- a broken sequence, where what is to stand after the item before it is written already
   abbrev pub stacked_behind : ℕ → Bytes → ℕ → List Bytes → List (Expr × X) → List (Piece X)
   stacked_behind m gap closer end_ [] = mark (gap ++ ended m end_) (closer ∷ []) ∷ []
   stacked_behind m gap closer end_ (x ∷ xs) =
@@ -57,7 +57,7 @@ joined_next parts m gap closer one xs k d h =
     (ap (λ ps. parts ++ ps) (joined_first m gap closer one x rest) ∙
     (sym (append_assoc parts (part_of x gap m ∷ []) (comma ++ more)) ∙ sym (append_assoc (parts ++ part_of x gap m ∷ []) comma more)))
 
--- a turn of the loop over items on one line: the part x is drawn of the expression y
+-- a turn of the loop over items on one line: the part x is laid out of the expression y
 pub joined_turn : (parts there new : List Part) (m : ℕ) (gap : Bytes) (closer : ℕ) (one : Bool) (xs ys : List Expr) (k : ℕ) (y : Expr) (x : Part) (gap' : Bytes) (all : List Part) →
     k < length xs → y ≡ get_or xs k y → x ≡ part_of y gap m → there ≡ parts ++ x ∷ [] → ys ≡ drop (k + 1) xs → new ≡ there ++ map piece_part (comma_behind (is_empty ys) one) → gap' ≡ space ∷ [] →
     parts ++ map piece_part (joined m gap closer one (drawings (drop k xs))) ≡ all → new ++ map piece_part (joined m gap' closer false (drawings (drop (k + 1) xs))) ≡ all
@@ -67,7 +67,7 @@ joined_turn parts there new m gap closer one xs ys k y x gap' all h is drawn pus
     (ap (λ z. ((parts ++ part_of z gap m ∷ []) ++ map piece_part (comma_behind (is_empty rest) one)) ++ map piece_part (joined m (space ∷ []) closer false (drawings rest))) is
     ∙ (sym (joined_next parts m gap closer one xs k y h) ∙ before))
 
--- a turn of the loop over what stands before a bracket
+-- a turn of the loop over what is before a bracket
 pub head_turn : (parts new : List Part) (m : ℕ) (gap : Bytes) (opener : ℕ) (xs : List Expr) (k : ℕ) (y : Expr) (x : Part) (gap' : Bytes) (all : List Part) →
     k < length xs → y ≡ get_or xs k y → x ≡ part_of y gap m → new ≡ parts ++ x ∷ [] → gap' ≡ [] →
     parts ++ map piece_part (headed m gap opener (drawings (drop k xs)) []) ≡ all → new ++ map piece_part (headed m gap' opener (drawings (drop (k + 1) xs)) []) ≡ all
@@ -93,7 +93,7 @@ stacked_step parts there new m gap closer end_ xs k y x gap1 gap2 gap' n all h i
     ∙ (ap (λ g. parts ++ part_of y g (m + 4) ∷ bare ∷ tail) (append_assoc gap (line (m + 4)) (margin_lines (m + 4) (comments_of y).before))
     ∙ (ap (λ ys. parts ++ map piece_part (stacked_behind m gap closer end_ (drawings ys))) (sym first) ∙ before))))
 
--- a turn of the loop over items on lines of their own: `text` is the gap of the part x, `bare` the comma behind it
+-- a turn of the loop over items on lines of their own: `text` is the gap of the part x, `bare` the comma after it
 pub stacked_turn : (parts there new : List Part) (m : ℕ) (gap : Bytes) (closer : ℕ) (end_ : List Bytes) (xs : List Expr) (k : ℕ) (y : Expr) (x bare : Part) (gap1 gap2 text none fresh gap' : Bytes) (n : ℕ)
     (comments : HostComments) (texts : List Bytes) (suffix : Option Bytes) (all : List Part) →
     k < length xs → y ≡ get_or xs k y → comments ≡ comments_of y → n ≡ m + 4 → gap1 ≡ gap ++ line n → texts ≡ comments.before → gap2 ≡ gap1 ++ margin_lines n texts → text ≡ gap2 → x ≡ part_of y text n →
@@ -133,7 +133,7 @@ rowed_next parts kind open_ m gap n xs k d h =
     (ap (λ ps. parts ++ ps) (rowed_first kind open_ m gap n x rest) ∙
     sym (append_assoc parts (part_of x gap n ∷ []) (rest_of_row kind open_ m (gap_behind kind open_ m x rest) (margin_behind open_ m x) rest)))
 
--- a turn of the loop over a row: the part x is drawn of the expression y
+-- a turn of the loop over a row: the part x is laid out of the expression y
 pub row_turn : (parts new : List Part) (kind : Kind) (open_ : Bool) (m : ℕ) (gap : Bytes) (n : ℕ) (xs ys : List Expr) (k : ℕ) (y : Expr) (x : Part) (gap' : Bytes) (n' : ℕ) (all : List Part) →
     k < length xs → y ≡ get_or xs k y → x ≡ part_of y gap n → new ≡ parts ++ x ∷ [] → ys ≡ drop (k + 1) xs → gap' ≡ gap_behind kind open_ m y ys → n' ≡ margin_behind open_ m y →
     parts ++ map piece_part (rowed kind open_ m gap n (drawings (drop k xs))) ≡ all → new ++ map piece_part (rowed kind open_ m gap' n' (drawings (drop (k + 1) xs))) ≡ all
@@ -161,7 +161,7 @@ headed_first : (m : ℕ) (gap : Bytes) (opener : ℕ) (hs : List (Expr × (Bytes
 headed_first m gap opener [] ps = refl
 headed_first m gap opener (x ∷ xs) ps = ap (λ qs. x.1 gap m ∷ qs) (headed_first m [] opener xs ps)
 
--- what stands in a sequence, by its kind, flag, items and end comments
+-- what is in a sequence, by its kind, flag, items and end comments
 abbrev body_of : Kind → Bool → List Expr → List Bytes → ℕ → ℕ → List (Piece (Bytes → ℕ → Part))
 body_of kind split xs end_ m closer =
     if is_broken kind split xs end_ then stacked m None closer end_ (drawings xs)

@@ -89,7 +89,7 @@ one_line : (w : Bytes) → AllByRecursion (λ b. b ≢ 10) w → IsOneLine w
 one_line [] h = tt
 one_line (b ∷ w) h = (h.0, one_line w h.1)
 
--- no newline stands behind the `#` of a comment
+-- no newline is after the `#` of a comment
 pub rest_one_line : (text : Bytes) (h : IsComment text) → IsOneLine h.begins.0
 rest_one_line text h =
     let all : IsOneLine (35 ∷ h.begins.0) = subst IsOneLine h.begins.1 (one_line text (recursion_from_All (λ (b : ℕ). b ≢ 10) text h.one_line)) in all.1
@@ -165,7 +165,7 @@ flush_line [] b h = flush_first line_feed b refl h
 flush_line (x ∷ []) b h = flush_first line_feed b refl h
 flush_line (x ∷ y ∷ a) b h = flush_line (y ∷ a) b h
 
--- what may stand before the first token of a line of a BUILD file: no space and no tab stands right before the token
+-- what may stand before the first token of a line of a BUILD file: no space and no tab is right before the token
 abbrev pub FitsFlush : Bytes → Type 0
 FitsFlush gap = FitsAt Begins gap × (is_flush gap ≡ true)
 

@@ -19,7 +19,7 @@ statement_length x =
     length-append (comment_lines (comments_of x).before) (text_of x 0 ++ (suffix ++ line_feed ∷ [])) ∙
     ap (λ n. length (comment_lines (comments_of x).before) + n) (length-append (text_of x 0) (suffix ++ line_feed ∷ []) ∙ ap (λ n. length (text_of x 0) + n) (length-append suffix (line_feed ∷ [])))
 
--- the room behind the lines of a statement, but for their newline
+-- the room after the lines of a statement, but for their newline
 pub statement_room : (x : Expr) (comments : HostComments) (texts : List Bytes) (suffix : Option Bytes) (room left left' left'' : ℕ) → comments ≡ comments_of x → texts ≡ comments.before → suffix ≡ comments.suffix →
     length (comment_lines texts) + left ≡ room → length (text_of x 0) + left' ≡ left → length (suffix_text suffix) + left'' ≡ left' → length (item_text (i.Stmt x)) + left'' ≡ room + 1
 statement_room x comments texts suffix room left left' left'' has texts_ suffix_ e f g =

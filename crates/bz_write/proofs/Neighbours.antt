@@ -13,7 +13,7 @@ use Rattle.bz_tree.specs.Reading.{starts}
 use Rattle.bz_value.specs.LineShapes.{line_shape}
 use Rattle.bz_spaces.specs.Spaces.{from_table, lone, is_dot_terminal, space_behind, space_before}
 
--- what stands at a place of a shape
+-- what is at a place of a shape
 pub data Element : Type 0 where
   T : List Terminal → Element
   S : Sort → Element
@@ -162,7 +162,7 @@ is_primary (s.level n) = nat_eq n 0
 is_primary _ = false
 
 -- Neighbours that may touch: anything before a bracket, a comma or a colon; a primary that is no number before a dot; and
--- behind brackets, commas and colons anything, behind signs and stars a part or a word, behind a dot a name.
+-- after brackets, commas and colons anything, after signs and stars a part or a word, after a dot a name.
 abbrev pub safe : Element → Element → Bool
 safe (S a) (T us) = all_in lone us || (all_in is_dot_terminal us && is_primary a)
 safe (T ts) (S a) = all_in lone ts || (all_in prefixed ts && all_in well (starts a))

@@ -69,7 +69,7 @@ sort_plain : (a : s.Sort) → all_in plain_terminal (leaves_at a) ≡ true
 sort_plain (s.level n) = refl
 sort_plain _ = refl
 
--- ---- what stands behind such a row
+-- ---- what is after such a row
 
 node_onward : (kind : Kind) (here : Spot) → is_begins (behind_node kind here) ≡ false → behind_node kind here ≡ onward here
 node_onward k.Line here h = no_such (sym h)
@@ -94,7 +94,7 @@ row_onward outer here x [] y rest h d = plain_onward outer here h.0.0 x.0 h.0.2 
 row_onward outer here x (z ∷ zs) y rest h d =
     row_onward outer (behind_expr outer here x.0) z zs y rest h.1 d.1 ∙ (ap onward (plain_onward outer here h.0.0 x.0 h.0.2 h.0.4 d.0.no_first) ∙ onward_twice here)
 
--- of a row that fits such a shape, with another part behind it: of a header before its colon, say
+-- of a row that fits such a shape, with another part after it: of a header before its colon, say
 pub plain_row : (r : Shape) → passes plain_first any_last None r ≡ true → (outer here : Spot) (xs : List Child) (y : Part) (rest : List Part) → Fits IsSort r (rooted xs ++ (y ∷ rest)) → RowDraws outer here xs → is_empty xs ≡ false → behind_row outer here xs ≡ onward here
 plain_row r t outer here [] y rest h d e = no_such (sym e)
 plain_row r t outer here (x ∷ xs) y rest h d e = row_onward outer here x xs y rest (links plain_first any_last r None (root x.0) tt t (root x.0 ∷ (rooted xs ++ (y ∷ rest))) h) d

@@ -35,7 +35,7 @@ length-put_all [] lines xs = refl
 length-put_all (place ∷ places) [] xs = refl
 length-put_all (place ∷ places) (line ∷ lines) xs = length-put_all places lines (set xs place line) ∙ length-set xs place line
 
--- what stands further down stays
+-- what is further down stays
 later_stay : (from end : ℕ) (places : List ℕ) (xs : List Part) (at : ℕ) (y : Part) → Ascend from end places → at < from → parts_at places (set xs at y) ≡ parts_at places xs
 later_stay from end [] xs at y w h = refl
 later_stay from end (place ∷ places) xs at y w h =

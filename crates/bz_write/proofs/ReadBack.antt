@@ -1,4 +1,4 @@
--- What is drawn of an expression reads back as the expression with its flags settled.
+-- What is laid out of an expression reads back as the expression with its flags settled.
 use Rattle.std.proofs.Common.{◌≡◌, ℕ, suc, Bool, true, false, ◌&&◌, List, [], ◌∷◌, ◌++◌, refl, sym, ap, ◌∙◌, subst, map, take, drop, length, true≢false}
 use Rattle.std.specs.Prelude.{nat_eq}
 use Rattle.std.specs.List.{AllByRecursion}

@@ -31,7 +31,7 @@ abbrev pub others : List Expr → List Expr
 others [] = []
 others (x ∷ xs) = xs
 
--- parts of a row have no comments, and a break only behind an operator
+-- parts of a row have no comments, and a break only after an operator
 abbrev pub AreParts : Bool → List Expr → Type 0
 AreParts binary [] = Unit {0}
 AreParts binary (x ∷ xs) = (comments_of x ≡ no_comments) × (has_break x ≡ true → (binary && (is_operator x && not (begins xs))) ≡ true) × AreParts binary xs
@@ -56,7 +56,7 @@ pub record IsRow (kind : Kind) (split open_ : Bool) (parts items : List Expr) (e
   pub not_split : split ≡ false
   pub opens : open_ ≡ true → is_comprehension kind ≡ true
 
--- a sequence: kind, flag open, what stands before the bracket, items, end comments
+-- a sequence: kind, flag open, what is before the bracket, items, end comments
 pub record IsSequence (kind : Kind) (open_ : Bool) (parts items : List Expr) (end_ : List Bytes) : Type 0 where
   pub leads : length parts ≡ lead kind
   pub heads : AreHeads parts

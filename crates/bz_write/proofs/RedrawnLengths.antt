@@ -1,4 +1,4 @@
--- How long a layout is of which some lines were drawn anew.
+-- How long a layout is of which some lines were laid out anew.
 use Rattle.std.proofs.Common.{ℕ, ◌≡◌, List, ◌+◌, length, sym, ap, ◌∙◌, subst, arith, flat_map}
 use Rattle.bz_tree.specs.declared.tree.Part.{Part}
 use Rattle.bz_tree.specs.Spell.{spell_part, spell_node}

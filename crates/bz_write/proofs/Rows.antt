@@ -47,11 +47,11 @@ same_apart kind x y x' y' h i = rw (h.behind_it kind, i.alone, i.before_it kind,
 same_number_dot : (x y x' y' : Part) → SpacedAs x x' → Same y y' → number_dot x' y' ≡ number_dot x y
 same_number_dot x y x' y' h i = rw (h.number, i.token s.dot) refl
 
--- the first leaf of what is drawn has the gap that it is given
+-- the first leaf of what is laid out has the gap that it is given
 abbrev pub Starts : (Bytes → ℕ → Part) → Type 0
 Starts f = (gap : Bytes) (m : ℕ) → (l : Leaf) × (ls : List Leaf) × (leaves_part (f gap m) ≡ l ∷ ls) × (l.gap ≡ gap)
 
--- a child is drawn behind its gap, and to its neighbours as its root
+-- a child is laid out after its gap, and to its neighbours as its root
 pub record IsBehind (x : Child) : Type 0 where
   pub starts : Starts x.1
   pub rooted_as : IsRooted x
@@ -107,7 +107,7 @@ and_false : (a : Bool) → (a && false) ≡ false
 and_false true = refl
 and_false false = refl
 
--- anything touches a bracket or a comma behind it, but a token that asks for a space does not ask for it there
+-- anything touches a bracket or a comma after it, but a token that asks for a space does not ask for it there
 touches_lone : (kind : Kind) (x y : Part) → is_lone y ≡ true → apart kind x y ≡ false
 touches_lone kind x y h = let w = lone_before kind y h in rw (h, w.0, w.1, and_false (is_spaced_after kind x), and_false (is_value x)) refl
 
@@ -127,7 +127,7 @@ touches_opener kind x y h i j = rw (h, i, value_before kind y j) refl
 abbrev pub mark_part : Bytes → ℕ → Part
 mark_part gap m = p.Leaf (record { class = c.Mark; gap = gap; token = m ∷ [] })
 
--- what is drawn of an item is a value, behind the gap that it is given
+-- what is laid out of an item is a value, after the gap that it is given
 abbrev pub IsItem : (Bytes → ℕ → Part) → Type 0
 IsItem f = Starts f × ((gap : Bytes) (m : ℕ) → is_value (f gap m) ≡ true)
 
@@ -193,7 +193,7 @@ module _ (kind : Kind) (closer : ℕ) (closes : IsLone closer) where
     behind_opener : (gap : Bytes) (m : ℕ) (f : Bytes → ℕ → Part) → IsItem f → Fine kind (mark_part gap opener) (f [] m)
     behind_opener gap m f h = inr (bare_at f m h.0, touches_opener kind (mark_part gap opener) (f [] m) quiet refl (h.1 [] m), λ d. no_such d.0)
 
-    -- what stands behind the opening bracket, broken or not
+    -- what is after the opening bracket, broken or not
     pub body_between : (broken one : Bool) (gap : Bytes) (m : ℕ) (end_ : List Bytes) (xs : List Child) → AreItems xs → Between kind (mark_part gap opener) (map piece_part (if broken then stacked m None closer end_ xs else joined m [] closer one xs))
     body_between true one gap m end_ xs h = stacked_between m None end_ xs (mark_part gap opener) h
     body_between false one gap m end_ xs h = joined_between m [] one xs (mark_part gap opener) (behind_opener gap m) h

@@ -25,7 +25,7 @@ use Rattle.bz_write.specs.Writings.{writings}
 use Rattle.bz_write.specs.Drawn.{part_of, parts_of, drawings, piece_part, before_next, line_part, lines_from, drawn}
 use Rattle.bz_write.proofs.Readable.{Readable, EachReadable, IsRow, IsSequence, readable}
 
--- the two readings of the same expressions, each spelling the other behind its gap
+-- the two readings of the same expressions, each spelling the other after its gap
 pub data Agree : List (Expr × (Bytes → ℕ → Part)) → List (Expr × (ℕ → Bytes)) → Type 0 where
   over : Agree [] []
   more : (v : Expr) (x : Bytes → ℕ → Part) (y : ℕ → Bytes) (xs : List (Expr × (Bytes → ℕ → Part))) (ys : List (Expr × (ℕ → Bytes))) →
@@ -88,7 +88,7 @@ same_laid (sequence opener closer) kind split open_ g m hs hs' xs ys end_ a b =
     same_headed m g opener hs hs' _ _ a
     (rw (same_values xs ys b, same_length xs ys b) (same_body (is_broken kind split (firsts ys) end_) (is_tuple kind && nat_eq (length ys) 1) m closer end_ xs ys b))
 
--- ---- the gap before a node stands before its text
+-- ---- the gap before a node is before its text
 
 -- a row has a part
 abbrev Starts : {X : Type 0} → Frame → List X → Type 0
@@ -136,7 +136,7 @@ agree_all (x ∷ xs) f = more x _ _ _ _ (spell_expr x f.0) (agree_all xs f.1)
 
 -- ---- the file
 
--- the layout behind an item: the blank line, and the layout of the rest
+-- the layout after an item: the blank line, and the layout of the rest
 pub next_behind : (x : Item) (ys : List Item) → before_next x ys ++ layout ys ≡ behind_item x ys
 next_behind x [] = refl
 next_behind x (y ∷ ys) = refl

@@ -1,4 +1,4 @@
--- Proper expressions are parts of lines: where what follows them stands.
+-- Proper expressions are parts of lines: where what follows them is.
 use Rattle.std.proofs.Common.{◌≡◌, Bool, true, false, ◌||◌, List, [], ◌∷◌, if◌then◌else◌, refl, sym, ap, subst}
 use Rattle.std.specs.Prelude.{All}
 use Rattle.bz_token.specs.declared.class.Class.{Class}
@@ -71,7 +71,7 @@ pub no_line : (here : Spot) (x : Expr) → ProperBy line_shape here x → NoLine
 no_line here (Token t) h = tt
 no_line here (Form' kind z parts z' items end_ split open_ comments) h = in_line_by (frame kind) kind here _ _ parts items end_ split open_ (brackets_in_line kind) h.0 h.1
 
--- ---- where what follows stands
+-- ---- where what follows is
 
 pub token_goes_on : (class : Class) (text : Bytes) (outer here : Spot) → in_line_class class ≡ true → is_begins (behind_token (role class text) outer here) ≡ false
 token_goes_on c.Newline text outer here h = no_such h
@@ -104,7 +104,7 @@ goes_on_by : (outer here : Spot) (x : Expr) → ProperBy line_shape here x → N
 goes_on_by outer here (Token t) h i = token_goes_on t.class t.text outer here (lexeme_in_line t.class t.text h.0)
 goes_on_by outer here (Form' kind z parts z' items end_ split open_ comments) h i = node_goes_on kind here i
 
--- no line begins behind a proper expression
+-- no line begins after a proper expression
 pub goes_on : (outer here : Spot) (x : Expr) → ProperBy line_shape here x → is_begins (behind_expr outer here x) ≡ false
 goes_on outer here x h = goes_on_by outer here x h (no_line here x h)
 
@@ -126,7 +126,7 @@ within_by : (outer : Spot) (x : Expr) → NoLine x → is_value (root x) ≡ tru
 within_by outer (Token t) h i = word_within t.class t.text outer i
 within_by outer (Form' kind z parts z' items end_ split open_ comments) h i = node_within kind h
 
--- behind a value inside brackets it goes on inside brackets
+-- after a value inside brackets it goes on inside brackets
 pub value_within : (outer here : Spot) (x : Expr) → ProperBy line_shape here x → is_value (root x) ≡ true → behind_expr outer Within x ≡ Within
 value_within outer here x h i = within_by outer x (no_line here x h) i
 
@@ -136,7 +136,7 @@ opening_within outer here (Form' kind z parts z' items end_ split open_ comments
 
 -- ---- new lines in a row begin inside brackets
 
--- behind x of a row that stands here: where a part follows, and the row is open or x breaks
+-- after x of a row that is here: where a part follows, and the row is open or x breaks
 abbrev pub BreaksWithin : Bool → Spot → Spot → Child → List Child → Type 0
 BreaksWithin open_ outer here x xs = (open_ || has_break x.0) ≡ true → is_empty (firsts xs) ≡ false → behind_expr outer here x.0 ≡ Within
 
@@ -157,7 +157,7 @@ later_breaks binary open_ outer here m (more_of-Expr x (more_of-Expr y rest)) h 
       later_breaks binary open_ outer (behind_expr outer here x) _ (more_of-Expr y rest) h.3 inside (λ o. (i o).1),
     )
 
--- in an open row an opening bracket stands first
+-- in an open row an opening bracket is first
 pub row_breaks : (binary open_ : Bool) (outer here : Spot) (m : _) (r : Row_of-Expr m) → ProperRowBy line_shape binary outer here r → (open_ ≡ true → Opened (roots r)) → RowBreaks open_ outer here (parts_of r)
 row_breaks binary open_ outer here m end_of-Expr h i = tt
 row_breaks binary open_ outer here m (more_of-Expr x rest) h i =

@@ -45,7 +45,7 @@ placed class gap text here l u g = record { stands = gap_stands class here gap (
 
 -- ---- the ways to lay parts
 
--- a child stands behind any gap that fits, and what follows it stands there
+-- a child is after any gap that fits, and what follows it is there
 pub record Draws (outer here there : Spot) (x : Child) : Type 0 where
   pub stands : (gap : Bytes) (m : ℕ) → FitsAt here gap → AtLeaves Placed here (x.1 gap m)
   pub goes_on : (gap : Bytes) (m : ℕ) → behind_part outer here (x.1 gap m) ≡ there
@@ -65,7 +65,7 @@ ItemsDraw outer (x ∷ xs) = Draws outer Within Within x × AreComments (comment
 pub first_part : (outer here there : Spot) (x : Child) (gap : Bytes) (m : ℕ) (xs : List Part) → Draws outer here there x → FitsAt here gap → AtParts Placed outer there xs → AtParts Placed outer here (x.1 gap m ∷ xs)
 first_part outer here there x gap m xs d g h = (d.stands gap m g, subst (λ z. AtParts Placed outer z xs) (sym (d.goes_on gap m)) h)
 
--- where what follows a row stands
+-- where what follows a row is
 abbrev pub behind_row : Spot → Spot → List Child → Spot
 behind_row outer here [] = here
 behind_row outer here (x ∷ xs) = behind_row outer (behind_expr outer here x.0) xs
@@ -84,7 +84,7 @@ rowed_at kind open_ m outer here gap n (x ∷ xs) rest g h b r =
     first_part outer here (behind_expr outer here x.0) x gap n _ h.0 g
     (rowed_at kind open_ m outer (behind_expr outer here x.0) (gap_behind kind open_ m x.0 (firsts xs)) (margin_behind open_ m x.0) xs rest (behind_fits kind open_ m x.0 (firsts xs) (behind_expr outer here x.0) h.0.no_first b.0) h.1 b.1 r)
 
--- a bracket: what it is to those behind it, and that it is a token
+-- a bracket: what it is to those after it, and that it is a token
 pub record IsBracket (t : Role) (n : ℕ) : Type 0 where
   pub turns : role c.Mark (n ∷ []) ≡ t
   pub is_token : is_mark (n ∷ []) ≡ true
@@ -94,7 +94,7 @@ module _ (outer : Spot) (opener closer : ℕ) (opening : IsBracket opens opener)
   pub opener_at : (here : Spot) (gap : Bytes) (xs : List Part) → FitsAt here gap → AtParts Placed outer Within xs → AtParts Placed outer here (p.Leaf (record { class = c.Mark; gap = gap; token = opener ∷ [] }) ∷ xs)
   opener_at here gap xs g h = (placed c.Mark gap (opener ∷ []) here opening.is_token opening.coded g, subst (λ z. AtParts Placed outer (behind_token z outer here) xs) (sym opening.turns) h)
 
-  -- what stands before the opening bracket, and that
+  -- what is before the opening bracket, and that
   pub headed_at : (m : ℕ) (here : Spot) (gap : Bytes) (xs : List Child) (after : Pieces) → FitsAt here gap → RowDraws outer here xs → AtParts Placed outer Within (map piece_part after) → AtParts Placed outer here (map piece_part (headed m gap opener xs after))
   headed_at m here gap [] after g h i = opener_at here gap (map piece_part after) g i
   headed_at m here gap (x ∷ xs) after g h i =
@@ -184,7 +184,7 @@ drawn_goes_on outer here (Form' kind z parts z' items end_ split open_ comments)
 pub draws : (outer here : Spot) (x : Expr) → ProperBy line_shape here x → ((gap : Bytes) (m : ℕ) → FitsAt here gap → AtLeaves Placed here (part_of x gap m)) → Draws outer here (behind_expr outer here x) (x, part_of x)
 draws outer here x h s = record { stands = s; goes_on = λ gap m. drawn_goes_on outer here x gap m; no_first = goes_on outer here x h }
 
--- what stands in a form, by what is known of its rows
+-- what is in a form, by what is known of its rows
 form_draws : (f : Frame) (kind : Kind) (split open_ : Bool) (here : Spot) (m n : _) (parts : Row_of-Expr m) (items : Row_of-Expr n) (end_ : List Bytes) →
     (ProperRowBy line_shape (is_binary kind) here here parts → RowDraws here here (parts_of parts)) → (ProperHeadBy line_shape here parts → HeadDraws here (parts_of parts)) → (ProperItemsBy line_shape items → AreValues (roots items) → ItemsDraw here (parts_of items)) →
     in_frame f (Unit {0}) (AtMostOne (roots parts)) → in_frame f (Unit {0}) (AreValues (roots items)) → (is_comprehension kind ≡ true → in_frame f (Opened (roots parts)) (Unit {0})) →
@@ -198,7 +198,7 @@ open_form row kind c parts items h = comprehension kind c parts h
 open_form (sequence opener closer) kind c parts items h = tt
 
 mutual
-  -- what is drawn of a proper expression stands where it may
+  -- what is laid out of a proper expression stands where it may
   pub drawn_stands : (here : Spot) (x : Expr) → ProperBy line_shape here x → (gap : Bytes) (m : ℕ) → FitsAt here gap → AtLeaves Placed here (part_of x gap m)
   drawn_stands here (Token t) h gap m g = placed t.class gap t.text here h.0 h.1 g
   drawn_stands here (Form' kind z parts z' items end_ split open_ comments) h gap m g =

@@ -24,7 +24,7 @@ stops = 32 ∷ 10 ∷ 44 ∷ 58 ∷ 40 ∷ 41 ∷ 91 ∷ 93 ∷ 123 ∷ 125 ∷ 
 abbrev pub is_stop : ℕ → Bool
 is_stop b = among b stops
 
--- no state behind a lexeme goes on with one of these
+-- no state after a lexeme goes on with one of these
 fine_end : (q : State) → (is_none (ends q) || every (λ b. is_none (move q b)) stops) ≡ true
 fine_end Start = refl
 fine_end (Opened Single) = refl

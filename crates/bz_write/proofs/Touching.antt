@@ -57,7 +57,7 @@ abbrev pub ends_plain : Part → Bool
 ends_plain (p.Leaf l) = not (is_number l.class)
 ends_plain (Node' kind z r) = is_primary_kind kind
 
--- a space, a newline, a bracket, a comma, a colon; or a dot behind a primary that is no number
+-- a space, a newline, a bracket, a comma, a colon; or a dot after a primary that is no number
 abbrev pub FollowsAs : Bool → List ℕ → Type 0
 FollowsAs plain [] = ⊥
 FollowsAs plain (b ∷ t) = (is_stop b ≡ true) ⊎ ((b ≡ 46) × (plain ≡ true))
@@ -65,7 +65,7 @@ FollowsAs plain (b ∷ t) = (is_stop b ≡ true) ⊎ ((b ≡ 46) × (plain ≡ t
 abbrev pub Follows : Part → List ℕ → Type 0
 Follows x t = FollowsAs (ends_plain x) t
 
--- ---- neighbours: the second one stands behind a space or a newline; or it has no gap, and needs none
+-- ---- neighbours: the second one is after a space or a newline; or it has no gap, and needs none
 
 abbrev pub Opens : List ℕ → Type 0
 Opens [] = ⊥
@@ -104,7 +104,7 @@ abbrev mutual
   AiryRow end_of-Part = Unit {0}
   AiryRow (more_of-Part x rest) = Airy x × AiryRow rest
 
--- ---- the text behind a part
+-- ---- the text after a part
 
 abbrev Text : Leaf → List ℕ → List ℕ → List ℕ
 Text l more rest = (l.gap ++ (l.token ++ more)) ++ rest
@@ -137,7 +137,7 @@ dot_text t h = elim (or_cases _ _ h) [ inl e ↦ (bytes_eq-Decides t (46 ∷ [])
 abbrev pub Will : Part → Type 0
 Will x = LegalBy line_shape x → Lexed (leaves_part x) → Airy x → (rest : List ℕ) → Follows x rest → Toks (leaves_part x) rest
 
--- a part that may end with a dot behind it
+-- a part that may end with a dot after it
 primary_plain : (a : Sort) (x : Part) → is_primary a ≡ true → IsSort a x → is_number_leaf x ≡ false → ends_plain x ≡ true
 primary_plain (s.level n) (p.Leaf l) h i o = rw o refl
 primary_plain (s.level n) (Node' kind z r) h i o =

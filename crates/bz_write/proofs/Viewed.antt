@@ -1,4 +1,4 @@
--- A row that is drawn reads back: each part with its flags settled, breaks where they were, nothing loose.
+-- A row that is laid out reads back: each part with its flags settled, breaks where they were, nothing loose.
 use Rattle.std.proofs.Common.{◌≡◌, ℕ, Bool, true, false, not, ◌&&◌, ◌||◌, List, [], ◌∷◌, ◌++◌, ◌+◌, if◌then◌else◌, refl, sym, ap, ◌∙◌, map, true≢false}
 use Rattle.std.specs.Prelude.{None}
 use Rattle.std.specs.List.{AllByRecursion}
@@ -21,14 +21,14 @@ use Rattle.bz_write.specs.Flags.{with_flags}
 use Rattle.bz_write.proofs.Gapped.{ended_line, lines_line}
 use Rattle.bz_write.proofs.Readable.{AreParts, begins, ends, others}
 
--- what is drawn of an expression, behind a gap, at a margin
+-- what is laid out of an expression, after a gap, at a margin
 abbrev pub Draw : Type 0
 Draw = Bytes → ℕ → Part
 
 abbrev pub look : List (Piece Draw) → List Seen
 look ps = map seen (map piece_part ps)
 
--- What is drawn of an expression is seen as the expression with its flags settled; the gap comes back, and no comment is loose.
+-- What is laid out of an expression is seen as the expression with its flags settled; the gap comes back, and no comment is loose.
 pub record SeenAs (x : Expr × Draw) : Type 0 where
   pub value : (g : Bytes) (m : ℕ) → (seen (x.1 g m)).make (comments_of x.0) (has_break x.0) ≡ with_flags x.0
   pub sign : (g : Bytes) (m : ℕ) → is_operator (plain (seen (x.1 g m))) ≡ is_operator x.0
@@ -66,7 +66,7 @@ flag true true false false true break last h a z o = absurd (true≢false (o ref
 flag true true false false false break true h a z o = absurd (true≢false (z refl))
 flag true true false false false break false h a z o = and_true break
 
--- what stands before the next operator
+-- what is before the next operator
 quiet_next : (binary operator next before open_ break last : Bool) → (break ≡ true → (binary && (operator && not next)) ≡ true) → ((binary && operator) ≡ true → before ≡ false) → (binary ≡ true → open_ ≡ false) →
     (binary && next) ≡ true → (if binary && operator then before else ((open_ || break) && not last)) ≡ false
 quiet_next false operator next before open_ break last h a o n = absurd (true≢false (sym n))
@@ -108,7 +108,7 @@ gap_newline kind open_ m x ys = ap some_newline (gap_lines kind open_ m x ys) �
 pub gap_bare : (kind : Kind) (open_ : Bool) (m : ℕ) (x : Expr) (ys : List Expr) → all_in (gap_behind kind open_ m x ys) ≡ []
 gap_bare kind open_ m x ys = ap comments_in (gap_lines kind open_ m x ys) ∙ comments_if _
 
--- the row behind a part
+-- the row after a part
 abbrev behind : Kind → Bool → ℕ → Expr → List (Expr × Draw) → List (Piece Draw)
 behind kind open_ m x ys = rowed kind open_ m (gap_behind kind open_ m x (firsts ys)) (margin_behind open_ m x) ys
 
@@ -188,7 +188,7 @@ only_open : (open_ break last : Bool) → break ≡ false → last ≡ false →
 only_open true break last b l = ap (λ z. not z) l
 only_open false break last b l = ap (λ z. z && not last) b
 
--- a comprehension is open exactly where a new line begins behind its bracket
+-- a comprehension is open exactly where a new line begins after its bracket
 pub open_back : (kind : Kind) (open_ : Bool) (m : ℕ) (g : Bytes) (n : ℕ) (xs : List (Expr × Draw)) → Reads xs → AreParts (is_binary kind) (firsts xs) → (is_comprehension kind ≡ true → is_empty (others (firsts xs)) ≡ false) →
     (open_ ≡ true → is_comprehension kind ≡ true) → (is_comprehension kind && is_open (look (rowed kind open_ m g n xs))) ≡ open_
 open_back kind open_ m g n [] r parts second opens = opened (is_comprehension kind) open_ false opens (λ e. absurd (true≢false (second e)))

@@ -1,4 +1,4 @@
--- A sequence that is drawn reads back: its items with their comments, its end comments, and split where it was broken.
+-- A sequence that is laid out reads back: its items with their comments, its end comments, and split where it was broken.
 use Rattle.std.proofs.Common.{◌≡◌, ℕ, suc, Bool, true, false, not, ◌&&◌, ◌||◌, List, [], ◌∷◌, ◌++◌, ◌+◌, if◌then◌else◌, refl, sym, ap, ◌∙◌, map, take, drop, length, true≢false, append-nil}
 use Rattle.std.specs.Prelude.{Option, None, Some}
 use Rattle.std.specs.List.{AllByRecursion}
@@ -110,7 +110,7 @@ split_first : (ss : List Seen) → Begun ss → has_newline (first_seen_gap ss) 
 split_first [] b h = absurd b
 split_first (s ∷ ss) b h = ap (λ z. z || is_split ss) h
 
--- ---- what stands in brackets
+-- ---- what is in brackets
 
 abbrev pub body_of : Bool → Bool → ℕ → ℕ → List Bytes → List (Expr × Draw) → List (Piece Draw)
 body_of broken one m closer end_ xs = if broken then stacked m None closer end_ xs else joined m [] closer one xs
@@ -169,7 +169,7 @@ body_back false one kind split m closer end_ xs r e h b =
       split = joined_split m [] closer one xs r refl;
     }
 
--- ---- what stands before the bracket
+-- ---- what is before the bracket
 
 pub headed_gap : (m : ℕ) (g : Bytes) (opener : ℕ) (hs : List (Expr × Draw)) (body : List (Piece Draw)) → Reads hs → first_seen_gap (look (headed m g opener hs body)) ≡ g
 headed_gap m g opener [] body r = refl

@@ -23,7 +23,7 @@ depth_append (x ∷ xs) ys =
 depth_cut : (n : ℕ) (xs : List Item) → depth_items xs ≡ max (depth_items (take n xs)) (depth_items (drop n xs))
 depth_cut n xs = ap depth_items (sym (take-append-drop n xs)) ∙ depth_append (take n xs) (drop n xs)
 
--- what stands around the window was there before
+-- what is around the window was there before
 pub shallow_spliced : (from gone come : ℕ) (before items : List Item) → depth_items (take come (drop from items)) ≤ depth_limit - 1 → IsSpliced from gone come before items →
     depth_of (drawn before) ≤ depth_limit → depth_of (drawn items) ≤ depth_limit
 shallow_spliced from gone come before items within s shallow =

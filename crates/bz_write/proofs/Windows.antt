@@ -28,7 +28,7 @@ lines_cut gap (suc n) (x ∷ xs) h =
     (ap (λ ps. own_lines gap x ++ ps) (lines_cut next n xs (omega arith)) ∙
     sym (append_assoc (own_lines gap x) (front_lines next n xs) (lines_from (statement_gap next n xs) (drop n xs))))
 
--- what stands behind that place makes no difference to them
+-- what is after that place makes no difference to them
 front_alone : (gap : Bytes) (n : ℕ) (xs : List Item) → n ≤ length xs → front_lines gap n xs ≡ front_lines gap n (take n xs)
 front_alone gap zero xs h = refl
 front_alone gap (suc n) [] h = absurd (omega arith)
@@ -65,14 +65,14 @@ counted_first count (i.Stmt x) xs = omega arith
 pub counted_next : (count : ℕ) (xs : List Item) (k : ℕ) (d : Item) → k < length xs → count + line_count_in (drop k xs) ≡ place_behind count (get_or xs k d) + line_count_in (drop (k + 1) xs)
 counted_next count xs k d h = ap (λ ys. count + line_count_in ys) (drop_more xs k d h) ∙ counted_first count (get_or xs k d) (drop (k + 1) xs)
 
--- ---- the lines behind the first one
+-- ---- the lines after the first one
 
 behind_first : (gap : Bytes) (xs : List Item) → drop 1 (lines_from gap xs) ≡ lines_behind xs
 behind_first gap [] = refl
 behind_first gap (i.Block texts ∷ xs) = behind_first ((gap ++ comment_lines texts) ++ before_next (i.Block texts) xs) xs
 behind_first gap (i.Stmt x ∷ xs) = refl
 
--- the first of them that stands behind some items, and the lines of these taken away
+-- the first of them that is after some items, and the lines of these taken away
 behind_front : (gap : Bytes) (n : ℕ) (xs : List Item) → n ≤ length xs → drop (suc (line_count_in (take n xs))) (lines_from gap xs) ≡ lines_behind (drop n xs)
 behind_front gap zero xs h = behind_first gap xs
 behind_front gap (suc n) [] h = absurd (omega arith)
@@ -87,7 +87,7 @@ gap_next gap from xs k d g h =
     let one : from - k ≡ suc (from - (k + 1)) = omega arith in
     ap (λ ys. statement_gap gap (from - k) ys) (drop_more xs k d h) ∙ ap (λ n. statement_gap gap n (get_or xs k d ∷ drop (k + 1) xs)) one
 
--- a turn of the loop that makes it: an item is passed over, and what stands between it and the others comes to the gap
+-- a turn of the loop that makes it: an item is passed over, and what is between it and the others comes to the gap
 pub gap_turn : (from : ℕ) (xs : List Item) (k : ℕ) (item : Item) (gap left new : Bytes) (others : List Item) (all : Bytes) → k < from → from ≤ length xs → item ≡ get_or xs k item →
     left ≡ left_gap gap item → new ≡ left ++ before_next item others → others ≡ drop (k + 1) xs → statement_gap gap (from - k) (drop k xs) ≡ all → statement_gap new (from - (k + 1)) (drop (k + 1) xs) ≡ all
 gap_turn from xs k item gap left new others all g h is passed joined others_are before =
@@ -130,7 +130,7 @@ module _ (from gone come : ℕ) (before items : List Item) (s : IsSpliced from g
   same_behind : drop come (drop from items) ≡ drop gone (drop from before)
   same_behind = drop-drop come from items ∙ (s.behind ∙ sym (drop-drop gone from before))
 
-  -- the lines before the window, and those of what was taken out and the one behind it
+  -- the lines before the window, and those of what was taken out and the one after it
   same_front : front_lines [] from items ≡ front_lines [] from before
   same_front = front_same [] from items before (omega (arith, s.held)) (omega (arith, s.within)) s.front
 

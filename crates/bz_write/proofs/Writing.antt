@@ -28,7 +28,7 @@ written ps = flat_map piece_text ps
 
 -- ---- rows
 
--- the gap before the rest of a row stands before its text
+-- the gap before the rest of a row is before its text
 row_gap : (kind : Kind) (open_ : Bool) (m n : ℕ) (x : Expr) (xs : List Expr) →
     written (rowed kind open_ m (gap_behind kind open_ m x xs) n (writings xs)) ≡ gap_behind kind open_ m x xs ++ row_text kind open_ m n xs
 row_gap kind open_ m n x [] = refl
@@ -64,7 +64,7 @@ pub joined_next : (m closer : ℕ) (one : Bool) (xs : List Expr) (k : ℕ) (d : 
     joined_text m closer one (drop k xs) ≡ text_of (get_or xs k d) m ++ (comma_text one (drop (k + 1) xs) ++ joined_text m closer false (drop (k + 1) xs))
 joined_next m closer one xs k d h = ap (λ ys. joined_text m closer one ys) (drop_more xs k d h) ∙ joined_first m closer one (get_or xs k d) (drop (k + 1) xs)
 
--- a turn of the loop over what stands before a bracket
+-- a turn of the loop over what is before a bracket
 pub head_turn : (out new : Bytes) (m : ℕ) (xs : List Expr) (k : ℕ) (y : Expr) (all : Bytes) → k < length xs → y ≡ get_or xs k y → new ≡ out ++ text_of y m →
     out ++ head_text m (drop k xs) ≡ all → new ++ head_text m (drop (k + 1) xs) ≡ all
 head_turn out new m xs k y all h is written_ before =
@@ -87,11 +87,11 @@ joined_turn out there new m closer one xs ys k y all h is written_ others comma_
     (append_assoc out (text_of y m) (comma_text one rest ++ tail) ∙
     (ap (λ t. out ++ t) (sym (ap (λ zs. joined_text m closer one zs) first ∙ joined_first m closer one y rest)) ∙ before)))
 
--- three texts behind a first one
+-- three texts after a first one
 behind_first : (a b c d : Bytes) → ((a ++ b) ++ c) ++ d ≡ a ++ ((b ++ c) ++ d)
 behind_first a b c d = ap (λ z. z ++ d) (append_assoc a b c) ∙ append_assoc a (b ++ c) d
 
--- the suffix of the item before stands first
+-- the suffix of the item before is first
 suffix_first : (m : ℕ) (suffix : Option Bytes) (closer : ℕ) (end_ : List Bytes) (xs : List Expr) → written (stacked m suffix closer end_ (writings xs)) ≡ suffix_text suffix ++ stacked_text m closer end_ xs
 suffix_first m suffix closer end_ [] = behind_first (suffix_text suffix) (ended m end_) (closer ∷ []) []
 suffix_first m suffix closer end_ (x ∷ xs) =
@@ -121,7 +121,7 @@ stacked_turn out new m closer end_ xs k y all h is written_ before =
     (append_assoc out (stacked_item_text m y) (stacked_text m closer end_ rest) ∙
     (ap (λ t. out ++ t) (sym (ap (λ zs. stacked_text m closer end_ zs) first ∙ stacked_first m closer end_ y rest)) ∙ before))
 
--- ---- what is written one behind the other
+-- ---- what is written one after the other
 
 six_written : (a b d x y z : Bytes) → ((((a ++ b) ++ d) ++ x) ++ y) ++ z ≡ a ++ (b ++ (d ++ (x ++ (y ++ z))))
 six_written a b d x y z = append_assoc (((a ++ b) ++ d) ++ x) y z ∙ (append_assoc ((a ++ b) ++ d) x (y ++ z) ∙ (append_assoc (a ++ b) d (x ++ (y ++ z)) ∙ append_assoc a b (d ++ (x ++ (y ++ z)))))
@@ -140,7 +140,7 @@ sequence_written out out1 out2 body m opener xs ys is head_ opener_ =
     ap (λ t. t ++ body) (opener_ ∙ ap (λ t. t ++ opener ∷ []) (head_ ∙ ap (λ zs. out ++ head_text m zs) is)) ∙
     (append_assoc (out ++ head_text m ys) (opener ∷ []) body ∙ append_assoc out (head_text m ys) (opener ∷ body))
 
--- behind the last item
+-- after the last item
 none_left : (xs : List Expr) (k : ℕ) → length xs ≤ k → drop k xs ≡ []
 none_left [] zero l = refl
 none_left [] (suc k) l = refl
@@ -168,7 +168,7 @@ pub row_form : (f : Form) (m : ℕ) → brackets_of (frame f.kind) ≡ None → 
 row_form f m h =
     text_Form f m ∙ ap written (row_laid (frame f.kind) f.kind f.seq.split f.open_ m (writings f.parts) (writings f.seq.items) f.seq.end_ h)
 
--- what stands before the bracket, the bracket, then
+-- what is before the bracket, the bracket, then
 head_first : (m opener : ℕ) (xs : List Expr) (after : List (Piece (ℕ → Bytes))) → written (headed m [] opener (writings xs) after) ≡ head_text m xs ++ (opener ∷ written after)
 head_first m opener [] after = refl
 head_first m opener (x ∷ xs) after =

@@ -1,4 +1,4 @@
--- The layout of items behind others.
+-- The layout of items after others.
 use Rattle.std.specs.Prelude.{◌≡◌, ◌≤◌, ℕ, List, [], ◌∷◌, ◌++◌, Option, None, Some}
 use Rattle.bz_items.specs.Characters.{Bytes}
 use Rattle.bz_tree.specs.Spell.{depth_of}
@@ -6,12 +6,12 @@ use Rattle.bz_value.specs.declared.value.Item.{Item}
 use Rattle.bz_write.specs.Drawn.{before_next, drawn}
 use Rattle.bz_write.specs.Written.{layout}
 
--- what stands between an item, where there is one, and those that follow
+-- what is between an item, where there is one, and those that follow
 abbrev pub gap_below : Option Item → List Item → Bytes
 gap_below None items = []
 gap_below (Some item) items = before_next item items
 
--- Items behind others have their own layout behind that of the others, and what stands between the last of these and them.
+-- Items after others have their own layout after that of the others, and what is between the last of these and them.
 abbrev pub LayoutsJoin : Type 0
 LayoutsJoin = (front : List Item) (item : Item) (items : List Item) → layout ((front ++ item ∷ []) ++ items) ≡ layout (front ++ item ∷ []) ++ (before_next item items ++ layout items)
 

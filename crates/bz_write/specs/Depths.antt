@@ -1,4 +1,4 @@
--- How deep what is drawn of a value is, as the private functions that look at it state it.
+-- How deep what is laid out of a value is, as the private functions that look at it state it.
 use Rattle.std.specs.Prelude.{ℕ, suc, max, List, [], ◌∷◌}
 use Rattle.bz_value.specs.declared.value.Expr.{Expr, Token, Form', Row_of-Expr, end_of-Expr, more_of-Expr}
 use Rattle.bz_value.specs.declared.value.Form.{Form}
@@ -25,7 +25,7 @@ abbrev pub deepest_of : List Expr → ℕ
 deepest_of [] = 0
 deepest_of (x ∷ xs) = max (depth_expr x) (deepest_of xs)
 
--- of what stands in a form
+-- of what is in a form
 abbrev pub depth_inside : Form → ℕ
 depth_inside f = max (deepest_of f.parts) (depth_in (frame f.kind) (deepest_of f.seq.items))
 

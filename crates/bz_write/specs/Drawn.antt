@@ -28,25 +28,25 @@ abbrev mutual
   parts_of end_of-Expr = []
   parts_of (more_of-Expr x rest) = (x, part_of x) ∷ parts_of rest
 
--- each expression with what is drawn of it
+-- each expression with what is laid out of it
 abbrev pub drawings : List Expr → List (Expr × (Bytes → ℕ → Part))
 drawings xs = map (λ x. (x, part_of x)) xs
 
--- the parts of a form behind a gap, at a margin
+-- the parts of a form after a gap, at a margin
 abbrev pub parts_in : Form → Bytes → ℕ → List Part
 parts_in f gap m = map piece_part (laid f.kind f.seq.split f.open_ gap m (drawings f.parts) (drawings f.seq.items) f.seq.end_)
 
--- the comma behind an item that is the last or not, in a sequence that is not broken
+-- the comma after an item that is the last or not, in a sequence that is not broken
 abbrev pub comma_behind : Bool → Bool → List (Piece (Bytes → ℕ → Part))
 comma_behind last one = if last && not one then [] else (mark [] (comma ∷ []) ∷ [])
 
--- what stands in the sequence of a form, behind its opening bracket
+-- what is in the sequence of a form, after its opening bracket
 abbrev pub drawn_body : Form → ℕ → ℕ → List (Piece (Bytes → ℕ → Part))
 drawn_body f m closer =
     if is_broken f.kind f.seq.split f.seq.items f.seq.end_ then stacked m None closer f.seq.end_ (drawings f.seq.items)
     else joined m [] closer (is_tuple f.kind && nat_eq (length f.seq.items) 1) (drawings f.seq.items)
 
--- the line of a statement: its suffix stands in the gap of the Newline
+-- the line of a statement: its suffix is in the gap of the Newline
 abbrev pub line_part : Bytes → Expr → Part
 line_part gap x = p.Node (record {
   kind = k.Line;
@@ -67,7 +67,7 @@ abbrev pub left_gap : Bytes → Item → Bytes
 left_gap gap (i.Block texts) = gap ++ comment_lines texts
 left_gap gap (i.Stmt x) = []
 
--- the lines of the items, the first behind this gap: a Block's lines stand in the gap of what follows
+-- the lines of the items, the first after this gap: a Block's lines stand in the gap of what follows
 abbrev pub lines_from : Bytes → List Item → List Part
 lines_from gap [] = p.Leaf (record { class = c.End; gap = gap; token = [] }) ∷ []
 lines_from gap (i.Block texts ∷ items) = lines_from ((gap ++ comment_lines texts) ++ before_next (i.Block texts) items) items

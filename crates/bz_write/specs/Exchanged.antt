@@ -4,7 +4,7 @@ use Rattle.bz_tree.specs.declared.tree.Part.{Part}
 use Rattle.bz_value.specs.declared.value.Item.{Item}
 use Rattle.bz_write.specs.Written.{item_text}
 
--- how many bytes the marked items' own lines have, without what stands between them and others
+-- how many bytes the marked items' own lines have, without what is between them and others
 abbrev pub marked_length : List Bool → List Item → ℕ
 marked_length [] items = 0
 marked_length (mark ∷ marks) [] = 0

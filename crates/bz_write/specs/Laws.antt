@@ -25,7 +25,7 @@ LayoutIsAccepted = (items : List Item) → IsProper items → length (layout ite
 abbrev pub LayoutReadsBack : Type 0
 LayoutReadsBack = (items : List Item) → IsProper items → view_of (drawn items) ≡ flags items
 
--- Where lines that are drawn anew are put in the places of others, and make the tree of a layout of another, the layout is as much longer as these lines are
+-- Where lines that are laid out anew are put in the places of others, and make the tree of a layout of another, the layout is as much longer as these lines are
 -- longer than those that stood there.
 abbrev pub RedrawnHasLength : Type 0
 RedrawnHasLength = (before items : List Item) (places : List ℕ) (lines : List Part) → IsProper before → IsProper items →

@@ -1,4 +1,4 @@
--- The layout: what stands in a node, as pieces. One definition; the text and the tree are two readings of it.
+-- The layout: what is in a node, as pieces. One definition; the text and the tree are two readings of it.
 use Rattle.std.specs.Prelude.{ℕ, Bool, true, false, not, ◌&&◌, ◌||◌, List, [], ◌∷◌, ◌++◌, ◌+◌, length, nat_le, nat_eq, if◌then◌else◌, replicate, map, Option, Some, None}
 use Rattle.bz_tree.specs.declared.kind.Kind.{Kind}
 use Rattle.bz_tree.specs.declared.kind.Kind.TheVariants as k
@@ -26,7 +26,7 @@ abbrev pub margin_lines : ℕ → List Bytes → Bytes
 margin_lines m [] = []
 margin_lines m (text ∷ texts) = text ++ (line m ++ margin_lines m texts)
 
--- a suffix stands after two spaces
+-- a suffix is after two spaces
 abbrev pub suffix_text : Option Bytes → Bytes
 suffix_text None = []
 suffix_text (Some text) = space ∷ space ∷ text
@@ -72,9 +72,9 @@ is_broken kind split items end_ =
 
 -- ---- rows
 
--- The gap behind a part of a row, before the next one. In an open comprehension each part stands on a line of its own at
--- m + 4, the closing bracket, which is the last part, at m. A break operator stands at its line's end, and the operand
--- after it begins a new line at m + 4. Elsewhere stands one space or nothing.
+-- The gap after a part of a row, before the next one. In an open comprehension each part stands on a line of its own at
+-- m + 4, the closing bracket, which is the last part, at m. A break operator is at its line's end, and the operand
+-- after it begins a new line at m + 4. Elsewhere is one space or nothing.
 abbrev pub gap_behind : Kind → Bool → ℕ → Expr → List Expr → Bytes
 gap_behind kind open_ m x [] = []
 gap_behind kind open_ m x (y ∷ ys) =
@@ -87,7 +87,7 @@ margin_behind open_ m x = if open_ || has_break x then m + 4 else m
 
 -- ---- pieces
 
--- a piece of a node: a mark behind its gap, or a part at a margin behind a gap
+-- a piece of a node: a mark after its gap, or a part at a margin after a gap
 pub data Piece (X : Type 0) : Type 0 where
   mark : Bytes → Bytes → Piece X
   part : Bytes → ℕ → X → Piece X
@@ -101,7 +101,7 @@ module _ {X : Type 0} where
   rowed kind open_ m gap n [] = []
   rowed kind open_ m gap n (x ∷ xs) = part gap n x.1 ∷ rowed kind open_ m (gap_behind kind open_ m x.0 (firsts xs)) (margin_behind open_ m x.0) xs
 
-  -- what stands before the opening bracket, the bracket, then
+  -- what is before the opening bracket, the bracket, then
   abbrev pub headed : ℕ → Bytes → ℕ → List (Expr × X) → List (Piece X) → List (Piece X)
   headed m gap opener [] after = mark gap (opener ∷ []) ∷ after
   headed m gap opener (x ∷ xs) after = part gap m x.1 ∷ headed m [] opener xs after
@@ -111,7 +111,7 @@ module _ {X : Type 0} where
   joined m gap closer one [] = mark [] (closer ∷ []) ∷ []
   joined m gap closer one (x ∷ xs) = part gap m x.1 ∷ ((if is_empty xs && not one then [] else (mark [] (comma ∷ []) ∷ [])) ++ joined m (space ∷ []) closer false xs)
 
-  -- broken: each item at m + 4 on lines of its own, its comments above it, then a comma, then its suffix, which stands
+  -- broken: each item at m + 4 on lines of its own, its comments above it, then a comma, then its suffix, which is
   -- in the next gap; end comments; the closing bracket at m
   abbrev pub stacked : ℕ → Option Bytes → ℕ → List Bytes → List (Expr × X) → List (Piece X)
   stacked m suffix closer end_ [] = mark (suffix_text suffix ++ ended m end_) (closer ∷ []) ∷ []

@@ -11,18 +11,18 @@ abbrev pub own_places : ℕ → Item → List ℕ
 own_places place (i.Block texts) = []
 own_places place (i.Stmt x) = place ∷ []
 
--- the place of the line behind it
+-- the place of the line after it
 abbrev pub place_behind : ℕ → Item → ℕ
 place_behind place (i.Block texts) = place
 place_behind place (i.Stmt x) = place + 1
 
--- the places of the lines of marked items, where the next line stands at this place
+-- the places of the lines of marked items, where the next line is at this place
 abbrev pub marked_places : ℕ → List Bool → List Item → List ℕ
 marked_places place [] items = []
 marked_places place (mark ∷ marks) [] = []
 marked_places place (mark ∷ marks) (item ∷ items) = (if mark then own_places place item else []) ++ marked_places (place_behind place item) marks items
 
--- these lines, where this gap stands before the next line
+-- these lines, where this gap is before the next line
 abbrev pub marked_lines : Bytes → List Bool → List Item → List Part
 marked_lines gap [] items = []
 marked_lines gap (mark ∷ marks) [] = []

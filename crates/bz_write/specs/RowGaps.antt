@@ -1,4 +1,4 @@
--- What stands between two parts of a row, as the code has it before it is written or counted.
+-- What is between two parts of a row, as the code has it before it is written or counted.
 use Rattle.std.specs.Prelude.{[], ◌∷◌}
 use Rattle.bz_items.specs.Characters.{Bytes, space}
 use Rattle.bz_write.specs.Layout.{line}

@@ -42,7 +42,7 @@ row_with comments kind open_ parts = e.Form (record { kind = kind; parts = parts
 abbrev row : Kind → List Expr → Expr
 row kind parts = row_with no_comments kind false parts
 
--- a sequence: kind, whether it is split, what stands before its bracket, items
+-- a sequence: kind, whether it is split, what is before its bracket, items
 abbrev sequence : Kind → Bool → List Expr → List Expr → Expr
 sequence kind split parts items = e.Form (record { kind = kind; parts = parts; seq = record { items = items; end_ = []; split = split }; open_ = false; comments = no_comments })
 
@@ -98,7 +98,7 @@ commented = statement [] (codes "cc_library") (row_with (record { before = codes
   comments = no_comments;
 })) ∷ [])
 
--- ["b"] with a suffix behind its item
+-- ["b"] with a suffix after its item
 abbrev suffixed : Expr
 suffixed = list (e.Token (record { class = c.String; text = codes "\"b\""; break_ = false; comments = record { before = []; suffix = Some (codes "# x") } }) ∷ [])
 
@@ -145,7 +145,7 @@ Comments =
     (layout (i.Block (codes "# a" ∷ codes "# b" ∷ []) ∷ statement [] (codes "f") [] ∷ statement [] (codes "g") [] ∷ i.Block (codes "# c" ∷ []) ∷ []) ≡ codes "# a\n# b\n\nf()\n\ng()\n\n# c\n")
     -- comments above items, and below the last one
     × (layout (commented ∷ []) ≡ codes "cc_library(\n    # n\n    name = \"a\",\n    deps = [\n        # why\n        \":b\",\n        # end\n    ],\n)\n")
-    -- a suffix stands behind the comma of its item, and behind its statement
+    -- a suffix is after the comma of its item, and after its statement
     × (layout (assign a suffixed ∷ suffixed_statement ∷ []) ≡ codes "a = [\n    \"b\",  # x\n]\nb = 2  # c\n")
     -- no blank line between two loads, but one before a comment
     × (layout (load [] (codes "\"B\"") (string (codes "\"b\"") ∷ []) ∷ load [] (codes "\"A\"") (argument (codes "c") (string (codes "\"d\"")) ∷ []) ∷ load (codes "# k" ∷ []) (codes "\"C\"") (string (codes "\"c\"") ∷ []) ∷ []) ≡ codes "load(\"B\", \"b\")\nload(\"A\", c = \"d\")\n\n# k\nload(\"C\", \"c\")\n")
@@ -160,7 +160,7 @@ Tokens =
     × (layout (assign (row k.Row (a ∷ mark (codes ",") ∷ b ∷ [])) (name (codes "c")) ∷ []) ≡ codes "a, b = c\n")
     -- a slice
     × (layout (assign b (row k.Slice (a ∷ mark (codes "[") ∷ b ∷ mark (codes ":") ∷ name (codes "c") ∷ mark (codes ":") ∷ mark (codes "]") ∷ [])) ∷ []) ≡ codes "b = a[b:c:]\n")
-    -- a sign stands at its operand, an operator between spaces
+    -- a sign is at its operand, an operator between spaces
     × (layout (assign a (row k.Product (row k.Unary (mark (codes "-") ∷ b ∷ []) ∷ mark (codes "*") ∷ number (codes "2") ∷ [])) ∷ []) ≡ codes "a = -b * 2\n")
     -- keywords between spaces
     × (layout (assign a (row k.Cond (b ∷ keyword (codes "if") ∷ row k.Not (keyword (codes "not") ∷ a ∷ []) ∷ keyword (codes "else") ∷ row k.Compare (a ∷ keyword (codes "not") ∷ keyword (codes "in") ∷ b ∷ []) ∷ [])) ∷ []) ≡ codes "a = b if not a else a not in b\n")
@@ -178,10 +178,10 @@ Breaks =
     -- a comprehension on one line, and open: each part on a line of its own
     × (layout (assign a (comprehension false) ∷ []) ≡ codes "a = [x for x in y]\n")
     × (layout (assign a (comprehension true) ∷ []) ≡ codes "a = [\n    x\n    for x in y\n]\n")
-    -- the operand behind a break operator begins a new line 4 further; of `not in` the break is behind `in`
+    -- the operand after a break operator begins a new line 4 further; of `not in` the break is after `in`
     × (layout (assign a (paren (row k.Sum (a ∷ breaking c.Mark (codes "+") ∷ b ∷ mark (codes "+") ∷ a ∷ []))) ∷ []) ≡ codes "a = (a +\n    b + a)\n")
     × (layout (assign a (paren (row k.Compare (a ∷ keyword (codes "not") ∷ breaking c.Keyword (codes "in") ∷ b ∷ []))) ∷ []) ≡ codes "a = (a not in\n    b)\n")
-    -- what begins a new line behind a break has its margin
+    -- what begins a new line after a break has its margin
     × (layout (assign a (paren (row k.Sum (a ∷ breaking c.Mark (codes "+") ∷ list (a ∷ b ∷ []) ∷ []))) ∷ []) ≡ codes "a = (a +\n    [\n        a,\n        b,\n    ])\n")
 
 abbrev pub WorkedRows : Type 0

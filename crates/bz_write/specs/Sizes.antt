@@ -9,17 +9,17 @@ use Rattle.bz_value.specs.Proper.{comments_of}
 use Rattle.bz_write.specs.Layout.{line, margin_lines, ended, suffix_text, is_broken, is_tuple, gap_behind, margin_behind}
 use Rattle.bz_write.specs.Written.{text_of}
 
--- the rest of a row: its parts, and the gap behind each
+-- the rest of a row: its parts, and the gap after each
 abbrev pub row_size : Kind → Bool → ℕ → ℕ → List Expr → ℕ
 row_size kind open_ m n [] = 0
 row_size kind open_ m n (x ∷ xs) = length (text_of x n) + (length (gap_behind kind open_ m x xs) + row_size kind open_ m (margin_behind open_ m x) xs)
 
--- what stands before a sequence, and its opening bracket
+-- what is before a sequence, and its opening bracket
 abbrev pub head_size : ℕ → List Expr → ℕ
 head_size m [] = 1
 head_size m (x ∷ xs) = length (text_of x m) + head_size m xs
 
--- a comma and a space, or a comma alone behind a lone item, or nothing
+-- a comma and a space, or a comma alone after a lone item, or nothing
 abbrev pub comma_size : Bool → List Expr → ℕ
 comma_size one [] = if one then 1 else 0
 comma_size one (x ∷ xs) = 2
@@ -38,7 +38,7 @@ abbrev pub stacked_size : ℕ → List Bytes → List Expr → ℕ
 stacked_size m end_ [] = length (ended m end_) + 1
 stacked_size m end_ (x ∷ xs) = stacked_item_size m x + stacked_size m end_ xs
 
--- what stands in a sequence, and its closing bracket
+-- what is in a sequence, and its closing bracket
 abbrev pub body_size : Form → ℕ → ℕ
 body_size f m =
     if is_broken f.kind f.seq.split f.seq.items f.seq.end_ then stacked_size m f.seq.end_ f.seq.items

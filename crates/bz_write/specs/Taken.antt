@@ -4,7 +4,7 @@ use Rattle.bz_value.specs.declared.value.Item.{Item}
 use Rattle.bz_items.specs.Characters.{Bytes}
 use Rattle.bz_write.specs.Drawn.{before_next}
 
--- what stands between an item that may be there and those that follow
+-- what is between an item that may be there and those that follow
 abbrev pub before_item : Option Item → List Item → Bytes
 before_item None items = []
 before_item (Some above) items = before_next above items

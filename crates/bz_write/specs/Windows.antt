@@ -16,7 +16,7 @@ line_count_in [] = 0
 line_count_in (i.Block texts ∷ items) = line_count_in items
 line_count_in (i.Stmt x ∷ items) = suc (line_count_in items)
 
--- the gap before what stands behind so many items, where this gap stands before the first of them
+-- the gap before what is after this many items, where this gap is before the first of them
 abbrev pub statement_gap : Bytes → ℕ → List Item → Bytes
 statement_gap gap zero items = gap
 statement_gap gap (suc n) [] = gap

@@ -1,4 +1,4 @@
--- The texts of what stands in a form, as the private functions that write them state them.
+-- The texts of what is in a form, as the private functions that write them state them.
 use Rattle.std.specs.Prelude.{ℕ, Bool, ◌&&◌, List, [], ◌∷◌, ◌++◌, ◌+◌, None, length, nat_eq, map, if◌then◌else◌}
 use Rattle.std.specs.List.{flat_map}
 use Rattle.bz_tree.specs.declared.kind.Kind.{Kind}
@@ -18,7 +18,7 @@ writings xs = map (λ x. (x, text_of x)) xs
 abbrev pub row_text : Kind → Bool → ℕ → ℕ → List Expr → Bytes
 row_text kind open_ m n xs = flat_map piece_text (rowed kind open_ m [] n (writings xs))
 
--- what stands before the bracket of a sequence
+-- what is before the bracket of a sequence
 abbrev pub head_text : ℕ → List Expr → Bytes
 head_text m xs = flat_map (λ x. text_of x m) xs
 
@@ -39,12 +39,12 @@ stacked_item_text m x = line (m + 4) ++ (margin_lines (m + 4) (comments_of x).be
 abbrev pub stacked_text : ℕ → ℕ → List Bytes → List Expr → Bytes
 stacked_text m closer end_ xs = flat_map piece_text (stacked m None closer end_ (writings xs))
 
--- what stands in the sequence of a form, and its closing bracket
+-- what is in the sequence of a form, and its closing bracket
 abbrev pub body_text : Form → ℕ → ℕ → Bytes
 body_text f m closer =
     if is_broken f.kind f.seq.split f.seq.items f.seq.end_ then stacked_text m closer f.seq.end_ f.seq.items
     else joined_text m closer (is_tuple f.kind && nat_eq (length f.seq.items) 1) f.seq.items
 
--- what stands before a sequence, its brackets, and what stands in them
+-- what is before a sequence, its brackets, and what is in them
 abbrev pub sequence_text : Brackets → Form → ℕ → Bytes
 sequence_text brackets f m = head_text m f.parts ++ (brackets.opener ∷ body_text f m brackets.closer)

@@ -55,7 +55,7 @@ abbrev pub gap_between : Item → Item → Bytes
 gap_between (i.Stmt x) (i.Stmt y) = if ((is_load x && is_load y) || (is_assign x && is_assign y)) && is_empty (comments_of y).before then [] else (line_feed ∷ [])
 gap_between _ _ = line_feed ∷ []
 
--- the items from here on, behind an item
+-- the items from here on, after an item
 abbrev pub behind_item : Item → List Item → Bytes
 behind_item item [] = []
 behind_item item (next ∷ items) = gap_between item next ++ (item_text next ++ behind_item next items)

@@ -44,7 +44,7 @@ fn has_named(items: &[Expr]) -> bool
     false
 }
 
-/// Whether a sequence of so many items is broken whatever they are.
+/// Whether a sequence of this many items is broken whatever they are.
 fn is_long(kind: Kind, items: &[Expr]) -> bool
     ensures { result ≡ (nat_le 2 (length items.now) && (layout.is_listed kind || (layout.is_call kind && layout.has_named items.now))) }
 {

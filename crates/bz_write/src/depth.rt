@@ -4,7 +4,7 @@ ghost use Rattle.bz_write.specs.Depths.{depth_expr, deepest_of, depth_inside, de
 
 use bz_value::{Expr, Form, Item, is_sequence};
 
-/// Whether what is drawn of the expression has at most this depth.
+/// Whether what is laid out of the expression has at most this depth.
 #[cycle(within)]
 #[tactic(auto, using(crate::proofs::Deep::depth_Form))]
 pub fn is_within(expr: &Expr, depth: usize) -> bool
@@ -16,7 +16,7 @@ pub fn is_within(expr: &Expr, depth: usize) -> bool
     }
 }
 
-/// Whether what stands in the form has at most this depth.
+/// Whether what is in the form has at most this depth.
 #[cycle(within)]
 #[tactic(auto, using(crate::proofs::Deep::row_inside, crate::proofs::Deep::sequence_inside))]
 fn is_inside_within(form: &Form, depth: usize) -> bool
@@ -28,7 +28,7 @@ fn is_inside_within(form: &Form, depth: usize) -> bool
     !is_sequence(form.kind) || are_within(form.seq.items.as_slice(), depth)
 }
 
-/// Whether what is drawn of each of the expressions has at most this depth.
+/// Whether what is laid out of each of the expressions has at most this depth.
 #[cycle(within)]
 #[tactic(auto, using(crate::proofs::Deep::deepest_next))]
 pub fn are_within(exprs: &[Expr], depth: usize) -> bool

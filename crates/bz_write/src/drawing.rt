@@ -21,7 +21,7 @@ pub fn nothing(alloc: Global) -> Text
     Text::from_vec(Vec::new(alloc))
 }
 
-/// A bracket or a comma behind a gap.
+/// A bracket or a comma after a gap.
 fn mark(alloc: Global, gap: Text, byte: u8) -> Result<Part, Memory>
     ensures { IfOk result (λ part. part ≡ piece_part (layout.mark gap (byte ∷ []))) }
 {
@@ -32,7 +32,7 @@ fn mark(alloc: Global, gap: Text, byte: u8) -> Result<Part, Memory>
     }))
 }
 
-/// What is drawn of an expression behind a gap, at a margin. The error: a growth was refused.
+/// What is laid out of an expression after a gap, at a margin. The error: a growth was refused.
 #[cycle(draw)]
 #[tactic(auto, using(crate::proofs::Made::part_Form))]
 pub fn draw(alloc: Global, expr: &Expr, gap: Text, margin: usize) -> Result<Part, Memory>
@@ -88,7 +88,7 @@ fn draw_row(
     Ok(())
 }
 
-/// What stands before a sequence, and its opening bracket.
+/// What is before a sequence, and its opening bracket.
 #[cycle(draw)]
 fn draw_head(
     alloc: Global,
@@ -108,7 +108,7 @@ fn draw_head(
     parts.push(mark(alloc, gap, opener)?)
 }
 
-/// What stands in a sequence, and its closing bracket.
+/// What is in a sequence, and its closing bracket.
 #[cycle(draw)]
 fn draw_sequence(
     alloc: Global,
@@ -134,7 +134,7 @@ fn draw_sequence(
     draw_joined(alloc, items, margin, closer, one, parts)
 }
 
-/// The comma behind an item: where others follow, or a lone item is to have one.
+/// The comma after an item: where others follow, or a lone item is to have one.
 fn push_comma(
     alloc: Global,
     others: &[Expr],
@@ -149,7 +149,7 @@ fn push_comma(
     parts.push(mark(alloc, nothing(alloc), b',')?)
 }
 
-/// Items joined by a comma and a space; behind a lone item a comma where it is to have one.
+/// Items joined by a comma and a space; after a lone item a comma where it is to have one.
 #[cycle(draw)]
 #[tactic(auto, using(crate::proofs::Loops::joined_next))]
 fn draw_joined(

@@ -1,4 +1,4 @@
-//! Gaps: lines at a margin, comments above, behind and below.
+//! Gaps: lines at a margin, comments above, after and below.
 ghost use Rattle.std.specs.Prelude.{◌≡◌, ◌++◌, ◌+◌, OnOk, IfOk};
 ghost use Rattle.std.specs.Option.{option_copied};
 ghost use Rattle.bz_write.specs.Layout.{line, margin_lines, suffix_text, ended};
@@ -10,7 +10,7 @@ use std::alloc::AllocError;
 /// A limit that no text reaches.
 pub const NO_LIMIT: usize = usize::MAX;
 
-/// The margin of what stands inside a broken sequence. The error: no text is that wide.
+/// The margin of what is inside a broken sequence. The error: no text is that wide.
 pub fn deeper(margin: usize) -> Result<usize, Memory>
     ensures { IfOk result (λ inner. inner ≡ margin + 4) }
 {

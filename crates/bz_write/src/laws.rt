@@ -18,13 +18,13 @@ pub fn layout_reads_back()
     ensures { LayoutReadsBack }
 {}
 
-/// The layout of items behind others is their own, behind that of the others and the blank line between.
+/// The layout of items after others is their own, after that of the others and the blank line between.
 pub fn layouts_join()
     ensures text { LayoutsJoin }
     ensures depth { DepthsJoin }
 {}
 
-/// How long the layout is for which lines were drawn anew, told by the length of the layout before and by those of the lines that
+/// How long the layout is for which lines were laid out anew, told by the length of the layout before and by those of the lines that
 /// were exchanged.
 pub fn redrawn_has_length()
     ensures { RedrawnHasLength }

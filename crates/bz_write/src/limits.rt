@@ -18,7 +18,7 @@ use bz_tree::{DEPTH_LIMIT, LENGTH_LIMIT};
 use bz_value::{Expr, Item};
 use std::alloc::{AllocError, Global};
 
-/// What is left of the room behind the lines of a statement.
+/// What is left of the room after the lines of a statement.
 #[tactic(auto, using(crate::proofs::Measured::statement_length))]
 fn less_statement(alloc: Global, expr: &Expr, room: usize) -> Result<usize, NoRoom>
     ensures ok { IfOk result (λ left. length (item_text (Item.Stmt expr.now)) + left ≡ room) }
@@ -31,7 +31,7 @@ fn less_statement(alloc: Global, expr: &Expr, room: usize) -> Result<usize, NoRo
     less(left, 1)
 }
 
-/// What is left of the room behind the lines of an item.
+/// What is left of the room after the lines of an item.
 fn less_item(alloc: Global, item: &Item, room: usize) -> Result<usize, NoRoom>
     ensures ok { IfOk result (λ left. length (item_text item.now) + left ≡ room) }
     ensures longer { result ≡ Err NoRoom.Longer → room < length (item_text item.now) }
@@ -42,7 +42,7 @@ fn less_item(alloc: Global, item: &Item, room: usize) -> Result<usize, NoRoom>
     }
 }
 
-/// What is left of the room behind what stands between an item and those that follow.
+/// What is left of the room after what is between an item and those that follow.
 fn less_between(item: &Item, others: &[Item], room: usize) -> Result<usize, NoRoom>
     ensures ok { IfOk result (λ left. length (before_next item.now others.now) + left ≡ room) }
     ensures longer { result ≡ Err NoRoom.Longer → room < length (before_next item.now others.now) }
@@ -50,7 +50,7 @@ fn less_between(item: &Item, others: &[Item], room: usize) -> Result<usize, NoRo
     less(room, usize::from(is_apart(item, others)))
 }
 
-/// What is left of so much room behind the layout of the items. Errors: `Longer`: the layout is longer; `Memory`: a growth was
+/// What is left of so much room after the layout of the items. Errors: `Longer`: the layout is longer; `Memory`: a growth was
 /// refused.
 #[tactic(auto, using(crate::proofs::Measured::layout_next))]
 fn less_items(alloc: Global, items: &[Item], room: usize) -> Result<usize, NoRoom>
@@ -120,7 +120,7 @@ pub fn are_marked_shallow(marks: &[bool], items: &[Item]) -> bool
     are_marked_within(marks, items, DEPTH_LIMIT as usize - 1)
 }
 
-/// Whether the layout of the items has at most so many bytes. The error: a growth was refused.
+/// Whether the layout of the items has at most this many bytes. The error: a growth was refused.
 pub fn is_layout_within(alloc: Global, items: &[Item], limit: usize) -> Result<bool, Memory>
     ensures { IfOk result (λ within. IsTrue within ↔ (length (layout items.now) ≤ limit)) }
 {
@@ -131,7 +131,7 @@ pub fn is_layout_within(alloc: Global, items: &[Item], limit: usize) -> Result<b
     }
 }
 
-/// What is left of the room behind the lines of an item, if it is marked.
+/// What is left of the room after the lines of an item, if it is marked.
 fn less_marked(alloc: Global, is_marked: bool, item: &Item, room: usize) -> Result<usize, NoRoom>
     ensures ok { IfOk result (λ left. (if is_marked then length (item_text item.now) else 0) + left ≡ room) }
     ensures longer { result ≡ Err NoRoom.Longer → room < (if is_marked then length (item_text item.now) else 0) }
@@ -142,7 +142,7 @@ fn less_marked(alloc: Global, is_marked: bool, item: &Item, room: usize) -> Resu
     less_item(alloc, item, room)
 }
 
-/// What is left of so much room behind the lines of the marked items. Errors: `Longer`: they are longer; `Memory`: a growth was
+/// What is left of so much room after the lines of the marked items. Errors: `Longer`: they are longer; `Memory`: a growth was
 /// refused.
 #[tactic(auto, using(crate::proofs::ExchangedLengths::marked_length_next))]
 fn less_all_marked(
@@ -162,8 +162,8 @@ fn less_all_marked(
     Ok(left)
 }
 
-/// Whether the own lines of the marked items are within the limit of a text, without what stands between them and others. Where it
-/// says no, the layout of all items is past the limit; so no line that is longer need ever be drawn. The error: a growth was
+/// Whether the own lines of the marked items are within the limit of a text, without what is between them and others. Where it
+/// says no, the layout of all items is past the limit; so no line that is longer need ever be laid out. The error: a growth was
 /// refused.
 #[tactic(auto, using(crate::proofs::ExchangedLengths::length_below))]
 pub fn are_marked_short(alloc: Global, marks: &[bool], items: &[Item]) -> Result<bool, Memory>
@@ -178,7 +178,7 @@ pub fn are_marked_short(alloc: Global, marks: &[bool], items: &[Item]) -> Result
     }
 }
 
-/// So many of the items, behind the first `from` ones.
+/// This many of the items, after the first `from` ones.
 fn window(items: &[Item], from: usize, come: usize) -> &[Item]
     requires { from + come ≤ length items.now }
     ensures { result.now ≡ take come (drop from items.now) }
@@ -188,8 +188,8 @@ fn window(items: &[Item], from: usize, come: usize) -> &[Item]
     window
 }
 
-/// Whether the tree of the layout of all items is within the limit of depth, if it was before so many of them came in the place of
-/// others behind the first `from` ones: only these are looked at. Where it says no, the tree is past the limit, whatever it was
+/// Whether the tree of the layout of all items is within the limit of depth, if it was before this many of them came in the place of
+/// others after the first `from` ones: only these are looked at. Where it says no, the tree is past the limit, whatever it was
 /// before.
 pub fn is_window_shallow(items: &[Item], from: usize, come: usize) -> bool
     requires held { from + come ≤ length items.now }
@@ -200,8 +200,8 @@ pub fn is_window_shallow(items: &[Item], from: usize, come: usize) -> bool
     are_items_within(window(items, from, come), DEPTH_LIMIT as usize - 1)
 }
 
-/// Whether the layout of so many of the items alone, behind the first `from` ones, is within the limit of a text. Where it says no,
-/// that of all items is past the limit; so no line that is longer need ever be drawn. The error: a growth was refused.
+/// Whether the layout of this many of the items alone, after the first `from` ones, is within the limit of a text. Where it says no,
+/// that of all items is past the limit; so no line that is longer need ever be laid out. The error: a growth was refused.
 #[tactic(auto, using(crate::proofs::WindowLimits::window_below))]
 pub fn is_window_short(
     alloc: Global,

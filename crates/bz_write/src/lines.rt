@@ -29,7 +29,7 @@ fn is_assign(expr: &Expr) -> bool
     }
 }
 
-/// Whether a statement stands right below another, with no blank line between.
+/// Whether a statement is right below another, with no blank line between.
 pub fn is_close(above: &Expr, below: &Expr) -> bool
     ensures { (if result then [] else (line_feed ∷ [])) ≡ written.gap_between (Item.Stmt above.now) (Item.Stmt below.now) }
 {
@@ -39,7 +39,7 @@ pub fn is_close(above: &Expr, below: &Expr) -> bool
     is_load(above) && is_load(below) || is_assign(above) && is_assign(below)
 }
 
-/// Whether a blank line stands between an item and those that follow.
+/// Whether a blank line is between an item and those that follow.
 pub fn is_apart(item: &Item, others: &[Item]) -> bool
     ensures { (if result then (line_feed ∷ []) else []) ≡ before_next item.now others.now }
 {
@@ -50,7 +50,7 @@ pub fn is_apart(item: &Item, others: &[Item]) -> bool
     }
 }
 
-/// Appends what stands between an item and those that follow.
+/// Appends what is between an item and those that follow.
 pub fn push_between(gap: &mut Vec<u8>, item: &Item, others: &[Item]) -> Result<(), Memory>
     ensures { OnOk result (gap.new.items ≡ gap.old.items ++ before_next item.now others.now) }
 {
@@ -60,7 +60,7 @@ pub fn push_between(gap: &mut Vec<u8>, item: &Item, others: &[Item]) -> Result<(
     Ok(())
 }
 
-/// The line of a statement behind a gap.
+/// The line of a statement after a gap.
 pub fn draw_line(alloc: Global, expr: &Expr, gap: Vec<u8>) -> Result<Part, Memory>
     ensures { IfOk result (λ part. part ≡ line_part gap.items expr.now) }
 {
@@ -70,7 +70,7 @@ pub fn draw_line(alloc: Global, expr: &Expr, gap: Vec<u8>) -> Result<Part, Memor
     let token = Text::from_slice(alloc, b"\n")?;
     let mut gap = gap;
     push_comments(&mut gap, comments.before())?;
-    // The statement comes last: what stands when memory is refused is let go of at each place where that can be.
+    // The statement comes last: what stands when memory is refused is dropped at each place where that can be.
     let statement = draw(alloc, expr, Text::from_vec(gap), 0)?;
     let newline = Part::Leaf(Leaf {
         class: Class::Newline,
@@ -106,7 +106,7 @@ pub fn draw_item(
     }
 }
 
-/// The end of a file behind a gap.
+/// The end of a file after a gap.
 pub fn end_behind(alloc: Global, gap: Vec<u8>) -> Part
     ensures { result ∷ [] ≡ lines_from gap.items [] }
 {

@@ -1,4 +1,4 @@
-//! The lines of some statements alone, for a tree in which the others are drawn already.
+//! The lines of some statements alone, for a tree in which the others are laid out already.
 ghost use Rattle.std.specs.Prelude.{◌≡◌, ◌++◌, ◌+◌, ◌^◌, ◌<◌, [], length, List, IfOk, OnOk, if◌then◌else◌};
 ghost use Rattle.bz_write.specs.Drawn.{drawn, own_lines, left_gap};
 ghost use Rattle.bz_tree.specs.Places.{Ascend, put_all};
@@ -12,14 +12,14 @@ use bz_tree::Part;
 use bz_value::Item;
 use std::alloc::Global;
 
-/// Lines that are drawn anew, and the place of each among the parts of the file's tree, from the first one down.
+/// Lines that are laid out anew, and the place of each among the parts of the file's tree, from the first one down.
 #[derive(Drop)]
 pub struct Redrawn {
     pub places: Items<usize>,
     pub lines: Items<Part>,
 }
 
-/// The place of the line behind an item, where its own is to stand at this place.
+/// The place of the line after an item, where its own is to stand at this place.
 pub fn place_behind(place: usize, item: &Item) -> usize
     requires { place + 1 < 2 ^ 64 }
     ensures { result ≡ marks.place_behind place item.now }

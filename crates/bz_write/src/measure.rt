@@ -23,7 +23,7 @@ pub struct Pending<'a> {
     pub margin: usize,
 }
 
-/// What is left of the room behind an expression, where a form waits to be measured.
+/// What is left of the room after an expression, where a form waits to be measured.
 #[tactic(auto, using(crate::proofs::PendingForms::size_pushed, crate::proofs::PendingForms::forms_pushed))]
 fn less_expr<'a>(
     expr: &'a Expr,
@@ -44,7 +44,7 @@ fn less_expr<'a>(
     }
 }
 
-/// What is left of the room behind a row.
+/// What is left of the room after a row.
 #[tactic(auto, using(crate::proofs::PendingForms::row_next))]
 fn less_row<'a>(
     form: &'a Form,
@@ -67,7 +67,7 @@ fn less_row<'a>(
     Ok(left)
 }
 
-/// What is left of the room behind what stands before a sequence, and its opening bracket.
+/// What is left of the room after what is before a sequence, and its opening bracket.
 #[tactic(auto, using(crate::proofs::PendingForms::head_next))]
 fn less_head<'a>(
     head: &'a [Expr],
@@ -96,7 +96,7 @@ fn comma_len(others: &[Expr], one: bool) -> usize
     }
 }
 
-/// What is left of the room behind items on one line, and the closing bracket.
+/// What is left of the room after items on one line, and the closing bracket.
 #[tactic(auto, using(crate::proofs::PendingForms::joined_next))]
 fn less_joined<'a>(
     items: &'a [Expr],
@@ -119,7 +119,7 @@ fn less_joined<'a>(
     less(left, 1)
 }
 
-/// What is left of the room behind an item on lines of its own at the margin of its sequence: its comments above it, a
+/// What is left of the room after an item on lines of its own at the margin of its sequence: its comments above it, a
 /// comma, its suffix.
 fn less_item<'a>(
     item: &'a Expr,
@@ -139,7 +139,7 @@ fn less_item<'a>(
     less_behind(less(left, 1)?, comments.suffix())
 }
 
-/// What is left of the room behind items on lines of their own, the end comments, and the closing bracket.
+/// What is left of the room after items on lines of their own, the end comments, and the closing bracket.
 #[tactic(auto, using(crate::proofs::PendingForms::stacked_next))]
 fn less_stacked<'a>(
     items: &'a [Expr],
@@ -159,7 +159,7 @@ fn less_stacked<'a>(
     less(less_ended(left, end_, margin)?, 1)
 }
 
-/// What is left of the room behind what stands in a sequence, and its closing bracket.
+/// What is left of the room after what is in a sequence, and its closing bracket.
 fn less_body<'a>(
     form: &'a Form,
     margin: usize,
@@ -178,7 +178,7 @@ fn less_body<'a>(
     less_joined(items, one, margin, room, pending)
 }
 
-/// What is left of the room behind a form, where the forms in it wait to be measured.
+/// What is left of the room after a form, where the forms in it wait to be measured.
 #[tactic(auto, using(crate::proofs::PendingForms::forms_Form, crate::proofs::PendingForms::row_form, crate::proofs::PendingForms::sequence_form))]
 fn less_form<'a>(
     form: &'a Form,
@@ -197,7 +197,7 @@ fn less_form<'a>(
     less_body(form, margin, left, pending)
 }
 
-/// What is left of the room behind the forms that wait.
+/// What is left of the room after the forms that wait.
 #[tactic(auto, using(crate::proofs::Sized::form_length, crate::proofs::PendingForms::size_pushed, crate::proofs::PendingForms::forms_pushed))]
 fn less_pending(room: usize, pending: &mut Vec<Pending<'_>>) -> Result<usize, NoRoom>
     ensures ok { IfOk result (λ left. pending_size pending.old.items + left ≡ room) }
@@ -210,7 +210,7 @@ fn less_pending(room: usize, pending: &mut Vec<Pending<'_>>) -> Result<usize, No
     Ok(left)
 }
 
-/// What is left of so much room behind the layout of an expression at a margin. Errors: `Longer`: the layout is longer;
+/// What is left of so much room after the layout of an expression at a margin. Errors: `Longer`: the layout is longer;
 /// `Memory`: a growth was refused.
 pub fn left_behind(alloc: Global, expr: &Expr, margin: usize, room: usize) -> Result<usize, NoRoom>
     ensures ok { IfOk result (λ left. length (text_of expr.now margin) + left ≡ room) }
@@ -237,7 +237,7 @@ pub fn left_behind_row(
     less_pending(left, &mut pending)
 }
 
-/// The same of what stands in the sequence of a form, and its closing bracket.
+/// The same of what is in the sequence of a form, and its closing bracket.
 #[tactic(auto, using(crate::proofs::Sized::body_is))]
 pub fn left_behind_body(
     alloc: Global,

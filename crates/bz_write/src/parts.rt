@@ -1,4 +1,4 @@
-//! Room for the parts that are drawn of a form.
+//! Room for the parts that are laid out of a form.
 ghost use Rattle.std.specs.Prelude.{◌≡◌, [], IfOk};
 
 use crate::breaks::is_broken;
@@ -7,7 +7,7 @@ use bz_tree::{Kind, Part};
 use bz_value::{Form, is_sequence};
 use std::alloc::Global;
 
-/// How many commas are drawn behind so many items of a form: behind the last one where the form is broken or a tuple of one.
+/// How many commas are laid out after this many items of a form: after the last one where the form is broken or a tuple of one.
 fn commas(form: &Form, items: usize) -> usize {
     let lone = matches!(form.kind, Kind::Tuple) && items == 1;
     if lone || is_broken(form) {
@@ -17,7 +17,7 @@ fn commas(form: &Form, items: usize) -> usize {
     }
 }
 
-/// How many parts are drawn of a form.
+/// How many parts are laid out of a form.
 fn count(form: &Form) -> usize {
     let row = form.parts.len();
     if !is_sequence(form.kind) {
@@ -29,7 +29,7 @@ fn count(form: &Form) -> usize {
         .saturating_add(2)
 }
 
-/// An empty list with room for just the parts that are drawn of a form. The error: the room was refused.
+/// An empty list with room for just the parts that are laid out of a form. The error: the room was refused.
 pub fn room_for(alloc: Global, form: &Form) -> Result<Items<Part>, Memory>
     ensures { IfOk result (λ parts. parts ≡ []) }
 {

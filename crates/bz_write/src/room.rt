@@ -41,7 +41,7 @@ impl<T: Drop> From<AllocFailed<T>> for NoRoom {
     }
 }
 
-/// What is left of the room behind so many bytes.
+/// What is left of the room after this many bytes.
 pub fn less(room: usize, count: usize) -> Result<usize, NoRoom>
     ensures ok { IfOk result (λ left. count + left ≡ room) }
     ensures longer { result ≡ Err NoRoom.Longer → room < count }
@@ -49,7 +49,7 @@ pub fn less(room: usize, count: usize) -> Result<usize, NoRoom>
     room.checked_sub(count).ok_or(NoRoom::Longer)
 }
 
-/// What is left of the room behind a newline and the spaces of a margin.
+/// What is left of the room after a newline and the spaces of a margin.
 #[tactic(auto, using(crate::proofs::Rooms::line_length))]
 pub fn less_line(room: usize, margin: usize) -> Result<usize, NoRoom>
     ensures ok { IfOk result (λ left. length (line margin) + left ≡ room) }
@@ -58,7 +58,7 @@ pub fn less_line(room: usize, margin: usize) -> Result<usize, NoRoom>
     less(less(room, 1)?, margin)
 }
 
-/// What is left of the room behind the comments above an item, each on its own line at the margin.
+/// What is left of the room after the comments above an item, each on its own line at the margin.
 #[tactic(auto, using(crate::proofs::Rooms::above_next))]
 pub fn less_above(room: usize, texts: &[Text], margin: usize) -> Result<usize, NoRoom>
     ensures ok { IfOk result (λ left. length (margin_lines margin texts.now) + left ≡ room) }
@@ -72,7 +72,7 @@ pub fn less_above(room: usize, texts: &[Text], margin: usize) -> Result<usize, N
     Ok(left)
 }
 
-/// What is left of the room behind the end comments of a sequence, and the line of its closing bracket at the margin.
+/// What is left of the room after the end comments of a sequence, and the line of its closing bracket at the margin.
 #[tactic(auto, using(crate::proofs::Rooms::ended_next))]
 pub fn less_ended(room: usize, texts: &[Text], margin: usize) -> Result<usize, NoRoom>
     ensures ok { IfOk result (λ left. length (ended margin texts.now) + left ≡ room) }
@@ -87,7 +87,7 @@ pub fn less_ended(room: usize, texts: &[Text], margin: usize) -> Result<usize, N
     less_line(left, margin)
 }
 
-/// What is left of the room behind a suffix after two spaces.
+/// What is left of the room after a suffix after two spaces.
 pub fn less_behind(room: usize, suffix: Option<&Text>) -> Result<usize, NoRoom>
     ensures ok { IfOk result (λ left. length (suffix_text (option_copied suffix.entry)) + left ≡ room) }
     ensures longer { result ≡ Err NoRoom.Longer → room < length (suffix_text (option_copied suffix.entry)) }
@@ -98,7 +98,7 @@ pub fn less_behind(room: usize, suffix: Option<&Text>) -> Result<usize, NoRoom>
     }
 }
 
-/// What is left of the room behind comment lines, each with its newline.
+/// What is left of the room after comment lines, each with its newline.
 #[tactic(auto, using(crate::proofs::Rooms::lines_next))]
 pub fn less_comments(room: usize, texts: &[Text]) -> Result<usize, NoRoom>
     ensures ok { IfOk result (λ left. length (comment_lines texts.now) + left ≡ room) }
@@ -112,7 +112,7 @@ pub fn less_comments(room: usize, texts: &[Text]) -> Result<usize, NoRoom>
     Ok(left)
 }
 
-/// What is left of the room behind the gap between two parts of a row.
+/// What is left of the room after the gap between two parts of a row.
 #[tactic(auto, using(crate::proofs::Rooms::line_length))]
 pub fn less_gap(room: usize, gap: RowGap) -> Result<usize, NoRoom>
     ensures ok { IfOk result (λ left. length (written_gap gap) + left ≡ room) }

@@ -1,4 +1,4 @@
-//! What stands between two parts of a row.
+//! What is between two parts of a row.
 ghost use Rattle.std.specs.Prelude.{◌≡◌, ◌<◌, ◌+◌, ◌++◌, drop, length, IfOk, OnOk};
 ghost use Rattle.bz_value.specs.Proper.{has_break};
 ghost use Rattle.bz_write.specs.Layout as layout;
@@ -19,7 +19,7 @@ pub enum RowGap {
     Line(usize),
 }
 
-/// The expressions behind the one at this place.
+/// The expressions after the one at this place.
 pub fn others(exprs: &[Expr], at: usize) -> &[Expr]
     requires { at < length exprs.now }
     ensures { result.now ≡ drop (at + 1) exprs.now }
@@ -36,7 +36,7 @@ fn has_break(expr: &Expr) -> bool
     }
 }
 
-/// The gap behind a part of a row, before the others. The error: no text is that wide.
+/// The gap after a part of a row, before the others. The error: no text is that wide.
 #[inline(always)]
 pub fn gap_behind(
     form: &Form,
@@ -64,7 +64,7 @@ pub fn gap_behind(
     Ok(RowGap::Nothing)
 }
 
-/// The margin of what stands behind a part of a row. The error: no text is that wide.
+/// The margin of what is after a part of a row. The error: no text is that wide.
 pub fn margin_behind(form: &Form, margin: usize, part: &Expr) -> Result<usize, Memory>
     ensures { IfOk result (λ inner. inner ≡ layout.margin_behind form.now.open_ margin part.now) }
 {
@@ -103,7 +103,7 @@ fn push_gap(out: &mut Vec<u8>, gap: RowGap, limit: usize) -> Result<(), Memory>
     }
 }
 
-/// Appends the gap behind a part of a row, before the others. The error: a growth was refused.
+/// Appends the gap after a part of a row, before the others. The error: a growth was refused.
 pub fn push_row_gap(
     out: &mut Vec<u8>,
     form: &Form,
@@ -117,7 +117,7 @@ pub fn push_row_gap(
     push_gap(out, gap_behind(form, margin, part, others)?, limit)
 }
 
-/// The text of the gap behind a part of a row, before the others. The error: a growth was refused.
+/// The text of the gap after a part of a row, before the others. The error: a growth was refused.
 pub fn text_behind(
     alloc: Global,
     form: &Form,

@@ -1,4 +1,4 @@
-//! The lines of some items that stand together, for a tree in which those of the others are drawn already.
+//! The lines of some items that stand together, for a tree in which those of the others are laid out already.
 ghost use Rattle.std.specs.Prelude.{ℕ, ◌≡◌, ◌++◌, ◌+◌, ◌-◌, ◌≤◌, [], take, drop, length, List, IfOk, OnOk};
 ghost use Rattle.bz_value.specs.Exchanged.{IsSpliced};
 ghost use Rattle.bz_value.specs.declared.value.Item.{Item};
@@ -42,7 +42,7 @@ fn count_lines(items: &[Item]) -> usize
 }
 
 /// From which item on the gap before a place is made: from the last statement before it, or else from the first item of all. What
-/// stands above that item leaves nothing in it.
+/// is above that item leaves nothing in it.
 fn last_statement(items: &[Item], from: usize) -> usize
     requires { from ≤ length items.now }
     ensures within { result ≤ from }
@@ -73,7 +73,7 @@ fn gap_before(alloc: Global, items: &[Item], from: usize) -> Result<Vec<u8>, Mem
     Ok(gap)
 }
 
-/// Appends the first line of the items, that of the first statement or else the end, behind a gap.
+/// Appends the first line of the items, that of the first statement or else the end, after a gap.
 fn draw_first(
     alloc: Global,
     items: &[Item],
@@ -99,7 +99,7 @@ fn draw_first(
     Ok(())
 }
 
-/// The lines of so many of the items, and the next one behind them, the first of all behind a gap.
+/// The lines of this many of the items, and the next one after them, the first of all after a gap.
 #[tactic(auto, using(crate::proofs::Loops::lines_next))]
 fn draw_window(
     alloc: Global,
@@ -121,10 +121,10 @@ fn draw_window(
     Ok(lines)
 }
 
-/// The lines of the `come` items that stand behind the first `from` ones, as the layout of all items has them, and the next line
-/// behind them, before which another gap may stand now. Where these items came in the place of any others in a file, the tree of
+/// The lines of the `come` items that stand after the first `from` ones, as the layout of all items has them, and the next line
+/// after them, before which another gap may stand now. Where these items came in the place of any others in a file, the tree of
 /// whose layout had `count` parts, it is that of the layout of all items once these lines are put there. How many parts they
-/// replace is told by `count` and by the lines that are left behind them. The error: a growth was refused.
+/// replace is told by `count` and by the lines that are left after them. The error: a growth was refused.
 pub fn redraw_spliced(
     alloc: Global,
     items: &[Item],

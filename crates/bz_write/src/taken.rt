@@ -17,7 +17,7 @@ use bz_value::{File, Item};
 use std::alloc::Global;
 use std::slice;
 
-/// The tree that `set` makes, of a file value that is given up: each item is let go when the next one is drawn, so that the whole
+/// The tree that `set` makes, of a file value that is given up: each item is dropped when the next one is laid out, so that the whole
 /// value does not stand beside the whole tree. Errors: `TooLarge` exactly where the layout is past the limit of a text, else
 /// `TooDeep` exactly where the tree is past the limit of depth; `Memory`: a growth was refused.
 pub fn set_from(alloc: Global, file: File) -> Result<Tree, SetFault>
@@ -40,7 +40,7 @@ pub fn set_from(alloc: Global, file: File) -> Result<Tree, SetFault>
     })
 }
 
-/// The lines of a file's items, and its end, as `draw_lines` draws them; each item is let go when the next one is drawn. The
+/// The lines of a file's items, and its end, as `draw_lines` draws them; each item is dropped when the next one is laid out. The
 /// error: a growth was refused.
 #[tactic(auto, using(crate::proofs::TakenItems::lines_turn, crate::proofs::TakenItems::lines_end))]
 fn draw_each(alloc: Global, items: Items<Item>) -> Result<Items<Part>, Memory>
@@ -60,14 +60,14 @@ fn draw_each(alloc: Global, items: Items<Item>) -> Result<Items<Part>, Memory>
     Ok(parts)
 }
 
-/// The item that was drawn last, and the gap behind it.
+/// The item that was laid out last, and the gap after it.
 #[derive(Drop)]
 struct Standing {
     above: Option<Item>,
     gap: Vec<u8>,
 }
 
-/// Appends the line of an item behind the one that was drawn last, which is let go. The error: a growth was refused. Items are let
+/// Appends the line of an item after the one that was laid out last, which is dropped. The error: a growth was refused. Items are let
 /// go of by calls: by the end of its scope, each form of one would be a path of this proof.
 fn draw_next(
     alloc: Global,
@@ -98,7 +98,7 @@ fn draw_next(
     }
 }
 
-/// Appends what stands between an item and the one above it, if there is one.
+/// Appends what is between an item and the one above it, if there is one.
 fn push_before(gap: &mut Vec<u8>, above: Option<&Item>, item: &Item) -> Result<(), Memory>
     ensures { OnOk result (gap.new.items ≡ gap.old.items ++ before_item (option_copied above.entry) (item.now ∷ [])) }
 {

@@ -42,7 +42,7 @@ fn push_form(out: &mut Vec<u8>, form: &Form, margin: usize, limit: usize) -> Res
     }
 }
 
-/// Appends what stands before a sequence, its brackets, and what stands in them.
+/// Appends what is before a sequence, its brackets, and what is in them.
 #[cycle(push)]
 fn push_sequence(
     out: &mut Vec<u8>,
@@ -73,7 +73,7 @@ pub fn push_row(out: &mut Vec<u8>, form: &Form, margin: usize, limit: usize) -> 
     Ok(())
 }
 
-/// Appends what stands before the opening bracket of a sequence.
+/// Appends what is before the opening bracket of a sequence.
 #[cycle(push)]
 fn push_head(out: &mut Vec<u8>, head: &[Expr], margin: usize, limit: usize) -> Result<(), Memory>
     ensures { OnOk result (out.new.items ≡ out.old.items ++ head_text margin head.now) }
@@ -84,7 +84,7 @@ fn push_head(out: &mut Vec<u8>, head: &[Expr], margin: usize, limit: usize) -> R
     Ok(())
 }
 
-/// Appends what stands in the sequence of a form at a margin, and this closing bracket. The error: a growth was refused, or the text
+/// Appends what is in the sequence of a form at a margin, and this closing bracket. The error: a growth was refused, or the text
 /// is past the limit.
 #[cycle(push)]
 pub fn push_body(
@@ -104,7 +104,7 @@ pub fn push_body(
     push_joined(out, items, margin, closer, one, limit)
 }
 
-/// Appends what stands between an item on one line and the others that follow: a lone item may have a comma.
+/// Appends what is between an item on one line and the others that follow: a lone item may have a comma.
 fn push_comma(out: &mut Vec<u8>, others: &[Expr], one: bool) -> Result<(), Memory>
     ensures { OnOk result (out.new.items ≡ out.old.items ++ comma_text one others.now) }
 {
@@ -116,7 +116,7 @@ fn push_comma(out: &mut Vec<u8>, others: &[Expr], one: bool) -> Result<(), Memor
     Ok(())
 }
 
-/// Appends items joined by a comma and a space, and the closing bracket; behind a lone item a comma where it is to have one.
+/// Appends items joined by a comma and a space, and the closing bracket; after a lone item a comma where it is to have one.
 #[cycle(push)]
 #[tactic(auto, using(crate::proofs::Writing::joined_next))]
 fn push_joined(

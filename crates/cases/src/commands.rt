@@ -39,7 +39,7 @@ impl CommandQuery {
     }
 }
 
-/// `Command::read`, of which nothing has to be known here; the command is let go again.
+/// `Command::read`, of which nothing has to be known here; the command is dropped again.
 fn read(alloc: Global, text: &str) -> Result<(), CommandFault> {
     match Command::read(alloc, text) {
         Ok(_) => Ok(()),

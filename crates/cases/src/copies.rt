@@ -7,7 +7,7 @@ use sheets::{Case, CaseFault, Page};
 use std::alloc::Global;
 
 /// Writes a copy of a form that has the comments of the first text but for that of its first line above, and the second text
-/// behind; then whether all copies are equal to what was copied, and to nothing else.
+/// after; then whether all copies are equal to what was copied, and to nothing else.
 pub(crate) fn answer(case: &Case, page: &mut Page) -> Result<(), CaseFault> {
     let form = form_of(case.alloc, case.bytes(0)?, case.bytes(1)?)?;
     let item = Item::Stmt(Expr::Form(form));
@@ -31,7 +31,7 @@ fn answer_of(alloc: Global, item: &Item, page: &mut Page) -> Result<(), CaseFaul
     Ok(page.answer(answer)?)
 }
 
-/// The comments of a gap but for that of its first line, and one behind.
+/// The comments of a gap but for that of its first line, and one after.
 fn comments_of(alloc: Global, gap: &[u8], behind: &[u8]) -> Result<Comments, Memory> {
     let mut above = Items::new(alloc);
     push_others(alloc, gap, &mut above)?;

@@ -6,7 +6,7 @@ use bz_value::{File, Item};
 use bz_view::view;
 use std::alloc::Global;
 
-/// What stands between two texts: no accepted text has it.
+/// What is between two texts: no accepted text has it.
 const NUL: u8 = 0;
 
 /// Whether two nodes are equal.

@@ -12,7 +12,7 @@ use std::alloc::Global;
 const FILE: &str = "BUILD";
 
 /// Writes the answers to the actions, which all texts but the last one name, each kept with its line as its note, in files in memory;
-/// then the journal that stands there; and of the session that it is resumed as its listing, and the note of each step.
+/// then the journal that is there; and of the session that it is resumed as its listing, and the note of each step.
 pub(crate) fn answer(case: &Case, page: &mut Page) -> Result<(), CaseFault> {
     let Some((text, names)) = case.texts.as_slice().split_last() else {
         return Err(CaseFault::Sheet("a text is missing"));
@@ -56,7 +56,7 @@ fn keep_line(
     Ok(show_reply(alloc, &reply, page)?)
 }
 
-/// What keeping the action that a line names answers. The request is let go here, and nothing else is, so that this can be checked.
+/// What keeping the action that a line names answers. The request is dropped here, and nothing else is, so that this can be checked.
 fn kept_line(
     alloc: Global,
     session: &mut Session,

@@ -18,7 +18,7 @@ pub(crate) fn answer(case: &Case, page: &mut Page) -> Result<(), CaseFault> {
     Ok(())
 }
 
-/// `splice`, where the list has so many items from the place on. Whether it has.
+/// `splice`, where the list has this many items from the place on. Whether it has.
 fn spliced(
     list: &mut Items<u8>,
     place: usize,

@@ -19,12 +19,12 @@
 //! | `lines` | a text | the line of each statement |
 //! | `kind`, `class` | a number | the kind of node or the class of leaf that has it, and its number |
 //! | `view` | a text | its file value, an item a line |
-//! | `copies` | a gap, and a comment | a copy of a form that has the comments of the gap, but for that of its first line, above, and the comment behind; whether all copies are equal |
+//! | `copies` | a gap, and a comment | a copy of a form that has the comments of the gap, but for that of its first line, above, and the comment after; whether all copies are equal |
 //! | `layout` | a text | the layout of its file value, which has that layout in its turn |
 //! | `formatted` | a text | the layout of its file value tidied, which is formatted to that in its turn |
 //! | `bzl` | a text of a .bzl file | its tree, or the number and the text of its fault |
 //! | `bzl_formatted` | a text of a .bzl file | its formatted text, which is formatted to itself |
-//! | `splice PLACE COUNT` | two texts | the first with so many of its bytes, from the place on, exchanged for the second; the bytes that were there; and the result from its last byte on |
+//! | `splice PLACE COUNT` | two texts | the first with this many of its bytes, from the place on, exchanged for the second; the bytes that were there; and the result from its last byte on |
 //! | `token` | a text | the class and the bytes of the token that it begins with |
 //! | `tokens` | a text | its tokens, or its fault |
 //! | `leaves` | a text | class, gap and token of each leaf, and the fault |
@@ -32,9 +32,9 @@
 //! | `label PACKAGE` | a text | repository, package and name of the label that it is in the package |
 //! | `same PACKAGE` | two texts | whether they mean the same in the package |
 //! | `shorten PACKAGE` | a text | its shorter form in the package, and in a package that isn't known |
-//! | `order` | keys | whether each comes before all that stand behind it |
+//! | `order` | keys | whether each comes before all that stand after it |
 //! | `target` | a text | package and rules of the target that it is |
-//! | `priority` | an attribute | where it stands in a rule |
+//! | `priority` | an attribute | where it is in a rule |
 //! | `sorted KIND` | an attribute | whether its lists are sorted in a rule of the kind |
 //! | `labels`, `lists` | an attribute | whether its texts are labels, whether one value of it becomes a list |
 //! | `command` | a text | whether it is read as a command, which is copied, or its fault |
@@ -47,7 +47,7 @@
 //!
 //! An action is `COMMAND TARGET`, `format`, `undo N` or `redo N`.
 //!
-//! With words behind its name the program answers no sheet: it does one piece of work on the text that is standard input, and
+//! With words after its name the program answers no sheet: it does one piece of work on the text that is standard input, and
 //! tells what that took. The module `measuring` says which.
 #![tactic(auto)]
 

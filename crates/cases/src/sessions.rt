@@ -46,7 +46,7 @@ fn requests_of(case: &Case, count: usize) -> Result<Vec<Request>, CaseFault> {
     Ok(requests)
 }
 
-/// Writes the answers to the actions, which all texts but the last one name; then where the session stands, and its text.
+/// Writes the answers to the actions, which all texts but the last one name; then where the session is, and its text.
 pub(crate) fn answer(case: &Case, page: &mut Page) -> Result<(), CaseFault> {
     let played = match played(case)? {
         Ok(played) => played,
@@ -98,7 +98,7 @@ impl Request {
     }
 }
 
-/// What a line asks for: a command and behind it, as the last word, its target.
+/// What a line asks for: a command and after it, as the last word, its target.
 pub(crate) fn request_of(alloc: Global, line: &str) -> Result<Request, CaseFault> {
     if line == "format" {
         return Ok(Request::Format);

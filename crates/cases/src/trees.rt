@@ -84,7 +84,7 @@ pub(crate) fn told(alloc: Global, fault: &ReadFault) -> Result<String, Memory> {
     format!(in alloc; "{number} {fault}")
 }
 
-/// Whether the tree spells the text and has its length, and so has a copy of it behind what is there.
+/// Whether the tree spells the text and has its length, and so has a copy of it after what is there.
 fn spells(alloc: Global, tree: &Tree, text: &[u8]) -> Result<bool, Memory> {
     let mut spelled = Vec::new(alloc);
     tree.spell_into(&mut spelled)?;
@@ -160,7 +160,7 @@ fn equality(alloc: Global, text: &[u8], other: &[u8]) -> Result<String, Memory> 
     String::from_str(alloc, answer)
 }
 
-/// What stands between this beginning and this end, or the whole.
+/// What is between this beginning and this end, or the whole.
 fn within<'a>(shown: &'a str, begin: &str, end: &str) -> &'a str {
     match shown.strip_prefix(begin) {
         Some(behind) => behind.strip_suffix(end).unwrap_or(shown),

@@ -64,7 +64,7 @@ fn viewed(case: &Case, page: &mut Page) -> Result<(), CaseFault> {
     Ok(())
 }
 
-/// Each comment stands in angle brackets.
+/// Each comment is in angle brackets.
 fn show_comments(comments: &[Text], out: &mut Vec<u8>) -> Result<(), Memory> {
     for comment in comments {
         out.extend_from_slice(b"<")?;
@@ -74,7 +74,7 @@ fn show_comments(comments: &[Text], out: &mut Vec<u8>) -> Result<(), Memory> {
     Ok(())
 }
 
-/// The comment on the last line of a host stands behind it.
+/// The comment on the last line of a host is after it.
 fn show_suffix(comments: &Comments, out: &mut Vec<u8>) -> Result<(), Memory> {
     if let Some(suffix) = comments.suffix() {
         out.extend_from_slice(b"<")?;
@@ -84,7 +84,7 @@ fn show_suffix(comments: &Comments, out: &mut Vec<u8>) -> Result<(), Memory> {
     Ok(())
 }
 
-/// The comments above a token or a form stand in front of it. Before an operator that ends its line stands `break`.
+/// The comments above a token or a form stand in front of it. Before an operator that ends its line is `break`.
 #[cycle(expr)]
 fn show_expr(alloc: Global, expr: &Expr, out: &mut Vec<u8>) -> Result<(), Memory> {
     match expr {
@@ -101,7 +101,7 @@ fn show_expr(alloc: Global, expr: &Expr, out: &mut Vec<u8>) -> Result<(), Memory
 }
 
 /// A form is its kind, `split` or `open` where it is, and in brackets its parts with a space between two of them. Of a
-/// sequence these are what stands before its bracket and a colon, the items, and the comments below the last one.
+/// sequence these are what is before its bracket and a colon, the items, and the comments below the last one.
 #[cycle(expr)]
 pub(crate) fn show_form(alloc: Global, form: &Form, out: &mut Vec<u8>) -> Result<(), Memory> {
     show_comments(form.comments.before(), out)?;

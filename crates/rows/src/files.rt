@@ -193,7 +193,7 @@ fn stand(files: &MemoryFiles, texts: &[(&str, &[u8])]) -> bool {
     files.bytes_at("a/BUILD.bazel").is_none()
 }
 
-/// Whether a run over the row's files leaves what stands in the row.
+/// Whether a run over the row's files leaves what is in the row.
 fn holds(alloc: Global, row: &Row) -> Result<bool, AllocError> {
     let mut files = MemoryFiles::of(alloc, row.before)?;
     row.failure.plan(&mut files)?;

@@ -20,7 +20,7 @@ fn fails_at_read(alloc: Global, read: u64) -> bool {
     left.is(Cut::Read, 2, b"")
 }
 
-/// Whether standard output has what was written where the write of this number fails, behind so many of a byte, and has the
+/// Whether standard output has what was written where the write of this number fails, after this many of a byte, and has the
 /// whole text where there is none.
 fn fails_at_write(alloc: Global, written: usize, write: u64) -> bool {
     let text = WITHOUT_X.as_bytes();
@@ -39,12 +39,12 @@ fn failing_devices(rt: HostRuntime) {
     }
 }
 
-/// Whether a read into the four bytes gives so many, and then these stand there.
+/// Whether a read into the four bytes gives this many, and then these stand there.
 fn gives(source: &mut Device<&[u8]>, text: &mut [u8], count: usize, whole: &[u8]) -> bool {
     source.read(text) == Ok(count) && *text == *whole
 }
 
-/// Whether a device passes on what a reader of std's gives, also behind its end, which is no fault.
+/// Whether a device passes on what a reader of std's gives, also after its end, which is no fault.
 fn passes_on_reads() -> bool {
     let mut text = [0u8; 4];
     let mut source = Device::new(b"abcdef".as_slice());

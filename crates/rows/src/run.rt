@@ -56,7 +56,7 @@ impl Left {
     }
 }
 
-/// A run of a program. The tests call this in place of the engines, whose clauses would go with each line behind the call.
+/// A run of a program. The tests call this in place of the engines, whose clauses would go with each line after the call.
 pub(crate) fn run(
     alloc: Global,
     program: Program,

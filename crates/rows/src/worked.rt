@@ -94,7 +94,7 @@ static ROWS: [Row; 9] = [
     },
 ];
 
-/// Whether a run of the words leaves what stands in the row.
+/// Whether a run of the words leaves what is in the row.
 fn holds(alloc: Global, row: &Row) -> bool {
     let left = edit(alloc, row.words, INPUT, row.devices);
     left.is(Cut::Whole, row.status, row.output.as_bytes())

@@ -8,7 +8,7 @@ use std::alloc::Global;
 /// How many bytes a reader gives and a writer takes at a time, where it is not a byte a call.
 const STEP: usize = 1_048_576;
 
-/// Texts of at most so many bytes are also read and written a byte a call.
+/// Texts of at most this many bytes are also read and written a byte a call.
 const SHORT: usize = 200;
 
 /// Of longer standard input only the first reads are made to fail.
@@ -170,7 +170,7 @@ impl Breach {
     }
 }
 
-/// Whether a line stands among those of a text.
+/// Whether a line is among those of a text.
 fn has_line(text: &[u8], line: &[u8]) -> bool {
     text.split(|byte| *byte == b'\n').any(|other| other == line)
 }
@@ -465,7 +465,7 @@ impl<'a> Trial<'a> {
                 || self.without.iter().any(|other| other.has_held(name, bytes)))
     }
 
-    /// Whether a file was written that is told as not, where no call went well behind the failure and no call wrote before.
+    /// Whether a file was written that is told as not, where no call went well after the failure and no call wrote before.
     fn is_written(&self, way: Way, left: &Left) -> bool {
         if !matches!(way, Way::FilesFrom) || self.task.has_word("--journal") {
             return false;
@@ -480,7 +480,7 @@ impl<'a> Trial<'a> {
         false
     }
 
-    /// Whether a sound run tells this line, or it says that there is no text to go back to, behind one that was not opened.
+    /// Whether a sound run tells this line, or it says that there is no text to go back to, after one that was not opened.
     fn is_known(&self, line: &[u8]) -> bool {
         line.ends_with(b": TooFar (61)")
             || has_line(self.sound.err.bytes(), line)

@@ -9,7 +9,7 @@
 //!
 //! | Question | Asked of | Answer |
 //! |---|---|---|
-//! | `buildifier WORDS`, `buildozer WORDS` | standard input, and files, each behind a line with its name | status, standard error, standard output, and each file that is changed |
+//! | `buildifier WORDS`, `buildozer WORDS` | standard input, and files, each after a line with its name | status, standard error, standard output, and each file that is changed |
 //! | `words` | words of buildozer, standard input, and files | the same |
 //! | `status` | the same | the status, on which of the two outputs something is written, and each file that is changed |
 //! | `laws` | nothing | that all laws of the engines were called |
@@ -17,7 +17,7 @@
 //! Each run is then made again with each call of its devices failing in turn (failing.rt). What is left wrongly is a line with `?` in
 //! front, which says what failed and what is wrong; where nothing is, nothing is written.
 //!
-//! Words are separated by spaces; one that is empty or holds spaces stands in double quotes.
+//! Words are separated by spaces; one that is empty or holds spaces is in double quotes.
 #![tactic(auto)]
 
 mod failing;

@@ -141,7 +141,7 @@ fn plan(failure: Failure, files: &mut MemoryFiles) {
     }
 }
 
-/// A file of a case: its text behind a line with its name.
+/// A file of a case: its text after a line with its name.
 fn file_of(text: &[u8]) -> Result<(&str, &[u8]), CaseFault> {
     match text.iter().position(|byte| *byte == b'\n') {
         Some(end) => Ok((text_of(&text[..end])?, &text[end + 1..])),
@@ -175,7 +175,7 @@ fn show_changed(
     Ok(())
 }
 
-/// The words of a line: what stands between spaces, and what stands between double quotes.
+/// The words of a line: what is between spaces, and what is between double quotes.
 fn words_of(alloc: Global, line: &str) -> Result<Vec<&str>, Memory> {
     let mut words = Vec::new(alloc);
     let mut is_quoted = false;

@@ -1,4 +1,4 @@
-//! What stands between backquotes: characters that cannot be seen, bytes that are no text, and repeated texts.
+//! What is between backquotes: characters that cannot be seen, bytes that are no text, and repeated texts.
 use crate::case::CaseFault;
 use bz_items::Memory;
 use std::alloc::Global;
@@ -41,7 +41,7 @@ fn push_escape(bytes: &mut Vec<u8>, written: &str) -> Result<(), CaseFault> {
     Ok(())
 }
 
-/// Appends the text so many times.
+/// Appends the text this many times.
 fn push_times(bytes: &mut Vec<u8>, count: &str, text: &str) -> Result<(), CaseFault> {
     let Ok(count) = count.parse::<u64>() else {
         return Err(CaseFault::Sheet("no number of times"));
@@ -103,7 +103,7 @@ fn push_text(written: &mut String, text: &str) -> Result<(), Memory> {
     run.push_last(written)
 }
 
-/// A character that stands so many times in a row.
+/// A character that is this many times in a row.
 #[derive(Clone, Copy)]
 struct Run {
     character: char,

@@ -21,7 +21,7 @@ impl Page {
         self.lines.as_bytes()
     }
 
-    /// A line of the sheet, as it stands there.
+    /// A line of the sheet, as it is there.
     pub fn copy(&mut self, line: &str) -> Result<(), Memory> {
         self.lines.push_str(line)?;
         self.lines.push_str("\n")

@@ -5,7 +5,7 @@ use crate::page::Page;
 use bz_items::Memory;
 use std::alloc::{AllocError, Global};
 
-/// What a line of a sheet is, and what stands behind its mark.
+/// What a line of a sheet is, and what is after its mark.
 #[derive(Clone, Copy)]
 enum Line<'a> {
     Remark,
@@ -15,7 +15,7 @@ enum Line<'a> {
     Next(&'a str),
 }
 
-/// What stands behind a mark and a space.
+/// What is after a mark and a space.
 fn behind(line: &str, mark: char) -> Option<&str> {
     let text = line.strip_prefix(mark)?;
     Some(text.strip_prefix(' ').unwrap_or(text))

@@ -6,7 +6,7 @@ use Rattle.bz_command.specs.Looks.{one_made}
 use Rattle.bz_command.proofs.RunningItems.{with_front}
 use Rattle.bz_command.proofs.ruling.on_meant.Given as goal
 
--- what is made of the items that are left, behind what is made of those before; a mark is left for each
+-- what is made of the items that are left, after what is made of those before; a mark is left for each
 abbrev pub invariant-loop-at : goal.invariant-loop-at
 invariant-loop-at l = record {
   made :

@@ -2,7 +2,7 @@ use Rattle.std.proofs.Common.{◌≡◌, ◌++◌, take, drop, map, false, if◌
 use Rattle.bz_command.specs.Targets.{first_mark}
 use Rattle.bz_command.proofs.targets.only_first.Given as goal
 
--- the marks so far, and behind them what becomes of those that are left
+-- the marks so far, and after them what becomes of those that are left
 abbrev pub invariant-loop-mark : goal.invariant-loop-mark
 invariant-loop-mark l =
     let rest : List Bool = drop l.mark-index l.marks in

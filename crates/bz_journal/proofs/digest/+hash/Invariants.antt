@@ -4,6 +4,6 @@ use Rattle.sha2.specs.Hashers.{Holds256}
 use Rattle.bz_tree.specs.Spell.{spell_part}
 use Rattle.bz_journal.proofs.digest.+hash.Given as goal
 
--- what was hashed before, and behind it the text of the parts so far
+-- what was hashed before, and after it the text of the parts so far
 abbrev pub invariant-hash_parts-loop-part : goal.invariant-hash_parts-loop-part
 invariant-hash_parts-loop-part l = (m : List ℕ) → Holds256 l.fn.hasher m → Holds256 l.hasher (m ++ flat_map spell_part (take l.part-index l.parts))

@@ -3,6 +3,6 @@ use Rattle.std.specs.List.{flat_map}
 use Rattle.bz_tree.specs.Spell.{spell_part}
 use Rattle.bz_redraw.proofs.room.+left.Given as goal
 
--- what is left of the room behind the parts so far
+-- what is left of the room after the parts so far
 abbrev pub invariant-left_behind-loop-part : goal.invariant-left_behind-loop-part
 invariant-left_behind-loop-part l = length (flat_map spell_part (take l.part-index l.parts)) + l.left ≡ l.room

@@ -4,7 +4,7 @@ use Rattle.std.specs.Ordering.{is_lt}
 use Rattle.bz_tidy.specs.Orders.{sort_by}
 use Rattle.bz_tidy.proofs.runs.sort_runs.Given as goal
 
--- what stands before the run is in order, and with the rest sorted it is the whole
+-- what is before the run is in order, and with the rest sorted it is the whole
 abbrev pub invariant-loop-at : goal.invariant-loop-at
 invariant-loop-at g l = record {
   order : l.from ≤ l.at;
