@@ -1,8 +1,8 @@
 #!/usr/bin/env python3
-"""One name, one meaning: which public names more than one crate defines.
+"""One name, one meaning: which public names more than one crate defines; and the words that comments and pages no longer use.
 
     tests/names.py         compares them with tests/names.txt, which lists those that are accepted: no further name may get a second
-                           home, and no name stays there that has one home again
+                           home, and no name stays there that has one home again; and looks for words that the field has others for
     tests/names.py --write writes that list anew
 
 Read are the definitions of specs/ and the public types, calls and constants of src/. Left out are names that Rust and these crates give
@@ -20,6 +20,9 @@ ACCEPTED = pathlib.Path(__file__).with_suffix(".txt")
 HABIT = {"new", "copy", "equals", "number", "of", "read", "len", "get", "push", "as_slice", "open", "name", "is_empty", "mod"}
 # crates whose names no contract cites
 ASIDE = {"sheets", "cases", "runs", "rows", "buildozer", "buildifier"}
+# words that the field has others for (CONTRIBUTING.md, 'Words'), and code within a line
+OLD_WORDS = re.compile(r"\b(?:[Bb]ehind|[Ss]o many|[Ll]et go)\b")
+CODE_SPAN = re.compile(r"`[^`]*`")
 # the file of worked rows
 ROWS = "Worked.antt"
 DEFINITION = re.compile(r"^(?:abbrev |unfoldable )*pub (?:record |data |abbrev )?([A-Za-z_]\w*)\s*[:(]|^(?:abbrev|unfoldable) pub ([A-Za-z_]\w*) *:")
@@ -50,7 +53,21 @@ def each_public_name_has_one_home():
     return more + fewer
 
 
-FUNCTIONS = [each_public_name_has_one_home]
+def comments_of(file):
+    return [line for line in file.read_text().splitlines() if line.lstrip().startswith(("//", "--"))]
+
+
+def words_are_those_of_the_field():
+    """No comment of src/, specs/ and proofs/, and no page, uses a word of OLD_WORDS outside of code."""
+    sources = [file for kind in ("src/**/*.rt", "specs/**/*.antt", "proofs/**/*.antt") for file in (TOP / "crates").glob(f"*/{kind}")]
+    lines = [(file, line) for file in sources for line in comments_of(file)]
+    pages = [*TOP.glob("*.md"), *(TOP / "docs").glob("*.md"), *(TOP / "crates").glob("*/README.md")]
+    lines += [(file, line) for file in pages for line in file.read_text().splitlines() if not line.startswith("    ")]
+    found = [(file, word) for file, line in lines for word in OLD_WORDS.findall(CODE_SPAN.sub("", line))]
+    return [f"{file.relative_to(TOP)} says '{word}'" for file, word in found]
+
+
+FUNCTIONS = [each_public_name_has_one_home, words_are_those_of_the_field]
 SCENES = {scene.__name__.replace("_", " "): scene for scene in FUNCTIONS}
 
 

@@ -1,4 +1,4 @@
--- A comment that is put on each of this many rules that its copies are past the limit.
+-- A comment that is put on each of rules enough that its copies are past the limit.
 use Rattle.std.proofs.Common.{◌≡◌, ◌⊎◌, ◌≤◌, ◌<◌, ◌+◌, ◌*◌, ◌/◌, ◌∙◌, ℕ, Bool, true, false, List, [], ◌∷◌, inl, inr, Option, Some, None, Result, Ok, Err, length, refl, sym, ap, subst, arith, true≢false}
 use Rattle.std.specs.Prelude.{is_some, IfOk, IfErr, IsOk, IsTrue, if◌then◌else◌}
 use Rattle.std.specs.List.{list_any}

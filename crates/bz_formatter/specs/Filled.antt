@@ -1,4 +1,4 @@
--- Comments are never dropped or shortened: this many of one can be in a value that what is written of it is past the limit.
+-- Comments are never dropped or shortened: of one there can be enough in a value that what is written of it is past the limit.
 use Rattle.std.specs.Prelude.{◌≡◌, ◌<◌, ◌≤◌, ◌*◌, List, Option, length}
 use Rattle.bz_tree.specs.declared.tree.Node.{Node}
 use Rattle.bz_tree.specs.Spell.{limit}

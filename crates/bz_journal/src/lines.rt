@@ -47,7 +47,7 @@ fn are_same(a: &[Part], b: &[Part]) -> bool
     true
 }
 
-/// Whether these lines are the this many parts that stand from a place on.
+/// Whether these lines are the parts from a place on, as many as they are.
 fn stand_across(at: usize, gone: usize, lines: &[Part], parts: &[Part]) -> bool
     requires { at + gone ≤ length parts.now }
     ensures { IsTrue result ↔ (take at parts.now ++ lines.now ++ drop (at + gone) parts.now ≡ parts.now) }
