@@ -242,6 +242,36 @@ def texts_by_the_grammar(*programs):
     return wrong + [f"{text} is refused: {line}" for text, line in refused.items()]
 
 
+# ---- long texts, which buildifier formats piece by piece, and buildozer whole
+
+# how many bytes a long text has at least, and how many of them are made
+LONG = 100_000
+LONG_TEXTS = 40
+
+
+def long_text(number):
+    """Texts by the grammar, one after another."""
+    text, seed = b"", 1000 * number
+    while len(text) < LONG:
+        text += grammar.text(seed).rstrip(b"\\") + b"\n"
+        seed += 1
+    return text
+
+
+def long_texts_by_both_programs(buildozer, buildifier, _cases):
+    """What buildozer leaves of a long text, which gets a rule and loses it again, is what buildifier makes of it."""
+    wrong = []
+    for text in map(long_text, sample(range(LONG_TEXTS), 5)):
+        with new_folder() as folder:
+            put(folder, {name_of(0): text, name_of(1): text})
+            edits = [ended(buildozer, [command, f"//p0:{rule}"], folder)[0] for command, rule in (("new torn_kind torn_name", "__pkg__"), ("delete", "torn_name"))]
+            formats = ended(buildifier, [name_of(1)], folder)
+            left = [pathlib.Path(folder, name_of(number)).read_bytes() for number in range(2)]
+            if edits != [0, 0] or formats[0] or left[0] != left[1]:
+                wrong.append(f"{text[:60]!r} of {len(text)} bytes: {edits}, {formats}")
+    return wrong
+
+
 # ---- copies
 
 
@@ -265,6 +295,7 @@ SCENES = {
     "far too many levels": far_too_many_levels,
     "texts of pieces are refused": pieces_by_chance,
     "texts by the grammar are accepted": texts_by_the_grammar,
+    "long texts are formatted as buildozer writes them": long_texts_by_both_programs,
     "all that they say is copied": all_is_copied,
 }
 
