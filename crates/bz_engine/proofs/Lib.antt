@@ -23,3 +23,4 @@ pub mod StepLists
 pub mod UnusedSteps
 pub mod UsageSteps
 pub mod WorkedEnds
+pub mod WorkedText

@@ -33,8 +33,9 @@ use Rattle.bz_engine.specs.Run.{World, Progress, Finds, Uses, Answers, Does, Run
 use Rattle.bz_engine.specs.Steps.{RunStep, all_steps, names_input}
 use Rattle.bz_engine.specs.Told.{IsUsageLine}
 use Rattle.bz_engine.specs.WorkedParts.{text_read, text_made}
-use Rattle.bz_engine.specs.WorkedRuns.{WorkedUsage, WorkedWholeRuns, IsMade, HasBuild, OverBuild, BesideNone, OverInput}
+use Rattle.bz_engine.specs.WorkedRuns.{WorkedUsage, WorkedWholeRuns, HasBuild, OverBuild, BesideNone, OverInput}
 use Rattle.bz_engine.proofs.Outcomes.{apart}
+use Rattle.bz_engine.proofs.WorkedText.{accepted, is_made}
 
 -- ---- the file of a package
 
@@ -161,16 +162,16 @@ does world step before after place used opening answer uses answers =
     record { place = place; used = used; opening = opening; answer = answer; uses = uses; answers = answers; told = refl }
 
 -- A package is used for the first time, and its file is opened.
-opens : (world : World) (current name : Bytes) (used : List Used) → package_number current used ≡ None → Finds world current (Some (name, text_read)) → IsMade current
+opens : (world : World) (current name : Bytes) (used : List Used) → package_number current used ≡ None → Finds world current (Some (name, text_read))
     → Uses world current used (length used) [] (used ++ file_with current name (opened current text_read) ∷ [])
-opens world current name used new finds is =
-    inr (new, refl, (Some (name, text_read), Some (opened_fresh current name text_read), finds, inl (is.0, refl, refl), refl))
+opens world current name used new finds =
+    inr (new, refl, (Some (name, text_read), Some (opened_fresh current name text_read), finds, inl (accepted, refl, refl), refl))
 
-sets : (current name : Bytes) (place : ℕ) (state : Progress) → IsMade current
+sets : (current name : Bytes) (place : ℕ) (state : Progress)
     → Answers (step_at current set_size) place (Some (opened_fresh current name text_read)) state []
     (answered place (opened_fresh current name text_read) (Ok Changed) (set_history current) state)
-sets current name place state is =
-    (Ok Changed, set_history current, inr (leb-true (length set_text) note_limit refl, (gives text_made None, is.1, refl)), refl, refl)
+sets current name place state =
+    (Ok Changed, set_history current, inr (leb-true (length set_text) note_limit refl, (gives text_made None, is_made current, refl)), refl, refl)
 
 goes_back : (current : Bytes) (count : ℕ) (text : Bytes) (place : ℕ) (file : Opened) (state : Progress) (answer : Answer) (history : History)
     → length text ≤ note_limit → (answer, history) ≡ undone count file.history
@@ -194,11 +195,11 @@ run_of words texts options asked world left alone is group done =
 abbrev after_set : Bytes → Bytes → Progress
 after_set current name = state_of (file_with current name (set_history current) ∷ []) false
 
-set_first : (world : World) (current name : Bytes) → Finds world current (Some (name, text_read)) → IsMade current
+set_first : (world : World) (current name : Bytes) → Finds world current (Some (name, text_read))
     → Does world (step_at current set_size) nothing_done [] (after_set current name)
-set_first world current name finds is =
+set_first world current name finds =
     does world (step_at current set_size) nothing_done (after_set current name) 0 (file_with current name (opened current text_read) ∷ []) [] []
-    (opens world current name [] refl finds is) (sets current name 0 (state_of (file_with current name (opened current text_read) ∷ []) false) is)
+    (opens world current name [] refl finds) (sets current name 0 (state_of (file_with current name (opened current text_read) ∷ []) false))
 
 -- What `set size small` made is taken back by this many steps, or that is refused.
 set_back : (world : World) (current name : Bytes) (count : ℕ) (text : Bytes) (answer : Answer) (history : History)
@@ -240,15 +241,15 @@ asked_of commands targets = record { commands = commands; targets = targets }
 abbrev rule_word : Bytes
 rule_word = codes "//:x"
 
-run_set : (world : World) (keep : Bool) → HasBuild world → IsMade [] → RunsSteps world keep (step_at [] set_size ∷ []) nothing_done [] (after_set [] build)
-run_set world keep has is = one_step world keep (step_at [] set_size) [] nothing_done (after_set [] build) (after_set [] build) [] [] refl
-    (set_first world [] build (finds_build world has) is) (refl, refl)
+run_set : (world : World) (keep : Bool) → HasBuild world → RunsSteps world keep (step_at [] set_size ∷ []) nothing_done [] (after_set [] build)
+run_set world keep has = one_step world keep (step_at [] set_size) [] nothing_done (after_set [] build) (after_set [] build) [] [] refl
+    (set_first world [] build (finds_build world has)) (refl, refl)
 
 run_set_undo : (world : World) (current name : Bytes) → package_number current (after_set current name).used ≡ Some 0 → Finds world current (Some (name, text_read))
-    → IsMade current → RunsSteps world false (step_at current set_size ∷ step_at current (undo 1 undo_text) ∷ []) nothing_done [] (after_back current name)
-run_set_undo world current name there finds is =
+    → RunsSteps world false (step_at current set_size ∷ step_at current (undo 1 undo_text) ∷ []) nothing_done [] (after_back current name)
+run_set_undo world current name there finds =
     one_step world false (step_at current set_size) (step_at current (undo 1 undo_text) ∷ []) nothing_done (after_set current name) (after_back current name) [] [] refl
-    (set_first world current name finds is)
+    (set_first world current name finds)
     (one_step world false (step_at current (undo 1 undo_text)) [] (after_set current name) (after_back current name) (after_back current name) [] [] refl
     (set_back world current name 1 undo_text (Ok Moved) (back_history current) there short_undo refl) (refl, refl))
 
@@ -258,12 +259,12 @@ refused_two = codes "buildozer: BUILD: undo 2: TooFar (61)\n"
 abbrev after_two : Progress
 after_two = state_of (file_with [] build (set_history []) ∷ []) true
 
-run_two : (world : World) → HasBuild world → IsMade []
+run_two : (world : World) → HasBuild world
     → RunsSteps world false (step_at [] set_size ∷ step_at [] (undo 2 (codes "undo 2")) ∷ []) nothing_done (refused_two ∷ []) after_two
 unfolding digits
-run_two world has is =
+run_two world has =
     one_step world false (step_at [] set_size) (step_at [] (undo 2 (codes "undo 2")) ∷ []) nothing_done (after_set [] build) after_two [] (refused_two ∷ []) refl
-    (set_first world [] build (finds_build world has) is)
+    (set_first world [] build (finds_build world has))
     (one_step world false (step_at [] (undo 2 (codes "undo 2"))) [] (after_set [] build) after_two after_two (refused_two ∷ []) [] refl
     (set_back world [] build 2 (codes "undo 2") (Err TooFar) (set_history []) refl (leb-true (length (codes "undo 2")) note_limit refl) refl) (refl, refl))
 
@@ -276,34 +277,34 @@ build_read = opened_fresh [] build text_read
 abbrev after_one : Progress
 after_one = state_of (file_with [] build (opened [] text_read) ∷ []) true
 
-run_one : (world : World) → HasBuild world → IsMade [] → RunsSteps world false (step_at [] (undo 1 undo_text) ∷ []) nothing_done (refused_one ∷ []) after_one
+run_one : (world : World) → HasBuild world → RunsSteps world false (step_at [] (undo 1 undo_text) ∷ []) nothing_done (refused_one ∷ []) after_one
 unfolding digits
-run_one world has is =
+run_one world has =
     let used : List Used = file_with [] build (opened [] text_read) ∷ [] in
     one_step world false (step_at [] (undo 1 undo_text)) [] nothing_done after_one after_one (refused_one ∷ []) [] refl
-    (does world (step_at [] (undo 1 undo_text)) nothing_done after_one 0 used [] (refused_one ∷ []) (opens world [] build [] refl (finds_build world has) is)
+    (does world (step_at [] (undo 1 undo_text)) nothing_done after_one 0 used [] (refused_one ∷ []) (opens world [] build [] refl (finds_build world has))
     (goes_back [] 1 undo_text 0 build_read (state_of used false) (Err TooFar) (opened [] text_read) short_undo refl)) (refl, refl)
 
-over_build : (world : World) → HasBuild world → IsMade [] → OverBuild world
+over_build : (world : World) → HasBuild world → OverBuild world
 unfolding clap_on_literals
-over_build world has is =
+over_build world has =
     let written : Folder = with_file world.folder build text_made in
     let asked : Asked = asked_of (set_size ∷ []) (rule_x [] ∷ []) in (
       run_of (set_text ∷ rule_word ∷ []) (set_text ∷ rule_word ∷ []) plain asked world (left_of [] made_lines 0 written) refl refl refl
-          (record { told = []; state = after_set [] build; runs = run_set world false has is; output = refl; writes = (has.1, written, (λ name other. refl), refl); lines = refl; status = refl }),
+          (record { told = []; state = after_set [] build; runs = run_set world false has; output = refl; writes = (has.1, written, (λ name other. refl), refl); lines = refl; status = refl }),
       run_of (codes "--quiet" ∷ set_text ∷ rule_word ∷ []) (set_text ∷ rule_word ∷ []) (record plain { quiet = true }) asked world (left_of [] [] 0 written) refl refl refl
-          (record { told = []; state = after_set [] build; runs = run_set world false has is; output = refl; writes = (has.1, written, (λ name other. refl), refl); lines = refl; status = refl }),
+          (record { told = []; state = after_set [] build; runs = run_set world false has; output = refl; writes = (has.1, written, (λ name other. refl), refl); lines = refl; status = refl }),
       run_of (codes "--stdout" ∷ set_text ∷ rule_word ∷ []) (set_text ∷ rule_word ∷ []) (record plain { to_stdout = true }) asked world (left_of text_made [] 0 world.folder) refl refl refl
-          (record { told = []; state = after_set [] build; runs = run_set world false has is; output = refl; writes = refl; lines = refl; status = refl }),
+          (record { told = []; state = after_set [] build; runs = run_set world false has; output = refl; writes = refl; lines = refl; status = refl }),
       run_of (set_text ∷ undo_text ∷ rule_word ∷ []) (set_text ∷ undo_text ∷ rule_word ∷ []) plain (asked_of (set_size ∷ undo 1 undo_text ∷ []) (rule_x [] ∷ []))
           world (left_of [] [] 3 world.folder) refl refl refl
-          (record { told = []; state = after_back [] build; runs = run_set_undo world [] build refl (finds_build world has) is; output = refl; writes = refl; lines = refl; status = refl }),
+          (record { told = []; state = after_back [] build; runs = run_set_undo world [] build refl (finds_build world has); output = refl; writes = refl; lines = refl; status = refl }),
       run_of (set_text ∷ codes "undo 2" ∷ rule_word ∷ []) (set_text ∷ codes "undo 2" ∷ rule_word ∷ []) plain
           (asked_of (set_size ∷ undo 2 (codes "undo 2") ∷ []) (rule_x [] ∷ [])) world (left_of [] (refused_two ∷ made_lines) 2 written) refl refl refl
-          (record { told = refused_two ∷ []; state = after_two; runs = run_two world has is; output = refl; writes = (has.1, written, (λ name other. refl), refl); lines = refl; status = refl }),
+          (record { told = refused_two ∷ []; state = after_two; runs = run_two world has; output = refl; writes = (has.1, written, (λ name other. refl), refl); lines = refl; status = refl }),
       run_of (undo_text ∷ rule_word ∷ []) (undo_text ∷ rule_word ∷ []) plain (asked_of (undo 1 undo_text ∷ []) (rule_x [] ∷ [])) world
           (left_of [] (refused_one ∷ []) 2 world.folder) refl refl refl
-          (record { told = refused_one ∷ []; state = after_one; runs = run_one world has is; output = refl; writes = refl; lines = refl; status = refl }),
+          (record { told = refused_one ∷ []; state = after_one; runs = run_one world has; output = refl; writes = refl; lines = refl; status = refl }),
     )
 
 -- ---- runs that mean package `none`, of which no file is there
@@ -327,18 +328,18 @@ fails_again world asking = does world (step_at none asking) after_none after_non
 abbrev after_both : Progress
 after_both = state_of (none_used ∷ file_with [] build (set_history []) ∷ []) true
 
-set_next : (world : World) → HasBuild world → IsMade [] → Does world (step_at [] set_size) after_none [] after_both
-set_next world has is =
+set_next : (world : World) → HasBuild world → Does world (step_at [] set_size) after_none [] after_both
+set_next world has =
     let used : List Used = none_used ∷ file_with [] build (opened [] text_read) ∷ [] in
-    does world (step_at [] set_size) after_none after_both 1 used [] [] (opens world [] build (none_used ∷ []) refl (finds_build world has) is)
-    (sets [] build 1 (state_of used true) is)
+    does world (step_at [] set_size) after_none after_both 1 used [] [] (opens world [] build (none_used ∷ []) refl (finds_build world has))
+    (sets [] build 1 (state_of used true))
 
 abbrev redo : Asking
 redo = record { verb = Redo 1; text = codes "redo" }
 
-beside_none : (world : World) → HasBuild world → found_in world.folder none ≡ None → IsMade [] → BesideNone world
+beside_none : (world : World) → HasBuild world → found_in world.folder none ≡ None → BesideNone world
 unfolding clap_on_literals
-beside_none world has gone is =
+beside_none world has gone =
     let written : Folder = with_file world.folder build text_made in
     let keep : Options = record plain { keep_going = true } in
     let texts : List Bytes = set_text ∷ codes "//none:x" ∷ rule_word ∷ [] in
@@ -363,7 +364,7 @@ beside_none world has gone is =
             lines = refl;
             status = refl;
             runs = one_step world true (step_at none set_size) (step_at [] set_size ∷ []) nothing_done after_none after_both (none_line ∷ []) [] refl (fails_first world set_size gone)
-                (one_step world true (step_at [] set_size) [] after_none after_both after_both [] [] refl (set_next world has is) (refl, refl));
+                (one_step world true (step_at [] set_size) [] after_none after_both after_both [] [] refl (set_next world has) (refl, refl));
           }),
       run_of (codes "-k" ∷ undo_text ∷ codes "redo" ∷ codes "//none:x" ∷ []) (undo_text ∷ codes "redo" ∷ codes "//none:x" ∷ []) keep
           (asked_of (undo 1 undo_text ∷ redo ∷ []) (rule_x none ∷ [])) world (left_of [] (none_line ∷ []) 2 world.folder) refl refl refl
@@ -385,9 +386,9 @@ beside_none world has gone is =
 abbrev dash : Bytes
 dash = codes "-"
 
-over_input : (folder : Folder) → IsMade dash → OverInput (record { folder = folder; known = Some text_read })
+over_input : (folder : Folder) → OverInput (record { folder = folder; known = Some text_read })
 unfolding clap_on_literals
-over_input folder is =
+over_input folder =
     let world : World = record { folder = folder; known = Some text_read } in
     let finds : Finds world dash (Some (stdin, text_read)) = inl (refl, (text_read, refl, refl)) in (
       run_of (codes "--" ∷ set_text ∷ codes "-:x" ∷ []) (set_text ∷ codes "-:x" ∷ []) plain (asked_of (set_size ∷ []) (rule_x dash ∷ [])) world
@@ -399,7 +400,7 @@ over_input folder is =
             writes = refl;
             lines = refl;
             status = refl;
-            runs = one_step world false (step_at dash set_size) [] nothing_done (after_set dash stdin) (after_set dash stdin) [] [] refl (set_first world dash stdin finds is) (refl, refl);
+            runs = one_step world false (step_at dash set_size) [] nothing_done (after_set dash stdin) (after_set dash stdin) [] [] refl (set_first world dash stdin finds) (refl, refl);
           }),
       run_of (codes "--" ∷ set_text ∷ undo_text ∷ codes "-:x" ∷ []) (set_text ∷ undo_text ∷ codes "-:x" ∷ []) plain
           (asked_of (set_size ∷ undo 1 undo_text ∷ []) (rule_x dash ∷ [])) world (left_of text_read [] 3 folder) refl refl refl
@@ -410,9 +411,9 @@ over_input folder is =
             writes = refl;
             lines = refl;
             status = refl;
-            runs = run_set_undo world dash stdin refl finds is;
+            runs = run_set_undo world dash stdin refl finds;
           }),
     )
 
 pub whole : WorkedWholeRuns
-whole = (over_build, beside_none, over_input)
+whole = (is_made, over_build, beside_none, over_input)

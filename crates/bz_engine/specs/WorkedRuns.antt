@@ -5,7 +5,6 @@ use Rattle.bz_files.specs.Folder.{Folder, with_file}
 use Rattle.bz_workspace.specs.Sessions.{gives, Means}
 use Rattle.bz_label.specs.declared.target.Which.TheVariants.{Name}
 use Rattle.bz_line.specs.Line.{command_line_of}
-use Rattle.bz_tree.specs.Legal.{Accepted}
 use Rattle.bz_items.specs.Characters.{Bytes}
 use Rattle.bz_words.specs.declared.command.AttributeOperation.TheVariants as wa
 use Rattle.bz_words.specs.declared.command.Operation.TheVariants as w
@@ -51,9 +50,9 @@ WorkedUsage =
 
 -- ---- whole runs over one file, BUILD in the current folder, or over standard input
 
--- `text_read` is accepted, and `set size small` on rule `x` of it means `text_made`.
+-- `text_read` is accepted, and in this package `set size small` on rule `x` of it means `text_made`.
 abbrev pub IsMade : Bytes → Type 0
-IsMade current = Accepted text_read × Means (w.Attribute (wa.Set (codes "size") (codes "small" ∷ []))) (record { «package» = current; which = Name (codes "x") }) current text_read (gives text_made None)
+IsMade current = Means (w.Attribute (wa.Set (codes "size") (codes "small" ∷ []))) (record { «package» = current; which = Name (codes "x") }) current text_read (gives text_made None)
 
 abbrev pub HasBuild : World → Type 0
 HasBuild world = (get world.folder (codes "BUILD.bazel") ≡ None) × (get world.folder (codes "BUILD") ≡ Some text_read)
@@ -93,6 +92,6 @@ OverInput world =
     × Still (codes "--" ∷ codes "set size small" ∷ codes "undo" ∷ codes "-:x" ∷ []) text_read [] 3 world
 
 abbrev pub WorkedWholeRuns : Type 0
-WorkedWholeRuns = ((world : World) → HasBuild world → IsMade [] → OverBuild world)
-    × ((world : World) → HasBuild world → found_in world.folder (codes "none") ≡ None → IsMade [] → BesideNone world)
-    × ((folder : Folder) → IsMade (codes "-") → OverInput (record { folder = folder; known = Some text_read }))
+WorkedWholeRuns = ((current : Bytes) → IsMade current) × ((world : World) → HasBuild world → OverBuild world)
+    × ((world : World) → HasBuild world → found_in world.folder (codes "none") ≡ None → BesideNone world)
+    × ((folder : Folder) → OverInput (record { folder = folder; known = Some text_read }))
