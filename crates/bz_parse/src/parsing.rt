@@ -4,7 +4,7 @@ ghost use Rattle.std.specs.Str.{IsValidUpTo};
 ghost use Rattle.bz_lex.specs.Positions.{line_at, column_of};
 ghost use Rattle.bz_tree.specs.Legal.{Reads, ReadsBzl, NoTree, NoBzlTree};
 ghost use Rattle.bz_tree.specs.Spell.{limit};
-ghost use Rattle.bz_tree.specs.Suites.{file_of};
+ghost use Rattle.bz_tree.specs.Joined.{file_with};
 ghost use Rattle.bz_tree.specs.Faults.{IsOfText, IsOther};
 
 use crate::indented::{file, read_so_far};
@@ -103,7 +103,7 @@ fn bzl_tree_of(alloc: Global, text: &[u8]) -> Result<BzlTree, ReadFault>
 fn parts_of(alloc: Global, dialect: Dialect, text: &[u8]) -> Result<Stack, ReadFault>
     requires within { length text.now ≤ limit }
     requires coded { IsUtf8 text.now }
-    ensures ok { IfOk result (λ parts. ReadsBzl text.now (file_of parts)) }
+    ensures ok { IfOk result (λ parts. ReadsBzl text.now (file_with parts)) }
     ensures other { IfErr result (λ fault. IsOther fault) }
     ensures refused { IfErr result (λ fault. IsOfText fault → NoBzlTree text.now) }
 {
