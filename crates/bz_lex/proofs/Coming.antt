@@ -25,7 +25,7 @@ coming (suc n) p s = coming_by p s (leaf_found p s) (λ q t. coming n q t)
 unfoldable pub to_come : Place → List ℕ → List Leaf
 to_come p s = coming (left p s) p s
 
-less : (p : Place) (s : List ℕ) (f : Front) → IsFront p f s → left (next p (front_leaf f s)) (behind_front f s) < left p s
+pub less : (p : Place) (s : List ℕ) (f : Front) → IsFront p f s → left (next p (front_leaf f s)) (behind_front f s) < left p s
 less p s f w = subst (λ (t : List ℕ). left (next p (front_leaf f s)) (behind_front f s) < left p t) (front_text f s w.within) (smaller p (front_leaf f s) (behind_front f s) w.may)
 
 by_same : (p : Place) (s : List ℕ) (d : Decided p s) (f g : Place → List ℕ → List Leaf) → ((q : Place) (t : List ℕ) → left q t < left p s → f q t ≡ g q t) → coming_by p s d f ≡ coming_by p s d g

@@ -1,5 +1,5 @@
 -- Which leaf is at the front of a text is decided.
-use Rattle.std.proofs.Common.{◌≡◌, ℕ, suc, ◌≤◌, Bool, true, false, eqb, List, [], ◌∷◌, ◌⊎◌, inl, inr, Option, Some, None, Ok, Err, length, take, drop, slice_get, refl, arith}
+use Rattle.std.proofs.Common.{◌≡◌, ℕ, suc, ◌≤◌, Bool, true, false, eqb, List, [], ◌∷◌, ◌⊎◌, inl, inr, Option, Some, None, length, take, drop, slice_get, refl, arith}
 use Rattle.std.proofs.lemmas.Bool.{cases_Bool, eqb-true, eqb-false}
 use Rattle.bz_token.specs.declared.class.Class.{Class}
 use Rattle.bz_token.specs.declared.class.Class.TheVariants.{Newline, End}
@@ -11,8 +11,6 @@ use Rattle.bz_lex.specs.declared.gap.GapFront.{GapFront}
 use Rattle.bz_lex.specs.declared.gap.GapState.{GapState}
 use Rattle.bz_lex.specs.declared.gap.GapState.TheVariants.{Open}
 use Rattle.bz_lex.specs.declared.front.Front.{Front}
-use Rattle.bz_lex.specs.declared.front.Stop.{Stop}
-use Rattle.bz_lex.specs.declared.front.Reason.TheVariants.{BadCharacter}
 use Rattle.bz_lex.specs.GapStates.{gap_move, gap_state_after, Stops, is_end}
 use Rattle.bz_lex.specs.Places.{Place, Fresh, Behind, Inside, Last, Over, newlines_at}
 use Rattle.bz_lex.specs.Fronts.{IsGapFront, IsFront, NoLeaf}
@@ -55,9 +53,6 @@ token_found s = by_front (longest_front s) refl
 abbrev pub Decided : Place → List ℕ → Type 0
 Decided p s = ((f : Front) × IsFront p f s) ⊎ NoLeaf p s
 
-some_stop : Stop
-some_stop = record { reason = BadCharacter; at = 0 }
-
 -- the gap may end, or no leaf is there
 by_gap : (p : Place) (s : List ℕ) → ((gap : GapFront) → IsGapFront (newlines_at p) gap s → Decided p s) → Decided p s
 by_gap p s f =
@@ -83,16 +78,16 @@ behind_found s gap g None e = inl (front Newline gap.length 0, behind_end gap s 
 behind_found s gap g (Some c) e = elim (cases_Bool (eqb c 10)) [
   | inl b ↦ inl (front Newline gap.length 1, behind_line gap s (front Newline gap.length 1) g (rw (eqb-true c 10 b) at e) refl)
   | inr b ↦ elim (token_found (drop gap.length s)) [
-    | inr none ↦ inr (behind_token gap s c (Err some_stop) g e (eqb-false c 10 b) none)
-    | inl w ↦ inl (front w.0 gap.length w.1, behind_token gap s c (Ok (front w.0 gap.length w.1)) g e (eqb-false c 10 b) (refl, w.2))
+    | inr none ↦ inr (behind_token gap s c None g e (eqb-false c 10 b) none)
+    | inl w ↦ inl (front w.0 gap.length w.1, behind_token gap s c (Some (front w.0 gap.length w.1)) g e (eqb-false c 10 b) (refl, w.2))
   ]
 ]
 
 inside_found : (d : ℕ) (s : List ℕ) (gap : GapFront) → IsGapFront true gap s → (o : Option ℕ) → slice_get s gap.length ≡ o → Decided (Inside d) s
 inside_found d s gap g None e = inr (inside_end d gap s g e)
 inside_found d s gap g (Some c) e = elim (token_found (drop gap.length s)) [
-  | inr none ↦ inr (inside_token d gap s c (Err some_stop) g e none)
-  | inl w ↦ inl (front w.0 gap.length w.1, inside_token d gap s c (Ok (front w.0 gap.length w.1)) g e (refl, w.2))
+  | inr none ↦ inr (inside_token d gap s c None g e none)
+  | inl w ↦ inl (front w.0 gap.length w.1, inside_token d gap s c (Some (front w.0 gap.length w.1)) g e (refl, w.2))
 ]
 
 pub leaf_found : (p : Place) (s : List ℕ) → Decided p s

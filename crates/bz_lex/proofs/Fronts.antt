@@ -1,5 +1,5 @@
 -- Reading the leaf at the front of a text.
-use Rattle.std.proofs.Common.{◌≡◌, ◌≢◌, ℕ, suc, ◌+◌, ◌-◌, ◌≤◌, ◌<◌, Bool, true, false, List, [], ◌∷◌, ◌++◌, inl, inr, Option, Some, None, Result, Ok, Err, MatchResult, IsErr, length, take, drop, slice_get, get_or, eqb, if◌then◌else◌, ◌==◌, ◌||◌, not, refl, sym, ap, ◌∙◌, subst, arith, length-drop, drop-cons}
+use Rattle.std.proofs.Common.{◌≡◌, ◌≢◌, ℕ, suc, ◌+◌, ◌-◌, ◌≤◌, ◌<◌, Bool, true, false, List, [], ◌∷◌, ◌++◌, inl, inr, Option, Some, None, MatchOption, length, take, drop, slice_get, get_or, eqb, if◌then◌else◌, ◌==◌, refl, sym, ap, ◌∙◌, subst, arith, length-drop, drop-cons}
 use Rattle.std.proofs.lemmas.Bool.{both_ways, cases_lt, ne_eqb, eqb-true}
 use Rattle.std.proofs.lemmas.Option.{slice_get-get_or, slice_get_within, slice_get_past, get_or_from_slice_get}
 use Rattle.std.proofs.lemmas.List.{take-append-drop}
@@ -12,7 +12,6 @@ use Rattle.bz_lex.specs.declared.gap.GapFront.{GapFront}
 use Rattle.bz_lex.specs.declared.gap.GapState.{GapState}
 use Rattle.bz_lex.specs.declared.gap.GapState.TheVariants.{Open, Escape, EscapeReturn, Comment}
 use Rattle.bz_lex.specs.declared.front.Front.{Front}
-use Rattle.bz_lex.specs.declared.front.Stop.{Stop}
 use Rattle.bz_lex.specs.GapStates.{gap_state_after, Stops, is_end}
 use Rattle.bz_lex.specs.Places.{Place, Fresh, Behind, Inside, Last, Over, newlines_at, end_at_once}
 use Rattle.bz_lex.specs.Fronts.{IsGapFront, front_leaf, behind_front, IsFront, NoLeaf, TellsFront}
@@ -73,8 +72,8 @@ broken_gap p q n s e h b = no_leaf p q n s e h (λ l t f g i. both_ways (is_end 
 leaf_of : (p : Place) (gap : GapFront) (front : Front) (s : List ℕ) → IsGapFront (newlines_at p) gap s → front.gap ≡ gap.length → front.gap + front.token ≤ length s → Form p gap.state (front_leaf front s) (behind_front front s) → IsFront p front s
 leaf_of p gap front s g e w f = record { within = w; may = may p gap.state (front_leaf front s) (behind_front front s) (rw e g.taken) f }
 
-abbrev pub TellsToken : ℕ → List ℕ → Result Front Stop → Type 0
-TellsToken n s r = MatchResult r (λ (front : Front). (front.gap ≡ n) × TokenAt front.class front.token (drop n s)) (λ (_ : Stop). NoToken (drop n s))
+abbrev pub TellsToken : ℕ → List ℕ → Option Front → Type 0
+TellsToken n s r = MatchOption r (NoToken (drop n s)) (λ (front : Front). (front.gap ≡ n) × TokenAt front.class front.token (drop n s))
 
 token_of : (n : ℕ) (front : Front) (s : List ℕ) → front.gap ≡ n → TokenAt front.class front.token (drop n s) → IsToken front.class (front_leaf front s).token (behind_front front s)
 token_of n front s e t = rw e t.1
@@ -89,27 +88,27 @@ starts : (t : List ℕ) (s : List ℕ) (n c : ℕ) → drop n s ≡ c ∷ drop (
 starts t s n c e f g = let h : c ∷ drop (suc n) s ≡ [] = sym e ∙ sym f ∙ g in cc
 
 -- what the token after the gap tells, place by place
-pub inside_token : (d : ℕ) (gap : GapFront) (s : List ℕ) (c : ℕ) (r : Result Front Stop) → IsGapFront true gap s → slice_get s gap.length ≡ Some c → TellsToken gap.length s r → TellsFront (Inside d) s r
-inside_token d gap s c (Ok front) g b t =
+pub inside_token : (d : ℕ) (gap : GapFront) (s : List ℕ) (c : ℕ) (r : Option Front) → IsGapFront true gap s → slice_get s gap.length ≡ Some c → TellsToken gap.length s r → TellsFront (Inside d) s r
+inside_token d gap s c (Some front) g b t =
     leaf_of (Inside d) gap front s g t.0 (token_within gap.length front s g.within t.0 t.1)
     (record { closed = open_true gap.state c (drop (suc gap.length) s) (subst (Stops true gap.state) (rest_some s gap.length c b) g.stops) g.ends; token = token_of gap.length front s t.0 t.1 })
-inside_token d gap s c (Err stop) g b t = no_token (Inside d) gap s g (λ l t f i. f.token) t
+inside_token d gap s c None g b t = no_token (Inside d) gap s g (λ l t f i. f.token) t
 
 empty_form : (k : Class) (q : GapState) (l : Leaf) (t : List ℕ) (s : List ℕ) (n c : ℕ) → slice_get s n ≡ Some c → Empty k q l t → l.token ++ t ≡ drop n s → ⊥
 empty_form k q l t s n c b h i = starts (l.token ++ t) s n c (rest_some s n c b) i (rw (h.token, h.rest) refl)
 
-pub behind_token : (gap : GapFront) (s : List ℕ) (c : ℕ) (r : Result Front Stop) → IsGapFront false gap s → slice_get s gap.length ≡ Some c → c ≢ 10 → TellsToken gap.length s r → TellsFront Behind s r
-behind_token gap s c (Ok front) g b off t =
+pub behind_token : (gap : GapFront) (s : List ℕ) (c : ℕ) (r : Option Front) → IsGapFront false gap s → slice_get s gap.length ≡ Some c → c ≢ 10 → TellsToken gap.length s r → TellsFront Behind s r
+behind_token gap s c (Some front) g b off t =
     leaf_of Behind gap front s g t.0 (token_within gap.length front s g.within t.0 t.1)
     (inl (record { closed = open_false gap.state c (drop (suc gap.length) s) (subst (Stops false gap.state) (rest_some s gap.length c b) g.stops) g.ends off; token = token_of gap.length front s t.0 t.1 }))
-behind_token gap s c (Err stop) g b off t = no_token Behind gap s g only t
+behind_token gap s c None g b off t = no_token Behind gap s g only t
   where
     only : (l : Leaf) (t : List ℕ) → Form Behind gap.state l t → l.token ++ t ≡ drop gap.length s → IsToken l.class l.token t
     only l t (inl h) i = h.token
     only l t (inr (inl h)) i = absurd (off (let j : 10 ∷ t ≡ c ∷ drop (suc gap.length) s = sym (ap (λ (x : List ℕ). x ++ t) h.token) ∙ i ∙ rest_some s gap.length c b in cc))
     only l t (inr (inr h)) i = absurd (empty_form Newline gap.state l t s gap.length c b h i)
 
-pub fresh_token : (gap : GapFront) (s : List ℕ) (c : ℕ) (front : Front) → IsGapFront true gap s → slice_get s gap.length ≡ Some c → TellsToken gap.length s (Ok front) → IsFront Fresh front s
+pub fresh_token : (gap : GapFront) (s : List ℕ) (c : ℕ) (front : Front) → IsGapFront true gap s → slice_get s gap.length ≡ Some c → TellsToken gap.length s (Some front) → IsFront Fresh front s
 fresh_token gap s c front g b t =
     leaf_of Fresh gap front s g t.0 (token_within gap.length front s g.within t.0 t.1)
     (inl (record { closed = open_true gap.state c (drop (suc gap.length) s) (subst (Stops true gap.state) (rest_some s gap.length c b) g.stops) g.ends; token = token_of gap.length front s t.0 t.1 }))
@@ -121,9 +120,9 @@ fresh_no_token gap s c g b t = no_token Fresh gap s g only t
     only l t (inl h) i = h.token
     only l t (inr h) i = absurd (empty_form End gap.state l t s gap.length c b h i)
 
-pub fresh_told : (gap : GapFront) (s : List ℕ) (c : ℕ) (r : Result Front Stop) → IsGapFront true gap s → slice_get s gap.length ≡ Some c → TellsToken gap.length s r → TellsFront Fresh s r
-fresh_told gap s c (Ok front) g b t = fresh_token gap s c front g b t
-fresh_told gap s c (Err stop) g b t = fresh_no_token gap s c g b t
+pub fresh_told : (gap : GapFront) (s : List ℕ) (c : ℕ) (r : Option Front) → IsGapFront true gap s → slice_get s gap.length ≡ Some c → TellsToken gap.length s r → TellsFront Fresh s r
+fresh_told gap s c (Some front) g b t = fresh_token gap s c front g b t
+fresh_told gap s c None g b t = fresh_no_token gap s c g b t
 
 -- the leaves that are no token
 end_text : (s : List ℕ) (n : ℕ) → drop n s ≡ [] → n ≤ length s → n ≡ length s
@@ -167,10 +166,6 @@ empty_list (c ∷ s) b e h = let k : length (c ∷ s) ≡ 0 = eqb-true (length (
 pub no_empty_list : (s : List ℕ) (b : Bool) → b ≡ (length s == 0) → b ≡ false → s ≢ []
 no_empty_list [] b e h i = both_ways b h e
 no_empty_list (c ∷ s) b e h i = cc
-
-pub refused : (p : Place) (s : List ℕ) (r : Result Front Stop) → IsErr r → NoLeaf p s → TellsFront p s r
-refused p s (Ok x) i h = absurd (both_ways false refl i)
-refused p s (Err x) i h = h
 
 pub broken_front : (p : Place) (m : Bool) (gap : GapFront) (s : List ℕ) → m ≡ newlines_at p → is_end true gap.state ≡ false → gap_state_after m Open (take gap.length s) ≡ Some gap.state → Stops m gap.state (drop gap.length s) → NoLeaf p s
 broken_front p m gap s i b h k = broken_gap p gap.state gap.length s (rw i at h) (rw i at k) b

@@ -13,7 +13,7 @@ use Rattle.bz_lex.specs.Gaps.{IsGap}
 use Rattle.bz_lex.specs.GapStates.{gap_state_after, Stops, is_end}
 use Rattle.bz_lex.specs.Fronts.{IsLexemeFront, front_token, behind_front}
 use Rattle.bz_lex.specs.Lexing.{AreLexemes, NoLexemes}
-use Rattle.bz_lex.specs.Stops.{StandBefore}
+use Rattle.bz_lex.specs.Stops.{LexedTo, no_token, token_more}
 use Rattle.bz_lex.proofs.Gaps.{gap_after, gap_from, one_stop}
 use Rattle.bz_lex.proofs.Tokens.{one_token, token_stops, token_holds}
 use Rattle.bz_lex.proofs.Lists.{token_length}
@@ -113,10 +113,10 @@ pub record IsLexedTo (text : List ℕ) (tokens : List (List ℕ)) (rest : List �
   pub sound : (us : List (List ℕ)) → AreLexemes us rest → AreLexemes (tokens ++ us) text
   pub complete : (us : List (List ℕ)) → AreLexemes us text → (vs : List (List ℕ)) × AreLexemes vs rest
   pub within : length rest ≤ length text
-  pub stands : (us : List (List ℕ)) (end : List ℕ) → StandBefore end us rest → StandBefore end (tokens ++ us) text
+  pub lexed : LexedTo text rest
 
 pub begin : (text : List ℕ) → IsLexedTo text [] text
-begin text = record { sound = λ us h. h; complete = λ us h. (us, h); within = omega arith; stands = λ us end h. h }
+begin text = record { sound = λ us h. h; complete = λ us h. (us, h); within = omega arith; lexed = no_token }
 
 -- a text by the gap, the token and what is after it
 whole : (front : Front) (s : List ℕ) → s ≡ take front.gap s ++ (front_token front s ++ behind_front front s)
@@ -125,14 +125,17 @@ whole front s = sym (ap (λ (t : List ℕ). take front.gap s ++ t) (take-append-
 unopened_at : (front : Front) (s : List ℕ) → IsLexemeFront front s → OpensString (front_token front s ++ behind_front front s) → ⊥
 unopened_at front s f o = f.unopened (subst OpensString (take-append-drop front.token (drop front.gap s)) o)
 
+-- one token more
+pub lexed_more : (text rest : List ℕ) (front : Front) → LexedTo text rest → IsLexemeFront front rest → LexedTo text (behind_front front rest)
+lexed_more text rest front h f = token_more front.class (take front.gap rest) (front_token front rest) (behind_front front rest) (subst (LexedTo text) (whole front rest) h) f.gap f.token (unopened_at front rest f)
+
 pub go_on : (text : List ℕ) (ts : List (List ℕ)) (rest : List ℕ) (front : Front) → IsLexedTo text ts rest → IsLexemeFront front rest → IsLexedTo text (ts ++ (front_token front rest ∷ [])) (behind_front front rest)
 go_on text ts rest front h f = record {
   sound = λ us k. rw (append_assoc ts (front_token front rest ∷ []) us)
       (h.sound (front_token front rest ∷ us) (front.class, take front.gap rest, behind_front front rest, whole front rest, f.gap, f.token, k));
   complete = λ us k. let w = h.complete us k in next_tokens front rest w.0 f.gap f.token w.1;
   within = let n = h.within in simp length-drop (omega arith);
-  stands = λ us end k. rw (append_assoc ts (front_token front rest ∷ []) us)
-      (h.stands (front_token front rest ∷ us) end (front.class, take front.gap rest, behind_front front rest, whole front rest, f.gap, f.token, unopened_at front rest f, k));
+  lexed = lexed_more text rest front h.lexed f;
 }
 
 pub done : (text : List ℕ) (ts : List (List ℕ)) (rest : List ℕ) → IsLexedTo text ts rest → IsGap true true rest → AreLexemes ts text

@@ -1,17 +1,15 @@
 -- Reading leaves one after the other.
-use Rattle.std.proofs.Common.{◌≡◌, ◌≢◌, ℕ, zero, suc, ◌+◌, ◌*◌, ◌≤◌, ◌<◌, Bool, true, false, if◌then◌else◌, List, [], ◌∷◌, ◌++◌, length, drop, Option, Some, None, IsSome, MatchOption, refl, sym, ap, ◌∙◌, subst, arith, length-append, append_assoc}
-use Rattle.std.proofs.lemmas.List.{append-nil, take-append-drop}
-use Rattle.std.proofs.lemmas.Bool.{both_ways}
+use Rattle.std.proofs.Common.{◌≡◌, ◌≢◌, ℕ, zero, suc, ◌+◌, ◌*◌, ◌≤◌, ◌<◌, Bool, true, false, if◌then◌else◌, List, [], ◌∷◌, ◌++◌, length, drop, refl, arith, length-append, append_assoc}
+use Rattle.std.proofs.lemmas.List.{take-append-drop}
 use Rattle.bz_token.specs.declared.class.Class.{Class}
 use Rattle.bz_token.specs.declared.class.Class.TheVariants.{Name, Keyword, Number, String, Mark, Newline, End}
 use Rattle.bz_token.specs.Tokens.{IsToken}
 use Rattle.bz_lex.specs.declared.leaf.Leaf.{Leaf}
-use Rattle.bz_lex.specs.Places.{Place, Fresh, Behind, Inside, Last, Over, open_brackets, is_opening, is_closing, same_depth, deeper, shallower, after_token, next, May, first, later, inner, newline, no_newline, end, end_at_once}
-use Rattle.bz_lex.specs.Leaves.{spell_leaves, Stand, AreLeaves, NoLeaves}
+use Rattle.bz_lex.specs.Places.{Place, Fresh, Behind, Inside, Last, Over, is_opening, is_closing, same_depth, deeper, shallower, after_token, next, May, first, later, inner, newline, no_newline, end, end_at_once}
+use Rattle.bz_lex.specs.Leaves.{spell_leaves}
 use Rattle.bz_lex.specs.declared.front.Front.{Front}
-use Rattle.bz_lex.specs.Fronts.{NoLeaf, IsFront, front_leaf, behind_front}
+use Rattle.bz_lex.specs.Fronts.{front_leaf, behind_front}
 use Rattle.bz_lex.proofs.Tokens.{begins}
-use Rattle.bz_lex.proofs.Unique.{one_leaf, not_over}
 
 pub spell_leaves-append : (ls ms : List Leaf) → spell_leaves (ls ++ ms) ≡ spell_leaves ls ++ spell_leaves ms
 spell_leaves-append [] ms = refl

@@ -1,11 +1,10 @@
 -- Where the tokens of a text stop, and why.
-use Rattle.std.proofs.Common.{◌≡◌, ◌≢◌, ℕ, suc, ◌+◌, ◌-◌, ◌≤◌, Bool, true, false, eqb, ◌&&◌, ◌||◌, List, [], ◌∷◌, ◌++◌, ◌⊎◌, inl, inr, Option, Some, None, length, take, drop, min, slice_get, refl, sym, ap, ◌∙◌, subst, arith, append_assoc, length-append, length-drop}
+use Rattle.std.proofs.Common.{◌≡◌, ◌≢◌, ℕ, suc, ◌+◌, ◌-◌, ◌≤◌, Bool, true, false, eqb, List, [], ◌∷◌, ◌++◌, ◌⊎◌, inl, inr, Option, Some, None, length, take, drop, min, slice_get, refl, sym, ap, ◌∙◌, subst, arith, append_assoc, length-append, length-drop}
 use Rattle.std.specs.Prelude.{nat_eq}
 use Rattle.std.proofs.lemmas.Bool.{both_ways, cases_Bool, or_cases, eqb-true, ne_eqb}
 use Rattle.std.proofs.lemmas.List.{take-append-drop, length-take-le}
 use Rattle.std.proofs.lemmas.Option.{none-some, same_Some}
 use Rattle.std.proofs.Math.Seq.{take-append_seam, drop-append_seam}
-use Rattle.bz_token.specs.declared.class.Class.{Class}
 use Rattle.bz_token.specs.Bytes.{is_blank, is_quote, is_solid}
 use Rattle.bz_token.specs.Lexemes.{is_prefix}
 use Rattle.bz_token.specs.Tokens.{IsToken, NoToken, OpensString, TokenAt}
@@ -19,15 +18,15 @@ use Rattle.bz_lex.specs.declared.gap.GapFront.{GapFront}
 use Rattle.bz_lex.specs.declared.gap.GapState.{GapState}
 use Rattle.bz_lex.specs.declared.gap.GapState.TheVariants.{Open, Escape, EscapeReturn, Comment}
 use Rattle.bz_lex.specs.Faults.{fault_of, is_lexical}
-use Rattle.bz_lex.specs.Fronts.{IsLexemeFront, IsLexemeStop, NoTokenFor, front_token, behind_front}
+use Rattle.bz_lex.specs.Fronts.{IsLexemeStop, NoTokenFor, front_token, behind_front}
 use Rattle.bz_lex.specs.Gaps.{IsGap}
 use Rattle.bz_lex.specs.GapStates.{gap_move, gap_state_after, Stops, is_end, broken_off, and_then}
 use Rattle.bz_lex.specs.Lexing.{NoLexemes}
 use Rattle.bz_lex.specs.Positions.{line_at, column_of}
-use Rattle.bz_lex.specs.Stops.{NothingBegins, StopsFor, StandBefore, StopsAt, IsLexicalFault}
+use Rattle.bz_lex.specs.Stops.{NothingBegins, StopsFor, LexedTo, no_token, token_more, StopsAt, IsFaultAt}
 use Rattle.bz_lex.proofs.Fronts.{open_true, rest_none, rest_some}
 use Rattle.bz_lex.proofs.Gaps.{gap_after, gap_from}
-use Rattle.bz_lex.proofs.Lexing.{IsLexedTo, no_rest}
+use Rattle.bz_lex.proofs.Lexing.{no_rest}
 use Rattle.bz_lex.proofs.Tokens.{begins}
 
 -- ---- no gap begins where one stops
@@ -260,15 +259,11 @@ nothing_at s v n c e i h t = record {
   no_gap = λ g r e k. no_gap_on v g r h e k;
 }
 
-pub token_stop : (gap : GapFront) (s : List ℕ) (c : ℕ) (stop : Stop) → gap.length ≤ length s → gap_state_after true Open (take gap.length s) ≡ Some gap.state → Stops true gap.state (drop gap.length s) → is_end true gap.state ≡ true
-    → slice_get s gap.length ≡ Some c → stop.at ≡ gap.length → NoToken (drop gap.length s) → NoTokenFor stop.reason (drop gap.length s) → IsLexemeStop stop s
-token_stop gap s c stop w e h b i a t y =
+pub token_stop : (gap : GapFront) (s rest : List ℕ) (c : ℕ) (reason : Reason) (stop : Stop) → gap.length ≤ length s → gap_state_after true Open (take gap.length s) ≡ Some gap.state → Stops true gap.state (drop gap.length s) → is_end true gap.state ≡ true
+    → slice_get s gap.length ≡ Some c → stop ≡ stop_at reason gap.length → rest ≡ drop gap.length s → NoToken (drop gap.length s) → NoTokenFor reason rest → IsLexemeStop stop s
+token_stop gap s rest c reason stop w e h b i z same t y =
     let g = gap_of gap s c e h b i in
-    record {
-      within = rw a w;
-      gap = rw a g.1;
-      stops = rw a (by_reason stop.reason y);
-    }
+    rw z (record { within = w; gap = g.1; stops = by_reason reason (subst (NoTokenFor reason) same y) })
   where
     by_reason : (reason : Reason) → NoTokenFor reason (drop gap.length s) → StopsFor reason (drop gap.length s)
     by_reason r.OpenString y = y
@@ -328,16 +323,31 @@ unopened_front s n b f e o = both_ways b e (f o)
 
 -- ---- the fault
 
-pub stop_placed : (text : List ℕ) (ts : List (List ℕ)) (rest : List ℕ) (stop : Stop) (fault : ReadFault) (from : ℕ) → IsLexedTo text ts rest → IsLexemeStop stop rest
-    → fault ≡ fault_of stop.reason (min (line_at text (min (from + stop.at) (length text))) 4294967295) (min (column_of text (min (from + stop.at) (length text))) 4294967295) → from ≡ length text - length rest → IsLexicalFault text fault
-stop_placed text ts rest stop fault from h k f n =
-    let at = from + stop.at in
-    let a = h.within in
+-- what was lexed is in front of the rest
+lexed_split : (text rest : List ℕ) → LexedTo text rest → (front : List ℕ) × (text ≡ front ++ rest)
+lexed_split text _ no_token = ([], refl)
+lexed_split text _ (token_more class gap token rest h g t o) =
+    let w = lexed_split text (gap ++ (token ++ rest)) h in
+    (w.0 ++ (gap ++ token), w.1 ∙ ap (λ (u : List ℕ). w.0 ++ u) (sym (append_assoc gap token rest)) ∙ sym (append_assoc (w.0) (gap ++ token) rest))
+
+-- the fault of a stop
+pub stop_placed : (text rest : List ℕ) (stop : Stop) (fault : ReadFault) (from : ℕ) → LexedTo text rest → length rest ≤ length text → IsLexemeStop stop rest
+    → fault ≡ fault_of stop.reason (min (line_at text (min (from + stop.at) (length text))) 4294967295) (min (column_of text (min (from + stop.at) (length text))) 4294967295) → from ≡ length text - length rest → IsFaultAt (λ _. ⊥) text fault
+stop_placed text rest stop fault from h le k f n =
+    let back : List ℕ = drop stop.at rest in
     let b = k.within in
-    let within : min (from + stop.at) (length text) ≡ from + stop.at = omega arith in
-    let left : (from + stop.at) + length (drop stop.at rest) ≡ length text = rw length-drop (omega arith) in
-    let last : StandBefore (drop stop.at rest) [] rest = (take stop.at rest, sym (take-append-drop stop.at rest), k.gap) in
-    (at, stop.reason, (ts ++ [], drop stop.at rest, h.stands [] (drop stop.at rest) last, k.stops, left), rw within at f)
+    let left : length back ≡ length rest - stop.at = length-drop stop.at rest in
+    let split = lexed_split text rest h in
+    let whole : text ≡ (split.0 ++ take stop.at rest) ++ back = split.1 ∙ ap (λ (t : List ℕ). split.0 ++ t) (sym (take-append-drop stop.at rest)) ∙ sym (append_assoc (split.0) (take stop.at rest) back) in
+    let sizes : length text ≡ length (split.0 ++ take stop.at rest) + length back = ap length whole ∙ length-append (split.0 ++ take stop.at rest) back in
+    let at : min (from + stop.at) (length text) ≡ length (split.0 ++ take stop.at rest) = omega arith in
+    (split.0 ++ take stop.at rest, back, stop.reason, whole, by_reason stop.reason k.stops, rw at at f)
+  where
+    by_reason : (reason : Reason) → StopsFor reason (drop stop.at rest) → StopsAt (λ _. ⊥) text (drop stop.at rest) reason
+    by_reason r.OpenString y = (take stop.at rest, subst (LexedTo text) (sym (take-append-drop stop.at rest)) h, k.gap, y)
+    by_reason r.BadCharacter y = (take stop.at rest, subst (LexedTo text) (sym (take-append-drop stop.at rest)) h, k.gap, y)
+    by_reason r.Indented y = absurd y
+    by_reason r.Unexpected y = tt
 
 pub stop_lexical : (stop : Stop) (s : List ℕ) (fault : ReadFault) (line column : ℕ) → IsLexemeStop stop s → fault ≡ fault_of stop.reason line column → is_lexical fault ≡ true
 stop_lexical stop s fault line column h e = rw e (by_reason stop.reason h.stops)

@@ -1,5 +1,5 @@
 -- The leaf at the front of a text.
-use Rattle.std.specs.Prelude.{◌≡◌, ◌≤◌, ◌+◌, ℕ, Bool, true, false, List, ◌++◌, length, take, drop, Result, Some, MatchResult}
+use Rattle.std.specs.Prelude.{◌≡◌, ◌≤◌, ◌+◌, ℕ, Bool, true, false, List, ◌++◌, length, take, drop, Option, Some, MatchOption}
 use Rattle.bz_lex.specs.declared.leaf.Leaf.{Leaf}
 use Rattle.bz_lex.specs.declared.gap.GapFront.{GapFront}
 use Rattle.bz_lex.specs.declared.gap.GapState.TheVariants.{Open}
@@ -40,8 +40,8 @@ abbrev pub NoLeaf : Place → List ℕ → Type 0
 NoLeaf place text = (leaf : Leaf) (rest : List ℕ) → May IsToken place leaf rest → leaf.gap ++ (leaf.token ++ rest) ≡ text → ⊥
 
 -- the leaf there, or that there is none
-abbrev pub TellsFront : Place → List ℕ → Result Front Stop → Type 0
-TellsFront place text result = MatchResult result (λ front. IsFront place front text) (λ _. NoLeaf place text)
+abbrev pub TellsFront : Place → List ℕ → Option Front → Type 0
+TellsFront place text result = MatchOption result (NoLeaf place text) (λ front. IsFront place front text)
 
 -- such a token is there, after a gap with newlines
 pub record IsLexemeFront (front : Front) (text : List ℕ) : Type 0 where

@@ -59,9 +59,9 @@ impl Front {
     }
 }
 
-/// Why no leaf is at the front of a text, and how far after its start.
+/// Why the tokens of a text stop, and how far after its start.
 #[derive(Clone, Copy)]
-pub struct Stop {
+pub(crate) struct Stop {
     pub reason: Reason,
     pub at: usize,
 }
@@ -74,7 +74,7 @@ impl Stop {
     }
 }
 
-/// Each is told as the fault of its name.
+/// Each is reported as the fault of its name.
 #[derive(Clone, Copy)]
 pub enum Reason {
     BadCharacter,
@@ -85,78 +85,73 @@ pub enum Reason {
 
 /// The leaf at the front of a text that begins at this place.
 #[inline(always)]
-pub fn leaf_front(text: &[u8], place: Place) -> Result<Front, Stop>
-    ensures told { TellsFront place text.now result }
-    ensures within { IfErr result (λ stop. stop.at ≤ length text.now) }
+pub fn leaf_front(text: &[u8], place: Place) -> Option<Front>
+    ensures { TellsFront place text.now result }
 {
     let gap = gap_front(text, place.newlines());
-    if let Some(at) = gap.broken_at() {
-        return Err(Stop::new(Reason::BadCharacter, at));
+    if let Some(_at) = gap.broken_at() {
+        return None;
     }
     match place {
         Place::Fresh => fresh(text, gap),
         Place::Behind => behind(text, gap),
         Place::Inside(_) => inside(text, gap),
         Place::Last => last(text),
-        Place::Over => Err(Stop::new(Reason::Unexpected, 0)),
+        Place::Over => None,
     }
 }
 
 /// Before the first token of a line, or the end.
 #[inline(always)]
-fn fresh(text: &[u8], gap: GapFront) -> Result<Front, Stop>
+fn fresh(text: &[u8], gap: GapFront) -> Option<Front>
     requires { IsGapFront true gap text.now }
-    ensures told { TellsFront Place.Fresh text.now result }
-    ensures within { IfErr result (λ stop. stop.at ≤ length text.now) }
+    ensures { TellsFront Place.Fresh text.now result }
 {
     if gap.length == text.len() {
-        return Ok(Front::new(Class::End, gap.length, 0));
+        return Some(Front::new(Class::End, gap.length, 0));
     }
     token_front(text, gap.length)
 }
 
 /// After a token of a line: a token, a newline, or the newline that is no byte.
 #[inline(always)]
-fn behind(text: &[u8], gap: GapFront) -> Result<Front, Stop>
+fn behind(text: &[u8], gap: GapFront) -> Option<Front>
     requires { IsGapFront false gap text.now }
-    ensures told { TellsFront Place.Behind text.now result }
-    ensures within { IfErr result (λ stop. stop.at ≤ length text.now) }
+    ensures { TellsFront Place.Behind text.now result }
 {
     match at(text, gap.length).copied() {
-        None => Ok(Front::new(Class::Newline, gap.length, 0)),
-        Some(b'\n') => Ok(Front::new(Class::Newline, gap.length, 1)),
+        None => Some(Front::new(Class::Newline, gap.length, 0)),
+        Some(b'\n') => Some(Front::new(Class::Newline, gap.length, 1)),
         Some(_) => token_front(text, gap.length),
     }
 }
 
 /// Inside brackets: a token.
 #[inline(always)]
-fn inside(text: &[u8], gap: GapFront) -> Result<Front, Stop>
+fn inside(text: &[u8], gap: GapFront) -> Option<Front>
     requires { IsGapFront true gap text.now }
-    ensures told { (depth : ℕ) → TellsFront (Place.Inside depth) text.now result }
-    ensures within { IfErr result (λ stop. stop.at ≤ length text.now) }
+    ensures { (depth : ℕ) → TellsFront (Place.Inside depth) text.now result }
 {
     if gap.length == text.len() {
-        return Err(Stop::new(Reason::Unexpected, gap.length));
+        return None;
     }
     token_front(text, gap.length)
 }
 
 /// After the newline that is no byte: the end.
-fn last(text: &[u8]) -> Result<Front, Stop>
-    ensures told { TellsFront Place.Last text.now result }
-    ensures within { IfErr result (λ stop. stop.at ≤ length text.now) }
+fn last(text: &[u8]) -> Option<Front>
+    ensures { TellsFront Place.Last text.now result }
 {
     if text.is_empty() {
-        Ok(Front::new(Class::End, 0, 0))
+        Some(Front::new(Class::End, 0, 0))
     } else {
-        Err(Stop::new(Reason::Unexpected, 0))
+        None
     }
 }
 
 /// The token at the front of a text without lines, after its gap; `None` where a gap is all that is left. A token at which a
 /// string begins that is not closed is its prefix: the tokens stop there.
-pub fn lexeme_front(text: &[u8]) -> Result<Option<Front>, Stop>
+pub(crate) fn lexeme_front(text: &[u8]) -> Result<Option<Front>, Stop>
     ensures told { MatchResult result (λ found. MatchOption found (IsGap true true text.now) (λ front. IsLexemeFront front text.now)) (λ _. NoLexemes text.now) }
     ensures stops { IfErr result (λ stop. IsLexemeStop stop text.now) }
 {
@@ -167,15 +162,12 @@ pub fn lexeme_front(text: &[u8]) -> Result<Option<Front>, Stop>
     if gap.length == text.len() {
         return Ok(None);
     }
-    let front = match token_front(text, gap.length) {
-        Ok(front) => front,
-        Err(stop) => return Err(stop),
+    let Some(front) = token_front(text, gap.length) else {
+        let reason = missing(&text[gap.length..]);
+        return Err(Stop::new(reason, gap.length));
     };
     if is_open_prefix(text, front) {
-        return Err(Stop {
-            reason: Reason::OpenString,
-            at: front.gap,
-        });
+        return Err(Stop::new(Reason::OpenString, front.gap));
     }
     Ok(Some(front))
 }
@@ -205,16 +197,23 @@ fn is_quote_at(text: &[u8], index: usize) -> bool
 
 /// The token after a gap.
 #[inline(always)]
-fn token_front(text: &[u8], gap: usize) -> Result<Front, Stop>
+fn token_front(text: &[u8], gap: usize) -> Option<Front>
     requires { gap ≤ length text.now }
-    ensures told { MatchResult result (λ front. (front.gap ≡ gap) × TokenAt front.class front.token (drop gap text.now)) (λ _. NoToken (drop gap text.now)) }
-    ensures within { IfErr result (λ stop. stop.at ≤ length text.now) }
-    ensures why { IfErr result (λ stop. (stop.at ≡ gap) × NoTokenFor stop.reason (drop gap text.now)) }
+    ensures { MatchOption result (NoToken (drop gap text.now)) (λ front. (front.gap ≡ gap) × TokenAt front.class front.token (drop gap text.now)) }
 {
-    let behind = &text[gap..];
-    match token(behind) {
-        Some(found) => Ok(Front::new(found.class, gap, found.len)),
-        None if opens_string(behind) => Err(Stop::new(Reason::OpenString, gap)),
-        None => Err(Stop::new(Reason::BadCharacter, gap)),
+    match token(&text[gap..]) {
+        Some(found) => Some(Front::new(found.class, gap, found.len)),
+        None => None,
+    }
+}
+
+/// Why no token begins a text.
+fn missing(text: &[u8]) -> Reason
+    ensures { NoTokenFor result text.now }
+{
+    if opens_string(text) {
+        Reason::OpenString
+    } else {
+        Reason::BadCharacter
     }
 }

@@ -13,9 +13,9 @@ mod source;
 
 pub use bz_token::Class;
 pub use fault::{ReadFault, fault_at};
-pub use front::{Front, Reason, Stop, leaf_front};
+pub use front::{Front, Reason, leaf_front};
 pub use leaf::Leaf;
 pub use limits::{DEPTH_LIMIT, LENGTH_LIMIT};
 pub use place::Place;
 pub use position::line_and_column;
-pub use source::lex;
+pub use source::{lex, lexical_fault};

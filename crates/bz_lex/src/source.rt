@@ -1,8 +1,8 @@
-ghost use Rattle.std.specs.Prelude.{◌≡◌, ◌≢◌, ◌⊎◌, IfErr, MatchResult, map, true};
+ghost use Rattle.std.specs.Prelude.{◌≡◌, ◌≢◌, ◌⊎◌, IfErr, IfSome, MatchResult, map, true};
 ghost use Rattle.bz_lex.specs.Faults.{is_lexical};
 ghost use Rattle.bz_lex.specs.Fronts.{IsLexemeFront, behind_front, front_token};
 ghost use Rattle.bz_lex.specs.Lexing.{AreLexemes, NoLexemes};
-ghost use Rattle.bz_lex.specs.Stops.{IsLexicalFault};
+ghost use Rattle.bz_lex.specs.Stops.{IsFaultAt};
 
 use crate::fault::{ReadFault, fault_at};
 use crate::front::{Front, lexeme_front};
@@ -15,7 +15,7 @@ use std::alloc::Global;
 pub fn lex(alloc: Global, source: &str) -> Result<Vec<&str>, ReadFault>
     ensures told { MatchResult result (λ tokens. AreLexemes (map (λ token. token.now) tokens.items) source.now) (λ fault. (fault ≡ ReadFault.Memory) ⊎ NoLexemes source.now) }
     ensures lexical { IfErr result (λ fault. is_lexical fault ≡ true) }
-    ensures placed { IfErr result (λ fault. fault ≢ ReadFault.Memory → IsLexicalFault source.now fault) }
+    ensures placed { IfErr result (λ fault. fault ≢ ReadFault.Memory → IsFaultAt (λ _. ⊥) source.now fault) }
 {
     let mut tokens = Items::new(alloc);
     let mut rest = source;
@@ -33,6 +33,27 @@ pub fn lex(alloc: Global, source: &str) -> Result<Vec<&str>, ReadFault>
         tokens.push(token)?;
         rest = behind(rest, front);
     }
+}
+
+/// The fault at the first place where the tokens of a text stop, if that is no later than this byte.
+pub fn lexical_fault(text: &[u8], until: usize) -> Option<ReadFault>
+    ensures { IfSome result (λ fault. IsFaultAt (λ _. ⊥) text.now fault) }
+{
+    let mut rest = text;
+    'tokens: while text.len() - rest.len() <= until {
+        match lexeme_front(rest) {
+            Ok(Some(front)) => rest = front.rest_of(rest),
+            Ok(None) => return None,
+            Err(stop) => {
+                let at = text.len() - rest.len() + stop.at;
+                if at > until {
+                    return None;
+                }
+                return Some(fault_at(text, at, stop.reason));
+            }
+        }
+    }
+    None
 }
 
 /// The token at the front of a text.

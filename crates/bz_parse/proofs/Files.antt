@@ -10,12 +10,13 @@ use Rattle.bz_tree.specs.declared.tree.Part.{Part}
 use Rattle.bz_tree.specs.Spell.{depth_limit}
 use Rattle.bz_tree.specs.Legal.{IsFileOf}
 use Rattle.bz_states.specs.Tokens.{Fails}
-use Rattle.bz_tree.specs.Suites.{file_of, read_file}
+use Rattle.bz_tree.specs.Joined.{file_with}
+use Rattle.bz_tree.specs.Suites.{read_file}
 use Rattle.bz_tree.proofs.Suites.{read_sound, read_complete}
 
 -- Of any depth: at a number, the reader would be computed as far down as the number says.
-pub file_read : (d : ℕ) (ts : List Leaf) (result : Result (List Part) ParseHalt) → IfOk result (λ parts. read_file d ts ≡ Some (file_of parts)) → suc d ≡ depth_limit → IfOk result (λ parts. IsFileOf ts (file_of parts))
-file_read d ts (Ok ps) e is = let w = read_sound d ts (file_of ps) e in record { file = w.0; indents = w.1; leaves = w.2; depth = omega (arith, w.3, is) }
+pub file_read : (d : ℕ) (ts : List Leaf) (result : Result (List Part) ParseHalt) → IfOk result (λ parts. read_file d ts ≡ Some (file_with parts)) → suc d ≡ depth_limit → IfOk result (λ parts. IsFileOf ts (file_with parts))
+file_read d ts (Ok ps) e is = let w = read_sound d ts (file_with ps) e in record { file = w.0; indents = w.1; leaves = w.2; depth = omega (arith, w.3, is) }
 file_read d ts (Err _) e is = tt
 
 no_file_of : (d : ℕ) (ts : List Leaf) → suc d ≡ depth_limit → read_file d ts ≡ None → (n : Node) → IsFileOf ts n → ⊥

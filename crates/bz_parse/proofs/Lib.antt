@@ -5,6 +5,7 @@ pub mod Deepest
 pub mod Climbs
 pub mod Accepts
 pub mod Rises
+pub mod Placed
 pub mod Pushed
 pub mod Blocks
 pub mod Listed

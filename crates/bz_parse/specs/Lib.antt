@@ -1,3 +1,4 @@
 pub mod Words
+pub mod Indents
 pub mod Ranks
 pub mod Rows

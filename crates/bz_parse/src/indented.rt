@@ -7,7 +7,8 @@ ghost use Rattle.bz_tree.specs.Spell.{depth_limit};
 ghost use Rattle.bz_tree.specs.Shapes.{line};
 ghost use Rattle.bz_tree.specs.Reading.{node_part};
 ghost use Rattle.bz_tree.specs.Legal.{IsFileOf};
-ghost use Rattle.bz_tree.specs.Suites.{file_of, read_file, is_deeper};
+ghost use Rattle.bz_tree.specs.Joined.{file_with};
+ghost use Rattle.bz_tree.specs.Suites.{read_file, is_deeper};
 ghost use Rattle.bz_states.specs.Tokens.{Fails};
 ghost use Rattle.bz_parse.specs.Words.{part_at};
 ghost use Rattle.bz_states.specs.States.{plan_at};
@@ -24,7 +25,7 @@ use std::alloc::Global;
 ///
 /// Errors: `Unexpected` where no such file has these leaves; `Memory` where a growth was refused.
 pub fn file(alloc: Global, leaves: &mut Leaves) -> Result<Stack, ParseHalt>
-    ensures ok { IfOk result (λ parts. IsFileOf leaves.old (file_of parts)) }
+    ensures ok { IfOk result (λ parts. IsFileOf leaves.old (file_with parts)) }
     ensures err { (result ≡ Err h.Unexpected) → (file : Node) → IsFileOf leaves.old file → ⊥ }
 {
     whole(alloc, DEPTH_LIMIT - 1, leaves)
@@ -33,7 +34,7 @@ pub fn file(alloc: Global, leaves: &mut Leaves) -> Result<Stack, ParseHalt>
 /// The parts, at most so deep, of the file that all leaves are.
 fn whole(alloc: Global, depth: u32, leaves: &mut Leaves) -> Result<Stack, ParseHalt>
     requires { depth ≤ 2 * depth_limit }
-    ensures ok { IfOk result (λ parts. read_file depth leaves.old ≡ Some (file_of parts)) }
+    ensures ok { IfOk result (λ parts. read_file depth leaves.old ≡ Some (file_with parts)) }
     ensures err { Fails result (read_file depth leaves.old) }
 {
     let mut stack = Stack::new(alloc);

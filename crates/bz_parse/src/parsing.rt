@@ -1,16 +1,21 @@
 //! Reading a text as the tree that spells it.
-ghost use Rattle.std.specs.Prelude.{◌≡◌, ◌↔◌, ◌≤◌, ◌<◌, ℕ, min, length, IfOk, IfErr, IsUtf8};
+ghost use Rattle.std.specs.Prelude.{◌≡◌, ◌≢◌, ◌↔◌, ◌≤◌, ◌<◌, [], ℕ, min, length, true, false, IfOk, IfErr, IsTrue, IsUtf8};
 ghost use Rattle.std.specs.Str.{IsValidUpTo};
+ghost use Rattle.bz_lex.specs.Faults.{is_of_leaves};
 ghost use Rattle.bz_lex.specs.Positions.{line_at, column_of};
+ghost use Rattle.bz_lex.specs.Stops.{IsFaultAt};
 ghost use Rattle.bz_tree.specs.Legal.{Reads, ReadsBzl, NoTree, NoBzlTree};
 ghost use Rattle.bz_tree.specs.Spell.{limit};
-ghost use Rattle.bz_tree.specs.Suites.{file_of};
+ghost use Rattle.bz_tree.specs.Joined.{file_with};
 ghost use Rattle.bz_tree.specs.Faults.{IsOfText, IsOther};
+ghost use Rattle.bz_parse.specs.Indents.{is_wrong, IsIndentedAt};
 
 use crate::indented::{file, read_so_far};
 use crate::row::Stack;
-use bz_lex::{DEPTH_LIMIT, LENGTH_LIMIT, ReadFault, fault_at, line_and_column};
-use bz_states::{Leaves, ParseHalt, deeper_at};
+use bz_lex::{
+    DEPTH_LIMIT, LENGTH_LIMIT, ReadFault, Reason, fault_at, lexical_fault, line_and_column,
+};
+use bz_states::{Leaves, ParseHalt, deeper_at, line_indent};
 use bz_tree::{BzlTree, Kind, Tree};
 use std::alloc::Global;
 use std::str::from_utf8;
@@ -32,6 +37,7 @@ pub fn parse(alloc: Global, text: &[u8]) -> Result<Tree, ReadFault>
     ensures too_large { (result ≡ Err ReadFault.TooLarge) ↔ (limit < length text.now) }
     ensures not_utf8 { (at : ℕ) → ((result ≡ Err (ReadFault.NotUtf8 at)) ↔ ((length text.now ≤ limit) × IsValidUpTo text.now at)) }
     ensures refused { IfErr result (λ fault. IsOfText fault → NoTree text.now) }
+    ensures placed { IfErr result (λ fault. is_of_leaves fault ≡ true → IsFaultAt (λ blanks. blanks ≢ []) text.now fault) }
 {
     if text.len() > LENGTH_LIMIT {
         return Err(ReadFault::TooLarge);
@@ -51,6 +57,7 @@ pub fn parse_bzl(alloc: Global, text: &[u8]) -> Result<BzlTree, ReadFault>
     ensures too_large { (result ≡ Err ReadFault.TooLarge) ↔ (limit < length text.now) }
     ensures not_utf8 { (at : ℕ) → ((result ≡ Err (ReadFault.NotUtf8 at)) ↔ ((length text.now ≤ limit) × IsValidUpTo text.now at)) }
     ensures refused { IfErr result (λ fault. IsOfText fault → NoBzlTree text.now) }
+    ensures placed { IfErr result (λ fault. is_of_leaves fault ≡ true → IsFaultAt (λ _. Unit {0}) text.now fault) }
 {
     if LENGTH_LIMIT < text.len() {
         return Err(ReadFault::TooLarge);
@@ -69,6 +76,7 @@ fn build_tree_of(alloc: Global, text: &[u8]) -> Result<Tree, ReadFault>
     ensures ok { IfOk result (λ tree. Reads text.now tree) }
     ensures other { IfErr result (λ fault. IsOther fault) }
     ensures refused { IfErr result (λ fault. IsOfText fault → NoTree text.now) }
+    ensures placed { IfErr result (λ fault. is_of_leaves fault ≡ true → IsFaultAt (is_wrong Dialect.Build) text.now fault) }
 {
     let parts = match parts_of(alloc, Dialect::Build, text) {
         Ok(parts) => parts,
@@ -89,6 +97,7 @@ fn bzl_tree_of(alloc: Global, text: &[u8]) -> Result<BzlTree, ReadFault>
     ensures ok { IfOk result (λ tree. ReadsBzl text.now tree) }
     ensures other { IfErr result (λ fault. IsOther fault) }
     ensures refused { IfErr result (λ fault. IsOfText fault → NoBzlTree text.now) }
+    ensures placed { IfErr result (λ fault. is_of_leaves fault ≡ true → IsFaultAt (is_wrong Dialect.Bzl) text.now fault) }
 {
     match parts_of(alloc, Dialect::Bzl, text) {
         Ok(parts) => Ok(BzlTree {
@@ -103,9 +112,10 @@ fn bzl_tree_of(alloc: Global, text: &[u8]) -> Result<BzlTree, ReadFault>
 fn parts_of(alloc: Global, dialect: Dialect, text: &[u8]) -> Result<Stack, ReadFault>
     requires within { length text.now ≤ limit }
     requires coded { IsUtf8 text.now }
-    ensures ok { IfOk result (λ parts. ReadsBzl text.now (file_of parts)) }
+    ensures ok { IfOk result (λ parts. ReadsBzl text.now (file_with parts)) }
     ensures other { IfErr result (λ fault. IsOther fault) }
     ensures refused { IfErr result (λ fault. IsOfText fault → NoBzlTree text.now) }
+    ensures placed { IfErr result (λ fault. is_of_leaves fault ≡ true → IsFaultAt (is_wrong dialect) text.now fault) }
 {
     let mut leaves = Leaves::new(alloc, text);
     match file(alloc, &mut leaves) {
@@ -118,29 +128,49 @@ fn parts_of(alloc: Global, dialect: Dialect, text: &[u8]) -> Result<Stack, ReadF
 /// The fault for which no file goes on with the next of these leaves of a text.
 fn fault_before(alloc: Global, dialect: Dialect, text: &[u8], leaves: &Leaves) -> ReadFault
     requires { length text.now ≤ limit }
-    ensures { IsOther result }
+    ensures other { IsOther result }
+    ensures placed { is_of_leaves result ≡ true → IsFaultAt (is_wrong dialect) text.now result }
 {
     if let Dialect::Build = dialect {
         if let Some(at) = first_newer(alloc, text, leaves.offset()) {
             return unexpected_at(text, at);
         }
     }
-    match leaves.too_deep_at() {
-        Some(at) => match first_too_deep(alloc, text) {
+    if let Some(at) = leaves.too_deep_at() {
+        return match first_too_deep(alloc, text) {
             Ok(first) => too_deep(text, first.unwrap_or(at)),
             Err(_) => ReadFault::Memory,
+        };
+    }
+    let at = leaves.halted_at();
+    if let Some(fault) = lexical_fault(text, at) {
+        return fault;
+    }
+    if is_indented(dialect, text, at, leaves) {
+        return fault_at(text, at, Reason::Indented);
+    }
+    unexpected_at(text, at)
+}
+
+/// Whether a line begins at this byte that has an indent which no line may have there.
+fn is_indented(dialect: Dialect, text: &[u8], at: usize, leaves: &Leaves) -> bool
+    requires { length text.now ≤ limit }
+    ensures { IsTrue result → IsIndentedAt (is_wrong dialect) text.now at }
+{
+    match line_indent(text, at) {
+        Some(blanks) => match dialect {
+            Dialect::Build => !blanks.is_empty(),
+            Dialect::Bzl => !leaves.is_at_indent(),
         },
-        None => {
-            let stop = leaves.stopped_at(text);
-            fault_at(text, stop.at, stop.reason)
-        }
+        None => false,
     }
 }
 
 /// The fault of a text of statements of which no BUILD file has one.
 fn newer_fault(alloc: Global, text: &[u8]) -> ReadFault
     requires { length text.now ≤ limit }
-    ensures { IsOther result }
+    ensures other { IsOther result }
+    ensures placed { is_of_leaves result ≡ true → IsFaultAt (is_wrong Dialect.Build) text.now result }
 {
     let first = first_newer(alloc, text, text.len());
     unexpected_at(text, first.unwrap_or(0))
@@ -166,7 +196,8 @@ fn first_too_deep(alloc: Global, text: &[u8]) -> Result<Option<usize>, ParseHalt
 }
 
 fn too_deep(text: &[u8], at: usize) -> ReadFault
-    ensures { IsOther result }
+    ensures other { IsOther result }
+    ensures kind { is_of_leaves result ≡ false }
 {
     let (line, column) = line_and_column(text, at.min(text.len()));
     ReadFault::TooDeep { line, column }

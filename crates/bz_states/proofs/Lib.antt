@@ -1,2 +1,3 @@
 mod Told
 mod Cutting
+mod Lines

@@ -2,12 +2,14 @@
 #![tactic(auto)]
 
 mod deep;
+mod line;
 mod moves;
 mod state;
 mod symbol;
 mod token;
 
 pub use deep::{deeper_at, goes_on, mark_deep_part, mark_next};
+pub use line::line_indent;
 pub use state::{
     BracketsAt, ClausesAt, HeaderAt, ItemRow, ItemsAt, LAMBDA, LambdaAt, ListedItems, Move, NOT,
     NamesAt, NodeState, Operands, OperandsAt, PRIMARY, PartSort, RoundAt, Rung, SliceAt,

@@ -14,10 +14,10 @@ ghost use Rattle.bz_states.specs.Symbols.{example, TellsFirst};
 ghost use Rattle.bz_states.specs.Tokens.{terminals_of, token_at, Fails};
 ghost use Rattle.bz_states.specs.States.{binds_at};
 
+use crate::line::indent_of;
 use crate::state::LAMBDA;
 use crate::symbol::Symbol;
-use bz_lex::{Class, Front, Leaf, Place, Reason, Stop, leaf_front};
-use bz_token::opens_string;
+use bz_lex::{Front, Leaf, Place, leaf_front};
 use std::alloc::{AllocError, AllocFailed, Global};
 use std::marker::Model;
 
@@ -244,11 +244,10 @@ pub struct Leaves<'a> {
     /// The text from the gap of the next leaf on, and where that is in a file.
     rest: &'a [u8],
     place: Place,
-    next: Result<Front, Stop>,
+    next: Option<Front>,
     symbol: Symbol,
-    /// How many bytes of the text are not left, and how many stand before the last token that was taken.
+    /// How many bytes of the text are not left.
     offset: usize,
-    last: usize,
     too_deep: Option<TooDeep>,
     /// How many bytes were not left when the next leaf stood at an indent at which a statement may begin.
     at_indent: Option<usize>,
@@ -287,7 +286,6 @@ impl<'a> Leaves<'a> {
             next,
             symbol: symbol_at(next, text, Place::Fresh),
             offset: 0,
-            last: 0,
             too_deep: None,
             at_indent: None,
         }
@@ -298,8 +296,8 @@ impl<'a> Leaves<'a> {
         ensures { IsTrue result ↔ (self.now ≡ []) }
     {
         match self.next {
-            Ok(_) => false,
-            Err(_) => true,
+            Some(_) => false,
+            None => true,
         }
     }
 
@@ -389,44 +387,19 @@ impl<'a> Leaves<'a> {
     /// The byte of the text at which the token of the next leaf begins; None where no leaf comes.
     pub fn next_at(&self) -> Option<usize> {
         match self.next {
-            Ok(front) => Some(self.offset.saturating_add(front.gap)),
-            Err(_) => None,
+            Some(front) => Some(self.offset.saturating_add(front.gap)),
+            None => None,
         }
     }
 
-    /// Why the next leaf is no part of a file, and the byte of the whole text at which that shows: no leaf is there, or
-    /// it is a string that is not closed, from its prefix on, or it stands where no file goes on with it.
-    pub fn stopped_at(&self, text: &[u8]) -> Stop {
-        let (reason, at) = match self.next {
-            Ok(front) => (self.reason(), self.offset.saturating_add(front.gap)),
-            Err(stop) => (stop.reason, self.offset.saturating_add(stop.at)),
-        };
-        let begins_here = matches!(reason, Reason::OpenString) && at == self.offset;
-        if begins_here && opens_string(from(text, self.last)) {
-            return Stop {
-                reason,
-                at: self.last,
-            };
-        }
-        if matches!(reason, Reason::Unexpected | Reason::Indented) && opens_string(from(text, at)) {
-            return Stop {
-                reason: Reason::OpenString,
-                at,
-            };
-        }
-        Stop { reason, at }
+    /// The byte of the text up to which it was read: that of the next token; past all bytes where no leaf comes.
+    pub fn halted_at(&self) -> usize {
+        self.next_at().unwrap_or(usize::MAX)
     }
 
-    /// Why no file goes on with the next leaf: the first token of a line is at a wrong indent where no statement may begin
-    /// at that one. At a right indent, the token is the fault.
-    fn reason(&self) -> Reason {
-        let is_first = matches!(self.place, Place::Fresh) && !self.next_is(TokenSet::End);
-        let is_at_indent = self.at_indent == Some(self.offset);
-        if is_first && !is_at_indent {
-            Reason::Indented
-        } else {
-            Reason::Unexpected
-        }
+    /// Whether the next leaf is at an indent at which a statement may begin.
+    pub fn is_at_indent(&self) -> bool {
+        self.at_indent == Some(self.offset)
     }
 
     /// The byte at which the first token begins that no BUILD file has, among those that begin in this many bytes of the text
@@ -459,13 +432,15 @@ impl<'a> Leaves<'a> {
     fn skip(&mut self)
         ensures { self.new ≡ drop 1 self.old }
     {
-        if let Ok(front) = self.next {
+        if let Some(front) = self.next {
             let place = self
                 .place
                 .after_token(front.class, front.token_of(self.rest));
             let rest = front.rest_of(self.rest);
-            self.last = self.offset.saturating_add(front.gap);
-            self.offset = self.last.saturating_add(front.token);
+            self.offset = self
+                .offset
+                .saturating_add(front.gap)
+                .saturating_add(front.token);
             self.next = leaf_front(rest, place);
             self.symbol = symbol_at(self.next, rest, place);
             self.place = place;
@@ -479,8 +454,8 @@ impl<'a> Leaves<'a> {
         ensures { IfOk result (λ leaf. MatchOption leaf (self.old ≡ []) (λ leaf. self.old ≡ leaf ∷ self.new)) }
     {
         let front = match self.next {
-            Ok(front) => front,
-            Err(_) => return Ok(None),
+            Some(front) => front,
+            None => return Ok(None),
         };
         let leaf = front.leaf(self.alloc, self.rest)?;
         self.skip();
@@ -508,43 +483,23 @@ impl<'a> Leaves<'a> {
 
 /// What the token of the next leaf is, where a text goes on so at a place.
 #[inline(always)]
-fn symbol_at(next: Result<Front, Stop>, rest: &[u8], place: Place) -> Symbol
+fn symbol_at(next: Option<Front>, rest: &[u8], place: Place) -> Symbol
     requires { TellsFront place rest.now next }
     ensures { TellsFirst result (to_come place rest.now) }
 {
     match next {
-        Ok(front) => Symbol::of(front.class, front.token_of(rest)),
-        Err(_) => Symbol::Nothing,
+        Some(front) => Symbol::of(front.class, front.token_of(rest)),
+        None => Symbol::Nothing,
     }
 }
 
 /// The indent of the next leaf, where a text goes on so at a place.
-fn indent_at(next: Result<Front, Stop>, rest: &[u8], place: Place) -> &[u8]
+fn indent_at(next: Option<Front>, rest: &[u8], place: Place) -> &[u8]
     requires { TellsFront place rest.now next }
     ensures { result.now ≡ first_indent (to_come place rest.now) }
 {
     match next {
-        Ok(front) => indent_of(rest.split_at(front.gap).0),
-        Err(_) => rest.split_at(0).0,
+        Some(front) => indent_of(rest.split_at(front.gap).0),
+        None => rest.split_at(0).0,
     }
-}
-
-/// The spaces and tabs at the end of a gap.
-fn indent_of(gap: &[u8]) -> &[u8]
-    ensures { result.now ≡ indent gap.now }
-{
-    let mut at = gap.len();
-    'blanks: while at > 0 {
-        let byte = gap[at - 1];
-        if byte != b' ' && byte != b'\t' {
-            return gap.split_at(at).1;
-        }
-        at -= 1;
-    }
-    gap
-}
-
-/// What is from a byte of a text on.
-fn from(text: &[u8], at: usize) -> &[u8] {
-    text.split_at(at.min(text.len())).1
 }

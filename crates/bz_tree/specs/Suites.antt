@@ -7,6 +7,7 @@ use Rattle.bz_tree.specs.declared.tree.Part.{Part}
 use Rattle.bz_tree.specs.declared.tree.Part.TheVariants as p
 use Rattle.bz_tree.specs.Shapes.{Terminal, is_one_of, line, stmt, param, primary, test, expr, Shape, done, tok, sub, list, enclosed, name, colon_mark, comma_mark, open_round, close_round, newline, end, one_keyword}
 use Rattle.bz_tree.specs.Indents.{first_indent}
+use Rattle.bz_tree.specs.Joined.{file_with}
 use Rattle.bz_tree.specs.Reading.{◌>>=◌, Read, starts_with, starts, with_part_first, run, wrap, reading}
 
 -- ---- headers: what is before a suite
@@ -87,12 +88,9 @@ abbrev mutual
 
 -- ---- files
 
-abbrev pub file_of : List Part → Node
-file_of parts = record { kind = k.File; parts = parts }
-
 -- all leaves, as a file
 abbrev pub if_all : List Part × List Leaf → Option Node
-if_all x = elim (x.1) [ [] ↦ Some (file_of x.0) | t ∷ ts ↦ None ]
+if_all x = elim (x.1) [ [] ↦ Some (file_with x.0) | t ∷ ts ↦ None ]
 
 -- the statements of a file, and its end
 abbrev pub statements_of : ℕ → Read (List Part)

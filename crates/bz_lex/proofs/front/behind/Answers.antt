@@ -2,11 +2,11 @@ use Rattle.std.proofs.Common.{sym, ◌∙◌, ap, Some}
 use Rattle.bz_lex.proofs.Fronts.{behind_token, behind_end, behind_line}
 use Rattle.bz_lex.proofs.front.behind.Goals as goal
 
-pub returns-in-None-clause-told : goal.returns-in-None-clause-told
-returns-in-None-clause-told c = behind_end _ _ _ c.requires (sym (c.in-None.ensures ∙ c.at.ensures)) c.new.ensures
+pub returns-in-None : goal.returns-in-None
+returns-in-None c = behind_end _ _ _ c.requires (sym (c.in-None.ensures ∙ c.at.ensures)) c.new.ensures
 
-pub returns-in-Some-eq10-clause-told : goal.returns-in-Some-eq10-clause-told
-returns-in-Some-eq10-clause-told c = behind_line _ _ _ c.requires (sym (c.in-Some-eq10.ensures ∙ c.at.ensures) ∙ ap Some c.in-Some-eq10.field-0-test) c.new-in-Some-eq10.ensures
+pub returns-in-Some-eq10 : goal.returns-in-Some-eq10
+returns-in-Some-eq10 c = behind_line _ _ _ c.requires (sym (c.in-Some-eq10.ensures ∙ c.at.ensures) ∙ ap Some c.in-Some-eq10.field-0-test) c.new-in-Some-eq10.ensures
 
-pub returns-in-Some-clause-told : goal.returns-in-Some-clause-told
-returns-in-Some-clause-told c = behind_token _ _ _ _ c.requires (sym (c.in-Some.ensures ∙ c.at.ensures)) c.in-Some.field-0-test.1 c.token_front.ensures.told
+pub returns-in-Some : goal.returns-in-Some
+returns-in-Some c = behind_token _ _ _ _ c.requires (sym (c.in-Some.ensures ∙ c.at.ensures)) c.in-Some.field-0-test.1 c.token_front.ensures

@@ -1,4 +1,4 @@
-use Rattle.std.proofs.Common.{refl}
+use Rattle.bz_token.proofs.Tokens.{whole_rest}
 use Rattle.bz_lex.proofs.Lexing.{broken_lexeme, all_gap, lexeme, no_lexeme}
 use Rattle.bz_lex.proofs.Fronts.{byte_at}
 use Rattle.bz_lex.proofs.Stopping.{broken_stop, token_stop, prefix_stop, prefix_refused, unopened_front, at_token}
@@ -14,32 +14,32 @@ returns-in-Some-clause-stops c =
 pub returns-then-gap-text-clause-told : goal.returns-then-gap-text-clause-told
 returns-then-gap-text-clause-told c = all_gap _ _ c.gap_front-gap.ensures.taken c.in_default.ensures c.if-gap-text.true
 
-pub returns-in-Err-clause-told : goal.returns-in-Err-clause-told
-returns-in-Err-clause-told c =
-    no_lexeme _ _ _ c.gap_front-gap.ensures.taken c.gap_front-gap.ensures.stops (byte_at _ _ c.gap_front-gap.ensures.within c.if-gap-text.false) c.in-Err.ensures.told
+pub returns-in_default-token_front-clause-told : goal.returns-in_default-token_front-clause-told
+returns-in_default-token_front-clause-told c =
+    no_lexeme _ _ _ c.gap_front-gap.ensures.taken c.gap_front-gap.ensures.stops (byte_at _ _ c.gap_front-gap.ensures.within c.if-gap-text.false) c.in_default-token_front.ensures
 
-pub returns-in-Err-clause-stops : goal.returns-in-Err-clause-stops
-returns-in-Err-clause-stops c =
-    token_stop _ _ _ _ c.gap_front-gap.ensures.within c.gap_front-gap.ensures.taken c.gap_front-gap.ensures.stops c.in_default.ensures
-    (byte_at _ _ c.gap_front-gap.ensures.within c.if-gap-text.false) c.in-Err.ensures.why.0 c.in-Err.ensures.told c.in-Err.ensures.why.1
+pub returns-in_default-token_front-clause-stops : goal.returns-in_default-token_front-clause-stops
+returns-in_default-token_front-clause-stops c =
+    token_stop _ _ _ _ _ _ c.gap_front-gap.ensures.within c.gap_front-gap.ensures.taken c.gap_front-gap.ensures.stops c.in_default.ensures
+    (byte_at _ _ c.gap_front-gap.ensures.within c.if-gap-text.false) c.new-in_default-token_front.ensures (whole_rest _ _ c.gap_front-gap.ensures.within) c.in_default-token_front.ensures c.missing-reason.ensures
 
 pub is_open_prefix-requires-clause-within : goal.is_open_prefix-requires-clause-within
-is_open_prefix-requires-clause-within c = rw c.in-Ok.ensures.told.0 c.gap_front-gap.ensures.within
+is_open_prefix-requires-clause-within c = rw c.in-Some-token_front.ensures.0 c.gap_front-gap.ensures.within
 
 pub is_open_prefix-requires-clause-token : goal.is_open_prefix-requires-clause-token
-is_open_prefix-requires-clause-token c = at_token _ _ _ c.in-Ok.ensures.told.0 c.in-Ok.ensures.told.1
+is_open_prefix-requires-clause-token c = at_token _ _ _ c.in-Some-token_front.ensures.0 c.in-Some-token_front.ensures.1
 
 pub returns-then-is_open_prefix-clause-told : goal.returns-then-is_open_prefix-clause-told
 returns-then-is_open_prefix-clause-told c =
     prefix_refused _ _ _ _ c.gap_front-gap.ensures.within c.gap_front-gap.ensures.taken c.gap_front-gap.ensures.stops c.in_default.ensures
-    (byte_at _ _ c.gap_front-gap.ensures.within c.if-gap-text.false) c.in-Ok.ensures.told.0 c.in-Ok.ensures.told.1 (c.is_open_prefix.ensures.0 c.if-is_open_prefix.true)
+    (byte_at _ _ c.gap_front-gap.ensures.within c.if-gap-text.false) c.in-Some-token_front.ensures.0 c.in-Some-token_front.ensures.1 (c.is_open_prefix.ensures.0 c.if-is_open_prefix.true)
 
 pub returns-then-is_open_prefix-clause-stops : goal.returns-then-is_open_prefix-clause-stops
 returns-then-is_open_prefix-clause-stops c =
-    prefix_stop _ _ _ c.in-Ok.front _ c.gap_front-gap.ensures.within c.gap_front-gap.ensures.taken c.gap_front-gap.ensures.stops c.in_default.ensures
-    (byte_at _ _ c.gap_front-gap.ensures.within c.if-gap-text.false) c.in-Ok.ensures.told.0 (c.is_open_prefix.ensures.0 c.if-is_open_prefix.true) refl
+    prefix_stop _ _ _ c.in-Some-token_front.front _ c.gap_front-gap.ensures.within c.gap_front-gap.ensures.taken c.gap_front-gap.ensures.stops c.in_default.ensures
+    (byte_at _ _ c.gap_front-gap.ensures.within c.if-gap-text.false) c.in-Some-token_front.ensures.0 (c.is_open_prefix.ensures.0 c.if-is_open_prefix.true) c.new-then-is_open_prefix.ensures
 
 pub returns-clause-told : goal.returns-clause-told
 returns-clause-told c =
     lexeme _ _ _ _ c.gap_front-gap.ensures.within c.gap_front-gap.ensures.taken c.gap_front-gap.ensures.stops c.in_default.ensures
-    (byte_at _ _ c.gap_front-gap.ensures.within c.if-gap-text.false) c.in-Ok.ensures.told.0 c.in-Ok.ensures.told.1 (unopened_front c.args.text.now c.in-Ok.front.gap _ c.is_open_prefix.ensures.1 c.if-is_open_prefix.false)
+    (byte_at _ _ c.gap_front-gap.ensures.within c.if-gap-text.false) c.in-Some-token_front.ensures.0 c.in-Some-token_front.ensures.1 (unopened_front c.args.text.now c.in-Some-token_front.front.gap _ c.is_open_prefix.ensures.1 c.if-is_open_prefix.false)

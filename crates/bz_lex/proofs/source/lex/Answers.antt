@@ -1,8 +1,11 @@
 use Rattle.std.proofs.Common.{map, refl, ◌∙◌, ap}
 use Rattle.std.proofs.lemmas.List.{map-append}
-use Rattle.bz_lex.proofs.Lexing.{next_turn, shorter, done}
+use Rattle.bz_lex.proofs.Lexing.{begin, next_turn, shorter, done}
 use Rattle.bz_lex.proofs.Stopping.{stop_placed, stop_lexical}
 use Rattle.bz_lex.proofs.source.lex.Goals as goal
+
+pub tokens-init : goal.tokens-init
+tokens-init c = record { lexed = rw c.new-tokens.ensures (begin _); text = c.utf8.source; whole = refl }
 
 pub returns-in-Ok-None-clause-told : goal.returns-in-Ok-None-clause-told
 returns-in-Ok-None-clause-told c = rw c.into_vec.ensures (done _ _ _ c.tokens.invariant.lexed (rw (c.in-Ok-None.field-0-is, c.as_bytes.ensures.value) at c.in-Ok-None.ensures.told))
@@ -22,7 +25,7 @@ pub returns-in-Err-clause-placed : goal.returns-in-Err-clause-placed
 returns-in-Err-clause-placed c _ =
     let stop = rw c.as_bytes.ensures.value at c.in-Err.ensures.stops in
     let fault = rw c.as_bytes-in-Err.ensures.value at c.fault_at.ensures.told in
-    stop_placed _ _ _ _ _ _ c.tokens.invariant.lexed stop fault refl
+    stop_placed _ _ _ _ _ c.tokens.invariant.lexed.lexed c.tokens.invariant.lexed.within stop fault refl
 
 pub returns-in-Err-clause-lexical : goal.returns-in-Err-clause-lexical
 returns-in-Err-clause-lexical c = stop_lexical _ _ _ _ _ c.in-Err.ensures.stops c.fault_at.ensures.told

@@ -1,6 +1,6 @@
 use Rattle.std.proofs.Common.{◌∙◌, arith}
 use Rattle.bz_tree.proofs.Blanks.{blanks_from, blanks_whole}
-use Rattle.bz_states.proofs.token.indent_of.Goals as goal
+use Rattle.bz_states.proofs.line.indent_of.Goals as goal
 
 pub returns-then-byte-ne9 : goal.returns-then-byte-ne9
 returns-then-byte-ne9 c = c.split_at.ensures.back ∙ blanks_from c.args.gap.now c.blanks.at (omega (arith, c.blanks-test.true)) c.blanks.invariant.within c.if-byte-ne32.true c.if-byte-ne9.true c.blanks.invariant.blank

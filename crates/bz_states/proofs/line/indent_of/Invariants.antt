@@ -1,6 +1,6 @@
 use Rattle.std.proofs.Common.{◌≡◌, ◌≤◌, true, length, drop}
 use Rattle.bz_lex.specs.Gaps.{are_indents}
-use Rattle.bz_states.proofs.token.indent_of.Given as goal
+use Rattle.bz_states.proofs.line.indent_of.Given as goal
 
 abbrev pub invariant-blanks : goal.invariant-blanks
 invariant-blanks l = record { within : l.at ≤ length l.gap; blank : are_indents (drop l.at l.gap) ≡ true }
