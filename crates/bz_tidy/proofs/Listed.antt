@@ -80,7 +80,7 @@ unrepeated_clean earlier (x ∷ xs) = elim (cases_Bool (is_repeated earlier x)) 
   | inr f ↦ rw f (f, unrepeated_clean (text_of x ∷ earlier) xs)
 ]
 
-unrepeated_all : (P : Expr → Type 0) (earlier : List Bytes) (xs : List Expr) → AllByRecursion P xs → AllByRecursion P (without_repeats earlier xs)
+pub unrepeated_all : (P : Expr → Type 0) (earlier : List Bytes) (xs : List Expr) → AllByRecursion P xs → AllByRecursion P (without_repeats earlier xs)
 unrepeated_all P earlier [] h = tt
 unrepeated_all P earlier (x ∷ xs) h = elim (cases_Bool (is_repeated earlier x)) [
   | inl t ↦ rw t (unrepeated_all P earlier xs h.1)
