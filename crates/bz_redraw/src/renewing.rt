@@ -24,17 +24,6 @@ pub struct Renewed {
     pub most: usize,
 }
 
-/// The items, of which those that are marked are tidied, each by itself. The error: memory was refused.
-fn tidied_each(alloc: Global, marks: &[bool], items: Items<Item>) -> Result<Items<Item>, Memory>
-    requires { length marks.now ≡ length items }
-    ensures each { IfOk result (λ new. new ≡ tidied_where marks.now items) }
-    ensures tidied { IfOk result (λ new. (before : List Item) → tidied before ≡ before → AreExchanged marks.now before items → new ≡ tidied items) }
-{
-    let mut all = items.into_vec();
-    tidy_marked(alloc, marks, all.as_mut_slice())?;
-    Ok(Items::from_vec(all))
-}
-
 /// Tidies the items that are marked, each by itself. The error: memory was refused; the file has no items then.
 #[tactic(auto, using(crate::proofs::Renewals::where_proper, crate::proofs::Renewals::where_length))]
 fn tidy_within(alloc: Global, marks: &[bool], file: &mut File) -> Result<(), Memory>
@@ -46,7 +35,7 @@ fn tidy_within(alloc: Global, marks: &[bool], file: &mut File) -> Result<(), Mem
     exchanged_tidied();
     proper_stays();
     let items = mem::replace(&mut file.items, Items::new(alloc));
-    file.items = tidied_each(alloc, marks, items)?;
+    file.items = tidy_marked(alloc, marks, items)?;
     Ok(())
 }
 

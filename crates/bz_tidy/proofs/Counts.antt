@@ -27,6 +27,8 @@ use Rattle.bz_tidy.specs.Passes.{on_statement, taken, on_taken, rule_kind, of_ru
 use Rattle.bz_tidy.proofs.Keeping.{both}
 use Rattle.bz_tidy.proofs.Sorting.{sort_all, sort_total}
 use Rattle.bz_tidy.proofs.Parts.{Place, the_parts, the_items, made, parts_behind, items_behind, parts_are, items_are}
+use Rattle.bz_tidy.proofs.Listed.{unrepeated_all}
+use Rattle.bz_tidy.proofs.SameLists.{IsText, class_above, all_texts}
 use Rattle.bz_tidy.proofs.Levels.{within, at_kind, at_other}
 
 -- ---- sums over lists
@@ -144,13 +146,6 @@ module _ (number : Bytes → ℕ) where
   labelled_amount (Form' kind s parts s' items end_ split open_ comments) = refl
 
   -- ---- one list
-  abbrev IsText : Expr → Type 0
-  IsText x = has_class c.String x ≡ true
-
-  text_above : (a : List Bytes) (x : Expr) → IsText x → IsText (with_above a x)
-  text_above a (Token t) h = h
-  text_above a (Form' kind s parts s' items end_ split open_ comments) h = h
-
   text_amount : (x : Expr) → IsText x → amount number x ≡ host_amount number (comments_of x)
   text_amount (Token t) h = refl
   text_amount (Form' kind s parts s' items end_ split open_ comments) h = cc
@@ -208,17 +203,10 @@ module _ (number : Bytes → ℕ) where
   marked_total marks y ys [] e h = cc
   marked_total marks y ys (z ∷ zs) e h = let a : amount number (with_above (marks ++ above z) z) ≡ total number marks + amount number z = ahead_amount marks z h.0 in omega arith
 
-  unrepeated_texts : (earlier : List Bytes) (xs : List Expr) → AllByRecursion IsText xs → AllByRecursion IsText (without_repeats earlier xs)
-  unrepeated_texts earlier [] h = tt
-  unrepeated_texts earlier (x ∷ xs) h = elim (cases_Bool (has_no_comment x && list_any (bytes_eq (text_of x)) earlier)) [
-    | inl t ↦ rw t (unrepeated_texts earlier xs h.1)
-    | inr f ↦ rw f (h.0, unrepeated_texts (text_of x ∷ earlier) xs h.1)
-  ]
-
   moved_total : (marks : List Bytes) (x : Expr) (xs : List Expr) → AllByRecursion IsText (x ∷ xs) → total whole (marked_by marks (in_order (x ∷ xs))) ≡ total number marks + total whole (x ∷ xs)
   moved_total marks x xs h =
       let i : (y : Expr) × ((ys : List Expr) × (insert_by precedes x (sort_by precedes xs) ≡ y ∷ ys)) = inserted x (sort_by precedes xs) in
-      marked_total marks i.0 (without_repeats (text_of i.0 ∷ []) i.1.0) (in_order (x ∷ xs)) (ap (without_repeats []) i.1.1 ∙ first_stays i.0 i.1.0) (unrepeated_texts [] (sort_by precedes (x ∷ xs)) (sort_all precedes IsText (x ∷ xs) h))
+      marked_total marks i.0 (without_repeats (text_of i.0 ∷ []) i.1.0) (in_order (x ∷ xs)) (ap (without_repeats []) i.1.1 ∙ first_stays i.0 i.1.0) (unrepeated_all IsText [] (sort_by precedes (x ∷ xs)) (sort_all precedes IsText (x ∷ xs) h))
       ∙ ap (λ a. total number marks + a) (in_order_total (x ∷ xs) h)
 
   sorted_total : (xs : List Expr) → AllByRecursion IsText xs → total whole (sorted xs) ≡ total whole xs
@@ -226,15 +214,11 @@ module _ (number : Bytes → ℕ) where
   sorted_total (x ∷ xs) h = elim (cases_Bool (list_any (λ y. precedes y x) xs)) [
     | inl t ↦
         let a : total whole (marked_by (keep_marks (above x)) (in_order (without_marks x ∷ xs))) ≡ total number (keep_marks (above x)) + (amount number (without_marks x) + total whole xs) =
-        moved_total (keep_marks (above x)) (without_marks x) xs (text_above (other_comments (above x)) x h.0, h.1) in
+        moved_total (keep_marks (above x)) (without_marks x) xs (class_above (other_comments (above x)) x h.0, h.1) in
         let b : total number (keep_marks (above x)) + amount number (without_marks x) ≡ amount number x = unmarked_amount x h.0 in
         rw t (omega arith)
     | inr f ↦ rw f (in_order_total (x ∷ xs) h)
   ]
-
-  all_texts : (xs : List Expr) → list_all (has_class c.String) xs ≡ true → AllByRecursion IsText xs
-  all_texts [] h = tt
-  all_texts (x ∷ xs) h = ((and_parts (has_class c.String x) _ h).0, all_texts xs (and_parts (has_class c.String x) (list_all (has_class c.String) xs) h).1)
 
   list_total : (outside : List Bytes) (b : Bool) → SameTotal whole (settled_list outside b)
   list_total outside b xs = elim (cases_Bool (is_taken outside b xs)) [

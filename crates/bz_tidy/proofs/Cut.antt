@@ -5,19 +5,9 @@ use Rattle.std.proofs.lemmas.List.Edits.{between_more, length-between}
 use Rattle.std.specs.List.{AllByRecursion}
 use Rattle.std.proofs.lemmas.Bool.{cases_Bool, and_right, and_left}
 use Rattle.bz_tidy.specs.Orders.{insert_by, sort_by}
+use Rattle.bz_tidy.proofs.Sorting.{sort_all}
 
 module _ {X : Type 0} (lt : X → X → Bool) where
-  insert_all : (P : X → Type 0) (x : X) (xs : List X) → P x → AllByRecursion P xs → AllByRecursion P (insert_by lt x xs)
-  insert_all P x [] a b = (a, tt)
-  insert_all P x (y ∷ ys) a b = elim (cases_Bool (lt y x)) [
-    | inl t ↦ rw t (b.0, insert_all P x ys a b.1)
-    | inr f ↦ rw f (a, b)
-  ]
-
-  sort_all : (P : X → Type 0) (xs : List X) → AllByRecursion P xs → AllByRecursion P (sort_by lt xs)
-  sort_all P [] h = tt
-  sort_all P (x ∷ xs) h = insert_all P x (sort_by lt xs) h.0 (sort_all P xs h.1)
-
   insert_length : (x : X) (xs : List X) → length (insert_by lt x xs) ≡ suc (length xs)
   insert_length x [] = refl
   insert_length x (y ∷ ys) = elim (cases_Bool (lt y x)) [

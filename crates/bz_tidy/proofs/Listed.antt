@@ -1,5 +1,5 @@
 -- The items of one list, sorted: sorted again they stay; what is kept of them; flags are not seen.
-use Rattle.std.proofs.Common.{ℕ, suc, ◌+◌, Bool, true, false, not, ◌&&◌, ◌||◌, List, [], ◌∷◌, ◌++◌, ◌≡◌, refl, sym, ap, subst, ◌∙◌, length, get_or, map, inl, inr, arith}
+use Rattle.std.proofs.Common.{ℕ, suc, ◌+◌, ◌<◌, Bool, true, false, not, ◌&&◌, ◌||◌, List, [], ◌∷◌, ◌++◌, ◌≡◌, refl, sym, ap, subst, ◌∙◌, length, get_or, map, inl, inr, arith}
 use Rattle.std.proofs.lemmas.Bool.{cases_Bool, and_right, true≢false}
 use Rattle.std.proofs.lemmas.Slice.Eq.{bytes_eq-Decides}
 use Rattle.std.specs.List.{list_any, list_all, AllByRecursion, AllAdjacentBelow, IsAllAdjacentAnswer}
@@ -24,6 +24,7 @@ use Rattle.bz_tidy.specs.Orders.{sort_by}
 use Rattle.bz_rule.specs.QuoteMarks.{between}
 use Rattle.bz_tidy.specs.Marks.{keep_marks, other_comments}
 use Rattle.bz_tidy.specs.Lists.{above_first, has_above, is_taken, precedes, has_no_comment, without_repeats, in_order, without_marks, marked_by, sorted, settled_list}
+use Rattle.bz_tidy.specs.Sorted.{is_passed}
 use Rattle.bz_tidy.proofs.Keeping.{Keeps, Settles, both, same_first, same_behind}
 use Rattle.bz_tidy.proofs.Sorting.{sort_all, Ordered, Starts, ordered_stays, sort_ordered, sort_map}
 
@@ -79,7 +80,7 @@ unrepeated_clean earlier (x ∷ xs) = elim (cases_Bool (is_repeated earlier x)) 
   | inr f ↦ rw f (f, unrepeated_clean (text_of x ∷ earlier) xs)
 ]
 
-unrepeated_all : (P : Expr → Type 0) (earlier : List Bytes) (xs : List Expr) → AllByRecursion P xs → AllByRecursion P (without_repeats earlier xs)
+pub unrepeated_all : (P : Expr → Type 0) (earlier : List Bytes) (xs : List Expr) → AllByRecursion P xs → AllByRecursion P (without_repeats earlier xs)
 unrepeated_all P earlier [] h = tt
 unrepeated_all P earlier (x ∷ xs) h = elim (cases_Bool (is_repeated earlier x)) [
   | inl t ↦ rw t (unrepeated_all P earlier xs h.1)
@@ -215,6 +216,39 @@ pub rising_stays : {F : Type 0} {g : Mut F (Bor Expr × (Bor Expr × Unit {0})) 
     → ((h : F) (a : Bor Expr × (Bor Expr × Unit {0})) (b : Bool) (h' : F) → Called g h a b h' → b ≡ precedes a.0.now a.1.0.now)
     → r ≡ true → sorted xs ≡ xs
 rising_stays {F} {g} {f} xs r s k e = answered xs r (s precedes (answers_always g (λ a b. b ≡ precedes a.0.now a.1.0.now) f k)) e
+
+-- a list that rises stays, whether it is taken or not
+pub rising_settled : (outside : List Bytes) (b : Bool) (xs : List Expr) → sorted xs ≡ xs → settled_list outside b xs ≡ xs
+rising_settled outside b xs h = elim (cases_Bool (is_taken outside b xs)) [
+  | inl t ↦ rw t h
+  | inr f ↦ rw f refl
+]
+
+-- ---- where no comment moves
+
+own_above : (x : Expr) → with_above (above x) x ≡ x
+own_above (Token t) = refl
+own_above (Form' kind s parts s' items end_ split open_ comments) = refl
+
+marked_by_none : (xs : List Expr) → marked_by [] xs ≡ xs
+marked_by_none [] = refl
+marked_by_none (x ∷ xs) = ap (λ y. y ∷ xs) (own_above x)
+
+pub unpassed_in_order : (xs : List Expr) → is_passed xs ≡ false → sorted xs ≡ in_order xs
+unpassed_in_order [] h = refl
+unpassed_in_order (x ∷ xs) h = rw h refl
+
+bare_first : (xs : List Expr) → above_first xs ≡ [] → sorted xs ≡ in_order xs
+bare_first [] h = refl
+bare_first (x ∷ xs) h = elim (cases_Bool (list_any (λ y. precedes y x) xs)) [
+  | inl t ↦ rw t (ap (λ a. marked_by (keep_marks a) (in_order (with_above (other_comments a) x ∷ xs))) h
+      ∙ (marked_by_none (in_order (with_above [] x ∷ xs)) ∙ ap (λ y. in_order (y ∷ xs)) (ap (λ a. with_above a x) (sym h) ∙ own_above x)))
+  | inr f ↦ rw f refl
+]
+
+pub bare_in_order : (comments : List Bytes) (xs : List Expr) → comments ≡ above_first xs → length comments < 1 → sorted xs ≡ in_order xs
+bare_in_order [] xs e h = bare_first xs (sym e)
+bare_in_order (text ∷ texts) xs e h = absurd (omega arith)
 
 pub list_settles : (outside : List Bytes) (b : Bool) → Settles (settled_list outside b)
 list_settles outside b xs = elim (cases_Bool (is_taken outside b xs)) [

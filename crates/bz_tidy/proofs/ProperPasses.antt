@@ -1,69 +1,34 @@
 -- Each pass keeps file values proper.
-use Rattle.std.proofs.Common.{Bool, true, false, ◌≡◌, List, [], ◌∷◌, inl, inr, refl, sym, map, true≢false, subst}
+use Rattle.std.proofs.Common.{Bool, true, false, ◌≡◌, List, inl, inr, map, subst}
 use Rattle.std.specs.Prelude.{Option, Some, None}
 use Rattle.std.proofs.lemmas.Bool.{cases_Bool}
 use Rattle.std.proofs.lemmas.List.Elements.{All-map, All-weaker, All-from_recursion, recursion_from_All}
-use Rattle.bz_token.specs.declared.class.Class.{Class}
 use Rattle.bz_token.specs.declared.class.Class.TheVariants as c
-use Rattle.bz_tree.specs.declared.kind.Kind.{Kind}
 use Rattle.bz_tree.specs.declared.kind.Kind.TheVariants as k
 use Rattle.bz_tree.specs.Shapes as s
 use Rattle.bz_tree.specs.Shapes.{is_class}
 use Rattle.bz_tree.specs.Spots.{Begins}
 use Rattle.bz_label.specs.Tables.{is_sorted, is_label_attribute}
 use Rattle.bz_value.specs.declared.value.Expr.{Expr, Token, Form', Row_of-Expr, end_of-Expr, more_of-Expr, items-the_row-Expr}
-use Rattle.bz_value.specs.declared.value.Expr.TheVariants as e
 use Rattle.bz_value.specs.declared.value.Item.{Item}
 use Rattle.bz_value.specs.declared.value.Item.TheVariants as i
-use Rattle.bz_value.specs.Comments.{HostComments}
 use Rattle.bz_items.specs.Characters.{Bytes}
 use Rattle.bz_value.specs.Proper.{AreComments, IsProperItem, IsProper}
 use Rattle.bz_write.proofs.FlaggedProper.{flags_proper}
-use Rattle.bz_rule.specs.Values.{has_kind, has_class, text_of, parts_of, items_of, with_parts, with_items, with_text, above, on_row, on_items, on_first, on_third, first_text, on_lists}
+use Rattle.bz_rule.specs.Values.{has_kind, has_class, text_of, parts_of, with_text, above, on_items, on_first, on_third, first_text, on_lists}
 use Rattle.bz_tidy.specs.Orders.{sort_by}
 use Rattle.bz_tidy.specs.Strings.{with_double, shorter_string}
 use Rattle.bz_tidy.specs.Marks.{any_marked, leave_alone}
 use Rattle.bz_tidy.specs.Lists.{settled_list}
 use Rattle.bz_tidy.specs.Passes.{on_statement, taken, on_taken, rule_kind, of_rule, on_call, on_rule_arguments, on_attribute, quoted, each_quoted, quotes, labelled, labelled_value, labels_in, labels, sorted_value, in_assign, lists_in, lists, argument_precedes, arguments_in, arguments, symbol_precedes, symbols_in, symbols, load_precedes, loads, tidied}
 use Rattle.bz_rule.proofs.ProperForms.{InPlace, itself, EachInPlace, none, both, all_itself, each_mapped, lists_in_place}
-use Rattle.bz_rule.proofs.ProperShapes.{other_string}
-use Rattle.bz_tidy.proofs.ProperStrings.{Strung, double_string, shorter_is_string}
+use Rattle.bz_rule.proofs.ProperChanges.{by_test, Stays, EachStays, row_stays, items_stay, first_stays, third_stays, lists_stay, string_in_place}
+use Rattle.bz_tidy.proofs.ProperStrings.{double_string, shorter_is_string}
 use Rattle.bz_rule.proofs.ProperSequences.{IsItem, Keeps, where_true, list_in_place, call_in_place, load_in_place}
-use Rattle.bz_tidy.proofs.ProperSorted.{by_test, all_sorted, settled_items}
+use Rattle.bz_tidy.proofs.ProperSorted.{settled_items}
+use Rattle.bz_tidy.proofs.Sorting.{sort_all}
 
--- ---- changes of statements, of rows and of items
-
-abbrev Stays : (Expr → Expr) → Type 0
-Stays change = (x : Expr) → InPlace x (change x)
-
-abbrev EachStays : (List Expr → List Expr) → Type 0
-EachStays change = (xs : List Expr) → EachInPlace xs (change xs)
-
-changed_parts : (ps : List Expr) (x : Expr) → EachInPlace (parts_of x) ps → InPlace x (with_parts ps x)
-changed_parts ps (Token t) w = itself (Token t)
-changed_parts ps (Form' kind s parts s' items end_ split open_ comments) w =
-    lists_in_place ps (items-the_row-Expr _ items) (Form' kind s parts s' items end_ split open_ comments) w (all_itself (items-the_row-Expr _ items))
-
-changed_items : (xs : List Expr) (x : Expr) → EachInPlace (items_of x) xs → InPlace x (with_items xs x)
-changed_items xs (Token t) w = itself (Token t)
-changed_items xs (Form' kind s parts s' items end_ split open_ comments) w =
-    lists_in_place (items-the_row-Expr _ parts) xs (Form' kind s parts s' items end_ split open_ comments) (all_itself (items-the_row-Expr _ parts)) w
-
-row_stays : (kind : Kind) (change : List Expr → List Expr) → EachStays change → Stays (on_row kind change)
-row_stays kind change h x = where_true (has_kind kind x) x (with_parts (change (parts_of x)) x) (λ is. changed_parts (change (parts_of x)) x (h (parts_of x)))
-
-items_stay : (kind : Kind) (change : List Expr → List Expr) → EachStays change → Stays (on_items kind change)
-items_stay kind change h x = where_true (has_kind kind x) x (with_items (change (items_of x)) x) (λ is. changed_items (change (items_of x)) x (h (items_of x)))
-
-first_stays : (change : Expr → Expr) → Stays change → EachStays (on_first change)
-first_stays change h [] = none
-first_stays change h (x ∷ xs) = both x (change x) xs xs (h x) (all_itself xs)
-
-third_stays : (change : Expr → Expr) → Stays change → EachStays (on_third change)
-third_stays change h [] = none
-third_stays change h (x ∷ []) = all_itself (x ∷ [])
-third_stays change h (x ∷ y ∷ []) = all_itself (x ∷ y ∷ [])
-third_stays change h (x ∷ y ∷ z ∷ rest) = both x x _ _ (itself x) (both y y _ _ (itself y) (both z (change z) rest rest (h z) (all_itself rest)))
+-- ---- changes of statements and of rules
 
 rule_stays : (change : Bytes → List Expr → List Expr) → ((o : Option Bytes) → Stays (on_items k.Call (of_rule change o))) → Stays (on_rule_arguments change)
 rule_stays change h = row_stays k.Bare (on_first (on_call change)) (first_stays (on_call change) (λ x. h (rule_kind (parts_of x)) x))
@@ -77,11 +42,6 @@ attributes_stay change h (Some kind) xs =
 values_stay : (change : Bytes → Bytes → List Bytes → Expr → Expr) → ((kind name : Bytes) (outside : List Bytes) → Stays (change kind name outside)) → Stays (on_rule_arguments (λ kind. map (on_attribute (change kind))))
 values_stay change h = rule_stays (λ kind. map (on_attribute (change kind))) (λ o. items_stay k.Call (of_rule (λ kind. map (on_attribute (change kind))) o) (attributes_stay change h o))
 
-lists_stay : (change : List Expr → List Expr) → Stays (on_items k.List change) → Stays (on_lists change)
-lists_stay change h x =
-    by_test (InPlace x) (has_kind k.Sum x) (on_row k.Sum (map (on_items k.List change)) x) (on_items k.List change x)
-    (row_stays k.Sum (map (on_items k.List change)) (each_mapped (on_items k.List change) h) x) (h x)
-
 statement_proper : (change : Expr → Expr) → Stays change → (item : Item) → IsProperItem item → IsProperItem (on_statement change item)
 statement_proper change h (i.Block texts) w = w
 statement_proper change h (i.Stmt x) w = let r = h x in (subst (λ b. b ≡ true) r.statement w.0, r.proper Begins w.1, subst AreComments r.comments w.2)
@@ -94,23 +54,6 @@ taken_proper change h items w =
     All-map IsProperItem (on_statement (taken change)) items (All-weaker IsProperItem (λ x. IsProperItem (on_statement (taken change) x)) (statement_proper (taken change) (taken_stays change h)) items w)
 
 -- ---- quotes
-
-token_in_place : (class : Class) (old new : Bytes) (break_ : Bool) (comments : HostComments) → is_class class c.String ≡ true → (Strung old → Strung new)
-    → InPlace (e.Token (record { class = class; text = old; break_ = break_; comments = comments })) (e.Token (record { class = class; text = new; break_ = break_; comments = comments }))
-token_in_place c.String old new break_ comments is h = record {
-  proper = λ here g. h g;
-  roots = other_string old new;
-  comments = refl;
-  breaks = refl;
-  operator = refl;
-  behind = λ outer here. refl;
-  statement = refl;
-}
-token_in_place _ old new break_ comments is h = absurd (true≢false (sym is))
-
-string_in_place : (new : Bytes) (x : Expr) → has_class c.String x ≡ true → (Strung (text_of x) → Strung new) → InPlace x (with_text new x)
-string_in_place new (Token t) is h = token_in_place t.class t.text new t.break_ t.comments is h
-string_in_place new (Form' kind s parts s' items end_ split open_ comments) is h = absurd (true≢false (sym is))
 
 mutual
   quoted_stays : Stays quoted
@@ -158,7 +101,7 @@ lists_proper = taken_proper lists_in lists_in_stays
 
 arguments_kept : (o : Option Bytes) → Keeps s.argument (of_rule (λ kind. sort_by argument_precedes) o)
 arguments_kept None xs h = h
-arguments_kept (Some kind) xs h = all_sorted (IsItem s.argument) argument_precedes xs h
+arguments_kept (Some kind) xs h = sort_all argument_precedes (IsItem s.argument) xs h
 
 pub arguments_proper : (items : List Item) → IsProper items → IsProper (arguments items)
 arguments_proper = taken_proper arguments_in (rule_stays (λ kind. sort_by argument_precedes) (λ o. call_in_place (of_rule (λ kind. sort_by argument_precedes) o) (arguments_kept o)))
@@ -166,12 +109,12 @@ arguments_proper = taken_proper arguments_in (rule_stays (λ kind. sort_by argum
 -- ---- symbols
 
 pub symbols_proper : (items : List Item) → IsProper items → IsProper (symbols items)
-symbols_proper = taken_proper symbols_in (load_in_place (sort_by symbol_precedes) (all_sorted (IsItem s.loaded) symbol_precedes))
+symbols_proper = taken_proper symbols_in (load_in_place (sort_by symbol_precedes) (sort_all symbol_precedes (IsItem s.loaded)))
 
 -- ---- loads
 
 pub loads_proper : (items : List Item) → IsProper items → IsProper (loads items)
-loads_proper items h = All-from_recursion IsProperItem (loads items) (all_sorted IsProperItem load_precedes items (recursion_from_All IsProperItem items h))
+loads_proper items h = All-from_recursion IsProperItem (loads items) (sort_all load_precedes IsProperItem items (recursion_from_All IsProperItem items h))
 
 -- ---- all in turn
 

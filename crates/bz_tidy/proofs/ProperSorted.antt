@@ -1,6 +1,6 @@
 -- What all elements of a list are, they are in any order, and so are those that are left of them.
-use Rattle.std.proofs.Common.{Bool, true, false, not, ◌&&◌, List, [], ◌∷◌, ◌++◌}
-use Rattle.std.specs.Prelude.{All, if◌then◌else◌, bytes_eq}
+use Rattle.std.proofs.Common.{Bool, not, List, [], ◌∷◌, ◌++◌}
+use Rattle.std.specs.Prelude.{All}
 use Rattle.std.specs.List.{AllByRecursion, filter, list_any}
 use Rattle.std.proofs.lemmas.List.Elements.{All-from_recursion, recursion_from_All, All-append}
 use Rattle.bz_tree.specs.Shapes.{Sort}
@@ -9,43 +9,24 @@ use Rattle.bz_value.specs.Comments.{HostComments}
 use Rattle.bz_value.specs.Commented.{with_comments}
 use Rattle.bz_items.specs.Characters.{Bytes}
 use Rattle.bz_value.specs.Proper.{IsComment, AreComments, comments_of}
-use Rattle.bz_rule.specs.Values.{above, with_above, text_of}
-use Rattle.bz_tidy.specs.Orders.{insert_by, sort_by}
+use Rattle.bz_rule.specs.Values.{above, with_above}
+use Rattle.bz_tidy.specs.Orders.{sort_by}
 use Rattle.bz_tidy.specs.Marks.{is_marked, keep_sorted, keep_marks, other_comments}
-use Rattle.bz_tidy.specs.Lists.{precedes, has_no_comment, is_taken, without_repeats, in_order, without_marks, marked_by, sorted, settled_list}
+use Rattle.bz_tidy.specs.Lists.{precedes, is_taken, in_order, without_marks, marked_by, sorted, settled_list}
+use Rattle.bz_rule.proofs.ProperChanges.{by_test}
+use Rattle.bz_rule.proofs.ProperItems.{all_kept}
 use Rattle.bz_rule.proofs.ProperSequences.{IsItem, AreOf, Keeps}
-
-pub by_test : {X : Type 0} (P : X → Type 0) (b : Bool) (x y : X) → P x → P y → P (if b then x else y)
-by_test P true x y h i = h
-by_test P false x y h i = i
+use Rattle.bz_tidy.proofs.Listed.{unrepeated_all}
+use Rattle.bz_tidy.proofs.Sorting.{sort_all}
 
 module _ {X : Type 0} (P : X → Type 0) where
-  module _ (precedes : X → X → Bool) where
-    all_inserted : (x : X) (ys : List X) → P x → AllByRecursion P ys → AllByRecursion P (insert_by precedes x ys)
-    all_inserted x [] h i = (h, tt)
-    all_inserted x (y ∷ ys) h i = by_test (AllByRecursion P) (precedes y x) (y ∷ insert_by precedes x ys) (x ∷ y ∷ ys) (i.0, all_inserted x ys h i.1) (h, i)
-
-    pub all_sorted : (xs : List X) → AllByRecursion P xs → AllByRecursion P (sort_by precedes xs)
-    all_sorted [] h = tt
-    all_sorted (x ∷ xs) h = all_inserted x (sort_by precedes xs) h.0 (all_sorted xs h.1)
-
-  all_filtered : (test : X → Bool) (xs : List X) → AllByRecursion P xs → AllByRecursion P (filter test xs)
-  all_filtered test [] h = tt
-  all_filtered test (x ∷ xs) h = by_test (AllByRecursion P) (test x) (x ∷ filter test xs) (filter test xs) (h.0, all_filtered test xs h.1) (all_filtered test xs h.1)
-
   some_filtered : (test : X → Bool) (xs : List X) → All P xs → All P (filter test xs)
-  some_filtered test xs h = All-from_recursion P (filter test xs) (all_filtered test xs (recursion_from_All P xs h))
+  some_filtered test xs h = All-from_recursion P (filter test xs) (all_kept P test xs (recursion_from_All P xs h))
 
 -- ---- the items of a list
 
-all_unrepeated : (P : Expr → Type 0) (earlier : List Bytes) (xs : List Expr) → AllByRecursion P xs → AllByRecursion P (without_repeats earlier xs)
-all_unrepeated P earlier [] h = tt
-all_unrepeated P earlier (x ∷ xs) h =
-    by_test (AllByRecursion P) (has_no_comment x && list_any (bytes_eq (text_of x)) earlier) (without_repeats earlier xs) (x ∷ without_repeats (text_of x ∷ earlier) xs)
-    (all_unrepeated P earlier xs h.1) (h.0, all_unrepeated P (text_of x ∷ earlier) xs h.1)
-
 all_in_order : (P : Expr → Type 0) (xs : List Expr) → AllByRecursion P xs → AllByRecursion P (in_order xs)
-all_in_order P xs h = all_unrepeated P [] (sort_by precedes xs) (all_sorted P precedes xs h)
+all_in_order P xs h = unrepeated_all P [] (sort_by precedes xs) (sort_all precedes P xs h)
 
 -- an item with other comments
 with_item : (sort : Sort) (x : Expr) (comments : HostComments) → AreComments comments → IsItem sort x → IsItem sort (with_comments x comments)

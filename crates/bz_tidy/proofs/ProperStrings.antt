@@ -11,17 +11,14 @@ use Rattle.std.proofs.lemmas.List.Folds.{list_any-append}
 use Rattle.std.proofs.lemmas.Slice.Eq.{bytes_eq-Decides}
 use Rattle.std.proofs.lemmas.Str.{IsUtf8-append, IsUtf8-from_ascii, IsUtf8-take, IsUtf8-drop, IsCharBoundary-before_ascii, IsCharBoundary-after_ascii}
 use Rattle.bz_token.specs.Bytes.{is_quote}
-use Rattle.bz_token.specs.Lexemes.{IsShort, short_end, short_plain, short_taken, short_line, IsLong, long_end, long_plain, IsQuoted, single, triple, IsString, is_prefix}
+use Rattle.bz_token.specs.Lexemes.{IsShort, short_end, short_plain, short_taken, short_line, IsLong, long_end, long_plain, IsQuoted, single, triple, is_prefix}
 use Rattle.bz_label.specs.Pieces.{is_colon}
 use Rattle.bz_label.specs.Shorter.{before_colon, behind_colon, is_repeated, unrepeated}
 use Rattle.bz_items.specs.Characters.{Bytes, apostrophe, backslash, quotation_mark}
 use Rattle.bz_rule.specs.Rules.{inner, is_plain_in}
 use Rattle.bz_tidy.specs.Strings.{has_character, begins_single, in_double, with_double, shorter_string}
 use Rattle.bz_rule.specs.QuoteMarks.{begins_thrice, marks_of, inside}
-
--- a string that is a text of characters
-abbrev pub Strung : Bytes → Type 0
-Strung t = IsString t × IsUtf8 t
+use Rattle.bz_rule.proofs.ProperChanges.{Strung}
 
 -- ---- texts of characters
 

@@ -3,25 +3,15 @@ use Rattle.std.proofs.Common.{List, [], ◌∷◌, ◌≡◌, refl, ap, ◌∙�
 use Rattle.bz_token.specs.declared.class.Class.TheVariants as c
 use Rattle.bz_tree.specs.declared.kind.Kind.TheVariants as k
 use Rattle.bz_tree.specs.Kinds.{kind_number}
-use Rattle.bz_value.specs.declared.value.Form.{Form}
 use Rattle.bz_value.specs.declared.value.Expr.{Expr, Token, Form', Row_of-Expr, end_of-Expr, more_of-Expr, items-the_row-Expr}
-use Rattle.bz_value.specs.declared.value.Expr.TheVariants as e
 use Rattle.bz_value.specs.Frames.{frame}
 use Rattle.bz_rule.specs.Rules.{text_in, dotted, joined, dotted_name, with_names}
 use Rattle.bz_rule.specs.Named.{each_named}
+use Rattle.bz_rule.proofs.Forms.{dotted_name_Form}
 use Rattle.bz_write.specs.Flags.{settled_split, with_flags, each_with_flags}
 use Rattle.bz_tidy.specs.Passes.{rule_kind}
 use Rattle.bz_tidy.proofs.Keeping.{both}
-use Rattle.bz_tidy.proofs.Parts.{made, parts_behind, parts_are}
-
-names_row : (m : _) (r : Row_of-Expr m) → with_names r ≡ each_named (items-the_row-Expr m r)
-names_row m end_of-Expr = refl
-names_row m (more_of-Expr x rest) = ap (λ z. (x, dotted_name x) ∷ z) (names_row _ rest)
-
-name_Form : (f : Form) → dotted_name (e.Form f) ≡ (if nat_eq (kind_number f.kind) (kind_number k.Dot) then joined (each_named f.parts) else None)
-name_Form f =
-    ap (λ z. if nat_eq (kind_number f.kind) (kind_number k.Dot) then joined z else None)
-    (names_row _ (parts_behind (e.Form f)).1 ∙ ap each_named (parts_are f))
+use Rattle.bz_tidy.proofs.Parts.{made}
 
 same_text : (x : Expr) → text_in c.Name (with_flags x) ≡ text_in c.Name x
 same_text (Token t) = refl
@@ -31,7 +21,7 @@ mutual
   same_name : (x : Expr) → dotted_name (with_flags x) ≡ dotted_name x
   same_name (Token t) = refl
   same_name (Form' kind s parts s' items end_ split open_ comments) =
-      name_Form (made kind (each_with_flags parts) (each_with_flags items) end_ (settled_split (frame kind) kind split (items-the_row-Expr _ items) end_) open_ comments)
+      dotted_name_Form (made kind (each_with_flags parts) (each_with_flags items) end_ (settled_split (frame kind) kind split (items-the_row-Expr _ items) end_) open_ comments)
       ∙ ap (λ z. if nat_eq (kind_number kind) (kind_number k.Dot) then z else None) (same_joined _ parts)
 
   same_joined : (m : _) (r : Row_of-Expr m) → joined (each_named (each_with_flags r)) ≡ joined (with_names r)

@@ -118,10 +118,10 @@ sorted_held (x ∷ xs) = elim (cases_Bool (list_any (λ y. precedes y x) xs)) [
 
 -- ---- strings
 
-abbrev IsText : Expr → Type 0
+abbrev pub IsText : Expr → Type 0
 IsText x = has_class c.String x ≡ true
 
-class_above : (a : List Bytes) (x : Expr) → IsText x → IsText (with_above a x)
+pub class_above : (a : List Bytes) (x : Expr) → IsText x → IsText (with_above a x)
 class_above a (Token t) h = h
 class_above a (Form' kind s parts s' items end_ split open_ comments) h = h
 

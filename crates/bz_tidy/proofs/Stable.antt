@@ -12,14 +12,9 @@ use denote.Param.Members.{Mut}
 use Rattle.std.proofs.lemmas.List.Sorted.{answers_always}
 use Rattle.bz_tidy.specs.Orders.{insert_by, sort_by}
 use Rattle.bz_tidy.specs.Rising.{NoneBefore, Rises}
+use Rattle.bz_tidy.proofs.Keeping.{same_first, same_behind}
 
 module _ {X : Type 0} where
-  same_first : (x y : X) (xs ys : List X) → x ∷ xs ≡ y ∷ ys → x ≡ y
-  same_first x y xs ys e = cc
-
-  same_behind : (x y : X) (xs ys : List X) → x ∷ xs ≡ y ∷ ys → xs ≡ ys
-  same_behind x y xs ys e = cc
-
   same_both : {x y : X} {xs ys : List X} → x ≡ y → xs ≡ ys → x ∷ xs ≡ y ∷ ys
   same_both {x} {y} {xs} {ys} d e = ap (λ z. z ∷ xs) d ∙ ap (λ zs. y ∷ zs) e
 

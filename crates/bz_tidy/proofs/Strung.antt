@@ -4,7 +4,6 @@ use Rattle.std.specs.Prelude.{nat_eq, nat_le, bytes_eq}
 use Rattle.std.specs.Option.{option_map_or}
 use Rattle.std.proofs.lemmas.Bool.{cases_Bool, or_from, or_parts, true≢false, and_from, and_parts}
 use Rattle.std.proofs.lemmas.Option.{same_Some}
-use Rattle.std.proofs.lemmas.Map.Views.{exact_unsigned_eq}
 use Rattle.std.proofs.lemmas.Slice.Eq.{bytes_eq-Decides}
 use Rattle.std.proofs.lemmas.List.{append_cancel_right}
 use Rattle.std.proofs.lemmas.List.Folds.{list_any-append}
@@ -17,9 +16,7 @@ use Rattle.bz_label.specs.Shorter.{before_colon, behind_colon, before_slashes, b
 use Rattle.bz_tidy.specs.Strings.{has_character, begins_single, in_double, with_double, shorter_string}
 use Rattle.bz_rule.specs.QuoteMarks.{begins_thrice, marks_of}
 use Rattle.bz_tidy.proofs.Keeping.{Keeps, Settles, same_first, same_behind}
-
-same_byte : (c q : ℕ) → nat_eq c q ≡ true → c ≡ q
-same_byte c q e = exact_unsigned_eq c q e
+use Rattle.bz_tidy.proofs.ProperStrings.{same_byte}
 
 same_text : (one other : Bytes) → bytes_eq one other ≡ true → one ≡ other
 same_text one other e = (bytes_eq-Decides one other).0 e

@@ -1,11 +1,11 @@
 //! Tidying items that were exchanged for others in a tidy file.
-ghost use Rattle.std.specs.Prelude.{◌≡◌, List, OnOk, length, if◌then◌else◌};
+ghost use Rattle.std.specs.Prelude.{◌≡◌, List, IfOk, OnOk, length, if◌then◌else◌};
 ghost use Rattle.bz_value.specs.Exchanged.{AreExchanged};
 ghost use Rattle.bz_tidy.specs.Exchanged.{item_tidied, tidied_where};
 ghost use Rattle.bz_tidy.specs.Passes.{tidied as tidied_all};
 
 use crate::tidying::{change_item, settle_item};
-use bz_items::Memory;
+use bz_items::{Items, Memory};
 use bz_value::Item;
 use std::alloc::Global;
 
@@ -31,14 +31,25 @@ fn tidy_each(alloc: Global, marks: &[bool], items: &mut [Item]) -> Result<(), Me
     Ok(())
 }
 
-/// Tidies the items that are marked, one by one; the others stay. Where these are bare statements that
-/// were exchanged for such statements of a tidy file, the whole is tidy then. The error: memory was
-/// refused; some of the marked items are tidy then, and part of one may be lost.
-pub fn tidy_marked(alloc: Global, marks: &[bool], items: &mut [Item]) -> Result<(), Memory>
+fn tidy_within(alloc: Global, marks: &[bool], items: &mut Items<Item>) -> Result<(), Memory>
     requires { length marks.now ≡ length items.old }
-    ensures marked { OnOk result (items.new ≡ tidied_where marks.now items.old) }
-    ensures tidied { OnOk result ((before : List Item) → tidied_all before ≡ before → AreExchanged marks.now before items.old → items.new ≡ tidied_all items.old) }
+    ensures { OnOk result (items.new ≡ tidied_where marks.now items.old) }
 {
-    tidy_each(alloc, marks, items)?;
+    tidy_each(alloc, marks, items.as_mut_slice())?;
     Ok(())
+}
+
+/// The items, of which those that are marked are tidied, one by one; the others stay. Where these are bare statements that
+/// were exchanged for such statements of a tidy file, the whole is tidy then. The error: memory was refused; the items are then lost.
+pub fn tidy_marked(
+    alloc: Global,
+    marks: &[bool],
+    mut items: Items<Item>,
+) -> Result<Items<Item>, Memory>
+    requires { length marks.now ≡ length items }
+    ensures marked { IfOk result (λ new. new ≡ tidied_where marks.now items) }
+    ensures tidied { IfOk result (λ new. (before : List Item) → tidied_all before ≡ before → AreExchanged marks.now before items → new ≡ tidied_all items) }
+{
+    tidy_within(alloc, marks, &mut items)?;
+    Ok(items)
 }

@@ -1,5 +1,5 @@
 //! The items of one list: whether they are sorted, and sorting them.
-ghost use Rattle.std.specs.Prelude.{◌≡◌, ◌++◌, ◌∷◌, ℕ, List, [], IfOk, IsTrue, OnOk};
+ghost use Rattle.std.specs.Prelude.{◌≡◌, ◌++◌, ◌∷◌, ℕ, List, [], false, IfOk, IsTrue, OnOk};
 ghost use Rattle.std.specs.List.{list_all, list_any};
 ghost use Rattle.bz_token.specs.declared.class.Class.TheVariants as classes;
 ghost use Rattle.bz_tidy.specs.Lists.{above_first, has_above as has_comment_above, in_order, is_taken as is_taken_in, marked_by, precedes, settled_list, sorted, without_marks};
@@ -182,6 +182,18 @@ fn is_any_before(x: &Expr, others: &[Expr]) -> bool
     others.iter().any(|other| item_order(other, x).is_lt())
 }
 
+/// Whether comments above the first item may move when the items are sorted.
+#[tactic(auto, using(crate::proofs::Listed::unpassed_in_order))]
+fn may_marks_move(items: &[Expr]) -> bool
+    ensures moves { IsTrue result → IsTrue (is_passed items.now) }
+    ensures stays { result ≡ false → sorted items.now ≡ in_order items.now }
+{
+    match comments_above(items) {
+        [] => false,
+        [..] => is_first_passed(items),
+    }
+}
+
 /// The items in their order, without repeats.
 fn put_in_order(alloc: Global, mut items: Vec<Expr>) -> Result<Vec<Expr>, Memory>
     ensures { IfOk result (λ ordered. ordered.items ≡ in_order items.items) }
@@ -194,7 +206,7 @@ fn put_in_order(alloc: Global, mut items: Vec<Expr>) -> Result<Vec<Expr>, Memory
 fn sort_taken(alloc: Global, mut items: Vec<Expr>) -> Result<Vec<Expr>, Memory>
     ensures { IfOk result (λ taken. taken.items ≡ sorted items.items) }
 {
-    if !is_first_passed(items.as_slice()) {
+    if !may_marks_move(items.as_slice()) {
         return put_in_order(alloc, items);
     }
     let marks = take_marks(alloc, items.as_mut_slice())?;
@@ -212,6 +224,7 @@ fn are_rising(items: &[Expr]) -> bool
 
 /// Sorts the items of a list, where it is taken; else it stays as it is. `outside`: the comments above the attribute or the
 /// assignment; `by_table`: whether the table has the attribute. The error: a growth was refused; the items are then lost.
+#[tactic(auto, using(crate::proofs::Listed::rising_settled))]
 pub(crate) fn sort_list(
     alloc: Global,
     outside: &[Text],
@@ -220,7 +233,7 @@ pub(crate) fn sort_list(
 ) -> Result<(), Memory>
     ensures { OnOk result (items.new ≡ settled_list outside.now by_table items.old) }
 {
-    if is_taken(outside, by_table, items.as_slice()) && !are_rising(items.as_slice()) {
+    if !are_rising(items.as_slice()) && is_taken(outside, by_table, items.as_slice()) {
         let all = mem::replace(items, Items::new(alloc)).into_vec();
         *items = Items::from_vec(sort_taken(alloc, all)?);
     }
