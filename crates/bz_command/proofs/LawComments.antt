@@ -279,8 +279,6 @@ module _ (number : Bytes → ℕ) where
 
   rules_keep : (operation : Operation) (current : Bytes) (marks : List Bool) (items : List Item) → keeps_comments operation ≡ true → MadeItems items (on_rules operation current marks items)
   rules_keep (w.Rule (wr.New kind name place)) current marks items h = new_keeps kind name place items
-  rules_keep (w.Rule wr.Delete) current marks items h = absurd (true≢false (sym h))
-  rules_keep (w.Rule (wr.SetKind kind)) current marks items h = absurd (true≢false (sym h))
   rules_keep (w.Attribute (wa.SetIfAbsent name words)) current marks items h =
       meant_keeps (on_arguments (set_if_absent current name words)) (arguments_keep (set_if_absent current name words) (set_if_absent_keeps current name words)) marks items
   rules_keep (w.Attribute (wa.Rename from to)) current marks items h =
@@ -288,30 +286,22 @@ module _ (number : Bytes → ℕ) where
   rules_keep (w.Attribute (wa.CopyNoOverwrite name rule)) current marks items h =
       let found : Option Expr = source name rule items in
       meant_keeps (on_arguments (copy_no_overwrite name found)) (arguments_keep (copy_no_overwrite name found) (copy_keeps name found)) marks items
-  rules_keep (w.Attribute (wa.Set name words)) current marks items h = absurd (true≢false (sym h))
-  rules_keep (w.Attribute (wa.Remove attributes)) current marks items h = absurd (true≢false (sym h))
-  rules_keep (w.Attribute (wa.Copy name rule)) current marks items h = absurd (true≢false (sym h))
   rules_keep (w.Value (wv.Add name words)) current marks items h =
       meant_keeps (on_arguments (add current name words)) (arguments_keep (add current name words) (added_keeps name (strings_for current name words))) marks items
   rules_keep (w.Value (wv.Replace attributes old new)) current marks items h =
       meant_keeps (on_arguments (replace current attributes old new)) (arguments_keep (replace current attributes old new) (replace_keeps current attributes old new)) marks items
   rules_keep (w.Value (wv.Substitute attributes pattern template)) current marks items h =
       meant_keeps (on_arguments (substitute current attributes pattern template)) (arguments_keep (substitute current attributes pattern template) (substitute_keeps current attributes pattern template)) marks items
-  rules_keep (w.Value (wv.Remove name words)) current marks items h = absurd (true≢false (sym h))
-  rules_keep (w.Value (wv.Move from to values)) current marks items h = absurd (true≢false (sym h))
   rules_keep (w.Dict (wd.Add name entries)) current marks items h =
       meant_keeps (on_arguments (dict_add current name entries)) (arguments_keep (dict_add current name entries) (dict_add_grows number current name entries)) marks items
-  rules_keep (w.Dict (wd.Set name entries)) current marks items h = absurd (true≢false (sym h))
-  rules_keep (w.Dict (wd.Remove name keys)) current marks items h = absurd (true≢false (sym h))
   rules_keep (w.Load (wl.New path symbols)) current marks items h =
       subst (λ n. total size items ≤ n) (sym (new_load_same number path symbols items)) (itself (total size items))
-  rules_keep (w.Load (wl.Fix fixes)) current marks items h = absurd (true≢false (sym h))
   rules_keep (w.Comment (wc.Add Rule text)) current marks items h = meant_keeps (λ item. Ok (on_statement (with_comment text) item)) (statement_keeps text) marks items
   rules_keep (w.Comment (wc.Add (Attribute name) text)) current marks items h = commented_keeps current (Attribute name) text marks items
   rules_keep (w.Comment (wc.Add (ItemHost name word) text)) current marks items h = commented_keeps current (ItemHost name word) text marks items
   rules_keep (w.Comment (wc.Print host)) current marks items h = meant_keeps (λ item. Ok item) (λ item. itself (size item)) marks items
-  rules_keep (w.Comment (wc.Remove host)) current marks items h = absurd (true≢false (sym h))
   rules_keep (w.Print fields) current marks items h = itself (total size items)
+  rules_keep _ current marks items h = absurd (true≢false (sym h))
 
   kept_keeps : (items : List Item) (text : Result Bytes Refusal) → MadeItems items (kept items text)
   kept_keeps items (Err refusal) = tt

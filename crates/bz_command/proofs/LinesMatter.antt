@@ -5,7 +5,7 @@ use Rattle.std.specs.List.{list_any}
 use Rattle.std.specs.Option.{option_map_or}
 use Rattle.bz_label.specs.declared.target.Target.{Target}
 use Rattle.bz_label.specs.declared.target.Which.{Which}
-use Rattle.bz_label.specs.declared.target.Which.TheVariants.{All, Kind, Line, Package, Name}
+use Rattle.bz_label.specs.declared.target.Which.TheVariants.{Line}
 use Rattle.bz_items.specs.Characters.{Bytes, line_feed}
 use Rattle.bz_value.specs.declared.value.Item.{Item}
 use Rattle.bz_words.specs.declared.command.Operation.{Operation}
@@ -28,19 +28,14 @@ neither true b h = absurd (true≢false h)
 neither false b h = (refl, h)
 
 meant_same : (which : Which) (lines others : List ℕ) (items : List Item) → is_by_line which ≡ false → meant which lines items ≡ meant which others items
-meant_same All lines others items h = refl
-meant_same (Kind kind) lines others items h = refl
 meant_same (Line line) lines others items h = absurd (true≢false h)
-meant_same Package lines others items h = refl
-meant_same (Name name) lines others items h = refl
+meant_same _ lines others items h = refl
 
 -- ---- what is printed of one rule, on any line
 
 field_same : (line other : Option Bytes) (item : Item) (rule : Rule) (field : Field) → prints_line field ≡ false → printed_field line item rule field ≡ printed_field other item rule field
-field_same line other item rule f.Kind h = refl
 field_same line other item rule f.StartLine h = absurd (true≢false h)
-field_same line other item rule f.Rule h = refl
-field_same line other item rule (f.Attribute name) h = refl
+field_same line other item rule _ h = refl
 
 fields_same : (line other : Option Bytes) (item : Item) (rule : Rule) (fields : List Field) → list_any prints_line fields ≡ false
     → printed_fields line item rule fields ≡ printed_fields other item rule fields
@@ -56,15 +51,9 @@ found_same line other item (Some rule) fields h = ap (λ texts. spaced texts ++ 
 
 one_same : (operation : Operation) (current : Bytes) (line other : Option Bytes) (item : Item) → prints_lines operation ≡ false
     → printed_one operation current line item ≡ printed_one operation current other item
-one_same (w.Rule operation) current line other item h = refl
-one_same (w.Attribute operation) current line other item h = refl
-one_same (w.Value operation) current line other item h = refl
-one_same (w.Dict operation) current line other item h = refl
-one_same (w.Load operation) current line other item h = refl
-one_same (w.Comment (wc.Add host text)) current line other item h = refl
-one_same (w.Comment (wc.Print host)) current line other item h = refl
-one_same (w.Comment (wc.Remove host)) current line other item h = refl
 one_same (w.Print fields) current line other item h = ap (λ text. Ok text) (found_same line other item (rule_of item) fields h)
+one_same (w.Comment (wc.Print host)) current line other item h = refl
+one_same _ current line other item h = refl
 
 -- ---- and of all rules
 

@@ -13,10 +13,7 @@ use Rattle.bz_words.specs.declared.command.RuleOperation.TheVariants as wr
 use Rattle.bz_words.specs.declared.command.AttributeOperation.TheVariants as wa
 use Rattle.bz_words.specs.declared.command.LoadOperation.TheVariants as wl
 use Rattle.bz_words.specs.declared.command.CommentOperation.TheVariants as wc
-use Rattle.bz_words.specs.declared.command.RuleOperation.{RuleOperation}
-use Rattle.bz_words.specs.declared.command.AttributeOperation.{AttributeOperation}
 use Rattle.bz_words.specs.declared.command.LoadOperation.{LoadOperation}
-use Rattle.bz_words.specs.declared.command.CommentOperation.{CommentOperation}
 use Rattle.bz_words.specs.declared.command.RulePlace.{RulePlace}
 use Rattle.bz_words.specs.declared.command.RulePlace.TheVariants.{End, Before, After}
 use Rattle.bz_rule.specs.Rules.{Rule as RuleRead, rule_of, attribute, has_name}
@@ -117,22 +114,20 @@ source name rule [] = None
 source name rule (item ∷ items) = if has_name rule item then value_in name (rule_of item) else source name rule items
 
 -- the value that is copied, from the file as it was
-abbrev pub copied_from : AttributeOperation → List Item → Option Expr
-copied_from (wa.Set name words) items = None
-copied_from (wa.SetIfAbsent name words) items = None
-copied_from (wa.Remove attributes) items = None
-copied_from (wa.Rename from to) items = None
-copied_from (wa.Copy name rule) items = source name rule items
-copied_from (wa.CopyNoOverwrite name rule) items = source name rule items
-
 abbrev pub source_of : Operation → List Item → Option Expr
-source_of (w.Rule operation) items = None
-source_of (w.Attribute operation) items = copied_from operation items
-source_of (w.Value operation) items = None
-source_of (w.Dict operation) items = None
-source_of (w.Load operation) items = None
-source_of (w.Comment operation) items = None
-source_of (w.Print fields) items = None
+source_of (w.Attribute (wa.Copy name rule)) items = source name rule items
+source_of (w.Attribute (wa.CopyNoOverwrite name rule)) items = source name rule items
+source_of _ items = None
+
+-- What a command makes of the arguments of a rule; `found` is the value that is copied. Those on whole rules, on what the file loads and
+-- on fields leave them.
+abbrev pub arguments_of : Operation → Bytes → Option Expr → List Expr → Arguments
+arguments_of (w.Attribute operation) current found arguments = attributes_changed operation current found arguments
+arguments_of (w.Value operation) current found arguments = values_changed operation current arguments
+arguments_of (w.Dict operation) current found arguments = dicts_changed operation current arguments
+arguments_of (w.Comment (wc.Add host text)) current found arguments = comment current host text arguments
+arguments_of (w.Comment (wc.Remove host)) current found arguments = remove_comment current host arguments
+arguments_of _ current found arguments = Ok arguments
 
 -- a statement, changed
 abbrev pub on_statement : (Expr → Expr) → Item → Item
@@ -144,27 +139,15 @@ abbrev pub on_host_of_item : Host → (Expr → Expr) → NewItem → Item → N
 on_host_of_item Rule change others item = Ok (on_statement change item)
 on_host_of_item _ change others item = others
 
--- the commands on the rule itself
-abbrev pub rule_changed : RuleOperation → Item → NewItem
-rule_changed (wr.New kind name place) item = Ok item
-rule_changed wr.Delete item = Ok item
-rule_changed (wr.SetKind kind) item = Ok (with_function (function_of kind) item)
-
--- the commands on comments, of the rule itself and among its arguments
-abbrev pub rule_commented : CommentOperation → Bytes → Item → NewItem
-rule_commented (wc.Add host text) current item = on_host_of_item host (with_comment text) (on_arguments (comment current host text) item) item
-rule_commented (wc.Print host) current item = Ok item
-rule_commented (wc.Remove host) current item = on_host_of_item host without_comments (on_arguments (remove_comment current host) item) item
-
 -- what a command makes of a rule that it is meant for
 abbrev pub on_one : Operation → Bytes → Option Expr → Item → NewItem
-on_one (w.Rule operation) current found item = rule_changed operation item
+on_one (w.Rule (wr.SetKind kind)) current found item = Ok (with_function (function_of kind) item)
 on_one (w.Attribute operation) current found item = on_arguments (attributes_changed operation current found) item
 on_one (w.Value operation) current found item = on_arguments (values_changed operation current) item
 on_one (w.Dict operation) current found item = on_arguments (dicts_changed operation current) item
-on_one (w.Load operation) current found item = Ok item
-on_one (w.Comment operation) current found item = rule_commented operation current item
-on_one (w.Print fields) current found item = Ok item
+on_one (w.Comment (wc.Add host text)) current found item = on_host_of_item host (with_comment text) (on_arguments (comment current host text) item) item
+on_one (w.Comment (wc.Remove host)) current found item = on_host_of_item host without_comments (on_arguments (remove_comment current host) item) item
+on_one _ current found item = Ok item
 
 -- the same of each rule that is marked
 abbrev pub on_each : Operation → Bytes → List Bool → List Item → Result (List Item) Refusal
@@ -179,25 +162,15 @@ loads_changed (wl.Fix fixes) items = fix fixes items
 abbrev pub on_rules : Operation → Bytes → List Bool → List Item → Result (List Item) Refusal
 on_rules (w.Rule (wr.New kind name place)) current marks items = with_rule kind name place items
 on_rules (w.Rule wr.Delete) current marks items = Ok (unmarked marks items)
-on_rules (w.Rule (wr.SetKind kind)) current marks items = on_each (w.Rule (wr.SetKind kind)) current marks items
-on_rules (w.Attribute operation) current marks items = on_each (w.Attribute operation) current marks items
-on_rules (w.Value operation) current marks items = on_each (w.Value operation) current marks items
-on_rules (w.Dict operation) current marks items = on_each (w.Dict operation) current marks items
 on_rules (w.Load operation) current marks items = Ok (loads_changed operation items)
-on_rules (w.Comment operation) current marks items = on_each (w.Comment operation) current marks items
 on_rules (w.Print fields) current marks items = Ok items
+on_rules operation current marks items = on_each operation current marks items
 
 -- These look only at the target's package; every other command at the rules that the target means.
 abbrev pub looks_at_rules : Operation → Bool
 looks_at_rules (w.Rule (wr.New kind name place)) = false
-looks_at_rules (w.Rule wr.Delete) = true
-looks_at_rules (w.Rule (wr.SetKind kind)) = true
-looks_at_rules (w.Attribute operation) = true
-looks_at_rules (w.Value operation) = true
-looks_at_rules (w.Dict operation) = true
 looks_at_rules (w.Load operation) = false
-looks_at_rules (w.Comment operation) = true
-looks_at_rules (w.Print fields) = true
+looks_at_rules _ = true
 
 -- Where a command is meant for rules and none is there, the file is unchanged, or the command is refused.
 abbrev pub lacks_rules : Operation → List Bool → Bool

@@ -28,28 +28,18 @@ EffectsStayProper =
 -- the operations that lose no comment
 abbrev pub keeps_comments : Operation → Bool
 keeps_comments (w.Rule (wr.New kind name place)) = true
-keeps_comments (w.Rule wr.Delete) = false
-keeps_comments (w.Rule (wr.SetKind kind)) = false
-keeps_comments (w.Attribute (wa.Set name words)) = false
 keeps_comments (w.Attribute (wa.SetIfAbsent name words)) = true
-keeps_comments (w.Attribute (wa.Remove attributes)) = false
 keeps_comments (w.Attribute (wa.Rename from to)) = true
-keeps_comments (w.Attribute (wa.Copy name rule)) = false
 keeps_comments (w.Attribute (wa.CopyNoOverwrite name rule)) = true
 keeps_comments (w.Value (wv.Add name words)) = true
-keeps_comments (w.Value (wv.Remove name words)) = false
 keeps_comments (w.Value (wv.Replace attributes old new)) = true
 keeps_comments (w.Value (wv.Substitute attributes pattern template)) = true
-keeps_comments (w.Value (wv.Move from to values)) = false
 keeps_comments (w.Dict (wd.Add name entries)) = true
-keeps_comments (w.Dict (wd.Set name entries)) = false
-keeps_comments (w.Dict (wd.Remove name keys)) = false
 keeps_comments (w.Load (wl.New path symbols)) = true
-keeps_comments (w.Load (wl.Fix fixes)) = false
 keeps_comments (w.Comment (wc.Add host text)) = true
 keeps_comments (w.Comment (wc.Print host)) = true
-keeps_comments (w.Comment (wc.Remove host)) = false
 keeps_comments (w.Print fields) = true
+keeps_comments _ = false
 
 -- They leave each comment at least as often as it stood there.
 abbrev pub CommentsStay : Type 0

@@ -1,4 +1,3 @@
-pub mod ArgumentChanges
 pub mod CallParts
 pub mod Effect
 pub mod Laws

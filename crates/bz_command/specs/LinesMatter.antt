@@ -3,7 +3,7 @@ use Rattle.std.specs.Prelude.{◌≡◌, ℕ, Bool, true, false, ◌||◌, List}
 use Rattle.std.specs.List.{list_any}
 use Rattle.bz_label.specs.declared.target.Target.{Target}
 use Rattle.bz_label.specs.declared.target.Which.{Which}
-use Rattle.bz_label.specs.declared.target.Which.TheVariants.{All, Kind, Line, Package, Name}
+use Rattle.bz_label.specs.declared.target.Which.TheVariants.{Line}
 use Rattle.bz_value.specs.declared.value.Item.{Item}
 use Rattle.bz_items.specs.Characters.{Bytes}
 use Rattle.bz_words.specs.declared.command.Operation.{Operation}
@@ -13,28 +13,18 @@ use Rattle.bz_words.specs.declared.command.Field.TheVariants as f
 use Rattle.bz_command.specs.Effect.{effect, printed}
 
 abbrev pub is_by_line : Which → Bool
-is_by_line All = false
-is_by_line (Kind kind) = false
 is_by_line (Line line) = true
-is_by_line Package = false
-is_by_line (Name name) = false
+is_by_line _ = false
 
 -- of the fields that are printed one is the line on which the rule begins
 abbrev pub prints_line : Field → Bool
-prints_line f.Kind = false
 prints_line f.StartLine = true
-prints_line f.Rule = false
-prints_line (f.Attribute name) = false
+prints_line _ = false
 
 -- comments are printed without lines
 abbrev pub prints_lines : Operation → Bool
-prints_lines (w.Rule operation) = false
-prints_lines (w.Attribute operation) = false
-prints_lines (w.Value operation) = false
-prints_lines (w.Dict operation) = false
-prints_lines (w.Load operation) = false
-prints_lines (w.Comment operation) = false
 prints_lines (w.Print fields) = list_any prints_line fields
+prints_lines _ = false
 
 -- a command may print lines, and a target may name one
 abbrev pub looks_at_lines : Operation → Target → Bool

@@ -1,5 +1,6 @@
 -- What is known of a command before it changes anything.
 use Rattle.std.specs.Prelude.{◌≡◌, ℕ, Bool, List, [], Ok, Option, length}
+use Rattle.std.specs.Option.{option_copied}
 use Rattle.bz_label.specs.declared.target.Target.{Target}
 use Rattle.bz_value.specs.declared.value.Item.{Item}
 use Rattle.bz_items.specs.Characters.{Bytes}
@@ -7,11 +8,23 @@ use Rattle.bz_words.specs.declared.command.Operation.{Operation}
 use Rattle.bz_command.specs.declared.running.Look.{Look}
 use Rattle.bz_command.specs.declared.running.Look.TheVariants as l
 use Rattle.bz_value.specs.declared.value.Expr.{Expr}
-use Rattle.bz_command.specs.Effect.{NewItem, effect, on_one, on_rules, printed}
+use Rattle.bz_command.specs.declared.statements.Work.{Work}
+use Rattle.bz_attribute.specs.Attributes.{Arguments}
+use Rattle.bz_command.specs.Effect.{NewItem, arguments_of, effect, on_one, on_rules, printed}
 
--- what a command makes of a rule, where what that is need not be known
+-- what is made of the arguments of a rule, and of a rule
+abbrev pub arguments_by : Work → List Expr → Arguments
+arguments_by work = arguments_of work.operation.now work.current.now (option_copied work.found)
+
+abbrev pub made_by : Work → Item → NewItem
+made_by work = on_one work.operation.now work.current.now (option_copied work.found)
+
+-- the same, where what that is need not be known
 unfoldable pub one_made : Operation → Bytes → Option Expr → Item → NewItem
 one_made operation current found item = on_one operation current found item
+
+abbrev pub one_made_by : Work → Item → NewItem
+one_made_by work = one_made work.operation.now work.current.now (option_copied work.found)
 
 -- The items that a command changes are marked: it makes of the items what it makes of those.
 abbrev pub IsMarked : Operation → Target → Bytes → List ℕ → List Item → List Bool → Type 0

@@ -8,10 +8,9 @@ use Rattle.bz_value.specs.Proper.{IsProper}
 use Rattle.bz_items.specs.Characters.{Bytes}
 use Rattle.bz_value.specs.declared.refusal.Refusal.{Refusal}
 use Rattle.bz_words.specs.declared.command.Host.{Host}
-use Rattle.bz_words.specs.declared.command.CommentOperation.TheVariants.{Add}
-use Rattle.bz_comment.specs.Hosts.{comment_made}
+use Rattle.bz_comment.specs.Hosts.{comment, comment_made, with_comment}
 use Rattle.bz_label.specs.declared.target.Target.{Target}
-use Rattle.bz_command.specs.Effect.{NewItem, on_meant, rule_commented}
+use Rattle.bz_command.specs.Effect.{NewItem, on_arguments, on_host_of_item, on_meant}
 use Rattle.bz_command.specs.Targets.{is_rule, meant}
 
 -- the copies of one comment are past the limit
@@ -30,7 +29,7 @@ marked_rules _ _ = 0
 
 -- what putting a comment on a host makes of an item
 abbrev pub commented : Bytes → Host → Bytes → Item → NewItem
-commented current host text item = rule_commented (Add host text) current item
+commented current host text item = on_host_of_item host (with_comment text) (on_arguments (comment current host text) item) item
 
 -- and of the items that are marked
 abbrev pub all_commented : Bytes → Host → Bytes → List Bool → List Item → Result (List Item) Refusal

@@ -21,15 +21,9 @@ printed_comments_of current host (i.Stmt x) = print_comment current host (commen
 
 -- what is printed of one rule; `line` is the line on which it begins, in decimal digits
 abbrev pub printed_one : Operation → Bytes → Option Bytes → Item → Result Bytes Refusal
-printed_one (w.Rule operation) current line item = Ok []
-printed_one (w.Attribute operation) current line item = Ok []
-printed_one (w.Value operation) current line item = Ok []
-printed_one (w.Dict operation) current line item = Ok []
-printed_one (w.Load operation) current line item = Ok []
-printed_one (w.Comment (wc.Add host text)) current line item = Ok []
 printed_one (w.Comment (wc.Print host)) current line item = printed_comments_of current host item
-printed_one (w.Comment (wc.Remove host)) current line item = Ok []
 printed_one (w.Print fields) current line item = Ok (printed_item line item fields)
+printed_one _ current line item = Ok []
 
 -- of a rule that isn't marked nothing is printed
 abbrev pub if_marked : Bool → Result Bytes Refusal → Result Bytes Refusal

@@ -1,22 +1,14 @@
--- Which items a command exchanges for others, one in the place of each.
-use Rattle.std.specs.Prelude.{Bool, true, false, not, ◌&&◌, ◌||◌, List, [], ◌∷◌}
+-- In which items a value may differ from the one that it was.
+use Rattle.std.specs.Prelude.{Bool, true, not, ◌&&◌, ◌||◌, List, [], ◌∷◌}
 use Rattle.bz_value.specs.declared.value.Item.{Item}
-use Rattle.bz_value.specs.Exchanged.{is_bare}
-use Rattle.bz_words.specs.declared.command.Operation.{Operation}
-use Rattle.bz_words.specs.declared.command.Operation.TheVariants as w
-use Rattle.bz_words.specs.declared.command.RuleOperation.TheVariants as wr
+use Rattle.bz_value.specs.Exchanged.{AreExchanged, IsSpliced, is_bare}
+use Rattle.bz_command.specs.declared.outcome.Extent.{Extent}
+use Rattle.bz_command.specs.declared.outcome.Extent.TheVariants as e
 
--- the operations that put in no item, take out none, move none, and change none but those that are marked
-abbrev pub is_in_place : Operation → Bool
-is_in_place (w.Rule (wr.New kind name place)) = false
-is_in_place (w.Rule wr.Delete) = false
-is_in_place (w.Rule (wr.SetKind kind)) = true
-is_in_place (w.Attribute operation) = true
-is_in_place (w.Value operation) = true
-is_in_place (w.Dict operation) = true
-is_in_place (w.Load operation) = false
-is_in_place (w.Comment operation) = true
-is_in_place (w.Print fields) = false
+abbrev pub IsOfExtent : Extent → List Bool → List Item → List Item → Type 0
+IsOfExtent e.Marked marks before after = AreExchanged marks before after
+IsOfExtent (e.Spliced s) marks before after = IsSpliced s.from s.gone s.come before after
+IsOfExtent e.Whole marks before after = Unit {0}
 
 -- the items that are marked are expressions alone, as rules are
 abbrev pub are_bare : List Bool → List Item → Bool

@@ -35,6 +35,4 @@ meant (Name name) lines items = map (has_name name) items
 abbrev pub may_mean_none : Which → Bool
 may_mean_none All = true
 may_mean_none (Kind kind) = true
-may_mean_none (Line line) = false
-may_mean_none Package = false
-may_mean_none (Name name) = false
+may_mean_none _ = false

@@ -1,10 +1,10 @@
 //! Items taken out of a file: those that are marked. The others are moved.
-ghost use Rattle.std.specs.Prelude.{◌≡◌, ◌↔◌, ◌≤◌, ◌<◌, ◌∷◌, ◌++◌, ◌+◌, ℕ, Bool, List, false, length, take, drop, get_or, IfSome, IsTrue};
+ghost use Rattle.std.specs.Prelude.{◌≡◌, ◌↔◌, ◌≤◌, ◌<◌, ◌∷◌, ◌++◌, ◌+◌, ℕ, Bool, List, false, length, take, drop, get_or, IsTrue};
 ghost use Rattle.bz_value.specs.declared.value.Item.{Item};
-ghost use Rattle.bz_value.specs.Exchanged.{IsSpliced};
 ghost use Rattle.bz_command.specs.Effect.{unmarked};
+ghost use Rattle.bz_command.specs.Renewed.{IsOfExtent};
 
-use crate::outcome::{Changed, Spliced};
+use crate::outcome::{Changed, Extent, Spliced};
 use bz_items::Items;
 use bz_value::Item;
 
@@ -71,18 +71,18 @@ fn count_to_last(marks: &[bool]) -> usize
     count
 }
 
-/// The items from the first marked one to the last: after how many they stand, how many they are, and how many of them are left
-/// once the marked ones are taken out, where `left` is how many are left of all. `None` where no mark is set.
-fn window(marks: &[bool], left: usize) -> Option<Spliced>
-    ensures { IfSome result (λ s. (items : List Item) → length marks.now ≡ length items → left ≡ length (unmarked marks.now items) → IsSpliced s.from s.gone s.come items (unmarked marks.now items)) }
+/// The items from the first marked one to the last, and how many of them are left once the marked ones are taken out, where `left`
+/// is how many are left of all. Any where no mark is set.
+fn window(marks: &[bool], left: usize) -> Extent
+    ensures { (items : List Item) → length marks.now ≡ length items → left ≡ length (unmarked marks.now items) → IsOfExtent result marks.now items (unmarked marks.now items) }
 {
     let from = count_to_first(marks);
     let last = count_to_last(marks);
     if last <= from {
-        return None;
+        return Extent::Whole;
     }
     let others = from + (marks.len() - last);
-    Some(Spliced {
+    Extent::Spliced(Spliced {
         from,
         gone: last - from,
         come: left.saturating_sub(others),
@@ -95,15 +95,13 @@ pub(crate) fn delete(marks: &[bool], items: Items<Item>) -> Changed
     requires { length marks.now ≡ length items }
     ensures items { result.items ≡ unmarked marks.now items }
     ensures same { IsTrue result.same ↔ (result.items ≡ items) }
-    ensures spliced { IfSome result.spliced (λ s. IsSpliced s.from s.gone s.come items result.items) }
+    ensures extent { IsOfExtent result.extent marks.now items result.items }
 {
     let count = items.len();
     let items = unmarked(marks, items);
-    let same = items.len() == count;
-    let spliced = window(marks, items.len());
     Changed {
+        same: items.len() == count,
+        extent: window(marks, items.len()),
         items,
-        same,
-        spliced,
     }
 }

@@ -17,6 +17,6 @@ mod targets;
 pub use filling::overfills;
 pub use laws::{commands_are_listed, comments_stay, worked_commands, worked_effects};
 pub use lines::{lines_matter, looks_at_lines};
-pub use outcome::{Outcome, Ran, Spliced};
+pub use outcome::{Extent, Outcome, Ran, Spliced};
 pub use proper_laws::effects_stay_proper;
-pub use running::{run, run_in, run_named, run_on};
+pub use running::{run, run_in};

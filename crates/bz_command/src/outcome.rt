@@ -1,3 +1,4 @@
+//! What a command makes of a file value.
 use bz_items::{Items, Text};
 use bz_value::{File, Item};
 
@@ -8,15 +9,26 @@ pub struct Outcome {
     pub printed: Text,
 }
 
-/// Where items of a file were taken out and others put in their place, counted in items. All others stand as before.
+/// Where items of a file were taken out and others put in their place, counted in items. All others stay as before.
 #[derive(Clone, Copy)]
 pub struct Spliced {
     /// After how many items.
     pub from: usize,
     /// How many were taken out.
     pub gone: usize,
-    /// How many stand there now.
+    /// How many were put in.
     pub come: usize,
+}
+
+/// In which items a file value may differ from the one that it was.
+#[derive(Clone, Copy)]
+pub enum Extent {
+    /// In those that are marked alone: each was an expression alone, and is one.
+    Marked,
+    /// In those that were taken out and put in, in one place.
+    Spliced(Spliced),
+    /// In any.
+    Whole,
 }
 
 /// What a command made of a file value in place.
@@ -24,20 +36,18 @@ pub struct Spliced {
 pub struct Ran {
     /// Whether the value is the one that it was.
     pub same: bool,
-    /// A mark for each item, where the command exchanged expressions alone for others and left the rest; `None` where it may
-    /// have put in, taken out or moved some.
-    pub renewed: Option<Vec<bool>>,
-    /// Where the command took out items and put in others, if it did so in one place and says where.
-    pub spliced: Option<Spliced>,
+    /// In which items it may be another one.
+    pub extent: Extent,
+    /// A mark for each item: whether the command was meant for it. None where the value stays.
+    pub marks: Vec<bool>,
     /// What it printed of the rules.
     pub printed: Text,
 }
 
-/// The items that a command makes of those of a file, whether they are the same, and in which place they may be others, where that
-/// is known.
+/// The items that a command makes of those of a file, whether they are the same, and in which they may be others.
 #[derive(Drop)]
 pub(crate) struct Changed {
     pub(crate) items: Items<Item>,
     pub(crate) same: bool,
-    pub(crate) spliced: Option<Spliced>,
+    pub(crate) extent: Extent,
 }

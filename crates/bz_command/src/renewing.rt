@@ -1,27 +1,12 @@
 //! Which items a command exchanges for others, one in the place of each.
-ghost use Rattle.std.specs.Prelude.{◌≡◌, drop};
-ghost use Rattle.bz_value.specs.Exchanged.{is_bare, is_bare_statement};
-ghost use Rattle.bz_command.specs.Renewed.{are_bare, is_in_place};
+ghost use Rattle.std.specs.Prelude.{◌≡◌, ◌&&◌, List, drop, true};
+ghost use Rattle.bz_value.specs.declared.value.Item.{Item};
+ghost use Rattle.bz_value.specs.Exchanged.{AreExchanged, is_bare, is_bare_statement};
+ghost use Rattle.bz_command.specs.Renewed.{IsOfExtent, are_bare};
 
+use crate::outcome::Extent;
 use bz_tree::Kind;
 use bz_value::{Expr, Item};
-use bz_words::{Operation, RuleOperation};
-
-/// Whether an operation puts in no item, takes out none, moves none, and changes none but those that are marked.
-pub(crate) fn is_in_place(operation: &Operation) -> bool
-    ensures { result ≡ is_in_place operation.now }
-{
-    match operation {
-        Operation::Rule(RuleOperation::New { .. } | RuleOperation::Delete)
-        | Operation::Load(_)
-        | Operation::Print { .. } => false,
-        Operation::Rule(RuleOperation::SetKind { .. })
-        | Operation::Attribute(_)
-        | Operation::Value(_)
-        | Operation::Dict(_)
-        | Operation::Comment(_) => true,
-    }
-}
 
 /// Whether a statement is an expression alone.
 fn is_bare_statement(x: &Expr) -> bool
@@ -58,4 +43,15 @@ pub(crate) fn are_bare(marks: &[bool], items: &[Item]) -> bool
         left = rest;
     }
     true
+}
+
+/// In which items a value may differ from one of which those that are marked were changed; `before`: whether these were such statements.
+pub(crate) fn extent_of(before: bool, marks: &[bool], items: &[Item]) -> Extent
+    ensures { (old : List Item) → ((before && are_bare marks.now items.now) ≡ true → AreExchanged marks.now old items.now) → IsOfExtent result marks.now old items.now }
+{
+    if before && are_bare(marks, items) {
+        Extent::Marked
+    } else {
+        Extent::Whole
+    }
 }

@@ -1,6 +1,6 @@
 //! What a command makes of the items of a file: of the rules that are marked, with a new rule, and of loads. Items that stay are
 //! moved.
-ghost use Rattle.std.specs.Prelude.{◌≡◌, ◌⊎◌, ◌↔◌, ◌≤◌, ◌<◌, ◌∷◌, ◌++◌, ◌+◌, List, true, false, not, length, take, drop, vec_len, MatchOption, Ok, Err, OnOk, IsTrue, IfOk, IfErr, IfSome, if◌then◌else◌};
+ghost use Rattle.std.specs.Prelude.{◌≡◌, ◌⊎◌, ◌↔◌, ◌≤◌, ◌<◌, ◌∷◌, ◌++◌, ◌+◌, Bool, List, true, false, not, length, take, drop, vec_len, MatchOption, Ok, Err, OnOk, IsTrue, IfOk, IfErr, if◌then◌else◌};
 ghost use Rattle.std.specs.List.{list_any};
 ghost use Rattle.std.specs.Option.{option_copied};
 ghost use Rattle.bz_value.specs.declared.value.Item.{Item};
@@ -8,12 +8,14 @@ ghost use Rattle.bz_value.specs.Exchanged.{IsSpliced};
 ghost use Rattle.bz_rule.specs.Rules.{has_name};
 ghost use Rattle.bz_load.specs.Fixes.{fix};
 ghost use Rattle.bz_load.specs.NewLoad.{new_load};
-ghost use Rattle.bz_command.specs.Effect.{before_first, after_rule, copied_from, has_rule_place, loads_changed, on_each, on_meant, on_one, on_rules, placed, source_of, with_rule};
-ghost use Rattle.bz_command.specs.Looks.{one_made};
+ghost use Rattle.bz_command.specs.Effect.{before_first, after_rule, has_rule_place, loads_changed, on_each, on_meant, on_rules, placed, source_of, with_rule};
+ghost use Rattle.bz_command.specs.Looks.{made_by, one_made_by};
+ghost use Rattle.bz_command.specs.Renewed.{IsOfExtent, are_bare};
 
 use crate::deleting::delete;
-use crate::outcome::{Changed, Spliced};
-use crate::statements::{on_one, source};
+use crate::outcome::{Changed, Extent, Spliced};
+use crate::renewing::{are_bare, extent_of};
+use crate::statements::{Work, on_one, source};
 use bz_attribute::rule_made;
 use bz_items::{Items, Memory};
 use bz_load::{WithLoad, fix, new_load};
@@ -26,23 +28,16 @@ use std::alloc::Global;
 
 /// What an operation makes of an item where it is marked. Whether the item is the same then.
 #[tactic(auto, unfolding(crate::specs::Looks::one_made))]
-fn change_item(
-    alloc: Global,
-    operation: &Operation,
-    current: &[u8],
-    found: Option<&Expr>,
-    mark: bool,
-    item: &mut Item,
-) -> Result<bool, Refusal>
-    ensures ok { OnOk result ((if mark then one_made operation.now current.now (option_copied found.entry) item.old else Ok item.old) ≡ Ok item.new) }
+fn change_item(work: Work<'_>, mark: bool, item: &mut Item) -> Result<bool, Refusal>
+    ensures ok { OnOk result ((if mark then one_made_by work.entry item.old else Ok item.old) ≡ Ok item.new) }
     ensures same { IfOk result (λ same. IsTrue same ↔ (item.new ≡ item.old)) }
-    ensures err { IfErr result (λ refusal. ((if mark then one_made operation.now current.now (option_copied found.entry) item.old else Ok item.old) ≡ Err refusal) ⊎ (refusal ≡ Refusal.Memory)) }
+    ensures err { IfErr result (λ refusal. ((if mark then one_made_by work.entry item.old else Ok item.old) ≡ Err refusal) ⊎ (refusal ≡ Refusal.Memory)) }
 {
     if !mark {
         return Ok(true);
     }
     let before = item.copy()?;
-    let answer = match on_one(alloc, operation, current, found, item) {
+    let answer = match on_one(work, item) {
         Ok(()) => Ok(item.equals(&before)),
         Err(refusal) => Err(refusal),
     };
@@ -52,22 +47,15 @@ fn change_item(
 }
 
 /// What an operation makes of the items that are marked. Whether all are the same then. The first that refuses decides.
-fn on_meant(
-    alloc: Global,
-    operation: &Operation,
-    current: &[u8],
-    found: Option<&Expr>,
-    marks: &[bool],
-    items: &mut [Item],
-) -> Result<bool, Refusal>
+fn on_meant(work: Work<'_>, marks: &[bool], items: &mut [Item]) -> Result<bool, Refusal>
     requires { length marks.now ≡ length items.old }
-    ensures ok { OnOk result (on_meant (one_made operation.now current.now (option_copied found.entry)) marks.now items.old ≡ Ok items.new) }
+    ensures ok { OnOk result (on_meant (one_made_by work.entry) marks.now items.old ≡ Ok items.new) }
     ensures same { IfOk result (λ same. IsTrue same ↔ (items.new ≡ items.old)) }
-    ensures err { IfErr result (λ refusal. (on_meant (one_made operation.now current.now (option_copied found.entry)) marks.now items.old ≡ Err refusal) ⊎ (refusal ≡ Refusal.Memory)) }
+    ensures err { IfErr result (λ refusal. (on_meant (one_made_by work.entry) marks.now items.old ≡ Err refusal) ⊎ (refusal ≡ Refusal.Memory)) }
 {
     let mut same = true;
     for at in 0..items.len() {
-        let stays = change_item(alloc, operation, current, found, marks[at], &mut items[at])?;
+        let stays = change_item(work, marks[at], &mut items[at])?;
         same = same && stays;
     }
     Ok(same)
@@ -121,23 +109,26 @@ fn put_at<T: Drop>(items: &mut Vec<T>, at: usize, item: T) -> Result<(), Memory>
     Ok(())
 }
 
+/// The extent of a change that takes `gone` items out after the first `from`, and puts `come` in.
+fn spliced(from: usize, gone: usize, come: usize) -> Extent
+    ensures { (marks : List Bool) (old new : List Item) → IsSpliced from gone come old new → IsOfExtent result marks old new }
+{
+    Extent::Spliced(Spliced { from, gone, come })
+}
+
 /// The items with a new one at this place, so others than they were.
 fn with_item(at: usize, new: Item, items: Items<Item>) -> Result<Changed, Memory>
     requires { at ≤ length items }
     ensures items { IfOk result (λ changed. changed.items ≡ take at items ++ new ∷ drop at items) }
     ensures same { IfOk result (λ changed. IsTrue changed.same ↔ (changed.items ≡ items)) }
-    ensures spliced { IfOk result (λ changed. IfSome changed.spliced (λ s. IsSpliced s.from s.gone s.come items changed.items)) }
+    ensures extent { IfOk result (λ changed. (marks : List Bool) → IsOfExtent changed.extent marks items changed.items) }
 {
     let mut all = items.into_vec();
     put_at(&mut all, at, new)?;
     Ok(Changed {
         items: Items::from_vec(all),
         same: false,
-        spliced: Some(Spliced {
-            from: at,
-            gone: 0,
-            come: 1,
-        }),
+        extent: spliced(at, 0, 1),
     })
 }
 
@@ -151,7 +142,7 @@ fn with_rule(
 ) -> Result<Changed, Refusal>
     ensures ok { IfOk result (λ changed. with_rule kind.now name.now place.now items ≡ Ok changed.items) }
     ensures same { IfOk result (λ changed. IsTrue changed.same ↔ (changed.items ≡ items)) }
-    ensures spliced { IfOk result (λ changed. IfSome changed.spliced (λ s. IsSpliced s.from s.gone s.come items changed.items)) }
+    ensures extent { IfOk result (λ changed. (marks : List Bool) → IsOfExtent changed.extent marks items changed.items) }
     ensures err { IfErr result (λ refusal. (with_rule kind.now name.now place.now items ≡ Err refusal) ⊎ (refusal ≡ Refusal.Memory)) }
 {
     let Some(at) = place_of_new(place, items.as_slice()) else {
@@ -164,31 +155,24 @@ fn with_rule(
     Ok(with_item(at, rule, items)?)
 }
 
-/// The value that an operation on attributes copies.
-fn copied_from<'a>(operation: &AttributeOperation, items: &'a [Item]) -> Option<&'a Expr>
-    ensures { option_copied result ≡ copied_from operation.now items.now }
-{
-    match operation {
-        AttributeOperation::Copy { attribute, rule } => {
-            source(attribute.as_slice(), rule.as_slice(), items)
-        }
-        AttributeOperation::CopyNoOverwrite { attribute, rule } => {
-            source(attribute.as_slice(), rule.as_slice(), items)
-        }
-        AttributeOperation::Set { .. }
-        | AttributeOperation::SetIfAbsent { .. }
-        | AttributeOperation::Remove { .. }
-        | AttributeOperation::Rename { .. } => None,
-    }
-}
-
 /// The value that is copied.
 fn source_of<'a>(operation: &Operation, items: &'a [Item]) -> Option<&'a Expr>
     ensures { option_copied result ≡ source_of operation.now items.now }
 {
     match operation {
-        Operation::Attribute(operation) => copied_from(operation, items),
-        Operation::Rule(_)
+        Operation::Attribute(AttributeOperation::Copy { attribute, rule }) => {
+            source(attribute.as_slice(), rule.as_slice(), items)
+        }
+        Operation::Attribute(AttributeOperation::CopyNoOverwrite { attribute, rule }) => {
+            source(attribute.as_slice(), rule.as_slice(), items)
+        }
+        Operation::Attribute(
+            AttributeOperation::Set { .. }
+            | AttributeOperation::SetIfAbsent { .. }
+            | AttributeOperation::Remove { .. }
+            | AttributeOperation::Rename { .. },
+        )
+        | Operation::Rule(_)
         | Operation::Value(_)
         | Operation::Dict(_)
         | Operation::Load(_)
@@ -207,32 +191,26 @@ fn copied_source(operation: &Operation, items: &[Item]) -> Result<Option<Expr>, 
     }
 }
 
-/// What an operation makes of each of the items that are marked. `found` is the value that is copied.
+/// What an operation makes of each of the items that are marked.
 #[tactic(auto, unfolding(crate::specs::Looks::one_made))]
-fn on_found(
-    alloc: Global,
-    operation: &Operation,
-    current: &[u8],
-    found: Option<&Expr>,
-    marks: &[bool],
-    items: Items<Item>,
-) -> Result<Changed, Refusal>
+fn on_found(work: Work<'_>, marks: &[bool], mut items: Items<Item>) -> Result<Changed, Refusal>
     requires { length marks.now ≡ length items }
-    ensures ok { IfOk result (λ changed. on_meant (on_one operation.now current.now (option_copied found.entry)) marks.now items ≡ Ok changed.items) }
+    ensures ok { IfOk result (λ changed. on_meant (made_by work.entry) marks.now items ≡ Ok changed.items) }
     ensures same { IfOk result (λ changed. IsTrue changed.same ↔ (changed.items ≡ items)) }
-    ensures spliced { IfOk result (λ changed. IfSome changed.spliced (λ s. IsSpliced s.from s.gone s.come items changed.items)) }
-    ensures err { IfErr result (λ refusal. (on_meant (on_one operation.now current.now (option_copied found.entry)) marks.now items ≡ Err refusal) ⊎ (refusal ≡ Refusal.Memory)) }
+    ensures extent { IfOk result (λ changed. IsOfExtent changed.extent marks.now items changed.items) }
+    ensures err { IfErr result (λ refusal. (on_meant (made_by work.entry) marks.now items ≡ Err refusal) ⊎ (refusal ≡ Refusal.Memory)) }
 {
-    let mut all = items.into_vec();
-    let same = on_meant(alloc, operation, current, found, marks, all.as_mut_slice())?;
+    let before = are_bare(marks, items.as_slice());
+    let same = on_meant(work, marks, items.as_mut_slice())?;
+    let extent = extent_of(before, marks, items.as_slice());
     Ok(Changed {
-        items: Items::from_vec(all),
+        items,
         same,
-        spliced: None,
+        extent,
     })
 }
 
-/// What an operation makes of each of the items that are marked.
+/// The same by the value that is copied, as it is before anything changes.
 fn on_each(
     alloc: Global,
     operation: &Operation,
@@ -243,11 +221,12 @@ fn on_each(
     requires { length marks.now ≡ length items }
     ensures ok { IfOk result (λ changed. on_each operation.now current.now marks.now items ≡ Ok changed.items) }
     ensures same { IfOk result (λ changed. IsTrue changed.same ↔ (changed.items ≡ items)) }
-    ensures spliced { IfOk result (λ changed. IfSome changed.spliced (λ s. IsSpliced s.from s.gone s.come items changed.items)) }
+    ensures extent { IfOk result (λ changed. IsOfExtent changed.extent marks.now items changed.items) }
     ensures err { IfErr result (λ refusal. (on_each operation.now current.now marks.now items ≡ Err refusal) ⊎ (refusal ≡ Refusal.Memory)) }
 {
     let found = copied_source(operation, items.as_slice())?;
-    on_found(alloc, operation, current, found.as_ref(), marks, items)
+    let work = Work::new(alloc, operation, current, found.as_ref());
+    on_found(work, marks, items)
 }
 
 /// Whether both lists have the same items in the same places.
@@ -274,7 +253,7 @@ fn load_too(
 ) -> Result<Changed, Memory>
     ensures items { IfOk result (λ changed. changed.items ≡ new_load path.now symbols.now items) }
     ensures same { IfOk result (λ changed. IsTrue changed.same ↔ (changed.items ≡ items)) }
-    ensures spliced { IfOk result (λ changed. IfSome changed.spliced (λ s. IsSpliced s.from s.gone s.come items changed.items)) }
+    ensures extent { IfOk result (λ changed. (marks : List Bool) → IsOfExtent changed.extent marks items changed.items) }
 {
     let WithLoad {
         items,
@@ -285,11 +264,7 @@ fn load_too(
     Ok(Changed {
         items,
         same,
-        spliced: Some(Spliced {
-            from: at,
-            gone,
-            come: 1,
-        }),
+        extent: spliced(at, gone, 1),
     })
 }
 
@@ -297,14 +272,14 @@ fn load_too(
 fn mend(alloc: Global, fixes: Fixes, items: Items<Item>) -> Result<Changed, Memory>
     ensures items { IfOk result (λ changed. changed.items ≡ fix fixes items) }
     ensures same { IfOk result (λ changed. IsTrue changed.same ↔ (changed.items ≡ items)) }
-    ensures spliced { IfOk result (λ changed. IfSome changed.spliced (λ s. IsSpliced s.from s.gone s.come items changed.items)) }
+    ensures extent { IfOk result (λ changed. (marks : List Bool) → IsOfExtent changed.extent marks items changed.items) }
 {
     let new = fix(alloc, fixes, items.as_slice())?;
     let same = are_same(new.as_slice(), items.as_slice());
     Ok(Changed {
         items: new,
         same,
-        spliced: None,
+        extent: Extent::Whole,
     })
 }
 
@@ -316,7 +291,7 @@ fn change_loads(
 ) -> Result<Changed, Memory>
     ensures items { IfOk result (λ changed. changed.items ≡ loads_changed operation.now items) }
     ensures same { IfOk result (λ changed. IsTrue changed.same ↔ (changed.items ≡ items)) }
-    ensures spliced { IfOk result (λ changed. IfSome changed.spliced (λ s. IsSpliced s.from s.gone s.come items changed.items)) }
+    ensures extent { IfOk result (λ changed. (marks : List Bool) → IsOfExtent changed.extent marks items changed.items) }
 {
     match operation {
         LoadOperation::New { path, symbols } => {
@@ -337,18 +312,16 @@ pub(crate) fn on_rules(
     requires { length marks.now ≡ length items }
     ensures ok { IfOk result (λ changed. on_rules operation.now current.now marks.now items ≡ Ok changed.items) }
     ensures same { IfOk result (λ changed. IsTrue changed.same ↔ (changed.items ≡ items)) }
-    ensures spliced { IfOk result (λ changed. IfSome changed.spliced (λ s. IsSpliced s.from s.gone s.come items changed.items)) }
+    ensures extent { IfOk result (λ changed. IsOfExtent changed.extent marks.now items changed.items) }
     ensures err { IfErr result (λ refusal. (on_rules operation.now current.now marks.now items ≡ Err refusal) ⊎ (refusal ≡ Refusal.Memory)) }
 {
     match operation {
-        Operation::Rule(rule) => match rule {
-            RuleOperation::New { kind, name, place } => {
-                with_rule(alloc, kind.as_slice(), name.as_slice(), place, items)
-            }
-            RuleOperation::Delete => Ok(delete(marks, items)),
-            RuleOperation::SetKind { .. } => on_each(alloc, operation, current, marks, items),
-        },
-        Operation::Attribute(_)
+        Operation::Rule(RuleOperation::New { kind, name, place }) => {
+            with_rule(alloc, kind.as_slice(), name.as_slice(), place, items)
+        }
+        Operation::Rule(RuleOperation::Delete) => Ok(delete(marks, items)),
+        Operation::Rule(RuleOperation::SetKind { .. })
+        | Operation::Attribute(_)
         | Operation::Value(_)
         | Operation::Dict(_)
         | Operation::Comment(_) => on_each(alloc, operation, current, marks, items),
@@ -356,7 +329,7 @@ pub(crate) fn on_rules(
         Operation::Print { .. } => Ok(Changed {
             items,
             same: true,
-            spliced: None,
+            extent: Extent::Whole,
         }),
     }
 }

@@ -1,18 +1,16 @@
 //! The effect of a command on a file value.
-ghost use Rattle.std.specs.Prelude.{length, ◌≡◌, ◌⊎◌, ◌↔◌, ◌&&◌, [], true, false, None, Some, Ok, Err, IsOk, IfOk, IfErr, IfSome, IsTrue, OnOk, if◌then◌else◌};
+ghost use Rattle.std.specs.Prelude.{length, ◌≡◌, ◌⊎◌, ◌↔◌, [], true, false, None, Some, Ok, Err, IsOk, IfOk, IfErr, IfSome, IsTrue, OnOk, if◌then◌else◌};
 ghost use Rattle.std.specs.List.{list_any};
 ghost use Rattle.std.specs.Option.{unwrap_or};
-ghost use Rattle.bz_value.specs.Exchanged.{AreExchanged, IsSpliced};
 ghost use Rattle.bz_names.specs.Index.{IsIndexOf};
 ghost use Rattle.bz_command.specs.Targets.{may_mean_none, meant};
 ghost use Rattle.bz_command.specs.Effect.{effect, lacks_rules, looks_at_rules, printed};
 ghost use Rattle.bz_command.specs.Looks.{IsLook, IsMarked};
-ghost use Rattle.bz_command.specs.Renewed.{are_bare, is_in_place};
+ghost use Rattle.bz_command.specs.Renewed.{IsOfExtent};
 
-use crate::outcome::{Changed, Outcome, Ran, Spliced};
+use crate::outcome::{Changed, Extent, Outcome, Ran};
 use crate::printing::print_rules;
 use crate::proper_laws::effects_stay_proper;
-use crate::renewing::{are_bare, is_in_place};
 use crate::ruling::on_rules;
 use crate::targets::{may_mean_none, meant, meant_by};
 use bz_items::{Items, Text};
@@ -75,7 +73,7 @@ enum Look {
 }
 
 /// Looks at the items of a file, of which those that a command is meant for are marked, and prints what it prints of them.
-fn look_with(
+fn look_at(
     alloc: Global,
     command: &Command,
     target: &Target,
@@ -102,37 +100,21 @@ fn look_with(
     Ok(Look::Changes(marks))
 }
 
-/// Looks at the items of a file for what a command is meant for, and prints it where the command prints.
-fn look_at(
-    alloc: Global,
-    command: &Command,
-    target: &Target,
-    current: &[u8],
-    lines: &[u32],
-    items: &[Item],
-) -> Result<Look, Refusal>
-    ensures ok { IfOk result (IsLook command.now target.now current.now lines.now items.now) }
-    ensures err { IfErr result (λ refusal. (effect command.now target.now current.now lines.now items.now ≡ Err refusal) ⊎ (refusal ≡ Refusal.Memory)) }
-{
-    let marks = meant(alloc, &target.which, lines, items)?;
-    look_with(alloc, command, target, current, lines, marks, items)
-}
-
-/// What a command makes of a file of which the items that it is meant for are marked. Whether it is the same value then, and where
-/// items were taken out or put in, if that is known.
+/// What a command that prints nothing makes of a file of which the items that it is meant for are marked.
 fn change(
     alloc: Global,
     command: &Command,
     target: &Target,
     current: &[u8],
     lines: &[u32],
-    marks: &[bool],
+    marks: Vec<bool>,
     file: &mut File,
-) -> Result<(bool, Option<Spliced>), Refusal>
-    requires marked { IsMarked command.now target.now current.now lines.now file.old marks.now }
+) -> Result<Ran, Refusal>
+    requires { IsLook command.now target.now current.now lines.now file.old (Look.Changes marks) }
     ensures ok { OnOk result (effect command.now target.now current.now lines.now file.old ≡ Ok file.new) }
-    ensures same { IfOk result (λ told. IsTrue told.0 ↔ (file.new ≡ file.old)) }
-    ensures spliced { IfOk result (λ told. IfSome told.1 (λ s. IsSpliced s.from s.gone s.come file.old file.new)) }
+    ensures same { IfOk result (λ ran. IsTrue ran.same ↔ (file.new ≡ file.old)) }
+    ensures printed { IfOk result (λ ran. printed command.now target.now current.now lines.now file.old ≡ Ok ran.printed) }
+    ensures extent { IfOk result (λ ran. IsOfExtent ran.extent ran.marks.items file.old file.new) }
     ensures err { IfErr result (λ refusal. (effect command.now target.now current.now lines.now file.old ≡ Err refusal) ⊎ (refusal ≡ Refusal.Memory)) }
 {
     effects_stay_proper();
@@ -142,63 +124,18 @@ fn change(
     let Changed {
         items,
         same,
-        spliced,
-    } = on_rules(alloc, operation, current, marks, before)?;
+        extent,
+    } = on_rules(alloc, operation, current, marks.as_slice(), before)?;
     file.items = items;
-    Ok((same, spliced))
-}
-
-/// Whether a command is one in place, and the items that are marked are expressions alone.
-fn may_exchange(command: &Command, marks: &[bool], file: &File) -> bool
-    ensures { result ≡ (is_in_place command.now && are_bare marks.now file.now) }
-{
-    is_in_place(&command.operation) && are_bare(marks, file.items.as_slice())
-}
-
-/// The marks, where the items that are marked were expressions alone, `before`, and still are.
-fn told(before: bool, marks: Vec<bool>, file: &File) -> Option<Vec<bool>>
-    ensures { IfSome result (λ told. (told.items ≡ marks.items) × ((before && are_bare marks.items file.now) ≡ true)) }
-{
-    if before && are_bare(marks.as_slice(), file.items.as_slice()) {
-        Some(marks)
-    } else {
-        None
-    }
-}
-
-/// What a command made of a file of which the items that it is meant for are marked.
-fn change_marked(
-    alloc: Global,
-    command: &Command,
-    target: &Target,
-    current: &[u8],
-    lines: &[u32],
-    marks: Vec<bool>,
-    file: &mut File,
-) -> Result<Ran, Refusal>
-    requires marked { IsMarked command.now target.now current.now lines.now file.old marks.items }
-    requires silent { printed command.now target.now current.now lines.now file.old ≡ Ok [] }
-    ensures ok { OnOk result (effect command.now target.now current.now lines.now file.old ≡ Ok file.new) }
-    ensures same { IfOk result (λ ran. IsTrue ran.same ↔ (file.new ≡ file.old)) }
-    ensures printed { IfOk result (λ ran. printed command.now target.now current.now lines.now file.old ≡ Ok ran.printed) }
-    ensures renewed { IfOk result (λ ran. IfSome ran.renewed (λ marks. AreExchanged marks.items file.old file.new)) }
-    ensures spliced { IfOk result (λ ran. IfSome ran.spliced (λ s. IsSpliced s.from s.gone s.come file.old file.new)) }
-    ensures err { IfErr result (λ refusal. (effect command.now target.now current.now lines.now file.old ≡ Err refusal) ⊎ (refusal ≡ Refusal.Memory)) }
-{
-    let marked = marks.as_slice();
-    let before = may_exchange(command, marked, file);
-    let (same, spliced) = change(alloc, command, target, current, lines, marked, file)?;
-    let renewed = told(before, marks, file);
     Ok(Ran {
         same,
-        renewed,
-        spliced,
+        extent,
+        marks,
         printed: Text::from_vec(Vec::new(alloc)),
     })
 }
 
-/// The effect of a command on the rules that the target means, on a file in place, which of its items it exchanged, and where it
-/// took some out or put some in.
+/// The effect of a command on the rules that the target means, on a file in place, and in which of its items it may differ.
 /// `current` is the path of the file's package, `lines` the lines on which its statements begin, from 1.
 /// Errors: the effect's refusal; `Memory`: a growth was refused. After an error the file may have lost its items.
 pub fn run_in(
@@ -212,25 +149,19 @@ pub fn run_in(
     ensures ok { OnOk result (effect command.now target.now current.now lines.now file.old ≡ Ok file.new) }
     ensures same { IfOk result (λ ran. IsTrue ran.same ↔ (file.new ≡ file.old)) }
     ensures printed { IfOk result (λ ran. printed command.now target.now current.now lines.now file.old ≡ Ok ran.printed) }
-    ensures renewed { IfOk result (λ ran. IfSome ran.renewed (λ marks. AreExchanged marks.items file.old file.new)) }
-    ensures spliced { IfOk result (λ ran. IfSome ran.spliced (λ s. IsSpliced s.from s.gone s.come file.old file.new)) }
+    ensures extent { IfOk result (λ ran. IsOfExtent ran.extent ran.marks.items file.old file.new) }
     ensures err { IfErr result (λ refusal. (effect command.now target.now current.now lines.now file.old ≡ Err refusal) ⊎ (refusal ≡ Refusal.Memory)) }
 {
-    match look_at(
-        alloc,
-        command,
-        target,
-        current,
-        lines,
-        file.items.as_slice(),
-    )? {
+    let items = file.items.as_slice();
+    let marks = meant(alloc, &target.which, lines, items)?;
+    match look_at(alloc, command, target, current, lines, marks, items)? {
         Look::Stays(printed) => Ok(Ran {
             same: true,
-            renewed: None,
-            spliced: None,
+            extent: Extent::Whole,
+            marks: Vec::new(alloc),
             printed,
         }),
-        Look::Changes(marks) => change_marked(alloc, command, target, current, lines, marks, file),
+        Look::Changes(marks) => change(alloc, command, target, current, lines, marks, file),
     }
 }
 
@@ -245,25 +176,24 @@ fn if_other(same: bool, file: File) -> Option<File>
     Some(file)
 }
 
-/// The effect of a command on the rules that the target means, on a file that is given up: what stays of it is moved.
-/// `current` is the path of the file's package, `lines` the lines on which its statements begin, from 1. The outcome holds no
-/// file exactly where the effect is the same value, and what is printed of the rules where the command prints.
-/// Errors: the effect's refusal; `Memory`: a growth was refused.
-pub fn run_on(
+/// What a command that prints nothing makes of a file of which the items that it is meant for are marked, on a copy of it.
+fn change_copy(
     alloc: Global,
     command: &Command,
     target: &Target,
     current: &[u8],
     lines: &[u32],
-    file: File,
+    marks: Vec<bool>,
+    copy: File,
 ) -> Result<Outcome, Refusal>
-    ensures ok { IfOk result (λ outcome. effect command.now target.now current.now lines.now file ≡ Ok (unwrap_or outcome.file file)) }
-    ensures unchanged { IfOk result (λ outcome. (outcome.file ≡ None) ↔ (effect command.now target.now current.now lines.now file ≡ Ok file)) }
-    ensures printed { IfOk result (λ outcome. printed command.now target.now current.now lines.now file ≡ Ok outcome.printed) }
-    ensures err { IfErr result (λ refusal. (effect command.now target.now current.now lines.now file ≡ Err refusal) ⊎ (refusal ≡ Refusal.Memory)) }
+    requires { IsLook command.now target.now current.now lines.now copy (Look.Changes marks) }
+    ensures ok { IfOk result (λ outcome. effect command.now target.now current.now lines.now copy ≡ Ok (unwrap_or outcome.file copy)) }
+    ensures unchanged { IfOk result (λ outcome. (outcome.file ≡ None) ↔ (effect command.now target.now current.now lines.now copy ≡ Ok copy)) }
+    ensures printed { IfOk result (λ outcome. printed command.now target.now current.now lines.now copy ≡ Ok outcome.printed) }
+    ensures err { IfErr result (λ refusal. (effect command.now target.now current.now lines.now copy ≡ Err refusal) ⊎ (refusal ≡ Refusal.Memory)) }
 {
-    let mut file = file;
-    match run_in(alloc, command, target, current, lines, &mut file) {
+    let mut file = copy;
+    match change(alloc, command, target, current, lines, marks, &mut file) {
         Ok(ran) => Ok(Outcome {
             file: if_other(ran.same, file),
             printed: ran.printed,
@@ -275,35 +205,10 @@ pub fn run_on(
     }
 }
 
-/// What a command makes of a file that was looked at, on a copy where it may change.
-fn finish(
-    alloc: Global,
-    command: &Command,
-    target: &Target,
-    current: &[u8],
-    lines: &[u32],
-    look: Look,
-    file: &File,
-) -> Result<Outcome, Refusal>
-    requires { IsLook command.now target.now current.now lines.now file.now look }
-    ensures ok { IfOk result (λ outcome. effect command.now target.now current.now lines.now file.now ≡ Ok (unwrap_or outcome.file file.now)) }
-    ensures unchanged { IfOk result (λ outcome. (outcome.file ≡ None) ↔ (effect command.now target.now current.now lines.now file.now ≡ Ok file.now)) }
-    ensures printed { IfOk result (λ outcome. printed command.now target.now current.now lines.now file.now ≡ Ok outcome.printed) }
-    ensures err { IfErr result (λ refusal. (effect command.now target.now current.now lines.now file.now ≡ Err refusal) ⊎ (refusal ≡ Refusal.Memory)) }
-{
-    match look {
-        Look::Stays(printed) => Ok(Outcome {
-            file: None,
-            printed,
-        }),
-        Look::Changes(_) => {
-            let copy = file.copy()?;
-            run_on(alloc, command, target, current, lines, copy)
-        }
-    }
-}
-
-/// The effect of a command on the rules that the target means, as `run_on` tells it, on a copy of the file where it may change.
+/// The effect of a command on the rules that the target means, on a copy of the file where it may change. Where an index of the
+/// names of the file's rules is there a target that is a name is not sought among its items.
+/// `current` is the path of the file's package, `lines` the lines on which its statements begin, from 1. The outcome holds no
+/// file exactly where the effect is the same value, and what is printed of the rules where the command prints.
 /// Errors: the effect's refusal; `Memory`: a growth was refused.
 pub fn run(
     alloc: Global,
@@ -311,29 +216,10 @@ pub fn run(
     target: &Target,
     current: &[u8],
     lines: &[u32],
+    names: Option<&Names>,
     file: &File,
 ) -> Result<Outcome, Refusal>
-    ensures ok { IfOk result (λ outcome. effect command.now target.now current.now lines.now file.now ≡ Ok (unwrap_or outcome.file file.now)) }
-    ensures unchanged { IfOk result (λ outcome. (outcome.file ≡ None) ↔ (effect command.now target.now current.now lines.now file.now ≡ Ok file.now)) }
-    ensures printed { IfOk result (λ outcome. printed command.now target.now current.now lines.now file.now ≡ Ok outcome.printed) }
-    ensures err { IfErr result (λ refusal. (effect command.now target.now current.now lines.now file.now ≡ Err refusal) ⊎ (refusal ≡ Refusal.Memory)) }
-{
-    let items = file.items.as_slice();
-    let look = look_at(alloc, command, target, current, lines, items)?;
-    finish(alloc, command, target, current, lines, look, file)
-}
-
-/// The same, where an index of the names of the file's rules is there: a target that is a name is not sought among its items.
-pub fn run_named(
-    alloc: Global,
-    command: &Command,
-    target: &Target,
-    current: &[u8],
-    lines: &[u32],
-    names: &Names,
-    file: &File,
-) -> Result<Outcome, Refusal>
-    requires { IsIndexOf names.now file.now }
+    requires { IfSome names (λ index. IsIndexOf index.now file.now) }
     ensures ok { IfOk result (λ outcome. effect command.now target.now current.now lines.now file.now ≡ Ok (unwrap_or outcome.file file.now)) }
     ensures unchanged { IfOk result (λ outcome. (outcome.file ≡ None) ↔ (effect command.now target.now current.now lines.now file.now ≡ Ok file.now)) }
     ensures printed { IfOk result (λ outcome. printed command.now target.now current.now lines.now file.now ≡ Ok outcome.printed) }
@@ -341,6 +227,14 @@ pub fn run_named(
 {
     let items = file.items.as_slice();
     let marks = meant_by(alloc, &target.which, lines, names, items)?;
-    let look = look_with(alloc, command, target, current, lines, marks, items)?;
-    finish(alloc, command, target, current, lines, look, file)
+    match look_at(alloc, command, target, current, lines, marks, items)? {
+        Look::Stays(printed) => Ok(Outcome {
+            file: None,
+            printed,
+        }),
+        Look::Changes(marks) => {
+            let copy = file.copy()?;
+            change_copy(alloc, command, target, current, lines, marks, copy)
+        }
+    }
 }

@@ -7,8 +7,8 @@ ghost use Rattle.bz_rule.specs.Values.{on_first, on_row};
 ghost use Rattle.bz_comment.specs.Changes.{changed_by};
 ghost use Rattle.bz_command.specs.CallParts.{with_list, with_list_in, before_in_call, before_in_row, before_in_statement, before_in};
 ghost use Rattle.bz_attribute.specs.Made.{function_of};
-ghost use Rattle.bz_command.specs.ArgumentChanges.{arguments_of, comments_changed};
-ghost use Rattle.bz_command.specs.Effect.{on_arguments, on_host_of_item, on_one, on_statement, rule_changed, rule_commented, source, value_in, with_function};
+ghost use Rattle.bz_command.specs.Effect.{on_arguments, on_host_of_item, on_one, on_statement, source, value_in, with_function};
+ghost use Rattle.bz_command.specs.Looks.{arguments_by, made_by};
 
 use crate::targets::is_rule;
 use bz_attribute::function_of;
@@ -23,6 +23,35 @@ use bz_value::{Expr, Item, Refusal};
 use bz_words::{CommentOperation, Host, Operation, RuleOperation};
 use std::alloc::Global;
 use std::mem;
+
+/// What a command is to do with a rule that it is meant for.
+#[derive(Clone, Copy)]
+pub(crate) struct Work<'a> {
+    pub(crate) alloc: Global,
+    pub(crate) operation: &'a Operation,
+    /// The path of the file's package.
+    pub(crate) current: &'a [u8],
+    /// The value that is copied.
+    pub(crate) found: Option<&'a Expr>,
+}
+
+impl<'a> Work<'a> {
+    pub(crate) fn new(
+        alloc: Global,
+        operation: &'a Operation,
+        current: &'a [u8],
+        found: Option<&'a Expr>,
+    ) -> Work<'a>
+        ensures { made_by result ≡ on_one operation.entry.now current.entry.now (option_copied found.entry) }
+    {
+        Work {
+            alloc,
+            operation,
+            current,
+            found,
+        }
+    }
+}
 
 /// A list of the call that a rule is.
 #[derive(Clone, Copy)]
@@ -85,70 +114,44 @@ fn exchange(alloc: Global, part: CallPart, list: &mut Items<Expr>, item: &mut It
     }
 }
 
-/// What an operation on comments makes of those that stand among the arguments of a rule.
-fn change_comments_of(
-    alloc: Global,
-    operation: &CommentOperation,
-    current: &[u8],
-    arguments: Items<Expr>,
-) -> Result<Items<Expr>, Refusal>
-    ensures ok { IfOk result (λ new. comments_changed operation.now current.now arguments ≡ Ok new) }
-    ensures err { IfErr result (λ refusal. (comments_changed operation.now current.now arguments ≡ Err refusal) ⊎ (refusal ≡ Refusal.Memory)) }
+/// What an operation makes of the arguments of a rule that it is meant for.
+fn change(work: Work<'_>, arguments: Items<Expr>) -> Result<Items<Expr>, Refusal>
+    ensures ok { IfOk result (λ new. arguments_by work.entry arguments ≡ Ok new) }
+    ensures err { IfErr result (λ refusal. (arguments_by work.entry arguments ≡ Err refusal) ⊎ (refusal ≡ Refusal.Memory)) }
 {
-    match operation {
-        CommentOperation::Add { host, text } => change_comments(
-            alloc,
-            current,
-            host,
-            Change::Add(text.as_slice()),
-            arguments,
-        ),
-        CommentOperation::Print { .. } => Ok(arguments),
-        CommentOperation::Remove { host } => {
-            change_comments(alloc, current, host, Change::Remove, arguments)
-        }
-    }
-}
-
-/// What an operation makes of the arguments of a rule that it is meant for. `found` is the value that is copied.
-fn change(
-    alloc: Global,
-    operation: &Operation,
-    current: &[u8],
-    found: Option<&Expr>,
-    arguments: Items<Expr>,
-) -> Result<Items<Expr>, Refusal>
-    ensures ok { IfOk result (λ new. arguments_of operation.now current.now (option_copied found.entry) arguments ≡ Ok new) }
-    ensures err { IfErr result (λ refusal. (arguments_of operation.now current.now (option_copied found.entry) arguments ≡ Err refusal) ⊎ (refusal ≡ Refusal.Memory)) }
-{
-    match operation {
+    let (alloc, current) = (work.alloc, work.current);
+    match work.operation {
         Operation::Attribute(operation) => {
-            change_attributes(alloc, operation, current, found, arguments)
+            change_attributes(alloc, operation, current, work.found, arguments)
         }
         Operation::Value(operation) => change_values(alloc, operation, current, arguments),
         Operation::Dict(operation) => change_dicts(alloc, operation, current, arguments),
-        Operation::Comment(operation) => change_comments_of(alloc, operation, current, arguments),
-        Operation::Rule(_) | Operation::Load(_) | Operation::Print { .. } => Ok(arguments),
+        Operation::Comment(CommentOperation::Add { host, text }) => {
+            let change = Change::Add(text.as_slice());
+            change_comments(alloc, current, host, change, arguments)
+        }
+        Operation::Comment(CommentOperation::Remove { host }) => {
+            change_comments(alloc, current, host, Change::Remove, arguments)
+        }
+        Operation::Comment(CommentOperation::Print { .. })
+        | Operation::Rule(_)
+        | Operation::Load(_)
+        | Operation::Print { .. } => Ok(arguments),
     }
 }
 
 /// What an operation makes of a rule by changing its arguments; what is no rule stays.
-fn change_rule(
-    alloc: Global,
-    operation: &Operation,
-    current: &[u8],
-    found: Option<&Expr>,
-    item: &mut Item,
-) -> Result<(), Refusal>
-    ensures ok { OnOk result (on_arguments (arguments_of operation.now current.now (option_copied found.entry)) item.old ≡ Ok item.new) }
-    ensures err { IfErr result (λ refusal. (on_arguments (arguments_of operation.now current.now (option_copied found.entry)) item.old ≡ Err refusal) ⊎ (refusal ≡ Refusal.Memory)) }
+fn change_rule(work: Work<'_>, item: &mut Item) -> Result<(), Refusal>
+    ensures ok { OnOk result (on_arguments (arguments_by work.entry) item.old ≡ Ok item.new) }
+    ensures err { IfErr result (λ refusal. (on_arguments (arguments_by work.entry) item.old ≡ Err refusal) ⊎ (refusal ≡ Refusal.Memory)) }
 {
     if !is_rule(item) {
         return Ok(());
     }
+    let alloc = work.alloc;
     let mut arguments = Items::new(alloc);
     exchange(alloc, CallPart::Arguments, &mut arguments, item);
-    let mut changed = change(alloc, operation, current, found, arguments)?;
+    let mut changed = change(work, arguments)?;
     exchange(alloc, CallPart::Arguments, &mut changed, item);
     Ok(())
 }
@@ -175,62 +178,42 @@ fn change_statement(alloc: Global, change: Change<'_>, item: &mut Item) -> Resul
 
 /// What an operation makes of the comments of a host in a rule: of the rule itself, or in its arguments.
 fn on_host_of_item(
-    alloc: Global,
-    operation: &Operation,
-    current: &[u8],
-    found: Option<&Expr>,
+    work: Work<'_>,
     host: &Host,
     change: Change<'_>,
     item: &mut Item,
 ) -> Result<(), Refusal>
-    ensures ok { OnOk result (on_host_of_item host.now (changed_by change.entry) (on_arguments (arguments_of operation.now current.now (option_copied found.entry)) item.old) item.old ≡ Ok item.new) }
-    ensures err { IfErr result (λ refusal. (on_host_of_item host.now (changed_by change.entry) (on_arguments (arguments_of operation.now current.now (option_copied found.entry)) item.old) item.old ≡ Err refusal) ⊎ (refusal ≡ Refusal.Memory)) }
+    ensures ok { OnOk result (on_host_of_item host.now (changed_by change.entry) (on_arguments (arguments_by work.entry) item.old) item.old ≡ Ok item.new) }
+    ensures err { IfErr result (λ refusal. (on_host_of_item host.now (changed_by change.entry) (on_arguments (arguments_by work.entry) item.old) item.old ≡ Err refusal) ⊎ (refusal ≡ Refusal.Memory)) }
 {
     match host {
-        Host::Rule => Ok(change_statement(alloc, change, item)?),
-        Host::Attribute(_) | Host::Item { .. } => {
-            change_rule(alloc, operation, current, found, item)
+        Host::Rule => Ok(change_statement(work.alloc, change, item)?),
+        Host::Attribute(_) | Host::Item { .. } => change_rule(work, item),
+    }
+}
+
+/// What an operation makes of a rule that it is meant for.
+pub(crate) fn on_one(work: Work<'_>, item: &mut Item) -> Result<(), Refusal>
+    ensures ok { OnOk result (made_by work.entry item.old ≡ Ok item.new) }
+    ensures err { IfErr result (λ refusal. (made_by work.entry item.old ≡ Err refusal) ⊎ (refusal ≡ Refusal.Memory)) }
+{
+    match work.operation {
+        Operation::Rule(RuleOperation::SetKind { kind }) => {
+            Ok(set_kind(work.alloc, kind.as_slice(), item)?)
         }
-    }
-}
-
-/// What an operation on rules makes of one that stays.
-fn change_whole(alloc: Global, operation: &RuleOperation, item: &mut Item) -> Result<(), Memory>
-    ensures { OnOk result (rule_changed operation.now item.old ≡ Ok item.new) }
-{
-    match operation {
-        RuleOperation::New { .. } | RuleOperation::Delete => Ok(()),
-        RuleOperation::SetKind { kind } => set_kind(alloc, kind.as_slice(), item),
-    }
-}
-
-/// What an operation makes of a rule that it is meant for. `found` is the value that is copied.
-pub(crate) fn on_one(
-    alloc: Global,
-    operation: &Operation,
-    current: &[u8],
-    found: Option<&Expr>,
-    item: &mut Item,
-) -> Result<(), Refusal>
-    ensures ok { OnOk result (on_one operation.now current.now (option_copied found.entry) item.old ≡ Ok item.new) }
-    ensures err { IfErr result (λ refusal. (on_one operation.now current.now (option_copied found.entry) item.old ≡ Err refusal) ⊎ (refusal ≡ Refusal.Memory)) }
-{
-    match operation {
-        Operation::Rule(rule) => Ok(change_whole(alloc, rule, item)?),
         Operation::Attribute(_) | Operation::Value(_) | Operation::Dict(_) => {
-            change_rule(alloc, operation, current, found, item)
+            change_rule(work, item)
         }
-        Operation::Comment(comment) => match comment {
-            CommentOperation::Add { host, text } => {
-                let change = Change::Add(text.as_slice());
-                on_host_of_item(alloc, operation, current, found, host, change, item)
-            }
-            CommentOperation::Print { .. } => Ok(()),
-            CommentOperation::Remove { host } => {
-                on_host_of_item(alloc, operation, current, found, host, Change::Remove, item)
-            }
-        },
-        Operation::Load(_) | Operation::Print { .. } => Ok(()),
+        Operation::Comment(CommentOperation::Add { host, text }) => {
+            on_host_of_item(work, host, Change::Add(text.as_slice()), item)
+        }
+        Operation::Comment(CommentOperation::Remove { host }) => {
+            on_host_of_item(work, host, Change::Remove, item)
+        }
+        Operation::Rule(RuleOperation::New { .. } | RuleOperation::Delete)
+        | Operation::Comment(CommentOperation::Print { .. })
+        | Operation::Load(_)
+        | Operation::Print { .. } => Ok(()),
     }
 }
 

@@ -1,5 +1,5 @@
 //! The rules that a target means.
-ghost use Rattle.std.specs.Prelude.{◌≡◌, ◌∷◌, List, IfOk, length, map};
+ghost use Rattle.std.specs.Prelude.{◌≡◌, ◌∷◌, List, IfOk, IfSome, length, map};
 ghost use Rattle.bz_value.specs.declared.value.Item.{Item};
 ghost use Rattle.bz_rule.specs.Rules.{is_rule_of_kind, has_name};
 ghost use Rattle.bz_names.specs.Index.{IsIndexOf};
@@ -114,20 +114,23 @@ pub(crate) fn meant(
     }
 }
 
-/// The same by an index of the names of the items, where the target is a name.
+/// The same by an index of the names of the items, where there is one and the target is a name.
 pub(crate) fn meant_by(
     alloc: Global,
     which: &Which,
     lines: &[u32],
-    names: &Names,
+    names: Option<&Names>,
     items: &[Item],
 ) -> Result<Vec<bool>, Memory>
-    requires { IsIndexOf names.now items.now }
+    requires { IfSome names (λ index. IsIndexOf index.now items.now) }
     ensures value { IfOk result (λ marks. marks.items ≡ meant which.now lines.now items.now) }
     ensures count { IfOk result (λ marks. length marks.items ≡ length items.now) }
 {
+    let Some(index) = names else {
+        return meant(alloc, which, lines, items);
+    };
     match which {
-        Which::Name(name) => names.marks(alloc, name.as_slice()),
+        Which::Name(name) => index.marks(alloc, name.as_slice()),
         Which::All | Which::Kind(_) | Which::Line(_) | Which::Package => {
             meant(alloc, which, lines, items)
         }

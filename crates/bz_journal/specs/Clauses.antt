@@ -2,6 +2,7 @@
 pub use Rattle.bz_value.specs.declared.refusal.Refusal.{Refusal}
 pub use Rattle.bz_command.specs.Effect.{effect, printed}
 pub use Rattle.bz_command.specs.Overfull.{Overfills}
+pub use Rattle.bz_command.specs.Renewed.{IsOfExtent}
 pub use Rattle.bz_edit.specs.declared.edit.Edit.{Edit}
 pub use Rattle.bz_files.specs.Faults.{Rises}
 pub use Rattle.bz_files.specs.Folder.{Elapses, Folder}
@@ -39,7 +40,6 @@ pub use Rattle.bz_tree.specs.Places.{Ascend, put_all}
 pub use Rattle.bz_tree.specs.Spell.{limit, spell_leaf, spell_node, spell_part}
 pub use Rattle.bz_tree.specs.Statements.{lines_of}
 pub use Rattle.bz_tree.specs.declared.tree.Node.{Node}
-pub use Rattle.bz_value.specs.Exchanged.{AreExchanged, IsSpliced}
 pub use Rattle.bz_value.specs.declared.value.Item.{Item}
 pub use Rattle.bz_view.specs.View.{view_of}
 pub use Rattle.bz_write.specs.Written.{layout}

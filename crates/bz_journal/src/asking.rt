@@ -8,7 +8,7 @@ use crate::action::Reply;
 use crate::beside::Beside;
 use crate::course::{Course, unchanged};
 use crate::meaning::{lines_for, told, value_of};
-use bz_command::{Outcome, looks_at_lines, run, run_named};
+use bz_command::{Outcome, looks_at_lines, run};
 use bz_formatter::reads_back;
 use bz_items::{Items, Memory};
 use bz_label::{Target, Which};
@@ -39,29 +39,8 @@ impl Lookups {
     }
 }
 
-/// Runs a command on the value of a tree, which stays, by the lines on which its statements begin and by the index of its names
-/// where there is one. Errors: those of the command.
-fn run_by_lines(
-    alloc: Global,
-    command: &Command,
-    target: &Target,
-    current: &[u8],
-    lines: &[u32],
-    names: Option<&Names>,
-    file: &File,
-) -> Result<Outcome, Refusal>
-    requires { IfSome names (λ index. IsIndexOf index.now file.now) }
-    ensures ok { IfOk result (λ outcome. (outcome.file ≡ None) → effect command.now target.now current.now lines.now file.now ≡ Ok file.now) }
-    ensures printed { IfOk result (λ outcome. printed command.now target.now current.now lines.now file.now ≡ Ok outcome.printed) }
-    ensures err { IfErr result (λ refusal. (effect command.now target.now current.now lines.now file.now ≡ Err refusal) ⊎ (refusal ≡ Refusal.Memory)) }
-{
-    match names {
-        Some(index) => run_named(alloc, command, target, current, lines, index, file),
-        None => run(alloc, command, target, current, lines, file),
-    }
-}
-
-/// The same by the lines that are kept, where there are some.
+/// Runs a command on the value of a tree, which stays, by the lines on which its statements begin, where these are kept, and by the
+/// index of its names, where there is one. Errors: those of the command.
 fn run_beside(
     alloc: Global,
     command: &Command,
@@ -78,29 +57,13 @@ fn run_beside(
     ensures err { IfErr result (λ refusal. (effect command.now target.now current.now (lines_of tree.now) file.now ≡ Err refusal) ⊎ (refusal ≡ Refusal.Memory)) }
 {
     let names = lookups.names.as_ref();
-    match &lookups.lines {
-        Some(lines) => run_by_lines(
-            alloc,
-            command,
-            target,
-            current,
-            lines.as_slice(),
-            names,
-            file,
-        ),
-        None => {
-            let lines = lines_for(alloc, command, target, tree)?;
-            run_by_lines(
-                alloc,
-                command,
-                target,
-                current,
-                lines.as_slice(),
-                names,
-                file,
-            )
-        }
-    }
+    let Some(lines) = &lookups.lines else {
+        let lines = lines_for(alloc, command, target, tree)?;
+        let lines = lines.as_slice();
+        return run(alloc, command, target, current, lines, names, file);
+    };
+    let lines = lines.as_slice();
+    run(alloc, command, target, current, lines, names, file)
 }
 
 /// What a command answers of the value of the present text; none where it would change that.

@@ -1,7 +1,7 @@
 //! What is kept beside a course from one command to the next: the value of the present text, so that a command need not make it anew.
 //! Where that text is the layout of a tidy value only what changes is tidied and drawn.
 ghost use Rattle.std.specs.Prelude.{◌≡◌, ◌≤◌, ◌⊎◌, true, Err, IfOk, IfSome, IsOk, IsSome, None, Ok, OnErr, OnOk, length};
-ghost use Rattle.bz_journal.specs.Clauses.{AreExchanged, AreLinesOf, AreLookupsOf, EndsAt, HasActed, HasMade, IsBeside, IsFormat, IsFormatted, IsOverEven, IsSmall, IsSpliced, IsWritten, MakesOrWants, Node, Refusal, action_in, after_meaning, layout, limit, note_limit, present, session_history, session_trail, spell_node, tidied, view_of, written};
+ghost use Rattle.bz_journal.specs.Clauses.{AreLinesOf, AreLookupsOf, EndsAt, HasActed, HasMade, IsBeside, IsFormat, IsFormatted, IsOfExtent, IsOverEven, IsSmall, IsWritten, MakesOrWants, Node, Refusal, action_in, after_meaning, layout, limit, note_limit, present, session_history, session_trail, spell_node, tidied, view_of, written};
 ghost use Rattle.bz_journal.specs.Actions as a;
 
 use crate::action::{Action, Reply};
@@ -10,7 +10,7 @@ use crate::course::{Course, MOST_NOTE, unchanged};
 use crate::laws::{overfull_is_refused, written_is_drawn};
 use crate::lines::Lines;
 use crate::meaning::{run_on_tree, told, value_of};
-use bz_command::Spliced;
+use bz_command::{Extent, Spliced};
 use bz_formatter::{drawn_of, reads_back, written};
 use bz_items::{Items, Memory, Text};
 use bz_label::Target;
@@ -54,40 +54,41 @@ impl Beside {
     }
 }
 
-/// Tidies a new value: only the items that are marked, or that stand in the place of others, where that is told. Gives lines with which
+/// Tidies a new value: only the items that may be others than in the present one, which are of this extent. Gives lines with which
 /// the present tree is the one of the layout, where some are known, and how many bytes that has at most, where it isn't past the limit.
 /// The error: memory was refused.
 fn tidy_in(
     alloc: Global,
-    marks: Option<Vec<bool>>,
-    spliced: Option<Spliced>,
+    extent: Extent,
+    marks: &[bool],
     file: &mut File,
     tree: &Tree,
     long: usize,
 ) -> Result<(Option<Lines>, usize), Memory>
-    requires marked { IfSome marks (λ marks. AreExchanged marks.items (view_of tree.now) file.old) }
-    requires spliced { IfSome spliced (λ s. IsSpliced s.from s.gone s.come (view_of tree.now) file.old) }
+    requires extent { IsOfExtent extent marks.now (view_of tree.now) file.old }
     requires written { IsWritten (view_of tree.now) tree.now }
     requires long { length (spell_node tree.now) ≤ long }
     ensures tidy { OnOk result (file.new ≡ tidied file.old) }
     ensures lines { IfOk result (λ made. IfSome made.0 (λ lines. AreLinesOf lines tree.now file.new)) }
     ensures most { IfOk result (λ made. length (layout file.new) ≤ limit → length (layout file.new) ≤ made.1) }
 {
-    if let Some(marks) = marks {
-        return match renew(alloc, marks.as_slice(), file, tree, long)? {
+    match extent {
+        Extent::Marked => match renew(alloc, marks, file, tree, long)? {
             Some(made) => Ok((Some(Lines::Exchanged(made.redrawn)), made.most)),
             None => Ok((None, LENGTH_LIMIT)),
-        };
+        },
+        Extent::Spliced(Spliced { from, come, .. }) => {
+            match renew_spliced(alloc, from, come, file, tree, long)? {
+                Some(made) => Ok((Some(Lines::Spliced(made.respliced)), made.most)),
+                None => Ok((None, LENGTH_LIMIT)),
+            }
+        }
+        Extent::Whole => {
+            let items = mem::replace(&mut file.items, Items::new(alloc));
+            *file = tidy(alloc, File { items })?;
+            Ok((None, LENGTH_LIMIT))
+        }
     }
-    if let Some(spliced) = spliced {
-        return match renew_spliced(alloc, spliced.from, spliced.come, file, tree, long)? {
-            Some(made) => Ok((Some(Lines::Spliced(made.respliced)), made.most)),
-            None => Ok((None, LENGTH_LIMIT)),
-        };
-    }
-    let items = mem::replace(&mut file.items, Items::new(alloc));
-    *file = tidy(alloc, File { items })?;
-    Ok((None, LENGTH_LIMIT))
 }
 
 /// Takes up the whole layout of a tidy value, with a note. Errors: `TooLarge`, `TooDeep`, `Full`; `Memory`: a growth was refused.
@@ -174,8 +175,8 @@ fn take_up_value(
 fn take_up_made(
     course: &mut Course,
     beside: &mut Beside,
-    marks: Option<Vec<bool>>,
-    spliced: Option<Spliced>,
+    extent: Extent,
+    marks: &[bool],
     file: File,
     printed: Option<Text>,
     note: &str,
@@ -184,8 +185,7 @@ fn take_up_made(
     requires none { beside.old.value ≡ None }
     requires beside { IsBeside course.old.tree beside.old }
     requires looked { (tree : Node) → AreLookupsOf beside.old.lookups tree }
-    requires marked { IfSome marks (λ marks. AreExchanged marks.items (view_of course.old.tree) file) }
-    requires spliced { IfSome spliced (λ s. IsSpliced s.from s.gone s.come (view_of course.old.tree) file) }
+    requires extent { IsOfExtent extent marks.now (view_of course.old.tree) file }
     requires written { beside.old.written ≡ true }
     ensures end { EndsAt (after_meaning note.now (session_history course.old) (written file printed)) course.old result course.new }
     ensures beside { IsBeside course.new.tree beside.new }
@@ -193,7 +193,7 @@ fn take_up_made(
     tidy_stays();
     let mut file = file;
     let here = course.present();
-    match tidy_in(course.alloc(), marks, spliced, &mut file, here, beside.long) {
+    match tidy_in(course.alloc(), extent, marks, &mut file, here, beside.long) {
         Ok((lines, most)) => take_up_value(course, beside, file, lines, most, printed, note),
         Err(_) => {
             take_apart(file);
@@ -272,8 +272,8 @@ fn edit(
                 return Ok(unchanged(printed));
             }
             if beside.written {
-                let (marks, spliced) = (ran.renewed, ran.spliced);
-                return take_up_made(course, beside, marks, spliced, file, printed, note);
+                let marks = ran.marks.as_slice();
+                return take_up_made(course, beside, ran.extent, marks, file, printed, note);
             }
             take_up_new(course, beside, file, printed, note)
         }

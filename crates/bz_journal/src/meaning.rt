@@ -1,6 +1,6 @@
 //! What a command makes of the value of a tree.
 ghost use Rattle.std.specs.Prelude.{◌≡◌, ◌⊎◌, ◌↔◌, List, Ok, Err, IfOk, IfErr, IfSome, IsTrue, OnOk, option_map};
-ghost use Rattle.bz_journal.specs.Clauses.{AreExchanged, Bytes, IsSpliced, Item, Overfills, Refusal, effect, lines_of, printed, told, view_of};
+ghost use Rattle.bz_journal.specs.Clauses.{Bytes, IsOfExtent, Item, Overfills, Refusal, effect, lines_of, printed, told, view_of};
 ghost use Rattle.std.specs.Option.{unwrap_or};
 
 use crate::laws::overfull_is_refused;
@@ -68,8 +68,7 @@ pub(crate) fn run_on_tree(
     ensures ok { OnOk result (effect command.now target.now current.now (lines_of tree.now) file.old ≡ Ok file.new) }
     ensures same { IfOk result (λ ran. IsTrue ran.same ↔ (file.new ≡ file.old)) }
     ensures printed { IfOk result (λ ran. printed command.now target.now current.now (lines_of tree.now) file.old ≡ Ok ran.printed) }
-    ensures renewed { IfOk result (λ ran. IfSome ran.renewed (λ marks. AreExchanged marks.items file.old file.new)) }
-    ensures spliced { IfOk result (λ ran. IfSome ran.spliced (λ s. IsSpliced s.from s.gone s.come file.old file.new)) }
+    ensures extent { IfOk result (λ ran. IsOfExtent ran.extent ran.marks.items file.old file.new) }
     ensures err { IfErr result (λ refusal. ((effect command.now target.now current.now (lines_of tree.now) file.old ≡ Err refusal) ⊎ (refusal ≡ Refusal.Memory))
         ⊎ ((refusal ≡ Refusal.TooLarge) × Overfills (effect command.now target.now current.now (lines_of tree.now) file.old))) }
 {

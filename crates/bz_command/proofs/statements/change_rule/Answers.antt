@@ -1,7 +1,6 @@
 use Rattle.std.proofs.Common.{◌∙◌, sym, ap, List, Ok}
-use Rattle.std.specs.Option.{option_copied}
 use Rattle.bz_value.specs.declared.value.Expr.{Expr}
-use Rattle.bz_command.specs.ArgumentChanges.{arguments_of}
+use Rattle.bz_command.specs.Looks.{arguments_by}
 use Rattle.bz_command.specs.CallParts.{with_list_in}
 use Rattle.bz_attribute.specs.Attributes.{Arguments}
 use Rattle.bz_command.specs.declared.statements.CallPart.TheVariants.{Arguments as InBrackets}
@@ -10,7 +9,7 @@ use Rattle.bz_command.proofs.statements.change_rule.Goals as goal
 
 pub returns-clause-ok : goal.returns-clause-ok
 returns-clause-ok c =
-    let change : List Expr → Arguments = arguments_of c.args.operation.now c.args.current.now (option_copied c.args.found) in
+    let change : List Expr → Arguments = arguments_by c.args.work in
     let new = c.in_ok-changed.changed in
     rule_changed change c.args.item.now c.new-arguments.result new (sym c.is_rule.ensures ∙ c.if-not-is_rule.false) (ap change (sym c.exchange.ensures.there) ∙ c.in_ok-changed.ensures.ok)
     ∙ ap Ok (ap (with_list_in InBrackets new) (sym c.exchange.ensures.here) ∙ sym c.exchange-2.ensures.here)

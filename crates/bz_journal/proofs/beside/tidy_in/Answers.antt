@@ -5,5 +5,5 @@ use Rattle.bz_journal.proofs.beside.tidy_in.Goals as goal
 
 pub renew-requires-clause-marks : goal.renew-requires-clause-marks
 renew-requires-clause-marks c =
-    let marked = c.requires.marked in
-    ap length c.as_slice.ensures.value ∙ exchanged_length c.in-Some.marks.items (view_of c.args.tree.now) c.args.file.now (rw c.in-Some.is at marked)
+    let marked = c.requires.extent in
+    exchanged_length c.args.marks.now (view_of c.args.tree.now) c.args.file.now (rw c.in-Marked.is at marked)
